@@ -1,0 +1,79 @@
+-- What creating bindings does to the list in force.
+use Rattle.std.specs.Prelude.{◌≡◌, ◌≢◌, ◌≤◌, AllPairs, Contains, List, [], ◌∷◌, ◌++◌, ℕ, ◌+◌, length, Option, Some, None, ⊤}
+use Rattle.std.specs.List.{find, fold}
+use Rattle.std.specs.Option.{option_map}
+use Rattle.kob_names.specs.SameBinding.{same_binding}
+use Rattle.kob_names.specs.declared.binding.Binding.{Binding}
+use Rattle.kob_authorizer.specs.Contents.{Contents, IsRising, State}
+use Rattle.kob_authorizer.specs.declared.limits.TheConstants.{BINDING_LIMIT, SERIAL_LIMIT}
+
+-- the bindings in force and the next serial after bindings were added, and the serials that were answered
+pub record Added : Type 0 where
+  pub entries : List (ℕ × Binding)
+  pub next : ℕ
+  pub serials : List ℕ
+
+-- what a creation puts in force, and the serials that it answers
+pub record Creation : Type 0 where
+  pub fresh : List (ℕ × Binding)
+  pub serials : List ℕ
+
+-- the serial of the first entry with an equal binding
+abbrev pub serial_of : List (ℕ × Binding) → Binding → Option ℕ
+serial_of entries binding =
+    option_map (λ (entry : ℕ × Binding). entry.0) (find (λ (entry : ℕ × Binding). same_binding entry.1 binding) entries)
+
+-- a binding that is in force already gets its serial again; another is put last under the next serial
+abbrev pub placed : Option ℕ → Added → Binding → Added
+placed (Some serial) so_far binding = record so_far { serials = so_far.serials ++ serial ∷ [] }
+placed None so_far binding = record {
+  entries = so_far.entries ++ (so_far.next, binding) ∷ [];
+  next = so_far.next + 1;
+  serials = so_far.serials ++ so_far.next ∷ [];
+}
+
+-- one more binding is added
+abbrev pub add_one : Added → Binding → Added
+add_one so_far binding = placed (serial_of so_far.entries binding) so_far binding
+
+-- the bindings are added one after another
+abbrev pub added : List (ℕ × Binding) → ℕ → List Binding → Added
+added entries next bindings = fold add_one (record { entries = entries; next = next; serials = [] }) bindings
+
+-- each of the bindings is in force under the serial beside it
+abbrev pub AreInForce : List (ℕ × Binding) → List Binding → List ℕ → Type 0
+AreInForce entries [] [] = ⊤
+AreInForce entries (binding ∷ bindings) (serial ∷ serials) =
+    Contains entries (serial, binding) × AreInForce entries bindings serials
+AreInForce entries [] (serial ∷ serials) = ⊥
+AreInForce entries (binding ∷ bindings) [] = ⊥
+
+-- what was in force stays as it was, and the entries put last have serials that were not given before
+pub record OnlyAdds (entries : List (ℕ × Binding)) (next : ℕ) (after : Added) : Type 0 where
+  pub fresh : List (ℕ × Binding)
+  pub kept : after.entries ≡ entries ++ fresh
+  pub numbered : IsRising next fresh after.next
+
+-- no two bindings in force are equal
+abbrev pub AreDistinct : List (ℕ × Binding) → Type 0
+AreDistinct entries = AllPairs (λ (one two : ℕ × Binding). one.1 ≢ two.1) entries
+
+-- adding the bindings puts these fresh entries last and answers these serials
+abbrev pub Creates : List (ℕ × Binding) → ℕ → List Binding → Creation → Type 0
+Creates entries next bindings made = added entries next bindings ≡ record {
+  entries = entries ++ made.fresh;
+  next = next + length made.fresh;
+  serials = made.serials;
+}
+
+-- the fresh entries are put last
+abbrev pub with_creation : Contents → Creation → Contents
+with_creation contents made =
+    record contents { entries = contents.entries ++ made.fresh; next = contents.next + length made.fresh }
+
+-- the creation can be carried out: it has room, passes no limit, and its serials come next
+pub record CanCreate (made : Creation) (state : State) : Type 0 where
+  pub room : length made.fresh ≤ state.room
+  pub count : length state.contents.entries + length made.fresh ≤ BINDING_LIMIT
+  pub serials : state.contents.next + length made.fresh ≤ SERIAL_LIMIT
+  pub numbered : IsRising state.contents.next made.fresh (state.contents.next + length made.fresh)

@@ -1,0 +1,46 @@
+-- The verdict on a question, read off the list of bindings in force (Kafka documentation, "Authorization and ACLs").
+use Rattle.std.specs.Prelude.{Bool, true, false, ◌&&◌, List, [], ◌∷◌, ℕ, Option, Some, None}
+use Rattle.std.specs.List.{filter, list_any}
+use Rattle.kob_names.specs.Access.{covers, matches, reaches}
+use Rattle.kob_names.specs.Same.{same_permission, same_resource, same_text}
+use Rattle.kob_names.specs.declared.binding.Binding.{Binding}
+use Rattle.kob_names.specs.declared.kinds.Permission.{Permission}
+use Rattle.kob_names.specs.declared.kinds.Permission.TheVariants.{Allow, Deny}
+use Rattle.kob_names.specs.declared.verdict.Verdict.{Verdict}
+use Rattle.kob_names.specs.declared.verdict.Verdict.TheVariants.{Super, AllowedBy, DeniedBy, NoAllow}
+use Rattle.kob_authorizer.specs.Question.{Question}
+
+-- the binding has this permission and speaks of what is asked
+abbrev pub is_hit : Permission → Question → ℕ × Binding → Bool
+is_hit permission question entry =
+    same_permission entry.1.permission permission
+    && (same_resource entry.1.resource question.resource
+    && (matches entry.1.pattern question.name
+    && (covers entry.1 question.principal question.host
+    && reaches permission entry.1.operation question.operation)))
+
+-- the entries whose bindings have this permission and speak of what is asked, in rising serials
+abbrev pub hits : List (ℕ × Binding) → Permission → Question → List (ℕ × Binding)
+hits entries permission question = filter (is_hit permission question) entries
+
+-- the serial of the first entry
+abbrev pub first_serial : List (ℕ × Binding) → Option ℕ
+first_serial [] = None
+first_serial (entry ∷ rest) = Some entry.0
+
+-- the principal is equal to a super user
+abbrev pub is_super : List (List ℕ) → List ℕ → Bool
+is_super supers principal = list_any (same_text principal) supers
+
+-- a super user is granted everything; else a deny wins over every allow, and without either the answer is no
+abbrev pub verdict_of : Bool → Option ℕ → Option ℕ → Verdict
+verdict_of true deny allow = Super
+verdict_of false (Some serial) allow = DeniedBy serial
+verdict_of false None (Some serial) = AllowedBy serial
+verdict_of false None None = NoAllow
+
+-- the access decision, by the bindings in force and the super users
+abbrev pub decide : List (ℕ × Binding) → List (List ℕ) → Question → Verdict
+decide entries supers question =
+    verdict_of (is_super supers question.principal)
+    (first_serial (hits entries Deny question)) (first_serial (hits entries Allow question))

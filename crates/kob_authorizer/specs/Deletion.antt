@@ -1,0 +1,28 @@
+-- What deleting bindings does to the list in force.
+use Rattle.std.specs.Prelude.{◌≡◌, not, List, ℕ}
+use Rattle.std.specs.List.{filter}
+use Rattle.kob_names.specs.Filter.{takes}
+use Rattle.kob_names.specs.declared.binding.Binding.{Binding}
+use Rattle.kob_names.specs.declared.filter.BindingFilter.{BindingFilter}
+use Rattle.kob_authorizer.specs.Contents.{Contents, State}
+
+-- the filter of a deletion, and what it takes
+pub record Deletion : Type 0 where
+  pub filter : BindingFilter
+  pub taken : List (ℕ × Binding)
+
+-- the entries that a filter takes
+abbrev pub taken : BindingFilter → List (ℕ × Binding) → List (ℕ × Binding)
+taken wanted entries = filter (λ (entry : ℕ × Binding). takes wanted entry.1) entries
+
+-- the entries without those that a filter takes
+abbrev pub removed : BindingFilter → List (ℕ × Binding) → List (ℕ × Binding)
+removed wanted entries = filter (λ (entry : ℕ × Binding). not (takes wanted entry.1)) entries
+
+-- the contents without what a filter takes
+abbrev pub without_taken : BindingFilter → Contents → Contents
+without_taken wanted contents = record contents { entries = removed wanted contents.entries }
+
+-- the deletion can be carried out: what it takes is what its filter takes of the entries in force
+abbrev pub CanDelete : Deletion → State → Type 0
+CanDelete made state = made.taken ≡ taken made.filter state.contents.entries

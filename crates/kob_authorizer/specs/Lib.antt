@@ -1,0 +1,9 @@
+pub mod Asked
+pub mod AtOnce
+pub mod Contents
+pub mod Creation
+pub mod Decide
+pub mod Deletion
+pub mod Limits
+pub mod Meaning
+pub mod Question

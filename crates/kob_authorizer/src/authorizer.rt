@@ -1,0 +1,246 @@
+//! The authorizer over a plain list of bindings.
+
+ghost use Rattle.std.specs.Prelude.{◌≡◌, ◌≢◌, ◌≤◌, IfErr, IfOk, None, OnErr, OnOk, Some, length};
+ghost use Rattle.kob_authorizer.specs.Contents.{IsRising, opened};
+ghost use Rattle.kob_authorizer.specs.Creation.{CanCreate, Creates, added, with_creation};
+ghost use Rattle.kob_authorizer.specs.Decide.{decide, is_super};
+ghost use Rattle.kob_authorizer.specs.Deletion.{CanDelete, removed, taken, without_taken};
+ghost use Rattle.kob_authorizer.specs.Limits.{create_fault};
+ghost use Rattle.kob_authorizer.specs.Meaning.{IsTrueVerdict};
+ghost use Rattle.kob_authorizer.specs.Question.{question_of};
+
+use crate::creation::{PreparedCreate, put_last};
+use crate::deletion::{PreparedDelete, copies_taken, remove_taken};
+use crate::fault::CreateFault;
+use crate::limits::BINDING_LIMIT;
+use crate::question::Question;
+use crate::scan::verdict;
+use kob_names::{Binding, BindingFilter, Host, Operation, Principal, ResourceKind, Verdict};
+use std::alloc::{AllocError, Global};
+use std::marker::Model;
+
+/// The bindings in force, each with its serial, and the super users.
+///
+/// Contracts see the contents (the bindings in rising serials, the super users, and the serial that
+/// the next new binding gets) and, beside them, for how many more bindings there is room already.
+/// The rules are those of Kafka's documentation, "Authorization and ACLs", and of KIP-290.
+#[derive(Drop)]
+pub struct Authorizer {
+    entries: Vec<(u64, Binding)>,
+    supers: Vec<Principal>,
+    next: u64,
+}
+
+impl Model for Authorizer {
+    ghost use Rattle.std.specs.Prelude.{◌-◌, ◌≤◌, length, vec_len, vec_capacity};
+    ghost use Rattle.kob_authorizer.specs.Contents.{IsRising, State};
+    ghost use Rattle.kob_authorizer.specs.declared.limits.TheConstants.{BINDING_LIMIT};
+
+    ghost Value = { State };
+
+    ghost view = { λ authorizer. record {
+      contents = record {
+        entries = authorizer.entries.items;
+        supers = authorizer.supers.items;
+        next = authorizer.next;
+      };
+      room = vec_capacity authorizer.entries - vec_len authorizer.entries;
+    } };
+
+    ghost invariant = { λ authorizer. (length authorizer.entries.items ≤ BINDING_LIMIT)
+        × IsRising 1 authorizer.entries.items authorizer.next };
+}
+
+impl Authorizer {
+    /// An authorizer without bindings, whose first new binding gets the serial 1; no memory is
+    /// taken.
+    pub fn open(alloc: Global, supers: Vec<Principal>) -> Authorizer
+        ensures { result.contents ≡ opened supers.items }
+    {
+        Authorizer {
+            entries: Vec::new(alloc),
+            supers,
+            next: 1,
+        }
+    }
+
+    /// The super users, in the order in which they were given; no memory is taken.
+    pub fn supers(&self) -> &[Principal]
+        ensures { result.now ≡ self.now.contents.supers }
+    {
+        self.supers.as_slice()
+    }
+
+    /// The bindings in force with their serials, in rising serials; no memory is taken.
+    pub fn entries(&self) -> &[(u64, Binding)]
+        ensures entries { result.now ≡ self.now.contents.entries }
+        ensures rising { IsRising 1 result.now self.now.contents.next }
+        ensures count { length result.now ≤ BINDING_LIMIT }
+    {
+        self.entries.as_slice()
+    }
+
+    /// The serial that the next new binding gets; no memory is taken.
+    pub fn next_serial(&self) -> u64
+        ensures { result ≡ self.now.contents.next }
+    {
+        self.next
+    }
+
+    /// Whether `who` may do `operation` from `host` on what is called `name`, and by which binding;
+    /// no memory is taken.
+    ///
+    /// The principal and the host that ask are plain texts: `User:*` and `*` stand for all in
+    /// bindings alone, and a super user is told by equality. The name is not checked: any text
+    /// can be asked for. Bindings are compared with it as KIP-290 says.
+    pub fn authorize(
+        &self,
+        who: &Principal,
+        host: &Host,
+        operation: Operation,
+        resource: ResourceKind,
+        name: &str,
+    ) -> Verdict
+        ensures verdict { result ≡ decide self.now.contents.entries self.now.contents.supers
+            (question_of who.now host.now operation resource name.now) }
+        ensures meaning { IsTrueVerdict self.now.contents.entries self.now.contents.supers
+            (question_of who.now host.now operation resource name.now) result }
+    {
+        let question = Question {
+            principal: who,
+            host,
+            operation,
+            resource,
+            name,
+        };
+        if self.is_super(who) {
+            Verdict::Super
+        } else {
+            verdict(self.entries.as_slice(), &question)
+        }
+    }
+
+    /// Whether the principal is equal to a super user.
+    fn is_super(&self, who: &Principal) -> bool
+        ensures { result ≡ is_super self.now.contents.supers who.now }
+    {
+        self.supers.iter().any(|super_user| who == super_user)
+    }
+
+    /// Puts bindings in force, all or none, and answers their serials in the order of the bindings.
+    ///
+    /// A binding equal to one in force, or to an earlier one of the same call, gets that one's
+    /// serial. `TooMany` comes before `SerialsSpent`, and counts each different new binding once.
+    pub fn create(&mut self, alloc: Global, bindings: &[Binding]) -> Result<Vec<u64>, CreateFault>
+        ensures added { IfOk result (λ serials.
+            added self.old.contents.entries self.old.contents.next bindings.now ≡ record {
+              entries = self.new.contents.entries;
+              next = self.new.contents.next;
+              serials = serials.items;
+            }) }
+        ensures supers { self.new.contents.supers ≡ self.old.contents.supers }
+        ensures allowed { OnOk result (create_fault
+            self.old.contents.entries self.old.contents.next bindings.now ≡ None) }
+        ensures fault { IfErr result (λ fault. fault ≢ CreateFault.Memory
+            → create_fault
+            self.old.contents.entries self.old.contents.next bindings.now ≡ Some fault) }
+        ensures kept { OnErr result (self.new.contents ≡ self.old.contents) }
+    {
+        let prepared = self.prepare_create(alloc, bindings)?;
+        Ok(self.commit_create(prepared))
+    }
+
+    /// The first step of [`create`](Authorizer::create): makes all growths and shows the answer.
+    /// The contents stay, also where it is refused.
+    pub fn prepare_create(
+        &mut self,
+        alloc: Global,
+        bindings: &[Binding],
+    ) -> Result<PreparedCreate, CreateFault>
+        ensures kept { self.new.contents ≡ self.old.contents }
+        ensures ok { IfOk result (Creates self.old.contents.entries self.old.contents.next bindings.now) }
+        ensures ready { IfOk result (λ made. CanCreate made self.new) }
+        ensures allowed { OnOk result (create_fault
+            self.old.contents.entries self.old.contents.next bindings.now ≡ None) }
+        ensures fault { IfErr result (λ fault. fault ≢ CreateFault.Memory
+            → create_fault
+            self.old.contents.entries self.old.contents.next bindings.now ≡ Some fault) }
+    {
+        let made = PreparedCreate::make(alloc, self.entries.as_slice(), self.next, bindings)?;
+        self.entries.reserve(made.count())?;
+        Ok(made)
+    }
+
+    /// The second step of [`create`](Authorizer::create): puts the prepared bindings in force and
+    /// answers the serials; no memory is taken.
+    #[tactic(auto, using(crate::proofs::Rising::put_rises))]
+    pub fn commit_create(&mut self, prepared: PreparedCreate) -> Vec<u64>
+        requires { CanCreate prepared self.old }
+        ensures contents { self.new.contents ≡ with_creation self.old.contents prepared }
+        ensures serials { result.items ≡ prepared.serials }
+    {
+        let (fresh, serials) = prepared.into_parts();
+        self.next += fresh.len() as u64;
+        put_last(&mut self.entries, fresh);
+        serials
+    }
+
+    /// Copies of the bindings that the filter takes, with their serials, in rising serials.
+    #[tactic(auto, using(crate::proofs::Rising::rising_filter))]
+    pub fn describe(
+        &self,
+        alloc: Global,
+        filter: &BindingFilter,
+    ) -> Result<Vec<(u64, Binding)>, AllocError>
+        ensures taken { IfOk result (λ entries.
+            entries.items ≡ taken filter.now self.now.contents.entries) }
+        ensures rising { IfOk result (λ entries. IsRising 1 entries.items self.now.contents.next) }
+    {
+        copies_taken(alloc, self.entries.as_slice(), filter)
+    }
+
+    /// Takes away what the filter takes, and answers it in rising serials. A serial that was taken
+    /// away is never given again.
+    pub fn delete(
+        &mut self,
+        alloc: Global,
+        filter: &BindingFilter,
+    ) -> Result<Vec<(u64, Binding)>, AllocError>
+        ensures taken { IfOk result (λ entries.
+            entries.items ≡ taken filter.now self.old.contents.entries) }
+        ensures rising { IfOk result (λ entries. IsRising 1 entries.items self.old.contents.next) }
+        ensures contents { OnOk result (self.new.contents ≡ without_taken filter.now self.old.contents) }
+        ensures kept { OnErr result (self.new.contents ≡ self.old.contents) }
+    {
+        let prepared = self.prepare_delete(alloc, filter)?;
+        Ok(self.commit_delete(prepared))
+    }
+
+    /// The first step of [`delete`](Authorizer::delete): makes all growths and shows the answer.
+    #[tactic(auto, using(crate::proofs::Rising::rising_filter))]
+    pub fn prepare_delete(
+        &self,
+        alloc: Global,
+        filter: &BindingFilter,
+    ) -> Result<PreparedDelete, AllocError>
+        ensures filter { IfOk result (λ made. made.filter ≡ filter.now) }
+        ensures taken { IfOk result (λ made. made.taken ≡ taken filter.now self.now.contents.entries) }
+        ensures rising { IfOk result (λ made. IsRising 1 made.taken self.now.contents.next) }
+        ensures ready { IfOk result (λ made. CanDelete made self.now) }
+    {
+        PreparedDelete::make(alloc, self.entries.as_slice(), filter)
+    }
+
+    /// The second step of [`delete`](Authorizer::delete): takes the prepared entries away and
+    /// answers them; no memory is taken.
+    #[tactic(auto, using(crate::proofs::Rising::rising_filter))]
+    pub fn commit_delete(&mut self, prepared: PreparedDelete) -> Vec<(u64, Binding)>
+        requires { CanDelete prepared self.old }
+        ensures contents { self.new.contents ≡ without_taken prepared.filter self.old.contents }
+        ensures taken { result.items ≡ prepared.taken }
+    {
+        let (filter, taken) = prepared.into_parts();
+        remove_taken(&mut self.entries, &filter);
+        taken
+    }
+}

@@ -1,0 +1,90 @@
+//! A creation of bindings: what its first step has made, for its second step.
+
+ghost use Rattle.std.specs.Prelude.{◌≡◌, ◌≢◌, ◌+◌, ◌≤◌, ◌++◌, IfErr, IfOk, None, OnOk, Some, length, vec_capacity, vec_len};
+ghost use Rattle.kob_authorizer.specs.Contents.{IsRising};
+ghost use Rattle.kob_authorizer.specs.Creation.{Creates};
+ghost use Rattle.kob_authorizer.specs.Limits.{create_fault};
+
+use crate::at_once::{new_bindings, numbered, serials_in};
+use crate::fault::CreateFault;
+use crate::limits::{BINDING_LIMIT, SERIAL_LIMIT, limit_fault};
+use kob_names::Binding;
+use std::alloc::Global;
+use std::marker::Model;
+
+/// A creation that needs no more memory: the entries that it puts in force, and the serials that it
+/// answers, one for each binding of the call.
+#[derive(Drop)]
+pub struct PreparedCreate {
+    fresh: Vec<(u64, Binding)>,
+    serials: Vec<u64>,
+}
+
+impl Model for PreparedCreate {
+    ghost use Rattle.kob_authorizer.specs.Creation.{Creation};
+
+    ghost Value = { Creation };
+
+    ghost view = { λ prepared. record { fresh = prepared.fresh.items; serials = prepared.serials.items } };
+}
+
+impl PreparedCreate {
+    /// The creation of `bindings` beside the entries in force, if no limit is passed.
+    #[tactic(auto, using(crate::proofs::InTurn::creation_creates, crate::proofs::InTurn::fault_by_count, crate::proofs::Serials::length_enumerate_from, crate::proofs::Rising::rising_enumerate_from))]
+    pub(crate) fn make(
+        alloc: Global,
+        entries: &[(u64, Binding)],
+        next: u64,
+        bindings: &[Binding],
+    ) -> Result<PreparedCreate, CreateFault>
+        requires { length entries.now ≤ BINDING_LIMIT }
+        ensures ok { IfOk result (Creates entries.now next bindings.now) }
+        ensures allowed { OnOk result (create_fault entries.now next bindings.now ≡ None) }
+        ensures count { IfOk result (λ made. length entries.now + length made.fresh ≤ BINDING_LIMIT) }
+        ensures serials { IfOk result (λ made. next + length made.fresh ≤ SERIAL_LIMIT) }
+        ensures numbered { IfOk result (λ made. IsRising next made.fresh (next + length made.fresh)) }
+        ensures fault { IfErr result (λ fault. fault ≢ CreateFault.Memory
+            → create_fault entries.now next bindings.now ≡ Some fault) }
+    {
+        let new = new_bindings(alloc, entries, bindings)?;
+        if let Some(fault) = limit_fault(entries.len(), next, new.len()) {
+            return Err(fault);
+        }
+        let fresh = numbered(alloc, next, new)?;
+        let serials = serials_in(alloc, entries, fresh.as_slice(), bindings)?;
+        Ok(PreparedCreate { fresh, serials })
+    }
+
+    /// The serials that the creation answers, in the order of the call's bindings; no memory is
+    /// taken.
+    pub fn serials(&self) -> &[u64]
+        ensures { result.now ≡ self.now.serials }
+    {
+        self.serials.as_slice()
+    }
+
+    /// How many entries the creation puts in force.
+    pub(crate) fn count(&self) -> usize
+        ensures { result ≡ length self.now.fresh }
+    {
+        self.fresh.as_slice().len()
+    }
+
+    /// The entries and the serials.
+    pub(crate) fn into_parts(self) -> (Vec<(u64, Binding)>, Vec<u64>)
+        ensures fresh { result.0.items ≡ self.fresh }
+        ensures serials { result.1.items ≡ self.serials }
+    {
+        let PreparedCreate { fresh, serials } = self;
+        (fresh, serials)
+    }
+}
+
+/// Puts the fresh entries last, in the room that is there for them.
+pub fn put_last(entries: &mut Vec<(u64, Binding)>, mut fresh: Vec<(u64, Binding)>)
+    requires { vec_len entries.old + vec_len fresh ≤ vec_capacity entries.old }
+    ensures items { entries.new.items ≡ entries.old.items ++ fresh.items }
+    ensures count { vec_len entries.new ≡ vec_len entries.old + vec_len fresh }
+{
+    entries.append(&mut fresh).unwrap();
+}

@@ -1,0 +1,81 @@
+//! A deletion of bindings: what its first step has made, for its second step.
+
+ghost use Rattle.std.specs.Prelude.{◌≡◌, ◌≤◌, IfOk, length};
+ghost use Rattle.kob_authorizer.specs.Deletion.{taken, removed};
+
+use kob_names::{Binding, BindingFilter, PlainValue};
+use std::alloc::{AllocError, Global};
+use std::marker::Model;
+
+/// A deletion that needs no more memory: its filter, and the entries that it takes away.
+#[derive(Drop)]
+pub struct PreparedDelete {
+    filter: BindingFilter,
+    taken: Vec<(u64, Binding)>,
+}
+
+impl Model for PreparedDelete {
+    ghost use Rattle.kob_authorizer.specs.Deletion.{Deletion};
+
+    ghost Value = { Deletion };
+
+    ghost view = { λ prepared. record { filter = prepared.filter; taken = prepared.taken.items } };
+}
+
+impl PreparedDelete {
+    /// The deletion of what the filter takes of the entries in force.
+    pub(crate) fn make(
+        alloc: Global,
+        entries: &[(u64, Binding)],
+        filter: &BindingFilter,
+    ) -> Result<PreparedDelete, AllocError>
+        ensures filter { IfOk result (λ made. made.filter ≡ filter.now) }
+        ensures taken { IfOk result (λ made. made.taken ≡ taken filter.now entries.now) }
+    {
+        let taken = copies_taken(alloc, entries, filter)?;
+        let filter = filter.copy(alloc)?;
+        Ok(PreparedDelete { filter, taken })
+    }
+
+    /// What the deletion takes away, in rising serials; no memory is taken.
+    pub fn taken(&self) -> &[(u64, Binding)]
+        ensures { result.now ≡ self.now.taken }
+    {
+        self.taken.as_slice()
+    }
+
+    /// The filter and the entries.
+    pub(crate) fn into_parts(self) -> (BindingFilter, Vec<(u64, Binding)>)
+        ensures filter { result.0 ≡ self.filter }
+        ensures taken { result.1.items ≡ self.taken }
+    {
+        let PreparedDelete { filter, taken } = self;
+        (filter, taken)
+    }
+}
+
+/// Copies of the entries that the filter takes.
+#[tactic(auto, using(std::proofs::lemmas::List::Elements::filter_more))]
+pub fn copies_taken(
+    alloc: Global,
+    entries: &[(u64, Binding)],
+    filter: &BindingFilter,
+) -> Result<Vec<(u64, Binding)>, AllocError>
+    ensures { IfOk result (λ made. made.items ≡ taken filter.now entries.now) }
+{
+    let mut copies = Vec::new(alloc);
+    for entry in entries {
+        if filter.takes(&entry.1) {
+            copies.push((entry.0, entry.1.copy(alloc)?))?;
+        }
+    }
+    Ok(copies)
+}
+
+/// Takes away the entries that the filter takes.
+pub fn remove_taken(entries: &mut Vec<(u64, Binding)>, filter: &BindingFilter)
+    ensures items { entries.new.items ≡ removed filter.now entries.old.items }
+    ensures bound { length entries.new.items ≤ length entries.old.items }
+{
+    entries.retain(|entry| !filter.takes(&entry.1));
+}

@@ -1,0 +1,42 @@
+//! Why bindings were not created.
+
+use std::alloc::{AllocError, AllocFailed};
+use thiserror::Error;
+
+/// Why bindings were not created; the contents of the authorizer are then as before.
+#[derive(Clone, Copy, Debug, PartialEq, Eq, Error)]
+pub enum CreateFault {
+    /// More bindings would be in force than [`BINDING_LIMIT`](crate::BINDING_LIMIT).
+    #[error("too many bindings")]
+    TooMany,
+    /// A new binding's serial would not be below [`SERIAL_LIMIT`](crate::SERIAL_LIMIT), and there
+    /// would not be too many bindings.
+    #[error("the serials are spent")]
+    SerialsSpent,
+    /// Memory was refused. The limits may have been passed as well: the new bindings are copied
+    /// before they are counted.
+    #[error("out of memory")]
+    Memory,
+}
+
+impl From<AllocError> for CreateFault {
+    ghost use Rattle.std.specs.Prelude.{◌≡◌};
+    ghost use Rattle.kob_authorizer.specs.declared.fault.CreateFault.TheVariants.{Memory};
+
+    ghost from_gives = { λ _ fault. fault ≡ Memory };
+
+    fn from(_: AllocError) -> Self {
+        CreateFault::Memory
+    }
+}
+
+impl<T: Drop> From<AllocFailed<T>> for CreateFault {
+    ghost use Rattle.std.specs.Prelude.{◌≡◌};
+    ghost use Rattle.kob_authorizer.specs.declared.fault.CreateFault.TheVariants.{Memory};
+
+    ghost from_gives = { λ _ fault. fault ≡ Memory };
+
+    fn from(_: AllocFailed<T>) -> Self {
+        CreateFault::Memory
+    }
+}

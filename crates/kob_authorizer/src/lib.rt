@@ -1,0 +1,22 @@
+//! The bindings in force, the super users, and the verdicts that they give on questions of access.
+#![tactic(auto)]
+
+mod at_once;
+mod authorizer;
+mod creation;
+mod deletion;
+mod fault;
+mod laws;
+mod limits;
+mod question;
+mod scan;
+
+pub use authorizer::Authorizer;
+pub use creation::PreparedCreate;
+pub use deletion::PreparedDelete;
+pub use fault::CreateFault;
+pub use laws::{
+    bindings_stay_distinct, created_bindings_are_in_force, creations_only_add, serials_keep_rising,
+    verdicts_are_true,
+};
+pub use limits::{BINDING_LIMIT, SERIAL_LIMIT};

@@ -1,0 +1,28 @@
+//! The limits on bindings and serials, and which of them a creation would pass.
+
+ghost use Rattle.std.specs.Prelude.{◌≡◌, ◌+◌, ◌≤◌, IfNone};
+ghost use Rattle.kob_authorizer.specs.Limits.{passed};
+
+use crate::fault::CreateFault;
+
+/// The most bindings that are in force at once.
+pub const BINDING_LIMIT: usize = 100_000;
+
+/// Every serial is below this number.
+pub const SERIAL_LIMIT: u64 = u64::MAX;
+
+/// The limit that `count` new bindings would pass, if any: the one on bindings is tried first.
+pub fn limit_fault(in_force: usize, next: u64, count: usize) -> Option<CreateFault>
+    requires { in_force ≤ BINDING_LIMIT }
+    ensures fault { result ≡ passed (in_force + count) (next + count) }
+    ensures count { IfNone result (in_force + count ≤ BINDING_LIMIT) }
+    ensures serials { IfNone result (next + count ≤ SERIAL_LIMIT) }
+{
+    if count > BINDING_LIMIT - in_force {
+        Some(CreateFault::TooMany)
+    } else if count as u64 > SERIAL_LIMIT - next {
+        Some(CreateFault::SerialsSpent)
+    } else {
+        None
+    }
+}

@@ -1,0 +1,48 @@
+//! The verdict on a question, found by a scan of the plain list of bindings.
+
+ghost use Rattle.std.specs.Prelude.{◌≡◌, false};
+ghost use Rattle.std.specs.List.{find};
+ghost use Rattle.std.specs.Option.{option_copied};
+ghost use Rattle.kob_authorizer.specs.Asked.{asked};
+ghost use Rattle.kob_authorizer.specs.Decide.{first_serial, hits, is_hit, verdict_of};
+
+use crate::question::Question;
+use kob_names::{Binding, Permission, Verdict};
+
+/// The verdict for one who is no super user: a deny wins over every allow, and without either the
+/// answer is no.
+pub fn verdict(entries: &[(u64, Binding)], question: &Question) -> Verdict
+    ensures { result ≡ verdict_of false
+        (first_serial (hits entries.now Permission.Deny (asked question.now)))
+        (first_serial (hits entries.now Permission.Allow (asked question.now))) }
+{
+    match first_hit(entries, Permission::Deny, question) {
+        Some(serial) => Verdict::DeniedBy(serial),
+        None => match first_hit(entries, Permission::Allow, question) {
+            Some(serial) => Verdict::AllowedBy(serial),
+            None => Verdict::NoAllow,
+        },
+    }
+}
+
+/// The serial of the first entry that speaks of what is asked, with this permission.
+#[tactic(auto, using(crate::proofs::FirstHit::first_serial_found))]
+fn first_hit(entries: &[(u64, Binding)], permission: Permission, question: &Question) -> Option<u64>
+    ensures { result ≡ first_serial (hits entries.now permission (asked question.now)) }
+{
+    let hit = find_hit(entries, permission, question)?;
+    Some(hit.0)
+}
+
+/// The first entry that speaks of what is asked, with this permission.
+fn find_hit<'a>(
+    entries: &'a [(u64, Binding)],
+    permission: Permission,
+    question: &Question,
+) -> Option<&'a (u64, Binding)>
+    ensures { option_copied result ≡ find (is_hit permission (asked question.now)) entries.now }
+{
+    entries
+        .iter()
+        .find(|entry| question.is_hit(permission, entry))
+}

@@ -1,0 +1,108 @@
+//! Names of topics.
+
+ghost use Rattle.std.specs.Prelude.{◌≡◌, IfOk, None, not};
+ghost use Rattle.std.specs.List.{position};
+ghost use Rattle.kob_names.specs.Checked.{OkUnlessFault};
+ghost use Rattle.kob_names.specs.TopicRules.{topic_fault, is_topic_byte};
+
+use crate::checked::checked_copy;
+use crate::limits::TOPIC_NAME_LIMIT;
+use crate::plain_value::PlainValue;
+use crate::text::Text;
+use std::alloc::{AllocError, Global};
+use std::marker::Model;
+use thiserror::Error;
+
+/// The name of a topic.
+#[derive(Debug, PartialEq, Eq, Drop)]
+pub struct TopicName {
+    text: Text,
+}
+
+impl Model for TopicName {
+    ghost use Rattle.std.specs.Prelude.{◌≡◌, List, ℕ, None};
+    ghost use Rattle.kob_names.specs.TopicRules.{topic_fault};
+
+    ghost Value = { List ℕ };
+
+    ghost view = { λ name. name.text };
+
+    ghost invariant = { λ name. topic_fault name.text ≡ None };
+
+    ghost inverse = { λ text. record { text = text } };
+}
+
+/// Why a text is no topic name.
+#[derive(Clone, Copy, Debug, PartialEq, Eq, Error)]
+pub enum TopicNameFault {
+    #[error("the topic name is empty")]
+    Empty,
+    #[error("the topic name is `.` or `..`")]
+    Dots,
+    #[error("the topic name is too long")]
+    TooLong,
+    #[error("the topic name has a bad byte at {0}")]
+    BadByte(usize),
+    #[error("out of memory")]
+    Memory,
+}
+
+impl TopicName {
+    /// Reads a topic's name by Kafka's rules: 1 to 249 bytes of ASCII letters, digits, `.`, `_` and `-`, and not
+    /// `.` or `..`. `Empty`, `Dots`, `TooLong`, `BadByte` with the place of the first bad byte (from 0), and `Memory`
+    /// come in this order.
+    pub fn parse(alloc: Global, text: &str) -> Result<TopicName, TopicNameFault>
+        ensures { OkUnlessFault (topic_fault text.now) TopicNameFault.Memory text.now result }
+    {
+        let text = checked_copy(alloc, text, fault_of(text), TopicNameFault::Memory)?;
+        Ok(TopicName { text })
+    }
+
+    /// The name as text; no memory is taken.
+    pub fn as_str(&self) -> &str
+        ensures text { result.now ≡ self.now }
+        ensures valid { topic_fault self.now ≡ None }
+    {
+        self.text.as_str()
+    }
+}
+
+impl PlainValue for TopicName {
+    fn copy(&self, alloc: Global) -> Result<Self, AllocError> {
+        let text = self.text.copy(alloc)?;
+        Ok(TopicName { text })
+    }
+
+    fn same(&self, other: &Self) -> bool {
+        self.text.same(&other.text)
+    }
+}
+
+fn fault_of(text: &str) -> Option<TopicNameFault>
+    ensures { result ≡ topic_fault text.now }
+{
+    if text.is_empty() {
+        Some(TopicNameFault::Empty)
+    } else if text == "." || text == ".." {
+        Some(TopicNameFault::Dots)
+    } else if text.len() > TOPIC_NAME_LIMIT {
+        Some(TopicNameFault::TooLong)
+    } else {
+        bad_byte(text).map(TopicNameFault::BadByte)
+    }
+}
+
+/// The place of the first byte that no topic name has.
+fn bad_byte(text: &str) -> Option<usize>
+    ensures { result ≡ position (λ byte. not (is_topic_byte byte)) text.now }
+{
+    text.as_bytes()
+        .iter()
+        .position(|byte| !is_topic_name_byte(*byte))
+}
+
+fn is_topic_name_byte(byte: u8) -> bool
+    ensures { result ≡ is_topic_byte byte }
+{
+    byte.is_ascii_alphanumeric() || byte == b'.' || byte == b'_' || byte == b'-'
+}

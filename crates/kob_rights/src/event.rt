@@ -1,0 +1,32 @@
+//! Events: who asks for what.
+
+use crate::request::Request;
+use kob_names::{Host, PlainValue, Principal};
+use std::alloc::{AllocError, Global};
+
+/// One request of a principal at a host.
+#[derive(Debug, Drop)]
+pub struct Event {
+    pub principal: Principal,
+    pub host: Host,
+    pub request: Request,
+}
+
+impl PlainValue for Event {
+    fn copy(&self, alloc: Global) -> Result<Self, AllocError> {
+        let principal = self.principal.copy(alloc)?;
+        let host = self.host.copy(alloc)?;
+        let request = self.request.copy(alloc)?;
+        Ok(Event {
+            principal,
+            host,
+            request,
+        })
+    }
+
+    fn same(&self, other: &Self) -> bool {
+        self.principal.same(&other.principal)
+            && self.host.same(&other.host)
+            && self.request.same(&other.request)
+    }
+}

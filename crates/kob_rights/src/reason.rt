@@ -1,0 +1,104 @@
+//! Why a request whose rights are granted is refused.
+
+ghost use Rattle.std.specs.Prelude.{◌≡◌};
+ghost use Rattle.kob_rights.specs.Reason.{code_of, reason_name};
+
+use crate::code::Code;
+use kob_names::PlainValue;
+use std::alloc::{AllocError, Global};
+
+/// Why a request whose rights are granted is refused.
+#[derive(Clone, Copy, Debug, PartialEq, Eq)]
+pub enum Reason {
+    /// No topic has the name.
+    UnknownTopic,
+    /// The topic has no partition of the number.
+    UnknownPartition,
+    /// The batch is empty.
+    NoRecords,
+    /// The batch has more than 1,000 records.
+    TooManyRecords,
+    /// The batch's keys, values, header names and header values have more than 2,097,152 bytes together.
+    TooLarge,
+    /// The batch would end past the greatest offset, 9,223,372,036,854,775,807.
+    OffsetsSpent,
+    /// The offset is below the partition's start or above its end.
+    OutOfRange,
+    /// The name is no topic name.
+    BadTopicName,
+    /// A topic has the name.
+    TopicExists,
+    /// A topic has from 1 to 1,000 partitions.
+    BadPartitions,
+    /// There are 10,000 topics.
+    TooManyTopics,
+    /// A binding's pattern has no name.
+    EmptyName,
+    /// A binding on the cluster has another name than `kafka-cluster`.
+    BadCluster,
+    /// A binding's pattern has a name of more than 255 bytes.
+    NameTooLong,
+    /// There would be more than 100,000 bindings.
+    TooManyBindings,
+    /// A new binding's serial would not be below 18,446,744,073,709,551,615.
+    SerialsSpent,
+}
+
+impl Reason {
+    /// The code that is answered with the reason.
+    pub fn code(self) -> Code
+        ensures { result ≡ code_of self }
+    {
+        match self {
+            Reason::UnknownTopic | Reason::UnknownPartition => Code::UnknownTopicOrPartition,
+            Reason::TooLarge => Code::MessageTooLarge,
+            Reason::OutOfRange => Code::OffsetOutOfRange,
+            Reason::BadTopicName => Code::InvalidTopicException,
+            Reason::TopicExists => Code::TopicAlreadyExists,
+            Reason::BadPartitions => Code::InvalidPartitions,
+            Reason::NoRecords
+            | Reason::TooManyRecords
+            | Reason::OffsetsSpent
+            | Reason::TooManyTopics
+            | Reason::EmptyName
+            | Reason::BadCluster
+            | Reason::NameTooLong
+            | Reason::TooManyBindings
+            | Reason::SerialsSpent => Code::InvalidRequest,
+        }
+    }
+
+    /// The reason's name, as it is printed.
+    pub fn name(self) -> &'static str
+        ensures { result.now ≡ reason_name self }
+    {
+        match self {
+            Reason::UnknownTopic => "UnknownTopic",
+            Reason::UnknownPartition => "UnknownPartition",
+            Reason::NoRecords => "NoRecords",
+            Reason::TooManyRecords => "TooManyRecords",
+            Reason::TooLarge => "TooLarge",
+            Reason::OffsetsSpent => "OffsetsSpent",
+            Reason::OutOfRange => "OutOfRange",
+            Reason::BadTopicName => "BadTopicName",
+            Reason::TopicExists => "TopicExists",
+            Reason::BadPartitions => "BadPartitions",
+            Reason::TooManyTopics => "TooManyTopics",
+            Reason::EmptyName => "EmptyName",
+            Reason::BadCluster => "BadCluster",
+            Reason::NameTooLong => "NameTooLong",
+            Reason::TooManyBindings => "TooManyBindings",
+            Reason::SerialsSpent => "SerialsSpent",
+        }
+    }
+}
+
+impl PlainValue for Reason {
+    fn copy(&self, _alloc: Global) -> Result<Self, AllocError> {
+        Ok(*self)
+    }
+
+    fn same(&self, other: &Self) -> bool {
+        self == other
+    }
+}
