@@ -1,0 +1,99 @@
+-- Why each reply is just.
+use Rattle.std.proofs.Common.{◌≡◌, ℕ, List, [], ◌∷◌, Some, None, refl, ap, subst, arith, zero, suc}
+use Rattle.std.specs.Prelude.{Option, map}
+use Rattle.std.specs.Option.{option_map}
+use Rattle.kob_names.specs.BindingRules.{drafted}
+use Rattle.kob_authorizer.specs.Contents.{Contents}
+use Rattle.kob_authorizer.proofs.InTurn.{added_rises}
+use Rattle.kob_rights.specs.Table.{rights, denial_code}
+use Rattle.kob_rights.specs.declared.check.Check.{Check}
+use Rattle.kob_rights.specs.declared.event.Event.{Event}
+use Rattle.kob_rights.specs.declared.reason.Reason.{Reason}
+use Rattle.kob_rights.specs.declared.reply.Reply.{Reply}
+use Rattle.kob_rights.specs.declared.reply.Reply.TheVariants.{Denied, Refused, Done}
+use Rattle.kob_rights.specs.declared.request.Request.{Request}
+use Rattle.kob_rights.specs.declared.request.Request.TheVariants.{CreateTopics, CreateAcls, Produce, Fetch}
+use Rattle.kob_broker.specs.Denial.{verdict, unmet, denied}
+use Rattle.kob_broker.specs.Effect.{after, effect_by, named, refusal}
+use Rattle.kob_broker.specs.InForce.{access_after, changed_access}
+use Rattle.kob_broker.specs.Justice.{EachGranted, EachJust, IsDenial, IsJust}
+use Rattle.kob_broker.specs.Meaning.{Meaning}
+use Rattle.kob_broker.specs.State.{State}
+use Rattle.kob_broker.specs.Step.{step, step_by}
+use Rattle.kob_broker.proofs.Clauses.{Found, IsNumbered, each_blamed, unmet_found, unmet_none}
+
+found_denial : (access : Contents) (event : Event) (found : ℕ) (clause : List Check) → IsNumbered access → Found access event (rights event.request) 0 found clause
+    → IsDenial access event (denial_code event.request found) (map (verdict access event) clause)
+found_denial access event found clause numbered f = record {
+  place = f.place;
+  clause = clause;
+  clause_is = f.clause_is;
+  before = f.before;
+  code_is = ap (denial_code event.request) (let e = f.found_is in let same : found ≡ f.place = omega arith in same);
+  blamed = each_blamed access event clause numbered f.not_met;
+}
+
+-- the bindings after what a request did, where they are numbered
+changed_numbered : (request : Request) (access : Contents) → IsNumbered access → IsNumbered (changed_access request access)
+changed_numbered (CreateTopics create) access numbered = numbered
+changed_numbered (CreateAcls create) access numbered = added_rises access.entries access.next (map drafted create.drafts) numbered
+changed_numbered (Produce produce) access numbered = numbered
+changed_numbered (Fetch fetch) access numbered = numbered
+
+reply_numbered : (reply : Reply) (request : Request) (access : Contents) → IsNumbered access → IsNumbered (access_after reply request access)
+reply_numbered (Done body) request access numbered = changed_numbered request access numbered
+reply_numbered (Denied code verdicts) request access numbered = numbered
+reply_numbered (Refused code reason) request access numbered = numbered
+
+just_at : (access : Contents) (e event : Event) (r reply : Reply) → e ≡ event → r ≡ reply → IsJust access e r → IsJust access event reply
+just_at access e event r reply this that just = subst (λ (x : Event). IsJust access x reply) this (subst (λ (x : Reply). IsJust access e x) that just)
+
+module _ {P : Type 0} (m : Meaning P) where
+  effect_just : (s : State P) (event : Event) (against : Option Reason) → EachGranted s.access event (rights event.request)
+      → IsJust s.access event (effect_by m against s event.request).reply
+  effect_just s event (Some reason) granted = granted
+  effect_just s event None granted = granted
+
+  just_by : (s : State P) (event : Event) (found : Option (ℕ × List Check)) → unmet s.access event 0 (rights event.request) ≡ found → IsNumbered s.access
+      → IsJust s.access event (step_by m (option_map (denied s.access event) found) s event).reply
+  just_by s event None is numbered = effect_just s event (refusal m s event.request) (unmet_none s.access event (rights event.request) 0 is)
+  just_by s event (Some (place, clause)) is numbered =
+      found_denial s.access event place clause numbered (unmet_found s.access event (rights event.request) 0 place clause is)
+
+  -- the reply to one event is just
+  step_just : (s : State P) (event : Event) → IsNumbered s.access → IsJust s.access event (step m s event).reply
+  step_just s event numbered = just_by s event (unmet s.access event 0 (rights event.request)) refl numbered
+
+  -- the bindings after one event are those that its reply says
+  after_access : (s : State P) (request : Request) → (after m s (named m s request) request).access ≡ changed_access request s.access
+  after_access s (CreateTopics create) = refl
+  after_access s (CreateAcls create) = refl
+  after_access s (Produce produce) = refl
+  after_access s (Fetch fetch) = refl
+
+  effect_access : (s : State P) (request : Request) (against : Option Reason)
+      → (effect_by m against s request).state.access ≡ access_after (effect_by m against s request).reply request s.access
+  effect_access s request (Some reason) = refl
+  effect_access s request None = after_access s request
+
+  access_by : (s : State P) (event : Event) (found : Option (ℕ × List Check)) →
+      let outcome = step_by m (option_map (denied s.access event) found) s event in
+      outcome.state.access ≡ access_after outcome.reply event.request s.access
+  access_by s event None = effect_access s event.request (refusal m s event.request)
+  access_by s event (Some blamed) = refl
+
+  step_access : (s : State P) (event : Event) → (step m s event).state.access ≡ access_after (step m s event).reply event.request s.access
+  step_access s event = access_by s event (unmet s.access event 0 (rights event.request))
+
+  step_numbered : (s : State P) (event : Event) → IsNumbered s.access → IsNumbered (step m s event).state.access
+  step_numbered s event numbered = rw (step_access s event) (reply_numbered (step m s event).reply event.request s.access numbered)
+
+  -- and so each reply of a run
+  pub run_just : (events : List Event) (s : State P) → IsNumbered s.access → EachJust m events s
+  run_just [] s numbered k event reply at told = cc
+  run_just (e ∷ events) s numbered zero event reply at told =
+      let this : e ≡ event = cc in
+      let that : (step m s e).reply ≡ reply = cc in
+      just_at s.access e event (step m s e).reply reply this that (step_just s e numbered)
+  run_just (e ∷ events) s numbered (suc k) event reply at told =
+      rw (← step_access s e) (run_just events (step m s e).state (step_numbered s e numbered) k event reply at told)

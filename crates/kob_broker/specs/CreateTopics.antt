@@ -1,0 +1,24 @@
+-- The creation of a topic.
+use Rattle.std.specs.Prelude.{Bool, not, ◌&&◌, ℕ, List, [], ◌∷◌, ◌++◌, is_some, length, nat_le, replicate}
+use Rattle.kob_names.specs.TopicRules.{topic_fault}
+use Rattle.kob_rights.specs.declared.reason.Reason.{Reason}
+use Rattle.kob_rights.specs.declared.reason.Reason.TheVariants as reasons
+use Rattle.kob_rights.specs.declared.request.CreateTopics.{CreateTopics}
+use Rattle.kob_broker.specs.declared.limits.TheConstants.{TOPIC_LIMIT, PARTITION_LIMIT}
+use Rattle.kob_broker.specs.Meaning.{Meaning}
+use Rattle.kob_broker.specs.State.{State}
+use Rattle.kob_broker.specs.Topics.{has_topic}
+
+module _ {P : Type 0} (m : Meaning P) where
+  abbrev pub create_topics_reasons : State P → CreateTopics → List (Bool × Reason)
+  create_topics_reasons s create =
+      (is_some (topic_fault create.name), reasons.BadTopicName)
+      ∷ (has_topic create.name s.topics, reasons.TopicExists)
+      ∷ (not (nat_le 1 create.partitions && nat_le create.partitions PARTITION_LIMIT), reasons.BadPartitions)
+      ∷ (nat_le TOPIC_LIMIT (length s.topics), reasons.TooManyTopics)
+      ∷ []
+
+  -- a topic with empty partitions is put last
+  abbrev pub create_topics_after : State P → CreateTopics → State P
+  create_topics_after s create =
+      record s { topics = s.topics ++ record { name = create.name; partitions = replicate create.partitions m.empty } ∷ [] }

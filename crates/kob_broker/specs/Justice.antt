@@ -1,0 +1,69 @@
+-- What the replies of a broker say, in terms of the bindings in force when each event came.
+use Rattle.std.specs.Prelude.{◌≡◌, ℕ, List, [], ◌∷◌, Option, Some, false, take, slice_get, IsTrue, ◌⊎◌}
+use Rattle.std.specs.List.{AllByRecursion}
+use Rattle.kob_names.specs.declared.verdict.Verdict.{Verdict}
+use Rattle.kob_authorizer.specs.Contents.{Contents}
+use Rattle.kob_authorizer.specs.Meaning.{IsTrueVerdict}
+use Rattle.kob_rights.specs.Table.{rights, denial_code}
+use Rattle.kob_rights.specs.declared.check.Check.{Check}
+use Rattle.kob_rights.specs.declared.code.Code.{Code}
+use Rattle.kob_rights.specs.declared.event.Event.{Event}
+use Rattle.kob_rights.specs.declared.reply.Reply.{Reply}
+use Rattle.kob_rights.specs.declared.reply.Reply.TheVariants.{Denied, Refused, Done}
+use Rattle.kob_broker.specs.Denial.{is_granted, question, verdict}
+use Rattle.kob_broker.specs.InForce.{in_force}
+use Rattle.kob_broker.specs.Meaning.{Meaning}
+use Rattle.kob_broker.specs.State.{State}
+use Rattle.kob_broker.specs.Step.{replies_of}
+
+-- the right is granted by the bindings in force
+abbrev pub Grants : Contents → Event → Check → Type 0
+Grants access event check = IsTrue (is_granted (verdict access event check))
+
+abbrev pub SomeGranted : Contents → Event → List Check → Type 0
+SomeGranted access event [] = ⊥
+SomeGranted access event (check ∷ checks) = Grants access event check ⊎ SomeGranted access event checks
+
+-- each clause has an alternative that is granted
+abbrev pub EachGranted : Contents → Event → List (List Check) → Type 0
+EachGranted access event clauses = AllByRecursion (SomeGranted access event) clauses
+
+-- the verdict does not grant, and says what is so: it names the earliest of all denies that hit, or says that
+-- neither a deny nor an allow hits
+pub record IsBlame (access : Contents) (event : Event) (check : Check) (blamed : Verdict) : Type 0 where
+  pub not_granted : is_granted blamed ≡ false
+  pub says : IsTrueVerdict access.entries access.supers (question event check) blamed
+
+-- a verdict for each alternative, in order
+abbrev pub EachBlamed : Contents → Event → List Check → List Verdict → Type 0
+EachBlamed access event [] [] = Unit {0}
+EachBlamed access event (check ∷ checks) (blamed ∷ rest) = IsBlame access event check blamed × EachBlamed access event checks rest
+EachBlamed access event [] (blamed ∷ rest) = ⊥
+EachBlamed access event (check ∷ checks) [] = ⊥
+
+-- the denial is for the first clause of which no alternative is granted
+pub record IsDenial (access : Contents) (event : Event) (code : Code) (verdicts : List Verdict) : Type 0 where
+  pub place : ℕ
+  pub clause : List Check
+  pub clause_is : slice_get (rights event.request) place ≡ Some clause
+  pub before : EachGranted access event (take place (rights event.request))
+  pub code_is : code ≡ denial_code event.request place
+  pub blamed : EachBlamed access event clause verdicts
+
+-- a request is denied for a clause that isn't granted, and served only where each clause is
+abbrev pub IsJust : Contents → Event → Reply → Type 0
+IsJust access event (Denied code verdicts) = IsDenial access event code verdicts
+IsJust access event (Refused code reason) = EachGranted access event (rights event.request)
+IsJust access event (Done body) = EachGranted access event (rights event.request)
+
+module _ {P : Type 0} (m : Meaning P) where
+  -- each reply of a run is just, by the bindings in force at its place
+  abbrev pub EachJust : List Event → State P → Type 0
+  EachJust events s = (k : ℕ) (event : Event) (reply : Reply)
+      → slice_get events k ≡ Some event → slice_get (replies_of m events s) k ≡ Some reply
+      → IsJust (in_force (take k events) (take k (replies_of m events s)) s.access) event reply
+
+-- one is a denial exactly where the other is the same denial
+pub record SameDenial (one other : Reply) : Type 0 where
+  pub from : (code : Code) (verdicts : List Verdict) → one ≡ Denied code verdicts → other ≡ Denied code verdicts
+  pub to : (code : Code) (verdicts : List Verdict) → other ≡ Denied code verdicts → one ≡ Denied code verdicts

@@ -1,0 +1,17 @@
+pub mod Meaning
+pub mod Topics
+pub mod Rooms
+pub mod BatchSize
+pub mod State
+pub mod Denial
+pub mod Reasons
+pub mod CreateTopics
+pub mod CreateAcls
+pub mod Produce
+pub mod Fetch
+pub mod Effect
+pub mod Step
+pub mod Change
+pub mod Target
+pub mod InForce
+pub mod Justice

@@ -1,0 +1,82 @@
+//! The creation of bindings.
+
+ghost use Rattle.std.specs.Prelude.{◌≡◌, IfOk, IfErr, OnOk, MatchResult, map, Some, None};
+ghost use Rattle.std.specs.List.{flat_map};
+ghost use Rattle.kob_names.specs.BindingRules.{drafted};
+ghost use Rattle.kob_broker.specs.Change.{Makes};
+ghost use Rattle.kob_broker.specs.CreateAcls.{draft_reasons, IsUnlessRefused};
+ghost use Rattle.kob_broker.specs.Effect.{effect};
+ghost use Rattle.kob_broker.specs.Meaning.{listed};
+ghost use Rattle.kob_broker.specs.Reasons.{first_reason};
+ghost use Rattle.kob_rights.specs.declared.request.Request.TheVariants as requests;
+
+use crate::broker::Broker;
+use crate::prepared::{Change, Prepared};
+use kob_authorizer::CreateFault;
+use kob_names::{Binding, BindingFault, Draft, Items};
+use kob_rights::{Body, CreateAcls, Reason};
+use std::alloc::{AllocError, Global};
+
+/// Why drafts don't become bindings.
+enum DraftFault {
+    Refused(Reason),
+    Memory,
+}
+
+/// The binding of a draft, if it breaks no rule.
+fn binding_of(alloc: Global, draft: &Draft) -> Result<Binding, DraftFault>
+    ensures ok { IfOk result (λ made. made ≡ drafted draft.now) }
+    ensures allowed { OnOk result (first_reason (draft_reasons draft.now) ≡ None) }
+    ensures refused { IfErr result (IsUnlessRefused (first_reason (draft_reasons draft.now))) }
+{
+    match Binding::new(alloc, draft) {
+        Ok(binding) => Ok(binding),
+        Err(BindingFault::EmptyName) => Err(DraftFault::Refused(Reason::EmptyName)),
+        Err(BindingFault::BadCluster) => Err(DraftFault::Refused(Reason::BadCluster)),
+        Err(BindingFault::TooLong) => Err(DraftFault::Refused(Reason::NameTooLong)),
+        Err(BindingFault::Memory) => Err(DraftFault::Memory),
+    }
+}
+
+/// The bindings of all drafts, or the first rule that one breaks.
+#[tactic(auto, using(crate::proofs::FirstReasons::first_some, crate::proofs::FirstReasons::first_none))]
+fn bindings_of(alloc: Global, drafts: &[Draft]) -> Result<Vec<Binding>, DraftFault>
+    ensures ok { IfOk result (λ made. made.items ≡ map drafted drafts.now) }
+    ensures allowed { OnOk result (first_reason (flat_map draft_reasons drafts.now) ≡ None) }
+    ensures refused { IfErr result (IsUnlessRefused (first_reason (flat_map draft_reasons drafts.now))) }
+{
+    let mut bindings = Vec::new(alloc);
+    for draft in drafts {
+        let binding = binding_of(alloc, draft)?;
+        if bindings.push(binding).is_err() {
+            return Err(DraftFault::Memory);
+        }
+    }
+    Ok(bindings)
+}
+
+impl Broker {
+    #[tactic(auto, using(crate::proofs::FirstReasons::first_some, crate::proofs::FirstReasons::first_none))]
+    pub(crate) fn prepare_create_acls(
+        &mut self,
+        alloc: Global,
+        create: &CreateAcls,
+    ) -> Result<Prepared, AllocError>
+        ensures state { self.new.state ≡ self.old.state }
+        ensures ok { IfOk result (λ made. Makes (effect listed self.new.state (requests.CreateAcls create.now)) self.new made) }
+    {
+        let bindings = match bindings_of(alloc, create.drafts.as_slice()) {
+            Ok(bindings) => bindings,
+            Err(DraftFault::Refused(reason)) => return Ok(Prepared::refused(reason)),
+            Err(DraftFault::Memory) => return Err(AllocError),
+        };
+        let made = match self.authorizer.prepare_create(alloc, bindings.as_slice()) {
+            Ok(made) => made,
+            Err(CreateFault::TooMany) => return Ok(Prepared::refused(Reason::TooManyBindings)),
+            Err(CreateFault::SerialsSpent) => return Ok(Prepared::refused(Reason::SerialsSpent)),
+            Err(CreateFault::Memory) => return Err(AllocError),
+        };
+        let serials = Items::copied(alloc, made.serials())?;
+        Ok(Prepared::done(Body::Serials(serials), Change::AddBindings(made)))
+    }
+}

@@ -1,0 +1,10 @@
+//! Runs that want of memory stopped.
+
+use kob_rights::Reply;
+
+/// A run that want of memory stopped after so many events, with their replies.
+#[derive(Debug, Drop)]
+pub struct Stopped {
+    pub done: usize,
+    pub replies: Vec<Reply>,
+}
