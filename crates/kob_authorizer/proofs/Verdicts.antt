@@ -8,25 +8,15 @@ use Rattle.std.proofs.lemmas.Bool.Decides.{Decides-and, Decides-like}
 use Rattle.std.proofs.lemmas.List.Elements.{Contains-append_left, Contains-append_right, Contains-push}
 use Rattle.std.proofs.lemmas.Map.Views.{Contains-from_any, list_any-from_Contains}
 use Rattle.std.proofs.lemmas.Slice.Eq.{bytes_eq-Decides}
-use denote.Enum.Bare.{same_true, true_same}
 use Rattle.kob_names.specs.Access.{covers, matches, reaches}
-use Rattle.kob_names.specs.Same.{same_permission, same_resource}
-use Rattle.kob_names.specs.contracts.kinds.Permission as permission
-use Rattle.kob_names.specs.contracts.kinds.ResourceKind as resource
+use Rattle.kob_names.proofs.SameBindings.{permission-Decides, resource-Decides}
 use Rattle.kob_names.specs.declared.binding.Binding.{Binding}
 use Rattle.kob_names.specs.declared.kinds.Permission.{Permission}
 use Rattle.kob_names.specs.declared.kinds.Permission.TheVariants.{Allow, Deny}
-use Rattle.kob_names.specs.declared.kinds.ResourceKind.{ResourceKind}
 use Rattle.kob_authorizer.specs.Contents.{IsRising}
 use Rattle.kob_authorizer.specs.Decide.{decide, first_serial, hits, is_hit, is_super, verdict_of}
 use Rattle.kob_authorizer.specs.Meaning.{Hits, IsEarliest, IsTrueVerdict, NoneHits}
 use Rattle.kob_authorizer.specs.Question.{Question}
-
-permission-Decides : (a b : Permission) → Decides (same_permission a b) (a ≡ b)
-permission-Decides a b = (same_true permission.the_type tt a b, true_same permission.the_type a b)
-
-resource-Decides : (a b : ResourceKind) → Decides (same_resource a b) (a ≡ b)
-resource-Decides a b = (same_true resource.the_type tt a b, true_same resource.the_type a b)
 
 itself-Decides : (b : Bool) → Decides b (IsTrue b)
 itself-Decides b = ((λ h. h), (λ h. h))

@@ -66,7 +66,7 @@ pub fn copies_taken(
     let mut copies = Vec::new(alloc);
     for entry in entries {
         if filter.takes(&entry.1) {
-            copies.push((entry.0, entry.1.copy(alloc)?))?;
+            copies.push(entry.copy(alloc)?)?;
         }
     }
     Ok(copies)

@@ -1,0 +1,2 @@
+pub mod Groups
+pub use Rattle.kob_names.specs.Same

@@ -1,0 +1,12 @@
+//! Consumer groups and their committed offsets.
+#![tactic(auto)]
+
+mod commit;
+mod groups;
+mod limits;
+mod place;
+
+pub use commit::{CommitFault, PreparedCommit};
+pub use groups::{GroupNotFound, Groups};
+pub use limits::GROUP_LIMIT;
+pub use place::CommitPlace;

@@ -1,0 +1,4 @@
+//! The limit on groups.
+
+/// The most groups at once.
+pub const GROUP_LIMIT: usize = 10_000;

@@ -1,0 +1,12 @@
+pub mod ChildLemmas
+pub mod EntriesLemmas
+pub mod HeldLaws
+pub mod LevelsLemmas
+pub mod ListLemmas
+pub mod MapLemmas
+pub mod MergeLemmas
+pub mod RemoveLemmas
+pub mod SlotParts
+pub mod TidyLemmas
+pub mod WalkLemmas
+pub mod WeightLemmas

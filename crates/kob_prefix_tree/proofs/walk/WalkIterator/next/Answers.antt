@@ -1,0 +1,18 @@
+use Rattle.std.proofs.Common.{[], ◌++◌, sym, ap, ◌∙◌}
+use Rattle.kob_prefix_tree.specs.WalkLeft.{walked_on}
+use Rattle.kob_prefix_tree.proofs.WalkLemmas.{step_none, step_child}
+use Rattle.kob_prefix_tree.proofs.walk.WalkIterator.next.Goals as goal
+
+pub loop-serial-preserved-in-None-child : goal.loop-serial-preserved-in-None-child
+loop-serial-preserved-in-None-child c =
+    ap (λ xs. xs ++ []) c.in_default.ensures.1
+    ∙ sym (step_none c.loop-serial.self.serials c.loop-serial.self.ahead c.in_ok-ahead.ahead c.in-Some-split_first.byte.now c.in-Some-split_first.rest.now c.in_default.ensures.0 c.in_ok-ahead.was c.in-Some-split_first.ensures.cases.0
+    c.in-None-child.ensures.held)
+    ∙ c.loop-serial.invariant
+
+pub loop-serial-preserved : goal.loop-serial-preserved
+loop-serial-preserved c =
+    ap (λ xs. xs ++ walked_on c.in-Some-child.child.now c.in-Some-split_first.rest.now) c.unread-self-in-Some-child.ensures
+    ∙ sym (step_child c.loop-serial.self.serials c.loop-serial.self.ahead c.in_ok-ahead.ahead c.in-Some-split_first.byte.now c.in-Some-split_first.rest.now c.in_default.ensures.0 c.in_ok-ahead.was c.in-Some-split_first.ensures.cases.0
+    c.in-Some-child.child.now c.prefixed.result.now c.in-Some-child.ensures.held c.prefixed.ensures)
+    ∙ c.loop-serial.invariant

@@ -1,0 +1,16 @@
+pub mod Addition
+pub mod BranchFall
+pub mod ChainFall
+pub mod ChainView
+pub mod Entries
+pub mod Held
+pub mod Lists
+pub mod NodesFall
+pub mod NodesView
+pub mod PrefixMap
+pub mod SerialsLeft
+pub mod SlotLent
+pub mod StretchesFall
+pub mod StretchesView
+pub mod WalkLeft
+pub mod Walked

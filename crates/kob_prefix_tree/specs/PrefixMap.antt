@@ -1,0 +1,34 @@
+-- The tree as a finite map from keys to their serials, and what is read off it.
+use Rattle.std.specs.Prelude.{◌≡◌, ℕ, ◌+◌, if◌then◌else◌, List, unwrap_or}
+use Rattle.std.specs.Ordering.{nat_cmp}
+use Rattle.std.specs.Cmp.Lexicographic.{slice_cmp}
+use Rattle.std.specs.FinMap as map
+use Rattle.kob_prefix_tree.specs.declared.kind.PatternKind.{PatternKind}
+use Rattle.kob_prefix_tree.specs.Held.{Held, nothing, is_nothing, with_serial, without_serial}
+use Rattle.kob_prefix_tree.specs.Walked.{walked, IsLongestInUse}
+
+-- keys in use, each with what it holds
+abbrev pub PrefixMap : Type 0
+PrefixMap = map.FinMap (slice_cmp nat_cmp) Held
+
+-- what stands at a key
+abbrev pub held : PrefixMap → List ℕ → Held
+held m key = unwrap_or (map.get m key) nothing
+
+-- the map after the serial is put last in the list of its kind
+abbrev pub added : PrefixMap → List ℕ → PatternKind → ℕ → PrefixMap
+added m key kind serial = map.insert m key (with_serial kind serial (held m key))
+
+-- the map after the serial is taken out. A key that then holds nothing goes
+abbrev pub removed : PrefixMap → List ℕ → PatternKind → ℕ → PrefixMap
+removed m key kind serial =
+    let left = without_serial kind serial (held m key) in
+    if is_nothing left then map.remove m key else map.insert m key left
+
+-- the prefixed serials of the keys with which the name begins, and then its literal ones
+abbrev pub walk_of : PrefixMap → List ℕ → List ℕ
+walk_of m name = walked (held m) name
+
+-- one more than the length of the longest beginning of the name that begins a key in use
+abbrev pub IsLevels : PrefixMap → List ℕ → ℕ → Type 0
+IsLevels m name levels = (n : ℕ) × ((levels ≡ 1 + n) × IsLongestInUse (held m) name n)

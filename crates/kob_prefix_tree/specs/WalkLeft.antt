@@ -1,0 +1,28 @@
+-- What a walk has still to give.
+use Rattle.std.specs.Prelude.{ℕ, List, [], ◌∷◌, ◌++◌, map, Option, None, Some}
+use Rattle.std.specs.List.{flat_map}
+use Rattle.kob_prefix_tree.specs.declared.kind.PatternKind.TheVariants.{Literal, Prefixed}
+use Rattle.kob_prefix_tree.specs.declared.walk.Ahead.{Ahead}
+use Rattle.kob_prefix_tree.specs.declared.walk.Walk.{Walk}
+use Rattle.kob_prefix_tree.specs.SerialsLeft.{unread_of}
+use Rattle.kob_prefix_tree.specs.Held.{serials_of}
+use Rattle.kob_prefix_tree.specs.Entries.{Entries, held_at}
+use Rattle.kob_prefix_tree.specs.Walked.{prefixes}
+
+-- the beginnings of a name but the empty one
+abbrev pub longer_prefixes : List ℕ → List (List ℕ)
+longer_prefixes [] = []
+longer_prefixes (byte ∷ name) = map (λ prefix. byte ∷ prefix) (prefixes name)
+
+-- what comes behind the prefixed serials of the place itself
+abbrev pub walked_on : Entries → List ℕ → List ℕ
+walked_on es name = flat_map (λ prefix. serials_of Prefixed (held_at es prefix)) (longer_prefixes name) ++ serials_of Literal (held_at es name)
+
+-- what a place still ahead gives
+abbrev pub ahead_of : Option Ahead → List ℕ
+ahead_of None = []
+ahead_of (Some a) = walked_on a.branch.now a.name.now
+
+-- the serials that are left, in order
+abbrev pub left_of : Walk → List ℕ
+left_of walk = unread_of walk.serials ++ ahead_of walk.ahead

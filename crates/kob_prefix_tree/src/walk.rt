@@ -1,0 +1,76 @@
+//! The serials along a name, one at a time.
+ghost use Rattle.std.specs.Prelude.{◌≡◌, [], ◌++◌};
+ghost use Rattle.std.specs.Iterator.{YieldsFirst, item_count};
+ghost use Rattle.kob_prefix_tree.specs.Entries.{held_at};
+ghost use Rattle.kob_prefix_tree.specs.WalkLeft.{left_of, walked_on};
+ghost use Rattle.kob_prefix_tree.specs.SerialsLeft.{unread_of};
+
+use crate::branch::Branch;
+use crate::serials::Unread;
+
+/// A place of the tree, and the bytes of the name that are still to follow from there.
+#[derive(Clone, Copy, Drop)]
+pub(crate) struct Ahead<'a> {
+    branch: &'a Branch,
+    name: &'a [u8],
+}
+
+/// The serials along a name, as `PrefixTree::walk` and `PrefixTree::literal` give them.
+#[derive(Drop)]
+pub struct Walk<'a> {
+    serials: Unread<'a>,
+    ahead: Option<Ahead<'a>>,
+}
+
+impl<'a> Walk<'a> {
+    pub(crate) fn along(branch: &'a Branch, name: &'a [u8]) -> Walk<'a>
+        ensures { left_of result ≡ (held_at branch.now []).1 ++ walked_on branch.now name.now }
+    {
+        Walk {
+            serials: branch.prefixed().unread(),
+            ahead: Some(Ahead { branch, name }),
+        }
+    }
+
+    pub(crate) fn over(serials: Unread<'a>) -> Walk<'a>
+        ensures { left_of result ≡ unread_of serials.entry }
+    {
+        Walk {
+            serials,
+            ahead: None,
+        }
+    }
+}
+
+impl<'a> Iterator for Walk<'a> {
+    type Item = u64;
+
+    ghost next_gives = { YieldsFirst left_of };
+
+    ghost remaining = { item_count left_of };
+
+    fn next(&mut self) -> Option<u64> {
+        loop {
+            if let Some(serial) = self.serials.next() {
+                return Some(serial);
+            }
+            let ahead = self.ahead?;
+            match ahead.name.split_first() {
+                None => {
+                    self.serials = ahead.branch.literal().unread();
+                    self.ahead = None;
+                }
+                Some((byte, rest)) => match ahead.branch.child(*byte) {
+                    None => self.ahead = None,
+                    Some(child) => {
+                        self.serials = child.prefixed().unread();
+                        self.ahead = Some(Ahead {
+                            branch: child,
+                            name: rest,
+                        });
+                    }
+                },
+            }
+        }
+    }
+}

@@ -1,0 +1,4 @@
+pub mod Histories
+pub mod Remembering
+pub mod Repeats
+pub mod Rings
