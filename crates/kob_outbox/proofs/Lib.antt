@@ -1,0 +1,15 @@
+pub mod Events
+pub mod Holding
+pub mod Lawful
+pub mod Marks
+pub mod Memory
+pub mod Reading
+pub mod Recording
+pub mod Replacing
+pub mod Shown
+pub mod Spending
+pub mod States
+pub mod Sweeping
+pub mod Texts
+pub mod Upserting
+pub mod statements

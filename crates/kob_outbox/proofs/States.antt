@@ -1,0 +1,146 @@
+-- The map of the business rows' states.
+use Rattle.std.proofs.Common.{◌≡◌, inl, inr, ℕ, List, [], ◌∷◌, ◌++◌, map, filter, length, ◌≤◌, arith, Bool, true, false, not, ◌&&◌, bytes_eq, Some, Ordering, Less, Equal, Greater, is_eq, refl, sym, ap, subst, ◌∙◌}
+use Rattle.std.proofs.lemmas.Bool.{cases_Bool}
+use Rattle.std.proofs.lemmas.Slice.Eq.{bytes_eq-Decides}
+use Rattle.std.proofs.lemmas.Map.Text.{is_eq-slice_cmp}
+use Rattle.std.specs.Prelude.{cond}
+use Rattle.std.specs.Ordering.{nat_cmp, eq_by_cmp, ordering_then}
+use Rattle.std.specs.Cmp.{IsTotalOrder, then_total}
+use Rattle.std.specs.Cmp.Lexicographic.{slice_cmp, on_texts}
+use Rattle.std.specs.FinMap.{IsAntisymmetric, find, from_entries, get, get-from_entries, get-insert, insert, same_map}
+use Rattle.kob_outbox.specs.Contents.{Key, States, key_cmp}
+use Rattle.std.specs.List.{AllByRecursion}
+use Rattle.std.specs.Str.{IsUtf8}
+use Rattle.sqlite.specs.declared.types.Value.TheVariants.{Text}
+use Rattle.sqlite.specs.Order.{Row}
+use Rattle.sqlite.specs.Tree.{IsAscending}
+use Rattle.kob_outbox.specs.Layout.{AreBusiness, Business, entry_of, has_key, shown_state}
+use Rattle.kob_outbox.specs.Reading.{state_at}
+use Rattle.kob_outbox.proofs.statements.Values.{both_ways}
+
+abbrev Placed : Type 0
+Placed = ℕ × Business
+
+abbrev AreApart : List Placed → Type 0
+AreApart = IsAscending (λ (a b : Placed). has_key b.1.kind b.1.id a.1 ≡ false)
+
+bytes_eq-sym : (s t : List ℕ) → bytes_eq s t ≡ bytes_eq t s
+bytes_eq-sym s t = both_ways _ _ (λ e. (bytes_eq-Decides t s).1 (sym ((bytes_eq-Decides s t).0 e))) (λ e. (bytes_eq-Decides s t).1 (sym ((bytes_eq-Decides t s).0 e)))
+
+pub key_total : IsTotalOrder key_cmp
+key_total = then_total (on_texts (λ k. k.0)) (on_texts (λ k. k.1))
+
+both_equal : (a b : Ordering) → is_eq (ordering_then a b) ≡ (is_eq a && is_eq b)
+both_equal Less b = refl
+both_equal Equal b = refl
+both_equal Greater b = refl
+
+-- keys tie where both texts are equal
+pub ties : (q k : Key) → eq_by_cmp key_cmp q k ≡ (bytes_eq q.0 k.0 && bytes_eq q.1 k.1)
+ties q k = both_equal (slice_cmp nat_cmp q.0 k.0) (slice_cmp nat_cmp q.1 k.1) ∙ rw (is_eq-slice_cmp q.0 k.0, is_eq-slice_cmp q.1 k.1) refl
+
+both : (a b : Bool) → (a && b) ≡ true → (a ≡ true) × (b ≡ true)
+both true true h = (refl, refl)
+both true false h = absurd cc
+both false b h = absurd cc
+
+pub same_key : (q k : Key) → (bytes_eq q.0 k.0 && bytes_eq q.1 k.1) ≡ true → q ≡ k
+same_key q k h =
+    let p = both _ _ h in
+    let kinds : q.0 ≡ k.0 = (bytes_eq-Decides q.0 k.0).0 p.0 in
+    let ids : q.1 ≡ k.1 = (bytes_eq-Decides q.1 k.1).0 p.1 in
+    λ i. (kinds i, ids i)
+
+key_same : IsAntisymmetric key_cmp
+key_same x y e = same_key x y (sym (ties x y) ∙ ap is_eq e)
+
+abbrev pub has_key_of : Business → Business → Bool
+has_key_of b x = has_key b.kind b.id x
+
+abbrev pub key : Business → Key
+key b = (b.kind, b.id)
+
+-- one key does not tie with two that differ
+tied_once : (b : Business) (q : Key) (x : Business) → has_key_of b x ≡ false → eq_by_cmp key_cmp q (key x) ≡ true → ¬ (eq_by_cmp key_cmp q (key b) ≡ true)
+tied_once b q x other here there =
+    let one : q ≡ key x = same_key q (key x) (sym (ties q (key x)) ∙ here) in
+    let two : q ≡ key b = same_key q (key b) (sym (ties q (key b)) ∙ there) in
+    let same : key x ≡ key b = sym one ∙ two in
+    let is : has_key_of b x ≡ true = rw ((bytes_eq-Decides x.kind b.kind).1 (ap (λ k. k.0) same), (bytes_eq-Decides x.id b.id).1 (ap (λ k. k.1) same)) refl in
+    let no = sym is ∙ other in cc
+
+exchange : {X : Type 0} (s t : Bool) (x y z : X) → (s ≡ true → ¬ (t ≡ true)) → cond s x (cond t y z) ≡ cond t y (cond s x z)
+exchange true true x y z once = absurd (once refl refl)
+exchange true false x y z once = refl
+exchange false t x y z once = refl
+
+covered : {X : Type 0} (s t : Bool) (x y z : X) → t ≡ s → cond s x z ≡ cond s x (cond t y z)
+covered true t x y z e = refl
+covered false true x y z e = absurd cc
+covered false false x y z e = refl
+
+-- the look-up where the row with a key is taken out and one with that key put last
+set_last : (b : Business) (n : ℕ) (q : Key) (ps : List Placed)
+    → find key_cmp q (map entry_of (filter (λ p. not (has_key_of b p.1)) ps ++ (n, b) ∷ [])) ≡ cond (eq_by_cmp key_cmp q (key b)) (Some b.state) (find key_cmp q (map entry_of ps))
+set_last b n q [] = refl
+set_last b n q (p ∷ ps) = elim (cases_Bool (has_key_of b p.1)) [
+  | inl gone ↦
+      let same : key p.1 ≡ key b = same_key (key p.1) (key b) gone in
+      rw gone (set_last b n q ps ∙ covered (eq_by_cmp key_cmp q (key b)) (eq_by_cmp key_cmp q (key p.1)) (Some b.state) (Some p.1.state) (find key_cmp q (map entry_of ps)) (ap (eq_by_cmp key_cmp q) same))
+  | inr kept ↦
+      rw kept (
+      ap (cond (eq_by_cmp key_cmp q (key p.1)) (Some p.1.state)) (set_last b n q ps)
+      ∙ exchange (eq_by_cmp key_cmp q (key p.1)) (eq_by_cmp key_cmp q (key b)) (Some p.1.state) (Some b.state) (find key_cmp q (map entry_of ps)) (tied_once b q p.1 kept))
+]
+
+pub states_with : (b : Business) (n : ℕ) (ps : List Placed) → from_entries {R = key_cmp} (map entry_of (filter (λ p. not (has_key_of b p.1)) ps ++ (n, b) ∷ [])) ≡ insert (from_entries (map entry_of ps)) (key b) b.state
+states_with b n ps = same_map key_total key_same _ _ (λ q.
+    get-from_entries key_total _ q ∙ set_last b n q ps
+    ∙ sym (get-insert key_total (from_entries (map entry_of ps)) (key b) b.state q ∙ ap (cond (eq_by_cmp key_cmp q (key b)) (Some b.state)) (get-from_entries key_total (map entry_of ps) q)))
+
+-- a row with this key has no other with its key after it
+no_more : (kind id : List ℕ) (p : Placed) (ps : List Placed) → has_key kind id p.1 ≡ true → AllByRecursion (λ (x : Placed). has_key x.1.kind x.1.id p.1 ≡ false) ps → filter (λ (x : Placed). has_key kind id x.1) ps ≡ []
+no_more kind id p [] is apart = refl
+no_more kind id p (x ∷ ps) is apart = elim (cases_Bool (has_key kind id x.1)) [
+  | inl too ↦ absurd (
+      let same : key p.1 ≡ key x.1 = same_key (key p.1) (kind, id) is ∙ sym (same_key (key x.1) (kind, id) too) in
+      let again : has_key x.1.kind x.1.id p.1 ≡ true = rw ((bytes_eq-Decides p.1.kind x.1.kind).1 (ap (λ k. k.0) same), (bytes_eq-Decides p.1.id x.1.id).1 (ap (λ k. k.1) same)) refl in
+      let no = sym again ∙ apart.0 in cc
+      )
+  | inr other ↦ rw other (no_more kind id p ps is apart.1)
+]
+
+pub one_at_most : (kind id : List ℕ) (ps : List Placed) → AreApart ps → length (filter (λ (p : Placed). has_key kind id p.1) ps) ≤ 1
+one_at_most kind id [] apart = omega arith
+one_at_most kind id (p ∷ ps) apart = elim (cases_Bool (has_key kind id p.1)) [
+  | inl is ↦ rw (is, no_more kind id p ps is apart.0) (omega arith)
+  | inr other ↦ rw other (one_at_most kind id ps apart.1)
+]
+
+tied_as : (kind id : List ℕ) (x : Business) → eq_by_cmp key_cmp (kind, id) (key x) ≡ has_key kind id x
+tied_as kind id x = ties (kind, id) (key x) ∙ rw (bytes_eq-sym kind x.kind, bytes_eq-sym id x.id) refl
+
+-- the row with a key shows the state that the map has there
+shown_in : (kind id : List ℕ) (ps : List Placed) → AreApart ps
+    → map (λ (p : Placed). Text p.1.state ∷ []) (filter (λ (p : Placed). has_key kind id p.1) ps) ≡ shown_state (find key_cmp (kind, id) (map entry_of ps))
+shown_in kind id [] apart = refl
+shown_in kind id (p ∷ ps) apart = elim (cases_Bool (has_key kind id p.1)) [
+  | inl is ↦ rw (tied_as kind id p.1, is, no_more kind id p ps is apart.0) refl
+  | inr other ↦ rw (tied_as kind id p.1, other) (shown_in kind id ps apart.1)
+]
+
+pub shown_at : (kind id : List ℕ) (ps : List Placed) → AreApart ps
+    → map (λ (p : Placed). Text p.1.state ∷ []) (filter (λ (p : Placed). has_key kind id p.1) ps) ≡ shown_state (get (from_entries {R = key_cmp} (map entry_of ps)) (kind, id))
+shown_at kind id ps apart = shown_in kind id ps apart ∙ ap shown_state (sym (get-from_entries key_total (map entry_of ps) (kind, id)))
+
+-- each state in the map is text
+text_in_rows : (q : Key) (ps : List Placed) (s : List ℕ) → AllByRecursion (λ (p : Placed). IsUtf8 p.1.state) ps → find key_cmp q (map entry_of ps) ≡ Some s → IsUtf8 s
+text_in_rows q [] s all is = absurd cc
+text_in_rows q (p ∷ ps) s all is = elim (cases_Bool (eq_by_cmp key_cmp q (key p.1))) [
+  | inl here ↦ let same : p.1.state ≡ s = let e = rw here at is in cc in subst IsUtf8 same all.0
+  | inr other ↦ text_in_rows q ps s all.1 (rw other at is)
+]
+
+pub text_at : (kind id : List ℕ) (rows : List Row) (states : States) (s : List ℕ) → AreBusiness rows states → state_at kind id states ≡ Some s → IsUtf8 s
+text_at kind id rows states s are is =
+    text_in_rows (kind, id) are.placed s are.readable (sym (get-from_entries key_total (map entry_of are.placed) (kind, id)) ∙ ap (λ m. get m (kind, id)) are.states_are ∙ is)

@@ -1,0 +1,24 @@
+use Rattle.std.proofs.Common.{rules, ◌≡◌}
+use Rattle.sqlite.specs.declared.error.Error.TheVariants.{SqliteFailure}
+use Rattle.sqlite.specs.declared.error.ErrorCode.TheVariants.{OutOfMemory}
+use Rattle.sqlite_value.specs.Order.{column}
+use Rattle.kob_outbox.specs.Reading.{state_at}
+use Rattle.kob_outbox.specs.Service.{contents}
+use Rattle.kob_outbox.proofs.Shown.{first_state, state_readable}
+use Rattle.kob_outbox.proofs.States.{text_at}
+use Rattle.kob_outbox.proofs.statements.Failing.{readable_fails}
+use Rattle.kob_outbox.proofs.reads.state_of.Goals as goal
+
+pub returns-in_err-get-in-Some-clause-memory : goal.returns-in_err-get-in-Some-clause-memory
+returns-in_err-get-in-Some-clause-memory c =
+    let all = (contents c.args.conn.now).business in
+    let row = c.in-Some.row.now in
+    let text = state_readable (state_at c.args.kind.now c.args.id.now all) _ row (λ s. text_at c.args.kind.now c.args.id.now _ all s c.requires.holds.business) c.in_ok-select_business.ensures.rows (search rules) in
+    let is : c.in_err-get-in-Some.field-0.0 ≡ SqliteFailure OutOfMemory =
+    readable_fails 0 (column row 0) c.in_err-get-in-Some.field-0.0 _ c.in_err-get-in-Some.ensures.named (λ other. c.in_err-get-in-Some.ensures.kind other text.0) text.1 in
+    grind (rules, is)
+
+pub returns-in-Some-clause-value : goal.returns-in-Some-clause-value
+returns-in-Some-clause-value c =
+    let all = (contents c.args.conn.now).business in
+    first_state (state_at c.args.kind.now c.args.id.now all) _ c.in-Some.row.now _ c.in_ok-select_business.ensures.rows (search rules) c.in_ok-get-in-Some.ensures.ok.1

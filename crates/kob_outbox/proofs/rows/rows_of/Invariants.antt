@@ -1,0 +1,7 @@
+use Rattle.std.proofs.Common.{◌≡◌, map, take}
+use Rattle.kob_outbox.specs.Events.{stored_row}
+use Rattle.kob_outbox.specs.Layout.{shown_event}
+use Rattle.kob_outbox.proofs.rows.rows_of.Given as goal
+
+abbrev pub invariant-loop-row : goal.invariant-loop-row
+invariant-loop-row l = map (λ r. shown_event (stored_row r)) l.out.items ≡ take l.row-index l.rows

@@ -1,0 +1,136 @@
+-- Over memory a query fails for want of memory alone.
+use Rattle.std.proofs.Common.{Some, ◌⊎◌, Bool, Option, ◌||◌, ◌&&◌, ◌≡◌, inl, inr, ℕ, ◌≤◌, List, [], length, true, false, None, Ok, Err, Result, sym, ap, subst, subst₂, ◌∙◌, arith, append-nil}
+use Rattle.sqlite_trees.specs.declared.error.StoreError.TheVariants.{OutOfMemory, Io, Corrupt, Full, Broken, Unstorable}
+use Rattle.sqlite_resolve.specs.declared.compiled.Compiled.{Compiled}
+use Rattle.sqlite_resolve.specs.declared.error.CompileError.{CompileError}
+use Rattle.sqlite_typing.specs.Types.{accepts_program}
+use Rattle.sqlite_sql.specs.Program.{ProgramOverflows}
+use Rattle.sqlite.specs.Command.TheVariants.{Select}
+use Rattle.sqlite.specs.declared.error.Error.{Error}
+use Rattle.sqlite.specs.declared.error.Error.TheVariants.{SqliteFailure}
+use Rattle.sqlite.specs.declared.error.ErrorCode.TheVariants as code
+use Rattle.sqlite.specs.Order.{Row}
+use Rattle.sqlite.specs.Query.{Query, inner, end}
+use Rattle.sqlite.specs.Schema.{Schema}
+use Rattle.sqlite.specs.Tree.{Trees}
+use Rattle.sqlite.specs.Effect.{RefusesToRead}
+use Rattle.sqlite.specs.Listing.{understood, reads_listing, IsSourceOf}
+use Rattle.sqlite.specs.State.{EndsScope, Escapes, State, Fails, IsNoStatement, IsNotRun, IsMisplaced, FailsToQuery, Executes, ExecutesIn, is_pragma, mode_of, shows_rows, text_of}
+use Rattle.sqlite.specs.Command.{Command}
+use Rattle.sqlite.specs.Does.{Does}
+use Rattle.sqlite.specs.Effect.{is_query}
+use Rattle.sqlite.specs.Clock.{timed}
+use Rattle.sqlite.proofs.Callers.{IsPlain, command_of}
+use Rattle.std.proofs.Common.{◌≢◌}
+use Rattle.sqlite.specs.declared.types.Value.{Value}
+use Rattle.sqlite.specs.Reading.{IsReadError}
+
+-- the text is one statement with so many parameters
+abbrev pub IsWhole : ℕ → List ℕ → Result Compiled CompileError → Type 0
+IsWhole n sql (Ok c) = (length sql ≤ c.tail) × (length c.names ≡ n)
+IsWhole n sql (Err e) = Unit {0}
+
+abbrev pub IsMemory : Error → Type 0
+IsMemory e = e ≡ SqliteFailure code.OutOfMemory
+
+-- the store of the connection is one that never fails
+pub record NeverFails (old new : State) : Type 0 where
+  pub unlimited : old.step_limit ≡ None
+  pub is_open : old.is_open ≡ true
+  pub faults : (old.faults ≡ 0) × (new.faults ≡ 0)
+
+quietly : (a b : Bool) → (a || b) ≡ false → (a || (true && (b || false))) ≡ false
+quietly true b h = h
+quietly false true h = absurd cc
+quietly false false h = h
+
+-- a statement that does not end the transaction in which it runs
+pub stays_inside : (sql : List ℕ) (params : Row) (old : State) (schema : Schema) (command : Command) → old.now.schema ≡ schema → command_of (understood schema sql) ≡ command → ¬ (Escapes 0 old command) → ¬ (EndsScope 0 sql params old)
+unfolding EndsScope
+stays_inside sql params old schema command has is not_out (c, it, out) =
+    let same : c.command ≡ command = ap command_of (sym it.is ∙ ap (λ s. understood s sql) has) ∙ is in not_out (subst (Escapes 0 old) same out)
+
+module _ (old new : State) (never : NeverFails old new) where
+  fails_or : (TooBig : Type 0) (e : Error) → Fails old new TooBig e → IsMemory e ⊎ TooBig
+  fails_or TooBig e (OutOfMemory, is, h, back, told) = inl is
+  fails_or TooBig e (Io, is, h, back, told) = absurd (omega (arith, rw (never.faults.0, never.faults.1) at h))
+  fails_or TooBig e (Corrupt, is, h, back, told) = absurd (omega (arith, rw (never.faults.0, never.faults.1) at h))
+  fails_or TooBig e (Full, is, h, back, told) = absurd (omega (arith, rw (never.faults.0, never.faults.1) at h))
+  fails_or TooBig e (Broken, is, h, back, told) = absurd (let shut = sym never.is_open ∙ h in cc)
+  fails_or TooBig e (Unstorable, is, h, back, told) = inr h
+
+  fails_so : (e : Error) → Fails old new ⊥ e → IsMemory e
+  fails_so e h = elim (fails_or ⊥ e h) [ inl is ↦ is | inr never ↦ absurd never ]
+
+  module _ (sql : List ℕ) (params : Row) (schema : Schema) (has : old.now.schema ≡ schema) (plain : IsPlain (understood schema sql)) (whole : IsWhole (length params) sql (understood schema sql)) where
+    is_statement : (e : Error) → ¬ (IsNoStatement old sql params e)
+    is_statement e (inl h) = subst IsPlain (sym (ap (λ s. understood s sql) has) ∙ h.1) plain
+    is_statement e (inr h) =
+        let known = sym (ap (λ s. understood s sql) has) ∙ h.1 in
+        let all = subst (IsWhole (length params) sql) known whole in
+        elim h.2 [
+          | inl short ↦ short.0 all.0
+          | inr (inl given) ↦ given.0 (sym all.1)
+          | inr (inr timed) ↦ timed.0 (subst IsPlain known plain).1
+        ]
+
+    module _ (q : Query) (names : List (List ℕ)) (is : command_of (understood schema sql) ≡ Select (record { lets = []; body = q }) names) (unlisted : reads_listing schema sql ≡ false)
+        (accepted : accepts_program schema [] q params ≡ true) (sure : (db : Trees) → ¬ (ProgramOverflows db params [] [] q)) where
+      refused_so : (e : Error) → ¬ (RefusesToRead old.step_limit (Select (record { lets = []; body = q }) names) old.now params e)
+      refused_so e (inl h) = let no = sym (ap (λ s. accepts_program s [] q params) has ∙ accepted) ∙ h.1 in cc
+      refused_so e (inr (inl h)) = sure old.now.trees h.1
+      refused_so e (inr (inr h)) = let some = rw never.unlimited at h.1 in cc
+
+      -- a query fails for want of memory alone
+      pub for_memory : (e : Error) → FailsToQuery sql params old new e → IsMemory e
+      unfolding FailsToQuery IsNotRun
+      for_memory e (inl (inl h)) = absurd (is_statement e h.0)
+      for_memory e (inl (inr h)) = fails_so e h
+      for_memory e (inr h) =
+          let known = sym h.1.is ∙ ap (λ s. understood s sql) has in
+          let bare = subst IsPlain (sym known) plain in
+          let it = rw (bare.0, bare.1, append-nil params) at h.2 in
+          let db : it.0 ≡ old.now = subst (λ b. IsSourceOf b old.now it.0) (ap (λ s. reads_listing s sql) has ∙ unlisted) it.1 in
+          absurd (refused_so e (subst₂ (λ k d. RefusesToRead old.step_limit k d params e) (ap command_of known ∙ is) db it.2))
+
+    -- what a command that writes rows makes of the database, or why it stops
+    abbrev Writing : Command → Type 0
+    Writing command = (text : List ℕ) × (stop : Option Error) × Does old.step_limit (mode_of old) params old.now text None command (Err stop)
+
+    module _ (command : Command) (is : command_of (understood schema sql) ≡ command) (quiet : (is_query command || is_pragma command) ≡ false) (placed : (e : Error) → ¬ (IsMisplaced old command e)) where
+      -- a write fails for want of memory, or the database refuses what it asks
+      pub for_memory_or : (e : Error) → Executes sql params old new (Err e) → IsMemory e ⊎ Writing command
+      unfolding ExecutesIn IsNotRun
+      for_memory_or e (inl (inl h)) = absurd (is_statement e h.0)
+      for_memory_or e (inl (inr h)) = inl (fails_so e h)
+      for_memory_or e (inr h) =
+          let known = sym h.1.is ∙ ap (λ s. understood s sql) has in
+          let bare = subst IsPlain (sym known) plain in
+          let same : h.0.command ≡ command = ap command_of known ∙ is in
+          let silent : shows_rows false h.0 ≡ false = rw (same, bare.0) (quietly (is_query command) (is_pragma command) quiet) in
+          elim (rw (silent, bare.0, bare.1, append-nil params, same) at h.2) [
+            | inl refused ↦ elim refused.0 [
+              | inl misplaced ↦ absurd (placed e misplaced)
+              | inr stopped ↦ inr (text_of sql h.0, Some e, stopped.1)
+            ]
+            | inr failed ↦ elim (fails_or _ e failed) [
+              | inl memory ↦ inl memory
+              | inr big ↦ inr (text_of sql h.0, None, big)
+            ]
+          ]
+
+-- such a query over one table, with no group, has no SUM
+abbrev pub Over : ℕ → Query → Type 0
+Over t q = (q.group ≡ None) × (q.from ≡ inner t end)
+
+pub no_sum : (q : Query) (t : ℕ) → Over t q → (params : Row) (db : Trees) → ¬ (ProgramOverflows db params [] [] q)
+no_sum q t over params db (inl h) = rw over.0 at h
+no_sum q t over params db (inr h) = let it = rw over.1 at h in it.4
+
+-- a column that can be read is not read for want of memory alone
+pub readable_fails : (at : ℕ) (v : Value) (e : Error) (Readable : Type 0) → IsReadError at v e → (e ≢ SqliteFailure code.OutOfMemory → ¬ Readable) → Readable → e ≡ SqliteFailure code.OutOfMemory
+readable_fails at v e Readable (inl is) none readable = absurd (none (λ other. let no = sym is ∙ other in cc) readable)
+readable_fails at v e Readable (inr (inl is)) none readable = absurd (none (λ other. let no = sym is ∙ other in cc) readable)
+readable_fails at v e Readable (inr (inr (inl is))) none readable = absurd (none (λ other. let no = sym is ∙ other in cc) readable)
+readable_fails at v e Readable (inr (inr (inr (inl is)))) none readable = absurd (none (λ other. let no = sym is ∙ other in cc) readable)
+readable_fails at v e Readable (inr (inr (inr (inr is)))) none readable = is

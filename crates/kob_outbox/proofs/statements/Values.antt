@@ -1,0 +1,67 @@
+-- How numbers and texts compare in SQL.
+use Rattle.std.proofs.Common.{◌⊎◌, inl, inr, ◌≡◌, ℕ, pos, ◌<◌, nat_lt, nat_le, bytes_eq, Bool, true, false, List, refl, sym, ap, ◌∙◌, arith, Less, Equal, Greater, is_eq}
+use Rattle.std.specs.Ordering.{nat_cmp, int_cmp, is_gt, is_le}
+use Rattle.std.specs.Cmp.{nat_cmp_is}
+use Rattle.std.proofs.lemmas.Map.Text.{is_eq-slice_cmp}
+use Rattle.sqlite.specs.declared.types.Value.TheVariants.{Int, Text}
+use Rattle.sqlite.specs.Collation.TheVariants.{Binary}
+use Rattle.sqlite_value.specs.Order.{value_cmp}
+use Rattle.sqlite_value.proofs.OrderLemmas.{value_cmp-Int, value_cmp-Text}
+use Rattle.sqlite_sql.specs.declared.ops.BinaryOp.TheVariants.{Compare}
+use Rattle.sqlite_sql.specs.declared.ops.CompareOp.TheVariants.{Gt, Le}
+use Rattle.sqlite_sql.specs.Ops.{binary, is_true, from_truth}
+use Rattle.std.proofs.Common.{Some}
+use Rattle.sqlite_schema.specs.Rules.{equal}
+
+truth_back : (b : Bool) → is_true (from_truth (Some b)) ≡ b
+truth_back true = refl
+truth_back false = refl
+
+pub equal_texts : (s t : List ℕ) → equal Binary (Text s) (Text t) ≡ bytes_eq s t
+unfolding binary
+equal_texts s t = truth_back _ ∙ ap is_eq (value_cmp-Text s t) ∙ is_eq-slice_cmp s t
+
+pos_cmp : (i k : ℕ) → int_cmp (pos i) (pos k) ≡ nat_cmp i k
+pos_cmp i k = grind arith
+
+pub number_below : (i k : ℕ) → i < k → value_cmp (Int (pos i)) (Int (pos k)) ≡ Less
+number_below i k low = value_cmp-Int (pos i) (pos k) ∙ pos_cmp i k ∙ sym (nat_cmp_is i k Less low)
+
+pub number_above : (i k : ℕ) → k < i → value_cmp (Int (pos i)) (Int (pos k)) ≡ Greater
+number_above i k low = value_cmp-Int (pos i) (pos k) ∙ pos_cmp i k ∙ sym (nat_cmp_is i k Greater low)
+
+pub number_same : (k : ℕ) → value_cmp (Int (pos k)) (Int (pos k)) ≡ Equal
+number_same k = value_cmp-Int (pos k) (pos k) ∙ pos_cmp k k ∙ sym (nat_cmp_is k k Equal refl)
+
+pub unequal_numbers : (i k : ℕ) → i < k → equal Binary (Int (pos i)) (Int (pos k)) ≡ false
+unfolding binary
+unequal_numbers i k low = truth_back _ ∙ ap is_eq (number_below i k low)
+
+gt_lt : (i k : ℕ) → is_gt (nat_cmp i k) ≡ nat_lt k i
+gt_lt i k = grind arith
+
+le_le : (i k : ℕ) → is_le (nat_cmp i k) ≡ nat_le i k
+le_le i k = grind arith
+
+pub greater : (i k : ℕ) → is_true (binary (Compare Gt Binary) (Int (pos i)) (Int (pos k))) ≡ nat_lt k i
+unfolding binary
+greater i k = truth_back _ ∙ ap is_gt (value_cmp-Int (pos i) (pos k) ∙ pos_cmp i k) ∙ gt_lt i k
+
+pub at_most : (i k : ℕ) → is_true (binary (Compare Le Binary) (Int (pos i)) (Int (pos k))) ≡ nat_le i k
+unfolding binary
+at_most i k = truth_back _ ∙ ap is_le (value_cmp-Int (pos i) (pos k) ∙ pos_cmp i k) ∙ le_le i k
+
+pub both_ways : (a b : Bool) → (a ≡ true → b ≡ true) → (b ≡ true → a ≡ true) → a ≡ b
+both_ways true b f g = sym (f refl)
+both_ways false true f g = g refl
+both_ways false false f g = refl
+
+nat_cases : (i k : ℕ) → (i < k) ⊎ ((i ≡ k) ⊎ (k < i))
+nat_cases i k = grind arith
+
+pub equal_numbers : (i k : ℕ) → is_eq (value_cmp (Int (pos i)) (Int (pos k))) ≡ true → i ≡ k
+equal_numbers i k h = elim (nat_cases i k) [
+  | inl low ↦ absurd (let e = rw (number_below i k low) at h in cc)
+  | inr (inl same) ↦ same
+  | inr (inr high) ↦ absurd (let e = rw (number_above i k high) at h in cc)
+]

@@ -1,0 +1,43 @@
+-- A database that is a service's.
+use Rattle.std.specs.Prelude.{◌≡◌, ℕ, List, false, true, None, IsTrue}
+use Rattle.sqlite.specs.Held.{Held, state}
+use Rattle.sqlite.specs.State.{State}
+use Rattle.sqlite.specs.Steps.{over_memory}
+use Rattle.sqlite_trees.specs.declared.memory.MemStore.{MemStore}
+use Rattle.kob_outbox.specs.Contents.{Contents}
+use Rattle.kob_outbox.specs.Layout.{Holds, contents_in}
+use Rattle.kob_outbox.specs.Recording.{is_recorded, with_id}
+use Rattle.kob_outbox.specs.Tables.{service_schema}
+
+-- what a connection shows of its database
+abbrev pub database : Held MemStore → State
+database conn = state over_memory conn
+
+-- the contents of a database
+abbrev pub contents_of : State → Contents
+contents_of s = contents_in s.now.trees
+
+-- the contents of a connection's tables
+abbrev pub contents : Held MemStore → Contents
+contents conn = contents_of (database conn)
+
+-- the database is the service's, between its statements
+pub record IsService (s : State) : Type 0 where
+  pub schema : s.now.schema ≡ service_schema
+  pub settled : s.committed ≡ s.now
+  pub idle : s.in_transaction ≡ false
+  pub unlimited : s.step_limit ≡ None
+  pub holds : Holds (contents_in s.now.trees) s.now.trees
+
+-- the same in a transaction, in which statements have changed it
+pub record IsChanging (s : State) : Type 0 where
+  pub schema : s.now.schema ≡ service_schema
+  pub begun : IsTrue s.in_transaction
+  pub unlimited : s.step_limit ≡ None
+  pub holds : Holds (contents_in s.now.trees) s.now.trees
+
+-- what the statement that spends an id did, by the number of rows that it wrote
+pub record Spends (id : List ℕ) (old new : State) (count : ℕ) : Type 0 where
+  pub changing : IsChanging new
+  pub fresh : is_recorded (contents_of old).ids id ≡ false → (count ≡ 1) × (contents_of new ≡ with_id (contents_of old) id)
+  pub again : is_recorded (contents_of old).ids id ≡ true → count ≡ 0

@@ -1,0 +1,24 @@
+//! A service's tables in memory: its business rows, its outbox, the ids that it spent and the mark of what was sent.
+#![tactic(auto)]
+
+mod business_table;
+mod change;
+mod event;
+mod fault;
+mod fields;
+mod laws;
+mod mark_table;
+mod number;
+mod outbox;
+mod outbox_table;
+mod reads;
+mod rows;
+mod spent_table;
+mod writes;
+
+pub use change::Change;
+pub use event::{OutboxEvent, Row};
+pub use fault::{MarkFault, OutboxFault, RecordFault};
+pub use fields::{Column, MOST_NAME_BYTES, MOST_TEXT_BYTES};
+pub use laws::{a_record_writes_one_business_row, a_sweep_keeps_what_waits};
+pub use outbox::Outbox;

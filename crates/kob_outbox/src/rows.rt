@@ -1,0 +1,43 @@
+//! Events read back from the rows of a query.
+
+ghost use Rattle.std.specs.Prelude.{◌≡◌, map, IfOk, IfErr};
+ghost use Rattle.std.specs.List.{AllByRecursion};
+ghost use Rattle.kob_outbox.specs.Events.{stored_row};
+ghost use Rattle.kob_outbox.specs.Layout.{IsShown, shown_event};
+
+use crate::event::{OutboxEvent, Row};
+use crate::fault::OutboxFault;
+use std::alloc::Global;
+use uuid::Uuid;
+
+fn row_of(row: &sqlite::Row) -> Result<Row, OutboxFault>
+    requires { IsShown row.now }
+    ensures row { IfOk result (λ r. shown_event (stored_row r) ≡ row.now) }
+    ensures memory { IfErr result (λ f. f ≡ OutboxFault.Memory) }
+{
+    let id: String = row.get(1)?;
+    let payload: Vec<u8> = row.get(5)?;
+    Ok(Row {
+        seq: row.get(0)?,
+        event: OutboxEvent {
+            id: Uuid::parse_str(&id).map_err(|_| OutboxFault::Store)?,
+            aggregate_type: row.get(2)?,
+            aggregate_id: row.get(3)?,
+            event_type: row.get(4)?,
+            payload: String::from_utf8(payload).map_err(|_| OutboxFault::Store)?,
+        },
+    })
+}
+
+/// The events that the rows show, in their order.
+pub(crate) fn rows_of(alloc: Global, rows: &[sqlite::Row]) -> Result<Vec<Row>, OutboxFault>
+    requires { AllByRecursion IsShown rows.now }
+    ensures rows { IfOk result (λ out. map (λ r. shown_event (stored_row r)) out.items ≡ rows.now) }
+    ensures memory { IfErr result (λ f. f ≡ OutboxFault.Memory) }
+{
+    let mut out = Vec::new(alloc);
+    for row in rows {
+        out.push(row_of(row)?).map_err(|_| OutboxFault::Memory)?;
+    }
+    Ok(out)
+}
