@@ -1,19 +1,43 @@
 -- Decisions that make an outcome.
-use Rattle.std.proofs.Common.{◌≡◌, Some, sym, ap, ◌∙◌}
+use Rattle.std.proofs.Common.{◌≡◌, Some, sym, ap, subst, ◌∙◌}
+use Rattle.std.specs.Prelude.{Result, Ok, Err, IfOk, List, ℕ, Option}
+use Rattle.kob_partition.specs.Retained.{retained_meaning}
 use Rattle.kob_rights.specs.Reason.{code_of}
+use Rattle.kob_rights.specs.declared.event.Event.{Event}
+use Rattle.kob_rights.specs.declared.on_topics.Metadata.{Metadata}
 use Rattle.kob_rights.specs.declared.reason.Reason.{Reason}
 use Rattle.kob_rights.specs.declared.reply.Reply.TheVariants.{Refused}
 use Rattle.kob_rights.specs.declared.request.Request.{Request}
+use Rattle.kob_rights.specs.declared.request.Request.TheVariants as requests
+use Rattle.kob_broker.specs.declared.broker.Broker.{Broker}
 use Rattle.kob_broker.specs.declared.prepared.Change.TheVariants.{Unchanged}
-use Rattle.kob_broker.specs.Change.{Kept, Decision, Makes, CanCommit, changed}
-use Rattle.kob_broker.specs.Effect.{effect, effect_by, refusal}
-use Rattle.kob_broker.specs.Meaning.{listed}
+use Rattle.kob_broker.specs.declared.prepared.Prepared.{Prepared}
+use Rattle.kob_broker.specs.Change.{Makes, MakesFor, CanCommit, changed, reply_of, state_of}
+use Rattle.kob_broker.specs.Effect.{effect, effect_by, named, refusal}
+use Rattle.kob_broker.specs.Metadata.{metadata_request}
 
 -- a refusal for the first reason that holds
-pub refused_makes : (kept : Kept) (request : Request) (decision : Decision) (reason : Reason) → refusal listed kept.state request ≡ Some reason
-    → decision.reply ≡ Refused (code_of reason) reason → decision.change ≡ Unchanged → Makes (effect listed kept.state request) kept decision
-refused_makes kept request decision reason why reply change = record {
-  same_reply = reply ∙ ap (λ found. (effect_by listed found kept.state request).reply) (sym why);
-  same_state = ap (λ made. changed made kept.state) change ∙ ap (λ found. (effect_by listed found kept.state request).state) (sym why);
-  room = rw change tt;
+pub refused_makes : (broker : Broker) (request : Request) (prepared : Prepared) (reason : Reason) → refusal retained_meaning (state_of broker) request ≡ Some reason
+    → prepared.reply ≡ Refused (code_of reason) reason → prepared.change ≡ Unchanged → MakesFor request broker prepared
+refused_makes broker request prepared reason why reply change event = record {
+  same_reply = reply ∙ ap (λ found. (effect_by retained_meaning found (state_of broker) (named (state_of broker) request) event request).reply) (sym why);
+  same_state = ap (λ made. changed made broker) change ∙ ap (λ found. (effect_by retained_meaning found (state_of broker) (named (state_of broker) request) event request).state) (sym why);
+  ready = rw change tt;
 }
+
+-- what makes the effect of a request for whoever asks makes it for the event that has it
+pub made_for : (broker : Broker) (request : Request) (event : Event) (prepared : Prepared) → event.request ≡ request → MakesFor request broker prepared
+    → Makes (effect retained_meaning (state_of broker) event event.request) broker prepared
+made_for broker request event prepared is makes =
+    subst (λ (r : Request). Makes (effect retained_meaning (state_of broker) event r) broker prepared) (sym is) (makes event)
+
+pub made_for_ok : {E : Type 0} (broker : Broker) (request : Request) (event : Event) (result : Result Prepared E) → event.request ≡ request → IfOk result (MakesFor request broker)
+    → IfOk result (Makes (effect retained_meaning (state_of broker) event event.request) broker)
+made_for_ok broker request event (Ok prepared) is makes = made_for broker request event prepared is makes
+made_for_ok broker request event (Err fault) is makes = tt
+
+pub metadata_for : {E : Type 0} (broker : Broker) (topic : Option (List ℕ)) (asked : Metadata) (event : Event) (result : Result Prepared E) → asked.topic ≡ topic
+    → IfOk result (MakesFor (metadata_request topic) broker) → IfOk result (Makes (effect retained_meaning (state_of broker) event (requests.Metadata asked)) broker)
+metadata_for broker topic asked event (Ok prepared) is makes =
+    subst (λ t. Makes (effect retained_meaning (state_of broker) event (metadata_request t)) broker prepared) (sym is) (makes event)
+metadata_for broker topic asked event (Err fault) is makes = tt

@@ -1,4 +1,4 @@
--- The first reason among two lists of reasons.
+-- The first reason among lists of reasons.
 use Rattle.std.proofs.Common.{◌≡◌, List, [], ◌∷◌, ◌++◌, Some, None, Bool, refl, arith}
 use Rattle.std.proofs.lemmas.Bool.Decides.{nat_tests}
 use Rattle.kob_rights.specs.declared.reason.Reason.{Reason}

@@ -5,6 +5,7 @@ use Rattle.std.specs.Option.{option_map}
 use Rattle.kob_names.specs.BindingRules.{drafted}
 use Rattle.kob_authorizer.specs.Contents.{Contents}
 use Rattle.kob_authorizer.proofs.InTurn.{added_rises}
+use Rattle.kob_authorizer.proofs.Rising.{removed_rises}
 use Rattle.kob_rights.specs.Table.{rights, denial_code}
 use Rattle.kob_rights.specs.declared.check.Check.{Check}
 use Rattle.kob_rights.specs.declared.event.Event.{Event}
@@ -12,12 +13,12 @@ use Rattle.kob_rights.specs.declared.reason.Reason.{Reason}
 use Rattle.kob_rights.specs.declared.reply.Reply.{Reply}
 use Rattle.kob_rights.specs.declared.reply.Reply.TheVariants.{Denied, Refused, Done}
 use Rattle.kob_rights.specs.declared.request.Request.{Request}
-use Rattle.kob_rights.specs.declared.request.Request.TheVariants.{CreateTopics, CreateAcls, Produce, Fetch}
+use Rattle.kob_rights.specs.declared.request.Request.TheVariants.{Produce, Fetch, ListOffsets, Metadata, OffsetCommit, OffsetFetch, ListGroups, DeleteGroups, CreateTopics, DeleteTopics, InitProducerId, DescribeAcls, CreateAcls, DeleteAcls}
 use Rattle.kob_broker.specs.Denial.{verdict, unmet, denied}
 use Rattle.kob_broker.specs.Effect.{after, effect_by, named, refusal}
 use Rattle.kob_broker.specs.InForce.{access_after, changed_access}
 use Rattle.kob_broker.specs.Justice.{EachGranted, EachJust, IsDenial, IsJust}
-use Rattle.kob_broker.specs.Meaning.{Meaning}
+use Rattle.kob_partition.specs.Meaning.{Meaning}
 use Rattle.kob_broker.specs.State.{State}
 use Rattle.kob_broker.specs.Step.{step, step_by}
 use Rattle.kob_broker.proofs.Clauses.{Found, IsNumbered, each_blamed, unmet_found, unmet_none}
@@ -35,10 +36,20 @@ found_denial access event found clause numbered f = record {
 
 -- the bindings after what a request did, where they are numbered
 changed_numbered : (request : Request) (access : Contents) → IsNumbered access → IsNumbered (changed_access request access)
-changed_numbered (CreateTopics create) access numbered = numbered
-changed_numbered (CreateAcls create) access numbered = added_rises access.entries access.next (map drafted create.drafts) numbered
 changed_numbered (Produce produce) access numbered = numbered
 changed_numbered (Fetch fetch) access numbered = numbered
+changed_numbered (ListOffsets asked) access numbered = numbered
+changed_numbered (Metadata asked) access numbered = numbered
+changed_numbered (OffsetCommit commit) access numbered = numbered
+changed_numbered (OffsetFetch asked) access numbered = numbered
+changed_numbered ListGroups access numbered = numbered
+changed_numbered (DeleteGroups delete) access numbered = numbered
+changed_numbered (CreateTopics create) access numbered = numbered
+changed_numbered (DeleteTopics delete) access numbered = numbered
+changed_numbered InitProducerId access numbered = numbered
+changed_numbered (DescribeAcls asked) access numbered = numbered
+changed_numbered (CreateAcls create) access numbered = added_rises access.entries access.next (map drafted create.drafts) numbered
+changed_numbered (DeleteAcls delete) access numbered = removed_rises access.entries access.next delete.filter numbered
 
 reply_numbered : (reply : Reply) (request : Request) (access : Contents) → IsNumbered access → IsNumbered (access_after reply request access)
 reply_numbered (Done body) request access numbered = changed_numbered request access numbered
@@ -50,7 +61,7 @@ just_at access e event r reply this that just = subst (λ (x : Event). IsJust ac
 
 module _ {P : Type 0} (m : Meaning P) where
   effect_just : (s : State P) (event : Event) (against : Option Reason) → EachGranted s.access event (rights event.request)
-      → IsJust s.access event (effect_by m against s event.request).reply
+      → IsJust s.access event (effect_by m against s (named s event.request) event event.request).reply
   effect_just s event (Some reason) granted = granted
   effect_just s event None granted = granted
 
@@ -65,21 +76,32 @@ module _ {P : Type 0} (m : Meaning P) where
   step_just s event numbered = just_by s event (unmet s.access event 0 (rights event.request)) refl numbered
 
   -- the bindings after one event are those that its reply says
-  after_access : (s : State P) (request : Request) → (after m s (named m s request) request).access ≡ changed_access request s.access
-  after_access s (CreateTopics create) = refl
-  after_access s (CreateAcls create) = refl
+  after_access : (s : State P) (request : Request) → (after m s (named s request) request).access ≡ changed_access request s.access
   after_access s (Produce produce) = refl
   after_access s (Fetch fetch) = refl
+  after_access s (ListOffsets asked) = refl
+  after_access s (Metadata asked) = refl
+  after_access s (OffsetCommit commit) = refl
+  after_access s (OffsetFetch asked) = refl
+  after_access s ListGroups = refl
+  after_access s (DeleteGroups delete) = refl
+  after_access s (CreateTopics create) = refl
+  after_access s (DeleteTopics delete) = refl
+  after_access s InitProducerId = refl
+  after_access s (DescribeAcls asked) = refl
+  after_access s (CreateAcls create) = refl
+  after_access s (DeleteAcls delete) = refl
 
-  effect_access : (s : State P) (request : Request) (against : Option Reason)
-      → (effect_by m against s request).state.access ≡ access_after (effect_by m against s request).reply request s.access
-  effect_access s request (Some reason) = refl
-  effect_access s request None = after_access s request
+  effect_access : (s : State P) (event : Event) (against : Option Reason) →
+      let outcome = effect_by m against s (named s event.request) event event.request in
+      outcome.state.access ≡ access_after outcome.reply event.request s.access
+  effect_access s event (Some reason) = refl
+  effect_access s event None = after_access s event.request
 
   access_by : (s : State P) (event : Event) (found : Option (ℕ × List Check)) →
       let outcome = step_by m (option_map (denied s.access event) found) s event in
       outcome.state.access ≡ access_after outcome.reply event.request s.access
-  access_by s event None = effect_access s event.request (refusal m s event.request)
+  access_by s event None = effect_access s event (refusal m s event.request)
   access_by s event (Some blamed) = refl
 
   step_access : (s : State P) (event : Event) → (step m s event).state.access ≡ access_after (step m s event).reply event.request s.access

@@ -1,8 +1,8 @@
 pub mod Runs
-pub mod Writes
-pub mod Places
 pub mod FirstReasons
 pub mod Decisions
 pub mod Drafts
+pub mod Batches
 pub mod Clauses
 pub mod Just
+pub mod Lifting

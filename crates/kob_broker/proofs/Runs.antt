@@ -2,7 +2,8 @@
 use Rattle.std.proofs.Common.{◌≡◌, ℕ, ◌+◌, ◌<◌, List, [], ◌∷◌, ◌++◌, length, get_or, take, refl, ap, ◌∙◌, sym}
 use Rattle.std.proofs.lemmas.List.{take_more}
 use Rattle.kob_rights.specs.declared.event.Event.{Event}
-use Rattle.kob_broker.specs.Meaning.{Meaning}
+use Rattle.kob_partition.specs.Meaning.{Meaning}
+use Rattle.kob_rights.specs.declared.reply.Reply.{Reply}
 use Rattle.kob_broker.specs.State.{State}
 use Rattle.kob_broker.specs.Step.{step, replies_of, state_after}
 
@@ -28,3 +29,16 @@ module _ {P : Type 0} (m : Meaning P) where
       ap (λ es. state_after m es s) (take_more events i event lt)
       ∙ state_after-append (take i events) (get_or events i event ∷ []) s
       ∙ ap (λ e. (step m (state_after m (take i events) s) e).state) (sym is)
+
+  -- one event more, served where the run stands
+  pub one_event_more : (events : List Event) (i : ℕ) (event : Event) (s now next : State P) (replies more : List Reply) (reply : Reply)
+      → i < length events → event ≡ get_or events i event → replies ≡ replies_of m (take i events) s → now ≡ state_after m (take i events) s
+      → reply ≡ (step m now event).reply → next ≡ (step m now event).state → more ≡ replies ++ reply ∷ []
+      → (more ≡ replies_of m (take (i + 1) events) s) × (next ≡ state_after m (take (i + 1) events) s)
+  one_event_more events i event s now next replies more reply lt is before stood told left put = (
+    put
+        ∙ ap (λ r. replies ++ r ∷ []) (told ∙ ap (λ (t : State P). (step m t event).reply) stood)
+        ∙ ap (λ rs. rs ++ (step m (state_after m (take i events) s) event).reply ∷ []) before
+        ∙ sym (replies_one_more events i event s lt is),
+    left ∙ ap (λ (t : State P). (step m t event).state) stood ∙ sym (state_one_more events i event s lt is),
+  )

@@ -1,54 +1,78 @@
 -- What a prepared change does, and when there is room for it.
-use Rattle.std.specs.Prelude.{◌≡◌, ℕ, ◌<◌, ◌≤◌, List, [], ◌∷◌, ◌++◌, length}
-use Rattle.kob_names.specs.declared.record.Record.{Record}
+use Rattle.std.specs.Prelude.{◌≡◌, true, ◌<◌, ◌+◌, ◌++◌, ℕ, List, [], ◌∷◌}
 use Rattle.kob_authorizer.specs.Creation.{CanCreate, with_creation}
-use Rattle.kob_authorizer.specs.Contents as authorizer
+use Rattle.kob_authorizer.specs.Deletion.{CanDelete, without_taken}
+use Rattle.kob_catalog.specs.Creation.{CanAdd}
+use Rattle.kob_catalog.specs.Kept.{catalog_log, kept_of, topics_of}
+use Rattle.kob_catalog.specs.Topics.{HasPartition, topic_map, with_partition_at}
+use Rattle.kob_groups.specs.Groups as groups
+use Rattle.kob_partition.specs.Log.{CanAppend}
+use Rattle.kob_partition.specs.Retained.{Retained, retained_meaning}
+use Rattle.kob_rights.specs.declared.event.Event.{Event}
 use Rattle.kob_rights.specs.declared.reply.Reply.{Reply}
+use Rattle.kob_rights.specs.declared.request.Request.{Request}
+use Rattle.kob_broker.specs.declared.broker.Broker.{Broker}
 use Rattle.kob_broker.specs.declared.prepared.Change.{Change}
-use Rattle.kob_broker.specs.declared.prepared.Change.TheVariants.{Unchanged, AddTopic, AddBindings, Append}
-use Rattle.kob_broker.specs.Effect.{Outcome}
-use Rattle.kob_broker.specs.Rooms.{TopicsKept, topic_of, room_of}
+use Rattle.kob_broker.specs.declared.prepared.Change.TheVariants.{Unchanged, AddTopic, RemoveTopic, AddBindings, RemoveBindings, Append, Commit, RemoveGroup, GiveProducer}
+use Rattle.kob_broker.specs.declared.prepared.Prepared.{Prepared}
+use Rattle.kob_broker.specs.declared.limits.TheConstants.{PRODUCER_LIMIT}
+use Rattle.kob_broker.specs.DeleteTopics.{delete_topics_after}
+use Rattle.kob_broker.specs.Effect.{Outcome, effect}
 use Rattle.kob_broker.specs.State.{State}
-use Rattle.kob_broker.specs.Topics.{HasPartition, with_appended_at}
 
--- for how many more topics, records of each partition, and bindings there is room
-pub record Room : Type 0 where
-  pub topics : ℕ
-  pub records : List (List ℕ)
-  pub bindings : ℕ
+-- the state of a broker: what it holds, without the room that is there for more
+abbrev pub state_of : Broker → State Retained
+state_of broker = record {
+  topics = topics_of broker.catalog;
+  groups = broker.groups.groups;
+  access = broker.authorizer.contents;
+  next_producer = broker.next_producer;
+}
 
--- what a broker holds, with its room
-pub record Kept : Type 0 where
-  pub state : State (List Record)
-  pub room : Room
-
-abbrev pub changed : Change → State (List Record) → State (List Record)
-changed Unchanged s = s
-changed (AddTopic topic) s = record s { topics = s.topics ++ topic_of topic ∷ [] }
-changed (AddBindings made) s = record s { access = with_creation s.access made }
-changed (Append place partition records) s = record s { topics = with_appended_at place partition records s.topics }
-
-abbrev pub topics_kept : Kept → TopicsKept
-topics_kept kept = record { topics = kept.state.topics; room = kept.room.topics; record_room = kept.room.records }
-
-abbrev pub access_kept : Kept → authorizer.State
-access_kept kept = record { contents = kept.state.access; room = kept.room.bindings }
+-- the state after a change
+abbrev pub changed : Change → Broker → State Retained
+changed Unchanged broker = state_of broker
+changed (AddTopic made) broker = record (state_of broker) { topics = topics_of broker.catalog ++ topic_map kept_of made ∷ [] }
+changed (RemoveTopic name) broker = delete_topics_after (state_of broker) name
+changed (AddBindings made) broker = record (state_of broker) { access = with_creation broker.authorizer.contents made }
+changed (RemoveBindings made) broker = record (state_of broker) { access = without_taken made.filter broker.authorizer.contents }
+changed (Append place partition batch) broker = record (state_of broker) {
+  topics = with_partition_at place partition
+      (retained_meaning.append (catalog_log broker.catalog place partition).kept batch) (topics_of broker.catalog);
+}
+changed (Commit made) broker = record (state_of broker) { groups = groups.with_commit made.place made.offset broker.groups.groups }
+changed (RemoveGroup name) broker = record (state_of broker) { groups = groups.without_group name broker.groups.groups }
+changed GiveProducer broker = record (state_of broker) { next_producer = broker.next_producer + 1 }
 
 -- there is room for the change, and its place is there
-abbrev pub CanCommit : Change → Kept → Type 0
-CanCommit Unchanged kept = Unit {0}
-CanCommit (AddTopic topic) kept = 0 < kept.room.topics
-CanCommit (AddBindings made) kept = CanCreate made (access_kept kept)
-CanCommit (Append place partition records) kept =
-    HasPartition kept.state.topics place partition × (length records ≤ room_of (topics_kept kept) place partition)
+abbrev pub CanCommit : Change → Broker → Type 0
+CanCommit Unchanged broker = Unit {0}
+CanCommit (AddTopic made) broker = CanAdd made broker.catalog
+CanCommit (RemoveTopic name) broker = Unit {0}
+CanCommit (AddBindings made) broker = CanCreate made broker.authorizer
+CanCommit (RemoveBindings made) broker = CanDelete made broker.authorizer
+CanCommit (Append place partition batch) broker =
+    HasPartition broker.catalog.logs place partition × CanAppend (catalog_log broker.catalog place partition) batch
+CanCommit (Commit made) broker = groups.CanCommit made broker.groups
+CanCommit (RemoveGroup name) broker = groups.has_group name broker.groups.groups ≡ true
+CanCommit GiveProducer broker = broker.next_producer < PRODUCER_LIMIT
 
--- a reply, and what is to change
-pub record Decision : Type 0 where
-  pub reply : Reply
-  pub change : Change
+-- the reply that is prepared, the state that its change leaves, and that there is room for it
+abbrev pub reply_of : Prepared → Reply
+reply_of prepared = prepared.reply
 
--- the decision makes that outcome, and there is room for it
-pub record Makes (outcome : Outcome (List Record)) (kept : Kept) (decision : Decision) : Type 0 where
-  pub same_reply : decision.reply ≡ outcome.reply
-  pub same_state : changed decision.change kept.state ≡ outcome.state
-  pub room : CanCommit decision.change kept
+abbrev pub state_with : Prepared → Broker → State Retained
+state_with prepared broker = changed prepared.change broker
+
+abbrev pub IsReady : Prepared → Broker → Type 0
+IsReady prepared broker = CanCommit prepared.change broker
+
+-- what is prepared makes that outcome, and there is room for it
+pub record Makes (outcome : Outcome Retained) (broker : Broker) (prepared : Prepared) : Type 0 where
+  pub same_reply : reply_of prepared ≡ outcome.reply
+  pub same_state : state_with prepared broker ≡ outcome.state
+  pub ready : IsReady prepared broker
+
+-- what is prepared makes the effect of the request, whoever asks
+abbrev pub MakesFor : Request → Broker → Prepared → Type 0
+MakesFor request broker prepared = (event : Event) → Makes (effect retained_meaning (state_of broker) event request) broker prepared

@@ -1,13 +1,14 @@
 -- The creation of a topic.
-use Rattle.std.specs.Prelude.{Bool, not, ◌&&◌, ℕ, List, [], ◌∷◌, ◌++◌, is_some, length, nat_le, replicate}
+use Rattle.std.specs.Prelude.{Bool, not, ◌&&◌, ℕ, List, [], ◌∷◌, ◌++◌, is_some, length, nat_le}
+use Rattle.kob_catalog.specs.Creation.{new_topic}
+use Rattle.kob_catalog.specs.Topics.{has_topic}
+use Rattle.kob_catalog.specs.declared.limits.TheConstants.{PARTITION_LIMIT, TOPIC_LIMIT}
 use Rattle.kob_names.specs.TopicRules.{topic_fault}
+use Rattle.kob_partition.specs.Meaning.{Meaning}
+use Rattle.kob_rights.specs.declared.on_topics.CreateTopics.{CreateTopics}
 use Rattle.kob_rights.specs.declared.reason.Reason.{Reason}
 use Rattle.kob_rights.specs.declared.reason.Reason.TheVariants as reasons
-use Rattle.kob_rights.specs.declared.request.CreateTopics.{CreateTopics}
-use Rattle.kob_broker.specs.declared.limits.TheConstants.{TOPIC_LIMIT, PARTITION_LIMIT}
-use Rattle.kob_broker.specs.Meaning.{Meaning}
 use Rattle.kob_broker.specs.State.{State}
-use Rattle.kob_broker.specs.Topics.{has_topic}
 
 module _ {P : Type 0} (m : Meaning P) where
   abbrev pub create_topics_reasons : State P → CreateTopics → List (Bool × Reason)
@@ -20,5 +21,4 @@ module _ {P : Type 0} (m : Meaning P) where
 
   -- a topic with empty partitions is put last
   abbrev pub create_topics_after : State P → CreateTopics → State P
-  create_topics_after s create =
-      record s { topics = s.topics ++ record { name = create.name; partitions = replicate create.partitions m.empty } ∷ [] }
+  create_topics_after s create = record s { topics = s.topics ++ new_topic m create.name create.partitions ∷ [] }

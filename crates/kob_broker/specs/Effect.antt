@@ -1,63 +1,116 @@
 -- What a request does whose rights are granted: the tables of all kinds.
-use Rattle.std.specs.Prelude.{Bool, ℕ, List, Option, Some, None}
+use Rattle.std.specs.Prelude.{Bool, ℕ, ◌+◌, List, [], Option, Some, None}
+use Rattle.kob_authorizer.specs.Deletion.{taken, without_taken}
+use Rattle.kob_catalog.specs.Topics.{partition_of}
+use Rattle.kob_groups.specs.Groups as groups
+use Rattle.kob_partition.specs.Meaning.{Meaning}
 use Rattle.kob_rights.specs.Reason.{code_of}
+use Rattle.kob_rights.specs.declared.event.Event.{Event}
 use Rattle.kob_rights.specs.declared.reason.Reason.{Reason}
 use Rattle.kob_rights.specs.declared.reply.Body.{Body}
 use Rattle.kob_rights.specs.declared.reply.Body.TheVariants as bodies
 use Rattle.kob_rights.specs.declared.reply.Reply.{Reply}
 use Rattle.kob_rights.specs.declared.reply.Reply.TheVariants.{Refused, Done}
 use Rattle.kob_rights.specs.declared.request.Request.{Request}
-use Rattle.kob_rights.specs.declared.request.Request.TheVariants.{CreateTopics, CreateAcls, Produce, Fetch}
+use Rattle.kob_rights.specs.declared.request.Request.TheVariants.{Produce, Fetch, ListOffsets, Metadata, OffsetCommit, OffsetFetch, ListGroups, DeleteGroups, CreateTopics, DeleteTopics, InitProducerId, DescribeAcls, CreateAcls, DeleteAcls}
 use Rattle.kob_broker.specs.CreateAcls.{create_acls_reasons, created_serials, bindings_of}
 use Rattle.kob_broker.specs.CreateTopics.{create_topics_reasons, create_topics_after}
-use Rattle.kob_broker.specs.Fetch.{fetch_reasons, fetched}
-use Rattle.kob_broker.specs.Meaning.{Meaning}
-use Rattle.kob_broker.specs.Produce.{produce_reasons, produce_after, end_at}
+use Rattle.kob_broker.specs.DeleteGroups.{delete_groups_reasons}
+use Rattle.kob_broker.specs.DeleteTopics.{delete_topics_reasons, delete_topics_after}
+use Rattle.kob_broker.specs.Fetch.{fetch_reasons, fetched_at}
+use Rattle.kob_broker.specs.InitProducerId.{init_producer_reasons}
+use Rattle.kob_broker.specs.ListGroups.{groups_shown}
+use Rattle.kob_broker.specs.ListOffsets.{offset_at}
+use Rattle.kob_broker.specs.Metadata.{metadata_reasons, metadata_of}
+use Rattle.kob_broker.specs.Named.{end_at, named_reasons}
+use Rattle.kob_broker.specs.OffsetCommit.{offset_commit_reasons, offset_commit_after}
+use Rattle.kob_broker.specs.OffsetFetch.{offset_fetch_reasons, committed}
+use Rattle.kob_broker.specs.Produce.{produce_reasons, produce_after, produced, judged_at}
 use Rattle.kob_broker.specs.Reasons.{first_reason}
 use Rattle.kob_broker.specs.State.{State, with_bindings}
-use Rattle.kob_broker.specs.Topics.{partition_of}
 
 -- a reply, and the state that it leaves
 pub record Outcome (P : Type 0) : Type 0 where
   pub reply : Reply
   pub state : State P
 
-module _ {P : Type 0} (m : Meaning P) where
+module _ {P : Type 0} where
   -- the partition that a request names, if there is one
   abbrev pub named : State P → Request → Option P
-  named s (CreateTopics create) = None
-  named s (CreateAcls create) = None
   named s (Produce produce) = partition_of produce.topic produce.partition s.topics
   named s (Fetch fetch) = partition_of fetch.topic fetch.partition s.topics
+  named s (ListOffsets asked) = partition_of asked.topic asked.partition s.topics
+  named s (OffsetCommit commit) = partition_of commit.topic commit.partition s.topics
+  named s (Metadata asked) = None
+  named s (OffsetFetch asked) = None
+  named s ListGroups = None
+  named s (DeleteGroups delete) = None
+  named s (CreateTopics create) = None
+  named s (DeleteTopics delete) = None
+  named s InitProducerId = None
+  named s (DescribeAcls asked) = None
+  named s (CreateAcls create) = None
+  named s (DeleteAcls delete) = None
 
+module _ {P : Type 0} (m : Meaning P) where
   -- the reasons to refuse a request, in order, each with whether it holds
   abbrev pub reasons_against : State P → Option P → Request → List (Bool × Reason)
-  reasons_against s found (CreateTopics create) = create_topics_reasons m s create
-  reasons_against s found (CreateAcls create) = create_acls_reasons s.access create
   reasons_against s found (Produce produce) = produce_reasons m s found produce
   reasons_against s found (Fetch fetch) = fetch_reasons m s found fetch
+  reasons_against s found (ListOffsets asked) = named_reasons asked.topic s.topics found
+  reasons_against s found (Metadata asked) = metadata_reasons s.topics asked.topic
+  reasons_against s found (OffsetCommit commit) = offset_commit_reasons s found commit
+  reasons_against s found (OffsetFetch asked) = offset_fetch_reasons asked
+  reasons_against s found ListGroups = []
+  reasons_against s found (DeleteGroups delete) = delete_groups_reasons s.groups delete
+  reasons_against s found (CreateTopics create) = create_topics_reasons m s create
+  reasons_against s found (DeleteTopics delete) = delete_topics_reasons s delete
+  reasons_against s found InitProducerId = init_producer_reasons s.next_producer
+  reasons_against s found (DescribeAcls asked) = []
+  reasons_against s found (CreateAcls create) = create_acls_reasons s.access create
+  reasons_against s found (DeleteAcls delete) = []
 
-  -- what a request is answered that is done
-  abbrev pub body : State P → Option P → Request → Body
-  body s found (CreateTopics create) = bodies.Created
-  body s found (CreateAcls create) = bodies.Serials (created_serials s.access create)
-  body s found (Produce produce) = bodies.Offset (end_at m found)
-  body s found (Fetch fetch) = bodies.Records (fetched m found fetch)
+  -- what an event is answered whose request is done
+  abbrev pub body : State P → Option P → Event → Request → Body
+  body s found event (Produce produce) = bodies.Offset (produced (judged_at m found produce.batch) (end_at m found))
+  body s found event (Fetch fetch) = bodies.Records (fetched_at m found fetch)
+  body s found event (ListOffsets asked) = bodies.Offset (offset_at m found asked.which)
+  body s found event (Metadata asked) = bodies.Topics (metadata_of s.access event s.topics asked.topic)
+  body s found event (OffsetCommit commit) = bodies.Committed
+  body s found event (OffsetFetch asked) = bodies.Commit (committed s.groups asked)
+  body s found event ListGroups = bodies.Groups (groups_shown s.access event s.groups.names)
+  body s found event (DeleteGroups delete) = bodies.Deleted
+  body s found event (CreateTopics create) = bodies.Created
+  body s found event (DeleteTopics delete) = bodies.Deleted
+  body s found event InitProducerId = bodies.Producer s.next_producer 0
+  body s found event (DescribeAcls asked) = bodies.Bindings (taken asked.filter s.access.entries)
+  body s found event (CreateAcls create) = bodies.Serials (created_serials s.access create)
+  body s found event (DeleteAcls delete) = bodies.Bindings (taken delete.filter s.access.entries)
 
   -- the state that it leaves
   abbrev pub after : State P → Option P → Request → State P
-  after s found (CreateTopics create) = create_topics_after m s create
-  after s found (CreateAcls create) = record s { access = with_bindings (bindings_of create) s.access }
   after s found (Produce produce) = produce_after m s found produce
   after s found (Fetch fetch) = s
+  after s found (ListOffsets asked) = s
+  after s found (Metadata asked) = s
+  after s found (OffsetCommit commit) = offset_commit_after s commit
+  after s found (OffsetFetch asked) = s
+  after s found ListGroups = s
+  after s found (DeleteGroups delete) = record s { groups = groups.without_group delete.group s.groups }
+  after s found (CreateTopics create) = create_topics_after m s create
+  after s found (DeleteTopics delete) = delete_topics_after s delete.name
+  after s found InitProducerId = record s { next_producer = s.next_producer + 1 }
+  after s found (DescribeAcls asked) = s
+  after s found (CreateAcls create) = record s { access = with_bindings (bindings_of create) s.access }
+  after s found (DeleteAcls delete) = record s { access = without_taken delete.filter s.access }
 
   abbrev pub refusal : State P → Request → Option Reason
   refusal s request = first_reason (reasons_against s (named s request) request)
 
-  -- refused for the first reason that holds, with the state as it was, or else done
-  abbrev pub effect_by : Option Reason → State P → Request → Outcome P
-  effect_by (Some reason) s request = record { reply = Refused (code_of reason) reason; state = s }
-  effect_by None s request = record { reply = Done (body s (named s request) request); state = after s (named s request) request }
+  -- refused for the first reason that holds, with the state as it was, or else done; `event` tells who asks
+  abbrev pub effect_by : Option Reason → State P → Option P → Event → Request → Outcome P
+  effect_by (Some reason) s found event request = record { reply = Refused (code_of reason) reason; state = s }
+  effect_by None s found event request = record { reply = Done (body s found event request); state = after s found request }
 
-  abbrev pub effect : State P → Request → Outcome P
-  effect s request = effect_by (refusal s request) s request
+  abbrev pub effect : State P → Event → Request → Outcome P
+  effect s event request = effect_by (refusal s request) s (named s request) event request

@@ -12,7 +12,7 @@ use Rattle.kob_rights.specs.declared.reply.Reply.{Reply}
 use Rattle.kob_rights.specs.declared.reply.Reply.TheVariants.{Denied, Refused, Done}
 use Rattle.kob_broker.specs.Denial.{is_granted, question, verdict}
 use Rattle.kob_broker.specs.InForce.{in_force}
-use Rattle.kob_broker.specs.Meaning.{Meaning}
+use Rattle.kob_partition.specs.Meaning.{Meaning}
 use Rattle.kob_broker.specs.State.{State}
 use Rattle.kob_broker.specs.Step.{replies_of}
 

@@ -4,14 +4,14 @@ use Rattle.kob_rights.specs.declared.event.Event.{Event}
 use Rattle.kob_rights.specs.declared.reply.Reply.{Reply}
 use Rattle.kob_broker.specs.Denial.{denial_of}
 use Rattle.kob_broker.specs.Effect.{Outcome, effect}
-use Rattle.kob_broker.specs.Meaning.{Meaning}
+use Rattle.kob_partition.specs.Meaning.{Meaning}
 use Rattle.kob_broker.specs.State.{State}
 
 module _ {P : Type 0} (m : Meaning P) where
   -- denied with the state as it was, or else the request's effect
   abbrev pub step_by : Option Reply → State P → Event → Outcome P
   step_by (Some denial) s event = record { reply = denial; state = s }
-  step_by None s event = effect m s event.request
+  step_by None s event = effect m s event event.request
 
   abbrev pub step : State P → Event → Outcome P
   step s event = step_by (denial_of s.access event) s event

@@ -4,48 +4,38 @@ use crate::denial::denial_of;
 use crate::prepared::{Change, Prepared};
 use crate::settings::{OpenFault, Settings};
 use crate::stopped::Stopped;
-use crate::topics::Topics;
 use kob_authorizer::{Authorizer, CreateFault};
+use kob_catalog::Catalog;
+use kob_groups::Groups;
+use kob_names::{Binding, Items, PlainValue, Text};
 use kob_rights::{Event, Reply, Request};
 use std::alloc::{AllocError, Global};
-use std::marker::Model;
 
-/// The broker: topics, bindings in force and super users, behind rights that are decided at each event's place.
+/// The broker: topics, groups, bindings in force and super users, behind rights that are decided at each event's
+/// place. Contracts see its state (`state_of`), and beside it the room that is there for changes.
 #[derive(Drop)]
 pub struct Broker {
-    pub(crate) topics: Topics,
+    pub(crate) catalog: Catalog,
+    pub(crate) groups: Groups,
     pub(crate) authorizer: Authorizer,
-}
-
-impl Model for Broker {
-    ghost use Rattle.kob_broker.specs.Change.{Kept};
-
-    ghost Value = { Kept };
-
-    ghost view = { λ broker. record {
-      state = record { topics = broker.topics.topics; access = broker.authorizer.contents };
-      room = record {
-        topics = broker.topics.room;
-        records = broker.topics.record_room;
-        bindings = broker.authorizer.room;
-      };
-    } };
+    pub(crate) next_producer: u64,
 }
 
 impl Broker {
     ghost use Rattle.std.specs.Prelude.{◌≡◌, ◌<◌, length, take, [], IfOk, IfErr, IsErrOf, OnOk, OnErr, Some, None};
     ghost use Rattle.kob_authorizer.specs.Limits.{create_fault};
     ghost use Rattle.kob_authorizer.specs.declared.fault.CreateFault.TheVariants as limits;
-    ghost use Rattle.kob_broker.specs.Change.{changed, CanCommit, Makes};
+    ghost use Rattle.kob_broker.specs.Change.{IsReady, Makes, reply_of, state_of, state_with};
+    ghost use Rattle.kob_broker.specs.DeleteTopics.{delete_topics_after};
     ghost use Rattle.kob_broker.specs.Effect.{effect};
-    ghost use Rattle.kob_broker.specs.Meaning.{listed};
-    ghost use Rattle.kob_broker.specs.State.{open_state};
+    ghost use Rattle.kob_broker.specs.State.{bindings_in_force, open_state};
     ghost use Rattle.kob_broker.specs.Step.{step, replies_of, state_after};
+    ghost use Rattle.kob_partition.specs.Retained.{retained_meaning};
 
-    /// A broker with no topics, with the opening bindings in force under serials from 1 on.
+    /// A broker with no topics and no groups, with the opening bindings in force under serials from 1 on.
     /// `TooMany` comes where the opening list holds more than 100,000 different bindings.
     pub fn open(alloc: Global, settings: Settings) -> Result<Broker, OpenFault>
-        ensures ok { IfOk result (λ broker. broker.state ≡ open_state settings.supers settings.opening) }
+        ensures ok { IfOk result (λ broker. state_of broker ≡ open_state settings.supers settings.opening) }
         ensures few { OnOk result (create_fault [] 1 settings.opening ≡ None) }
         ensures many { IsErrOf result OpenFault.TooMany → create_fault [] 1 settings.opening ≡ Some limits.TooMany }
     {
@@ -53,80 +43,110 @@ impl Broker {
         let mut authorizer = Authorizer::open(alloc, supers.into_vec());
         match authorizer.create(alloc, opening.as_slice()) {
             Ok(_) => Ok(Broker {
-                topics: Topics::new(alloc),
+                catalog: Catalog::new(alloc),
+                groups: Groups::new(alloc),
                 authorizer,
+                next_producer: 0,
             }),
             Err(CreateFault::TooMany) => Err(OpenFault::TooMany),
             Err(_) => Err(OpenFault::Memory),
         }
     }
 
-    /// Decides on a request whose rights are granted.
-    fn prepare_effect(&mut self, alloc: Global, request: &Request) -> Result<Prepared, AllocError>
-        ensures state { self.new.state ≡ self.old.state }
-        ensures ok { IfOk result (λ made. Makes (effect listed self.new.state request.now) self.new made) }
+    /// The super users, and the bindings in force now as the opening list, in rising serials. Opened with these, a
+    /// broker has new serials from 1 on. The error is want of memory.
+    pub fn opening(&self, alloc: Global) -> Result<Settings, AllocError>
+        ensures supers { IfOk result (λ settings. settings.supers ≡ (state_of self.now).access.supers) }
+        ensures opening { IfOk result (λ settings. settings.opening ≡ bindings_in_force (state_of self.now)) }
     {
-        match request {
-            Request::CreateTopics(create) => self.prepare_create_topics(alloc, create),
-            Request::CreateAcls(create) => self.prepare_create_acls(alloc, create),
-            Request::Produce(produce) => self.prepare_produce(alloc, produce),
-            Request::Fetch(fetch) => self.prepare_fetch(alloc, fetch),
+        let supers = Items::copied(alloc, self.authorizer.supers())?;
+        let opening = bindings_of(alloc, self.authorizer.entries())?;
+        Ok(Settings { supers, opening })
+    }
+
+    /// Decides on the request of an event whose rights are granted.
+    fn prepare_effect(&mut self, alloc: Global, event: &Event) -> Result<Prepared, AllocError>
+        ensures state { state_of self.new ≡ state_of self.old }
+        ensures ok { IfOk result (Makes (effect retained_meaning (state_of self.new) event.now event.now.request) self.new) }
+    {
+        match &event.request {
+            Request::Produce(asked) => self.prepare_produce(alloc, asked),
+            Request::Fetch(asked) => self.prepare_fetch(alloc, asked),
+            Request::ListOffsets(asked) => Ok(self.prepare_list_offsets(asked)),
+            Request::Metadata(asked) => self.prepare_metadata(alloc, event, asked),
+            Request::OffsetCommit(asked) => self.prepare_offset_commit(alloc, asked),
+            Request::OffsetFetch(asked) => self.prepare_offset_fetch(alloc, asked),
+            Request::ListGroups => self.prepare_list_groups(alloc, event),
+            Request::DeleteGroups(asked) => self.prepare_delete_groups(alloc, asked),
+            Request::CreateTopics(asked) => self.prepare_create_topics(alloc, asked),
+            Request::DeleteTopics(asked) => self.prepare_delete_topics(alloc, asked),
+            Request::InitProducerId => Ok(self.prepare_init_producer_id()),
+            Request::DescribeAcls(asked) => self.prepare_describe_acls(alloc, asked),
+            Request::CreateAcls(asked) => self.prepare_create_acls(alloc, asked),
+            Request::DeleteAcls(asked) => self.prepare_delete_acls(alloc, asked),
         }
     }
 
     /// The first step of serving an event: all growths and the reply. The contents stay, also after want of
     /// memory, which is the error.
     pub fn prepare(&mut self, alloc: Global, event: &Event) -> Result<Prepared, AllocError>
-        ensures state { self.new.state ≡ self.old.state }
-        ensures ok { IfOk result (λ made. Makes (step listed self.new.state event.now) self.new made) }
+        ensures state { state_of self.new ≡ state_of self.old }
+        ensures ok { IfOk result (Makes (step retained_meaning (state_of self.new) event.now) self.new) }
     {
         match denial_of(alloc, &self.authorizer, event)? {
             Some(denial) => Ok(Prepared::new(denial, Change::Unchanged)),
-            None => self.prepare_effect(alloc, &event.request),
+            None => self.prepare_effect(alloc, event),
         }
     }
 
     /// The second step, where nothing has changed since the first: the change is made, and the reply given.
     /// No memory is taken.
     pub fn commit(&mut self, prepared: Prepared) -> Reply
-        requires { CanCommit prepared.change self.old }
-        ensures reply { result ≡ prepared.reply }
-        ensures state { self.new.state ≡ changed prepared.change self.old.state }
+        requires { IsReady prepared self.old }
+        ensures reply { result ≡ reply_of prepared }
+        ensures state { state_of self.new ≡ state_with prepared self.old }
     {
-        let (reply, change) = prepared.into_parts();
+        let Prepared { reply, change } = prepared;
         match change {
             Change::Unchanged => {}
-            Change::AddTopic(topic) => self.topics.push_reserved(topic),
+            Change::AddTopic(made) => self.catalog.commit_create(made),
+            Change::RemoveTopic(name) => self.remove_topic(&name),
             Change::AddBindings(made) => {
                 self.authorizer.commit_create(made);
             }
-            Change::Append(place, partition, records) => {
-                self.topics
-                    .append_reserved(place, partition, records.into_vec());
+            Change::RemoveBindings(made) => {
+                self.authorizer.commit_delete(made);
             }
+            Change::Append(place, partition, batch) => {
+                self.catalog.commit_append(place, partition, batch);
+            }
+            Change::Commit(made) => self.groups.commit_commit(made),
+            Change::RemoveGroup(name) => {
+                let _ = self.groups.remove(&name);
+            }
+            Change::GiveProducer => self.next_producer += 1,
         }
         reply
     }
 
     /// Serves one event. The error is want of memory, and the contents are then as before.
     pub fn serve(&mut self, alloc: Global, event: &Event) -> Result<Reply, AllocError>
-        ensures reply { IfOk result (λ reply. reply ≡ (step listed self.old.state event.now).reply) }
-        ensures state { OnOk result (self.new.state ≡ (step listed self.old.state event.now).state) }
-        ensures kept { OnErr result (self.new.state ≡ self.old.state) }
+        ensures reply { IfOk result (λ reply. reply ≡ (step retained_meaning (state_of self.old) event.now).reply) }
+        ensures state { OnOk result (state_of self.new ≡ (step retained_meaning (state_of self.old) event.now).state) }
+        ensures kept { OnErr result (state_of self.new ≡ state_of self.old) }
     {
         let prepared = self.prepare(alloc, event)?;
         Ok(self.commit(prepared))
     }
 
     /// Serves events in order, until memory stops the run; the broker then stands after the events that are done.
-    #[tactic(auto, using(crate::proofs::Runs::replies_one_more, crate::proofs::Runs::state_one_more))]
     pub fn run(&mut self, alloc: Global, events: &[Event]) -> Result<Vec<Reply>, Stopped>
-        ensures replies { IfOk result (λ replies. replies.items ≡ replies_of listed events.now self.old.state) }
-        ensures state { OnOk result (self.new.state ≡ state_after listed events.now self.old.state) }
+        ensures replies { IfOk result (λ replies. replies.items ≡ replies_of retained_meaning events.now (state_of self.old)) }
+        ensures state { OnOk result (state_of self.new ≡ state_after retained_meaning events.now (state_of self.old)) }
         ensures stopped { IfErr result (λ s. s.done < length events.now) }
         ensures stopped_count { IfErr result (λ s. length s.replies.items ≡ s.done) }
-        ensures stopped_replies { IfErr result (λ s. s.replies.items ≡ replies_of listed (take s.done events.now) self.old.state) }
-        ensures stopped_state { IfErr result (λ s. self.new.state ≡ state_after listed (take s.done events.now) self.old.state) }
+        ensures stopped_replies { IfErr result (λ s. s.replies.items ≡ replies_of retained_meaning (take s.done events.now) (state_of self.old)) }
+        ensures stopped_state { IfErr result (λ s. state_of self.new ≡ state_after retained_meaning (take s.done events.now) (state_of self.old)) }
     {
         let mut replies = Vec::new(alloc);
         for (done, event) in events.iter().enumerate() {
@@ -140,4 +160,25 @@ impl Broker {
         }
         Ok(replies)
     }
+
+    /// Takes a topic away, and the commits on it.
+    fn remove_topic(&mut self, name: &Text)
+        ensures { state_of self.new ≡ delete_topics_after (state_of self.old) name.now }
+    {
+        let _ = self.catalog.remove(name);
+        self.groups.forget_topic(name);
+    }
+}
+
+ghost use Rattle.std.specs.Prelude.{◌≡◌, IfOk, map};
+
+/// Copies of the bindings, without their serials.
+fn bindings_of(alloc: Global, entries: &[(u64, Binding)]) -> Result<Items<Binding>, AllocError>
+    ensures { IfOk result (λ made. made ≡ map (λ entry. entry.1) entries.now) }
+{
+    let mut bindings = Vec::new(alloc);
+    for entry in entries {
+        bindings.push(entry.1.copy(alloc)?)?;
+    }
+    Ok(Items::from_vec(bindings))
 }

@@ -3,10 +3,8 @@
 ghost use Rattle.std.specs.Prelude.{◌≡◌, IfOk, IfErr, OnOk, MatchResult, map, Some, None};
 ghost use Rattle.std.specs.List.{flat_map};
 ghost use Rattle.kob_names.specs.BindingRules.{drafted};
-ghost use Rattle.kob_broker.specs.Change.{Makes};
+ghost use Rattle.kob_broker.specs.Change.{MakesFor, state_of};
 ghost use Rattle.kob_broker.specs.CreateAcls.{draft_reasons, IsUnlessRefused};
-ghost use Rattle.kob_broker.specs.Effect.{effect};
-ghost use Rattle.kob_broker.specs.Meaning.{listed};
 ghost use Rattle.kob_broker.specs.Reasons.{first_reason};
 ghost use Rattle.kob_rights.specs.declared.request.Request.TheVariants as requests;
 
@@ -62,8 +60,8 @@ impl Broker {
         alloc: Global,
         create: &CreateAcls,
     ) -> Result<Prepared, AllocError>
-        ensures state { self.new.state ≡ self.old.state }
-        ensures ok { IfOk result (λ made. Makes (effect listed self.new.state (requests.CreateAcls create.now)) self.new made) }
+        ensures state { state_of self.new ≡ state_of self.old }
+        ensures ok { IfOk result (MakesFor (requests.CreateAcls create.now) self.new) }
     {
         let bindings = match bindings_of(alloc, create.drafts.as_slice()) {
             Ok(bindings) => bindings,

@@ -32,7 +32,7 @@ fn verdicts_of(
 }
 
 /// Whether the verdict grants the right.
-fn is_granted(verdict: Verdict) -> bool
+pub(crate) fn is_granted(verdict: Verdict) -> bool
     ensures { result ≡ is_granted verdict }
 {
     match verdict {

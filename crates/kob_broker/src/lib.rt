@@ -5,25 +5,31 @@ mod batch_size;
 mod broker;
 mod create_acls;
 mod create_topics;
+mod delete_acls;
+mod delete_groups;
+mod delete_topics;
 mod denial;
+mod describing;
 mod fetch;
+mod init_producer_id;
 mod laws;
 mod limits;
-mod log;
+mod list_groups;
+mod list_offsets;
+mod metadata;
+mod offset_commit;
+mod offset_fetch;
 mod prepared;
 mod produce;
 mod settings;
 mod stopped;
-mod topic;
-mod topics;
 
 pub use broker::Broker;
 pub use laws::{
     denials_depend_on_bindings_alone, each_reply_is_just, only_done_requests_change_the_state,
+    what_is_kept_is_enough,
 };
-pub use limits::{
-    BATCH_BYTE_LIMIT, FETCH_LIMIT, OFFSET_LIMIT, PARTITION_LIMIT, RECORD_LIMIT, TOPIC_LIMIT,
-};
+pub use limits::{BATCH_BYTE_LIMIT, EPOCH_LIMIT, PRODUCER_LIMIT, RECORD_LIMIT, SEQUENCE_LIMIT};
 pub use prepared::Prepared;
 pub use settings::{OpenFault, Settings};
 pub use stopped::Stopped;

@@ -1,10 +1,4 @@
-//! Limits of topics, batches and offsets.
-
-/// The most topics at once.
-pub const TOPIC_LIMIT: usize = 10_000;
-
-/// The most partitions of a topic.
-pub const PARTITION_LIMIT: u64 = 1_000;
+//! Limits of batches and producers.
 
 /// The most records of a batch.
 pub const RECORD_LIMIT: usize = 1_000;
@@ -12,8 +6,11 @@ pub const RECORD_LIMIT: usize = 1_000;
 /// The most bytes of a batch: those of its keys, values, header names and header values.
 pub const BATCH_BYTE_LIMIT: u64 = 2_097_152;
 
-/// The greatest offset that may come next in a partition.
-pub const OFFSET_LIMIT: u64 = 9_223_372_036_854_775_807;
+/// The greatest epoch of a producer.
+pub const EPOCH_LIMIT: u64 = 32_767;
 
-/// The most records of one fetch.
-pub const FETCH_LIMIT: u64 = 1_000;
+/// The greatest sequence of a producer.
+pub const SEQUENCE_LIMIT: u64 = 2_147_483_647;
+
+/// Every producer id is below this.
+pub const PRODUCER_LIMIT: u64 = u64::MAX;

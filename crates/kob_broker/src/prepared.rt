@@ -2,38 +2,41 @@
 
 ghost use Rattle.std.specs.Prelude.{◌≡◌};
 ghost use Rattle.kob_rights.specs.Reason.{code_of};
+ghost use Rattle.kob_broker.specs.Change.{reply_of};
 
-use crate::topic::Topic;
-use kob_authorizer::PreparedCreate;
-use kob_names::{Items, Record};
+use kob_authorizer::{PreparedCreate, PreparedDelete};
+use kob_catalog::PreparedTopic;
+use kob_groups::PreparedCommit;
+use kob_names::{Batch, Text};
 use kob_rights::{Body, Reason, Reply};
-use std::marker::Model;
 
 /// A change of the contents for which all memory is there.
 #[derive(Drop)]
 pub(crate) enum Change {
     Unchanged,
     /// A topic to put last.
-    AddTopic(Topic),
+    AddTopic(PreparedTopic),
+    /// The topic of that name goes, and the commits on it.
+    RemoveTopic(Text),
     /// Bindings to put in force.
     AddBindings(PreparedCreate),
-    /// Records to put last in a partition of the topic at a place.
-    Append(usize, usize, Items<Record>),
+    /// Bindings to take away.
+    RemoveBindings(PreparedDelete),
+    /// A batch to put last in a partition of the topic at a place.
+    Append(usize, usize, Batch),
+    /// An offset to commit.
+    Commit(PreparedCommit),
+    /// The group of that name goes, and its commits.
+    RemoveGroup(Text),
+    /// The next producer id is given.
+    GiveProducer,
 }
 
 /// A reply, and the change that goes with it: the answer of a broker's first step.
 #[derive(Drop)]
 pub struct Prepared {
-    reply: Reply,
-    change: Change,
-}
-
-impl Model for Prepared {
-    ghost use Rattle.kob_broker.specs.Change.{Decision};
-
-    ghost Value = { Decision };
-
-    ghost view = { λ prepared. record { reply = prepared.reply; change = prepared.change } };
+    pub(crate) reply: Reply,
+    pub(crate) change: Change,
 }
 
 impl Prepared {
@@ -61,16 +64,9 @@ impl Prepared {
         Prepared::new(Reply::Refused { code, reason }, Change::Unchanged)
     }
 
-    pub(crate) fn into_parts(self) -> (Reply, Change)
-        ensures reply { result.0 ≡ self.reply }
-        ensures change { result.1 ≡ self.change }
-    {
-        (self.reply, self.change)
-    }
-
     /// The reply that the second step will give; no memory is taken.
     pub fn reply(&self) -> &Reply
-        ensures { result.now ≡ self.now.reply }
+        ensures { result.now ≡ reply_of self.now }
     {
         &self.reply
     }

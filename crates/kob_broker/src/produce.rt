@@ -1,95 +1,95 @@
 //! A batch put into a partition.
 
-ghost use Rattle.std.specs.Prelude.{◌≡◌, ◌+◌, ◌≤◌, length, IfOk, MatchResult, Some, None};
-ghost use Rattle.kob_broker.specs.Change.{Makes};
-ghost use Rattle.kob_broker.specs.Effect.{effect, refusal};
-ghost use Rattle.kob_broker.specs.Meaning.{listed};
-ghost use Rattle.kob_broker.specs.Produce.{batch_reasons};
+ghost use Rattle.std.specs.Prelude.{◌≡◌, ◌<◌, IfOk, length};
+ghost use Rattle.kob_broker.specs.Change.{MakesFor, state_of};
+ghost use Rattle.kob_broker.specs.Produce.{batch_reasons, is_bad_sequence, is_unknown_producer};
 ghost use Rattle.kob_broker.specs.Reasons.{first_reason};
 ghost use Rattle.kob_rights.specs.declared.request.Request.TheVariants as requests;
 
 use crate::batch_size::is_within;
 use crate::broker::Broker;
-use crate::limits::{BATCH_BYTE_LIMIT, OFFSET_LIMIT, RECORD_LIMIT};
+use crate::limits::{BATCH_BYTE_LIMIT, EPOCH_LIMIT, RECORD_LIMIT, SEQUENCE_LIMIT};
 use crate::prepared::{Change, Prepared};
-use kob_names::PlainValue;
+use kob_names::{Batch, Idem, PlainValue};
+use kob_partition::{AppendFault, Placement};
 use kob_rights::{Body, Produce, Reason};
 use std::alloc::{AllocError, Global};
 
-/// Where records go: a partition, and its end.
-#[derive(Clone, Copy)]
-struct Target {
-    place: usize,
-    partition: usize,
-    end: usize,
-}
-
 impl Broker {
-    ghost use Rattle.kob_broker.specs.Target.{IsTarget};
-
-    /// The partition that the batch goes to, or the first reason against it.
-    fn target_of(&self, produce: &Produce) -> Result<Target, Reason>
-        ensures ok { IfOk result (λ target. IsTarget self.now.state produce.now target) }
-        ensures refused { MatchResult result
-            (λ _. refusal listed self.now.state (requests.Produce produce.now) ≡ None)
-            (λ reason. refusal listed self.now.state (requests.Produce produce.now) ≡ Some reason) }
-    {
-        let Some(place) = self.topics.place_of(&produce.topic) else {
-            return Err(Reason::UnknownTopic);
-        };
-        let partition = produce.partition as usize;
-        let Some(records) = self.topics.partition(place, partition) else {
-            return Err(Reason::UnknownPartition);
-        };
-        let end = records.len();
-        if let Some(reason) = against_batch(produce, end) {
-            return Err(reason);
-        }
-        Ok(Target {
-            place,
-            partition,
-            end,
-        })
-    }
-
     pub(crate) fn prepare_produce(
         &mut self,
         alloc: Global,
         produce: &Produce,
     ) -> Result<Prepared, AllocError>
-        ensures state { self.new.state ≡ self.old.state }
-        ensures ok { IfOk result (λ made. Makes (effect listed self.new.state (requests.Produce produce.now)) self.new made) }
+        ensures state { state_of self.new ≡ state_of self.old }
+        ensures ok { IfOk result (MakesFor (requests.Produce produce.now) self.new) }
     {
-        let target = match self.target_of(produce) {
-            Ok(target) => target,
-            Err(reason) => return Ok(Prepared::refused(reason)),
+        let Some(place) = self.catalog.place_of(&produce.topic) else {
+            return Ok(Prepared::refused(Reason::UnknownTopic));
         };
-        let records = produce.records.copy(alloc)?;
-        self.topics
-            .reserve_records(target.place, target.partition, records.len())?;
-        Ok(Prepared::done(
-            Body::Offset(target.end as u64),
-            Change::Append(target.place, target.partition, records),
-        ))
+        let partition = produce.partition as usize;
+        let Some(_) = self.catalog.partition(place, partition) else {
+            return Ok(Prepared::refused(Reason::UnknownPartition));
+        };
+        if let Some(reason) = against_batch(&produce.batch, self.next_producer) {
+            return Ok(Prepared::refused(reason));
+        }
+        let batch = produce.batch.copy(alloc)?;
+        match self.catalog.prepare_append(place, partition, &batch) {
+            Ok(Placement::New(offset)) => Ok(Prepared::done(
+                Body::Offset(offset),
+                Change::Append(place, partition, batch),
+            )),
+            Ok(Placement::Repeated(offset)) => {
+                Ok(Prepared::done(Body::Offset(offset), Change::Unchanged))
+            }
+            Err(AppendFault::OldEpoch) => Ok(Prepared::refused(Reason::OldEpoch)),
+            Err(AppendFault::OutOfOrder) => Ok(Prepared::refused(Reason::OutOfOrder)),
+            Err(AppendFault::OffsetsSpent) => Ok(Prepared::refused(Reason::OffsetsSpent)),
+            Err(AppendFault::Memory) => Err(AllocError),
+        }
     }
 }
 
-/// The first reason against a batch for a partition with this end.
-fn against_batch(produce: &Produce, end: usize) -> Option<Reason>
-    ensures { result ≡ first_reason (batch_reasons end produce.now) }
+/// The first reason against a batch, wherever it goes.
+fn against_batch(batch: &Batch, next_producer: u64) -> Option<Reason>
+    ensures { result ≡ first_reason (batch_reasons next_producer batch.now) }
 {
-    let count = produce.records.len();
+    let count = batch.records.len();
     if count == 0 {
         return Some(Reason::NoRecords);
     }
     if count > RECORD_LIMIT {
         return Some(Reason::TooManyRecords);
     }
-    if !is_within(produce.records.as_slice(), BATCH_BYTE_LIMIT) {
+    if !is_within(batch.records.as_slice(), BATCH_BYTE_LIMIT) {
         return Some(Reason::TooLarge);
     }
-    if end as u64 > OFFSET_LIMIT - count as u64 {
-        return Some(Reason::OffsetsSpent);
+    if is_bad_sequence(&batch.idem) {
+        return Some(Reason::BadSequence);
+    }
+    if is_unknown_producer(next_producer, &batch.idem) {
+        return Some(Reason::UnknownProducer);
     }
     None
+}
+
+/// Whether the epoch or the base is beyond its limit.
+fn is_bad_sequence(idem: &Option<Idem>) -> bool
+    ensures { result ≡ is_bad_sequence idem.now }
+{
+    match idem {
+        None => false,
+        Some(idem) => idem.epoch > EPOCH_LIMIT || idem.base > SEQUENCE_LIMIT,
+    }
+}
+
+/// Whether the producer's id was never given.
+fn is_unknown_producer(next_producer: u64, idem: &Option<Idem>) -> bool
+    ensures { result ≡ is_unknown_producer next_producer idem.now }
+{
+    match idem {
+        None => false,
+        Some(idem) => idem.id >= next_producer,
+    }
 }

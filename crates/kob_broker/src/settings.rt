@@ -1,6 +1,7 @@
 //! What a broker is opened with.
 
-use kob_names::{Binding, Items, Principal};
+use kob_names::{Binding, Items, PlainValue, Principal};
+use std::alloc::{AllocError, Global};
 use thiserror::Error;
 
 /// The super users, and the bindings that are in force from the beginning.
@@ -17,4 +18,16 @@ pub enum OpenFault {
     TooMany,
     #[error("out of memory")]
     Memory,
+}
+
+impl PlainValue for Settings {
+    fn copy(&self, alloc: Global) -> Result<Self, AllocError> {
+        let supers = self.supers.copy(alloc)?;
+        let opening = self.opening.copy(alloc)?;
+        Ok(Settings { supers, opening })
+    }
+
+    fn same(&self, other: &Self) -> bool {
+        self.supers.same(&other.supers) && self.opening.same(&other.opening)
+    }
 }

@@ -1,9 +1,9 @@
 -- The reasons to refuse a request, with their codes and names.
 use Rattle.std.specs.Prelude.{List, ℕ, codes}
 use Rattle.kob_rights.specs.declared.code.Code.{Code}
-use Rattle.kob_rights.specs.declared.code.Code.TheVariants.{UnknownTopicOrPartition, InvalidRequest, MessageTooLarge, OffsetOutOfRange, InvalidTopicException, TopicAlreadyExists, InvalidPartitions}
+use Rattle.kob_rights.specs.declared.code.Code.TheVariants.{UnknownTopicOrPartition, InvalidRequest, MessageTooLarge, OffsetOutOfRange, InvalidTopicException, TopicAlreadyExists, InvalidPartitions, UnknownProducerId, InvalidProducerEpoch, OutOfOrderSequenceNumber, InvalidGroupId, GroupIdNotFound}
 use Rattle.kob_rights.specs.declared.reason.Reason.{Reason}
-use Rattle.kob_rights.specs.declared.reason.Reason.TheVariants.{UnknownTopic, UnknownPartition, NoRecords, TooManyRecords, TooLarge, OffsetsSpent, OutOfRange, BadTopicName, TopicExists, BadPartitions, TooManyTopics, EmptyName, BadCluster, NameTooLong, TooManyBindings, SerialsSpent}
+use Rattle.kob_rights.specs.declared.reason.Reason.TheVariants.{UnknownTopic, UnknownPartition, NoRecords, TooManyRecords, TooLarge, OffsetsSpent, OutOfRange, BadTopicName, TopicExists, BadPartitions, TooManyTopics, EmptyName, BadCluster, NameTooLong, TooManyBindings, SerialsSpent, BadSequence, UnknownProducer, OldEpoch, OutOfOrder, BadGroupName, BadOffset, TooManyGroups, GroupNotFound, ProducerIdsSpent}
 
 -- each reason has one code
 abbrev pub code_of : Reason → Code
@@ -23,6 +23,15 @@ code_of BadCluster = InvalidRequest
 code_of NameTooLong = InvalidRequest
 code_of TooManyBindings = InvalidRequest
 code_of SerialsSpent = InvalidRequest
+code_of BadSequence = InvalidRequest
+code_of UnknownProducer = UnknownProducerId
+code_of OldEpoch = InvalidProducerEpoch
+code_of OutOfOrder = OutOfOrderSequenceNumber
+code_of BadGroupName = InvalidGroupId
+code_of BadOffset = InvalidRequest
+code_of TooManyGroups = InvalidRequest
+code_of GroupNotFound = GroupIdNotFound
+code_of ProducerIdsSpent = InvalidRequest
 
 abbrev pub reason_name : Reason → List ℕ
 reason_name UnknownTopic = codes "UnknownTopic"
@@ -41,3 +50,12 @@ reason_name BadCluster = codes "BadCluster"
 reason_name NameTooLong = codes "NameTooLong"
 reason_name TooManyBindings = codes "TooManyBindings"
 reason_name SerialsSpent = codes "SerialsSpent"
+reason_name BadSequence = codes "BadSequence"
+reason_name UnknownProducer = codes "UnknownProducer"
+reason_name OldEpoch = codes "OldEpoch"
+reason_name OutOfOrder = codes "OutOfOrder"
+reason_name BadGroupName = codes "BadGroupName"
+reason_name BadOffset = codes "BadOffset"
+reason_name TooManyGroups = codes "TooManyGroups"
+reason_name GroupNotFound = codes "GroupNotFound"
+reason_name ProducerIdsSpent = codes "ProducerIdsSpent"

@@ -1,23 +1,64 @@
 -- The operation table (Kafka's documentation, "Authorization and ACLs").
-use Rattle.std.specs.Prelude.{ℕ, List, [], ◌∷◌}
-use Rattle.kob_names.specs.declared.kinds.Operation.TheVariants.{Read, Write, Create, Alter}
-use Rattle.kob_rights.specs.Check.{on_topic, on_cluster}
+use Rattle.std.specs.Prelude.{ℕ, zero, suc, List, [], ◌∷◌, Option, Some, None}
+use Rattle.kob_names.specs.declared.batch.Idem.{Idem}
+use Rattle.kob_names.specs.declared.kinds.Operation.TheVariants.{Read, Write, Create, Delete, Alter, Describe, IdempotentWrite}
+use Rattle.kob_rights.specs.Check.{on_topic, on_group, on_cluster}
 use Rattle.kob_rights.specs.declared.check.Check.{Check}
 use Rattle.kob_rights.specs.declared.code.Code.{Code}
-use Rattle.kob_rights.specs.declared.code.Code.TheVariants.{TopicAuthorizationFailed, ClusterAuthorizationFailed}
+use Rattle.kob_rights.specs.declared.code.Code.TheVariants.{TopicAuthorizationFailed, GroupAuthorizationFailed, ClusterAuthorizationFailed}
 use Rattle.kob_rights.specs.declared.request.Request.{Request}
-use Rattle.kob_rights.specs.declared.request.Request.TheVariants.{CreateTopics, CreateAcls, Produce, Fetch}
+use Rattle.kob_rights.specs.declared.request.Request.TheVariants.{Produce, Fetch, ListOffsets, Metadata, OffsetCommit, OffsetFetch, ListGroups, DeleteGroups, CreateTopics, DeleteTopics, InitProducerId, DescribeAcls, CreateAcls, DeleteAcls}
+
+-- an idempotent producer needs a right on the cluster first
+abbrev pub produce_rights : Option Idem → List ℕ → List (List Check)
+produce_rights None topic = (on_topic Write topic ∷ []) ∷ []
+produce_rights (Some idem) topic = (on_cluster IdempotentWrite ∷ []) ∷ (on_topic Write topic ∷ []) ∷ []
+
+-- the listing of all topics needs no right, and is filtered
+abbrev pub metadata_rights : Option (List ℕ) → List (List Check)
+metadata_rights None = []
+metadata_rights (Some topic) = (on_topic Describe topic ∷ []) ∷ []
 
 -- the clauses of a request, each a list of alternatives
 abbrev pub rights : Request → List (List Check)
-rights (CreateTopics create) = (on_cluster Create ∷ on_topic Create create.name ∷ []) ∷ []
-rights (CreateAcls create) = (on_cluster Alter ∷ []) ∷ []
-rights (Produce produce) = (on_topic Write produce.topic ∷ []) ∷ []
+rights (Produce produce) = produce_rights produce.batch.idem produce.topic
 rights (Fetch fetch) = (on_topic Read fetch.topic ∷ []) ∷ []
+rights (ListOffsets asked) = (on_topic Describe asked.topic ∷ []) ∷ []
+rights (Metadata asked) = metadata_rights asked.topic
+rights (OffsetCommit commit) = (on_group Read commit.group ∷ []) ∷ (on_topic Read commit.topic ∷ []) ∷ []
+rights (OffsetFetch asked) = (on_group Describe asked.group ∷ []) ∷ (on_topic Describe asked.topic ∷ []) ∷ []
+rights ListGroups = []
+rights (DeleteGroups delete) = (on_group Delete delete.group ∷ []) ∷ []
+rights (CreateTopics create) = (on_cluster Create ∷ on_topic Create create.name ∷ []) ∷ []
+rights (DeleteTopics delete) = (on_topic Delete delete.name ∷ []) ∷ []
+rights InitProducerId = (on_cluster IdempotentWrite ∷ []) ∷ []
+rights (DescribeAcls asked) = (on_cluster Describe ∷ []) ∷ []
+rights (CreateAcls create) = (on_cluster Alter ∷ []) ∷ []
+rights (DeleteAcls delete) = (on_cluster Alter ∷ []) ∷ []
+
+-- the codes of a clause on a group and of the clause on a topic after it
+abbrev pub group_then_topic : ℕ → Code
+group_then_topic zero = GroupAuthorizationFailed
+group_then_topic (suc later) = TopicAuthorizationFailed
+
+abbrev pub produce_code : Option Idem → ℕ → Code
+produce_code None clause = TopicAuthorizationFailed
+produce_code (Some idem) zero = ClusterAuthorizationFailed
+produce_code (Some idem) (suc later) = TopicAuthorizationFailed
 
 -- the code of a denial by the clause at a place: that of its resource, and the topic's for a creation
 abbrev pub denial_code : Request → ℕ → Code
-denial_code (CreateTopics create) clause = TopicAuthorizationFailed
-denial_code (CreateAcls create) clause = ClusterAuthorizationFailed
-denial_code (Produce produce) clause = TopicAuthorizationFailed
+denial_code (Produce produce) clause = produce_code produce.batch.idem clause
 denial_code (Fetch fetch) clause = TopicAuthorizationFailed
+denial_code (ListOffsets asked) clause = TopicAuthorizationFailed
+denial_code (Metadata asked) clause = TopicAuthorizationFailed
+denial_code (OffsetCommit commit) clause = group_then_topic clause
+denial_code (OffsetFetch asked) clause = group_then_topic clause
+denial_code ListGroups clause = TopicAuthorizationFailed
+denial_code (DeleteGroups delete) clause = GroupAuthorizationFailed
+denial_code (CreateTopics create) clause = TopicAuthorizationFailed
+denial_code (DeleteTopics delete) clause = TopicAuthorizationFailed
+denial_code InitProducerId clause = ClusterAuthorizationFailed
+denial_code (DescribeAcls asked) clause = ClusterAuthorizationFailed
+denial_code (CreateAcls create) clause = ClusterAuthorizationFailed
+denial_code (DeleteAcls delete) clause = ClusterAuthorizationFailed

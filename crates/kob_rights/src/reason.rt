@@ -42,6 +42,24 @@ pub enum Reason {
     TooManyBindings,
     /// A new binding's serial would not be below 18,446,744,073,709,551,615.
     SerialsSpent,
+    /// The epoch is above 32,767 or the base above 2,147,483,647.
+    BadSequence,
+    /// The producer id was never given.
+    UnknownProducer,
+    /// A batch of a later epoch was accepted.
+    OldEpoch,
+    /// The base is not the sequence that comes next.
+    OutOfOrder,
+    /// A group's name has from 1 to 255 bytes.
+    BadGroupName,
+    /// The offset is above 9,223,372,036,854,775,807.
+    BadOffset,
+    /// There are 10,000 groups.
+    TooManyGroups,
+    /// No group has the name.
+    GroupNotFound,
+    /// A new id would not be below 18,446,744,073,709,551,615.
+    ProducerIdsSpent,
 }
 
 impl Reason {
@@ -52,6 +70,11 @@ impl Reason {
         match self {
             Reason::UnknownTopic | Reason::UnknownPartition => Code::UnknownTopicOrPartition,
             Reason::TooLarge => Code::MessageTooLarge,
+            Reason::UnknownProducer => Code::UnknownProducerId,
+            Reason::OldEpoch => Code::InvalidProducerEpoch,
+            Reason::OutOfOrder => Code::OutOfOrderSequenceNumber,
+            Reason::BadGroupName => Code::InvalidGroupId,
+            Reason::GroupNotFound => Code::GroupIdNotFound,
             Reason::OutOfRange => Code::OffsetOutOfRange,
             Reason::BadTopicName => Code::InvalidTopicException,
             Reason::TopicExists => Code::TopicAlreadyExists,
@@ -64,7 +87,11 @@ impl Reason {
             | Reason::BadCluster
             | Reason::NameTooLong
             | Reason::TooManyBindings
-            | Reason::SerialsSpent => Code::InvalidRequest,
+            | Reason::SerialsSpent
+            | Reason::BadSequence
+            | Reason::BadOffset
+            | Reason::TooManyGroups
+            | Reason::ProducerIdsSpent => Code::InvalidRequest,
         }
     }
 
@@ -89,6 +116,15 @@ impl Reason {
             Reason::NameTooLong => "NameTooLong",
             Reason::TooManyBindings => "TooManyBindings",
             Reason::SerialsSpent => "SerialsSpent",
+            Reason::BadSequence => "BadSequence",
+            Reason::UnknownProducer => "UnknownProducer",
+            Reason::OldEpoch => "OldEpoch",
+            Reason::OutOfOrder => "OutOfOrder",
+            Reason::BadGroupName => "BadGroupName",
+            Reason::BadOffset => "BadOffset",
+            Reason::TooManyGroups => "TooManyGroups",
+            Reason::GroupNotFound => "GroupNotFound",
+            Reason::ProducerIdsSpent => "ProducerIdsSpent",
         }
     }
 }

@@ -2,27 +2,34 @@
 
 use crate::code::Code;
 use crate::reason::Reason;
-use kob_names::{Items, PlainValue, Record, Verdict};
+use kob_names::{Binding, Items, PlainValue, Record, Text, Verdict};
 use std::alloc::{AllocError, Global};
-
-/// A record with its offset.
-#[derive(Debug, Drop)]
-pub struct Fetched {
-    pub offset: u64,
-    pub message: Record,
-}
 
 /// What a request is answered that is done.
 #[derive(Debug, Drop)]
 pub enum Body {
     /// The topic is created.
     Created,
+    /// The topic, or the group, is gone.
+    Deleted,
+    /// The offset is committed.
+    Committed,
     /// The serials of the bindings of a CREATE_ACLS, in the order of its drafts.
     Serials(Items<u64>),
-    /// The first offset of a batch.
+    /// Bindings with their serials, in rising serials.
+    Bindings(Items<(u64, Binding)>),
+    /// The first offset of a batch, or the offset that was asked for.
     Offset(u64),
+    /// The committed offset, or none.
+    Commit(Option<u64>),
     /// Records with their offsets, in order.
-    Records(Items<Fetched>),
+    Records(Items<(u64, Record)>),
+    /// Topics with their numbers of partitions, in order of creation.
+    Topics(Items<(Text, u64)>),
+    /// Groups in order of their first commit.
+    Groups(Items<Text>),
+    /// A producer id with its epoch.
+    Producer { id: u64, epoch: u64 },
 }
 
 /// The answer to a request.
@@ -42,20 +49,6 @@ pub enum Reply {
     Done(Body),
 }
 
-impl PlainValue for Fetched {
-    fn copy(&self, alloc: Global) -> Result<Self, AllocError> {
-        let message = self.message.copy(alloc)?;
-        Ok(Fetched {
-            offset: self.offset,
-            message,
-        })
-    }
-
-    fn same(&self, other: &Self) -> bool {
-        self.offset == other.offset && self.message.same(&other.message)
-    }
-}
-
 impl PlainValue for Body {
     fn copy(&self, alloc: Global) -> Result<Self, AllocError> {
         match self {
@@ -63,6 +56,16 @@ impl PlainValue for Body {
             Body::Serials(serials) => Ok(Body::Serials(serials.copy(alloc)?)),
             Body::Offset(offset) => Ok(Body::Offset(*offset)),
             Body::Records(records) => Ok(Body::Records(records.copy(alloc)?)),
+            Body::Deleted => Ok(Body::Deleted),
+            Body::Committed => Ok(Body::Committed),
+            Body::Bindings(bindings) => Ok(Body::Bindings(bindings.copy(alloc)?)),
+            Body::Commit(commit) => Ok(Body::Commit(*commit)),
+            Body::Topics(topics) => Ok(Body::Topics(topics.copy(alloc)?)),
+            Body::Groups(groups) => Ok(Body::Groups(groups.copy(alloc)?)),
+            Body::Producer { id, epoch } => Ok(Body::Producer {
+                id: *id,
+                epoch: *epoch,
+            }),
         }
     }
 
@@ -72,6 +75,19 @@ impl PlainValue for Body {
             (Body::Serials(one), Body::Serials(two)) => one.same(two),
             (Body::Offset(one), Body::Offset(two)) => one == two,
             (Body::Records(one), Body::Records(two)) => one.same(two),
+            (Body::Deleted, Body::Deleted) => true,
+            (Body::Committed, Body::Committed) => true,
+            (Body::Bindings(one), Body::Bindings(two)) => one.same(two),
+            (Body::Commit(one), Body::Commit(two)) => one.same(two),
+            (Body::Topics(one), Body::Topics(two)) => one.same(two),
+            (Body::Groups(one), Body::Groups(two)) => one.same(two),
+            (
+                Body::Producer { id, epoch },
+                Body::Producer {
+                    id: other_id,
+                    epoch: other_epoch,
+                },
+            ) => id == other_id && epoch == other_epoch,
             _ => false,
         }
     }

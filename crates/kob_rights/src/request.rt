@@ -1,125 +1,69 @@
-//! Requests, a struct for each kind. Names and numbers stand in them as they were sent.
+//! Requests: one variant for each kind. Names and numbers stand in them as they were sent.
 
-use kob_names::{Draft, Items, PlainValue, Record, Text};
+use crate::on_acls::{CreateAcls, DeleteAcls, DescribeAcls};
+use crate::on_groups::{DeleteGroups, OffsetCommit, OffsetFetch};
+use crate::on_partitions::{Fetch, ListOffsets, Produce};
+use crate::on_topics::{CreateTopics, DeleteTopics, Metadata};
+use kob_names::PlainValue;
 use std::alloc::{AllocError, Global};
 
-/// CREATE_TOPICS of one topic.
-#[derive(Debug, Drop)]
-pub struct CreateTopics {
-    pub name: Text,
-    pub partitions: u64,
-}
-
-/// CREATE_ACLS: bindings to create, all or none.
-#[derive(Debug, Drop)]
-pub struct CreateAcls {
-    pub drafts: Items<Draft>,
-}
-
-/// PRODUCE of one batch to one partition.
-#[derive(Debug, Drop)]
-pub struct Produce {
-    pub topic: Text,
-    pub partition: u64,
-    pub records: Items<Record>,
-}
-
-/// FETCH of at most `max` records of one partition, and at most 1,000, from an offset on.
-#[derive(Debug, Drop)]
-pub struct Fetch {
-    pub topic: Text,
-    pub partition: u64,
-    pub offset: u64,
-    pub max: u64,
-}
-
-/// A request of one kind.
+/// A request of one kind, by the names of Kafka's protocol.
 #[derive(Debug, Drop)]
 pub enum Request {
-    CreateTopics(CreateTopics),
-    CreateAcls(CreateAcls),
     Produce(Produce),
     Fetch(Fetch),
-}
-
-impl PlainValue for CreateTopics {
-    fn copy(&self, alloc: Global) -> Result<Self, AllocError> {
-        let name = self.name.copy(alloc)?;
-        Ok(CreateTopics {
-            name,
-            partitions: self.partitions,
-        })
-    }
-
-    fn same(&self, other: &Self) -> bool {
-        self.name.same(&other.name) && self.partitions == other.partitions
-    }
-}
-
-impl PlainValue for CreateAcls {
-    fn copy(&self, alloc: Global) -> Result<Self, AllocError> {
-        let drafts = self.drafts.copy(alloc)?;
-        Ok(CreateAcls { drafts })
-    }
-
-    fn same(&self, other: &Self) -> bool {
-        self.drafts.same(&other.drafts)
-    }
-}
-
-impl PlainValue for Produce {
-    fn copy(&self, alloc: Global) -> Result<Self, AllocError> {
-        let topic = self.topic.copy(alloc)?;
-        let records = self.records.copy(alloc)?;
-        Ok(Produce {
-            topic,
-            partition: self.partition,
-            records,
-        })
-    }
-
-    fn same(&self, other: &Self) -> bool {
-        self.topic.same(&other.topic)
-            && self.partition == other.partition
-            && self.records.same(&other.records)
-    }
-}
-
-impl PlainValue for Fetch {
-    fn copy(&self, alloc: Global) -> Result<Self, AllocError> {
-        let topic = self.topic.copy(alloc)?;
-        Ok(Fetch {
-            topic,
-            partition: self.partition,
-            offset: self.offset,
-            max: self.max,
-        })
-    }
-
-    fn same(&self, other: &Self) -> bool {
-        self.topic.same(&other.topic)
-            && self.partition == other.partition
-            && self.offset == other.offset
-            && self.max == other.max
-    }
+    ListOffsets(ListOffsets),
+    Metadata(Metadata),
+    OffsetCommit(OffsetCommit),
+    OffsetFetch(OffsetFetch),
+    /// LIST_GROUPS: the groups that the principal may describe.
+    ListGroups,
+    DeleteGroups(DeleteGroups),
+    CreateTopics(CreateTopics),
+    DeleteTopics(DeleteTopics),
+    /// INIT_PRODUCER_ID: an id for an idempotent producer.
+    InitProducerId,
+    DescribeAcls(DescribeAcls),
+    CreateAcls(CreateAcls),
+    DeleteAcls(DeleteAcls),
 }
 
 impl PlainValue for Request {
     fn copy(&self, alloc: Global) -> Result<Self, AllocError> {
         match self {
-            Request::CreateTopics(create) => Ok(Request::CreateTopics(create.copy(alloc)?)),
-            Request::CreateAcls(create) => Ok(Request::CreateAcls(create.copy(alloc)?)),
-            Request::Produce(produce) => Ok(Request::Produce(produce.copy(alloc)?)),
-            Request::Fetch(fetch) => Ok(Request::Fetch(fetch.copy(alloc)?)),
+            Request::Produce(asked) => Ok(Request::Produce(asked.copy(alloc)?)),
+            Request::Fetch(asked) => Ok(Request::Fetch(asked.copy(alloc)?)),
+            Request::ListOffsets(asked) => Ok(Request::ListOffsets(asked.copy(alloc)?)),
+            Request::Metadata(asked) => Ok(Request::Metadata(asked.copy(alloc)?)),
+            Request::OffsetCommit(asked) => Ok(Request::OffsetCommit(asked.copy(alloc)?)),
+            Request::OffsetFetch(asked) => Ok(Request::OffsetFetch(asked.copy(alloc)?)),
+            Request::ListGroups => Ok(Request::ListGroups),
+            Request::DeleteGroups(asked) => Ok(Request::DeleteGroups(asked.copy(alloc)?)),
+            Request::CreateTopics(asked) => Ok(Request::CreateTopics(asked.copy(alloc)?)),
+            Request::DeleteTopics(asked) => Ok(Request::DeleteTopics(asked.copy(alloc)?)),
+            Request::InitProducerId => Ok(Request::InitProducerId),
+            Request::DescribeAcls(asked) => Ok(Request::DescribeAcls(asked.copy(alloc)?)),
+            Request::CreateAcls(asked) => Ok(Request::CreateAcls(asked.copy(alloc)?)),
+            Request::DeleteAcls(asked) => Ok(Request::DeleteAcls(asked.copy(alloc)?)),
         }
     }
 
     fn same(&self, other: &Self) -> bool {
         match (self, other) {
-            (Request::CreateTopics(one), Request::CreateTopics(two)) => one.same(two),
-            (Request::CreateAcls(one), Request::CreateAcls(two)) => one.same(two),
             (Request::Produce(one), Request::Produce(two)) => one.same(two),
             (Request::Fetch(one), Request::Fetch(two)) => one.same(two),
+            (Request::ListOffsets(one), Request::ListOffsets(two)) => one.same(two),
+            (Request::Metadata(one), Request::Metadata(two)) => one.same(two),
+            (Request::OffsetCommit(one), Request::OffsetCommit(two)) => one.same(two),
+            (Request::OffsetFetch(one), Request::OffsetFetch(two)) => one.same(two),
+            (Request::ListGroups, Request::ListGroups) => true,
+            (Request::DeleteGroups(one), Request::DeleteGroups(two)) => one.same(two),
+            (Request::CreateTopics(one), Request::CreateTopics(two)) => one.same(two),
+            (Request::DeleteTopics(one), Request::DeleteTopics(two)) => one.same(two),
+            (Request::InitProducerId, Request::InitProducerId) => true,
+            (Request::DescribeAcls(one), Request::DescribeAcls(two)) => one.same(two),
+            (Request::CreateAcls(one), Request::CreateAcls(two)) => one.same(two),
+            (Request::DeleteAcls(one), Request::DeleteAcls(two)) => one.same(two),
             _ => false,
         }
     }

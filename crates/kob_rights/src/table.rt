@@ -1,13 +1,18 @@
 //! The operation table: the rights of each kind of request, and the code of a denial.
 
-ghost use Rattle.std.specs.Prelude.{◌≡◌, ◌<◌, length, IfOk};
-ghost use Rattle.kob_rights.specs.Table.{rights, denial_code};
+ghost use Rattle.std.specs.Prelude.{◌≡◌, ◌<◌, [], length, IfOk};
+ghost use Rattle.kob_rights.specs.Table.{denial_code, group_then_topic, metadata_rights, rights};
 ghost use Rattle.kob_rights.specs.declared.request.Request.TheVariants as requests;
 
-use crate::check::{Check, Rights, either, one_clause, right_on_cluster, right_on_topic};
+use crate::check::{
+    Check, Rights, either, one_clause, only, right_on_cluster, right_on_group,
+    right_on_group_and_topic, right_on_topic, two_clauses,
+};
 use crate::code::Code;
-use crate::request::{CreateTopics, Request};
-use kob_names::Operation;
+use crate::on_partitions::Produce;
+use crate::on_topics::{CreateTopics, Metadata};
+use crate::request::Request;
+use kob_names::{Items, Operation};
 use std::alloc::{AllocError, Global};
 
 impl Request {
@@ -18,10 +23,24 @@ impl Request {
         ensures { IfOk result (λ made. made ≡ rights self.now) }
     {
         match self {
-            Request::CreateTopics(create) => create.rights(alloc),
+            Request::Produce(asked) => asked.rights(alloc),
+            Request::Fetch(asked) => right_on_topic(alloc, Operation::Read, &asked.topic),
+            Request::ListOffsets(asked) => right_on_topic(alloc, Operation::Describe, &asked.topic),
+            Request::Metadata(asked) => asked.rights(alloc),
+            Request::OffsetCommit(asked) => {
+                right_on_group_and_topic(alloc, Operation::Read, &asked.group, &asked.topic)
+            }
+            Request::OffsetFetch(asked) => {
+                right_on_group_and_topic(alloc, Operation::Describe, &asked.group, &asked.topic)
+            }
+            Request::ListGroups => Ok(no_rights(alloc)),
+            Request::DeleteGroups(asked) => right_on_group(alloc, Operation::Delete, &asked.group),
+            Request::CreateTopics(asked) => asked.rights(alloc),
+            Request::DeleteTopics(asked) => right_on_topic(alloc, Operation::Delete, &asked.name),
+            Request::InitProducerId => right_on_cluster(alloc, Operation::IdempotentWrite),
+            Request::DescribeAcls(_) => right_on_cluster(alloc, Operation::Describe),
             Request::CreateAcls(_) => right_on_cluster(alloc, Operation::Alter),
-            Request::Produce(produce) => right_on_topic(alloc, Operation::Write, &produce.topic),
-            Request::Fetch(fetch) => right_on_topic(alloc, Operation::Read, &fetch.topic),
+            Request::DeleteAcls(_) => right_on_cluster(alloc, Operation::Alter),
         }
     }
 
@@ -31,10 +50,70 @@ impl Request {
         ensures { result ≡ denial_code self.now clause }
     {
         match self {
-            Request::CreateTopics(_) | Request::Produce(_) | Request::Fetch(_) => {
-                Code::TopicAuthorizationFailed
-            }
+            Request::Produce(asked) => asked.denial_code(clause),
+            Request::OffsetCommit(_) => group_then_topic(clause),
+            Request::OffsetFetch(_) => group_then_topic(clause),
+            Request::DeleteGroups(_) => Code::GroupAuthorizationFailed,
+            Request::InitProducerId => Code::ClusterAuthorizationFailed,
+            Request::DescribeAcls(_) => Code::ClusterAuthorizationFailed,
             Request::CreateAcls(_) => Code::ClusterAuthorizationFailed,
+            Request::DeleteAcls(_) => Code::ClusterAuthorizationFailed,
+            _ => Code::TopicAuthorizationFailed,
+        }
+    }
+}
+
+/// The code of a clause on a group, or of the clause on a topic after it.
+fn group_then_topic(clause: usize) -> Code
+    ensures { result ≡ group_then_topic clause }
+{
+    if clause == 0 {
+        Code::GroupAuthorizationFailed
+    } else {
+        Code::TopicAuthorizationFailed
+    }
+}
+
+/// No clause at all: the request is never denied.
+fn no_rights(alloc: Global) -> Rights
+    ensures { result ≡ [] }
+{
+    Items::from_vec(Vec::new(alloc))
+}
+
+impl Produce {
+    /// Write on the topic, and for an idempotent producer IdempotentWrite on the cluster before it.
+    fn rights(&self, alloc: Global) -> Result<Rights, AllocError>
+        ensures { IfOk result (λ made. made ≡ rights (requests.Produce self.now)) }
+    {
+        let write = Check::on_topic(alloc, Operation::Write, &self.topic)?;
+        let write = only(alloc, write)?;
+        if self.batch.idem.is_none() {
+            return one_clause(alloc, write);
+        }
+        let idempotent = Check::on_cluster(alloc, Operation::IdempotentWrite)?;
+        two_clauses(alloc, only(alloc, idempotent)?, write)
+    }
+
+    fn denial_code(&self, clause: usize) -> Code
+        ensures { result ≡ denial_code (requests.Produce self.now) clause }
+    {
+        if self.batch.idem.is_some() && clause == 0 {
+            Code::ClusterAuthorizationFailed
+        } else {
+            Code::TopicAuthorizationFailed
+        }
+    }
+}
+
+impl Metadata {
+    /// Describe on the one topic; the listing of all topics needs no right, and is filtered.
+    fn rights(&self, alloc: Global) -> Result<Rights, AllocError>
+        ensures { IfOk result (λ made. made ≡ metadata_rights self.now.topic) }
+    {
+        match &self.topic {
+            None => Ok(no_rights(alloc)),
+            Some(topic) => right_on_topic(alloc, Operation::Describe, topic),
         }
     }
 }

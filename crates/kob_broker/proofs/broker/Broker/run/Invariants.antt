@@ -1,5 +1,6 @@
 use Rattle.std.proofs.Common.{◌≡◌, ◌++◌, length, take, drop}
-use Rattle.kob_broker.specs.Meaning.{listed}
+use Rattle.kob_broker.specs.Change.{state_of}
+use Rattle.kob_partition.specs.Retained.{retained_meaning}
 use Rattle.kob_broker.specs.Step.{replies_of, state_after}
 use Rattle.kob_broker.proofs.broker.Broker.run.Given as goal
 
@@ -7,6 +8,6 @@ use Rattle.kob_broker.proofs.broker.Broker.run.Given as goal
 abbrev pub invariant-loop-done : goal.invariant-loop-done
 invariant-loop-done l = record {
   count : length l.replies.items ≡ l.done;
-  replies : l.replies.items ≡ replies_of listed (take l.done l.events) l.fn.self.state;
-  state : l.self.state ≡ state_after listed (take l.done l.events) l.fn.self.state;
+  replies : l.replies.items ≡ replies_of retained_meaning (take l.done l.events) (state_of l.fn.self);
+  state : state_of l.self ≡ state_after retained_meaning (take l.done l.events) (state_of l.fn.self);
 }

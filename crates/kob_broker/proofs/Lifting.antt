@@ -1,0 +1,270 @@
+-- A meaning of partitions that is carried to another gives the same steps.
+use Rattle.std.proofs.Common.{◌≡◌, ℕ, ◌+◌, zero, suc, Bool, List, [], ◌∷◌, ◌++◌, Option, None, Some, map, length, slice_get, slice_set, slice_index_or, refl, sym, ap, ◌∙◌, replicate}
+use Rattle.std.specs.Prelude.{option_map, is_some, remove}
+use Rattle.std.proofs.lemmas.List.{map-set, map-append, length-map}
+use Rattle.indexmap.proofs.SetLemmas.{map-remove}
+use Rattle.kob_authorizer.specs.Contents.{Contents}
+use Rattle.kob_catalog.proofs.Listings.{listed_mapped, has_topic_mapped}
+use Rattle.kob_catalog.proofs.MapWrites.{topic_at-mapped}
+use Rattle.kob_catalog.proofs.Places.{place_of_mapped}
+use Rattle.kob_catalog.specs.Creation.{new_topic}
+use Rattle.kob_catalog.specs.Topics.{Topic, has_topic, listed_where, partition_at, partition_of, place_of, topic_at, topic_map, topics_map, with_partition, with_partition_at, with_partition_found, without_topic, without_topic_found}
+use Rattle.kob_groups.specs.Groups as groups
+use Rattle.kob_names.specs.declared.batch.Batch.{Batch}
+use Rattle.kob_names.specs.declared.batch.Idem.{Idem}
+use Rattle.kob_names.specs.declared.record.Record.{Record}
+use Rattle.kob_partition.proofs.Keeping.{retaining_carries}
+use Rattle.kob_partition.specs.Append.{batch_judged, judged, unless_repeat}
+use Rattle.kob_partition.specs.Batches.{Plain}
+use Rattle.kob_partition.specs.Fetch.{fetch_fault, fetched}
+use Rattle.kob_partition.specs.Meaning.{Meaning, Carries}
+use Rattle.kob_partition.specs.Retained.{Retained, plain_meaning, retained, retained_meaning}
+use Rattle.kob_producers.specs.declared.judge.Judgement.{Judgement}
+use Rattle.kob_producers.specs.declared.judge.Judgement.TheVariants.{Next, Repeat, OutOfOrder, OldEpoch}
+use Rattle.kob_rights.specs.declared.event.Event.{Event}
+use Rattle.kob_rights.specs.declared.on_partitions.Fetch.{Fetch as FetchAsked}
+use Rattle.kob_rights.specs.declared.on_partitions.Produce.{Produce as ProduceAsked}
+use Rattle.kob_rights.specs.declared.on_partitions.Which.{Which}
+use Rattle.kob_rights.specs.declared.on_partitions.Which.TheVariants.{Start, End}
+use Rattle.kob_rights.specs.declared.reason.Reason.{Reason}
+use Rattle.kob_rights.specs.declared.reply.Body.{Body}
+use Rattle.kob_rights.specs.declared.reply.Body.TheVariants as bodies
+use Rattle.kob_rights.specs.declared.reply.Reply.{Reply}
+use Rattle.kob_rights.specs.declared.reply.Reply.TheVariants.{Done}
+use Rattle.kob_rights.specs.declared.request.Request.{Request}
+use Rattle.kob_rights.specs.declared.request.Request.TheVariants.{Produce, Fetch, ListOffsets, Metadata, OffsetCommit, OffsetFetch, ListGroups, DeleteGroups, CreateTopics, DeleteTopics, InitProducerId, DescribeAcls, CreateAcls, DeleteAcls}
+use Rattle.kob_broker.specs.Denial.{denial_of}
+use Rattle.kob_broker.specs.Effect.{Outcome, named, reasons_against, body, after, refusal, effect_by, effect}
+use Rattle.kob_broker.specs.Fetch.{fetched_at, is_out_of_range}
+use Rattle.kob_broker.specs.ListOffsets.{offset_at}
+use Rattle.kob_broker.specs.Metadata.{metadata_of, metadata_reasons, topic_found}
+use Rattle.kob_broker.specs.Named.{end_at, named_reasons, start_at}
+use Rattle.kob_broker.specs.Plainly.{StepsAlike, RunsAlike}
+use Rattle.kob_broker.specs.Produce.{judged_at, produced, with_batch}
+use Rattle.kob_broker.specs.Reasons.{first_reason}
+use Rattle.kob_broker.specs.State.{State, state_map}
+use Rattle.kob_broker.specs.Step.{step, step_by, replies_of, state_after}
+
+module _ {P Q : Type 0} (f : P → Q) where
+  slice_get-map : (ps : List P) (i : ℕ) → slice_get (map f ps) i ≡ option_map f (slice_get ps i)
+  slice_get-map [] i = refl
+  slice_get-map (p ∷ ps) zero = refl
+  slice_get-map (p ∷ ps) (suc i) = slice_get-map ps i
+
+  partition_at-map : (topics : List (Topic P)) (place : Option ℕ) (partition : ℕ) → partition_at (topics_map f topics) place partition ≡ option_map f (partition_at topics place partition)
+  partition_at-map topics None partition = refl
+  partition_at-map topics (Some place) partition =
+      ap (λ (t : Topic Q). slice_get t.partitions partition) (topic_at-mapped f topics place) ∙ slice_get-map (topic_at topics place).partitions partition
+
+  partition_of-map : (name : List ℕ) (partition : ℕ) (topics : List (Topic P)) → partition_of name partition (topics_map f topics) ≡ option_map f (partition_of name partition topics)
+  partition_of-map name partition topics =
+      ap (λ o. partition_at (topics_map f topics) o partition) (place_of_mapped f name topics) ∙ partition_at-map topics (place_of name topics) partition
+
+  with_partition_at-map : (place partition : ℕ) (p : P) (topics : List (Topic P)) → with_partition_at place partition (f p) (topics_map f topics) ≡ topics_map f (with_partition_at place partition p topics)
+  with_partition_at-map place partition p topics =
+      let topic = topic_at-mapped f topics place in
+      ap (slice_set (topics_map f topics) place)
+      (λ i. record {
+        name = (topic i).name;
+        partitions = (ap (λ (t : Topic Q). slice_set t.partitions partition (f p)) topic ∙ sym (map-set f (topic_at topics place).partitions partition p)) i;
+      })
+      ∙ sym (map-set (topic_map f) topics place (record (topic_at topics place) { partitions = slice_set (topic_at topics place).partitions partition p }))
+
+  with_partition_found-map : (place : Option ℕ) (partition : ℕ) (p : P) (topics : List (Topic P)) → with_partition_found place partition (f p) (topics_map f topics) ≡ topics_map f (with_partition_found place partition p topics)
+  with_partition_found-map None partition p topics = refl
+  with_partition_found-map (Some place) partition p topics = with_partition_at-map place partition p topics
+
+  with_partition-map : (name : List ℕ) (partition : ℕ) (p : P) (topics : List (Topic P)) → with_partition name partition (f p) (topics_map f topics) ≡ topics_map f (with_partition name partition p topics)
+  with_partition-map name partition p topics =
+      ap (λ o. with_partition_found o partition (f p) (topics_map f topics)) (place_of_mapped f name topics) ∙ with_partition_found-map (place_of name topics) partition p topics
+
+  without_found-map : (place : Option ℕ) (topics : List (Topic P)) → without_topic_found place (topics_map f topics) ≡ topics_map f (without_topic_found place topics)
+  without_found-map None topics = refl
+  without_found-map (Some place) topics = sym (map-remove (topic_map f) topics place)
+
+  without_topic-map : (name : List ℕ) (topics : List (Topic P)) → without_topic name (topics_map f topics) ≡ topics_map f (without_topic name topics)
+  without_topic-map name topics = ap (λ o. without_topic_found o (topics_map f topics)) (place_of_mapped f name topics) ∙ without_found-map (place_of name topics) topics
+
+  is_some-map : (found : Option P) → is_some (option_map f found) ≡ is_some found
+  is_some-map None = refl
+  is_some-map (Some p) = refl
+
+  replicate-map : (n : ℕ) (p : P) → replicate n (f p) ≡ map f (replicate n p)
+  replicate-map zero p = refl
+  replicate-map (suc n) p = ap (λ ps. f p ∷ ps) (replicate-map n p)
+
+  unless_repeat-map : (judgement : Judgement) (old new : List (Topic P)) (written : List (Topic Q)) → written ≡ topics_map f new
+      → unless_repeat judgement (topics_map f old) written ≡ topics_map f (unless_repeat judgement old new)
+  unless_repeat-map Next old new written is = is
+  unless_repeat-map (Repeat offset) old new written is = refl
+  unless_repeat-map OutOfOrder old new written is = is
+  unless_repeat-map OldEpoch old new written is = is
+
+  topic_found-map : (name : List ℕ) (topics : List (Topic P)) (place : Option ℕ) → topic_found name (topics_map f topics) place ≡ topic_found name topics place
+  topic_found-map name topics None = refl
+  topic_found-map name topics (Some place) =
+      ap (λ n. (name, n) ∷ []) (ap (λ (t : Topic Q). length t.partitions) (topic_at-mapped f topics place) ∙ length-map (topic_at topics place).partitions f)
+
+  metadata-map : (access : Contents) (event : Event) (topics : List (Topic P)) (asked : Option (List ℕ)) → metadata_of access event (topics_map f topics) asked ≡ metadata_of access event topics asked
+  metadata-map access event topics None = listed_mapped f _ topics
+  metadata-map access event topics (Some name) =
+      ap (topic_found name (topics_map f topics)) (place_of_mapped f name topics) ∙ topic_found-map name topics (place_of name topics)
+
+  metadata_reasons-map : (topics : List (Topic P)) (asked : Option (List ℕ)) → metadata_reasons (topics_map f topics) asked ≡ metadata_reasons topics asked
+  metadata_reasons-map topics None = refl
+  metadata_reasons-map topics (Some name) = rw (place_of_mapped f name topics) refl
+
+  abbrev pub outcome_map : Outcome P → Outcome Q
+  outcome_map o = record { reply = o.reply; state = state_map f o.state }
+
+module _ {P Q : Type 0} (m : Meaning P) (n : Meaning Q) (f : P → Q) (c : Carries m n f) where
+  judged_alike : (p : P) (idem : Option Idem) (count : ℕ) → judged n (f p) idem count ≡ judged m p idem count
+  judged_alike p None count = refl
+  judged_alike p (Some idem) count = c.judge p idem count
+
+  judged_at_alike : (found : Option P) (batch : Batch) → judged_at n (option_map f found) batch ≡ judged_at m found batch
+  judged_at_alike None batch = refl
+  judged_at_alike (Some p) batch = judged_alike p batch.idem (length batch.records)
+
+  start_at_alike : (found : Option P) → start_at n (option_map f found) ≡ start_at m found
+  start_at_alike None = refl
+  start_at_alike (Some p) = c.start p
+
+  end_at_alike : (found : Option P) → end_at n (option_map f found) ≡ end_at m found
+  end_at_alike None = refl
+  end_at_alike (Some p) = c.end p
+
+  offset_at_alike : (found : Option P) (which : Which) → offset_at n (option_map f found) which ≡ offset_at m found which
+  offset_at_alike found Start = start_at_alike found
+  offset_at_alike found End = end_at_alike found
+
+  out_of_range_alike : (found : Option P) (offset : ℕ) → is_out_of_range n (option_map f found) offset ≡ is_out_of_range m found offset
+  out_of_range_alike None offset = refl
+  out_of_range_alike (Some p) offset = rw (c.start p, c.end p) refl
+
+  fetched_alike : (found : Option P) (fetch : FetchAsked) → fetched_at n (option_map f found) fetch ≡ fetched_at m found fetch
+  fetched_alike None fetch = refl
+  fetched_alike (Some p) fetch = rw (c.start p, c.readable p) refl
+
+  with_batch_alike : (found : Option P) (produce : ProduceAsked) (topics : List (Topic P)) → with_batch n (option_map f found) produce (topics_map f topics) ≡ topics_map f (with_batch m found produce topics)
+  with_batch_alike None produce topics = refl
+  with_batch_alike (Some p) produce topics =
+      let written = ap (λ q. with_partition produce.topic produce.partition q (topics_map f topics)) (sym (c.append p produce.batch))
+      ∙ with_partition-map f produce.topic produce.partition (m.append p produce.batch) topics in
+      ap (λ j. unless_repeat j (topics_map f topics) (with_partition produce.topic produce.partition (n.append (f p) produce.batch) (topics_map f topics))) (judged_at_alike (Some p) produce.batch)
+      ∙ unless_repeat-map f (judged_at m (Some p) produce.batch) topics (with_partition produce.topic produce.partition (m.append p produce.batch) topics) _ written
+
+  named_alike : (s : State P) (request : Request) → named (state_map f s) request ≡ option_map f (named s request)
+  named_alike s (Produce produce) = partition_of-map f produce.topic produce.partition s.topics
+  named_alike s (Fetch fetch) = partition_of-map f fetch.topic fetch.partition s.topics
+  named_alike s (ListOffsets asked) = partition_of-map f asked.topic asked.partition s.topics
+  named_alike s (OffsetCommit commit) = partition_of-map f commit.topic commit.partition s.topics
+  named_alike s (Metadata asked) = refl
+  named_alike s (OffsetFetch asked) = refl
+  named_alike s ListGroups = refl
+  named_alike s (DeleteGroups delete) = refl
+  named_alike s (CreateTopics create) = refl
+  named_alike s (DeleteTopics delete) = refl
+  named_alike s InitProducerId = refl
+  named_alike s (DescribeAcls asked) = refl
+  named_alike s (CreateAcls create) = refl
+  named_alike s (DeleteAcls delete) = refl
+
+  reasons_alike : (s : State P) (found : Option P) (request : Request) → reasons_against n (state_map f s) (option_map f found) request ≡ reasons_against m s found request
+  reasons_alike s found (Produce produce) =
+      rw (place_of_mapped f produce.topic s.topics, is_some-map f found, judged_at_alike found produce.batch, end_at_alike found) refl
+  reasons_alike s found (Fetch fetch) = rw (place_of_mapped f fetch.topic s.topics, is_some-map f found, out_of_range_alike found fetch.offset) refl
+  reasons_alike s found (ListOffsets asked) = rw (place_of_mapped f asked.topic s.topics, is_some-map f found) refl
+  reasons_alike s found (Metadata asked) = metadata_reasons-map f s.topics asked.topic
+  reasons_alike s found (OffsetCommit commit) = rw (place_of_mapped f commit.topic s.topics, is_some-map f found) refl
+  reasons_alike s found (OffsetFetch asked) = refl
+  reasons_alike s found ListGroups = refl
+  reasons_alike s found (DeleteGroups delete) = refl
+  reasons_alike s found (CreateTopics create) = rw (place_of_mapped f create.name s.topics, length-map s.topics (topic_map f)) refl
+  reasons_alike s found (DeleteTopics delete) = rw (place_of_mapped f delete.name s.topics) refl
+  reasons_alike s found InitProducerId = refl
+  reasons_alike s found (DescribeAcls asked) = refl
+  reasons_alike s found (CreateAcls create) = refl
+  reasons_alike s found (DeleteAcls delete) = refl
+
+  body_alike : (s : State P) (found : Option P) (event : Event) (request : Request) → body n (state_map f s) (option_map f found) event request ≡ body m s found event request
+  body_alike s found event (Produce produce) = rw (judged_at_alike found produce.batch, end_at_alike found) refl
+  body_alike s found event (Fetch fetch) = ap bodies.Records (fetched_alike found fetch)
+  body_alike s found event (ListOffsets asked) = ap bodies.Offset (offset_at_alike found asked.which)
+  body_alike s found event (Metadata asked) = ap bodies.Topics (metadata-map f s.access event s.topics asked.topic)
+  body_alike s found event (OffsetCommit commit) = refl
+  body_alike s found event (OffsetFetch asked) = refl
+  body_alike s found event ListGroups = refl
+  body_alike s found event (DeleteGroups delete) = refl
+  body_alike s found event (CreateTopics create) = refl
+  body_alike s found event (DeleteTopics delete) = refl
+  body_alike s found event InitProducerId = refl
+  body_alike s found event (DescribeAcls asked) = refl
+  body_alike s found event (CreateAcls create) = refl
+  body_alike s found event (DeleteAcls delete) = refl
+
+  new_topic_alike : (name : List ℕ) (partitions : ℕ) → new_topic n name partitions ≡ topic_map f (new_topic m name partitions)
+  new_topic_alike name partitions = λ i. record { name = name; partitions = (ap (replicate partitions) (sym c.empty) ∙ replicate-map f partitions m.empty) i }
+
+  after_alike : (s : State P) (found : Option P) (request : Request) → after n (state_map f s) (option_map f found) request ≡ state_map f (after m s found request)
+  after_alike s found (Produce produce) = λ i. record { topics = with_batch_alike found produce s.topics i; groups = s.groups; access = s.access; next_producer = s.next_producer }
+  after_alike s found (CreateTopics create) =
+      let added = ap (λ t. topics_map f s.topics ++ t ∷ []) (new_topic_alike create.name create.partitions) ∙ sym (map-append (topic_map f) s.topics (new_topic m create.name create.partitions ∷ [])) in
+      λ i. record { topics = added i; groups = s.groups; access = s.access; next_producer = s.next_producer }
+  after_alike s found (DeleteTopics delete) =
+      λ i. record { topics = without_topic-map f delete.name s.topics i; groups = groups.without_topic delete.name s.groups; access = s.access; next_producer = s.next_producer }
+  after_alike s found (Fetch fetch) = refl
+  after_alike s found (ListOffsets asked) = refl
+  after_alike s found (Metadata asked) = refl
+  after_alike s found (OffsetCommit commit) = refl
+  after_alike s found (OffsetFetch asked) = refl
+  after_alike s found ListGroups = refl
+  after_alike s found (DeleteGroups delete) = refl
+  after_alike s found InitProducerId = refl
+  after_alike s found (DescribeAcls asked) = refl
+  after_alike s found (CreateAcls create) = refl
+  after_alike s found (DeleteAcls delete) = refl
+
+  effect_by_alike : (against : Option Reason) (s : State P) (found : Option P) (event : Event) (request : Request)
+      → effect_by n against (state_map f s) (option_map f found) event request ≡ outcome_map f (effect_by m against s found event request)
+  effect_by_alike (Some reason) s found event request = refl
+  effect_by_alike None s found event request = λ i. record {
+    reply = Done (body_alike s found event request i);
+    state = after_alike s found request i;
+  }
+
+  effect_alike : (s : State P) (event : Event) (request : Request) → effect n (state_map f s) event request ≡ outcome_map f (effect m s event request)
+  effect_alike s event request =
+      let found = named s request in
+      ap (λ o. effect_by n (first_reason (reasons_against n (state_map f s) o request)) (state_map f s) o event request) (named_alike s request)
+      ∙ ap (λ rs. effect_by n (first_reason rs) (state_map f s) (option_map f found) event request) (reasons_alike s found request)
+      ∙ effect_by_alike (refusal m s request) s found event request
+
+  step_by_alike : (denial : Option Reply) (s : State P) (event : Event) → step_by n denial (state_map f s) event ≡ outcome_map f (step_by m denial s event)
+  step_by_alike (Some denial) s event = refl
+  step_by_alike None s event = effect_alike s event event.request
+
+  pub step_alike : (s : State P) (event : Event) → step n (state_map f s) event ≡ outcome_map f (step m s event)
+  step_alike s event = step_by_alike (denial_of s.access event) s event
+
+  pub replies_alike : (events : List Event) (s : State P) → replies_of n events (state_map f s) ≡ replies_of m events s
+  replies_alike [] s = refl
+  replies_alike (event ∷ events) s =
+      ap (λ (o : Outcome Q). o.reply ∷ replies_of n events o.state) (step_alike s event) ∙ ap (λ rs. (step m s event).reply ∷ rs) (replies_alike events (step m s event).state)
+
+  pub states_alike : (events : List Event) (s : State P) → state_after n events (state_map f s) ≡ state_map f (state_after m events s)
+  states_alike [] s = refl
+  states_alike (event ∷ events) s =
+      ap (λ (o : Outcome Q). state_after n events o.state) (step_alike s event) ∙ states_alike events (step m s event).state
+
+pub steps_alike : (s : State Plain) (event : Event) → StepsAlike s event
+steps_alike s event = record {
+  reply = ap (λ (o : Outcome Retained). o.reply) (step_alike plain_meaning retained_meaning retained retaining_carries s event);
+  state = ap (λ (o : Outcome Retained). o.state) (step_alike plain_meaning retained_meaning retained retaining_carries s event);
+}
+
+pub runs_alike : (s : State Plain) (events : List Event) → RunsAlike s events
+runs_alike s events = record {
+  replies = replies_alike plain_meaning retained_meaning retained retaining_carries events s;
+  state = states_alike plain_meaning retained_meaning retained retaining_carries events s;
+}

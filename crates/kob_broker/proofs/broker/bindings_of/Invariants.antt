@@ -1,0 +1,6 @@
+use Rattle.std.proofs.Common.{◌≡◌, ℕ, map, take}
+use Rattle.kob_names.specs.declared.binding.Binding.{Binding}
+use Rattle.kob_broker.proofs.broker.bindings_of.Given as goal
+
+abbrev pub invariant-loop-entry : goal.invariant-loop-entry
+invariant-loop-entry l = l.bindings.items ≡ map (λ (entry : ℕ × Binding). entry.1) (take l.entry-index l.entries)

@@ -1,0 +1,5 @@
+pub mod Writes
+pub mod Places
+pub mod Appends
+pub mod MapWrites
+pub mod Listings

@@ -1,0 +1,10 @@
+pub mod Topics
+pub mod Codes
+pub mod Kept
+pub mod Entries
+pub mod Creation
+pub use Rattle.kob_names.specs.Same
+pub use Rattle.kob_partition.specs.Append
+pub use Rattle.kob_partition.specs.Log
+pub use Rattle.kob_partition.specs.Meaning
+pub use Rattle.kob_partition.specs.Retained

@@ -1,0 +1,15 @@
+//! The topics in order of creation, each with the logs of its partitions.
+#![tactic(auto)]
+
+mod catalog;
+mod decider;
+mod fault;
+mod limits;
+mod prepared;
+mod topic;
+
+pub use catalog::Catalog;
+pub use decider::Decider;
+pub use fault::{CreateFault, UnknownTopic};
+pub use limits::{PARTITION_LIMIT, TOPIC_LIMIT};
+pub use prepared::PreparedTopic;

@@ -1,0 +1,7 @@
+//! Limits on topics.
+
+/// The most topics at once.
+pub const TOPIC_LIMIT: usize = 10_000;
+
+/// The most partitions of a topic.
+pub const PARTITION_LIMIT: u64 = 1_000;
