@@ -6,3 +6,4 @@ pub mod Batches
 pub mod Clauses
 pub mod Just
 pub mod Lifting
+pub mod Shown

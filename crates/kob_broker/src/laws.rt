@@ -10,6 +10,7 @@ ghost use Rattle.kob_rights.specs.declared.reply.Reply.TheVariants.{Denied, Refu
 ghost use Rattle.kob_partition.specs.Batches.{Plain};
 ghost use Rattle.kob_partition.specs.Retained.{plain_meaning};
 ghost use Rattle.kob_broker.specs.Justice.{EachJust, SameDenial};
+ghost use Rattle.kob_broker.specs.Listings.{ListsGroups, ListsTopics};
 ghost use Rattle.kob_broker.specs.Plainly.{RunsAlike, StepsAlike};
 ghost use Rattle.kob_broker.specs.State.{State, open_state};
 ghost use Rattle.kob_broker.specs.Step.{step};
@@ -47,6 +48,15 @@ pub fn denials_depend_on_bindings_alone()
 pub fn what_is_kept_is_enough()
     ensures steps { (s : State Plain) (event : Event) → StepsAlike s event }
     ensures runs { (s : State Plain) (events : List Event) → RunsAlike s events }
+{
+    // The contract is the law.
+}
+
+/// The listing of all topics holds exactly those that the bindings in force let the principal describe, and the listing
+/// of groups those that they let it describe, or all for one who may describe the cluster.
+pub fn listings_hold_what_is_described()
+    ensures topics { (s : State Plain) (event : Event) → ListsTopics s event }
+    ensures groups { (s : State Plain) (event : Event) → ListsGroups s event }
 {
     // The contract is the law.
 }
