@@ -1,5 +1,5 @@
 -- The creation of a topic.
-use Rattle.std.specs.Prelude.{◌≡◌, ◌<◌, ℕ, not, ◌&&◌, nat_le, List, [], ◌∷◌, ◌++◌, Option, Some, None, length, replicate, if◌then◌else◌, false}
+use Rattle.std.specs.Prelude.{◌≡◌, ◌<◌, ℕ, not, ◌&&◌, nat_le, List, Option, Some, None, length, replicate, if◌then◌else◌, false}
 use Rattle.kob_partition.specs.Log.{LogKept}
 use Rattle.kob_partition.specs.Meaning.{Meaning}
 use Rattle.kob_catalog.specs.declared.fault.CreateFault.{CreateFault}

@@ -1,5 +1,5 @@
 -- What a catalog shows.
-use Rattle.std.specs.Prelude.{ℕ, List, [], map, refl, slice_index_or, false}
+use Rattle.std.specs.Prelude.{ℕ, List, refl, slice_index_or, false}
 use Rattle.std.specs.Coded.{Coded, code_by, coded×, coded_list, coded_ℕ}
 use Rattle.kob_partition.specs.Codes.{log_code}
 use Rattle.kob_partition.specs.Log.{LogKept}

@@ -1,5 +1,5 @@
 -- Topics in order of creation, whatever their partitions are.
-use Rattle.std.specs.Prelude.{◌≡◌, ◌<◌, ℕ, List, [], Bool, Option, Some, None, is_some, length, map, remove, slice_get, slice_set, slice_index_or}
+use Rattle.std.specs.Prelude.{◌<◌, ℕ, List, [], Bool, Option, Some, None, is_some, length, map, remove, slice_get, slice_set, slice_index_or}
 use Rattle.std.specs.List.{filter, position}
 use Rattle.kob_names.specs.Same.{same_text}
 

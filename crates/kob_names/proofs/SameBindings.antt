@@ -1,10 +1,10 @@
 -- Two bindings pass the test of equality exactly where they are equal.
-use Rattle.std.proofs.Common.{sym, ◌∙◌, ◌↔◌, IsTrue, ◌≡◌, Bool, true, ◌&&◌, List, ℕ, ap}
+use Rattle.std.proofs.Common.{sym, ◌∙◌, ◌↔◌, IsTrue, ◌≡◌, Bool, List, ℕ, ap}
 use Rattle.std.specs.Bool.{Decides}
 use Rattle.std.proofs.lemmas.Bool.Decides.{Decides-and, Decides-like}
 use Rattle.std.proofs.lemmas.Slice.Eq.{bytes_eq-Decides}
 use denote.Enum.Bare.{same_true, true_same}
-use Rattle.kob_names.specs.Same.{same_operation, same_pattern_kind, same_permission, same_resource, same_text}
+use Rattle.kob_names.specs.Same.{same_operation, same_pattern_kind, same_permission, same_resource}
 use Rattle.kob_names.specs.SameBinding.{same_binding, same_pattern}
 use Rattle.kob_names.specs.declared.binding.Binding.{Binding}
 use Rattle.kob_names.specs.declared.kinds.Operation.{Operation}

@@ -1,4 +1,4 @@
-use Rattle.std.proofs.Common.{◌≡◌, ◌↔◌, IfOk, IsTrue, length, take, ℕ, ◌+◌, ◌-◌, ◌*◌, ◌<◌, ◌≤◌}
+use Rattle.std.proofs.Common.{◌≡◌, take}
 use Rattle.kob_names.proofs.items.same_items.Given as goal
 
 abbrev pub invariant-loop-place : goal.invariant-loop-place
