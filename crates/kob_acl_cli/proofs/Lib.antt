@@ -1,0 +1,4 @@
+pub mod AsciiText
+pub mod Appending
+pub mod LineFacts
+pub mod Telling

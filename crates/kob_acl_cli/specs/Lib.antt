@@ -1,0 +1,12 @@
+pub mod Accesses
+pub mod Commands
+pub mod Lines
+pub mod Misread
+pub mod Mixes
+pub mod Parts
+pub mod PrintedBinding
+pub mod PrintedList
+pub mod PrintedText
+pub mod Rules
+pub mod Targets
+pub mod Words

@@ -1,0 +1,42 @@
+-- The words of options that are not read.
+use Rattle.std.specs.Prelude.{◌≡◌, ◌⊎◌, ℕ, Bool, List, [], ◌∷◌, ◌++◌, map, filter, is_some, is_none, Result, Ok, Err}
+use Rattle.std.specs.Option.{option_to_list}
+use Rattle.kob_names.specs.HostRules.{host_fault}
+use Rattle.kob_names.specs.PrincipalRules.{principal_fault}
+use Rattle.kob_acl_cli.specs.Words.{operation_named, filter_pattern_named}
+use Rattle.kob_acl_cli.specs.declared.args.CliArgs.{CliArgs}
+use Rattle.kob_acl_cli.specs.declared.fault.CommandFault.{CommandFault}
+use Rattle.kob_acl_cli.specs.declared.fault.CommandFault.TheVariants.{BadName, Memory}
+
+abbrev pub is_no_principal : List ℕ → Bool
+is_no_principal word = is_some (principal_fault word)
+
+abbrev pub is_no_host : List ℕ → Bool
+is_no_host word = is_some (host_fault word)
+
+abbrev pub is_no_operation : List ℕ → Bool
+is_no_operation word = is_none (operation_named word)
+
+abbrev pub is_no_pattern_type : List ℕ → Bool
+is_no_pattern_type word = is_none (filter_pattern_named word)
+
+-- the words that are not read, in the order of their options
+abbrev pub misread : CliArgs → List (List ℕ)
+misread args =
+    filter is_no_principal args.allow_principals ++ filter is_no_principal args.deny_principals
+    ++ filter is_no_host args.allow_hosts ++ filter is_no_host args.deny_hosts
+    ++ filter is_no_operation args.operations ++ filter is_no_principal args.principals
+    ++ filter is_no_pattern_type (option_to_list args.pattern_type)
+
+abbrev pub bad_names : List (List ℕ) → List CommandFault
+bad_names words = map (λ word. BadName word) words
+
+-- the fault told is the first of those that stand, or want of memory
+abbrev pub IsTold : List CommandFault → CommandFault → Type 0
+IsTold [] fault = fault ≡ Memory
+IsTold (first ∷ others) fault = (fault ≡ first) ⊎ (fault ≡ Memory)
+
+-- The value was read and no word of it was misread, or the first such word is told.
+abbrev pub Reads : {A : Type 0} → List (List ℕ) → A → Result A CommandFault → Type 0
+Reads words value (Ok made) = (words ≡ []) × (made ≡ value)
+Reads words value (Err fault) = IsTold (bad_names words) fault

@@ -1,0 +1,182 @@
+//! What a line asks for.
+
+ghost use Rattle.std.specs.Prelude.{◌≡◌, ◌++◌, [], map, false, IfOk, IfErr, IsErrOf, OnOk};
+ghost use Rattle.kob_acl_cli.specs.Commands as commands;
+ghost use Rattle.kob_acl_cli.specs.Misread.{IsTold};
+ghost use Rattle.kob_acl_cli.specs.Mixes as mixes;
+
+use crate::access::accesses;
+use crate::args::CliArgs;
+use crate::fault::CommandFault;
+use crate::mixes::{has_holder, has_one_action, is_bad_mix, lacks_principal, lacks_resource};
+use crate::parts::{Parts, read_parts};
+use crate::rule::{Rule, product};
+use crate::target::{Target, targets};
+use kob_names::{BindingFilter, Draft, FilterPattern, Items, PlainValue, Principal};
+use std::alloc::{AllocError, Global};
+
+/// A request on bindings.
+#[derive(Debug, Drop)]
+pub enum AclCommand {
+    /// Bindings that are created at once; their names aren't checked.
+    Create(Items<Draft>),
+    Delete(BindingFilter),
+    Describe(BindingFilter),
+}
+
+/// What the options ask for, as `kafka-acls` has it (Kafka's documentation, "Authorization and ACLs"): one `Create` with
+/// all bindings, a `Delete` for each binding or resource, or a `Describe` for each resource and principal. The first
+/// fault that stands is told, in the order `NoAction`, `BadName` (the first principal, host, operation or pattern type
+/// that isn't read), `BadMix`, `NoResource`, `NoPrincipal`. `Memory` may come in place of any answer but `NoAction`.
+pub fn commands_of(alloc: Global, args: &CliArgs) -> Result<Vec<AclCommand>, CommandFault>
+    ensures refused { IfErr result (λ fault. IsTold (commands.faults args.now) fault) }
+    ensures no_action { mixes.has_one_action args.now ≡ false → IsErrOf result CommandFault.NoAction }
+    ensures sound { IfOk result (λ made. commands.faults args.now ≡ []) }
+    ensures commands { IfOk result (λ made. made.items ≡ commands.commands args.now) }
+{
+    if !has_one_action(args) {
+        return Err(CommandFault::NoAction);
+    }
+    let parts = read_parts(alloc, args)?;
+    if is_bad_mix(args) {
+        return Err(CommandFault::BadMix);
+    }
+    if lacks_resource(args) {
+        return Err(CommandFault::NoResource);
+    }
+    if lacks_principal(args) {
+        return Err(CommandFault::NoPrincipal);
+    }
+    Ok(commands_by(alloc, args, &parts)?)
+}
+
+fn commands_by(alloc: Global, args: &CliArgs, parts: &Parts) -> Result<Vec<AclCommand>, AllocError>
+    ensures { IfOk result (λ made. made.items ≡ commands.commands_by parts.now args.now) }
+{
+    if args.add {
+        creation(alloc, args, parts)
+    } else if args.remove {
+        removals(alloc, args, parts)
+    } else {
+        listings(alloc, args, parts)
+    }
+}
+
+fn rules(alloc: Global, args: &CliArgs, parts: &Parts) -> Result<Vec<Rule>, AllocError>
+    ensures { IfOk result (λ made. made.items ≡ commands.rules parts.now args.now) }
+{
+    let accesses = accesses(alloc, args, parts.pattern, parts.operations.as_slice())?;
+    product(alloc, &parts.allowed, &parts.denied, accesses.as_slice())
+}
+
+fn creation(alloc: Global, args: &CliArgs, parts: &Parts) -> Result<Vec<AclCommand>, AllocError>
+    ensures { IfOk result (λ made. made.items ≡ commands.creation parts.now args.now) }
+{
+    let mut drafts = Vec::new(alloc);
+    for rule in rules(alloc, args, parts)? {
+        drafts.push(rule.into_draft())?;
+    }
+    let mut made = Vec::new(alloc);
+    made.push(AclCommand::Create(Items::from_vec(drafts)))?;
+    Ok(made)
+}
+
+fn removals(alloc: Global, args: &CliArgs, parts: &Parts) -> Result<Vec<AclCommand>, AllocError>
+    ensures { IfOk result (λ made. made.items ≡ commands.removals parts.now args.now) }
+{
+    if has_holder(args) {
+        removals_of_rules(alloc, rules(alloc, args, parts)?)
+    } else {
+        removals_on(alloc, targets(alloc, args, parts.pattern)?)
+    }
+}
+
+fn removals_of_rules(alloc: Global, rules: Vec<Rule>) -> Result<Vec<AclCommand>, AllocError>
+    ensures { IfOk result (λ made. made.items ≡ map commands.removal rules.items) }
+{
+    let mut made = Vec::new(alloc);
+    for rule in rules {
+        made.push(AclCommand::Delete(rule.into_filter()))?;
+    }
+    Ok(made)
+}
+
+fn removals_on(alloc: Global, targets: Vec<Target>) -> Result<Vec<AclCommand>, AllocError>
+    ensures { IfOk result (λ made. made.items ≡ map commands.removal_on targets.items) }
+{
+    let mut made = Vec::new(alloc);
+    for target in targets {
+        let filter = filter_on(alloc, &Some(target), &None)?;
+        made.push(AclCommand::Delete(filter))?;
+    }
+    Ok(made)
+}
+
+fn listings(alloc: Global, args: &CliArgs, parts: &Parts) -> Result<Vec<AclCommand>, AllocError>
+    ensures { IfOk result (λ made. made.items ≡ commands.listings parts.now args.now) }
+{
+    let named = targets(alloc, args, parts.pattern)?;
+    let wanted = each_or_any(alloc, named.as_slice())?;
+    let principals = each_or_any(alloc, parts.principals.as_slice())?;
+    let mut made = Vec::new(alloc);
+    for target in &wanted {
+        push_listings(alloc, &mut made, target, principals.as_slice())?;
+    }
+    Ok(made)
+}
+
+fn push_listings(
+    alloc: Global,
+    made: &mut Vec<AclCommand>,
+    target: &Option<Target>,
+    principals: &[Option<Principal>],
+) -> Result<(), AllocError>
+    ensures { OnOk result (made.new.items ≡ made.old.items
+        ++ map (commands.listing target.now) principals.now) }
+{
+    for principal in principals {
+        let filter = filter_on(alloc, target, principal)?;
+        made.push(AclCommand::Describe(filter))?;
+    }
+    Ok(())
+}
+
+fn filter_on(
+    alloc: Global,
+    target: &Option<Target>,
+    principal: &Option<Principal>,
+) -> Result<BindingFilter, AllocError>
+    ensures { IfOk result (λ made. made ≡ commands.filter_on target.now principal.now) }
+{
+    let principal = principal.copy(alloc)?;
+    let (resource, name, pattern) = match target {
+        None => (None, None, FilterPattern::Any),
+        Some(target) => (
+            Some(target.kind),
+            Some(target.name.copy(alloc)?),
+            target.pattern,
+        ),
+    };
+    Ok(BindingFilter {
+        resource,
+        name,
+        pattern,
+        principal,
+        host: None,
+        operation: None,
+        permission: None,
+    })
+}
+
+fn each_or_any<T: PlainValue>(alloc: Global, items: &[T]) -> Result<Vec<Option<T>>, AllocError>
+    ensures { IfOk result (λ made. made.items ≡ commands.each_or_any items.now) }
+{
+    let mut made = Vec::new(alloc);
+    for item in items {
+        made.push(Some(item.copy(alloc)?))?;
+    }
+    if made.is_empty() {
+        made.push(None)?;
+    }
+    Ok(made)
+}

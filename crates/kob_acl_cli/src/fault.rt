@@ -1,0 +1,67 @@
+//! Why a line is refused.
+
+ghost use Rattle.std.specs.Prelude.{◌≡◌};
+ghost use Rattle.kob_acl_cli.specs.declared.fault.CommandFault.TheVariants as command;
+ghost use Rattle.kob_acl_cli.specs.declared.fault.LineFault.TheVariants as line;
+
+use kob_names::Text;
+use std::alloc::{AllocError, AllocFailed};
+use thiserror::Error;
+
+/// Why words are no options.
+#[derive(Clone, Copy, Debug, PartialEq, Eq, Error)]
+pub enum LineFault {
+    #[error("these words aren't options of the command")]
+    Usage,
+    #[error("out of memory")]
+    Memory,
+}
+
+/// Why options are no command. The first fault that stands is told, in the order of the variants.
+#[derive(Debug, PartialEq, Eq, Error, Drop)]
+pub enum CommandFault {
+    #[error("exactly one of --add, --remove and --list is wanted")]
+    NoAction,
+    #[error("this word is no principal, host, operation or pattern type")]
+    BadName(Text),
+    #[error("these options may not stand together")]
+    BadMix,
+    #[error("a topic, group, cluster or transactional id is wanted")]
+    NoResource,
+    #[error("a principal is wanted")]
+    NoPrincipal,
+    #[error("out of memory")]
+    Memory,
+}
+
+impl From<AllocError> for LineFault {
+    ghost from_gives = { λ _ fault. fault ≡ line.Memory };
+
+    fn from(_error: AllocError) -> LineFault {
+        LineFault::Memory
+    }
+}
+
+impl<T: Drop> From<AllocFailed<T>> for LineFault {
+    ghost from_gives = { λ _ fault. fault ≡ line.Memory };
+
+    fn from(_error: AllocFailed<T>) -> LineFault {
+        LineFault::Memory
+    }
+}
+
+impl From<AllocError> for CommandFault {
+    ghost from_gives = { λ _ fault. fault ≡ command.Memory };
+
+    fn from(_error: AllocError) -> CommandFault {
+        CommandFault::Memory
+    }
+}
+
+impl<T: Drop> From<AllocFailed<T>> for CommandFault {
+    ghost from_gives = { λ _ fault. fault ≡ command.Memory };
+
+    fn from(_error: AllocFailed<T>) -> CommandFault {
+        CommandFault::Memory
+    }
+}

@@ -1,0 +1,128 @@
+//! Which options may stand together, and what has to stand beside them.
+
+ghost use Rattle.std.specs.Prelude.{◌≡◌};
+ghost use Rattle.kob_acl_cli.specs.Mixes as mixes;
+
+use crate::args::CliArgs;
+use kob_names::{Items, Text};
+
+/// Exactly one of `--add`, `--remove` and `--list`.
+pub fn has_one_action(args: &CliArgs) -> bool
+    ensures { result ≡ mixes.has_one_action args.now }
+{
+    u8::from(args.add) + u8::from(args.remove) + u8::from(args.list) == 1
+}
+
+/// Options stand together that may not.
+pub fn is_bad_mix(args: &CliArgs) -> bool
+    ensures { result ≡ mixes.is_bad_mix args.now }
+{
+    is_bad_mix_of_holders(args) || is_bad_mix_of_action(args) || is_bad_mix_of_convenience(args)
+}
+
+/// The options want a resource that isn't given.
+pub fn lacks_resource(args: &CliArgs) -> bool
+    ensures { result ≡ mixes.lacks_resource args.now }
+{
+    (args.add || args.remove) && !has_resource(args)
+        || args.producer && !is_given(&args.topics)
+        || args.consumer && !(is_given(&args.topics) && is_given(&args.groups))
+}
+
+/// The options want a principal that isn't given.
+pub fn lacks_principal(args: &CliArgs) -> bool
+    ensures { result ≡ mixes.lacks_principal args.now }
+{
+    (args.add || has_convenience(args)) && !has_holder(args)
+}
+
+/// `--allow-principal` or `--deny-principal`.
+pub fn has_holder(args: &CliArgs) -> bool
+    ensures { result ≡ mixes.has_holder args.now }
+{
+    is_given(&args.allow_principals) || is_given(&args.deny_principals)
+}
+
+/// `--producer` or `--consumer`.
+pub fn has_convenience(args: &CliArgs) -> bool
+    ensures { result ≡ mixes.has_convenience args.now }
+{
+    args.producer || args.consumer
+}
+
+fn is_given(texts: &Items<Text>) -> bool
+    ensures { result ≡ mixes.is_given texts.now }
+{
+    texts.len() > 0
+}
+
+fn has_resource(args: &CliArgs) -> bool
+    ensures { result ≡ mixes.has_resource args.now }
+{
+    is_given(&args.topics)
+        || is_given(&args.groups)
+        || args.cluster
+        || is_given(&args.transactional_ids)
+}
+
+fn is_bad_mix_of_holders(args: &CliArgs) -> bool
+    ensures { result ≡ mixes.is_bad_mix_of_holders args.now }
+{
+    is_given(&args.allow_hosts) && !is_given(&args.allow_principals)
+        || is_given(&args.deny_hosts) && !is_given(&args.deny_principals)
+        || is_given(&args.operations) && args.remove && !has_holder(args)
+}
+
+fn is_bad_mix_of_action(args: &CliArgs) -> bool
+    ensures { result ≡ mixes.is_bad_mix_of_action args.now }
+{
+    args.add && is_for_filters(&args.pattern_type)
+        || is_given(&args.principals) && !args.list
+        || args.list && speaks_of_bindings(args)
+}
+
+fn is_bad_mix_of_convenience(args: &CliArgs) -> bool
+    ensures { result ≡ mixes.is_bad_mix_of_convenience args.now }
+{
+    has_convenience(args) && speaks_of_others(args)
+        || args.idempotent && !args.producer
+        || is_given(&args.groups) && args.producer && !args.consumer
+}
+
+fn is_for_filters(pattern_type: &Option<Text>) -> bool
+    ensures { result ≡ mixes.is_for_filters pattern_type.now }
+{
+    match pattern_type {
+        None => false,
+        Some(word) => {
+            let word = word.as_str();
+            word.eq_ignore_ascii_case("any") || word.eq_ignore_ascii_case("match")
+        }
+    }
+}
+
+fn speaks_of_bindings(args: &CliArgs) -> bool
+    ensures { result ≡ mixes.speaks_of_bindings args.now }
+{
+    has_holder(args)
+        || has_host(args)
+        || is_given(&args.operations)
+        || has_convenience(args)
+        || args.idempotent
+}
+
+fn has_host(args: &CliArgs) -> bool
+    ensures { result ≡ mixes.has_host args.now }
+{
+    is_given(&args.allow_hosts) || is_given(&args.deny_hosts)
+}
+
+fn speaks_of_others(args: &CliArgs) -> bool
+    ensures { result ≡ mixes.speaks_of_others args.now }
+{
+    is_given(&args.deny_principals)
+        || is_given(&args.deny_hosts)
+        || is_given(&args.operations)
+        || args.cluster
+        || is_given(&args.transactional_ids)
+}

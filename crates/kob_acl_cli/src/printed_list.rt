@@ -1,0 +1,38 @@
+//! How lists of bindings are printed.
+
+ghost use Rattle.std.specs.Prelude.{◌≡◌, ◌++◌, IfOk, OnOk, string_bytes};
+ghost use Rattle.std.specs.Str.{IsAscii};
+ghost use Rattle.kob_acl_cli.specs.PrintedList.{binding_line, list_text};
+
+use crate::printed_binding::print_binding;
+use kob_names::Binding;
+use std::alloc::{AllocError, Global};
+
+/// One line a binding, each with a line feed:
+/// `binding SERIAL PERMISSION PRINCIPAL HOST OPERATION RESOURCE PATTERN NAME`.
+/// Bytes of names outside 0x21 to 0x7e, and each `%` and `=`, are `%` and two lower-case hexadecimal digits. The error is
+/// want of memory.
+pub fn print_list(alloc: Global, bindings: &[(u64, Binding)]) -> Result<String, AllocError>
+    ensures { IfOk result (λ text. string_bytes text ≡ list_text bindings.now) }
+{
+    let mut out = Vec::new(alloc);
+    for (serial, binding) in bindings {
+        push_line(alloc, &mut out, *serial, binding)?;
+    }
+    Ok(String::from_utf8(out).unwrap())
+}
+
+#[tactic(auto, using(crate::proofs::Appending::appending))]
+fn push_line(
+    alloc: Global,
+    out: &mut Vec<u8>,
+    serial: u64,
+    binding: &Binding,
+) -> Result<(), AllocError>
+    ensures text { OnOk result (out.new.items ≡ out.old.items ++ binding_line (serial, binding.now)) }
+    ensures ascii { OnOk result (IsAscii (binding_line (serial, binding.now))) }
+{
+    print_binding(alloc, out, serial, binding)?;
+    out.push(b'\n')?;
+    Ok(())
+}

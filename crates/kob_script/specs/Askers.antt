@@ -1,0 +1,27 @@
+-- Who asks.
+use Rattle.std.specs.Prelude.{ℕ, List, Result, Ok}
+use Rattle.kob_rights.specs.declared.event.Event.{Event}
+use Rattle.kob_rights.specs.declared.request.Request.{Request}
+use Rattle.kob_script.specs.declared.asker.Asker.{Asker}
+use Rattle.kob_script.specs.declared.asker.AskerText.{AskerText}
+use Rattle.kob_script.specs.declared.fault.FaultKind.{FaultKind}
+use Rattle.kob_script.specs.Reading.{◌>>=◌}
+use Rattle.kob_script.specs.Texts.{text_of, principal_of, host_of}
+
+-- the texts of the first two words of a line
+unfoldable pub asker_text : List ℕ → List ℕ → Result AskerText FaultKind
+asker_text who from = do
+  principal ← text_of who
+  host ← text_of from
+  Ok (record { principal = principal; host = host })
+
+-- the principal and the host that the texts are
+unfoldable pub asker_of : AskerText → Result Asker FaultKind
+asker_of texts = do
+  principal ← principal_of texts.principal
+  host ← host_of texts.host
+  Ok (record { principal = principal; host = host })
+
+-- the event that a principal at a host asks for something
+abbrev pub asks : Asker → Request → Event
+asks asker request = record { principal = asker.principal; host = asker.host; request = request }

@@ -1,0 +1,19 @@
+-- Numbers.
+use Rattle.std.specs.Prelude.{◌^◌, ◌&&◌, ℕ, Bool, List, length, Result, Ok, Err, nat_lt, if◌then◌else◌}
+use Rattle.std.specs.Str.{all_ascii_digits}
+use Rattle.std.specs.Str.Parse.{digits_value}
+use Rattle.kob_script.specs.declared.fault.FaultKind.{FaultKind}
+use Rattle.kob_script.specs.declared.fault.FaultKind.TheVariants.{BadNumber}
+use Rattle.kob_script.specs.Escapes.{bytes_of}
+use Rattle.kob_script.specs.Reading.{◌>>=◌}
+
+-- one or more decimal digits that write a number of 64 bits
+abbrev pub is_number : List ℕ → Bool
+is_number digits = nat_lt 0 (length digits) && (all_ascii_digits digits && nat_lt (digits_value 10 digits) (2 ^ 64))
+
+abbrev pub number_in : List ℕ → Result ℕ FaultKind
+number_in digits = if is_number digits then Ok (digits_value 10 digits) else Err BadNumber
+
+-- the number that a word writes
+unfoldable pub number_of : List ℕ → Result ℕ FaultKind
+number_of word = bytes_of word >>= number_in

@@ -1,0 +1,60 @@
+-- Reading, up to the first fault.
+use Rattle.std.specs.Prelude.{◌≡◌, ℕ, List, [], ◌∷◌, ◌++◌, Option, Some, None, Result, Ok, Err, codes, if◌then◌else◌}
+use Rattle.std.specs.Str.{bytes_eq}
+use Rattle.kob_script.specs.declared.fault.FaultKind.{FaultKind}
+use Rattle.kob_script.specs.declared.fault.LineError.{LineError}
+use Rattle.kob_script.specs.declared.fault.LineError.TheVariants.{Memory, Fault}
+
+-- a step of reading, and those after it unless it failed
+infixl 10 ◌>>=◌
+abbrev pub ◌>>=◌ : {A B : Type 0} → Result A FaultKind → (A → Result B FaultKind) → Result B FaultKind
+(Ok x) >>= f = f x
+(Err kind) >>= f = Err kind
+
+-- A function failed with the fault of reading, or by want of memory.
+abbrev pub Fails : {A : Type 0} → LineError → Result A FaultKind → Type 0
+Fails Memory read = Unit {0}
+Fails (Fault kind) read = read ≡ Err kind
+
+-- What a function returned is what reading gives, unless memory ran out.
+abbrev pub Gives : {A : Type 0} → Result A LineError → Result A FaultKind → Type 0
+Gives (Ok x) read = read ≡ Ok x
+Gives (Err error) read = Fails error read
+
+-- the same of what is seen by a view
+abbrev pub GivesSeen : {A B : Type 0} → (A → B) → Result A LineError → Result B FaultKind → Type 0
+GivesSeen view (Ok x) read = read ≡ Ok (view x)
+GivesSeen view (Err error) read = Fails error read
+
+-- Reading gives something or the fault, unless memory ran out.
+abbrev pub GivesUnit : {A : Type 0} → Result (Unit {0}) LineError → Result A FaultKind → Type 0
+GivesUnit {A} (Ok done) read = (x : A) × (read ≡ Ok x)
+GivesUnit (Err error) read = Fails error read
+
+-- each in turn, up to the first fault
+unfoldable pub each : {A B : Type 0} → (A → Result B FaultKind) → List A → Result (List B) FaultKind
+each read [] = Ok []
+each read (x ∷ xs) = read x >>= λ first. each read xs >>= λ others. Ok (first ∷ others)
+
+-- values that stand before what is read
+abbrev pub with_front : {A : Type 0} → List A → Result (List A) FaultKind → Result (List A) FaultKind
+with_front front read = read >>= λ others. Ok (front ++ others)
+
+-- a value in which no fault was found
+abbrev pub unless_fault : {A E : Type 0} → Option E → FaultKind → A → Result A FaultKind
+unless_fault None kind x = Ok x
+unless_fault (Some fault) kind x = Err kind
+
+-- what was found
+abbrev pub found_or : {A : Type 0} → FaultKind → Option A → Result A FaultKind
+found_or kind None = Err kind
+found_or kind (Some x) = Ok x
+
+-- nothing where there is nothing
+abbrev pub optionally : {A B : Type 0} → (A → Result B FaultKind) → Option A → Result (Option B) FaultKind
+optionally read None = Ok None
+optionally read (Some x) = read x >>= λ y. Ok (Some y)
+
+-- nothing for the word `-`, which has to stand without escapes
+abbrev pub unless_dash : {A : Type 0} → (List ℕ → Result A FaultKind) → List ℕ → Result (Option A) FaultKind
+unless_dash read word = if bytes_eq word (codes "-") then Ok None else (read word >>= λ x. Ok (Some x))

@@ -1,0 +1,70 @@
+//! Who asks.
+
+ghost use Rattle.std.specs.Prelude.{◌≡◌};
+ghost use Rattle.kob_script.specs.Askers.{asker_text, asker_of, asks};
+ghost use Rattle.kob_script.specs.Reading.{Gives};
+
+use crate::fault::LineError;
+use crate::text::{host_of, principal_of, text_of};
+use kob_names::{Host, Principal, Text};
+use kob_rights::{Event, Request};
+use std::alloc::Global;
+
+/// Who asks and from where, as the words stand in a line.
+#[derive(Clone, Copy)]
+pub struct AskerWords<'a> {
+    pub principal: &'a [u8],
+    pub host: &'a [u8],
+}
+
+/// Who asks and from where, as texts.
+#[derive(Debug, Drop)]
+pub struct AskerText {
+    pub principal: Text,
+    pub host: Text,
+}
+
+/// Who asks and from where.
+#[derive(Debug, Drop)]
+pub struct Asker {
+    pub principal: Principal,
+    pub host: Host,
+}
+
+impl AskerWords<'_> {
+    /// The texts of the words.
+    #[tactic(auto, unfolding(crate::specs::Askers::asker_text))]
+    pub fn text(self, alloc: Global) -> Result<AskerText, LineError>
+        ensures { Gives result (asker_text self.entry.principal.now self.entry.host.now) }
+    {
+        let principal = text_of(alloc, self.principal)?;
+        let host = text_of(alloc, self.host)?;
+        Ok(AskerText { principal, host })
+    }
+}
+
+impl AskerText {
+    /// The principal and the host that the texts are.
+    #[tactic(auto, unfolding(crate::specs::Askers::asker_of))]
+    pub fn asker(&self, alloc: Global) -> Result<Asker, LineError>
+        ensures { Gives result (asker_of self.now) }
+    {
+        let principal = principal_of(alloc, &self.principal)?;
+        let host = host_of(alloc, &self.host)?;
+        Ok(Asker { principal, host })
+    }
+}
+
+impl Asker {
+    /// The event that it asks for something.
+    pub fn asks(self, request: Request) -> Event
+        ensures { result ≡ asks self request }
+    {
+        let Asker { principal, host } = self;
+        Event {
+            principal,
+            host,
+            request,
+        }
+    }
+}

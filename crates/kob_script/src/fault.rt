@@ -1,0 +1,73 @@
+//! Why a script is refused.
+
+use std::alloc::{AllocError, AllocFailed};
+use thiserror::Error;
+
+/// What is wrong with a line. The kinds stand in the order in which they are looked for over a whole line.
+#[derive(Clone, Copy, Debug, PartialEq, Eq, Error)]
+pub enum FaultKind {
+    #[error("a percent sign without two hexadecimal digits")]
+    BadEscape,
+    #[error("a setting after a request")]
+    LateSetting,
+    #[error("an unknown command, or words that do not fit it")]
+    BadLine,
+    #[error("a name, a principal or a host that is not UTF-8")]
+    BadText,
+    #[error("not a principal")]
+    BadPrincipal,
+    #[error("not a host")]
+    BadHost,
+    #[error("not a decimal number of 64 bits")]
+    BadNumber,
+    #[error("an unknown permission, operation, resource or pattern")]
+    BadWord,
+}
+
+/// The first line of a script with a fault, counted from 1, and the fault's kind.
+#[derive(Clone, Copy, Debug, PartialEq, Eq, Error)]
+#[error("line {line}: {kind}")]
+pub struct Fault {
+    pub line: u64,
+    pub kind: FaultKind,
+}
+
+/// Why a script was not read: its first fault, or want of memory.
+#[derive(Clone, Copy, Debug, PartialEq, Eq, Error)]
+pub enum ScriptError {
+    #[error("out of memory")]
+    Memory,
+    #[error("{0}")]
+    Fault(Fault),
+}
+
+/// Why a line, or a part of it, was not read.
+#[derive(Clone, Copy, Debug, PartialEq, Eq, Error)]
+pub enum LineError {
+    #[error("out of memory")]
+    Memory,
+    #[error("{0}")]
+    Fault(FaultKind),
+}
+
+impl From<AllocError> for LineError {
+    ghost use Rattle.std.specs.Prelude.{◌≡◌};
+    ghost use Rattle.kob_script.specs.declared.fault.LineError.TheVariants.{Memory};
+
+    ghost from_gives = { λ _ error. error ≡ Memory };
+
+    fn from(_error: AllocError) -> LineError {
+        LineError::Memory
+    }
+}
+
+impl<T: Drop> From<AllocFailed<T>> for LineError {
+    ghost use Rattle.std.specs.Prelude.{◌≡◌};
+    ghost use Rattle.kob_script.specs.declared.fault.LineError.TheVariants.{Memory};
+
+    ghost from_gives = { λ _ error. error ≡ Memory };
+
+    fn from(_error: AllocFailed<T>) -> LineError {
+        LineError::Memory
+    }
+}

@@ -1,0 +1,208 @@
+//! The words of the tables: permissions, operations, resources and patterns.
+
+ghost use Rattle.std.specs.Prelude.{◌≡◌};
+ghost use Rattle.kob_script.specs.Keywords.{permission_named, resource_named, pattern_named, filter_pattern_named, rare_operation_named, operation_named, permission_of, resource_of, pattern_of, operation_of, filter_pattern_of};
+ghost use Rattle.kob_script.specs.Reading.{Gives, found_or, unless_dash};
+ghost use Rattle.kob_script.specs.declared.fault.FaultKind.TheVariants.{BadWord};
+
+use crate::escape::bytes_of;
+use crate::fault::{FaultKind, LineError};
+use kob_names::{FilterPattern, Operation, PatternKind, Permission, ResourceKind};
+use std::alloc::Global;
+
+/// The permission of that name, in any ASCII case.
+pub fn permission_named(name: &[u8]) -> Option<Permission>
+    ensures { result ≡ permission_named name.now }
+{
+    if name.eq_ignore_ascii_case(b"Allow") {
+        return Some(Permission::Allow);
+    }
+    if name.eq_ignore_ascii_case(b"Deny") {
+        return Some(Permission::Deny);
+    }
+    None
+}
+
+/// The kind of resource of that name, in any ASCII case.
+pub fn resource_named(name: &[u8]) -> Option<ResourceKind>
+    ensures { result ≡ resource_named name.now }
+{
+    if name.eq_ignore_ascii_case(b"Topic") {
+        return Some(ResourceKind::Topic);
+    }
+    if name.eq_ignore_ascii_case(b"Group") {
+        return Some(ResourceKind::Group);
+    }
+    if name.eq_ignore_ascii_case(b"Cluster") {
+        return Some(ResourceKind::Cluster);
+    }
+    if name.eq_ignore_ascii_case(b"TransactionalId") {
+        return Some(ResourceKind::TransactionalId);
+    }
+    None
+}
+
+/// The kind of pattern of that name, in any ASCII case.
+pub fn pattern_named(name: &[u8]) -> Option<PatternKind>
+    ensures { result ≡ pattern_named name.now }
+{
+    if name.eq_ignore_ascii_case(b"Literal") {
+        return Some(PatternKind::Literal);
+    }
+    if name.eq_ignore_ascii_case(b"Prefixed") {
+        return Some(PatternKind::Prefixed);
+    }
+    None
+}
+
+/// What a filter's pattern of that name takes, in any ASCII case: `literal`, `prefixed`, `any` or `match`.
+pub fn filter_pattern_named(name: &[u8]) -> Option<FilterPattern>
+    ensures { result ≡ filter_pattern_named name.now }
+{
+    if name.eq_ignore_ascii_case(b"Literal") {
+        return Some(FilterPattern::Literal);
+    }
+    if name.eq_ignore_ascii_case(b"Prefixed") {
+        return Some(FilterPattern::Prefixed);
+    }
+    if name.eq_ignore_ascii_case(b"Any") {
+        return Some(FilterPattern::Any);
+    }
+    if name.eq_ignore_ascii_case(b"Match") {
+        return Some(FilterPattern::Matching);
+    }
+    None
+}
+
+/// The operation of that name, in any ASCII case.
+pub fn operation_named(name: &[u8]) -> Option<Operation>
+    ensures { result ≡ operation_named name.now }
+{
+    if name.eq_ignore_ascii_case(b"All") {
+        return Some(Operation::All);
+    }
+    if name.eq_ignore_ascii_case(b"Read") {
+        return Some(Operation::Read);
+    }
+    if name.eq_ignore_ascii_case(b"Write") {
+        return Some(Operation::Write);
+    }
+    if name.eq_ignore_ascii_case(b"Create") {
+        return Some(Operation::Create);
+    }
+    if name.eq_ignore_ascii_case(b"Delete") {
+        return Some(Operation::Delete);
+    }
+    if name.eq_ignore_ascii_case(b"Alter") {
+        return Some(Operation::Alter);
+    }
+    if name.eq_ignore_ascii_case(b"Describe") {
+        return Some(Operation::Describe);
+    }
+    rare_operation_named(name)
+}
+
+fn rare_operation_named(name: &[u8]) -> Option<Operation>
+    ensures { result ≡ rare_operation_named name.now }
+{
+    if name.eq_ignore_ascii_case(b"ClusterAction") {
+        return Some(Operation::ClusterAction);
+    }
+    if name.eq_ignore_ascii_case(b"DescribeConfigs") {
+        return Some(Operation::DescribeConfigs);
+    }
+    if name.eq_ignore_ascii_case(b"AlterConfigs") {
+        return Some(Operation::AlterConfigs);
+    }
+    if name.eq_ignore_ascii_case(b"IdempotentWrite") {
+        return Some(Operation::IdempotentWrite);
+    }
+    None
+}
+
+fn known<T: Copy>(found: Option<T>) -> Result<T, LineError>
+    ensures { Gives result (found_or BadWord found) }
+{
+    match found {
+        Some(value) => Ok(value),
+        None => Err(LineError::Fault(FaultKind::BadWord)),
+    }
+}
+
+/// The permission that a word names.
+#[tactic(auto, unfolding(crate::specs::Keywords::permission_of))]
+pub fn permission_of(alloc: Global, word: &[u8]) -> Result<Permission, LineError>
+    ensures { Gives result (permission_of word.now) }
+{
+    let name = bytes_of(alloc, word)?;
+    known(permission_named(name.as_slice()))
+}
+
+/// The kind of resource that a word names.
+#[tactic(auto, unfolding(crate::specs::Keywords::resource_of))]
+pub fn resource_of(alloc: Global, word: &[u8]) -> Result<ResourceKind, LineError>
+    ensures { Gives result (resource_of word.now) }
+{
+    let name = bytes_of(alloc, word)?;
+    known(resource_named(name.as_slice()))
+}
+
+/// The kind of pattern that a word names.
+#[tactic(auto, unfolding(crate::specs::Keywords::pattern_of))]
+pub fn pattern_of(alloc: Global, word: &[u8]) -> Result<PatternKind, LineError>
+    ensures { Gives result (pattern_of word.now) }
+{
+    let name = bytes_of(alloc, word)?;
+    known(pattern_named(name.as_slice()))
+}
+
+/// The operation that a word names.
+#[tactic(auto, unfolding(crate::specs::Keywords::operation_of))]
+pub fn operation_of(alloc: Global, word: &[u8]) -> Result<Operation, LineError>
+    ensures { Gives result (operation_of word.now) }
+{
+    let name = bytes_of(alloc, word)?;
+    known(operation_named(name.as_slice()))
+}
+
+/// What a filter's pattern takes; `-` is as `any`.
+#[tactic(auto, unfolding(crate::specs::Keywords::filter_pattern_of))]
+pub fn filter_pattern_of(alloc: Global, word: &[u8]) -> Result<FilterPattern, LineError>
+    ensures { Gives result (filter_pattern_of word.now) }
+{
+    if word == b"-".as_slice() {
+        return Ok(FilterPattern::Any);
+    }
+    let name = bytes_of(alloc, word)?;
+    known(filter_pattern_named(name.as_slice()))
+}
+
+/// The permission that a word other than `-` names.
+pub fn permission_unless_dash(alloc: Global, word: &[u8]) -> Result<Option<Permission>, LineError>
+    ensures { Gives result (unless_dash permission_of word.now) }
+{
+    if word == b"-".as_slice() {
+        return Ok(None);
+    }
+    Ok(Some(permission_of(alloc, word)?))
+}
+
+/// The kind of resource that a word other than `-` names.
+pub fn resource_unless_dash(alloc: Global, word: &[u8]) -> Result<Option<ResourceKind>, LineError>
+    ensures { Gives result (unless_dash resource_of word.now) }
+{
+    if word == b"-".as_slice() {
+        return Ok(None);
+    }
+    Ok(Some(resource_of(alloc, word)?))
+}
+
+/// The operation that a word other than `-` names.
+pub fn operation_unless_dash(alloc: Global, word: &[u8]) -> Result<Option<Operation>, LineError>
+    ensures { Gives result (unless_dash operation_of word.now) }
+{
+    if word == b"-".as_slice() {
+        return Ok(None);
+    }
+    Ok(Some(operation_of(alloc, word)?))
+}

@@ -1,0 +1,28 @@
+//! The reader of scripts and the printer of replies.
+#![tactic(auto)]
+
+mod acl_lines;
+mod asker;
+mod batch;
+mod command;
+mod escape;
+mod fault;
+mod group_lines;
+mod keyword;
+mod number;
+mod partition_lines;
+mod printed_binding;
+mod printed_body;
+mod printed_fault;
+mod printed_reply;
+mod printed_text;
+mod script;
+mod text;
+mod topic_lines;
+mod word;
+
+pub use fault::{Fault, FaultKind, ScriptError};
+pub use printed_binding::print_binding;
+pub use printed_fault::print_fault;
+pub use printed_reply::{print_replies, print_stopped};
+pub use script::{Script, read_script};

@@ -1,0 +1,171 @@
+//! Lines that ask for something of partitions and their producers.
+
+ghost use Rattle.std.specs.Prelude.{map};
+ghost use Rattle.kob_script.specs.PartitionLines.{produce, fetch, which_in, which_of, list_offsets, init_producer, produce_line, fetch_line, list_offsets_line, init_producer_line};
+ghost use Rattle.kob_script.specs.Reading.{Gives};
+
+use crate::asker::AskerWords;
+use crate::batch::{idem_of, idem_parts, records_of};
+use crate::escape::bytes_of;
+use crate::fault::{FaultKind, LineError};
+use crate::number::number_of;
+use crate::text::text_of;
+use kob_names::Batch;
+use kob_rights::{Event, Fetch, ListOffsets, Produce, Request, Which};
+use std::alloc::Global;
+
+#[tactic(auto, unfolding(crate::specs::PartitionLines::produce))]
+fn produce(
+    alloc: Global,
+    asker: AskerWords<'_>,
+    topic: &[u8],
+    partition: &[u8],
+    idem: &[u8],
+    records: &[&[u8]],
+) -> Result<Event, LineError>
+    ensures { Gives result (produce asker.entry.principal.now asker.entry.host.now topic.now partition.now idem.now (map (λ word. word.now) records.now)) }
+{
+    let parts = idem_parts(alloc, idem)?;
+    let texts = asker.text(alloc)?;
+    let topic = text_of(alloc, topic)?;
+    let asker = texts.asker(alloc)?;
+    let partition = number_of(alloc, partition)?;
+    let idem = idem_of(alloc, parts)?;
+    let records = records_of(alloc, records)?;
+    let batch = Batch { idem, records };
+    Ok(asker.asks(Request::Produce(Produce {
+        topic,
+        partition,
+        batch,
+    })))
+}
+
+#[tactic(auto, unfolding(crate::specs::PartitionLines::fetch))]
+fn fetch(
+    alloc: Global,
+    asker: AskerWords<'_>,
+    topic: &[u8],
+    partition: &[u8],
+    offset: &[u8],
+    max: &[u8],
+) -> Result<Event, LineError>
+    ensures { Gives result (fetch asker.entry.principal.now asker.entry.host.now topic.now partition.now offset.now max.now) }
+{
+    let texts = asker.text(alloc)?;
+    let topic = text_of(alloc, topic)?;
+    let asker = texts.asker(alloc)?;
+    let partition = number_of(alloc, partition)?;
+    let offset = number_of(alloc, offset)?;
+    let max = number_of(alloc, max)?;
+    Ok(asker.asks(Request::Fetch(Fetch {
+        topic,
+        partition,
+        offset,
+        max,
+    })))
+}
+
+#[tactic(auto, unfolding(crate::specs::PartitionLines::which_of))]
+fn which_of(alloc: Global, word: &[u8]) -> Result<Which, LineError>
+    ensures { Gives result (which_of word.now) }
+{
+    let name = bytes_of(alloc, word)?;
+    which_in(name.as_slice())
+}
+
+fn which_in(name: &[u8]) -> Result<Which, LineError>
+    ensures { Gives result (which_in name.now) }
+{
+    if name == b"-2".as_slice() {
+        return Ok(Which::Start);
+    }
+    if name == b"-1".as_slice() {
+        return Ok(Which::End);
+    }
+    Err(LineError::Fault(FaultKind::BadLine))
+}
+
+#[tactic(auto, unfolding(crate::specs::PartitionLines::list_offsets))]
+fn list_offsets(
+    alloc: Global,
+    asker: AskerWords<'_>,
+    topic: &[u8],
+    partition: &[u8],
+    which: &[u8],
+) -> Result<Event, LineError>
+    ensures { Gives result (list_offsets asker.entry.principal.now asker.entry.host.now topic.now partition.now which.now) }
+{
+    let which = which_of(alloc, which)?;
+    let texts = asker.text(alloc)?;
+    let topic = text_of(alloc, topic)?;
+    let asker = texts.asker(alloc)?;
+    let partition = number_of(alloc, partition)?;
+    Ok(asker.asks(Request::ListOffsets(ListOffsets {
+        topic,
+        partition,
+        which,
+    })))
+}
+
+#[tactic(auto, unfolding(crate::specs::PartitionLines::init_producer))]
+fn init_producer(alloc: Global, asker: AskerWords<'_>) -> Result<Event, LineError>
+    ensures { Gives result (init_producer asker.entry.principal.now asker.entry.host.now) }
+{
+    let texts = asker.text(alloc)?;
+    let asker = texts.asker(alloc)?;
+    Ok(asker.asks(Request::InitProducerId))
+}
+
+/// `produce TOPIC PARTITION`, then `-` or `ID:EPOCH:BASE`, then records
+pub fn produce_line(
+    alloc: Global,
+    asker: AskerWords<'_>,
+    words: &[&[u8]],
+) -> Result<Event, LineError>
+    ensures { Gives result (produce_line asker.entry.principal.now asker.entry.host.now (map (λ word. word.now) words.now)) }
+{
+    match words {
+        [topic, partition, idem, records @ ..] => produce(
+            alloc, asker, topic, partition, idem, records,
+        ),
+        _ => Err(LineError::Fault(FaultKind::BadLine)),
+    }
+}
+
+/// `fetch TOPIC PARTITION OFFSET MAX`
+pub fn fetch_line(alloc: Global, asker: AskerWords<'_>, words: &[&[u8]]) -> Result<Event, LineError>
+    ensures { Gives result (fetch_line asker.entry.principal.now asker.entry.host.now (map (λ word. word.now) words.now)) }
+{
+    match words {
+        [topic, partition, offset, max] => fetch(alloc, asker, topic, partition, offset, max),
+        _ => Err(LineError::Fault(FaultKind::BadLine)),
+    }
+}
+
+/// `list-offsets TOPIC PARTITION`, then `-2` for the start or `-1` for the end
+pub fn list_offsets_line(
+    alloc: Global,
+    asker: AskerWords<'_>,
+    words: &[&[u8]],
+) -> Result<Event, LineError>
+    ensures { Gives result (list_offsets_line asker.entry.principal.now asker.entry.host.now (map (λ word. word.now) words.now)) }
+{
+    match words {
+        [topic, partition, which] => list_offsets(alloc, asker, topic, partition, which),
+        _ => Err(LineError::Fault(FaultKind::BadLine)),
+    }
+}
+
+/// `init-producer`
+pub fn init_producer_line(
+    alloc: Global,
+    asker: AskerWords<'_>,
+    words: &[&[u8]],
+) -> Result<Event, LineError>
+    ensures { Gives result (init_producer_line asker.entry.principal.now asker.entry.host.now (map (λ word. word.now) words.now)) }
+{
+    match words {
+        [] => init_producer(alloc, asker),
+        _ => Err(LineError::Fault(FaultKind::BadLine)),
+    }
+}

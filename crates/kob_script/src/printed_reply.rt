@@ -1,0 +1,112 @@
+//! How replies are printed.
+
+ghost use Rattle.std.specs.Prelude.{◌≡◌, ◌++◌, OnOk};
+ghost use Rattle.kob_script.specs.PrintedReply.{verdict_text, verdicts_text, code_text, outcome_text, reply_text, text_of_replies, stopped_text};
+
+use crate::printed_body::push_body;
+use crate::printed_text::push_number;
+use kob_names::Verdict;
+use kob_rights::{Code, Reply};
+use std::alloc::{AllocError, Global};
+
+/// Prints replies, numbered from 1, each with a line feed after it. The error is want of memory; `out` has then grown
+/// by a part of them.
+pub fn print_replies(alloc: Global, out: &mut Vec<u8>, replies: &[Reply]) -> Result<(), AllocError>
+    ensures { OnOk result (out.new.items ≡ out.old.items ++ text_of_replies replies.now) }
+{
+    for (place, reply) in replies.iter().enumerate() {
+        push_reply(alloc, out, place as u64 + 1, reply)?;
+    }
+    Ok(())
+}
+
+#[tactic(auto, using(crate::proofs::Appending::appending))]
+fn push_reply(
+    alloc: Global,
+    out: &mut Vec<u8>,
+    number: u64,
+    reply: &Reply,
+) -> Result<(), AllocError>
+    ensures { OnOk result (out.new.items ≡ out.old.items ++ reply_text number reply.now) }
+{
+    push_number(alloc, out, number)?;
+    push_outcome(alloc, out, reply)?;
+    out.extend_from_slice(b"\n")
+}
+
+#[tactic(auto, using(crate::proofs::Appending::appending))]
+fn push_outcome(alloc: Global, out: &mut Vec<u8>, reply: &Reply) -> Result<(), AllocError>
+    ensures { OnOk result (out.new.items ≡ out.old.items ++ outcome_text reply.now) }
+{
+    match reply {
+        Reply::Done(body) => {
+            out.extend_from_slice(b" ok ")?;
+            push_body(alloc, out, body)
+        }
+        Reply::Denied { code, verdicts } => {
+            out.extend_from_slice(b" denied ")?;
+            push_code(alloc, out, *code)?;
+            out.extend_from_slice(b" ")?;
+            push_verdicts(alloc, out, verdicts.as_slice())
+        }
+        Reply::Refused { code, reason } => {
+            out.extend_from_slice(b" refused ")?;
+            push_code(alloc, out, *code)?;
+            out.extend_from_slice(b" ")?;
+            out.extend_from_slice(reason.name().as_bytes())
+        }
+    }
+}
+
+#[tactic(auto, using(crate::proofs::Appending::appending))]
+fn push_code(alloc: Global, out: &mut Vec<u8>, code: Code) -> Result<(), AllocError>
+    ensures { OnOk result (out.new.items ≡ out.old.items ++ code_text code) }
+{
+    push_number(alloc, out, code.number())?;
+    out.extend_from_slice(b" ")?;
+    out.extend_from_slice(code.name().as_bytes())
+}
+
+#[tactic(auto, using(crate::proofs::Appending::appending))]
+fn push_verdicts(alloc: Global, out: &mut Vec<u8>, verdicts: &[Verdict]) -> Result<(), AllocError>
+    ensures { OnOk result (out.new.items ≡ out.old.items ++ verdicts_text verdicts.now) }
+{
+    let mut rest = verdicts;
+    while let Some((verdict, others)) = rest.split_first() {
+        push_verdict(alloc, out, *verdict)?;
+        if !others.is_empty() {
+            out.extend_from_slice(b",")?;
+        }
+        rest = others;
+    }
+    Ok(())
+}
+
+#[tactic(auto, using(crate::proofs::Appending::appending))]
+fn push_verdict(alloc: Global, out: &mut Vec<u8>, verdict: Verdict) -> Result<(), AllocError>
+    ensures { OnOk result (out.new.items ≡ out.old.items ++ verdict_text verdict) }
+{
+    match verdict {
+        Verdict::DeniedBy(serial) => {
+            out.extend_from_slice(b"deny:")?;
+            push_number(alloc, out, serial)
+        }
+        Verdict::NoAllow => out.extend_from_slice(b"no-allow"),
+        Verdict::AllowedBy(serial) => {
+            out.extend_from_slice(b"allow:")?;
+            push_number(alloc, out, serial)
+        }
+        Verdict::Super => out.extend_from_slice(b"super"),
+    }
+}
+
+/// Prints the line `stopped after DONE` with its line feed, for a run that memory stopped after so many requests. The
+/// error is want of memory; `out` has then grown by a part of it.
+#[tactic(auto, using(crate::proofs::Appending::appending))]
+pub fn print_stopped(alloc: Global, out: &mut Vec<u8>, done: u64) -> Result<(), AllocError>
+    ensures { OnOk result (out.new.items ≡ out.old.items ++ stopped_text done) }
+{
+    out.extend_from_slice(b"stopped after ")?;
+    push_number(alloc, out, done)?;
+    out.extend_from_slice(b"\n")
+}

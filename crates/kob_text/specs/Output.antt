@@ -1,0 +1,32 @@
+-- What a run writes for a script.
+use Rattle.std.specs.Prelude.{◌≡◌, ◌<◌, ◌++◌, ℕ, List, [], length, take, Result, Ok, Err}
+use Rattle.kob_broker.specs.State.{open_state}
+use Rattle.kob_broker.specs.Step.{replies_of}
+use Rattle.kob_partition.specs.Retained.{plain_meaning}
+use Rattle.kob_rights.specs.declared.event.Event.{Event}
+use Rattle.kob_rights.specs.declared.reply.Reply.{Reply}
+use Rattle.kob_text.specs.declared.output.Ended.{Ended}
+use Rattle.kob_text.specs.declared.output.Ended.TheVariants.{Clean, Fault, Stopped}
+use Rattle.kob_script.specs.declared.fault.Fault as fault
+use Rattle.kob_script.specs.declared.script.Script.{Script}
+use Rattle.kob_script.specs.PrintedFault.{fault_text}
+use Rattle.kob_script.specs.PrintedReply.{text_of_replies, stopped_text}
+
+-- the replies of a broker that was opened with super users and with no bindings, which keeps all accepted batches
+abbrev pub replies_to : List (List ℕ) → List Event → List Reply
+replies_to supers events = replies_of plain_meaning events (open_state supers [])
+
+-- The text is the output for what was read, by how the run ended: all replies, or those to the first requests where
+-- memory stopped it, or the fault of the script.
+abbrev pub IsOutput : Result Script fault.Fault → Ended → List ℕ → Type 0
+IsOutput (Ok s) Clean text = text ≡ text_of_replies (replies_to s.supers s.events)
+IsOutput (Ok s) Stopped text =
+    (done : ℕ) × (done < length s.events) × (text ≡ text_of_replies (replies_to s.supers (take done s.events)) ++ stopped_text done)
+IsOutput (Ok s) Fault text = ⊥
+IsOutput (Err fault) Fault text = text ≡ fault_text fault
+IsOutput (Err fault) Clean text = ⊥
+IsOutput (Err fault) Stopped text = ⊥
+
+-- Some output for what was read has the property.
+abbrev pub HasOutput : Result Script fault.Fault → (List ℕ → Type 0) → Type 0
+HasOutput read P = (ended : Ended) × (text : List ℕ) × IsOutput read ended text × P text

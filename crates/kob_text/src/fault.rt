@@ -1,0 +1,39 @@
+//! Why a run gave no whole output.
+
+use std::alloc::{AllocError, AllocFailed};
+use thiserror::Error;
+
+/// What kept a run from its output.
+#[derive(Clone, Copy, Debug, PartialEq, Eq, Error)]
+pub enum RunFault {
+    #[error("the script could not be read")]
+    ReadFailed,
+    #[error("the output could not be written")]
+    WriteFailed,
+    #[error("the script is too long")]
+    TooLong,
+    #[error("out of memory")]
+    Memory,
+}
+
+impl From<AllocError> for RunFault {
+    ghost use Rattle.std.specs.Prelude.{◌≡◌};
+    ghost use Rattle.kob_text.specs.declared.fault.RunFault.TheVariants.{Memory};
+
+    ghost from_gives = { λ _ fault. fault ≡ Memory };
+
+    fn from(_error: AllocError) -> RunFault {
+        RunFault::Memory
+    }
+}
+
+impl<T: Drop> From<AllocFailed<T>> for RunFault {
+    ghost use Rattle.std.specs.Prelude.{◌≡◌};
+    ghost use Rattle.kob_text.specs.declared.fault.RunFault.TheVariants.{Memory};
+
+    ghost from_gives = { λ _ fault. fault ≡ Memory };
+
+    fn from(_error: AllocFailed<T>) -> RunFault {
+        RunFault::Memory
+    }
+}

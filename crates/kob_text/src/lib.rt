@@ -1,0 +1,12 @@
+//! Scripts run over text: bytes of any reader in, the output into any writer.
+#![tactic(auto)]
+
+mod fault;
+mod output;
+mod run;
+mod transfer;
+
+pub use fault::RunFault;
+pub use output::Ended;
+pub use run::run_text;
+pub use transfer::{READ_CALLS, SCRIPT_LIMIT};

@@ -1,0 +1,41 @@
+//! A run of a script, from its bytes to its output.
+
+ghost use Rattle.std.specs.Prelude.{◌≤◌, ◌<◌, List, ℕ, length, IfOk, IfErr, OnOk, IfSome, IsErrOf};
+ghost use Rattle.std.specs.Io.KnownBytes.{Appends, Keeps};
+ghost use Rattle.kob_text.specs.Output.{IsOutput, HasOutput};
+ghost use Rattle.kob_text.specs.Transfer.{AppendsFront};
+ghost use Rattle.kob_text.specs.declared.transfer.TheConstants.{SCRIPT_LIMIT};
+ghost use Rattle.kob_script.specs.Script.{script_of};
+
+use crate::fault::RunFault;
+use crate::output::{Ended, output_of};
+use crate::transfer::{read_all, write_all};
+use std::alloc::Global;
+use std::io::{Read, Write};
+
+/// Reads a script to its end, runs it, and writes its output and nothing else. A script has at most 16,777,216 bytes
+/// (`TooLong` else), and a reader that has not come to its end after 20,000,000 calls is `ReadFailed`.
+pub fn run_text<R: Read, W: Write>(
+    alloc: Global,
+    reader: &mut R,
+    writer: &mut W,
+) -> Result<Ended, RunFault>
+    // What was written is the output for the bytes that were read.
+    ensures ok { IfOk result (λ ended. IfSome (R.remaining reader.old) (λ input. (text : List ℕ)
+        × IsOutput (script_of input) ended text × Appends (W.contents writer.old) (W.contents writer.new) text)) }
+    ensures limited { OnOk result (IfSome (R.remaining reader.old) (λ input. length input ≤ SCRIPT_LIMIT)) }
+    // After a fault, a front of an output was written.
+    ensures front { IfErr result (λ fault. IfSome (R.remaining reader.old) (λ input.
+        HasOutput (script_of input) (AppendsFront (W.contents writer.old) (W.contents writer.new)))) }
+    // Only a failed write leaves a part.
+    ensures unread { IsErrOf result RunFault.ReadFailed → Keeps (W.contents writer.old) (W.contents writer.new) }
+    ensures too_long { IsErrOf result RunFault.TooLong → Keeps (W.contents writer.old) (W.contents writer.new) }
+    ensures memory { IsErrOf result RunFault.Memory → Keeps (W.contents writer.old) (W.contents writer.new) }
+    ensures too_long_only_past_limit { IsErrOf result RunFault.TooLong
+        → IfSome (R.remaining reader.old) (λ input. SCRIPT_LIMIT < length input) }
+{
+    let text = read_all(alloc, reader)?;
+    let output = output_of(alloc, &text)?;
+    write_all(writer, &output.text)?;
+    Ok(output.ended)
+}
