@@ -1,7 +1,13 @@
 pub mod Distinct
 pub mod FirstHit
+pub mod FreshSteps
+pub mod Halving
 pub mod InForce
+pub mod IndexSteps
 pub mod InTurn
+pub mod LeastPassing
+pub mod Matching
 pub mod Rising
 pub mod Serials
+pub mod TreeSteps
 pub mod Verdicts

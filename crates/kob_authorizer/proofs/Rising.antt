@@ -3,6 +3,7 @@ use Rattle.std.proofs.Common.{length-append, ◌≡◌, refl, arith, Bool, true,
 use Rattle.std.specs.List.{enumerate_from, filter}
 use Rattle.kob_authorizer.specs.Contents.{IsRising}
 use Rattle.kob_authorizer.specs.Deletion.{removed}
+use Rattle.kob_authorizer.specs.LookUp.{AreRising}
 use Rattle.kob_names.specs.Filter.{takes}
 use Rattle.kob_names.specs.declared.binding.Binding.{Binding}
 use Rattle.kob_names.specs.declared.filter.BindingFilter.{BindingFilter}
@@ -21,6 +22,10 @@ rising_enumerate_from n (x ∷ xs) = (
 pub rising_below : (low middle high : ℕ) (ys : List (ℕ × Binding)) → low ≤ middle → IsRising middle ys high → IsRising low ys high
 rising_below low middle high [] le rising = omega arith
 rising_below low middle high (y ∷ ys) le rising = (omega (arith, rising.0), rising.1)
+
+-- serials that rise from somewhere on rise
+pub are_rising : (low high : ℕ) (entries : List (ℕ × Binding)) → IsRising low entries high → AreRising entries
+are_rising low high entries rising = (high, rising_below 0 low high entries (omega arith) rising)
 
 -- serials that go on where others end rise with them
 pub rising_append : (low middle high : ℕ) (xs ys : List (ℕ × Binding)) → IsRising low xs middle → IsRising middle ys high → IsRising low (xs ++ ys) high

@@ -22,7 +22,7 @@ itself-Decides : (b : Bool) → Decides b (IsTrue b)
 itself-Decides b = ((λ h. h), (λ h. h))
 
 -- the test of a hit says whether the binding hits
-is_hit-Decides : (wanted : Permission) (question : Question) (entry : ℕ × Binding) → Decides (is_hit wanted question entry) (Hits wanted question entry)
+pub is_hit-Decides : (wanted : Permission) (question : Question) (entry : ℕ × Binding) → Decides (is_hit wanted question entry) (Hits wanted question entry)
 is_hit-Decides wanted question entry =
     Decides-like (is_hit wanted question entry)
     (λ parts. record {

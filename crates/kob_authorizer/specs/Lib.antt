@@ -4,6 +4,11 @@ pub mod Contents
 pub mod Creation
 pub mod Decide
 pub mod Deletion
+pub mod Digest
+pub mod Fresh
+pub mod Index
 pub mod Limits
+pub mod LookUp
 pub mod Meaning
+pub mod Places
 pub mod Question

@@ -1,12 +1,17 @@
 //! The steps of a creation: the new bindings are found, counted, numbered and then looked up.
 
-ghost use Rattle.std.specs.Prelude.{◌≡◌, ◌+◌, ◌≤◌, ◌++◌, ◌||◌, IfOk, vec_len};
+ghost use Rattle.std.specs.Prelude.{◌≡◌, ◌+◌, ◌≤◌, ◌++◌, ◌||◌, IfOk, length};
 ghost use Rattle.std.specs.List.{enumerate_from};
 ghost use Rattle.kob_authorizer.specs.AtOnce.{is_among, is_in_force, is_known, new_bindings, serials_in};
 ghost use Rattle.kob_authorizer.specs.Creation.{serial_of};
+ghost use Rattle.kob_authorizer.specs.LookUp.{AreRising};
+ghost use Rattle.kob_authorizer.specs.Places.{IsIndex, digest_place};
 
+use crate::equals::serial_of;
+use crate::fresh::Fresh;
 use crate::limits::SERIAL_LIMIT;
-use kob_names::{Binding, PlainValue};
+use kob_names::Binding;
+use kob_prefix_tree::PrefixTree;
 use std::alloc::{AllocError, Global};
 
 /// Copies of the bindings to which none in force is equal, each once.
@@ -14,90 +19,101 @@ use std::alloc::{AllocError, Global};
 pub fn new_bindings(
     alloc: Global,
     entries: &[(u64, Binding)],
+    digests: &PrefixTree,
     bindings: &[Binding],
-) -> Result<Vec<Binding>, AllocError>
-    ensures { IfOk result (λ made. made.items ≡ new_bindings entries.now bindings.now) }
+) -> Result<Fresh, AllocError>
+    requires rising { AreRising entries.now }
+    requires indexed { IsIndex digest_place digests.now entries.now }
+    ensures { IfOk result (λ made. made ≡ new_bindings entries.now bindings.now) }
 {
-    let mut fresh = Vec::new(alloc);
+    let mut fresh = Fresh::new(alloc);
     for binding in bindings {
-        if !is_known(entries, fresh.as_slice(), binding) {
-            fresh.push(binding.copy(alloc)?)?;
+        if !is_known(entries, digests, &fresh, binding) {
+            fresh.push(alloc, binding)?;
         }
     }
     Ok(fresh)
 }
 
 /// Whether an equal binding is in force or among the new ones.
-fn is_known(entries: &[(u64, Binding)], fresh: &[Binding], binding: &Binding) -> bool
+fn is_known(
+    entries: &[(u64, Binding)],
+    digests: &PrefixTree,
+    fresh: &Fresh,
+    binding: &Binding,
+) -> bool
+    requires rising { AreRising entries.now }
+    requires indexed { IsIndex digest_place digests.now entries.now }
     ensures { result ≡ is_known entries.now fresh.now binding.now }
 {
-    is_in_force(entries, binding) || is_among(fresh, binding)
+    is_in_force(entries, digests, binding) || is_among(fresh, binding)
 }
 
-fn is_in_force(entries: &[(u64, Binding)], binding: &Binding) -> bool
+#[tactic(auto, using(crate::proofs::Serials::serial_in_force))]
+fn is_in_force(entries: &[(u64, Binding)], digests: &PrefixTree, binding: &Binding) -> bool
+    requires rising { AreRising entries.now }
+    requires indexed { IsIndex digest_place digests.now entries.now }
     ensures { result ≡ is_in_force entries.now binding.now }
 {
-    entries.iter().any(|entry| entry.1.equals(binding))
+    serial_of(entries, digests, binding).is_some()
 }
 
-fn is_among(bindings: &[Binding], binding: &Binding) -> bool
-    ensures { result ≡ is_among bindings.now binding.now }
+#[tactic(auto, using(crate::proofs::Serials::place_among))]
+fn is_among(fresh: &Fresh, binding: &Binding) -> bool
+    ensures { result ≡ is_among fresh.now binding.now }
 {
-    bindings.iter().any(|other| other.equals(binding))
-}
-
-/// The bindings under serials from `next` on.
-#[tactic(auto, using(crate::proofs::Serials::enumerate_from_push))]
-pub fn numbered(
-    alloc: Global,
-    next: u64,
-    bindings: Vec<Binding>,
-) -> Result<Vec<(u64, Binding)>, AllocError>
-    requires { next + vec_len bindings ≤ SERIAL_LIMIT }
-    ensures { IfOk result (λ made. made.items ≡ enumerate_from next bindings.items) }
-{
-    let mut entries = Vec::with_capacity(alloc, bindings.len())?;
-    let mut serial = next;
-    for binding in bindings {
-        entries.push((serial, binding))?;
-        serial += 1;
-    }
-    Ok(entries)
+    fresh.place_of(binding).is_some()
 }
 
 /// The serials of the entries that are equal to the bindings, in the order of the bindings.
 pub fn serials_in(
     alloc: Global,
     entries: &[(u64, Binding)],
-    fresh: &[(u64, Binding)],
+    digests: &PrefixTree,
+    next: u64,
+    fresh: &Fresh,
     bindings: &[Binding],
 ) -> Result<Vec<u64>, AllocError>
-    ensures { IfOk result (λ made. made.items ≡ serials_in (entries.now ++ fresh.now) bindings.now) }
+    requires rising { AreRising entries.now }
+    requires indexed { IsIndex digest_place digests.now entries.now }
+    requires serials { next + length fresh.now ≤ SERIAL_LIMIT }
+    ensures { IfOk result (λ made.
+        made.items ≡ serials_in (entries.now ++ enumerate_from next fresh.now) bindings.now) }
 {
     bindings
         .iter()
-        .filter_map(|binding| serial_in_either(entries, fresh, binding))
+        .filter_map(|binding| serial_in_either(entries, digests, next, fresh, binding))
         .collect(alloc)
 }
 
-/// The serial of the first entry with an equal binding, in the one list and then in the other.
+/// The serial of the first entry with an equal binding: of one in force, or else of a new one, which
+/// get the serials from `next` on.
 fn serial_in_either(
     entries: &[(u64, Binding)],
-    fresh: &[(u64, Binding)],
+    digests: &PrefixTree,
+    next: u64,
+    fresh: &Fresh,
     binding: &Binding,
 ) -> Option<u64>
-    ensures { result ≡ serial_of (entries.now ++ fresh.now) binding.now }
+    requires rising { AreRising entries.now }
+    requires indexed { IsIndex digest_place digests.now entries.now }
+    requires serials { next + length fresh.now ≤ SERIAL_LIMIT }
+    ensures { result ≡ serial_of (entries.now ++ enumerate_from next fresh.now) binding.now }
 {
-    match serial_of(entries, binding) {
+    match serial_of(entries, digests, binding) {
         Some(serial) => Some(serial),
-        None => serial_of(fresh, binding),
+        None => serial_among(next, fresh, binding),
     }
 }
 
-/// The serial of the first entry with an equal binding.
-fn serial_of(entries: &[(u64, Binding)], binding: &Binding) -> Option<u64>
-    ensures { result ≡ serial_of entries.now binding.now }
+/// The serial of the first new binding that is equal, when they get the serials from `next` on.
+#[tactic(auto, using(crate::proofs::Serials::moved_some, crate::proofs::Serials::moved_none))]
+fn serial_among(next: u64, fresh: &Fresh, binding: &Binding) -> Option<u64>
+    requires { next + length fresh.now ≤ SERIAL_LIMIT }
+    ensures { result ≡ serial_of (enumerate_from next fresh.now) binding.now }
 {
-    let entry = entries.iter().find(|entry| entry.1.equals(binding))?;
-    Some(entry.0)
+    match fresh.place_of(binding) {
+        None => None,
+        Some(place) => Some(next + place),
+    }
 }

@@ -1,9 +1,9 @@
-//! The authorizer over a plain list of bindings.
+//! The authorizer: a list of bindings, and the trees that lead into it.
 
 ghost use Rattle.std.specs.Prelude.{◌≡◌, ◌≢◌, ◌≤◌, IfErr, IfOk, None, OnErr, OnOk, Some, length};
 ghost use Rattle.kob_authorizer.specs.Contents.{IsRising, opened};
 ghost use Rattle.kob_authorizer.specs.Creation.{CanCreate, Creates, added, with_creation};
-ghost use Rattle.kob_authorizer.specs.Decide.{decide, is_super};
+ghost use Rattle.kob_authorizer.specs.Decide.{decide};
 ghost use Rattle.kob_authorizer.specs.Deletion.{CanDelete, removed, taken, without_taken};
 ghost use Rattle.kob_authorizer.specs.Limits.{create_fault};
 ghost use Rattle.kob_authorizer.specs.Meaning.{IsTrueVerdict};
@@ -12,9 +12,10 @@ ghost use Rattle.kob_authorizer.specs.Question.{question_of};
 use crate::creation::{PreparedCreate, put_last};
 use crate::deletion::{PreparedDelete, copies_taken, remove_taken};
 use crate::fault::CreateFault;
+use crate::index::{Index, put_all, take_out};
 use crate::limits::BINDING_LIMIT;
-use crate::question::Question;
-use crate::scan::verdict;
+use crate::look_up::verdict;
+use crate::question::{Question, is_super};
 use kob_names::{Binding, BindingFilter, Host, Operation, Principal, ResourceKind, Verdict};
 use std::alloc::{AllocError, Global};
 use std::marker::Model;
@@ -27,6 +28,7 @@ use std::marker::Model;
 #[derive(Drop)]
 pub struct Authorizer {
     entries: Vec<(u64, Binding)>,
+    index: Index,
     supers: Vec<Principal>,
     next: u64,
 }
@@ -34,6 +36,7 @@ pub struct Authorizer {
 impl Model for Authorizer {
     ghost use Rattle.std.specs.Prelude.{◌-◌, ◌≤◌, length, vec_len, vec_capacity};
     ghost use Rattle.kob_authorizer.specs.Contents.{IsRising, State};
+    ghost use Rattle.kob_authorizer.specs.Index.{Indexes};
     ghost use Rattle.kob_authorizer.specs.declared.limits.TheConstants.{BINDING_LIMIT};
 
     ghost Value = { State };
@@ -48,7 +51,8 @@ impl Model for Authorizer {
     } };
 
     ghost invariant = { λ authorizer. (length authorizer.entries.items ≤ BINDING_LIMIT)
-        × IsRising 1 authorizer.entries.items authorizer.next };
+        × IsRising 1 authorizer.entries.items authorizer.next
+        × Indexes authorizer.index authorizer.entries.items };
 }
 
 impl Authorizer {
@@ -59,6 +63,7 @@ impl Authorizer {
     {
         Authorizer {
             entries: Vec::new(alloc),
+            index: Index::new(),
             supers,
             next: 1,
         }
@@ -113,18 +118,11 @@ impl Authorizer {
             resource,
             name,
         };
-        if self.is_super(who) {
+        if is_super(self.supers(), who) {
             Verdict::Super
         } else {
-            verdict(self.entries.as_slice(), &question)
+            verdict(self.entries.as_slice(), &self.index, &question)
         }
-    }
-
-    /// Whether the principal is equal to a super user.
-    fn is_super(&self, who: &Principal) -> bool
-        ensures { result ≡ is_super self.now.contents.supers who.now }
-    {
-        self.supers.iter().any(|super_user| who == super_user)
     }
 
     /// Puts bindings in force, all or none, and answers their serials in the order of the bindings.
@@ -166,7 +164,13 @@ impl Authorizer {
             → create_fault
             self.old.contents.entries self.old.contents.next bindings.now ≡ Some fault) }
     {
-        let made = PreparedCreate::make(alloc, self.entries.as_slice(), self.next, bindings)?;
+        let made = PreparedCreate::make(
+            alloc,
+            self.entries.as_slice(),
+            &self.index,
+            self.next,
+            bindings,
+        )?;
         self.entries.reserve(made.count())?;
         Ok(made)
     }
@@ -179,8 +183,9 @@ impl Authorizer {
         ensures contents { self.new.contents ≡ with_creation self.old.contents prepared }
         ensures serials { result.items ≡ prepared.serials }
     {
-        let (fresh, serials) = prepared.into_parts();
+        let (fresh, leaves, serials) = prepared.into_parts();
         self.next += fresh.len() as u64;
+        put_all(&mut self.index, leaves);
         put_last(&mut self.entries, fresh);
         serials
     }
@@ -240,6 +245,7 @@ impl Authorizer {
         ensures taken { result.items ≡ prepared.taken }
     {
         let (filter, taken) = prepared.into_parts();
+        take_out(&mut self.index, self.entries.as_slice(), &filter);
         remove_taken(&mut self.entries, &filter);
         taken
     }

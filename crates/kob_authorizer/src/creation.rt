@@ -1,12 +1,15 @@
 //! A creation of bindings: what its first step has made, for its second step.
 
-ghost use Rattle.std.specs.Prelude.{◌≡◌, ◌≢◌, ◌+◌, ◌≤◌, ◌++◌, IfErr, IfOk, None, OnOk, Some, length, vec_capacity, vec_len};
+ghost use Rattle.std.specs.Prelude.{◌≡◌, ◌≢◌, ◌+◌, ◌≤◌, ◌++◌, IfErr, IfOk, None, OnOk, Some, length, map, vec_capacity, vec_len};
 ghost use Rattle.kob_authorizer.specs.Contents.{IsRising};
 ghost use Rattle.kob_authorizer.specs.Creation.{Creates};
+ghost use Rattle.kob_authorizer.specs.Index.{Indexes, leaf_of};
 ghost use Rattle.kob_authorizer.specs.Limits.{create_fault};
+ghost use Rattle.kob_authorizer.specs.LookUp.{AreRising};
 
-use crate::at_once::{new_bindings, numbered, serials_in};
+use crate::at_once::{new_bindings, serials_in};
 use crate::fault::CreateFault;
+use crate::index::{Index, Leaf};
 use crate::limits::{BINDING_LIMIT, SERIAL_LIMIT, limit_fault};
 use kob_names::Binding;
 use std::alloc::Global;
@@ -17,15 +20,20 @@ use std::marker::Model;
 #[derive(Drop)]
 pub struct PreparedCreate {
     fresh: Vec<(u64, Binding)>,
+    leaves: Vec<Leaf>,
     serials: Vec<u64>,
 }
 
 impl Model for PreparedCreate {
+    ghost use Rattle.std.specs.Prelude.{◌≡◌, map};
     ghost use Rattle.kob_authorizer.specs.Creation.{Creation};
+    ghost use Rattle.kob_authorizer.specs.Index.{leaf_of};
 
     ghost Value = { Creation };
 
     ghost view = { λ prepared. record { fresh = prepared.fresh.items; serials = prepared.serials.items } };
+
+    ghost invariant = { λ prepared. prepared.leaves.items ≡ map leaf_of prepared.fresh.items };
 }
 
 impl PreparedCreate {
@@ -34,10 +42,13 @@ impl PreparedCreate {
     pub(crate) fn make(
         alloc: Global,
         entries: &[(u64, Binding)],
+        index: &Index,
         next: u64,
         bindings: &[Binding],
     ) -> Result<PreparedCreate, CreateFault>
-        requires { length entries.now ≤ BINDING_LIMIT }
+        requires count { length entries.now ≤ BINDING_LIMIT }
+        requires rising { AreRising entries.now }
+        requires indexed { Indexes index.now entries.now }
         ensures ok { IfOk result (Creates entries.now next bindings.now) }
         ensures allowed { OnOk result (create_fault entries.now next bindings.now ≡ None) }
         ensures count { IfOk result (λ made. length entries.now + length made.fresh ≤ BINDING_LIMIT) }
@@ -46,13 +57,18 @@ impl PreparedCreate {
         ensures fault { IfErr result (λ fault. fault ≢ CreateFault.Memory
             → create_fault entries.now next bindings.now ≡ Some fault) }
     {
-        let new = new_bindings(alloc, entries, bindings)?;
+        let new = new_bindings(alloc, entries, index.digests(), bindings)?;
         if let Some(fault) = limit_fault(entries.len(), next, new.len()) {
             return Err(fault);
         }
-        let fresh = numbered(alloc, next, new)?;
-        let serials = serials_in(alloc, entries, fresh.as_slice(), bindings)?;
-        Ok(PreparedCreate { fresh, serials })
+        let serials = serials_in(alloc, entries, index.digests(), next, &new, bindings)?;
+        let fresh = new.numbered(alloc, next)?;
+        let leaves = index.prepare_all(alloc, fresh.as_slice())?;
+        Ok(PreparedCreate {
+            fresh,
+            leaves,
+            serials,
+        })
     }
 
     /// The serials that the creation answers, in the order of the call's bindings; no memory is
@@ -70,13 +86,18 @@ impl PreparedCreate {
         self.fresh.as_slice().len()
     }
 
-    /// The entries and the serials.
-    pub(crate) fn into_parts(self) -> (Vec<(u64, Binding)>, Vec<u64>)
+    /// The entries, what they put into the trees, and the serials.
+    pub(crate) fn into_parts(self) -> (Vec<(u64, Binding)>, Vec<Leaf>, Vec<u64>)
         ensures fresh { result.0.items ≡ self.fresh }
-        ensures serials { result.1.items ≡ self.serials }
+        ensures leaves { result.1.items ≡ map leaf_of self.fresh }
+        ensures serials { result.2.items ≡ self.serials }
     {
-        let PreparedCreate { fresh, serials } = self;
-        (fresh, serials)
+        let PreparedCreate {
+            fresh,
+            leaves,
+            serials,
+        } = self;
+        (fresh, leaves, serials)
     }
 }
 

@@ -5,9 +5,14 @@ mod at_once;
 mod authorizer;
 mod creation;
 mod deletion;
+mod digest;
+mod equals;
 mod fault;
+mod fresh;
+mod index;
 mod laws;
 mod limits;
+mod look_up;
 mod question;
 mod scan;
 
@@ -20,3 +25,4 @@ pub use laws::{
     verdicts_are_true,
 };
 pub use limits::{BINDING_LIMIT, SERIAL_LIMIT};
+pub use scan::scan_verdict;

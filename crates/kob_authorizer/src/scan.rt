@@ -1,17 +1,46 @@
-//! The verdict on a question, found by a scan of the plain list of bindings.
+//! The plain program: the verdict on a question, found by a scan of the whole list of bindings.
 
 ghost use Rattle.std.specs.Prelude.{◌≡◌, false};
 ghost use Rattle.std.specs.List.{find};
 ghost use Rattle.std.specs.Option.{option_copied};
 ghost use Rattle.kob_authorizer.specs.Asked.{asked};
-ghost use Rattle.kob_authorizer.specs.Decide.{first_serial, hits, is_hit, verdict_of};
+ghost use Rattle.kob_authorizer.specs.Decide.{decide, first_serial, hits, is_hit, verdict_of};
+ghost use Rattle.kob_authorizer.specs.Question.{question_of};
 
-use crate::question::Question;
-use kob_names::{Binding, Permission, Verdict};
+use crate::question::{Question, is_super};
+use kob_names::{Binding, Host, Operation, Permission, Principal, ResourceKind, Verdict};
+
+/// What [`Authorizer::authorize`](crate::Authorizer::authorize) answers where these bindings are in
+/// force, found without trees: each binding is looked at. No memory is taken.
+pub fn scan_verdict(
+    entries: &[(u64, Binding)],
+    supers: &[Principal],
+    who: &Principal,
+    host: &Host,
+    operation: Operation,
+    resource: ResourceKind,
+    name: &str,
+) -> Verdict
+    ensures { result ≡ decide entries.now supers.now
+        (question_of who.now host.now operation resource name.now) }
+{
+    let question = Question {
+        principal: who,
+        host,
+        operation,
+        resource,
+        name,
+    };
+    if is_super(supers, who) {
+        Verdict::Super
+    } else {
+        verdict(entries, &question)
+    }
+}
 
 /// The verdict for one who is no super user: a deny wins over every allow, and without either the
 /// answer is no.
-pub fn verdict(entries: &[(u64, Binding)], question: &Question) -> Verdict
+fn verdict(entries: &[(u64, Binding)], question: &Question) -> Verdict
     ensures { result ≡ verdict_of false
         (first_serial (hits entries.now Permission.Deny (asked question.now)))
         (first_serial (hits entries.now Permission.Allow (asked question.now))) }

@@ -3,4 +3,4 @@ use Rattle.kob_authorizer.specs.AtOnce.{new_bindings}
 use Rattle.kob_authorizer.proofs.at_once.new_bindings.Given as goal
 
 abbrev pub invariant-loop-binding : goal.invariant-loop-binding
-invariant-loop-binding l = l.fresh.items ≡ new_bindings l.entries (take l.binding-index l.bindings)
+invariant-loop-binding l = l.fresh ≡ new_bindings l.entries (take l.binding-index l.bindings)

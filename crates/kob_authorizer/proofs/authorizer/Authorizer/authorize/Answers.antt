@@ -1,15 +1,20 @@
 use Rattle.std.proofs.Common.{◌≡◌, refl, sym, ◌∙◌, ap, subst, false, List, ℕ}
+use Rattle.kob_authorizer.proofs.Rising.{are_rising}
 use Rattle.kob_authorizer.proofs.Verdicts.{found_super, true_by}
 use Rattle.kob_authorizer.proofs.authorizer.Authorizer.authorize.Goals as goal
 use Rattle.kob_authorizer.specs.Contents.{IsRising, State}
 use Rattle.kob_authorizer.specs.Decide.{first_serial, hits, is_super, verdict_of}
+use Rattle.kob_authorizer.specs.LookUp.{AreRising}
 use Rattle.kob_authorizer.specs.Question.{Question, question_of}
 use Rattle.kob_names.specs.declared.binding.Binding.{Binding}
 use Rattle.kob_names.specs.declared.kinds.Permission.TheVariants.{Allow, Deny}
 
 pub returns-then-is_super-clause-meaning : goal.returns-then-is_super-clause-meaning
 returns-then-is_super-clause-meaning c =
-    found_super c.args.self.now.contents.supers c.args.who.now (sym c.is_super.ensures ∙ c.if-is_super.true)
+    let in_force : List (List ℕ) = c.args.self.now.contents.supers in
+    let told : c.is_super.result ≡ is_super in_force c.args.who.now =
+    c.is_super.ensures ∙ ap (λ supers. is_super supers c.args.who.now) c.supers.ensures in
+    found_super in_force c.args.who.now (sym told ∙ c.if-is_super.true)
 
 -- the serials in force rise, so the first binding that hits has the least
 pub returns-else-is_super-clause-meaning : goal.returns-else-is_super-clause-meaning
@@ -22,8 +27,13 @@ returns-else-is_super-clause-meaning c =
     c.as_slice.ensures.value ∙ ap (λ (s : State). s.contents.entries) c.self.view_is in
     let rising : IsRising 1 in_force next =
     subst (λ (s : State). IsRising 1 s.contents.entries s.contents.next) c.self.view_is c.self.invariant.1 in
-    let stranger : is_super c.args.self.now.contents.supers c.args.who.now ≡ false =
-    sym c.is_super.ensures ∙ c.if-is_super.false in
+    let told : c.is_super.result ≡ is_super c.args.self.now.contents.supers c.args.who.now =
+    c.is_super.ensures ∙ ap (λ supers. is_super supers c.args.who.now) c.supers.ensures in
+    let stranger : is_super c.args.self.now.contents.supers c.args.who.now ≡ false = sym told ∙ c.if-is_super.false in
     let verdict : c.verdict.result ≡ verdict_of false (first_serial (hits in_force Deny question)) (first_serial (hits in_force Allow question)) =
     c.verdict.ensures ∙ ap (λ (es : List (ℕ × Binding)). verdict_of false (first_serial (hits es Deny question)) (first_serial (hits es Allow question))) entries in
     rw verdict (true_by in_force next c.args.self.now.contents.supers question false _ _ rising stranger refl refl)
+
+pub verdict-requires-clause-rising : goal.verdict-requires-clause-rising
+verdict-requires-clause-rising c =
+    subst AreRising (sym c.as_slice.ensures.value) (are_rising 1 c.self.inside.next c.self.inside.entries.items c.self.invariant.1)

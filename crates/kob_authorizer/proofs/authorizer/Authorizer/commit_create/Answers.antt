@@ -1,13 +1,25 @@
-use Rattle.std.proofs.Common.{◌≡◌, ◌++◌, length, rules}
+use Rattle.std.proofs.Common.{◌≡◌, ◌∙◌, sym, ap, subst, ◌++◌, length, map, rules, List, ℕ}
+use Rattle.std.specs.List.{fold}
+use Rattle.kob_names.specs.declared.binding.Binding.{Binding}
+use Rattle.kob_authorizer.specs.Index.{Indexes, leaf_of, with_leaf}
+use Rattle.kob_authorizer.specs.declared.index.Index.{Index}
 use Rattle.kob_authorizer.specs.declared.limits.TheConstants.{BINDING_LIMIT}
+use Rattle.kob_authorizer.proofs.IndexSteps.{indexes_put_all}
 use Rattle.kob_authorizer.proofs.Rising.{put_rises}
 use Rattle.kob_authorizer.proofs.authorizer.Authorizer.commit_create.Goals as goal
 
 pub invariant_of-self : goal.invariant_of-self
 invariant_of-self c =
-    let count : c.len.result ≡ length c.args.prepared.fresh = search rules in
-    let items : c.put_last.new.entries.items ≡ c.self.inside.entries.items ++ c.args.prepared.fresh =
+    let before : List (ℕ × Binding) = c.self.inside.entries.items in
+    let fresh : List (ℕ × Binding) = c.args.prepared.fresh in
+    let count : c.len.result ≡ length fresh = search rules in
+    let items : c.put_last.new.entries.items ≡ before ++ fresh =
     rw (← c.into_parts-fresh.ensures.fresh) c.put_last.ensures.items in
     let within = rw (← c.self.view_is) at c.requires.count in
     let numbered = rw (← c.self.view_is) at c.requires.numbered in
-    rw items (put_rises BINDING_LIMIT c.self.inside.next c.len.result c.self.inside.entries.items c.args.prepared.fresh count within c.self.invariant.1 numbered)
+    let rises = put_rises BINDING_LIMIT c.self.inside.next c.len.result before fresh count within c.self.invariant.1 numbered in
+    let index : fold with_leaf c.self.inside.index (map leaf_of fresh) ≡ c.put_all.new.index =
+    ap (fold with_leaf c.self.inside.index) (sym c.into_parts-fresh.ensures.leaves) ∙ sym c.put_all.ensures in
+    let indexed : Indexes c.put_all.new.index (before ++ fresh) =
+    subst (λ (i : Index). Indexes i (before ++ fresh)) index (indexes_put_all fresh c.self.inside.index before c.self.invariant.2) in
+    rw items (rises.0, rises.1, indexed)

@@ -1,0 +1,6 @@
+use Rattle.std.proofs.Common.{◌≡◌, map, take}
+use Rattle.kob_authorizer.specs.Index.{leaf_of}
+use Rattle.kob_authorizer.proofs.index.Index.prepare_all.Given as goal
+
+abbrev pub invariant-loop-entry : goal.invariant-loop-entry
+invariant-loop-entry l = l.leaves.items ≡ map leaf_of (take l.entry-index l.entries)

@@ -1,0 +1,47 @@
+//! The search for an equal binding, by its digest; no other binding is looked at.
+
+ghost use Rattle.std.specs.Prelude.{◌≡◌};
+ghost use Rattle.kob_prefix_tree.specs.Held.{serials_of};
+ghost use Rattle.kob_prefix_tree.specs.PrefixMap.{held};
+ghost use Rattle.kob_authorizer.specs.Creation.{serial_of};
+ghost use Rattle.kob_authorizer.specs.LookUp.{AreRising, is_equal, least_passing, passes_at};
+ghost use Rattle.kob_authorizer.specs.Places.{IsIndex, digest_place};
+
+use crate::digest::digest_key;
+use crate::look_up::entry_of;
+use kob_names::Binding;
+use kob_prefix_tree::PrefixTree;
+
+/// The serial of the first entry with an equal binding.
+pub fn serial_of(entries: &[(u64, Binding)], digests: &PrefixTree, binding: &Binding) -> Option<u64>
+    requires rising { AreRising entries.now }
+    requires indexed { IsIndex digest_place digests.now entries.now }
+    ensures { result ≡ serial_of entries.now binding.now }
+{
+    least_equal(entries, digests, binding)
+}
+
+/// The least serial that the tree gives for the binding's digest, whose binding is equal.
+fn least_equal(entries: &[(u64, Binding)], digests: &PrefixTree, binding: &Binding) -> Option<u64>
+    requires { AreRising entries.now }
+    ensures { result ≡ least_passing (is_equal binding.now) entries.now
+        (serials_of (digest_place binding.now).kind (held digests.now (digest_place binding.now).key)) }
+{
+    let key = digest_key(binding);
+    digests
+        .literal(&key)
+        .filter(|serial| is_equal_at(entries, *serial, binding))
+        .min()
+}
+
+/// Whether the binding with this serial is equal.
+#[tactic(auto, using(crate::proofs::Halving::passes_some, crate::proofs::Halving::passes_none))]
+fn is_equal_at(entries: &[(u64, Binding)], serial: u64, binding: &Binding) -> bool
+    requires { AreRising entries.now }
+    ensures { result ≡ passes_at (is_equal binding.now) entries.now serial }
+{
+    match entry_of(entries, serial) {
+        None => false,
+        Some(entry) => entry.1.equals(binding),
+    }
+}

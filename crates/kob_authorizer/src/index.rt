@@ -1,0 +1,166 @@
+//! The trees that lead from names and digests to the serials of bindings.
+
+ghost use Rattle.std.specs.Prelude.{◌≡◌, IfOk, map};
+ghost use Rattle.std.specs.List.{fold};
+ghost use Rattle.kob_authorizer.specs.Index.{empty_index, leaf_of, tree_of, with_leaf, without_if_taken, without_leaf};
+ghost use Rattle.kob_authorizer.specs.Places.{kind_in_tree};
+
+use crate::digest::digest_key;
+use kob_names::{Binding, BindingFilter, PatternKind, ResourceKind};
+use kob_prefix_tree::{PrefixTree, Prepared};
+use std::alloc::{AllocError, Global};
+
+/// One tree for the patterns on each kind of resource, and one for the digests of the bindings.
+#[derive(Drop)]
+pub struct Index {
+    topics: PrefixTree,
+    groups: PrefixTree,
+    cluster: PrefixTree,
+    transactional_ids: PrefixTree,
+    digests: PrefixTree,
+}
+
+/// What an entry puts into the trees, made ahead.
+#[derive(Drop)]
+pub struct Leaf {
+    resource: ResourceKind,
+    pattern: Prepared,
+    digest: Prepared,
+}
+
+impl Index {
+    /// The index of no entries; no memory is taken.
+    pub fn new() -> Index
+        ensures { result ≡ empty_index }
+    {
+        Index {
+            topics: PrefixTree::new(),
+            groups: PrefixTree::new(),
+            cluster: PrefixTree::new(),
+            transactional_ids: PrefixTree::new(),
+            digests: PrefixTree::new(),
+        }
+    }
+
+    /// The tree of the patterns on one kind of resource.
+    pub fn tree(&self, resource: ResourceKind) -> &PrefixTree
+        ensures { result.now ≡ tree_of self.now resource }
+    {
+        match resource {
+            ResourceKind::Topic => &self.topics,
+            ResourceKind::Group => &self.groups,
+            ResourceKind::Cluster => &self.cluster,
+            ResourceKind::TransactionalId => &self.transactional_ids,
+        }
+    }
+
+    /// The tree of the digests.
+    pub fn digests(&self) -> &PrefixTree
+        ensures { result.now ≡ self.now.digests }
+    {
+        &self.digests
+    }
+
+    /// The first step of putting an entry in: all that needs memory.
+    pub fn prepare(&self, alloc: Global, entry: &(u64, Binding)) -> Result<Leaf, AllocError>
+        ensures { IfOk result (λ leaf. leaf ≡ leaf_of entry.now) }
+    {
+        let binding = &entry.1;
+        let tree = self.tree(binding.resource);
+        let name = binding.pattern.name.as_str().as_bytes();
+        let kind = kind_in_tree(binding.pattern.kind);
+        let pattern = tree.prepare_add(alloc, name, kind, entry.0)?;
+        let key = digest_key(binding);
+        let kind = kob_prefix_tree::PatternKind::Literal;
+        let digest = self.digests.prepare_add(alloc, &key, kind, entry.0)?;
+        Ok(Leaf {
+            resource: binding.resource,
+            pattern,
+            digest,
+        })
+    }
+
+    /// The first step of putting entries in, one after another.
+    #[tactic(auto, using(std::proofs::lemmas::List::map_more))]
+    pub fn prepare_all(
+        &self,
+        alloc: Global,
+        entries: &[(u64, Binding)],
+    ) -> Result<Vec<Leaf>, AllocError>
+        ensures { IfOk result (λ leaves. leaves.items ≡ map leaf_of entries.now) }
+    {
+        let mut leaves = Vec::with_capacity(alloc, entries.len())?;
+        for entry in entries {
+            leaves.push(self.prepare(alloc, entry)?)?;
+        }
+        Ok(leaves)
+    }
+
+    /// The second step of putting an entry in; no memory is taken.
+    pub fn put(&mut self, leaf: Leaf)
+        ensures { self.new ≡ with_leaf self.old leaf }
+    {
+        let Leaf {
+            resource,
+            pattern,
+            digest,
+        } = leaf;
+        self.digests.commit_add(digest);
+        match resource {
+            ResourceKind::Topic => self.topics.commit_add(pattern),
+            ResourceKind::Group => self.groups.commit_add(pattern),
+            ResourceKind::Cluster => self.cluster.commit_add(pattern),
+            ResourceKind::TransactionalId => self.transactional_ids.commit_add(pattern),
+        }
+    }
+
+    /// Takes an entry out; no memory is taken.
+    pub fn remove(&mut self, entry: &(u64, Binding))
+        ensures { self.new ≡ without_leaf self.old (leaf_of entry.now) }
+    {
+        let binding = &entry.1;
+        let key = digest_key(binding);
+        let literal = kob_prefix_tree::PatternKind::Literal;
+        self.digests.remove(&key, literal, entry.0);
+        let name = binding.pattern.name.as_str().as_bytes();
+        let kind = kind_in_tree(binding.pattern.kind);
+        let _found = match binding.resource {
+            ResourceKind::Topic => self.topics.remove(name, kind, entry.0),
+            ResourceKind::Group => self.groups.remove(name, kind, entry.0),
+            ResourceKind::Cluster => self.cluster.remove(name, kind, entry.0),
+            ResourceKind::TransactionalId => self.transactional_ids.remove(name, kind, entry.0),
+        };
+    }
+}
+
+/// Puts entries in, one after another; no memory is taken.
+#[tactic(auto, using(std::proofs::lemmas::List::Sums::fold_push))]
+pub fn put_all(index: &mut Index, leaves: Vec<Leaf>)
+    ensures { index.new ≡ fold with_leaf index.old leaves.items }
+{
+    for leaf in leaves {
+        index.put(leaf);
+    }
+}
+
+/// Takes the entries out that the filter takes; no memory is taken.
+#[tactic(auto, using(std::proofs::lemmas::List::Sums::fold_more))]
+pub fn take_out(index: &mut Index, entries: &[(u64, Binding)], filter: &BindingFilter)
+    ensures { index.new ≡ fold (without_if_taken filter.now) index.old entries.now }
+{
+    for entry in entries {
+        if filter.takes(&entry.1) {
+            index.remove(entry);
+        }
+    }
+}
+
+/// The list of a tree that is for this kind of pattern.
+fn kind_in_tree(kind: PatternKind) -> kob_prefix_tree::PatternKind
+    ensures { result ≡ kind_in_tree kind }
+{
+    match kind {
+        PatternKind::Literal => kob_prefix_tree::PatternKind::Literal,
+        PatternKind::Prefixed => kob_prefix_tree::PatternKind::Prefixed,
+    }
+}

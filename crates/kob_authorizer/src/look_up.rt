@@ -1,0 +1,90 @@
+//! The search for bindings by the serials that the trees give; no other binding is looked at.
+
+ghost use Rattle.std.specs.Prelude.{◌≡◌, false};
+ghost use Rattle.std.specs.Option.{option_copied};
+ghost use Rattle.kob_authorizer.specs.Asked.{asked};
+ghost use Rattle.kob_authorizer.specs.Decide.{first_serial, hits, is_hit, verdict_of};
+ghost use Rattle.kob_authorizer.specs.Index.{Indexes, tree_of};
+ghost use Rattle.kob_authorizer.specs.LookUp.{AreRising, entry_at, least_passing, looked_up, passes_at};
+
+use crate::index::Index;
+use crate::question::Question;
+use kob_names::{Binding, Permission, Verdict};
+
+/// The verdict for one who is no super user: a deny wins over every allow, and without either the
+/// answer is no.
+pub fn verdict(entries: &[(u64, Binding)], index: &Index, question: &Question) -> Verdict
+    requires rising { AreRising entries.now }
+    requires indexed { Indexes index.now entries.now }
+    ensures { result ≡ verdict_of false
+        (first_serial (hits entries.now Permission.Deny (asked question.now)))
+        (first_serial (hits entries.now Permission.Allow (asked question.now))) }
+{
+    match first_hit(entries, index, Permission::Deny, question) {
+        Some(serial) => Verdict::DeniedBy(serial),
+        None => match first_hit(entries, index, Permission::Allow, question) {
+            Some(serial) => Verdict::AllowedBy(serial),
+            None => Verdict::NoAllow,
+        },
+    }
+}
+
+/// The least serial of those bindings that speak of what is asked, with this permission.
+fn first_hit(
+    entries: &[(u64, Binding)],
+    index: &Index,
+    permission: Permission,
+    question: &Question,
+) -> Option<u64>
+    requires rising { AreRising entries.now }
+    requires indexed { Indexes index.now entries.now }
+    ensures { result ≡ first_serial (hits entries.now permission (asked question.now)) }
+{
+    least_hit(entries, index, permission, question)
+}
+
+/// The least serial that the trees give for the name, whose binding is a hit.
+fn least_hit(
+    entries: &[(u64, Binding)],
+    index: &Index,
+    permission: Permission,
+    question: &Question,
+) -> Option<u64>
+    requires { AreRising entries.now }
+    ensures { result ≡ least_passing (is_hit permission (asked question.now)) entries.now
+        (looked_up (tree_of index.now question.now.resource) question.now.name.now) }
+{
+    let tree = index.tree(question.resource);
+    tree.walk(question.name.as_bytes())
+        .chain(tree.literal("*".as_bytes()))
+        .filter(|serial| is_hit_at(entries, *serial, permission, question))
+        .min()
+}
+
+/// Whether the binding with this serial speaks of what is asked, with this permission.
+#[tactic(auto, using(crate::proofs::Halving::passes_some, crate::proofs::Halving::passes_none))]
+fn is_hit_at(
+    entries: &[(u64, Binding)],
+    serial: u64,
+    permission: Permission,
+    question: &Question,
+) -> bool
+    requires { AreRising entries.now }
+    ensures { result ≡ passes_at (is_hit permission (asked question.now)) entries.now serial }
+{
+    match entry_of(entries, serial) {
+        None => false,
+        Some(entry) => question.is_hit(permission, entry),
+    }
+}
+
+/// The entry with this serial, by halving.
+pub fn entry_of(entries: &[(u64, Binding)], serial: u64) -> Option<&(u64, Binding)>
+    requires { AreRising entries.now }
+    ensures { option_copied result ≡ entry_at entries.now serial }
+{
+    match entries.binary_search_by_key(&serial, |entry| entry.0) {
+        Ok(place) => Some(&entries[place]),
+        Err(_) => None,
+    }
+}

@@ -1,0 +1,15 @@
+//! Tests of the crates from the names to the partition logs, over their public surface.
+#![tactic(auto)]
+
+#[cfg(test)]
+mod authorizer;
+#[cfg(test)]
+mod chunks;
+#[cfg(test)]
+mod names;
+#[cfg(test)]
+mod partition;
+#[cfg(test)]
+mod producers;
+#[cfg(test)]
+mod tree;

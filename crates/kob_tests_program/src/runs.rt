@@ -1,0 +1,244 @@
+//! Whole runs: scripts with their outputs, and readers and writers that give little or fail.
+
+use kob_text::{Ended, RunFault, SCRIPT_LIMIT, run_text};
+use std::alloc::{AllocError, Global};
+use std::io;
+use std::io::{Error, ErrorKind, Read, Write};
+use std::test::Fail;
+
+const FIRST_SCRIPT: &str = "super User:root
+User:root 10.0.0.1 create-topic outbox.event.orders 1
+User:root 10.0.0.1 create-acl allow User:svc * Write Topic literal outbox.event.orders
+User:svc 10.0.0.2 produce outbox.event.orders 0 - 42=paid
+User:bob 10.0.0.3 produce outbox.event.orders 0 - 42=void
+User:root 10.0.0.1 fetch outbox.event.orders 0 0 10
+User:svc 10.0.0.2 fetch outbox.event.orders 0 0 10
+";
+
+const FIRST_OUTPUT: &str = "1 ok created
+2 ok serials 1
+3 ok offset 0
+4 denied 29 TOPIC_AUTHORIZATION_FAILED no-allow
+5 ok records 0:42=paid
+6 denied 29 TOPIC_AUTHORIZATION_FAILED no-allow
+";
+
+const ACL_SCRIPT: &str = "super User:root
+User:root h create-acl allow User:svc * Write Topic prefixed outbox.event.
+User:root h create-acl deny User:* * Write Topic literal outbox.event.payments
+User:root h describe-acls Topic outbox.event.payments match - - - -
+User:root h delete-acls - - - User:* - - -
+";
+
+const ACL_OUTPUT: &str = "1 ok serials 1
+2 ok serials 2
+3 ok bindings 2
+binding 1 ALLOW User:svc * Write Topic PREFIXED outbox.event.
+binding 2 DENY User:* * Write Topic LITERAL outbox.event.payments
+4 ok bindings 1
+binding 2 DENY User:* * Write Topic LITERAL outbox.event.payments
+";
+
+const TOPIC_SCRIPT: &str = "super User:root
+User:root h create-topic t 1
+User:root h produce t 0 - a
+User:root h commit g t 0 1
+User:root h delete-topic t
+User:root h committed g t 0
+User:root h groups
+User:root h create-topic t 1
+User:root h produce t 0 - b
+";
+
+const TOPIC_OUTPUT: &str = "1 ok created
+2 ok offset 0
+3 ok committed
+4 ok deleted
+5 ok commit -1
+6 ok groups g
+7 ok created
+8 ok offset 0
+";
+
+/// Gives one byte a call, and fails at the call after so many.
+#[derive(Drop)]
+struct Slow<'a> {
+    rest: &'a [u8],
+    calls: usize,
+}
+
+impl Read for Slow<'_> {
+    fn read(&mut self, buf: &mut [u8]) -> io::Result<usize> {
+        if self.calls == 0 {
+            return Err(Error::from(ErrorKind::Other));
+        }
+        self.calls -= 1;
+        match self.rest.split_first() {
+            Some((first, others)) if !buf.is_empty() => {
+                buf[0] = *first;
+                self.rest = others;
+                Ok(1)
+            }
+            _ => Ok(0),
+        }
+    }
+}
+
+/// Gives so many bytes `#`.
+#[derive(Drop)]
+struct Comment {
+    left: usize,
+}
+
+impl Read for Comment {
+    fn read(&mut self, buf: &mut [u8]) -> io::Result<usize> {
+        let count = buf.len().min(self.left);
+        for byte in buf[..count].iter_mut() {
+            *byte = b'#';
+        }
+        self.left -= count;
+        Ok(count)
+    }
+}
+
+/// Takes at most 7 bytes a call, and fails at the call after so many.
+#[derive(Drop)]
+struct Narrow {
+    taken: Vec<u8>,
+    calls: usize,
+}
+
+impl Write for Narrow {
+    fn write(&mut self, buf: &[u8]) -> io::Result<usize> {
+        if self.calls == 0 {
+            return Err(Error::from(ErrorKind::Other));
+        }
+        self.calls -= 1;
+        let count = buf.len().min(7);
+        match self.taken.extend_from_slice(&buf[..count]) {
+            Ok(()) => Ok(count),
+            Err(_) => Err(Error::from(ErrorKind::OutOfMemory)),
+        }
+    }
+
+    fn flush(&mut self) -> io::Result<()> {
+        Ok(())
+    }
+}
+
+fn run(alloc: Global, script: &[u8]) -> Result<(Ended, Vec<u8>), RunFault> {
+    let mut written = Vec::new(alloc);
+    let mut reader = script;
+    let ended = run_text(alloc, &mut reader, &mut written)?;
+    Ok((ended, written))
+}
+
+#[test]
+fn scripts_are_served(rt: HostRuntime) -> Result<(), Fail> {
+    let cases = [
+        (FIRST_SCRIPT, FIRST_OUTPUT, Ended::Clean),
+        (ACL_SCRIPT, ACL_OUTPUT, Ended::Clean),
+        (TOPIC_SCRIPT, TOPIC_OUTPUT, Ended::Clean),
+        ("", "", Ended::Clean),
+        ("x", "fault line 1 BadLine\n", Ended::Fault),
+        (
+            "User:a h groups\nUser:root h create-topic %zz 1\n",
+            "fault line 2 BadEscape\n",
+            Ended::Fault,
+        ),
+    ];
+    for (script, output, end) in cases {
+        let (ended, written) = run(rt.alloc(), script.as_bytes())?;
+        assert_eq!(rt; written.as_slice(), output.as_bytes());
+        assert_eq!(rt; ended, end);
+    }
+    Ok(())
+}
+
+#[test]
+fn each_prefix_ends(rt: HostRuntime) -> Result<(), Fail> {
+    let script = FIRST_SCRIPT.as_bytes();
+    for end in 0..script.len() {
+        let (ended, _) = run(rt.alloc(), &script[..end])?;
+        assert!(rt; ended != Ended::Stopped);
+    }
+    Ok(())
+}
+
+#[test]
+fn failed_reads_write_nothing(rt: HostRuntime) -> Result<(), Fail> {
+    for calls in 0..FIRST_SCRIPT.len() + 2 {
+        let mut written = Vec::new(rt.alloc());
+        let mut reader = Slow {
+            rest: FIRST_SCRIPT.as_bytes(),
+            calls,
+        };
+        let ended = run_text(rt.alloc(), &mut reader, &mut written);
+        if calls <= FIRST_SCRIPT.len() {
+            assert_eq!(rt; ended, Err(RunFault::ReadFailed));
+            assert_eq!(rt; written.len(), 0);
+        } else {
+            assert_eq!(rt; ended, Ok(Ended::Clean));
+            assert_eq!(rt; written.as_slice(), FIRST_OUTPUT.as_bytes());
+        }
+    }
+    Ok(())
+}
+
+#[test]
+fn failed_writes_leave_a_front(rt: HostRuntime) -> Result<(), Fail> {
+    for calls in 0..10 {
+        let mut writer = Narrow {
+            taken: Vec::new(rt.alloc()),
+            calls,
+        };
+        let mut reader = FIRST_SCRIPT.as_bytes();
+        let ended = run_text(rt.alloc(), &mut reader, &mut writer);
+        assert_eq!(rt; ended, Err(RunFault::WriteFailed));
+        assert_eq!(rt;
+            writer.taken.as_slice(),
+            &FIRST_OUTPUT.as_bytes()[..7 * calls]
+        );
+    }
+    Ok(())
+}
+
+#[test]
+fn scripts_have_a_limit(rt: HostRuntime) -> Result<(), Fail> {
+    for (left, end) in [
+        (SCRIPT_LIMIT, Ok(Ended::Clean)),
+        (SCRIPT_LIMIT + 1, Err(RunFault::TooLong)),
+    ] {
+        let mut written = Vec::new(rt.alloc());
+        let ended = run_text(rt.alloc(), &mut Comment { left }, &mut written);
+        assert_eq!(rt; ended, end);
+        assert_eq!(rt; written.len(), 0);
+    }
+    Ok(())
+}
+
+/// A script that puts a record of so many bytes into a topic.
+fn producing(alloc: Global, bytes: usize) -> Result<Vec<u8>, AllocError> {
+    let mut script = Vec::new(alloc);
+    script.extend_from_slice(b"super User:r\nUser:r h create-topic t 1\nUser:r h produce t 0 - ")?;
+    for _ in 0..bytes {
+        script.push(b'v')?;
+    }
+    Ok(script)
+}
+
+#[test]
+fn batches_have_a_limit(rt: HostRuntime) -> Result<(), Fail> {
+    for (bytes, output) in [
+        (2_097_152, "1 ok created\n2 ok offset 0\n"),
+        (
+            2_097_153,
+            "1 ok created\n2 refused 10 MESSAGE_TOO_LARGE TooLarge\n",
+        ),
+    ] {
+        let script = producing(rt.alloc(), bytes)?;
+        let (_, written) = run(rt.alloc(), script.as_slice())?;
+        assert_eq!(rt; written.as_slice(), output.as_bytes());
+    }
+    Ok(())
+}
