@@ -1,6 +1,8 @@
 //! The authorizer: which bindings a filter takes, and which binding a verdict names.
 
-use kob_authorizer::Authorizer;
+ghost use Rattle.std.specs.Prelude.{◌<◌, length};
+
+use kob_authorizer::{Authorizer, scan_verdict};
 use kob_names::{
     Binding, BindingFilter, Draft, FilterPattern, Host, Operation, Pattern, PatternKind,
     Permission, Principal, ResourceKind, Text, Verdict,
@@ -195,5 +197,147 @@ fn deny_beats_longer_allow(rt: HostRuntime) -> Result<(), Fail> {
         )?;
         assert_eq!(rt; on_orders, verdict, "of {who} with {count} rules");
     }
+    Ok(())
+}
+
+/// Numbers that look random: Marsaglia's xorshift.
+#[derive(Drop)]
+struct Dice {
+    state: u64,
+}
+
+impl Dice {
+    fn below(&mut self, count: usize) -> usize
+        requires { 0 < count }
+        ensures { result < count }
+    {
+        self.state ^= self.state << 13;
+        self.state ^= self.state >> 7;
+        self.state ^= self.state << 17;
+        self.state as usize % count
+    }
+
+    fn pick<T: Copy>(&mut self, from: &[T]) -> T
+        requires { 0 < length from.now }
+    {
+        from[self.below(from.len())]
+    }
+
+    fn pick_name(&mut self, resource: ResourceKind) -> &'static str {
+        match resource {
+            ResourceKind::Cluster => "kafka-cluster",
+            _ => self.pick(&["*", "*a", "a", "ab", "abc", "abcd", "abd", "b", "ba"]),
+        }
+    }
+
+    fn pick_resource(&mut self) -> ResourceKind {
+        self.pick(&[
+            ResourceKind::Topic,
+            ResourceKind::Topic,
+            ResourceKind::Group,
+            ResourceKind::Cluster,
+            ResourceKind::TransactionalId,
+        ])
+    }
+
+    fn pick_operation(&mut self) -> Operation {
+        self.pick(&[
+            Operation::All,
+            Operation::Read,
+            Operation::Write,
+            Operation::Describe,
+            Operation::AlterConfigs,
+            Operation::DescribeConfigs,
+        ])
+    }
+
+    fn pick_rule(&mut self) -> Rule<'static> {
+        let resource = self.pick_resource();
+        Rule {
+            permission: self.pick(&[Permission::Allow, Permission::Allow, Permission::Deny]),
+            principal: self.pick(&["User:a", "User:b", "User:*"]),
+            operation: self.pick_operation(),
+            resource,
+            kind: self.pick(&[PatternKind::Literal, PatternKind::Prefixed]),
+            name: self.pick_name(resource),
+        }
+    }
+}
+
+/// Creates two bindings, or deletes those of one name.
+fn change(alloc: Global, dice: &mut Dice, authorizer: &mut Authorizer) -> Result<(), Fail> {
+    if dice.below(4) == 0 {
+        let name = dice.pick_name(ResourceKind::Topic);
+        authorizer.delete(alloc, &named(alloc, FilterPattern::Any, name)?)?;
+    } else {
+        let rules = [dice.pick_rule(), dice.pick_rule()];
+        create(alloc, authorizer, &rules)?;
+    }
+    Ok(())
+}
+
+/// What the trees and the scan answer to one question.
+fn ask_both(
+    alloc: Global,
+    dice: &mut Dice,
+    authorizer: &Authorizer,
+) -> Result<(Verdict, Verdict), Fail> {
+    let who = Principal::parse(
+        alloc,
+        dice.pick(&["User:a", "User:b", "User:c", "User:root"]),
+    )?;
+    let host = Host::parse(alloc, "h")?;
+    let operation = dice.pick_operation();
+    let resource = dice.pick_resource();
+    let name = dice.pick_name(resource);
+    let by_trees = authorizer.authorize(&who, &host, operation, resource, name);
+    let (entries, supers) = (authorizer.entries(), authorizer.supers());
+    let by_scan = scan_verdict(entries, supers, &who, &host, operation, resource, name);
+    Ok((by_trees, by_scan))
+}
+
+/// The place of the verdict's kind among the four.
+fn kind_of(verdict: Verdict) -> usize
+    ensures { result < 4 }
+{
+    match verdict {
+        Verdict::Super => 0,
+        Verdict::AllowedBy(_) => 1,
+        Verdict::DeniedBy(_) => 2,
+        Verdict::NoAllow => 3,
+    }
+}
+
+/// Changes the bindings and asks thirty questions. Says whether both answered alike each time, and
+/// notes which kinds of verdicts came.
+fn compare(
+    alloc: Global,
+    dice: &mut Dice,
+    authorizer: &mut Authorizer,
+    seen: &mut [bool; 4],
+) -> Result<bool, Fail> {
+    change(alloc, dice, authorizer)?;
+    let mut alike = true;
+    for _question in 0..30 {
+        let (by_trees, by_scan) = ask_both(alloc, dice, authorizer)?;
+        alike = alike && by_trees == by_scan;
+        seen[kind_of(by_scan)] = true;
+    }
+    Ok(alike)
+}
+
+#[test]
+fn scan_and_trees_agree(rt: HostRuntime) -> Result<(), Fail> {
+    let alloc = rt.alloc();
+    let mut dice = Dice {
+        state: 88_172_645_463_325_252,
+    };
+    let mut authorizer = opened(alloc)?;
+    let mut seen = [false; 4];
+    for round in 0..100 {
+        let alike = compare(alloc, &mut dice, &mut authorizer, &mut seen)?;
+        assert!(rt; alike, "in round {round}");
+    }
+    assert!(rt; seen == [true; 4], "not every kind of verdict came");
     Ok(())
 }

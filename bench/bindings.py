@@ -1,0 +1,92 @@
+#!/usr/bin/env python3
+"""Seconds per creation of a binding and per decision, while 10, 1,000 and 100,000 bindings are in force.
+
+    python3 bench/bindings.py [PROGRAM]
+
+PROGRAM is the program that serves scripts, as `rt run` in crates/kob_run builds it: crates/kob_run/out/kob_run if none
+is given. It is given scripts on its standard input: a super user creates bindings one by one, each for a principal of
+its own, on as many names or all on one name. Then, on many names, principals write to ten of the names in turn, spread
+over them all, each matched by one binding. No topic exists, so a write ends right after the decision.
+
+The seconds are processor time of the program, the least of several runs. From each time that of the script without the
+lines in question is taken away; what is left has the reading of a line and the printing of a reply in it.
+
+What is to be seen: a creation costs about the same among 1,000 and among 100,000, on many names and on one; a decision
+about a name that few bindings match costs at most 1.5 times as much among 100,000 as among 10.
+"""
+
+import argparse
+import pathlib
+import resource
+import subprocess
+import sys
+
+RUNS = {10: 100, 1_000: 50, 100_000: 5}
+DECISIONS = 200_000
+NAMES_ASKED = 10
+TOP = pathlib.Path(__file__).resolve().parent.parent
+
+
+def creations(count, one_name):
+    """Lines that create bindings."""
+    for place in range(count):
+        name = "orders" if one_name else f"t{place:06}"
+        yield f"User:root h create-acl ALLOW User:u{place:06} * Write Topic LITERAL {name}\n"
+
+
+def decisions(count):
+    """Lines that ask for the right to write to a name that one binding matches."""
+    for question in range(DECISIONS):
+        place = question % NAMES_ASKED * count // NAMES_ASKED
+        yield f"User:u{place:06} h produce t{place:06} 0 - v\n"
+
+
+def seconds_of(program, lines):
+    """The processor time of one run over the lines, which must be granted one and all."""
+    script = "".join(("super User:root\n", *lines)).encode()
+    before = resource.getrusage(resource.RUSAGE_CHILDREN)
+    done = subprocess.run([program], input=script, stdout=subprocess.PIPE, check=True)
+    after = resource.getrusage(resource.RUSAGE_CHILDREN)
+    if done.stdout.count(b"\n") != len(lines) or b"denied" in done.stdout:
+        sys.exit(f"{program}: a reply for each of {len(lines)} lines, and no denial, were expected: {done.stdout[:200]!r}")
+    return after.ru_utime + after.ru_stime - before.ru_utime - before.ru_stime
+
+
+def least(program, lines, runs):
+    return min(seconds_of(program, lines) for _ in range(runs))
+
+
+def measure(program, empty, count, one_name):
+    """The seconds per creation, and on many names per decision."""
+    made = list(creations(count, one_name))
+    seconds = least(program, made, RUNS[count])
+    creation = (seconds - empty) / count
+    if one_name:
+        return creation, None
+    return creation, (least(program, made + list(decisions(count)), 5) - seconds) / DECISIONS
+
+
+def main():
+    parser = argparse.ArgumentParser(description=__doc__, formatter_class=argparse.RawDescriptionHelpFormatter)
+    parser.add_argument("program", nargs="?", type=pathlib.Path, default=TOP / "crates/kob_run/out/kob_run")
+    program = parser.parse_args().program
+    if not program.exists():
+        sys.exit(f"{program} is not there: build it by `rt run` in crates/kob_run")
+    few, some, many = RUNS
+    empty = least(program, [], RUNS[few])
+    print(f"{'bindings':>9}  {'on':<10}  {'s per creation':>14}  {'s per decision':>14}")
+    rows = {}
+    for one_name in (False, True):
+        for count in RUNS:
+            creation, decision = rows[one_name, count] = measure(program, empty, count, one_name)
+            asked = "" if decision is None else f"{decision:.9f}"
+            print(f"{count:>9,}  {'one name' if one_name else 'many names':<10}  {creation:14.9f}  {asked:>14}")
+    for one_name, on in ((False, "many names"), (True, "one name")):
+        growth = rows[one_name, many][0] / rows[one_name, some][0]
+        print(f"a creation among {many:,} costs {growth:.2f} times one among {some:,}, on {on}")
+    growth = rows[False, many][1] / rows[False, few][1]
+    print(f"a decision among {many:,} costs {growth:.2f} times one among {few:,}")
+
+
+if __name__ == "__main__":
+    main()
