@@ -33,6 +33,8 @@ pub fn run_text<R: Read, W: Write>(
     ensures memory { IsErrOf result RunFault.Memory → Keeps (W.contents writer.old) (W.contents writer.new) }
     ensures too_long_only_past_limit { IsErrOf result RunFault.TooLong
         → IfSome (R.remaining reader.old) (λ input. SCRIPT_LIMIT < length input) }
+    ensures write_failed_only_within_limit { IsErrOf result RunFault.WriteFailed
+        → IfSome (R.remaining reader.old) (λ input. length input ≤ SCRIPT_LIMIT) }
 {
     let text = read_all(alloc, reader)?;
     let output = output_of(alloc, &text)?;
