@@ -133,12 +133,21 @@ fn run(alloc: Global, script: &[u8]) -> Result<(Ended, Vec<u8>), RunFault> {
     Ok((ended, written))
 }
 
+/// Whether the script ends so, with exactly that output.
+fn plays(alloc: Global, script: &str, output: &str, end: Ended) -> Result<bool, RunFault> {
+    let (ended, written) = run(alloc, script.as_bytes())?;
+    Ok(ended == end && written.as_slice() == output.as_bytes())
+}
+
 #[test]
-fn scripts_are_served(rt: HostRuntime) -> Result<(), Fail> {
+fn first_script(rt: HostRuntime) -> Result<(), Fail> {
+    assert!(rt; plays(rt.alloc(), FIRST_SCRIPT, FIRST_OUTPUT, Ended::Clean)?);
+    Ok(())
+}
+
+#[test]
+fn empty_and_bad_script(rt: HostRuntime) -> Result<(), Fail> {
     let cases = [
-        (FIRST_SCRIPT, FIRST_OUTPUT, Ended::Clean),
-        (ACL_SCRIPT, ACL_OUTPUT, Ended::Clean),
-        (TOPIC_SCRIPT, TOPIC_OUTPUT, Ended::Clean),
         ("", "", Ended::Clean),
         ("x", "fault line 1 BadLine\n", Ended::Fault),
         (
@@ -148,10 +157,15 @@ fn scripts_are_served(rt: HostRuntime) -> Result<(), Fail> {
         ),
     ];
     for (script, output, end) in cases {
-        let (ended, written) = run(rt.alloc(), script.as_bytes())?;
-        assert_eq!(rt; written.as_slice(), output.as_bytes());
-        assert_eq!(rt; ended, end);
+        assert!(rt; plays(rt.alloc(), script, output, end)?);
     }
+    Ok(())
+}
+
+#[test]
+fn scripts_of_bindings_and_topics(rt: HostRuntime) -> Result<(), Fail> {
+    assert!(rt; plays(rt.alloc(), ACL_SCRIPT, ACL_OUTPUT, Ended::Clean)?);
+    assert!(rt; plays(rt.alloc(), TOPIC_SCRIPT, TOPIC_OUTPUT, Ended::Clean)?);
     Ok(())
 }
 
@@ -240,5 +254,41 @@ fn batches_have_a_limit(rt: HostRuntime) -> Result<(), Fail> {
         let (_, written) = run(rt.alloc(), script.as_slice())?;
         assert_eq!(rt; written.as_slice(), output.as_bytes());
     }
+    Ok(())
+}
+
+/// A script in which one with Create on the cluster, one without it and the super user create topics whose names are so
+/// many letters long.
+fn creating() -> [(&'static str, usize, &'static str); 5] {
+    [
+        (
+            "User:root h create-acl allow User:a * Create Cluster literal kafka-cluster\nUser:a h create-topic ",
+            249,
+            " 1\n",
+        ),
+        ("User:a h create-topic ", 250, " 1\n"),
+        ("User:b h create-topic ", 250, " 1\n"),
+        ("User:root h create-topic ", 1, " 0\n"),
+        ("User:root h create-topic ", 249, " 1\n"),
+    ]
+}
+
+#[test]
+fn create_topic_refusals(rt: HostRuntime) -> Result<(), Fail> {
+    let mut script = Vec::new(rt.alloc());
+    script.extend_from_slice(b"super User:root\n")?;
+    for (before, letters, after) in creating() {
+        script.extend_from_slice(before.as_bytes())?;
+        for _ in 0..letters {
+            script.push(b'a')?;
+        }
+        script.extend_from_slice(after.as_bytes())?;
+    }
+    let (_, written) = run(rt.alloc(), script.as_slice())?;
+    let output = "1 ok serials 1\n2 ok created\n3 refused 17 INVALID_TOPIC_EXCEPTION BadTopicName\n\
+         4 denied 29 TOPIC_AUTHORIZATION_FAILED no-allow,no-allow\n\
+         5 refused 37 INVALID_PARTITIONS BadPartitions\n\
+         6 refused 36 TOPIC_ALREADY_EXISTS TopicExists\n";
+    assert_eq!(rt; written.as_slice(), output.as_bytes());
     Ok(())
 }
