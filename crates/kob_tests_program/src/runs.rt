@@ -292,3 +292,66 @@ fn create_topic_refusals(rt: HostRuntime) -> Result<(), Fail> {
     assert_eq!(rt; written.as_slice(), output.as_bytes());
     Ok(())
 }
+
+/// Requests with so many of one piece, after a topic was created, and the line of their reply.
+fn long_requests() -> [(
+    &'static str,
+    &'static str,
+    usize,
+    &'static str,
+    &'static str,
+); 5] {
+    [
+        (
+            "produce t 0 -",
+            " v",
+            1_001,
+            "\n",
+            "2 refused 42 INVALID_REQUEST TooManyRecords\n",
+        ),
+        (
+            "commit ",
+            "g",
+            256,
+            " t 0 1\n",
+            "2 refused 24 INVALID_GROUP_ID BadGroupName\n",
+        ),
+        (
+            "committed ",
+            "g",
+            256,
+            " t 0\n",
+            "2 refused 24 INVALID_GROUP_ID BadGroupName\n",
+        ),
+        (
+            "delete-group ",
+            "g",
+            256,
+            "\n",
+            "2 refused 24 INVALID_GROUP_ID BadGroupName\n",
+        ),
+        (
+            "create-acl allow User:a * Read Topic literal ",
+            "a",
+            256,
+            "\n",
+            "2 refused 42 INVALID_REQUEST NameTooLong\n",
+        ),
+    ]
+}
+
+#[test]
+fn long_requests_are_refused(rt: HostRuntime) -> Result<(), Fail> {
+    for (before, piece, times, after, output) in long_requests() {
+        let mut script = Vec::new(rt.alloc());
+        script.extend_from_slice(b"super User:r\nUser:r h create-topic t 1\nUser:r h ")?;
+        script.extend_from_slice(before.as_bytes())?;
+        for _ in 0..times {
+            script.extend_from_slice(piece.as_bytes())?;
+        }
+        script.extend_from_slice(after.as_bytes())?;
+        let (_, written) = run(rt.alloc(), script.as_slice())?;
+        assert!(rt; written.as_slice().strip_prefix(b"1 ok created\n") == Some(output.as_bytes()));
+    }
+    Ok(())
+}
