@@ -24,3 +24,4 @@ pub use line::read_line;
 pub use printed_binding::print_binding;
 pub use printed_list::print_list;
 pub use printed_text::{push_bytes, push_number};
+pub use word::{filter_pattern_named, operation_named};

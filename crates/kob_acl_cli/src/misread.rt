@@ -71,7 +71,7 @@ fn read_operation(alloc: Global, word: &Text) -> Result<Operation, CommandFault>
     ensures named { IfOk result (λ made. filter is_no_operation (word.now ∷ []) ≡ []) }
     ensures read { IfOk result (λ made. operations_named (word.now ∷ []) ≡ made ∷ []) }
 {
-    match operation_named(word.as_str()) {
+    match operation_named(word.as_str().as_bytes()) {
         Some(operation) => Ok(operation),
         None => Err(CommandFault::BadName(word.copy(alloc)?)),
     }
@@ -83,7 +83,7 @@ pub fn read_pattern_type(alloc: Global, word: &Option<Text>) -> Result<FilterPat
 {
     match word {
         None => Ok(FilterPattern::Literal),
-        Some(word) => match filter_pattern_named(word.as_str()) {
+        Some(word) => match filter_pattern_named(word.as_str().as_bytes()) {
             Some(pattern) => Ok(pattern),
             None => Err(CommandFault::BadName(word.copy(alloc)?)),
         },

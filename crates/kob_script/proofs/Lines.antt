@@ -1,33 +1,50 @@
 -- A script is read line by line.
-use Rattle.std.proofs.Common.{◌≡◌, ◌∙◌, ◌+◌, ℕ, List, [], ◌∷◌, Result, Ok, Err, sym, ap}
-use Rattle.kob_script.specs.declared.fault.FaultKind.{FaultKind}
+use Rattle.std.proofs.Common.{◌≡◌, ◌+◌, ℕ, List, [], ◌∷◌, Option, Result, Ok, Err, sym, subst, refl}
+use Rattle.kob_acl_cli.specs.declared.args.CliArgs.{CliArgs}
 use Rattle.kob_script.specs.declared.fault.Fault as fault
 use Rattle.kob_script.specs.declared.fault.LineError.{LineError}
 use Rattle.kob_script.specs.declared.fault.LineError.TheVariants.{Memory, Fault}
-use Rattle.kob_script.specs.Reading.{Fails}
-use Rattle.kob_script.specs.Growing.{fault_at, Reads}
+use Rattle.kob_script.specs.declared.script.Growing.{Growing}
 use Rattle.kob_script.specs.declared.script.Script.{Script}
-use Rattle.kob_script.specs.Script.{with_line, at_line, then_lines, lines_from}
+use Rattle.kob_script.specs.Growing.{fault_at, grown, GivesNext}
+use Rattle.kob_script.specs.Script.{empty_script, lines_in, with_line, with_words}
+use Rattle.kob_script.specs.Told.{IsToldOf}
+use Rattle.kob_script.specs.ToldScript.{LineReadsAs, LinesFrom, MayGiveNext, MayRead, ReadsAs}
+use Rattle.kob_script.specs.Words.{words}
 
--- the next line, and then the others
-next_line : Script → ℕ → List (List ℕ) → Result Script FaultKind → Result Script fault.Fault
-next_line s number more read = then_lines (at_line number read) (λ next. lines_from next (number + 1) more)
+-- a line that was read by what clap told of it
+pub line_gives : (old : Script) (line : List ℕ) (told : Option CliArgs) (new : Growing) (result : Result (Unit {0}) LineError)
+    → IsToldOf (words line) told → GivesNext new result (with_words told old (words line)) → MayGiveNext (LineReadsAs old line) new result
+unfolding with_line
+line_gives old line told new (Ok done) is gives = (told, is, gives)
+line_gives old line told new (Err Memory) is gives = tt
+line_gives old line told new (Err (Fault kind)) is gives = (told, is, gives)
 
-steps : (s : Script) (number : ℕ) (rest : List (List ℕ)) (line : List ℕ) (more : List (List ℕ)) → rest ≡ line ∷ more → lines_from s number rest ≡ next_line s number more (with_line s line)
-unfolding lines_from next_line
-steps s number rest line more split = ap (lines_from s number) split
+-- What the lines that are left may be read as, the text may be.
+abbrev pub Leads : List ℕ → Script → ℕ → List (List ℕ) → Type 0
+Leads text s number rest = (read : Result Script fault.Fault) → LinesFrom s number rest read → ReadsAs text read
 
-pub line_keeps : (s next : Script) (number : ℕ) (rest : List (List ℕ)) (line : List ℕ) (more : List (List ℕ)) (all : Result Script fault.Fault)
-    → lines_from s number rest ≡ all → rest ≡ line ∷ more → with_line s line ≡ Ok next → lines_from next (number + 1) more ≡ all
-unfolding next_line
-line_keeps s next number rest line more all kept split gives = sym (steps s number rest line more split ∙ ap (next_line s number more) gives) ∙ kept
+pub lines_begin : (text : List ℕ) (growing : Growing) → growing.supers.items ≡ [] → growing.events.items ≡ [] → Leads text (grown growing) 1 (lines_in text)
+lines_begin text growing nobody nothing =
+    let same : grown growing ≡ empty_script = λ i. record { supers = nobody i; events = nothing i } in
+    λ read may. subst (λ (s : Script). LinesFrom s 1 (lines_in text) read) same may
 
-pub line_fails : (s : Script) (number : ℕ) (rest : List (List ℕ)) (line : List ℕ) (more : List (List ℕ)) (all : Result Script fault.Fault) (e : LineError)
-    → lines_from s number rest ≡ all → rest ≡ line ∷ more → Fails e (with_line s line) → Reads (Err (fault_at number e)) all
-unfolding next_line
-line_fails s number rest line more all Memory kept split fails = tt
-line_fails s number rest line more all (Fault kind) kept split fails = sym kept ∙ steps s number rest line more split ∙ ap (next_line s number more) fails
+pub line_keeps : (text : List ℕ) (s next : Script) (number : ℕ) (rest : List (List ℕ)) (line : List ℕ) (more : List (List ℕ))
+    → Leads text s number rest → rest ≡ line ∷ more → LineReadsAs s line (Ok next) → Leads text next (number + 1) more
+unfolding LinesFrom
+line_keeps text s next number rest line more leads split reads =
+    λ read others. leads read (subst (λ (lines : List (List ℕ)). LinesFrom s number lines read) (sym split) (Ok next, reads, others))
 
-pub lines_end : (s : Script) (number : ℕ) (rest : List (List ℕ)) (all : Result Script fault.Fault) → lines_from s number rest ≡ all → rest ≡ [] → all ≡ Ok s
-unfolding lines_from
-lines_end s number rest all kept empty = sym kept ∙ ap (lines_from s number) empty
+pub line_stops : (text : List ℕ) (s : Script) (growing : Growing) (number : ℕ) (rest : List (List ℕ)) (line : List ℕ) (more : List (List ℕ)) (e : LineError)
+    → Leads text s number rest → rest ≡ line ∷ more → MayGiveNext (LineReadsAs s line) growing (Err e) → MayRead text (Err (fault_at number e))
+unfolding LinesFrom
+line_stops text s growing number rest line more Memory leads split reads = tt
+line_stops text s growing number rest line more (Fault kind) leads split reads =
+    let read : Result Script fault.Fault = Err (record { line = number; kind = kind }) in
+    leads read (subst (λ (lines : List (List ℕ)). LinesFrom s number lines read) (sym split) (Err kind, reads, refl))
+
+pub lines_end : (text : List ℕ) (s : Script) (number : ℕ) (rest : List (List ℕ)) → Leads text s number rest → rest ≡ [] → ReadsAs text (Ok s)
+unfolding LinesFrom
+lines_end text s number rest leads empty =
+    let read : Result Script fault.Fault = Ok s in
+    leads read (subst (λ (lines : List (List ℕ)). LinesFrom s number lines read) (sym empty) refl)

@@ -1,7 +1,9 @@
 -- The table of commands.
-use Rattle.std.specs.Prelude.{ℕ, List, [], ◌∷◌, Result, Ok, Err, codes, if◌then◌else◌}
+use Rattle.std.specs.Prelude.{ℕ, List, [], ◌∷◌, Option, Result, Ok, Err, codes, if◌then◌else◌}
 use Rattle.std.specs.Str.{bytes_eq}
+use Rattle.kob_acl_cli.specs.declared.args.CliArgs.{CliArgs}
 use Rattle.kob_rights.specs.declared.event.Event.{Event}
+use Rattle.kob_script.specs.Acl.{acl_line}
 use Rattle.kob_script.specs.AclLines.{create_acl_line, describe_acls_line, delete_acls_line}
 use Rattle.kob_script.specs.declared.fault.FaultKind.{FaultKind}
 use Rattle.kob_script.specs.declared.fault.FaultKind.TheVariants.{BadLine}
@@ -35,11 +37,13 @@ command_of name who from arguments =
     else if bytes_eq name (codes "delete-group") then delete_group_line who from arguments
     else acl_command_of name who from arguments
 
--- PRINCIPAL HOST COMMAND and its words
-unfoldable pub event_of : List (List ℕ) → Result Event FaultKind
-event_of (who ∷ from ∷ command ∷ arguments) = bytes_of command >>= λ name. command_of name who from arguments
-event_of _ = Err BadLine
+-- the events of a line with the command, in order; only `acl` may ask for more or fewer than one
+abbrev pub events_named : Option CliArgs → List ℕ → List ℕ → List ℕ → List (List ℕ) → Result (List Event) FaultKind
+events_named told name who from arguments =
+    if bytes_eq name (codes "acl") then acl_line told who from arguments
+    else (command_of name who from arguments >>= λ event. Ok (event ∷ []))
 
--- the events that a line asks for, in order
-abbrev pub events_of : List (List ℕ) → Result (List Event) FaultKind
-events_of words = event_of words >>= λ event. Ok (event ∷ [])
+-- PRINCIPAL HOST COMMAND and its words, by what clap told of those of `acl`
+unfoldable pub events_of : Option CliArgs → List (List ℕ) → Result (List Event) FaultKind
+events_of told (who ∷ from ∷ command ∷ arguments) = bytes_of command >>= λ name. events_named told name who from arguments
+events_of told _ = Err BadLine

@@ -1,10 +1,10 @@
 -- The words of the tables: permissions, operations, resources and patterns.
 use Rattle.std.specs.Prelude.{ℕ, List, Option, Some, None, Result, Ok, codes, if◌then◌else◌}
 use Rattle.std.specs.Str.{bytes_eq, str_eq_ignore_ascii_case}
+use Rattle.kob_acl_cli.specs.Words.{operation_named, filter_pattern_named}
 use Rattle.kob_names.specs.declared.filter.FilterPattern.{FilterPattern}
-use Rattle.kob_names.specs.declared.filter.FilterPattern.TheVariants as filter
+use Rattle.kob_names.specs.declared.filter.FilterPattern.TheVariants.{Any}
 use Rattle.kob_names.specs.declared.kinds.Operation.{Operation}
-use Rattle.kob_names.specs.declared.kinds.Operation.TheVariants.{All, Read, Write, Create, Delete, Alter, Describe, ClusterAction, DescribeConfigs, AlterConfigs, IdempotentWrite}
 use Rattle.kob_names.specs.declared.kinds.PatternKind.{PatternKind}
 use Rattle.kob_names.specs.declared.kinds.PatternKind.TheVariants.{Literal, Prefixed}
 use Rattle.kob_names.specs.declared.kinds.Permission.{Permission}
@@ -37,35 +37,6 @@ pattern_named name =
     else (if str_eq_ignore_ascii_case name (codes "Prefixed") then Some Prefixed
     else None)
 
--- which patterns a filter takes
-abbrev pub filter_pattern_named : List ℕ → Option FilterPattern
-filter_pattern_named name =
-    if str_eq_ignore_ascii_case name (codes "Literal") then Some filter.Literal
-    else (if str_eq_ignore_ascii_case name (codes "Prefixed") then Some filter.Prefixed
-    else (if str_eq_ignore_ascii_case name (codes "Any") then Some filter.Any
-    else (if str_eq_ignore_ascii_case name (codes "Match") then Some filter.Matching
-    else None)))
-
--- operations on what a configuration tells and those that stand alone
-abbrev pub rare_operation_named : List ℕ → Option Operation
-rare_operation_named name =
-    if str_eq_ignore_ascii_case name (codes "ClusterAction") then Some ClusterAction
-    else (if str_eq_ignore_ascii_case name (codes "DescribeConfigs") then Some DescribeConfigs
-    else (if str_eq_ignore_ascii_case name (codes "AlterConfigs") then Some AlterConfigs
-    else (if str_eq_ignore_ascii_case name (codes "IdempotentWrite") then Some IdempotentWrite
-    else None)))
-
-abbrev pub operation_named : List ℕ → Option Operation
-operation_named name =
-    if str_eq_ignore_ascii_case name (codes "All") then Some All
-    else (if str_eq_ignore_ascii_case name (codes "Read") then Some Read
-    else (if str_eq_ignore_ascii_case name (codes "Write") then Some Write
-    else (if str_eq_ignore_ascii_case name (codes "Create") then Some Create
-    else (if str_eq_ignore_ascii_case name (codes "Delete") then Some Delete
-    else (if str_eq_ignore_ascii_case name (codes "Alter") then Some Alter
-    else (if str_eq_ignore_ascii_case name (codes "Describe") then Some Describe
-    else rare_operation_named name))))))
-
 -- what a word names after its escapes
 unfoldable pub permission_of : List ℕ → Result Permission FaultKind
 permission_of word = bytes_of word >>= λ name. found_or BadWord (permission_named name)
@@ -82,5 +53,5 @@ operation_of word = bytes_of word >>= λ name. found_or BadWord (operation_named
 -- a filter takes any pattern by `-` too, which has to stand without escapes
 unfoldable pub filter_pattern_of : List ℕ → Result FilterPattern FaultKind
 filter_pattern_of word =
-    if bytes_eq word (codes "-") then Ok filter.Any
+    if bytes_eq word (codes "-") then Ok Any
     else (bytes_of word >>= λ name. found_or BadWord (filter_pattern_named name))

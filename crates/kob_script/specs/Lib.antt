@@ -1,3 +1,4 @@
+pub mod Acl
 pub mod AclLines
 pub mod Askers
 pub mod Batches
@@ -8,13 +9,13 @@ pub mod Growing
 pub mod Keywords
 pub mod Numbers
 pub mod PartitionLines
-pub mod PrintedBinding
 pub mod PrintedBody
 pub mod PrintedFault
 pub mod PrintedReply
-pub mod PrintedText
 pub mod Reading
 pub mod Script
 pub mod Texts
+pub mod Told
+pub mod ToldScript
 pub mod TopicLines
 pub mod Words

@@ -5,8 +5,8 @@ use Rattle.kob_names.specs.declared.binding.Binding.{Binding}
 use Rattle.kob_names.specs.declared.record.Record.{Record}
 use Rattle.kob_rights.specs.declared.reply.Body.{Body}
 use Rattle.kob_rights.specs.declared.reply.Body.TheVariants.{Created, Deleted, Committed, Serials, Bindings, Offset, Commit, Records, Topics, Groups, Producer}
-use Rattle.kob_script.specs.PrintedBinding.{binding_text}
-use Rattle.kob_script.specs.PrintedText.{bytes_text}
+use Rattle.kob_acl_cli.specs.PrintedBinding.{binding_text}
+use Rattle.kob_acl_cli.specs.PrintedText.{bytes_text}
 
 -- an item of a list, after a space
 abbrev pub serial_item : ℕ → List ℕ

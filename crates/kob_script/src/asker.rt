@@ -1,14 +1,14 @@
 //! Who asks.
 
-ghost use Rattle.std.specs.Prelude.{◌≡◌};
+ghost use Rattle.std.specs.Prelude.{◌≡◌, IfOk};
 ghost use Rattle.kob_script.specs.Askers.{asker_text, asker_of, asks};
 ghost use Rattle.kob_script.specs.Reading.{Gives};
 
 use crate::fault::LineError;
 use crate::text::{host_of, principal_of, text_of};
-use kob_names::{Host, Principal, Text};
+use kob_names::{Host, PlainValue, Principal, Text};
 use kob_rights::{Event, Request};
-use std::alloc::Global;
+use std::alloc::{AllocError, Global};
 
 /// Who asks and from where, as the words stand in a line.
 #[derive(Clone, Copy)]
@@ -56,6 +56,15 @@ impl AskerText {
 }
 
 impl Asker {
+    /// An equal value. The error is want of memory.
+    pub fn copy(&self, alloc: Global) -> Result<Asker, AllocError>
+        ensures { IfOk result (λ made. made ≡ self.now) }
+    {
+        let principal = self.principal.copy(alloc)?;
+        let host = self.host.copy(alloc)?;
+        Ok(Asker { principal, host })
+    }
+
     /// The event that it asks for something.
     pub fn asks(self, request: Request) -> Event
         ensures { result ≡ asks self request }

@@ -1,9 +1,10 @@
 //! The table of commands.
 
 ghost use Rattle.std.specs.Prelude.{map};
-ghost use Rattle.kob_script.specs.Commands.{acl_command_of, command_of, event_of};
-ghost use Rattle.kob_script.specs.Reading.{Gives};
+ghost use Rattle.kob_script.specs.Commands.{acl_command_of, command_of, events_named, events_of};
+ghost use Rattle.kob_script.specs.Reading.{Gives, GivesSeen};
 
+use crate::acl::acl_line;
 use crate::acl_lines::{create_acl_line, delete_acls_line, describe_acls_line};
 use crate::asker::AskerWords;
 use crate::escape::bytes_of;
@@ -11,6 +12,7 @@ use crate::fault::{FaultKind, LineError};
 use crate::group_lines::{commit_line, committed_line, delete_group_line, groups_line};
 use crate::partition_lines::{fetch_line, init_producer_line, list_offsets_line, produce_line};
 use crate::topic_lines::{create_topic_line, delete_topic_line, metadata_line};
+use kob_acl_cli::CliArgs;
 use kob_rights::Event;
 use std::alloc::Global;
 
@@ -80,16 +82,39 @@ fn acl_command_of(
     Err(LineError::Fault(FaultKind::BadLine))
 }
 
-/// The event of a line's words.
-#[tactic(auto, unfolding(crate::specs::Commands::event_of))]
-pub fn event_of(alloc: Global, words: &[&[u8]]) -> Result<Event, LineError>
-    ensures { Gives result (event_of (map (λ word. word.now) words.now)) }
+fn events_named(
+    alloc: Global,
+    name: &[u8],
+    asker: AskerWords<'_>,
+    words: &[&[u8]],
+    told: &Option<CliArgs>,
+) -> Result<Vec<Event>, LineError>
+    ensures { GivesSeen (λ events. events.items) result
+        (events_named told.now name.now asker.entry.principal.now asker.entry.host.now (map (λ word. word.now) words.now)) }
+{
+    if name == b"acl".as_slice() {
+        return acl_line(alloc, asker, words, told);
+    }
+    let event = command_of(alloc, name, asker, words)?;
+    let mut events = Vec::new(alloc);
+    events.push(event)?;
+    Ok(events)
+}
+
+/// The events of a line's words, by what `clap` told of those of `acl`.
+#[tactic(auto, unfolding(crate::specs::Commands::events_of))]
+pub fn events_of(
+    alloc: Global,
+    words: &[&[u8]],
+    told: &Option<CliArgs>,
+) -> Result<Vec<Event>, LineError>
+    ensures { GivesSeen (λ events. events.items) result (events_of told.now (map (λ word. word.now) words.now)) }
 {
     match words {
         [principal, host, command, arguments @ ..] => {
             let name = bytes_of(alloc, command)?;
             let asker = AskerWords { principal, host };
-            command_of(alloc, name.as_slice(), asker, arguments)
+            events_named(alloc, name.as_slice(), asker, arguments, told)
         }
         _ => Err(LineError::Fault(FaultKind::BadLine)),
     }

@@ -12,7 +12,7 @@ pub enum FaultKind {
     LateSetting,
     #[error("an unknown command, or words that do not fit it")]
     BadLine,
-    #[error("a name, a principal or a host that is not UTF-8")]
+    #[error("a name, a principal, a host or a word of acl that is not UTF-8")]
     BadText,
     #[error("not a principal")]
     BadPrincipal,
@@ -22,6 +22,18 @@ pub enum FaultKind {
     BadNumber,
     #[error("an unknown permission, operation, resource or pattern")]
     BadWord,
+    #[error("words that are no options of kafka-acls")]
+    Usage,
+    #[error("not exactly one of --add, --remove and --list")]
+    NoAction,
+    #[error("no principal, host, operation or pattern type in an option")]
+    BadName,
+    #[error("options that may not stand together")]
+    BadMix,
+    #[error("no topic, group, cluster or transactional id")]
+    NoResource,
+    #[error("no principal")]
+    NoPrincipal,
 }
 
 /// The first line of a script with a fault, counted from 1, and the fault's kind.

@@ -1,12 +1,13 @@
 //! The words of the tables: permissions, operations, resources and patterns.
 
 ghost use Rattle.std.specs.Prelude.{◌≡◌};
-ghost use Rattle.kob_script.specs.Keywords.{permission_named, resource_named, pattern_named, filter_pattern_named, rare_operation_named, operation_named, permission_of, resource_of, pattern_of, operation_of, filter_pattern_of};
+ghost use Rattle.kob_script.specs.Keywords.{permission_named, resource_named, pattern_named, permission_of, resource_of, pattern_of, operation_of, filter_pattern_of};
 ghost use Rattle.kob_script.specs.Reading.{Gives, found_or, unless_dash};
 ghost use Rattle.kob_script.specs.declared.fault.FaultKind.TheVariants.{BadWord};
 
 use crate::escape::bytes_of;
 use crate::fault::{FaultKind, LineError};
+use kob_acl_cli::{filter_pattern_named, operation_named};
 use kob_names::{FilterPattern, Operation, PatternKind, Permission, ResourceKind};
 use std::alloc::Global;
 
@@ -51,71 +52,6 @@ pub fn pattern_named(name: &[u8]) -> Option<PatternKind>
     }
     if name.eq_ignore_ascii_case(b"Prefixed") {
         return Some(PatternKind::Prefixed);
-    }
-    None
-}
-
-/// What a filter's pattern of that name takes, in any ASCII case: `literal`, `prefixed`, `any` or `match`.
-pub fn filter_pattern_named(name: &[u8]) -> Option<FilterPattern>
-    ensures { result ≡ filter_pattern_named name.now }
-{
-    if name.eq_ignore_ascii_case(b"Literal") {
-        return Some(FilterPattern::Literal);
-    }
-    if name.eq_ignore_ascii_case(b"Prefixed") {
-        return Some(FilterPattern::Prefixed);
-    }
-    if name.eq_ignore_ascii_case(b"Any") {
-        return Some(FilterPattern::Any);
-    }
-    if name.eq_ignore_ascii_case(b"Match") {
-        return Some(FilterPattern::Matching);
-    }
-    None
-}
-
-/// The operation of that name, in any ASCII case.
-pub fn operation_named(name: &[u8]) -> Option<Operation>
-    ensures { result ≡ operation_named name.now }
-{
-    if name.eq_ignore_ascii_case(b"All") {
-        return Some(Operation::All);
-    }
-    if name.eq_ignore_ascii_case(b"Read") {
-        return Some(Operation::Read);
-    }
-    if name.eq_ignore_ascii_case(b"Write") {
-        return Some(Operation::Write);
-    }
-    if name.eq_ignore_ascii_case(b"Create") {
-        return Some(Operation::Create);
-    }
-    if name.eq_ignore_ascii_case(b"Delete") {
-        return Some(Operation::Delete);
-    }
-    if name.eq_ignore_ascii_case(b"Alter") {
-        return Some(Operation::Alter);
-    }
-    if name.eq_ignore_ascii_case(b"Describe") {
-        return Some(Operation::Describe);
-    }
-    rare_operation_named(name)
-}
-
-fn rare_operation_named(name: &[u8]) -> Option<Operation>
-    ensures { result ≡ rare_operation_named name.now }
-{
-    if name.eq_ignore_ascii_case(b"ClusterAction") {
-        return Some(Operation::ClusterAction);
-    }
-    if name.eq_ignore_ascii_case(b"DescribeConfigs") {
-        return Some(Operation::DescribeConfigs);
-    }
-    if name.eq_ignore_ascii_case(b"AlterConfigs") {
-        return Some(Operation::AlterConfigs);
-    }
-    if name.eq_ignore_ascii_case(b"IdempotentWrite") {
-        return Some(Operation::IdempotentWrite);
     }
     None
 }

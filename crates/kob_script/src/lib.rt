@@ -1,6 +1,7 @@
 //! The reader of scripts and the printer of replies.
 #![tactic(auto)]
 
+mod acl;
 mod acl_lines;
 mod asker;
 mod batch;
@@ -9,20 +10,20 @@ mod escape;
 mod fault;
 mod group_lines;
 mod keyword;
+mod laws;
 mod number;
 mod partition_lines;
-mod printed_binding;
 mod printed_body;
 mod printed_fault;
 mod printed_reply;
-mod printed_text;
 mod script;
 mod text;
+mod told;
 mod topic_lines;
 mod word;
 
 pub use fault::{Fault, FaultKind, ScriptError};
-pub use printed_binding::print_binding;
+pub use laws::plain_scripts_have_one_reading;
 pub use printed_fault::print_fault;
 pub use printed_reply::{print_replies, print_stopped};
 pub use script::{Script, read_script};

@@ -4,14 +4,17 @@ ghost use Rattle.std.specs.Prelude.{◌≡◌, map};
 ghost use Rattle.kob_script.specs.Escapes.{bytes_of};
 ghost use Rattle.kob_script.specs.Growing.{grown, fault_at, Reads, GivesNext};
 ghost use Rattle.kob_script.specs.Reading.{Gives, GivesUnit, each};
-ghost use Rattle.kob_script.specs.Script.{super_of, with_super, with_events, with_words, with_line, script_of};
+ghost use Rattle.kob_script.specs.Script.{super_of, with_super, with_events, with_words, script_of};
+ghost use Rattle.kob_script.specs.ToldScript.{HasNoAclLine, LineReadsAs, MayGiveNext, MayRead};
 
-use crate::command::event_of;
+use crate::command::events_of;
 use crate::escape::bytes_of;
 use crate::fault::{Fault, FaultKind, LineError, ScriptError};
 use crate::text::{principal_of, text_of};
+use crate::told::told_of;
 use crate::word::words;
 use bstr::ByteSlice;
+use kob_acl_cli::CliArgs;
 use kob_names::{Items, Principal};
 use kob_rights::Event;
 use std::alloc::Global;
@@ -31,9 +34,12 @@ struct Growing {
 }
 
 /// Reads a script to its end, in time linear in its size. Lines end with a line feed, before which one carriage return is
-/// dropped; the last line may lack it. The error is the first line with a fault, or want of memory.
+/// dropped; the last line may lack it. The error is the first line with a fault, or want of memory. What the words of an
+/// `acl` line mean is told by `clap`, and for some words its account leaves more than one answer open; a script without such
+/// lines has one reading.
 pub fn read_script(alloc: Global, text: &[u8]) -> Result<Script, ScriptError>
-    ensures { Reads result (script_of text.now) }
+    ensures told { MayRead text.now result }
+    ensures plain { HasNoAclLine text.now → Reads result (script_of text.now) }
 {
     let mut script = Growing {
         supers: Vec::new(alloc),
@@ -69,16 +75,21 @@ fn fault_at(error: LineError, line: u64) -> ScriptError
     }
 }
 
-#[tactic(auto, unfolding(crate::specs::Script::with_line))]
 fn add_line(alloc: Global, script: &mut Growing, line: &[u8]) -> Result<(), LineError>
-    ensures { GivesNext script.new result (with_line (grown script.old) line.now) }
+    ensures { MayGiveNext (LineReadsAs (grown script.old) line.now) script.new result }
 {
     let words = words(alloc, line)?;
-    add_words(alloc, script, &words)
+    let told = told_of(alloc, &words)?;
+    add_words(alloc, script, &words, &told)
 }
 
-fn add_words(alloc: Global, script: &mut Growing, words: &[&[u8]]) -> Result<(), LineError>
-    ensures { GivesNext script.new result (with_words (grown script.old) (map (λ word. word.now) words.now)) }
+fn add_words(
+    alloc: Global,
+    script: &mut Growing,
+    words: &[&[u8]],
+    told: &Option<CliArgs>,
+) -> Result<(), LineError>
+    ensures { GivesNext script.new result (with_words told.now (grown script.old) (map (λ word. word.now) words.now)) }
 {
     let Some((word, arguments)) = words.split_first() else {
         return Ok(());
@@ -91,7 +102,7 @@ fn add_words(alloc: Global, script: &mut Growing, words: &[&[u8]]) -> Result<(),
     if first.as_slice() == b"super".as_slice() {
         add_super(alloc, script, arguments)
     } else {
-        add_events(alloc, script, words)
+        add_events(alloc, script, words, told)
     }
 }
 
@@ -127,10 +138,15 @@ fn super_of(alloc: Global, arguments: &[&[u8]]) -> Result<Principal, LineError>
     }
 }
 
-fn add_events(alloc: Global, script: &mut Growing, words: &[&[u8]]) -> Result<(), LineError>
-    ensures { GivesNext script.new result (with_events (grown script.old) (map (λ word. word.now) words.now)) }
+fn add_events(
+    alloc: Global,
+    script: &mut Growing,
+    words: &[&[u8]],
+    told: &Option<CliArgs>,
+) -> Result<(), LineError>
+    ensures { GivesNext script.new result (with_events told.now (grown script.old) (map (λ word. word.now) words.now)) }
 {
-    let event = event_of(alloc, words)?;
-    script.events.push(event)?;
+    let mut events = events_of(alloc, words, told)?;
+    script.events.append(&mut events)?;
     Ok(())
 }

@@ -1,13 +1,13 @@
 //! Names, principals and hosts.
 
-ghost use Rattle.std.specs.Prelude.{◌≡◌};
-ghost use Rattle.kob_script.specs.Reading.{Gives, unless_dash, optionally};
+ghost use Rattle.std.specs.Prelude.{◌≡◌, map};
+ghost use Rattle.kob_script.specs.Reading.{Gives, each, unless_dash, optionally};
 ghost use Rattle.kob_script.specs.Texts.{text_in, text_of, principal_of, host_of};
 
 use crate::escape::bytes_of;
 use crate::fault::{FaultKind, LineError};
 use bstr::ByteSlice;
-use kob_names::{Host, HostFault, Principal, PrincipalFault, Text};
+use kob_names::{Host, HostFault, Items, Principal, PrincipalFault, Text};
 use std::alloc::Global;
 
 /// The text of a word.
@@ -17,6 +17,18 @@ pub fn text_of(alloc: Global, word: &[u8]) -> Result<Text, LineError>
 {
     let bytes = bytes_of(alloc, word)?;
     text_in(alloc, bytes.as_slice())
+}
+
+/// The texts of the words, in order.
+pub fn texts_of(alloc: Global, words: &[&[u8]]) -> Result<Items<Text>, LineError>
+    ensures { Gives result (each text_of (map (λ word. word.now) words.now)) }
+{
+    let mut texts = Vec::new(alloc);
+    for word in words {
+        let text = text_of(alloc, word)?;
+        texts.push(text)?;
+    }
+    Ok(Items::from_vec(texts))
 }
 
 fn text_in(alloc: Global, bytes: &[u8]) -> Result<Text, LineError>

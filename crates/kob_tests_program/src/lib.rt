@@ -4,6 +4,8 @@
 #[cfg(test)]
 mod acl;
 #[cfg(test)]
+mod acl_lines;
+#[cfg(test)]
 mod full;
 #[cfg(test)]
 mod rows;

@@ -100,6 +100,18 @@ fn spellings_read_alike(rt: HostRuntime) -> Result<(), Fail> {
             "User:a h produce t 0 0:1:2 k=v%3Dw =x v%3Dw - -\n",
         ),
         ("User:a h metadata t\r", "User:a h metadata t%0d\n"),
+        (
+            "User:a h acl --add --cluster --deny-principal User:b --operation Alter\n",
+            "User:a h create-acl deny User:b * Alter Cluster literal kafka-cluster\n",
+        ),
+        (
+            "User:a h acl --remove --topic t --group g\n",
+            "User:a h delete-acls Topic t literal - - - -\nUser:a h delete-acls Group g literal - - - -\n",
+        ),
+        (
+            "User:a h acl --list --principal User:b\n",
+            "User:a h describe-acls - - any User:b - - -\n",
+        ),
     ];
     for (one, two) in pairs {
         let one = read(rt.alloc(), one)?;

@@ -13,15 +13,16 @@ use Rattle.kob_script.specs.declared.script.Script.{Script}
 use Rattle.kob_script.specs.PrintedFault.{fault_text}
 use Rattle.kob_script.specs.PrintedReply.{text_of_replies, stopped_text}
 use Rattle.kob_script.specs.Script.{script_of}
+use Rattle.kob_script.specs.ToldScript.{HasNoAclLine}
 use Rattle.kob_text.specs.Transfer.{AppendsFront}
 
 some_output : (read : Result Script fault.Fault) (held : Option (List ℕ)) → HasOutput read (AppendsFront held held)
 some_output (Ok s) held = (Clean, text_of_replies (replies_to s.supers s.events), refl, (0, Appends-nil held))
 some_output (Err f) held = (Fault, fault_text f, refl, (0, Appends-nil held))
 
-pub unwritten : {T E : Type 0} (r : Result T E) (input held : Option (List ℕ)) → IfErr r (λ _. IfSome input (λ bytes. HasOutput (script_of bytes) (AppendsFront held held)))
+pub unwritten : {T E : Type 0} (r : Result T E) (input held : Option (List ℕ)) → IfErr r (λ _. IfSome input (λ bytes. HasNoAclLine bytes → HasOutput (script_of bytes) (AppendsFront held held)))
 unwritten (Ok x) input held = tt
-unwritten (Err e) (Some bytes) held = some_output (script_of bytes) held
+unwritten (Err e) (Some bytes) held = λ plain. some_output (script_of bytes) held
 unwritten (Err e) None held = tt
 
 -- the text of the first replies and the line after them is the output of a run that memory stopped

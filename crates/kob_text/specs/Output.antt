@@ -11,6 +11,7 @@ use Rattle.kob_script.specs.declared.fault.Fault as fault
 use Rattle.kob_script.specs.declared.script.Script.{Script}
 use Rattle.kob_script.specs.PrintedFault.{fault_text}
 use Rattle.kob_script.specs.PrintedReply.{text_of_replies, stopped_text}
+use Rattle.kob_script.specs.ToldScript.{ReadsAs}
 
 -- the replies of a broker that was opened with super users and with no bindings, which keeps all accepted batches
 abbrev pub replies_to : List (List ℕ) → List Event → List Reply
@@ -30,3 +31,7 @@ IsOutput (Err fault) Stopped text = ⊥
 -- Some output for what was read has the property.
 abbrev pub HasOutput : Result Script fault.Fault → (List ℕ → Type 0) → Type 0
 HasOutput read P = (ended : Ended) × (text : List ℕ) × IsOutput read ended text × P text
+
+-- Something that the bytes may be read as has the property. Bytes without `acl` lines may be read in one way alone.
+abbrev pub HasReading : List ℕ → (Result Script fault.Fault → Type 0) → Type 0
+HasReading bytes P = (read : Result Script fault.Fault) × ReadsAs bytes read × P read

@@ -5,9 +5,10 @@ ghost use Rattle.kob_broker.specs.Change.{state_of};
 ghost use Rattle.kob_broker.specs.Step.{replies_of};
 ghost use Rattle.kob_partition.specs.Retained.{retained_meaning};
 ghost use Rattle.kob_rights.specs.declared.event.Event as event;
-ghost use Rattle.kob_text.specs.Output.{IsOutput, replies_to};
+ghost use Rattle.kob_text.specs.Output.{HasReading, IsOutput, replies_to};
 ghost use Rattle.kob_script.specs.PrintedReply.{text_of_replies, stopped_text};
 ghost use Rattle.kob_script.specs.Script.{script_of};
+ghost use Rattle.kob_script.specs.ToldScript.{HasNoAclLine};
 
 use crate::fault::RunFault;
 use kob_broker::{Broker, OpenFault, Settings, Stopped};
@@ -36,7 +37,8 @@ pub struct Output {
 
 /// The output for a script. The error is want of memory.
 pub fn output_of(alloc: Global, script: &[u8]) -> Result<Output, RunFault>
-    ensures output { IfOk result (λ output. IsOutput (script_of script.now) output.ended output.text.items) }
+    ensures told { IfOk result (λ output. HasReading script.now (λ read. IsOutput read output.ended output.text.items)) }
+    ensures output { HasNoAclLine script.now → IfOk result (λ output. IsOutput (script_of script.now) output.ended output.text.items) }
     ensures memory { IfErr result (λ fault. fault ≡ RunFault.Memory) }
 {
     match read_script(alloc, script) {

@@ -2,10 +2,11 @@
 
 ghost use Rattle.std.specs.Prelude.{◌≤◌, ◌<◌, List, ℕ, length, IfOk, IfErr, OnOk, IfSome, IsErrOf};
 ghost use Rattle.std.specs.Io.KnownBytes.{Appends, Keeps};
-ghost use Rattle.kob_text.specs.Output.{IsOutput, HasOutput};
+ghost use Rattle.kob_text.specs.Output.{HasOutput, HasReading, IsOutput};
 ghost use Rattle.kob_text.specs.Transfer.{AppendsFront};
 ghost use Rattle.kob_text.specs.declared.transfer.TheConstants.{SCRIPT_LIMIT};
 ghost use Rattle.kob_script.specs.Script.{script_of};
+ghost use Rattle.kob_script.specs.ToldScript.{HasNoAclLine};
 
 use crate::fault::RunFault;
 use crate::output::{Ended, output_of};
@@ -21,12 +22,17 @@ pub fn run_text<R: Read, W: Write>(
     writer: &mut W,
 ) -> Result<Ended, RunFault>
     // What was written is the output for the bytes that were read.
-    ensures ok { IfOk result (λ ended. IfSome (R.remaining reader.old) (λ input. (text : List ℕ)
+    ensures ok { IfOk result (λ ended. IfSome (R.remaining reader.old) (λ input. HasNoAclLine input → (text : List ℕ)
         × IsOutput (script_of input) ended text × Appends (W.contents writer.old) (W.contents writer.new) text)) }
+    // With `acl` lines too, it is the output for what the bytes may be read as.
+    ensures ok_told { IfOk result (λ ended. IfSome (R.remaining reader.old) (λ input. HasReading input (λ read. (text : List ℕ)
+        × IsOutput read ended text × Appends (W.contents writer.old) (W.contents writer.new) text))) }
     ensures limited { OnOk result (IfSome (R.remaining reader.old) (λ input. length input ≤ SCRIPT_LIMIT)) }
     // After a fault, a front of an output was written.
-    ensures front { IfErr result (λ fault. IfSome (R.remaining reader.old) (λ input.
-        HasOutput (script_of input) (AppendsFront (W.contents writer.old) (W.contents writer.new)))) }
+    ensures front { IfErr result (λ fault. IfSome (R.remaining reader.old) (λ input. HasNoAclLine input
+        → HasOutput (script_of input) (AppendsFront (W.contents writer.old) (W.contents writer.new)))) }
+    ensures front_told { IsErrOf result RunFault.WriteFailed → IfSome (R.remaining reader.old) (λ input. HasReading input (λ read.
+        HasOutput read (AppendsFront (W.contents writer.old) (W.contents writer.new)))) }
     // Only a failed write leaves a part.
     ensures unread { IsErrOf result RunFault.ReadFailed → Keeps (W.contents writer.old) (W.contents writer.new) }
     ensures too_long { IsErrOf result RunFault.TooLong → Keeps (W.contents writer.old) (W.contents writer.new) }

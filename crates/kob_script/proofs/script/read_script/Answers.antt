@@ -1,15 +1,16 @@
-use Rattle.std.proofs.Common.{◌≡◌, ◌+◌, rules, arith, ap, suc, length}
-use Rattle.kob_script.specs.Script.{script_of}
-use Rattle.kob_script.proofs.Lines.{line_keeps, line_fails, lines_end}
+use Rattle.std.proofs.Common.{◌≡◌, ◌+◌, arith, ap, suc, length, Ok, Err}
+use Rattle.kob_script.specs.Growing.{fault_at, grown}
+use Rattle.kob_script.proofs.Lines.{lines_begin, line_keeps, line_stops, lines_end}
+use Rattle.kob_script.proofs.PlainScripts.{reads_plain}
 use Rattle.kob_script.proofs.script.read_script.Goals as goal
 
 pub loop-line-init : goal.loop-line-init
-unfolding script_of
 loop-line-init c =
     let same = c.into_iter-line-iterator.ensures.into_iter_gives in
     record {
       few = rw same (omega (arith, c.lines-line-items.ensures.len));
-      kept = rw (same, c.lines-line-items.ensures.value) (search rules);
+      leads = rw (same, c.lines-line-items.ensures.value)
+          (lines_begin c.args.text.now (record { supers = c.new.result; events = c.new-2.result }) c.new.ensures.items c.new-2.ensures.items);
     }
 
 pub loop-line-preserved : goal.loop-line-preserved
@@ -18,13 +19,23 @@ loop-line-preserved c =
     let fewer : length c.loop-line.line-iterator ≡ suc (length c.next.new.self) = ap length split in
     record {
       few = omega (arith, fewer, c.loop-line.invariant.few);
-      kept = line_keeps _ _ (c.loop-line.number + 1) _ _ _ _ c.loop-line.invariant.kept split c.in-Ok.ensures;
+      leads = line_keeps _ _ _ (c.loop-line.number + 1) _ _ _ c.loop-line.invariant.leads split c.in-Ok.ensures;
     }
 
-pub returns-in-Err : goal.returns-in-Err
-returns-in-Err c =
+pub returns-in-Err-clause-told : goal.returns-in-Err-clause-told
+returns-in-Err-clause-told c =
     rw c.fault_at.ensures
-    (line_fails _ (c.loop-line.number + 1) _ _ _ _ _ c.loop-line.invariant.kept c.in-Some.ensures.steps c.in-Err.ensures)
+    (line_stops _ _ c.add_line.new.script (c.loop-line.number + 1) _ _ _ _ c.loop-line.invariant.leads c.in-Some.ensures.steps c.in-Err.ensures)
 
-pub returns : goal.returns
-returns c = rw c.finished.ensures (lines_end _ (c.loop-line.number + 1) _ _ c.loop-line.invariant.kept c.in-None.ensures.steps.0)
+pub returns-in-Err-clause-plain : goal.returns-in-Err-clause-plain
+returns-in-Err-clause-plain c =
+    rw c.fault_at.ensures
+    (reads_plain _ (Err (fault_at (c.loop-line.number + 1) c.in-Err.error)) (line_stops _ _ c.add_line.new.script (c.loop-line.number + 1) _ _ _ _ c.loop-line.invariant.leads c.in-Some.ensures.steps c.in-Err.ensures))
+
+pub returns-clause-told : goal.returns-clause-told
+returns-clause-told c = rw c.finished.ensures (lines_end _ _ (c.loop-line.number + 1) _ c.loop-line.invariant.leads c.in-None.ensures.steps.0)
+
+pub returns-clause-plain : goal.returns-clause-plain
+returns-clause-plain c =
+    rw c.finished.ensures
+    (reads_plain _ (Ok (grown c.loop-line.script)) (lines_end _ _ (c.loop-line.number + 1) _ c.loop-line.invariant.leads c.in-None.ensures.steps.0))

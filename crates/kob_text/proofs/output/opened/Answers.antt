@@ -1,4 +1,4 @@
-use Rattle.std.proofs.Common.{rules, []}
+use Rattle.std.proofs.Common.{[]}
 use Rattle.kob_broker.specs.State.{open_state}
 use Rattle.kob_broker.proofs.Lifting.{runs_alike}
 use Rattle.kob_text.proofs.output.opened.Goals as goal

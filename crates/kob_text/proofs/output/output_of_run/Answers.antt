@@ -1,4 +1,3 @@
-use Rattle.std.proofs.Common.{rules}
 use Rattle.kob_text.proofs.Outputs.{stopped}
 use Rattle.kob_text.proofs.output.output_of_run.Goals as goal
 

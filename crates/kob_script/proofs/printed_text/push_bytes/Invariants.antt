@@ -1,6 +1,0 @@
-use Rattle.std.proofs.Common.{◌≡◌, ◌++◌, take}
-use Rattle.kob_script.specs.PrintedText.{bytes_text}
-use Rattle.kob_script.proofs.printed_text.push_bytes.Given as goal
-
-abbrev pub invariant-loop-byte : goal.invariant-loop-byte
-invariant-loop-byte l = l.out.items ≡ l.initial.out.items ++ bytes_text (take l.byte-index l.bytes)

@@ -1,0 +1,18 @@
+use Rattle.std.proofs.Common.{arith}
+use Rattle.std.proofs.lemmas.Result.{err_from_is_err_and}
+use Rattle.kob_script.specs.Texts.{text_of}
+use Rattle.kob_script.proofs.Each.{each_fails, each_keeps, each_ends}
+use Rattle.kob_script.proofs.text.texts_of.Goals as goal
+
+pub returns-in_err-text : goal.returns-in_err-text
+returns-in_err-text c =
+    let p = err_from_is_err_and c.from_residual.result c.from_residual.ensures.1 in
+    rw (p.1, p.2) (each_fails text_of _ _ c.loop-word.word-index _ _ _ c.loop-word.invariant (omega arith) c.in_err-text.ensures)
+
+pub loop-word-preserved : goal.loop-word-preserved
+loop-word-preserved c =
+    rw c.in_ok-push.ensures.items
+    (each_keeps text_of _ _ c.loop-word.word-index _ _ _ c.loop-word.invariant (omega arith) c.in_ok-text.ensures)
+
+pub returns : goal.returns
+returns c = rw c.from_vec.ensures (each_ends text_of _ _ c.loop-word.word-index _ c.loop-word.invariant (omega arith))
