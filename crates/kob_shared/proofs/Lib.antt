@@ -3,6 +3,7 @@ pub mod Replay
 pub mod Bodies
 pub mod Rising
 pub mod Zips
+pub mod Crossing
 pub mod Joined
 pub mod Events
 pub mod Mine

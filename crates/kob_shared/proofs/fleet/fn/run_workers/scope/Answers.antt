@@ -1,11 +1,14 @@
 use Rattle.std.proofs.Common.{◌≡◌, ◌<◌, length, List, take, take_all, vec_len, Result, IfOk, ap, ◌∙◌, subst, arith}
+use denote.Param.Send.{sendable}
 use Rattle.std.specs.List.{AllZip}
 use Rattle.std.specs.declared.thread.PromisedHandle.{PromisedHandle}
 use Rattle.kob_shared.specs.declared.script.Script.{Script}
+use Rattle.kob_shared.proofs.script.Script.TheSendSync as script
 use Rattle.kob_shared.specs.declared.journal.Receipt.{Receipt}
 use Rattle.kob_shared.specs.declared.faults.CallFault.{CallFault}
 use Rattle.kob_shared.specs.declared.fleet.Answers.{Answers}
 use Rattle.kob_shared.specs.Fleets.{IsAnswered}
+use Rattle.kob_shared.proofs.Crossing.{shared_sync}
 use Rattle.kob_shared.proofs.Zips.{all_zip-more}
 use Rattle.kob_shared.proofs.Joined.{all_zip-joined}
 use Rattle.kob_shared.proofs.fleet.fn.run_workers.scope.Goals as goal
@@ -13,6 +16,9 @@ use Rattle.kob_shared.proofs.fleet.fn.run_workers.scope.Goals as goal
 -- the thread was started for this script
 abbrev IsFor : Script → PromisedHandle (Result (List Receipt) CallFault) Answers → Type 0
 IsFor s h = h.promise.0 ≡ vec_len s.requests
+
+pub spawn_with-begun-requires-send-F : goal.spawn_with-begun-requires-send-F
+spawn_with-begun-requires-send-F g c κs within = search (shared_sync, script.the_sync, sendable) depth 20
 
 pub loop-i-preserved : goal.loop-i-preserved
 loop-i-preserved g c =
