@@ -121,6 +121,21 @@ fn serve_first(
     Ok(told)
 }
 
+/// Opens the journal, and serves the first events.
+fn begin(
+    alloc: Global,
+    broker: Broker,
+    first: &[Event],
+) -> Result<(Recorded, Transcript), FleetFault>
+    requires { IsFresh broker }
+    ensures told { IfOk result (λ begun. (length begun.1 ≡ length first.now) × Follows 0 begun.1) }
+    ensures midway { IfErr result IsMidway }
+{
+    let mut recorded = Recorded::open(alloc, broker, MOST_ENTRIES)?;
+    let told = serve_first(alloc, &mut recorded, first)?;
+    Ok((recorded, told))
+}
+
 /// The transcripts of all workers, or the first fault.
 fn gather(
     alloc: Global,
@@ -231,8 +246,7 @@ fn run_all<R: Threads + Wait + Sync, G: Gate + Sync>(
     ensures later { IfErr result IsLater }
 {
     let opening = broker.opening(alloc)?;
-    let mut recorded = Recorded::open(alloc, broker, MOST_ENTRIES)?;
-    let told = serve_first(alloc, &mut recorded, first)?;
+    let (recorded, told) = begin(alloc, broker, first)?;
     let shared = SharedBroker::open(recorded);
     let results = run_workers(rt, alloc, &shared, scripts, gate)?;
     let transcripts = gather(alloc, told, results)?;

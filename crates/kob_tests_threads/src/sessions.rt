@@ -29,12 +29,17 @@ fn begun(alloc: Global) -> Result<Recorded, Fail> {
 }
 
 /// `User:root` creates the topic `t`.
-fn create_topic<R: Wait>(rt: &R, alloc: Global, root: &mut Session<'_>) -> Result<(), Fail> {
+pub(crate) fn create_topic<R: Wait>(
+    rt: &R,
+    alloc: Global,
+    root: &mut Session<'_>,
+) -> Result<(), Fail> {
     let _ = root.call(rt, alloc, creation(alloc)?)?;
     Ok(())
 }
 
-fn session<'a>(
+/// A session of a worker for a principal at the host `h`.
+pub(crate) fn session<'a>(
     alloc: Global,
     shared: &'a SharedBroker,
     worker: usize,
@@ -95,7 +100,11 @@ fn session_full(rt: HostRuntime) -> Result<(), Fail> {
 }
 
 /// Writes one record.
-fn write<R: Wait>(rt: &R, alloc: Global, session: &mut Session<'_>) -> Result<Receipt, Fail> {
+pub(crate) fn write<R: Wait>(
+    rt: &R,
+    alloc: Global,
+    session: &mut Session<'_>,
+) -> Result<Receipt, Fail> {
     Ok(session.call(rt, alloc, produce(alloc)?)?)
 }
 

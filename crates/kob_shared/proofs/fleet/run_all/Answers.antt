@@ -14,11 +14,11 @@ gather-requires g c =
 
 pub end_of-requires-clause-answered : goal.end_of-requires-clause-answered
 end_of-requires-clause-answered g c =
-    (answered-all c.args.first.now c.in_ok-told.told c.args.scripts.now c.in_ok-results.results.items c.in_ok-transcripts.transcripts.items c.in_ok-told.ensures.told c.in_ok-results.ensures.each c.in_ok-transcripts.ensures.all).0
+    (answered-all c.args.first.now c.in_ok-recorded.told c.args.scripts.now c.in_ok-results.results.items c.in_ok-transcripts.transcripts.items c.in_ok-recorded.ensures.told c.in_ok-results.ensures.each c.in_ok-transcripts.ensures.all).0
 
 pub end_of-requires-clause-first : goal.end_of-requires-clause-first
 end_of-requires-clause-first g c =
-    (answered-all c.args.first.now c.in_ok-told.told c.args.scripts.now c.in_ok-results.results.items c.in_ok-transcripts.transcripts.items c.in_ok-told.ensures.told c.in_ok-results.ensures.each c.in_ok-transcripts.ensures.all).1
+    (answered-all c.args.first.now c.in_ok-recorded.told c.args.scripts.now c.in_ok-results.results.items c.in_ok-transcripts.transcripts.items c.in_ok-recorded.ensures.told c.in_ok-results.ensures.each c.in_ok-transcripts.ensures.all).1
 
 pub returns-clause-ok : goal.returns-clause-ok
 returns-clause-ok g c =
