@@ -7,3 +7,5 @@ pub mod Clauses
 pub mod Just
 pub mod Lifting
 pub mod Shown
+pub mod PartitionOffsets
+pub mod Offsets

@@ -22,3 +22,4 @@ pub mod InForce
 pub mod Justice
 pub mod Listings
 pub mod Plainly
+pub mod Offsets

@@ -1,5 +1,6 @@
 //! Laws of the definitions. These functions do nothing: their contracts are the laws.
 
+ghost use Rattle.std.specs.List.{All};
 ghost use Rattle.std.specs.Prelude.{◌≡◌, ℕ, List};
 ghost use Rattle.kob_names.specs.declared.binding.Binding.{Binding};
 ghost use Rattle.kob_names.specs.declared.verdict.Verdict.{Verdict};
@@ -11,9 +12,10 @@ ghost use Rattle.kob_partition.specs.Batches.{Plain};
 ghost use Rattle.kob_partition.specs.Retained.{plain_meaning};
 ghost use Rattle.kob_broker.specs.Justice.{EachJust, SameDenial};
 ghost use Rattle.kob_broker.specs.Listings.{ListsGroups, ListsTopics};
+ghost use Rattle.kob_broker.specs.Offsets.{OffsetsWithin};
 ghost use Rattle.kob_broker.specs.Plainly.{RunsAlike, StepsAlike};
 ghost use Rattle.kob_broker.specs.State.{State, open_state};
-ghost use Rattle.kob_broker.specs.Step.{step};
+ghost use Rattle.kob_broker.specs.Step.{replies_of, step};
 
 /// Whatever events come after the opening, each is served exactly where the bindings in force at its place grant
 /// every right of the operation table, and each denial names the earliest deny that matches, or that no allow does.
@@ -57,6 +59,15 @@ pub fn what_is_kept_is_enough()
 pub fn listings_hold_what_is_described()
     ensures topics { (s : State Plain) (event : Event) → ListsTopics s event }
     ensures groups { (s : State Plain) (event : Event) → ListsGroups s event }
+{
+    // The contract is the law.
+}
+
+/// Whatever events come after the opening, each offset that is answered is at most 9,223,372,036,854,775,807, the
+/// greatest at which a log may end, and each record that is fetched has an offset below that.
+pub fn offsets_stay_within_the_limit()
+    ensures { (supers : List (List ℕ)) (bindings : List Binding) (events : List Event)
+        → All OffsetsWithin (replies_of plain_meaning events (open_state supers bindings)) }
 {
     // The contract is the law.
 }
