@@ -1,6 +1,7 @@
 pub mod Openings
 pub mod Replay
 pub mod Bodies
+pub mod OffsetBounds
 pub mod Rising
 pub mod Zips
 pub mod Crossing

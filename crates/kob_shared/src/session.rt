@@ -1,6 +1,7 @@
 //! Sessions over a broker under one lock.
 
 ghost use Rattle.std.specs.Prelude.{◌≡◌, ◌+◌, ◌<◌, ◌≤◌, IfOk, IfErr, OnErr};
+ghost use Rattle.kob_broker.specs.Offsets.{OffsetsWithin};
 ghost use Rattle.kob_shared.specs.Bodies.{Fits};
 ghost use Rattle.kob_shared.specs.Journals.{IsSound};
 ghost use Rattle.kob_shared.specs.Sessions.{Seat, event_by, IsServed, IsStaleOnlyBelow};
@@ -53,6 +54,7 @@ impl SharedBroker {
         ensures place { IfOk result (λ r. (seen ≤ r.place) × (r.place < 1000000)) }
         ensures served { IfOk result (λ r. IsServed event.now r) }
         ensures fits { IfOk result (λ r. Fits event.now.request r.reply) }
+        ensures offsets { IfOk result (λ r. OffsetsWithin r.reply) }
         ensures stale { IfErr result (IsStaleOnlyBelow seen) }
     {
         let mut recorded = self.recorded.lock(rt);
@@ -107,6 +109,7 @@ impl<'a> Session<'a> {
         ensures err { OnErr result (self.new ≡ self.old) }
         ensures served { IfOk result (λ r. IsServed (event_by self.old.principal self.old.host request) r) }
         ensures fits { IfOk result (λ r. Fits request r.reply) }
+        ensures offsets { IfOk result (λ r. OffsetsWithin r.reply) }
         ensures stale { IfErr result (IsStaleOnlyBelow self.old.seen) }
     {
         let event = self.event(alloc, request)?;

@@ -16,7 +16,11 @@ const TURNS: usize = 150;
 const ENTRIES: usize = 301;
 
 /// Worker 1 creates the topic, and then workers 2 and 1 write in turn.
-fn write_in_turn<R: Wait + Abort>(rt: &R, alloc: Global, shared: &SharedBroker) -> Result<(), Fail> {
+fn write_in_turn<R: Wait + Abort>(
+    rt: &R,
+    alloc: Global,
+    shared: &SharedBroker,
+) -> Result<(), Fail> {
     let mut first = session(alloc, shared, 1, "User:root")?;
     let mut second = session(alloc, shared, 2, "User:root")?;
     create_topic(rt, alloc, &mut first)?;
@@ -55,9 +59,7 @@ fn check_entries<R: Abort>(rt: &R, journal: &Journal) -> Result<(), Fail> {
 fn journal_crosses_chunks(rt: HostRuntime) -> Result<(), Fail> {
     let alloc = rt.alloc();
     let broker = broker(alloc, Vec::new(alloc))?;
-    let recorded = Recorded::open(alloc, broker, ENTRIES)
-        .ok()
-        .ok_or("memory")?;
+    let recorded = Recorded::open(alloc, broker, ENTRIES).ok().ok_or("memory")?;
     let shared = SharedBroker::open(recorded);
     write_in_turn(&rt, alloc, &shared)?;
     check_entries(&rt, shared.finish().journal())
