@@ -1,0 +1,17 @@
+pub mod Openings
+pub mod Replay
+pub mod Bodies
+pub mod OffsetBounds
+pub mod Rising
+pub mod Zips
+pub mod Crossing
+pub mod Joined
+pub mod Events
+pub mod Mine
+pub mod Claims
+pub mod Differences
+pub mod Compared
+pub mod Counted
+pub mod Beginnings
+pub mod FaultCases
+pub mod FleetEnds

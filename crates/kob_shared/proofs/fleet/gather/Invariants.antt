@@ -1,0 +1,5 @@
+use Rattle.std.proofs.Common.{◌≡◌, ◌+◌, ◌∷◌, map, length, Ok, vec_len}
+use Rattle.kob_shared.proofs.fleet.gather.Given as goal
+
+abbrev pub invariant-loop-outcome : goal.invariant-loop-outcome
+invariant-loop-outcome l = (vec_len l.told ≡ length l.yielded + 1) × (map Ok l.told.items ≡ Ok l.fn.first ∷ l.yielded)

@@ -1,0 +1,135 @@
+//! Sessions over a broker under one lock.
+
+ghost use Rattle.std.specs.Prelude.{◌≡◌, ◌+◌, ◌<◌, ◌≤◌, IfOk, IfErr, OnErr};
+ghost use Rattle.kob_broker.specs.Offsets.{OffsetsWithin};
+ghost use Rattle.kob_shared.specs.Bodies.{Fits};
+ghost use Rattle.kob_shared.specs.Journals.{IsSound};
+ghost use Rattle.kob_shared.specs.Sessions.{Seat, event_by, IsServed, IsStaleOnlyBelow};
+
+use crate::faults::CallFault;
+use crate::journal::Receipt;
+use crate::recorded::Recorded;
+use kob_names::{Host, PlainValue, Principal};
+use kob_rights::{Event, Request};
+use std::alloc::{AllocError, Global};
+use std::marker::Model;
+use std::sync::{Mutex, Wait};
+
+/// A broker and its journal, under one lock. No other state is shared.
+#[derive(Drop)]
+pub struct SharedBroker {
+    recorded: Mutex<Recorded>,
+}
+
+impl SharedBroker {
+    /// Puts the broker and its journal under the lock; no memory is taken.
+    pub fn open(recorded: Recorded) -> SharedBroker {
+        SharedBroker {
+            recorded: Mutex::new(recorded),
+        }
+    }
+
+    /// A session of a worker, for one principal at one host, that has seen nothing yet; no memory is taken.
+    pub fn session(&self, worker: usize, principal: Principal, host: Host) -> Session<'_>
+        ensures { result ≡ record { worker = worker; principal = principal; host = host; seen = 0 } }
+    {
+        Session {
+            shared: self,
+            worker,
+            principal,
+            host,
+            seen: 0,
+        }
+    }
+
+    /// Serves an event under the lock, for a worker who has seen so many entries.
+    fn serve<R: Wait>(
+        &self,
+        rt: &R,
+        alloc: Global,
+        worker: usize,
+        event: &Event,
+        seen: usize,
+    ) -> Result<Receipt, CallFault>
+        ensures place { IfOk result (λ r. (seen ≤ r.place) × (r.place < 1000000)) }
+        ensures served { IfOk result (λ r. IsServed event.now r) }
+        ensures fits { IfOk result (λ r. Fits event.now.request r.reply) }
+        ensures offsets { IfOk result (λ r. OffsetsWithin r.reply) }
+        ensures stale { IfErr result (IsStaleOnlyBelow seen) }
+    {
+        let mut recorded = self.recorded.lock(rt);
+        recorded.serve_after(alloc, worker, event, seen)
+    }
+
+    /// Gives back the broker and its journal, which replays to the broker's state; it waits for nobody.
+    pub fn finish(self) -> Recorded
+        ensures { IsSound result }
+    {
+        let recorded = self.recorded.into_inner();
+        let _ = recorded.journal();
+        recorded
+    }
+}
+
+/// What one worker knows of the shared journal.
+#[derive(Drop)]
+pub struct Session<'a> {
+    shared: &'a SharedBroker,
+    worker: usize,
+    principal: Principal,
+    host: Host,
+    seen: usize,
+}
+
+impl<'a> Model for Session<'a> {
+    ghost use Rattle.kob_shared.specs.Sessions.{Seat};
+
+    ghost Value = { Seat };
+
+    ghost view = { λ s. record { worker = s.worker; principal = s.principal; host = s.host; seen = s.seen } };
+}
+
+impl<'a> Session<'a> {
+    /// How many entries of the journal the session knows of.
+    pub fn seen(&self) -> usize
+        ensures { result ≡ self.now.seen }
+    {
+        self.seen
+    }
+
+    /// Serves a request under the lock. The event is put together before the lock (`Memory`); under it `Stale` comes
+    /// first, then `JournalFull`, then `Memory`. After a fault there is no entry, and the session has seen no more.
+    pub fn call<R: Wait>(
+        &mut self,
+        rt: &R,
+        alloc: Global,
+        request: Request,
+    ) -> Result<Receipt, CallFault>
+        ensures ok { IfOk result (λ r. (self.old.seen ≤ r.place) × (self.new ≡ record self.old { seen = r.place + 1 })) }
+        ensures err { OnErr result (self.new ≡ self.old) }
+        ensures served { IfOk result (λ r. IsServed (event_by self.old.principal self.old.host request) r) }
+        ensures fits { IfOk result (λ r. Fits request r.reply) }
+        ensures offsets { IfOk result (λ r. OffsetsWithin r.reply) }
+        ensures stale { IfErr result (IsStaleOnlyBelow self.old.seen) }
+    {
+        let event = self.event(alloc, request)?;
+        let receipt = self
+            .shared
+            .serve(rt, alloc, self.worker, &event, self.seen)?;
+        self.seen = receipt.place + 1;
+        Ok(receipt)
+    }
+
+    /// The event that the session's principal and host make with the request.
+    fn event(&self, alloc: Global, request: Request) -> Result<Event, AllocError>
+        ensures { IfOk result (λ event. event ≡ event_by self.now.principal self.now.host request) }
+    {
+        let principal = self.principal.copy(alloc)?;
+        let host = self.host.copy(alloc)?;
+        Ok(Event {
+            principal,
+            host,
+            request,
+        })
+    }
+}

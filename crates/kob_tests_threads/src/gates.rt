@@ -1,0 +1,120 @@
+//! Gates that hold workers at their requests, for a bounded number of turns.
+
+use kob_shared::Gate;
+use std::sync::atomic::{AtomicBool, AtomicU64, Ordering};
+use std::thread;
+
+/// How many turns a worker waits before its gate gives up.
+const TURNS: u32 = 10_000_000;
+
+/// Holds each worker at its second request until so many have come to theirs.
+#[derive(Drop)]
+pub(crate) struct Meeting {
+    workers: u64,
+    come: AtomicU64,
+    gave_up: AtomicBool,
+}
+
+impl Meeting {
+    pub(crate) fn of(workers: u64) -> Meeting {
+        Meeting {
+            workers,
+            come: AtomicU64::new(0),
+            gave_up: AtomicBool::new(false),
+        }
+    }
+
+    pub(crate) fn gave_up(&self) -> bool {
+        self.gave_up.load(Ordering::SeqCst)
+    }
+}
+
+impl Gate for Meeting {
+    fn before(&self, _worker: usize, k: usize) {
+        if k != 2 {
+            return;
+        }
+        self.come.fetch_add(1, Ordering::SeqCst);
+        for _ in 0..TURNS {
+            if self.come.load(Ordering::SeqCst) >= self.workers {
+                return;
+            }
+            thread::yield_now();
+        }
+        self.gave_up.store(true, Ordering::SeqCst);
+    }
+}
+
+/// Lets all pass, and counts the calls.
+#[derive(Drop)]
+pub(crate) struct Open {
+    calls: AtomicU64,
+}
+
+impl Open {
+    pub(crate) fn new() -> Open {
+        Open {
+            calls: AtomicU64::new(0),
+        }
+    }
+
+    pub(crate) fn calls(&self) -> u64 {
+        self.calls.load(Ordering::SeqCst)
+    }
+}
+
+impl Gate for Open {
+    fn before(&self, _worker: usize, _k: usize) {
+        self.calls.fetch_add(1, Ordering::SeqCst);
+    }
+}
+
+/// Holds worker 2 at its first request until worker 1 has come to the request of this number, and worker 1 there
+/// until worker 2 has come to its second.
+#[derive(Drop)]
+pub(crate) struct Between {
+    number: usize,
+    come: AtomicBool,
+    done: AtomicBool,
+    gave_up: AtomicBool,
+}
+
+impl Between {
+    pub(crate) fn before_request(number: usize) -> Between {
+        Between {
+            number,
+            come: AtomicBool::new(false),
+            done: AtomicBool::new(false),
+            gave_up: AtomicBool::new(false),
+        }
+    }
+
+    pub(crate) fn gave_up(&self) -> bool {
+        self.gave_up.load(Ordering::SeqCst)
+    }
+
+    fn wait_for(&self, flag: &AtomicBool) {
+        for _ in 0..TURNS {
+            if flag.load(Ordering::SeqCst) {
+                return;
+            }
+            thread::yield_now();
+        }
+        self.gave_up.store(true, Ordering::SeqCst);
+    }
+}
+
+impl Gate for Between {
+    fn before(&self, worker: usize, k: usize) {
+        if worker == 1 && k == self.number {
+            self.come.store(true, Ordering::SeqCst);
+            self.wait_for(&self.done);
+        }
+        if worker == 2 && k == 1 {
+            self.wait_for(&self.come);
+        }
+        if worker == 2 && k == 2 {
+            self.done.store(true, Ordering::SeqCst);
+        }
+    }
+}
