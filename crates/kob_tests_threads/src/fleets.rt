@@ -4,21 +4,27 @@ ghost use Rattle.std.specs.Prelude.{◌≤◌};
 
 use crate::gates::{Meeting, Open};
 use crate::making::{broker, metadata_times, offset_of, produce_times, script, topic_created};
-use kob_shared::{FleetFault, Transcript, run_scripts};
+use kob_shared::{FleetEnd, FleetFault, Script, Transcript, run_scripts};
 use std::alloc::Global;
 use std::process::Abort;
 use std::sync::Wait;
 use std::test::Fail;
 use std::thread::Threads;
 
+/// So many scripts of `User:root`, each of so many METADATA requests.
+fn scripts_of(alloc: Global, workers: usize, requests: usize) -> Result<Vec<Script>, Fail> {
+    let mut scripts = Vec::new(alloc);
+    for _ in 0..workers {
+        scripts.push(script(alloc, "User:root", metadata_times(alloc, requests)?)?)?;
+    }
+    Ok(scripts)
+}
+
 /// So many workers, each of whom is held at its second request until all have come to theirs.
 fn meet<R: Threads + Wait + Abort + Sync>(rt: &R, alloc: Global, workers: usize) -> Result<(), Fail>
     requires { workers ≤ 64 }
 {
-    let mut scripts = Vec::new(alloc);
-    for _ in 0..workers {
-        scripts.push(script(alloc, "User:root", metadata_times(alloc, 2)?)?)?;
-    }
+    let scripts = scripts_of(alloc, workers, 2)?;
     let gate = Meeting::of(workers as u64);
     let broker = broker(alloc, Vec::new(alloc))?;
     let end = run_scripts(rt, alloc, broker, Vec::new(alloc), scripts, &gate);
@@ -56,42 +62,77 @@ fn note_offsets<R: Abort>(rt: &R, told: &Transcript, seen: &mut [bool; 200]) -> 
     Ok(())
 }
 
-#[test]
-fn two_hundred_produces(rt: HostRuntime) -> Result<(), Fail> {
-    let alloc = rt.alloc();
+/// Two workers who write a hundred records each to one partition.
+fn two_writers<R: Threads + Wait + Sync>(
+    rt: &R,
+    alloc: Global,
+    gate: &Open,
+) -> Result<FleetEnd, Fail> {
     let mut scripts = Vec::new(alloc);
-    scripts.push(script(alloc, "User:root", produce_times(alloc, 100)?)?)?;
-    scripts.push(script(alloc, "User:root", produce_times(alloc, 100)?)?)?;
-    let gate = Open::new();
+    for _ in 0..2 {
+        scripts.push(script(alloc, "User:root", produce_times(alloc, 100)?)?)?;
+    }
+    let first = topic_created(alloc)?;
     let broker = broker(alloc, Vec::new(alloc))?;
-    let end = run_scripts(&rt, alloc, broker, topic_created(alloc)?, scripts, &gate);
-    let end = end.ok().ok_or("the fleet ran to its end")?;
+    let end = run_scripts(rt, alloc, broker, first, scripts, gate);
+    Ok(end.ok().ok_or("the fleet ran to its end")?)
+}
+
+/// Each offset below 200 was told once.
+fn check_offsets<R: Abort>(rt: &R, end: &FleetEnd) -> Result<(), Fail> {
     assert_eq!(rt; end.journal.len(), 201);
     let mut seen = [false; 200];
     for told in end.transcripts.iter().skip(1) {
-        note_offsets(&rt, told, &mut seen)?;
+        note_offsets(rt, told, &mut seen)?;
     }
     assert!(rt; seen.iter().all(|told| *told));
-    assert_eq!(rt; gate.calls(), 202);
     Ok(())
+}
+
+#[test]
+fn two_hundred_produces(rt: HostRuntime) -> Result<(), Fail> {
+    let gate = Open::new();
+    let end = two_writers(&rt, rt.alloc(), &gate)?;
+    assert_eq!(rt; gate.calls(), 202);
+    check_offsets(&rt, &end)
+}
+
+/// Which count a fleet was refused for.
+#[derive(Clone, Copy)]
+enum Refusal {
+    Workers,
+    Entries,
+    Neither,
+}
+
+fn refusal_in(fault: &Option<FleetFault>) -> Refusal {
+    match fault {
+        Some(FleetFault::TooManyWorkers) => Refusal::Workers,
+        Some(FleetFault::JournalFull) => Refusal::Entries,
+        _ => Refusal::Neither,
+    }
+}
+
+/// Runs scripts on a new broker, with no first events.
+fn refusal_of<R: Threads + Wait + Sync>(
+    rt: &R,
+    alloc: Global,
+    scripts: Vec<Script>,
+    gate: &Open,
+) -> Result<Refusal, Fail> {
+    let broker = broker(alloc, Vec::new(alloc))?;
+    let end = run_scripts(rt, alloc, broker, Vec::new(alloc), scripts, gate);
+    Ok(refusal_in(&end.err()))
 }
 
 #[test]
 fn too_many_workers_or_entries(rt: HostRuntime) -> Result<(), Fail> {
     let alloc = rt.alloc();
     let gate = Open::new();
-    let mut scripts = Vec::new(alloc);
-    for _ in 0..65 {
-        scripts.push(script(alloc, "User:root", metadata_times(alloc, 1)?)?)?;
-    }
-    let first = broker(alloc, Vec::new(alloc))?;
-    let end = run_scripts(&rt, alloc, first, Vec::new(alloc), scripts, &gate);
-    assert!(rt; matches!(end.err(), Some(FleetFault::TooManyWorkers)));
-    let mut scripts = Vec::new(alloc);
-    scripts.push(script(alloc, "User:root", metadata_times(alloc, 1_000_001)?)?)?;
-    let second = broker(alloc, Vec::new(alloc))?;
-    let end = run_scripts(&rt, alloc, second, Vec::new(alloc), scripts, &gate);
-    assert!(rt; matches!(end.err(), Some(FleetFault::JournalFull)));
+    let many = refusal_of(&rt, alloc, scripts_of(alloc, 65, 1)?, &gate)?;
+    assert!(rt; matches!(many, Refusal::Workers));
+    let long = refusal_of(&rt, alloc, scripts_of(alloc, 1, 1_000_001)?, &gate)?;
+    assert!(rt; matches!(long, Refusal::Entries));
     assert_eq!(rt; gate.calls(), 0);
     Ok(())
 }

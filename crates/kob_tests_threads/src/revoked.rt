@@ -26,20 +26,16 @@ fn revoked_before<R: Threads + Wait + Abort + Sync>(
     revocations.push(revocation(alloc)?)?;
     scripts.push(script(alloc, "User:root", revocations)?)?;
     let gate = Between::before_request(number);
+    let first = topic_created(alloc)?;
     let broker = broker(alloc, write_allowed(alloc)?)?;
-    let end = run_scripts(rt, alloc, broker, topic_created(alloc)?, scripts, &gate);
+    let end = run_scripts(rt, alloc, broker, first, scripts, &gate);
     let end = end.ok().ok_or("the fleet ran to its end")?;
     assert!(rt; !gate.gave_up());
     Ok(end)
 }
 
 /// What was produced before that request was served, and what came from it on was denied.
-fn check_place<R: Threads + Wait + Abort + Sync>(
-    rt: &R,
-    alloc: Global,
-    number: usize,
-) -> Result<(), Fail> {
-    let end = revoked_before(rt, alloc, number)?;
+fn check_end<R: Abort>(rt: &R, end: &FleetEnd, number: usize) -> Result<(), Fail> {
     assert_eq!(rt; end.journal.len(), 6);
     let told = end.transcripts.get(1).ok_or("the service's transcript")?;
     assert_eq!(rt; told.len(), 4);
@@ -56,6 +52,15 @@ fn check_place<R: Threads + Wait + Abort + Sync>(
         .ok_or("the entry of the revocation")?;
     assert!(rt; matches!(&entry.event.request, Request::DeleteAcls(_)));
     Ok(())
+}
+
+fn check_place<R: Threads + Wait + Abort + Sync>(
+    rt: &R,
+    alloc: Global,
+    number: usize,
+) -> Result<(), Fail> {
+    let end = revoked_before(rt, alloc, number)?;
+    check_end(rt, &end, number)
 }
 
 #[test]

@@ -50,11 +50,8 @@ pub(crate) fn session<'a>(
     Ok(shared.session(worker, principal, host))
 }
 
-#[test]
-fn journal_has_denied_and_fills(rt: HostRuntime) -> Result<(), Fail> {
-    let alloc = rt.alloc();
-    let broker = broker(alloc, Vec::new(alloc))?;
-    let mut recorded = Recorded::open(alloc, broker, 2).ok().ok_or("memory")?;
+/// A served and a denied event have entries, and a third finds the journal full.
+fn check_entries<R: Abort>(rt: &R, alloc: Global, recorded: &mut Recorded) -> Result<(), Fail> {
     let create = event(alloc, "User:root", creation(alloc)?)?;
     let write = event(alloc, "User:svc", produce(alloc)?)?;
     let served = recorded.serve_as(alloc, 1, &create)?;
@@ -71,12 +68,17 @@ fn journal_has_denied_and_fills(rt: HostRuntime) -> Result<(), Fail> {
     Ok(())
 }
 
+#[test]
+fn journal_has_denied_and_fills(rt: HostRuntime) -> Result<(), Fail> {
+    let alloc = rt.alloc();
+    let broker = broker(alloc, Vec::new(alloc))?;
+    let mut recorded = Recorded::open(alloc, broker, 2).ok().ok_or("memory")?;
+    check_entries(&rt, alloc, &mut recorded)
+}
+
 /// One call is served, and the next finds the journal full.
-fn check_full<R: Wait + Abort>(
-    rt: &R,
-    alloc: Global,
-    session: &mut Session<'_>,
-) -> Result<(), Fail> {
+fn check_full<R: Wait + Abort>(rt: &R, alloc: Global, shared: &SharedBroker) -> Result<(), Fail> {
+    let mut session = session(alloc, shared, 1, "User:root")?;
     let receipt = session.call(rt, alloc, metadata())?;
     assert_eq!(rt; receipt.place, 0);
     assert_eq!(rt; session.seen(), 1);
@@ -92,9 +94,7 @@ fn session_full(rt: HostRuntime) -> Result<(), Fail> {
     let broker = broker(alloc, Vec::new(alloc))?;
     let recorded = Recorded::open(alloc, broker, 1).ok().ok_or("memory")?;
     let shared = SharedBroker::open(recorded);
-    let mut root = session(alloc, &shared, 1, "User:root")?;
-    check_full(&rt, alloc, &mut root)?;
-    drop(root);
+    check_full(&rt, alloc, &shared)?;
     assert_eq!(rt; shared.finish().journal().len(), 1);
     Ok(())
 }
@@ -118,13 +118,15 @@ fn revoke<R: Wait>(rt: &R, alloc: Global, session: &mut Session<'_>) -> Result<u
 fn check_revoked<R: Wait + Abort>(
     rt: &R,
     alloc: Global,
-    root: &mut Session<'_>,
-    service: &mut Session<'_>,
+    shared: &SharedBroker,
 ) -> Result<(), Fail> {
-    let served = write(rt, alloc, service)?;
+    let mut root = session(alloc, shared, 1, "User:root")?;
+    let mut service = session(alloc, shared, 2, "User:svc")?;
+    create_topic(rt, alloc, &mut root)?;
+    let served = write(rt, alloc, &mut service)?;
     assert_eq!(rt; offset_of(&served.reply), Some(0));
-    let revoked = revoke(rt, alloc, root)?;
-    let denied = write(rt, alloc, service)?;
+    let revoked = revoke(rt, alloc, &mut root)?;
+    let denied = write(rt, alloc, &mut service)?;
     assert!(rt; is_denied(&denied.reply));
     assert!(rt; revoked < denied.place);
     Ok(())
@@ -134,8 +136,5 @@ fn check_revoked<R: Wait + Abort>(
 fn revoked_write_is_seen(rt: HostRuntime) -> Result<(), Fail> {
     let alloc = rt.alloc();
     let shared = SharedBroker::open(begun(alloc)?);
-    let mut root = session(alloc, &shared, 1, "User:root")?;
-    create_topic(&rt, alloc, &mut root)?;
-    let mut service = session(alloc, &shared, 2, "User:svc")?;
-    check_revoked(&rt, alloc, &mut root, &mut service)
+    check_revoked(&rt, alloc, &shared)
 }
