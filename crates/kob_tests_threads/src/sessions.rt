@@ -118,23 +118,33 @@ fn revoke<R: Wait>(rt: &R, alloc: Global, session: &mut Session<'_>) -> Result<u
 fn check_revoked<R: Wait + Abort>(
     rt: &R,
     alloc: Global,
-    shared: &SharedBroker,
+    root: &mut Session<'_>,
+    service: &mut Session<'_>,
 ) -> Result<(), Fail> {
-    let mut root = session(alloc, shared, 1, "User:root")?;
-    let mut service = session(alloc, shared, 2, "User:svc")?;
-    create_topic(rt, alloc, &mut root)?;
-    let served = write(rt, alloc, &mut service)?;
+    let served = write(rt, alloc, service)?;
     assert_eq!(rt; offset_of(&served.reply), Some(0));
-    let revoked = revoke(rt, alloc, &mut root)?;
-    let denied = write(rt, alloc, &mut service)?;
+    let revoked = revoke(rt, alloc, root)?;
+    let denied = write(rt, alloc, service)?;
     assert!(rt; is_denied(&denied.reply));
     assert!(rt; revoked < denied.place);
     Ok(())
+}
+
+/// Two sessions over one broker.
+fn revoke_between<R: Wait + Abort>(
+    rt: &R,
+    alloc: Global,
+    shared: &SharedBroker,
+) -> Result<(), Fail> {
+    let mut root = session(alloc, shared, 1, "User:root")?;
+    create_topic(rt, alloc, &mut root)?;
+    let mut service = session(alloc, shared, 2, "User:svc")?;
+    check_revoked(rt, alloc, &mut root, &mut service)
 }
 
 #[test]
 fn revoked_write_is_seen(rt: HostRuntime) -> Result<(), Fail> {
     let alloc = rt.alloc();
     let shared = SharedBroker::open(begun(alloc)?);
-    check_revoked(&rt, alloc, &shared)
+    revoke_between(&rt, alloc, &shared)
 }
