@@ -134,7 +134,12 @@ fn run(alloc: Global, script: &[u8]) -> Result<(Ended, Vec<u8>), RunFault> {
 }
 
 /// Whether the script ends so, with exactly that output.
-pub(crate) fn plays(alloc: Global, script: &str, output: &str, end: Ended) -> Result<bool, RunFault> {
+pub(crate) fn plays(
+    alloc: Global,
+    script: &str,
+    output: &str,
+    end: Ended,
+) -> Result<bool, RunFault> {
     let (ended, written) = run(alloc, script.as_bytes())?;
     Ok(ended == end && written.as_slice() == output.as_bytes())
 }
