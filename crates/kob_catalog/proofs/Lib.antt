@@ -2,4 +2,5 @@ pub mod Writes
 pub mod Places
 pub mod Appends
 pub mod MapWrites
+pub mod Lent
 pub mod Listings

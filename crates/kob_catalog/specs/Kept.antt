@@ -5,7 +5,7 @@ use Rattle.kob_partition.specs.Codes.{log_code}
 use Rattle.kob_partition.specs.Log.{LogKept}
 use Rattle.kob_partition.specs.Retained.{Retained, retained_meaning}
 use Rattle.kob_catalog.specs.Codes.{topic_code}
-use Rattle.kob_catalog.specs.Topics.{Topic, topic_at, topics_map}
+use Rattle.kob_catalog.specs.Topics.{Topic, topic_at, topics_map, with_partition_at}
 
 -- the topics, each partition with its room, and for how many more topics there is room
 pub record CatalogKept : Type 0 where
@@ -34,3 +34,7 @@ log_at logs partition = slice_index_or logs partition empty_log
 -- a partition of the topic at a place, with its room
 abbrev pub catalog_log : CatalogKept → ℕ → ℕ → LogKept
 catalog_log kept place partition = log_at (topic_at kept.logs place).partitions partition
+
+-- the catalog with a partition of the topic at a place written
+abbrev pub with_log_at : CatalogKept → ℕ → ℕ → LogKept → CatalogKept
+with_log_at kept place partition log = record kept { logs = with_partition_at place partition log kept.logs }

@@ -3,6 +3,8 @@ pub mod Codes
 pub mod Kept
 pub mod Entries
 pub mod Creation
+pub mod TopicLends
+pub mod CatalogLends
 pub use Rattle.kob_names.specs.Same
 pub use Rattle.kob_partition.specs.Append
 pub use Rattle.kob_partition.specs.Log
