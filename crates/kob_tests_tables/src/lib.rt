@@ -1,5 +1,7 @@
-//! Tests of a service's tables, over their public surface.
+//! Tests of a service's tables and of a catalog's topics, over their public surface.
 #![tactic(auto)]
 
+#[cfg(test)]
+mod catalog;
 #[cfg(test)]
 mod outbox;

@@ -1,0 +1,79 @@
+//! The topics of a catalog: which are created, and a partition that is written where it stands.
+
+use kob_catalog::{Catalog, CreateFault};
+use kob_names::{Batch, Bytes, Items, Record, Text, TopicName};
+use std::alloc::{AllocError, Global};
+use std::test::Fail;
+
+/// A batch of one record without a key.
+fn batch(alloc: Global, value: &[u8]) -> Result<Batch, AllocError> {
+    let mut records = Vec::new(alloc);
+    records.push(Record {
+        key: None,
+        value: Bytes::copied(alloc, value)?,
+        headers: Items::from_vec(Vec::new(alloc)),
+    })?;
+    Ok(Batch {
+        idem: None,
+        records: Items::from_vec(records),
+    })
+}
+
+/// The end of a partition, if there is one of that number.
+fn end_of(
+    alloc: Global,
+    catalog: &Catalog,
+    topic: &str,
+    partition: usize,
+) -> Result<Option<u64>, AllocError> {
+    let Some(place) = catalog.place_of(&Text::copied(alloc, topic)?) else {
+        return Ok(None);
+    };
+    Ok(catalog.partition(place, partition).map(|log| log.end()))
+}
+
+#[test]
+fn topics_created_and_refused(rt: HostRuntime) -> Result<(), Fail> {
+    let alloc = rt.alloc();
+    let mut catalog = Catalog::new(alloc);
+    let rows = [
+        ("a", 1, Ok(())),
+        ("a", 0, Err(CreateFault::Exists)),
+        ("b", 0, Err(CreateFault::BadPartitions)),
+        ("b", 1_001, Err(CreateFault::BadPartitions)),
+        ("b", 2, Ok(())),
+        ("b", 2, Err(CreateFault::Exists)),
+    ];
+    for (name, partitions, expected) in rows {
+        let name = TopicName::parse(alloc, name)?;
+        assert_eq!(rt; catalog.create(alloc, &name, partitions), expected);
+    }
+    assert_eq!(rt; catalog.len(), 2);
+    Ok(())
+}
+
+#[test]
+fn one_partition_is_written(rt: HostRuntime) -> Result<(), Fail> {
+    let alloc = rt.alloc();
+    let mut catalog = Catalog::new(alloc);
+    for name in ["a", "b"] {
+        let name = TopicName::parse(alloc, name)?;
+        assert_eq!(rt; catalog.create(alloc, &name, 2), Ok(()));
+    }
+    if let Some(place) = catalog.place_of(&Text::copied(alloc, "b")?) {
+        assert!(rt; catalog.partition_mut(place, 2).is_none());
+        if let Some(log) = catalog.partition_mut(place, 1) {
+            assert_eq!(rt; log.append(batch(alloc, b"x")?), Ok(0));
+        }
+        let fetched = catalog
+            .partition(place, 1)
+            .map(|log| log.fetch(alloc, 0, 10));
+        assert!(rt; matches!(&fetched, Some(Ok(records)) if records.len() == 1));
+    }
+    let ends = [("a", 0, 0), ("a", 1, 0), ("b", 0, 0), ("b", 1, 1)];
+    for (topic, partition, end) in ends {
+        assert_eq!(rt; end_of(alloc, &catalog, topic, partition)?, Some(end));
+    }
+    assert_eq!(rt; end_of(alloc, &catalog, "b", 2)?, None);
+    Ok(())
+}
