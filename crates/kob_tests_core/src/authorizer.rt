@@ -1,25 +1,16 @@
 //! The authorizer: which bindings a filter takes, and which binding a verdict names.
 
-ghost use Rattle.std.specs.Prelude.{◌<◌, length};
+ghost use Rattle.std.specs.Prelude.{◌<◌};
 
+use crate::dice::Dice;
+use crate::rules::{Rule, bound};
 use kob_authorizer::{Authorizer, scan_verdict};
 use kob_names::{
-    Binding, BindingFilter, Draft, FilterPattern, Host, Operation, Pattern, PatternKind,
-    Permission, Principal, ResourceKind, Text, Verdict,
+    BindingFilter, FilterPattern, Host, Operation, PatternKind, Permission, Principal,
+    ResourceKind, Text, Verdict,
 };
 use std::alloc::{AllocError, Global};
 use std::test::Fail;
-
-/// What a binding says, on every host.
-#[derive(Clone, Copy)]
-struct Rule<'a> {
-    permission: Permission,
-    principal: &'a str,
-    operation: Operation,
-    resource: ResourceKind,
-    kind: PatternKind,
-    name: &'a str,
-}
 
 fn deny_read(kind: PatternKind, name: &str) -> Rule<'_> {
     Rule {
@@ -46,21 +37,6 @@ fn on_write<'a>(
         kind,
         name,
     }
-}
-
-fn bound(alloc: Global, rule: &Rule) -> Result<Binding, Fail> {
-    let draft = Draft {
-        permission: rule.permission,
-        principal: Principal::parse(alloc, rule.principal)?,
-        host: Host::parse(alloc, "*")?,
-        operation: rule.operation,
-        resource: rule.resource,
-        pattern: Pattern {
-            kind: rule.kind,
-            name: Text::copied(alloc, rule.name)?,
-        },
-    };
-    Ok(Binding::new(alloc, &draft)?)
 }
 
 /// An authorizer with the super user `User:root`.
@@ -117,151 +93,185 @@ fn serials_matching(
     entries.iter().map(|entry| entry.0).collect(alloc)
 }
 
-#[test]
-fn match_filter_and_star_prefix(rt: HostRuntime) -> Result<(), Fail> {
-    let alloc = rt.alloc();
-    let mut authorizer = opened(alloc)?;
-    let allows = [PatternKind::Literal, PatternKind::Prefixed].map(|kind| Rule {
+/// Whether the rules, put in force by one call, get just these serials.
+fn gets(
+    alloc: Global,
+    authorizer: &mut Authorizer,
+    rules: &[Rule],
+    wanted: &[u64],
+) -> Result<bool, Fail> {
+    let serials = create(alloc, authorizer, rules)?;
+    Ok(serials.as_slice() == wanted)
+}
+
+/// Whether the bindings whose patterns match the name have just these serials.
+fn matches(
+    alloc: Global,
+    authorizer: &Authorizer,
+    name: &str,
+    wanted: &[u64],
+) -> Result<bool, Fail> {
+    let serials = serials_matching(alloc, authorizer, name)?;
+    Ok(serials.as_slice() == wanted)
+}
+
+/// Allows to describe groups by the name `*`.
+fn describe_star(kind: PatternKind) -> Rule<'static> {
+    Rule {
         permission: Permission::Allow,
         principal: "User:*",
         operation: Operation::Describe,
         resource: ResourceKind::Group,
         kind,
         name: "*",
-    });
-    let serials = create(alloc, &mut authorizer, &allows)?;
-    assert_eq!(rt; serials.as_slice(), [1, 2].as_slice());
+    }
+}
 
-    let of_a = serials_matching(alloc, &authorizer, "a")?;
-    assert_eq!(rt; of_a.as_slice(), [1].as_slice());
-    let of_star_a = serials_matching(alloc, &authorizer, "*a")?;
-    assert_eq!(rt; of_star_a.as_slice(), [1, 2].as_slice());
-    Ok(())
+/// The literal star matches each name, and the prefix `*` those that begin with it.
+fn tells_stars_apart(alloc: Global, authorizer: &mut Authorizer) -> Result<bool, Fail> {
+    let allows = [
+        describe_star(PatternKind::Literal),
+        describe_star(PatternKind::Prefixed),
+    ];
+    let created = gets(alloc, authorizer, &allows, &[1, 2])?;
+    let of_a = matches(alloc, authorizer, "a", &[1])?;
+    let of_star_a = matches(alloc, authorizer, "*a", &[1, 2])?;
+    Ok(created && of_a && of_star_a)
+}
+
+fn opened_tells_stars_apart(alloc: Global) -> Result<bool, Fail> {
+    let mut authorizer = opened(alloc)?;
+    tells_stars_apart(alloc, &mut authorizer)
 }
 
 #[test]
-fn earliest_deny_named(rt: HostRuntime) -> Result<(), Fail> {
-    let alloc = rt.alloc();
-    let mut authorizer = opened(alloc)?;
-    let denies = [
+fn match_filter_and_star_prefix(rt: HostRuntime) -> Result<(), Fail> {
+    let holds = opened_tells_stars_apart(rt.alloc())?;
+    assert!(rt; holds);
+    Ok(())
+}
+
+/// Three denials of reading `abc`: whether they get these serials, and which of them is named then.
+fn denies(
+    alloc: Global,
+    authorizer: &mut Authorizer,
+    serials: &[u64],
+    named: u64,
+) -> Result<bool, Fail> {
+    let denials = [
         deny_read(PatternKind::Literal, "abc"),
         deny_read(PatternKind::Prefixed, "ab"),
         deny_read(PatternKind::Prefixed, "a"),
     ];
-    let serials = create(alloc, &mut authorizer, &denies)?;
-    assert_eq!(rt; serials.as_slice(), [1, 2, 3].as_slice());
-    let first = verdict_on(alloc, &authorizer, "User:c", Operation::Read, "abc")?;
-    assert_eq!(rt; first, Verdict::DeniedBy(1));
+    let created = gets(alloc, authorizer, &denials, serials)?;
+    let verdict = verdict_on(alloc, authorizer, "User:c", Operation::Read, "abc")?;
+    Ok(created && verdict == Verdict::DeniedBy(named))
+}
 
-    let gone = authorizer.delete(alloc, &named(alloc, FilterPattern::Literal, "abc")?)?;
-    assert_eq!(rt; gone.len(), 1);
-    let serials = create(alloc, &mut authorizer, &denies)?;
-    assert_eq!(rt; serials.as_slice(), [4, 2, 3].as_slice());
-    let second = verdict_on(alloc, &authorizer, "User:c", Operation::Read, "abc")?;
-    assert_eq!(rt; second, Verdict::DeniedBy(2));
+/// Deletes the bindings of a literal pattern, and answers how many they were.
+fn delete_literal(alloc: Global, authorizer: &mut Authorizer, name: &str) -> Result<usize, Fail> {
+    let filter = named(alloc, FilterPattern::Literal, name)?;
+    let gone = authorizer.delete(alloc, &filter)?;
+    Ok(gone.len())
+}
+
+/// A deny that was deleted and created again is the latest.
+fn names_earliest_deny(alloc: Global, authorizer: &mut Authorizer) -> Result<bool, Fail> {
+    let at_first = denies(alloc, authorizer, &[1, 2, 3], 1)?;
+    let gone = delete_literal(alloc, authorizer, "abc")?;
+    let again = denies(alloc, authorizer, &[4, 2, 3], 2)?;
+    Ok(at_first && gone == 1 && again)
+}
+
+fn opened_names_earliest_deny(alloc: Global) -> Result<bool, Fail> {
+    let mut authorizer = opened(alloc)?;
+    names_earliest_deny(alloc, &mut authorizer)
+}
+
+#[test]
+fn earliest_deny_named(rt: HostRuntime) -> Result<(), Fail> {
+    let holds = opened_names_earliest_deny(rt.alloc())?;
+    assert!(rt; holds);
     Ok(())
+}
+
+/// An allow of a prefix, a deny of a shorter one, and an allow of the whole name.
+fn rules_on_orders() -> [Rule<'static>; 3] {
+    let (allow, deny) = (Permission::Allow, Permission::Deny);
+    let (prefixed, literal) = (PatternKind::Prefixed, PatternKind::Literal);
+    [
+        on_write(allow, "User:svc", prefixed, "outbox.event."),
+        on_write(deny, "User:*", prefixed, "outbox."),
+        on_write(allow, "User:svc", literal, "outbox.event.orders"),
+    ]
+}
+
+/// With so many of the rules in force, what a principal's write is answered.
+struct Step {
+    rules: usize,
+    who: &'static str,
+    verdict: Verdict,
+}
+
+const STEPS: [Step; 4] = [
+    Step {
+        rules: 0,
+        who: "User:svc",
+        verdict: Verdict::NoAllow,
+    },
+    Step {
+        rules: 1,
+        who: "User:svc",
+        verdict: Verdict::AllowedBy(1),
+    },
+    Step {
+        rules: 3,
+        who: "User:svc",
+        verdict: Verdict::DeniedBy(2),
+    },
+    Step {
+        rules: 3,
+        who: "User:root",
+        verdict: Verdict::Super,
+    },
+];
+
+/// Whether the step's answer comes once its rules are in force.
+fn comes(alloc: Global, authorizer: &mut Authorizer, step: &Step) -> Result<bool, Fail> {
+    let rules = rules_on_orders();
+    let rules = rules.get(..step.rules).ok_or("too few rules")?;
+    create(alloc, authorizer, rules)?;
+    let operation = Operation::Write;
+    let verdict = verdict_on(
+        alloc,
+        authorizer,
+        step.who,
+        operation,
+        "outbox.event.orders",
+    )?;
+    Ok(verdict == step.verdict)
+}
+
+/// The place of the first step whose answer does not come.
+fn first_wrong(alloc: Global, authorizer: &mut Authorizer) -> Result<Option<usize>, Fail> {
+    for (place, step) in STEPS.iter().enumerate() {
+        if !comes(alloc, authorizer, step)? {
+            return Ok(Some(place));
+        }
+    }
+    Ok(None)
+}
+
+fn first_wrong_once_opened(alloc: Global) -> Result<Option<usize>, Fail> {
+    let mut authorizer = opened(alloc)?;
+    first_wrong(alloc, &mut authorizer)
 }
 
 #[test]
 fn deny_beats_longer_allow(rt: HostRuntime) -> Result<(), Fail> {
-    let alloc = rt.alloc();
-    let mut authorizer = opened(alloc)?;
-    let (allow, deny) = (Permission::Allow, Permission::Deny);
-    let rules = [
-        on_write(allow, "User:svc", PatternKind::Prefixed, "outbox.event."),
-        on_write(deny, "User:*", PatternKind::Prefixed, "outbox."),
-        on_write(
-            allow,
-            "User:svc",
-            PatternKind::Literal,
-            "outbox.event.orders",
-        ),
-    ];
-    for (count, who, verdict) in [
-        (0, "User:svc", Verdict::NoAllow),
-        (1, "User:svc", Verdict::AllowedBy(1)),
-        (3, "User:svc", Verdict::DeniedBy(2)),
-        (3, "User:root", Verdict::Super),
-    ] {
-        create(
-            alloc,
-            &mut authorizer,
-            rules.get(..count).ok_or("too few rules")?,
-        )?;
-        let on_orders = verdict_on(
-            alloc,
-            &authorizer,
-            who,
-            Operation::Write,
-            "outbox.event.orders",
-        )?;
-        assert_eq!(rt; on_orders, verdict, "of {who} with {count} rules");
-    }
+    let wrong = first_wrong_once_opened(rt.alloc())?;
+    assert_eq!(rt; wrong, None, "the place of a step with another answer");
     Ok(())
-}
-
-/// Numbers that look random: Marsaglia's xorshift.
-#[derive(Drop)]
-struct Dice {
-    state: u64,
-}
-
-impl Dice {
-    fn below(&mut self, count: usize) -> usize
-        requires { 0 < count }
-        ensures { result < count }
-    {
-        self.state ^= self.state << 13;
-        self.state ^= self.state >> 7;
-        self.state ^= self.state << 17;
-        self.state as usize % count
-    }
-
-    fn pick<T: Copy>(&mut self, from: &[T]) -> T
-        requires { 0 < length from.now }
-    {
-        from[self.below(from.len())]
-    }
-
-    fn pick_name(&mut self, resource: ResourceKind) -> &'static str {
-        match resource {
-            ResourceKind::Cluster => "kafka-cluster",
-            _ => self.pick(&["*", "*a", "a", "ab", "abc", "abcd", "abd", "b", "ba"]),
-        }
-    }
-
-    fn pick_resource(&mut self) -> ResourceKind {
-        self.pick(&[
-            ResourceKind::Topic,
-            ResourceKind::Topic,
-            ResourceKind::Group,
-            ResourceKind::Cluster,
-            ResourceKind::TransactionalId,
-        ])
-    }
-
-    fn pick_operation(&mut self) -> Operation {
-        self.pick(&[
-            Operation::All,
-            Operation::Read,
-            Operation::Write,
-            Operation::Describe,
-            Operation::AlterConfigs,
-            Operation::DescribeConfigs,
-        ])
-    }
-
-    fn pick_rule(&mut self) -> Rule<'static> {
-        let resource = self.pick_resource();
-        Rule {
-            permission: self.pick(&[Permission::Allow, Permission::Allow, Permission::Deny]),
-            principal: self.pick(&["User:a", "User:b", "User:*"]),
-            operation: self.pick_operation(),
-            resource,
-            kind: self.pick(&[PatternKind::Literal, PatternKind::Prefixed]),
-            name: self.pick_name(resource),
-        }
-    }
 }
 
 /// Creates two bindings, or deletes those of one name.
@@ -326,18 +336,33 @@ fn compare(
     Ok(alike)
 }
 
-#[test]
-fn scan_and_trees_agree(rt: HostRuntime) -> Result<(), Fail> {
-    let alloc = rt.alloc();
-    let mut dice = Dice {
-        state: 88_172_645_463_325_252,
-    };
+/// The first of a hundred rounds in which the answers differ.
+fn first_difference(
+    alloc: Global,
+    authorizer: &mut Authorizer,
+    seen: &mut [bool; 4],
+) -> Result<Option<usize>, Fail> {
+    let mut dice = Dice::new();
+    for round in 0..100 {
+        if !compare(alloc, &mut dice, authorizer, seen)? {
+            return Ok(Some(round));
+        }
+    }
+    Ok(None)
+}
+
+/// The first round in which the answers of a new authorizer differ, and which kinds of verdicts came.
+fn play(alloc: Global) -> Result<(Option<usize>, [bool; 4]), Fail> {
     let mut authorizer = opened(alloc)?;
     let mut seen = [false; 4];
-    for round in 0..100 {
-        let alike = compare(alloc, &mut dice, &mut authorizer, &mut seen)?;
-        assert!(rt; alike, "in round {round}");
-    }
+    let round = first_difference(alloc, &mut authorizer, &mut seen)?;
+    Ok((round, seen))
+}
+
+#[test]
+fn scan_and_trees_agree(rt: HostRuntime) -> Result<(), Fail> {
+    let (round, seen) = play(rt.alloc())?;
+    assert_eq!(rt; round, None, "the answers differ in this round");
     assert!(rt; seen == [true; 4], "not every kind of verdict came");
     Ok(())
 }

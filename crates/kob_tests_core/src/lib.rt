@@ -6,10 +6,14 @@ mod authorizer;
 #[cfg(test)]
 mod chunks;
 #[cfg(test)]
+mod dice;
+#[cfg(test)]
 mod names;
 #[cfg(test)]
 mod partition;
 #[cfg(test)]
 mod producers;
+#[cfg(test)]
+mod rules;
 #[cfg(test)]
 mod tree;

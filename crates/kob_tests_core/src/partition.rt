@@ -26,41 +26,86 @@ fn batch(alloc: Global, epoch: u64, base: u64) -> Result<Batch, AllocError> {
     })
 }
 
+/// What the log answers to a batch of one record of producer 0.
+fn appended(
+    alloc: Global,
+    log: &mut PartitionLog,
+    epoch: u64,
+    base: u64,
+) -> Result<Result<u64, AppendFault>, AllocError> {
+    let batch = batch(alloc, epoch, base)?;
+    Ok(log.append(batch))
+}
+
+/// Appends that batch, and says whether the answer is the wanted one.
+fn answers(
+    alloc: Global,
+    log: &mut PartitionLog,
+    (epoch, base): (u64, u64),
+    wanted: &Result<u64, AppendFault>,
+) -> Result<bool, AllocError> {
+    Ok(appended(alloc, log, epoch, base)? == *wanted)
+}
+
+/// Six batches, the first and second of these again, and one of an old epoch.
+const ANSWERS: [((u64, u64), Result<u64, AppendFault>); 9] = [
+    ((1, 0), Ok(0)),
+    ((1, 1), Ok(1)),
+    ((1, 2), Ok(2)),
+    ((1, 3), Ok(3)),
+    ((1, 4), Ok(4)),
+    ((1, 5), Ok(5)),
+    ((1, 1), Ok(1)),
+    ((1, 0), Err(AppendFault::OutOfOrder)),
+    ((0, 6), Err(AppendFault::OldEpoch)),
+];
+
 #[test]
 fn ring_of_five(rt: HostRuntime) -> Result<(), Fail> {
     let mut log = PartitionLog::new(rt.alloc());
-    for base in 0..6u64 {
-        assert_eq!(rt; log.append(batch(rt.alloc(), 1, base)?), Ok(base));
+    for (batch, wanted) in &ANSWERS {
+        let holds = answers(rt.alloc(), &mut log, *batch, wanted)?;
+        assert!(rt; holds);
     }
-    assert_eq!(rt; log.append(batch(rt.alloc(), 1, 1)?), Ok(1));
-    assert_eq!(rt;
-        log.append(batch(rt.alloc(), 1, 0)?),
-        Err(AppendFault::OutOfOrder)
-    );
-    assert_eq!(rt;
-        log.append(batch(rt.alloc(), 0, 6)?),
-        Err(AppendFault::OldEpoch)
-    );
     assert_eq!(rt; log.end(), 6);
     Ok(())
+}
+
+/// Appends a batch of so many records of no producer.
+fn append_plain(alloc: Global, log: &mut PartitionLog, count: usize) -> Result<u64, Fail> {
+    let batch = Batch {
+        idem: None,
+        records: records(alloc, count)?,
+    };
+    Ok(log.append(batch)?)
+}
+
+/// Whether the records are at the offsets from `first` to below `end`.
+fn are_at(fetched: &[(u64, Record)], first: u64, end: u64) -> bool {
+    let mut offset = first;
+    for (at, _) in fetched {
+        if *at != offset {
+            return false;
+        }
+        offset = offset.saturating_add(1);
+    }
+    offset == end
+}
+
+/// Whether three records are fetched from where the first chunk has its last.
+fn fetches_across(alloc: Global, log: &PartitionLog) -> Result<bool, Fail> {
+    let fetched = log.fetch(alloc, 255, 3)?;
+    Ok(are_at(fetched.as_slice(), 255, 258))
 }
 
 #[test]
 fn batch_across_chunk_edge(rt: HostRuntime) -> Result<(), Fail> {
     let mut log = PartitionLog::new(rt.alloc());
     for (count, offset) in [(257usize, 0u64), (1, 257)] {
-        let batch = Batch {
-            idem: None,
-            records: records(rt.alloc(), count)?,
-        };
-        assert_eq!(rt; log.append(batch), Ok(offset));
+        let appended = append_plain(rt.alloc(), &mut log, count)?;
+        assert!(rt; appended == offset);
     }
-    let fetched = log.fetch(rt.alloc(), 255, 3)?.into_vec();
-    let mut offset = 255u64;
-    for (at, _) in fetched.iter() {
-        assert_eq!(rt; *at, offset);
-        offset = offset.saturating_add(1);
-    }
-    assert_eq!(rt; offset, 258);
+    let fetched = fetches_across(rt.alloc(), &log)?;
+    assert!(rt; fetched);
     Ok(())
 }

@@ -21,17 +21,31 @@ fn accept(
     Ok(())
 }
 
+/// The batch whose sequences are the greatest one and the two after it.
+fn last() -> Idem {
+    batch(0, 2_147_483_647)
+}
+
+/// Whether the table judges that batch so.
+fn judges(table: &ProducerTable, idem: &Idem, count: u64, wanted: Judgement) -> bool {
+    table.judge(idem, count) == wanted
+}
+
+/// Whether the table, once it has accepted the last batch, knows it again, what follows it, and where a new epoch begins.
+fn judges_wrapped(table: &ProducerTable) -> bool {
+    judges(table, &batch(0, 2), 1, Judgement::Next)
+        && judges(table, &last(), 3, Judgement::Repeat(2_147_483_647))
+        && judges(table, &batch(1, 0), 1, Judgement::Next)
+        && judges(table, &batch(1, 2), 1, Judgement::OutOfOrder)
+}
+
 #[test]
 fn producer_table_wraps(rt: HostRuntime) -> Result<(), Fail> {
     let mut table = ProducerTable::new(rt.alloc());
-    let last = batch(0, 2_147_483_647);
     accept(&mut table, &batch(0, 0), 2_147_483_647, 0)?;
-    assert_eq!(rt; table.judge(&last, 3), Judgement::Next);
-    accept(&mut table, &last, 3, 2_147_483_647)?;
-    assert_eq!(rt; table.judge(&batch(0, 2), 1), Judgement::Next);
-    assert_eq!(rt; table.judge(&last, 3), Judgement::Repeat(2_147_483_647));
-    assert_eq!(rt; table.judge(&batch(1, 0), 1), Judgement::Next);
-    assert_eq!(rt; table.judge(&batch(1, 2), 1), Judgement::OutOfOrder);
+    assert!(rt; judges(&table, &last(), 3, Judgement::Next));
+    accept(&mut table, &last(), 3, 2_147_483_647)?;
+    assert!(rt; judges_wrapped(&table));
     Ok(())
 }
 

@@ -1,5 +1,6 @@
 //! The prefix tree: what worked examples give.
 use kob_prefix_tree::{PatternKind, PrefixTree, Walk};
+use std::alloc::{AllocError, Global};
 use std::marker::Send;
 use std::test::Fail;
 
@@ -32,54 +33,130 @@ fn gives_from(tree: &PrefixTree, first: u64) -> bool {
     true
 }
 
+/// Whether the tree, walked for each name, gives those serials.
+fn walks(tree: &PrefixTree, rows: &[(&[u8], &[u64])]) -> bool {
+    for (name, wanted) in rows {
+        if !gives(tree.walk(name), wanted) {
+            return false;
+        }
+    }
+    true
+}
+
+/// Adds a serial to each of the keys: the place in the list, from 1.
+fn add_all(
+    alloc: Global,
+    tree: &mut PrefixTree,
+    keys: &[(&[u8], PatternKind)],
+) -> Result<(), AllocError> {
+    let mut serial = 0u64;
+    for (key, kind) in keys {
+        serial = serial.saturating_add(1);
+        tree.add(alloc, key, *kind, serial)?;
+    }
+    Ok(())
+}
+
+/// Whether the first removal of `ab` finds it, a second does not, and the walks show it.
+fn removes_once(tree: &mut PrefixTree) -> bool {
+    let found = tree.remove(b"ab", PatternKind::Prefixed, 1);
+    let again = tree.remove(b"ab", PatternKind::Prefixed, 1);
+    found && !again && walks(tree, &[(b"abcd", &[2]), (b"ab", &[])])
+}
+
+/// Whether the removal of what is left empties the tree down to its root.
+fn removes_rest(tree: &mut PrefixTree) -> bool {
+    let found = tree.remove(b"abc", PatternKind::Prefixed, 2)
+        && tree.remove(b"abd", PatternKind::Prefixed, 3);
+    found && walks(tree, &[(b"abcd", &[]), (b"abd", &[])]) && tree.levels(b"abcd") == 1
+}
+
 #[test]
 fn tree_add_walk_remove(rt: HostRuntime) -> Result<(), Fail> {
     let mut tree = PrefixTree::new();
-    tree.add(rt.alloc(), b"ab", PatternKind::Prefixed, 1)?;
-    tree.add(rt.alloc(), b"abc", PatternKind::Prefixed, 2)?;
-    tree.add(rt.alloc(), b"abd", PatternKind::Prefixed, 3)?;
+    let keys: [(&[u8], PatternKind); 3] = [
+        (b"ab", PatternKind::Prefixed),
+        (b"abc", PatternKind::Prefixed),
+        (b"abd", PatternKind::Prefixed),
+    ];
+    add_all(rt.alloc(), &mut tree, &keys)?;
     assert!(rt; gives(tree.walk(b"abcd"), &[1, 2]));
     assert_eq!(rt; tree.levels(b"abcd"), 4);
-    assert!(rt; tree.remove(b"ab", PatternKind::Prefixed, 1));
-    assert!(rt; !tree.remove(b"ab", PatternKind::Prefixed, 1));
-    assert!(rt; gives(tree.walk(b"abcd"), &[2]));
-    assert!(rt; gives(tree.walk(b"ab"), &[]));
-    assert!(rt; tree.remove(b"abc", PatternKind::Prefixed, 2));
-    assert!(rt; tree.remove(b"abd", PatternKind::Prefixed, 3));
-    assert!(rt; gives(tree.walk(b"abcd"), &[]));
-    assert!(rt; gives(tree.walk(b"abd"), &[]));
-    assert_eq!(rt; tree.levels(b"abcd"), 1);
+    assert!(rt; removes_once(&mut tree));
+    assert!(rt; removes_rest(&mut tree));
     Ok(())
+}
+
+/// Whether walks and levels are those of two prefixes, a literal and a star.
+fn tells_kinds_apart(tree: &PrefixTree) -> bool {
+    gives(tree.walk(b"ab"), &[1, 2, 3])
+        && gives(tree.literal(b"*"), &[4])
+        && tree.levels(b"ab") == 3
+        && tree.levels(b"b") == 1
+}
+
+/// Whether the removal of a prefix leaves the literal on its key.
+fn keeps_literal(tree: &mut PrefixTree) -> bool {
+    tree.remove(b"ab", PatternKind::Prefixed, 2)
+        && gives(tree.walk(b"ab"), &[1, 3])
+        && tree.levels(b"ab") == 3
 }
 
 #[test]
 fn tree_literal_and_prefixed(rt: HostRuntime) -> Result<(), Fail> {
     let mut tree = PrefixTree::new();
-    tree.add(rt.alloc(), b"a", PatternKind::Prefixed, 1)?;
-    tree.add(rt.alloc(), b"ab", PatternKind::Prefixed, 2)?;
-    tree.add(rt.alloc(), b"ab", PatternKind::Literal, 3)?;
-    tree.add(rt.alloc(), b"*", PatternKind::Literal, 4)?;
-    assert!(rt; gives(tree.walk(b"ab"), &[1, 2, 3]));
-    assert!(rt; gives(tree.literal(b"*"), &[4]));
-    assert_eq!(rt; tree.levels(b"ab"), 3);
-    assert_eq!(rt; tree.levels(b"b"), 1);
-    assert!(rt; tree.remove(b"ab", PatternKind::Prefixed, 2));
-    assert!(rt; gives(tree.walk(b"ab"), &[1, 3]));
-    assert_eq!(rt; tree.levels(b"ab"), 3);
+    let keys: [(&[u8], PatternKind); 4] = [
+        (b"a", PatternKind::Prefixed),
+        (b"ab", PatternKind::Prefixed),
+        (b"ab", PatternKind::Literal),
+        (b"*", PatternKind::Literal),
+    ];
+    add_all(rt.alloc(), &mut tree, &keys)?;
+    assert!(rt; tells_kinds_apart(&tree));
+    assert!(rt; keeps_literal(&mut tree));
     Ok(())
+}
+
+/// Whether each byte goes in, from the last on, and those that are in are found.
+fn takes_all(alloc: Global, tree: &mut PrefixTree) -> Result<bool, AllocError> {
+    for byte in (0..=255u8).rev() {
+        tree.add(alloc, &[byte], PatternKind::Prefixed, byte as u64)?;
+        if !gives_from(tree, byte as u64) {
+            return Ok(false);
+        }
+    }
+    Ok(true)
+}
+
+/// Whether each byte comes out, from the first on, and those that are left are found.
+fn lets_all_go(tree: &mut PrefixTree) -> bool {
+    for byte in 0..=255u8 {
+        if !tree.remove(&[byte], PatternKind::Prefixed, byte as u64) {
+            return false;
+        }
+        if !gives_from(tree, byte as u64 + 1) {
+            return false;
+        }
+    }
+    true
 }
 
 #[test]
 fn all_bytes_in_and_out(rt: HostRuntime) -> Result<(), Fail> {
     let mut tree = PrefixTree::new();
-    for byte in (0..=255u8).rev() {
-        tree.add(rt.alloc(), &[byte], PatternKind::Prefixed, byte as u64)?;
-        assert!(rt; gives_from(&tree, byte as u64));
-    }
-    for byte in 0..=255u8 {
-        assert!(rt; tree.remove(&[byte], PatternKind::Prefixed, byte as u64));
-        assert!(rt; gives_from(&tree, byte as u64 + 1));
-    }
+    let taken = takes_all(rt.alloc(), &mut tree)?;
+    assert!(rt; taken);
+    assert!(rt; lets_all_go(&mut tree));
+    Ok(())
+}
+
+/// Commits two additions to one key in the other order, and lets go of a third.
+fn commit_in_turn(alloc: Global, tree: &mut PrefixTree) -> Result<(), AllocError> {
+    let first = tree.prepare_add(alloc, b"ab", PatternKind::Prefixed, 1)?;
+    let second = tree.prepare_add(alloc, b"ab", PatternKind::Prefixed, 2)?;
+    drop(tree.prepare_add(alloc, b"a", PatternKind::Prefixed, 3)?);
+    tree.commit_add(second);
+    tree.commit_add(first);
     Ok(())
 }
 
@@ -88,28 +165,35 @@ fn all_bytes_in_and_out(rt: HostRuntime) -> Result<(), Fail> {
 fn tree_commits_in_any_order(rt: HostRuntime) -> Result<(), Fail> {
     let mut tree = PrefixTree::new();
     is_send(&tree);
-    let first = tree.prepare_add(rt.alloc(), b"ab", PatternKind::Prefixed, 1)?;
-    let second = tree.prepare_add(rt.alloc(), b"ab", PatternKind::Prefixed, 2)?;
-    drop(tree.prepare_add(rt.alloc(), b"a", PatternKind::Prefixed, 3)?);
-    tree.commit_add(second);
-    tree.commit_add(first);
+    commit_in_turn(rt.alloc(), &mut tree)?;
     assert!(rt; gives(tree.walk(b"abc"), &[2, 1]));
     Ok(())
+}
+
+/// Puts so many serials on one key, from 0 on.
+fn put_many(alloc: Global, tree: &mut PrefixTree, count: u64) -> Result<(), AllocError> {
+    for serial in 0..count {
+        tree.add(alloc, b"events", PatternKind::Prefixed, serial)?;
+    }
+    Ok(())
+}
+
+/// Whether a walk gives the serials below a count in order, and no more.
+fn gives_below(walk: Walk<'_>, count: u64) -> bool {
+    let mut walk = walk;
+    for serial in 0..count {
+        if walk.next() != Some(serial) {
+            return false;
+        }
+    }
+    walk.next().is_none()
 }
 
 /// A hundred thousand serials on one key, put last one by one.
 #[test]
 fn many_serials_on_one_key(rt: HostRuntime) -> Result<(), Fail> {
     let mut tree = PrefixTree::new();
-    for serial in 0..100_000u64 {
-        tree.add(rt.alloc(), b"events", PatternKind::Prefixed, serial)?;
-    }
-    let mut walk = tree.walk(b"events-of-today");
-    for serial in 0..100_000u64 {
-        if walk.next() != Some(serial) {
-            assert!(rt; false, "at {serial}");
-        }
-    }
-    assert!(rt; walk.next().is_none());
+    put_many(rt.alloc(), &mut tree, 100_000)?;
+    assert!(rt; gives_below(tree.walk(b"events-of-today"), 100_000));
     Ok(())
 }
