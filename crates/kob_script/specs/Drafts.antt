@@ -40,20 +40,23 @@ draft_kinds permission operation resource pattern = do
   shape ← pattern_of pattern
   Ok (record { permission = grant; operation = act; resource = kind; pattern = shape })
 
+abbrev pub asked_draft : DraftTexts → DraftNames → DraftKinds → AskedDraft
+asked_draft texts names kinds = record {
+  asker = names.asker;
+  draft = record {
+    permission = kinds.permission;
+    principal = names.bound.principal;
+    host = names.bound.host;
+    operation = kinds.operation;
+    resource = kinds.resource;
+    pattern = record { kind = kinds.pattern; name = texts.name };
+  };
+}
+
 -- PERMISSION PRINCIPAL HOST OPERATION RESOURCE PATTERN NAME of a binding, and who asks for it
 unfoldable pub draft_of : List ℕ → List ℕ → List ℕ → List ℕ → List ℕ → List ℕ → List ℕ → List ℕ → List ℕ → Result AskedDraft FaultKind
 draft_of who from permission bound_who bound_from operation resource pattern name = do
   texts ← draft_texts who from bound_who bound_from name
   names ← draft_names texts.asker texts.bound
   kinds ← draft_kinds permission operation resource pattern
-  Ok (record {
-    asker = names.asker;
-    draft = record {
-      permission = kinds.permission;
-      principal = names.bound.principal;
-      host = names.bound.host;
-      operation = kinds.operation;
-      resource = kinds.resource;
-      pattern = record { kind = kinds.pattern; name = texts.name };
-    };
-  })
+  Ok (asked_draft texts names kinds)

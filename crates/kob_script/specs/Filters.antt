@@ -37,21 +37,24 @@ filter_kinds resource pattern operation permission = do
   grant ← unless_dash permission_of permission
   Ok (record { resource = kind; pattern = shape; operation = act; permission = grant })
 
+abbrev pub asked_filter : FilterTexts → FilterNames → FilterKinds → AskedFilter
+asked_filter texts names kinds = record {
+  asker = names.asker;
+  filter = record {
+    resource = kinds.resource;
+    name = texts.name;
+    pattern = kinds.pattern;
+    principal = names.principal;
+    host = names.host;
+    operation = kinds.operation;
+    permission = kinds.permission;
+  };
+}
+
 -- RESOURCE NAME PATTERN PRINCIPAL HOST OPERATION PERMISSION of a filter, `-` for any, and who asks by it
 unfoldable pub filter_of : List ℕ → List ℕ → List ℕ → List ℕ → List ℕ → List ℕ → List ℕ → List ℕ → List ℕ → Result AskedFilter FaultKind
 filter_of who from resource name pattern wanted_who wanted_from operation permission = do
   texts ← filter_texts who from name wanted_who wanted_from
   names ← filter_names texts
   kinds ← filter_kinds resource pattern operation permission
-  Ok (record {
-    asker = names.asker;
-    filter = record {
-      resource = kinds.resource;
-      name = texts.name;
-      pattern = kinds.pattern;
-      principal = names.principal;
-      host = names.host;
-      operation = kinds.operation;
-      permission = kinds.permission;
-    };
-  })
+  Ok (asked_filter texts names kinds)

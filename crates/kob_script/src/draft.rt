@@ -1,6 +1,7 @@
 //! The words of a binding, by the order in which faults are looked for.
 
-ghost use Rattle.kob_script.specs.Drafts.{draft_texts, draft_names, draft_kinds, draft_of};
+ghost use Rattle.std.specs.Prelude.{◌≡◌};
+ghost use Rattle.kob_script.specs.Drafts.{draft_texts, draft_names, draft_kinds, asked_draft, draft_of};
 ghost use Rattle.kob_script.specs.Reading.{Gives};
 
 use crate::asker::{Asker, AskerText, AskerWords};
@@ -115,14 +116,21 @@ pub fn draft_of(
     let texts = draft_texts(alloc, asker, words.bound, words.name)?;
     let names = draft_names(alloc, &texts.asker, &texts.bound)?;
     let kinds = draft_kinds(alloc, words)?;
+    Ok(asked_draft(texts, names, kinds))
+}
+
+fn asked_draft(texts: DraftTexts, names: DraftNames, kinds: DraftKinds) -> AskedDraft
+    ensures { result ≡ asked_draft texts names kinds }
+{
     let DraftTexts { name, .. } = texts;
     let DraftNames { asker, bound } = names;
-    Ok(AskedDraft {
+    let Asker { principal, host } = bound;
+    AskedDraft {
         asker,
         draft: Draft {
             permission: kinds.permission,
-            principal: bound.principal,
-            host: bound.host,
+            principal,
+            host,
             operation: kinds.operation,
             resource: kinds.resource,
             pattern: Pattern {
@@ -130,5 +138,5 @@ pub fn draft_of(
                 name,
             },
         },
-    })
+    }
 }

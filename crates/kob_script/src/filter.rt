@@ -1,6 +1,7 @@
 //! The words of a filter, by the order in which faults are looked for.
 
-ghost use Rattle.kob_script.specs.Filters.{filter_texts, filter_names, filter_kinds, filter_of};
+ghost use Rattle.std.specs.Prelude.{◌≡◌};
+ghost use Rattle.kob_script.specs.Filters.{filter_texts, filter_names, filter_kinds, asked_filter, filter_of};
 ghost use Rattle.kob_script.specs.Reading.{Gives};
 
 use crate::asker::{Asker, AskerText, AskerWords};
@@ -125,14 +126,21 @@ pub fn filter_of(
         (filter_of asker.entry.principal.now asker.entry.host.now w.resource.now w.name.now w.pattern.now w.principal.now w.host.now w.operation.now w.permission.now) }
 {
     let texts = filter_texts(alloc, asker, words)?;
+    let names = filter_names(alloc, &texts)?;
+    let kinds = filter_kinds(alloc, words)?;
+    Ok(asked_filter(texts, names, kinds))
+}
+
+fn asked_filter(texts: FilterTexts, names: FilterNames, kinds: FilterKinds) -> AskedFilter
+    ensures { result ≡ asked_filter texts names kinds }
+{
+    let FilterTexts { name, .. } = texts;
     let FilterNames {
         asker,
         principal,
         host,
-    } = filter_names(alloc, &texts)?;
-    let kinds = filter_kinds(alloc, words)?;
-    let FilterTexts { name, .. } = texts;
-    Ok(AskedFilter {
+    } = names;
+    AskedFilter {
         asker,
         filter: BindingFilter {
             resource: kinds.resource,
@@ -143,5 +151,5 @@ pub fn filter_of(
             operation: kinds.operation,
             permission: kinds.permission,
         },
-    })
+    }
 }
