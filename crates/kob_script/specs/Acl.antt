@@ -50,12 +50,17 @@ request_of (Describe filter) = DescribeAcls (record { filter = filter })
 abbrev pub requests_by : Asker → List AclCommand → List Event
 requests_by asker commands = map (λ command. asks asker (request_of command)) commands
 
+-- who asks by words that are all texts
+unfoldable pub asker_before : List ℕ → List ℕ → List (List ℕ) → Result Asker FaultKind
+asker_before who from arguments = do
+  texts ← asker_text who from
+  words ← each text_of arguments
+  asker_of texts
+
 -- acl WORDS.., by what clap told of the words: options, or nothing where it refused them
 unfoldable pub acl_line : Option CliArgs → List ℕ → List ℕ → List (List ℕ) → Result (List Event) FaultKind
 acl_line told who from arguments = do
-  texts ← asker_text who from
-  words ← each text_of arguments
-  asker ← asker_of texts
+  asker ← asker_before who from arguments
   args ← found_or Usage told
   asked ← commands_in args
   Ok (requests_by asker asked)

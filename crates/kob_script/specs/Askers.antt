@@ -2,6 +2,7 @@
 use Rattle.std.specs.Prelude.{ℕ, List, Result, Ok}
 use Rattle.kob_rights.specs.declared.event.Event.{Event}
 use Rattle.kob_rights.specs.declared.request.Request.{Request}
+use Rattle.kob_script.specs.declared.asker.AskedName.{AskedName}
 use Rattle.kob_script.specs.declared.asker.Asker.{Asker}
 use Rattle.kob_script.specs.declared.asker.AskerText.{AskerText}
 use Rattle.kob_script.specs.declared.fault.FaultKind.{FaultKind}
@@ -21,6 +22,14 @@ asker_of texts = do
   principal ← principal_of texts.principal
   host ← host_of texts.host
   Ok (record { principal = principal; host = host })
+
+-- a name, and who asks by it; all three are texts before any is a principal or a host
+unfoldable pub asked_name : List ℕ → List ℕ → List ℕ → Result AskedName FaultKind
+asked_name who from word = do
+  texts ← asker_text who from
+  name ← text_of word
+  asker ← asker_of texts
+  Ok (record { asker = asker; name = name })
 
 -- the event that a principal at a host asks for something
 abbrev pub asks : Asker → Request → Event

@@ -4,13 +4,14 @@ use Rattle.std.specs.List.{slice_split}
 use Rattle.std.specs.Option.{option_map}
 use Rattle.std.specs.Str.{bytes_eq}
 use Rattle.bstr.specs.Find.{first_of, matches}
+use Rattle.kob_names.specs.declared.batch.Batch.{Batch}
 use Rattle.kob_names.specs.declared.batch.Idem.{Idem}
 use Rattle.kob_names.specs.declared.record.Record.{Record}
 use Rattle.kob_script.specs.declared.fault.FaultKind.{FaultKind}
 use Rattle.kob_script.specs.declared.fault.FaultKind.TheVariants.{BadLine}
 use Rattle.kob_script.specs.Escapes.{bytes_of}
 use Rattle.kob_script.specs.Numbers.{number_of}
-use Rattle.kob_script.specs.Reading.{◌>>=◌}
+use Rattle.kob_script.specs.Reading.{◌>>=◌, each}
 
 -- the three parts of ID:EPOCH:BASE
 abbrev pub three_of : List (List ℕ) → Result (Option (List ℕ × List ℕ × List ℕ)) FaultKind
@@ -43,3 +44,10 @@ record_in (Some parts) word =
 -- a record without headers
 unfoldable pub record_of : List ℕ → Result Record FaultKind
 record_of word = record_in (key_and_value word) word
+
+-- the numbers of who produced a batch come before its records
+unfoldable pub batch_of : Option (List ℕ × List ℕ × List ℕ) → List (List ℕ) → Result Batch FaultKind
+batch_of parts words = do
+  idem ← idem_of parts
+  records ← each record_of words
+  Ok (record { idem = idem; records = records })

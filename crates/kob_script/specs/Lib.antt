@@ -3,7 +3,9 @@ pub mod AclLines
 pub mod Askers
 pub mod Batches
 pub mod Commands
+pub mod Drafts
 pub mod Escapes
+pub mod Filters
 pub mod GroupLines
 pub mod Growing
 pub mod Keywords

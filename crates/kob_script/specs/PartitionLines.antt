@@ -5,37 +5,31 @@ use Rattle.kob_rights.specs.declared.event.Event.{Event}
 use Rattle.kob_rights.specs.declared.on_partitions.Which.{Which}
 use Rattle.kob_rights.specs.declared.on_partitions.Which.TheVariants.{Start, End}
 use Rattle.kob_rights.specs.declared.request.Request.TheVariants.{Produce, Fetch, ListOffsets, InitProducerId}
-use Rattle.kob_script.specs.Askers.{asker_text, asker_of, asks}
-use Rattle.kob_script.specs.Batches.{idem_parts, idem_of, record_of}
+use Rattle.kob_script.specs.Askers.{asker_text, asker_of, asked_name, asks}
+use Rattle.kob_script.specs.Batches.{idem_parts, batch_of}
 use Rattle.kob_script.specs.declared.fault.FaultKind.{FaultKind}
 use Rattle.kob_script.specs.declared.fault.FaultKind.TheVariants.{BadLine}
 use Rattle.kob_script.specs.Escapes.{bytes_of}
 use Rattle.kob_script.specs.Numbers.{number_of}
-use Rattle.kob_script.specs.Reading.{◌>>=◌, each}
-use Rattle.kob_script.specs.Texts.{text_of}
+use Rattle.kob_script.specs.Reading.{◌>>=◌}
 
 -- produce TOPIC PARTITION, `-` or ID:EPOCH:BASE, and records
 unfoldable pub produce : List ℕ → List ℕ → List ℕ → List ℕ → List ℕ → List (List ℕ) → Result Event FaultKind
 produce who from topic partition idem records = do
   parts ← idem_parts idem
-  texts ← asker_text who from
-  name ← text_of topic
-  asker ← asker_of texts
+  asked ← asked_name who from topic
   place ← number_of partition
-  sequence ← idem_of parts
-  messages ← each record_of records
-  Ok (asks asker (Produce (record { topic = name; partition = place; batch = record { idem = sequence; records = messages } })))
+  batch ← batch_of parts records
+  Ok (asks asked.asker (Produce (record { topic = asked.name; partition = place; batch = batch })))
 
 -- fetch TOPIC PARTITION OFFSET MAX
 unfoldable pub fetch : List ℕ → List ℕ → List ℕ → List ℕ → List ℕ → List ℕ → Result Event FaultKind
 fetch who from topic partition offset max = do
-  texts ← asker_text who from
-  name ← text_of topic
-  asker ← asker_of texts
+  asked ← asked_name who from topic
   place ← number_of partition
   first ← number_of offset
   most ← number_of max
-  Ok (asks asker (Fetch (record { topic = name; partition = place; offset = first; max = most })))
+  Ok (asks asked.asker (Fetch (record { topic = asked.name; partition = place; offset = first; max = most })))
 
 -- `-2` asks for the start, `-1` for the end
 abbrev pub which_in : List ℕ → Result Which FaultKind
@@ -51,11 +45,9 @@ which_of word = bytes_of word >>= which_in
 unfoldable pub list_offsets : List ℕ → List ℕ → List ℕ → List ℕ → List ℕ → Result Event FaultKind
 list_offsets who from topic partition word = do
   which ← which_of word
-  texts ← asker_text who from
-  name ← text_of topic
-  asker ← asker_of texts
+  asked ← asked_name who from topic
   place ← number_of partition
-  Ok (asks asker (ListOffsets (record { topic = name; partition = place; which = which })))
+  Ok (asks asked.asker (ListOffsets (record { topic = asked.name; partition = place; which = which })))
 
 -- init-producer
 unfoldable pub init_producer : List ℕ → List ℕ → Result Event FaultKind

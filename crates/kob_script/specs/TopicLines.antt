@@ -2,29 +2,24 @@
 use Rattle.std.specs.Prelude.{ℕ, List, [], ◌∷◌, Some, None, Result, Ok, Err}
 use Rattle.kob_rights.specs.declared.event.Event.{Event}
 use Rattle.kob_rights.specs.declared.request.Request.TheVariants.{Metadata, CreateTopics, DeleteTopics}
-use Rattle.kob_script.specs.Askers.{asker_text, asker_of, asks}
+use Rattle.kob_script.specs.Askers.{asker_text, asker_of, asked_name, asks}
 use Rattle.kob_script.specs.declared.fault.FaultKind.{FaultKind}
 use Rattle.kob_script.specs.declared.fault.FaultKind.TheVariants.{BadLine}
 use Rattle.kob_script.specs.Numbers.{number_of}
 use Rattle.kob_script.specs.Reading.{◌>>=◌}
-use Rattle.kob_script.specs.Texts.{text_of}
 
 -- create-topic NAME PARTITIONS
 unfoldable pub create_topic : List ℕ → List ℕ → List ℕ → List ℕ → Result Event FaultKind
 create_topic who from name partitions = do
-  texts ← asker_text who from
-  topic ← text_of name
-  asker ← asker_of texts
+  asked ← asked_name who from name
   count ← number_of partitions
-  Ok (asks asker (CreateTopics (record { name = topic; partitions = count })))
+  Ok (asks asked.asker (CreateTopics (record { name = asked.name; partitions = count })))
 
 -- delete-topic NAME
 unfoldable pub delete_topic : List ℕ → List ℕ → List ℕ → Result Event FaultKind
 delete_topic who from name = do
-  texts ← asker_text who from
-  topic ← text_of name
-  asker ← asker_of texts
-  Ok (asks asker (DeleteTopics (record { name = topic })))
+  asked ← asked_name who from name
+  Ok (asks asked.asker (DeleteTopics (record { name = asked.name })))
 
 -- metadata
 unfoldable pub metadata_of_all : List ℕ → List ℕ → Result Event FaultKind
@@ -36,10 +31,8 @@ metadata_of_all who from = do
 -- metadata NAME
 unfoldable pub metadata_of_one : List ℕ → List ℕ → List ℕ → Result Event FaultKind
 metadata_of_one who from name = do
-  texts ← asker_text who from
-  topic ← text_of name
-  asker ← asker_of texts
-  Ok (asks asker (Metadata (record { topic = Some topic })))
+  asked ← asked_name who from name
+  Ok (asks asked.asker (Metadata (record { topic = Some asked.name })))
 
 -- the words after a command, where their number fits it
 abbrev pub create_topic_line : List ℕ → List ℕ → List (List ℕ) → Result Event FaultKind

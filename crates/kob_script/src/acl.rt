@@ -1,8 +1,8 @@
 //! The command `acl`: words of `kafka-acls`, each command of which is a request of its own.
 
 ghost use Rattle.std.specs.Prelude.{◌≡◌, map, IfOk};
-ghost use Rattle.kob_script.specs.Acl.{acl_line, commands_in, error_of, request_of, requests_by};
-ghost use Rattle.kob_script.specs.Reading.{GivesSeen};
+ghost use Rattle.kob_script.specs.Acl.{acl_line, asker_before, commands_in, error_of, request_of, requests_by};
+ghost use Rattle.kob_script.specs.Reading.{Gives, GivesSeen};
 
 use crate::asker::{Asker, AskerWords};
 use crate::fault::{FaultKind, LineError};
@@ -23,15 +23,22 @@ pub fn acl_line(
     ensures { GivesSeen (λ events. events.items) result
         (acl_line told.now asker.entry.principal.now asker.entry.host.now (map (λ word. word.now) words.now)) }
 {
-    let texts = asker.text(alloc)?;
-    texts_of(alloc, words)?;
-    let asker = texts.asker(alloc)?;
+    let asker = asker_before(alloc, asker, words)?;
     let Some(args) = told else {
         return Err(LineError::Fault(FaultKind::Usage));
     };
     let commands = commands_in(alloc, args)?;
     let events = requests_by(alloc, &asker, commands)?;
     Ok(events)
+}
+
+#[tactic(auto, unfolding(crate::specs::Acl::asker_before))]
+fn asker_before(alloc: Global, asker: AskerWords<'_>, words: &[&[u8]]) -> Result<Asker, LineError>
+    ensures { Gives result (asker_before asker.entry.principal.now asker.entry.host.now (map (λ word. word.now) words.now)) }
+{
+    let texts = asker.text(alloc)?;
+    texts_of(alloc, words)?;
+    texts.asker(alloc)
 }
 
 fn commands_in(alloc: Global, args: &CliArgs) -> Result<Vec<AclCommand>, LineError>

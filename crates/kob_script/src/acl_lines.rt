@@ -1,52 +1,16 @@
 //! Lines that ask for something of bindings.
 
 ghost use Rattle.std.specs.Prelude.{map};
-ghost use Rattle.kob_script.specs.AclLines.{create_acl, filter_of, create_acl_line, filter_line, describe_acls_line, delete_acls_line};
+ghost use Rattle.kob_script.specs.AclLines.{create_acl, create_acl_line, filter_line, describe_acls_line, delete_acls_line};
 ghost use Rattle.kob_script.specs.Reading.{Gives};
 
-use crate::asker::{Asker, AskerWords};
+use crate::asker::AskerWords;
+use crate::draft::{AskedDraft, DraftWords, draft_of};
 use crate::fault::{FaultKind, LineError};
-use crate::keyword::{
-    filter_pattern_of, operation_of, operation_unless_dash, pattern_of, permission_of,
-    permission_unless_dash, resource_of, resource_unless_dash,
-};
-use crate::text::{
-    host_of, optional_host_of, optional_principal_of, principal_of, text_of, text_unless_dash,
-};
-use kob_names::{BindingFilter, Draft, Items, Pattern};
+use crate::filter::{AskedFilter, FilterWords, filter_of};
+use kob_names::Items;
 use kob_rights::{CreateAcls, DeleteAcls, DescribeAcls, Event, Request};
 use std::alloc::Global;
-
-/// The words that write a binding.
-#[derive(Clone, Copy)]
-struct DraftWords<'a> {
-    permission: &'a [u8],
-    principal: &'a [u8],
-    host: &'a [u8],
-    operation: &'a [u8],
-    resource: &'a [u8],
-    pattern: &'a [u8],
-    name: &'a [u8],
-}
-
-/// The words that write a filter.
-#[derive(Clone, Copy)]
-struct FilterWords<'a> {
-    resource: &'a [u8],
-    name: &'a [u8],
-    pattern: &'a [u8],
-    principal: &'a [u8],
-    host: &'a [u8],
-    operation: &'a [u8],
-    permission: &'a [u8],
-}
-
-/// A filter, and who asks by it.
-#[derive(Debug, Drop)]
-struct AskedFilter {
-    asker: Asker,
-    filter: BindingFilter,
-}
 
 #[tactic(auto, unfolding(crate::specs::AclLines::create_acl))]
 fn create_acl(
@@ -55,70 +19,13 @@ fn create_acl(
     words: DraftWords<'_>,
 ) -> Result<Event, LineError>
     ensures { let w = words.entry in Gives result
-        (create_acl asker.entry.principal.now asker.entry.host.now w.permission.now w.principal.now w.host.now w.operation.now w.resource.now w.pattern.now w.name.now) }
+        (create_acl asker.entry.principal.now asker.entry.host.now w.permission.now w.bound.principal.now w.bound.host.now w.operation.now w.resource.now w.pattern.now w.name.now) }
 {
-    let texts = asker.text(alloc)?;
-    let bound = AskerWords {
-        principal: words.principal,
-        host: words.host,
-    };
-    let bound = bound.text(alloc)?;
-    let name = text_of(alloc, words.name)?;
-    let principal = principal_of(alloc, &texts.principal)?;
-    let bound_principal = principal_of(alloc, &bound.principal)?;
-    let host = host_of(alloc, &texts.host)?;
-    let bound_host = host_of(alloc, &bound.host)?;
-    let permission = permission_of(alloc, words.permission)?;
-    let operation = operation_of(alloc, words.operation)?;
-    let resource = resource_of(alloc, words.resource)?;
-    let kind = pattern_of(alloc, words.pattern)?;
+    let AskedDraft { asker, draft } = draft_of(alloc, asker, words)?;
     let mut drafts = Vec::new(alloc);
-    drafts.push(Draft {
-        permission,
-        principal: bound_principal,
-        host: bound_host,
-        operation,
-        resource,
-        pattern: Pattern { kind, name },
-    })?;
+    drafts.push(draft)?;
     let drafts = Items::from_vec(drafts);
-    let asker = Asker { principal, host };
     Ok(asker.asks(Request::CreateAcls(CreateAcls { drafts })))
-}
-
-#[tactic(auto, unfolding(crate::specs::AclLines::filter_of))]
-fn filter_of(
-    alloc: Global,
-    asker: AskerWords<'_>,
-    words: FilterWords<'_>,
-) -> Result<AskedFilter, LineError>
-    ensures { let w = words.entry in Gives result
-        (filter_of asker.entry.principal.now asker.entry.host.now w.resource.now w.name.now w.pattern.now w.principal.now w.host.now w.operation.now w.permission.now) }
-{
-    let texts = asker.text(alloc)?;
-    let name = text_unless_dash(alloc, words.name)?;
-    let wanted_principal = text_unless_dash(alloc, words.principal)?;
-    let wanted_host = text_unless_dash(alloc, words.host)?;
-    let principal = principal_of(alloc, &texts.principal)?;
-    let wanted_principal = optional_principal_of(alloc, &wanted_principal)?;
-    let host = host_of(alloc, &texts.host)?;
-    let wanted_host = optional_host_of(alloc, &wanted_host)?;
-    let resource = resource_unless_dash(alloc, words.resource)?;
-    let pattern = filter_pattern_of(alloc, words.pattern)?;
-    let operation = operation_unless_dash(alloc, words.operation)?;
-    let permission = permission_unless_dash(alloc, words.permission)?;
-    Ok(AskedFilter {
-        asker: Asker { principal, host },
-        filter: BindingFilter {
-            resource,
-            name,
-            pattern,
-            principal: wanted_principal,
-            host: wanted_host,
-            operation,
-            permission,
-        },
-    })
 }
 
 /// `create-acl PERMISSION PRINCIPAL HOST OPERATION RESOURCE PATTERN NAME`
@@ -141,8 +48,7 @@ pub fn create_acl_line(
         ] => {
             let words = DraftWords {
                 permission,
-                principal,
-                host,
+                bound: AskerWords { principal, host },
                 operation,
                 resource,
                 pattern,

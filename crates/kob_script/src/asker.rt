@@ -1,7 +1,7 @@
 //! Who asks.
 
 ghost use Rattle.std.specs.Prelude.{◌≡◌, IfOk};
-ghost use Rattle.kob_script.specs.Askers.{asker_text, asker_of, asks};
+ghost use Rattle.kob_script.specs.Askers.{asker_text, asker_of, asked_name, asks};
 ghost use Rattle.kob_script.specs.Reading.{Gives};
 
 use crate::fault::LineError;
@@ -31,6 +31,13 @@ pub struct Asker {
     pub host: Host,
 }
 
+/// A name, and who asks by it.
+#[derive(Debug, Drop)]
+pub struct AskedName {
+    pub asker: Asker,
+    pub name: Text,
+}
+
 impl AskerWords<'_> {
     /// The texts of the words.
     #[tactic(auto, unfolding(crate::specs::Askers::asker_text))]
@@ -40,6 +47,17 @@ impl AskerWords<'_> {
         let principal = text_of(alloc, self.principal)?;
         let host = text_of(alloc, self.host)?;
         Ok(AskerText { principal, host })
+    }
+
+    /// The asker, and the name that a further word is.
+    #[tactic(auto, unfolding(crate::specs::Askers::asked_name))]
+    pub fn with_name(self, alloc: Global, name: &[u8]) -> Result<AskedName, LineError>
+        ensures { Gives result (asked_name self.entry.principal.now self.entry.host.now name.now) }
+    {
+        let texts = self.text(alloc)?;
+        let name = text_of(alloc, name)?;
+        let asker = texts.asker(alloc)?;
+        Ok(AskedName { asker, name })
     }
 }
 

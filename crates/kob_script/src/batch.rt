@@ -3,14 +3,14 @@
 ghost use Rattle.std.specs.Prelude.{◌≡◌, ◌==◌, IfOk, map};
 ghost use Rattle.std.specs.List.{slice_split};
 ghost use Rattle.std.specs.Option.{option_map};
-ghost use Rattle.kob_script.specs.Batches.{idem_parts, idem_of, key_and_value, record_of};
+ghost use Rattle.kob_script.specs.Batches.{idem_parts, idem_of, key_and_value, record_of, batch_of};
 ghost use Rattle.kob_script.specs.Reading.{Gives, GivesSeen, each};
 
 use crate::escape::bytes_of;
 use crate::fault::{FaultKind, LineError};
 use crate::number::number_of;
 use bstr::ByteSlice;
-use kob_names::{Idem, Items, Record};
+use kob_names::{Batch, Idem, Items, Record};
 use std::alloc::{AllocError, Global};
 
 /// The parts of ID:EPOCH:BASE, as they stand in a word.
@@ -44,7 +44,7 @@ fn split_at_colons(alloc: Global, word: &[u8]) -> Result<Vec<&[u8]>, AllocError>
 
 /// The numbers that the parts write.
 #[tactic(auto, unfolding(crate::specs::Batches::idem_of))]
-pub fn idem_of(alloc: Global, parts: Option<IdemParts<'_>>) -> Result<Option<Idem>, LineError>
+fn idem_of(alloc: Global, parts: Option<IdemParts<'_>>) -> Result<Option<Idem>, LineError>
     ensures { Gives result (idem_of (option_map (λ p. (p.id.now, p.epoch.now, p.base.now)) parts.entry)) }
 {
     let Some(parts) = parts else {
@@ -90,7 +90,7 @@ fn record_of(alloc: Global, word: &[u8]) -> Result<Record, LineError>
 }
 
 /// The records that the words write, in order.
-pub fn records_of(alloc: Global, words: &[&[u8]]) -> Result<Items<Record>, LineError>
+fn records_of(alloc: Global, words: &[&[u8]]) -> Result<Items<Record>, LineError>
     ensures { Gives result (each record_of (map (λ word. word.now) words.now)) }
 {
     let mut records = Vec::new(alloc);
@@ -99,4 +99,19 @@ pub fn records_of(alloc: Global, words: &[&[u8]]) -> Result<Items<Record>, LineE
         records.push(message)?;
     }
     Ok(Items::from_vec(records))
+}
+
+/// The batch that the parts and the words of records write.
+#[tactic(auto, unfolding(crate::specs::Batches::batch_of))]
+pub fn batch_of(
+    alloc: Global,
+    parts: Option<IdemParts<'_>>,
+    records: &[&[u8]],
+) -> Result<Batch, LineError>
+    ensures { Gives result
+        (batch_of (option_map (λ p. (p.id.now, p.epoch.now, p.base.now)) parts.entry) (map (λ word. word.now) records.now)) }
+{
+    let idem = idem_of(alloc, parts)?;
+    let records = records_of(alloc, records)?;
+    Ok(Batch { idem, records })
 }

@@ -1,15 +1,44 @@
 //! Lines that ask for something of groups.
 
 ghost use Rattle.std.specs.Prelude.{map};
-ghost use Rattle.kob_script.specs.GroupLines.{commit, committed, groups, delete_group, commit_line, committed_line, groups_line, delete_group_line};
+ghost use Rattle.kob_script.specs.GroupLines.{asked_offset, commit, committed, groups, delete_group, commit_line, committed_line, groups_line, delete_group_line};
 ghost use Rattle.kob_script.specs.Reading.{Gives};
 
-use crate::asker::AskerWords;
+use crate::asker::{AskedName, Asker, AskerWords};
 use crate::fault::{FaultKind, LineError};
 use crate::number::number_of;
 use crate::text::text_of;
+use kob_names::Text;
 use kob_rights::{DeleteGroups, Event, OffsetCommit, OffsetFetch, Request};
 use std::alloc::Global;
+
+/// The group and the topic of an offset, and who asks by them.
+#[derive(Drop)]
+struct AskedOffset {
+    asker: Asker,
+    group: Text,
+    topic: Text,
+}
+
+#[tactic(auto, unfolding(crate::specs::GroupLines::asked_offset))]
+fn asked_offset(
+    alloc: Global,
+    asker: AskerWords<'_>,
+    group: &[u8],
+    topic: &[u8],
+) -> Result<AskedOffset, LineError>
+    ensures { Gives result (asked_offset asker.entry.principal.now asker.entry.host.now group.now topic.now) }
+{
+    let texts = asker.text(alloc)?;
+    let group = text_of(alloc, group)?;
+    let topic = text_of(alloc, topic)?;
+    let asker = texts.asker(alloc)?;
+    Ok(AskedOffset {
+        asker,
+        group,
+        topic,
+    })
+}
 
 #[tactic(auto, unfolding(crate::specs::GroupLines::commit))]
 fn commit(
@@ -22,10 +51,11 @@ fn commit(
 ) -> Result<Event, LineError>
     ensures { Gives result (commit asker.entry.principal.now asker.entry.host.now group.now topic.now partition.now offset.now) }
 {
-    let texts = asker.text(alloc)?;
-    let group = text_of(alloc, group)?;
-    let topic = text_of(alloc, topic)?;
-    let asker = texts.asker(alloc)?;
+    let AskedOffset {
+        asker,
+        group,
+        topic,
+    } = asked_offset(alloc, asker, group, topic)?;
     let partition = number_of(alloc, partition)?;
     let offset = number_of(alloc, offset)?;
     Ok(asker.asks(Request::OffsetCommit(OffsetCommit {
@@ -46,10 +76,11 @@ fn committed(
 ) -> Result<Event, LineError>
     ensures { Gives result (committed asker.entry.principal.now asker.entry.host.now group.now topic.now partition.now) }
 {
-    let texts = asker.text(alloc)?;
-    let group = text_of(alloc, group)?;
-    let topic = text_of(alloc, topic)?;
-    let asker = texts.asker(alloc)?;
+    let AskedOffset {
+        asker,
+        group,
+        topic,
+    } = asked_offset(alloc, asker, group, topic)?;
     let partition = number_of(alloc, partition)?;
     Ok(asker.asks(Request::OffsetFetch(OffsetFetch {
         group,
@@ -71,10 +102,8 @@ fn groups(alloc: Global, asker: AskerWords<'_>) -> Result<Event, LineError>
 fn delete_group(alloc: Global, asker: AskerWords<'_>, group: &[u8]) -> Result<Event, LineError>
     ensures { Gives result (delete_group asker.entry.principal.now asker.entry.host.now group.now) }
 {
-    let texts = asker.text(alloc)?;
-    let group = text_of(alloc, group)?;
-    let asker = texts.asker(alloc)?;
-    Ok(asker.asks(Request::DeleteGroups(DeleteGroups { group })))
+    let AskedName { asker, name } = asker.with_name(alloc, group)?;
+    Ok(asker.asks(Request::DeleteGroups(DeleteGroups { group: name })))
 }
 
 /// `commit GROUP TOPIC PARTITION OFFSET`

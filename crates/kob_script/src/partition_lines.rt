@@ -4,13 +4,11 @@ ghost use Rattle.std.specs.Prelude.{map};
 ghost use Rattle.kob_script.specs.PartitionLines.{produce, fetch, which_in, which_of, list_offsets, init_producer, produce_line, fetch_line, list_offsets_line, init_producer_line};
 ghost use Rattle.kob_script.specs.Reading.{Gives};
 
-use crate::asker::AskerWords;
-use crate::batch::{idem_of, idem_parts, records_of};
+use crate::asker::{AskedName, AskerWords};
+use crate::batch::{batch_of, idem_parts};
 use crate::escape::bytes_of;
 use crate::fault::{FaultKind, LineError};
 use crate::number::number_of;
-use crate::text::text_of;
-use kob_names::Batch;
 use kob_rights::{Event, Fetch, ListOffsets, Produce, Request, Which};
 use std::alloc::Global;
 
@@ -26,15 +24,11 @@ fn produce(
     ensures { Gives result (produce asker.entry.principal.now asker.entry.host.now topic.now partition.now idem.now (map (λ word. word.now) records.now)) }
 {
     let parts = idem_parts(alloc, idem)?;
-    let texts = asker.text(alloc)?;
-    let topic = text_of(alloc, topic)?;
-    let asker = texts.asker(alloc)?;
+    let AskedName { asker, name } = asker.with_name(alloc, topic)?;
     let partition = number_of(alloc, partition)?;
-    let idem = idem_of(alloc, parts)?;
-    let records = records_of(alloc, records)?;
-    let batch = Batch { idem, records };
+    let batch = batch_of(alloc, parts, records)?;
     Ok(asker.asks(Request::Produce(Produce {
-        topic,
+        topic: name,
         partition,
         batch,
     })))
@@ -51,14 +45,12 @@ fn fetch(
 ) -> Result<Event, LineError>
     ensures { Gives result (fetch asker.entry.principal.now asker.entry.host.now topic.now partition.now offset.now max.now) }
 {
-    let texts = asker.text(alloc)?;
-    let topic = text_of(alloc, topic)?;
-    let asker = texts.asker(alloc)?;
+    let AskedName { asker, name } = asker.with_name(alloc, topic)?;
     let partition = number_of(alloc, partition)?;
     let offset = number_of(alloc, offset)?;
     let max = number_of(alloc, max)?;
     Ok(asker.asks(Request::Fetch(Fetch {
-        topic,
+        topic: name,
         partition,
         offset,
         max,
@@ -96,12 +88,10 @@ fn list_offsets(
     ensures { Gives result (list_offsets asker.entry.principal.now asker.entry.host.now topic.now partition.now which.now) }
 {
     let which = which_of(alloc, which)?;
-    let texts = asker.text(alloc)?;
-    let topic = text_of(alloc, topic)?;
-    let asker = texts.asker(alloc)?;
+    let AskedName { asker, name } = asker.with_name(alloc, topic)?;
     let partition = number_of(alloc, partition)?;
     Ok(asker.asks(Request::ListOffsets(ListOffsets {
-        topic,
+        topic: name,
         partition,
         which,
     })))

@@ -4,10 +4,9 @@ ghost use Rattle.std.specs.Prelude.{map};
 ghost use Rattle.kob_script.specs.Reading.{Gives};
 ghost use Rattle.kob_script.specs.TopicLines.{create_topic, delete_topic, metadata_of_all, metadata_of_one, create_topic_line, delete_topic_line, metadata_line};
 
-use crate::asker::AskerWords;
+use crate::asker::{AskedName, AskerWords};
 use crate::fault::{FaultKind, LineError};
 use crate::number::number_of;
-use crate::text::text_of;
 use kob_rights::{CreateTopics, DeleteTopics, Event, Metadata, Request};
 use std::alloc::Global;
 
@@ -20,9 +19,7 @@ fn create_topic(
 ) -> Result<Event, LineError>
     ensures { Gives result (create_topic asker.entry.principal.now asker.entry.host.now name.now partitions.now) }
 {
-    let texts = asker.text(alloc)?;
-    let name = text_of(alloc, name)?;
-    let asker = texts.asker(alloc)?;
+    let AskedName { asker, name } = asker.with_name(alloc, name)?;
     let partitions = number_of(alloc, partitions)?;
     Ok(asker.asks(Request::CreateTopics(CreateTopics { name, partitions })))
 }
@@ -31,9 +28,7 @@ fn create_topic(
 fn delete_topic(alloc: Global, asker: AskerWords<'_>, name: &[u8]) -> Result<Event, LineError>
     ensures { Gives result (delete_topic asker.entry.principal.now asker.entry.host.now name.now) }
 {
-    let texts = asker.text(alloc)?;
-    let name = text_of(alloc, name)?;
-    let asker = texts.asker(alloc)?;
+    let AskedName { asker, name } = asker.with_name(alloc, name)?;
     Ok(asker.asks(Request::DeleteTopics(DeleteTopics { name })))
 }
 
@@ -50,9 +45,7 @@ fn metadata_of_all(alloc: Global, asker: AskerWords<'_>) -> Result<Event, LineEr
 fn metadata_of_one(alloc: Global, asker: AskerWords<'_>, name: &[u8]) -> Result<Event, LineError>
     ensures { Gives result (metadata_of_one asker.entry.principal.now asker.entry.host.now name.now) }
 {
-    let texts = asker.text(alloc)?;
-    let name = text_of(alloc, name)?;
-    let asker = texts.asker(alloc)?;
+    let AskedName { asker, name } = asker.with_name(alloc, name)?;
     let topic = Some(name);
     Ok(asker.asks(Request::Metadata(Metadata { topic })))
 }
