@@ -1,5 +1,6 @@
 //! Why a run gave no whole output.
 
+use crate::sink::WriteFailed;
 use crate::source::ReadFailed;
 use std::alloc::{AllocError, AllocFailed};
 use thiserror::Error;
@@ -47,5 +48,16 @@ impl From<ReadFailed> for RunFault {
 
     fn from(_failed: ReadFailed) -> RunFault {
         RunFault::ReadFailed
+    }
+}
+
+impl From<WriteFailed> for RunFault {
+    ghost use Rattle.std.specs.Prelude.{◌≡◌};
+    ghost use Rattle.kob_text.specs.declared.fault.RunFault.TheVariants as variant;
+
+    ghost from_gives = { λ _ fault. fault ≡ variant.WriteFailed };
+
+    fn from(_failed: WriteFailed) -> RunFault {
+        RunFault::WriteFailed
     }
 }

@@ -4,6 +4,7 @@
 mod fault;
 mod output;
 mod run;
+mod sink;
 mod source;
 mod transfer;
 

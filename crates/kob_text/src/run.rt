@@ -10,6 +10,7 @@ ghost use Rattle.kob_script.specs.ToldScript.{HasNoAclLine};
 
 use crate::fault::RunFault;
 use crate::output::{Ended, output_of};
+use crate::sink::Sink;
 use crate::source::Source;
 use crate::transfer::{read_all, write_all};
 use std::alloc::Global;
@@ -48,6 +49,6 @@ pub fn run_text<R: Read, W: Write>(
 {
     let text = read_all(alloc, &mut Source::new(reader))?;
     let output = output_of(alloc, &text)?;
-    write_all(writer, &output.text)?;
+    write_all(&mut Sink::new(writer), &output.text)?;
     Ok(output.ended)
 }

@@ -1,6 +1,6 @@
 //! A reader that is asked only so often.
 
-ghost use Rattle.std.specs.Prelude.{◌≡◌, ◌<◌, ◌≤◌, length, true, false, take, OnErr, OnOk, IfOk, Option, List, ℕ};
+ghost use Rattle.std.specs.Prelude.{◌≡◌, ◌-◌, ◌<◌, ◌≤◌, length, true, false, take, OnErr, OnOk, IfOk};
 ghost use Rattle.std.specs.Io.KnownBytes.{Consumes, IsAtEnd};
 ghost use Rattle.kob_text.specs.declared.source.TheConstants.{READ_CALLS};
 
@@ -39,7 +39,8 @@ impl<'a, R: Read> Source<'a, R> {
     pub fn read(&mut self, piece: &mut [u8]) -> Result<usize, ReadFailed>
         ensures failed { OnErr result (self.new.failed ≡ true) }
         ensures sound { OnOk result (self.new.failed ≡ self.old.failed) }
-        ensures fewer { OnOk result (self.new.calls_left < self.old.calls_left) }
+        ensures calls { self.new.calls_left ≡ self.old.calls_left - 1 }
+        ensures left { OnOk result (0 < self.old.calls_left) }
         ensures bound { IfOk result (λ count. count ≤ length piece.new) }
         ensures length { length piece.new ≡ length piece.old }
         ensures bytes { IfOk result (λ count. Consumes (R.remaining self.old.reader.now) (R.remaining self.new.reader.now) (take count piece.new)) }

@@ -5,6 +5,7 @@ ghost use Rattle.std.specs.Io.KnownBytes.{Appends};
 ghost use Rattle.kob_text.specs.Transfer.{AppendsPart};
 
 use crate::fault::RunFault;
+use crate::sink::Sink;
 use crate::source::Source;
 use std::alloc::Global;
 use std::io::{Read, Write};
@@ -37,18 +38,18 @@ pub fn read_all<R: Read>(alloc: Global, source: &mut Source<'_, R>) -> Result<Ve
 }
 
 /// Writes all of the text. After the fault, which is `WriteFailed`, the writer has taken a front of it, and not all.
-pub fn write_all<W: Write>(writer: &mut W, text: &[u8]) -> Result<(), RunFault>
-    ensures whole { OnOk result (Appends (W.contents writer.old) (W.contents writer.new) text.now) }
-    ensures part { OnErr result (AppendsPart (W.contents writer.old) (W.contents writer.new) text.now) }
+pub fn write_all<W: Write>(sink: &mut Sink<'_, W>, text: &[u8]) -> Result<(), RunFault>
+    ensures same_reference { sink.new.writer.ghost_name ≡ sink.old.writer.ghost_name }
+    ensures whole { OnOk result (Appends (W.contents sink.old.writer.now) (W.contents sink.new.writer.now) text.now) }
+    ensures part { OnErr result (AppendsPart (W.contents sink.old.writer.now) (W.contents sink.new.writer.now) text.now) }
+    ensures sound { OnOk result (sink.new.failed ≡ sink.old.failed) }
+    ensures failed { OnErr result (sink.new.failed ≡ true) }
     ensures fault { IfErr result (λ fault. fault ≡ RunFault.WriteFailed) }
 {
     let mut rest = text;
     while !rest.is_empty() {
-        match writer.write(rest) {
-            Ok(0) => return Err(RunFault::WriteFailed),
-            Ok(count) => rest = &rest[count..],
-            Err(_) => return Err(RunFault::WriteFailed),
-        }
+        let count = sink.write(rest)?;
+        rest = &rest[count..];
     }
     Ok(())
 }

@@ -1,4 +1,5 @@
-use Rattle.std.proofs.Common.{◌≡◌, ◌<◌, ℕ, List, [], ◌++◌, ◌-◌, rules, arith, length, length-append, take, drop, sym, ap, ◌∙◌, subst, append_assoc, append-nil, take-append-drop, Option}
+use Rattle.std.proofs.Common.{◌≡◌, ◌<◌, ℕ, List, ◌++◌, ◌-◌, rules, arith, length, length-append, take, drop, sym, ap, ◌∙◌, subst, append_assoc, take-append-drop, Option, Result, Ok, Err}
+use Rattle.std.specs.Result.{OnErr}
 use Rattle.std.proofs.lemmas.List.{take_rest}
 use Rattle.std.proofs.Math.Seq.{take-append_seam}
 use Rattle.std.specs.Io.KnownBytes.{Appends}
@@ -16,17 +17,20 @@ moves_front : (all done rest : List ℕ) (n : ℕ) → all ≡ done ++ rest → 
 moves_front all done rest n e =
     e ∙ ap (λ l. done ++ l) (sym (take-append-drop n rest)) ∙ sym (append_assoc done (take n rest) (drop n rest)) ∙ ap (λ l. (done ++ take n rest) ++ l) (sym (take_rest rest n))
 
-pub returns-in-Ok-eq0-clause-part : goal.returns-in-Ok-eq0-clause-part
-returns-in-Ok-eq0-clause-part g c =
-    let (done, split, appended) = c.loop-rest.invariant in
-    part_of _ _ _ (done ++ []) c.loop-rest.rest.now (rw append-nil split) (search rules) (Appends-trans _ _ _ _ _ appended (search rules))
+on_err : {T E : Type 0} {P : Type 0} (r : Result T E) → P → OnErr r P
+on_err (Ok x) p = tt
+on_err (Err e) p = p
+
+pub returns-in_err-count-clause-part : goal.returns-in_err-count-clause-part
+returns-in_err-count-clause-part g c =
+    let (done, split, appended) = c.loop-rest.invariant.written in
+    on_err c.from_residual.result (part_of _ _ _ done c.loop-rest.rest.now split (search rules) (Appends-kept _ _ _ _ appended c.in_err-count.ensures.kept))
 
 pub loop-rest-preserved : goal.loop-rest-preserved
 loop-rest-preserved g c =
-    let (done, split, appended) = c.loop-rest.invariant in
-    (done ++ take c.in-Ok.count c.loop-rest.rest.now, moves_front _ done c.loop-rest.rest.now c.in-Ok.count split, Appends-trans _ _ _ _ _ appended c.in-Ok.ensures.bytes)
-
-pub returns-in-Err-clause-part : goal.returns-in-Err-clause-part
-returns-in-Err-clause-part g c =
-    let (done, split, appended) = c.loop-rest.invariant in
-    part_of _ _ _ done c.loop-rest.rest.now split (search rules) (Appends-kept _ _ _ _ appended c.in-Err.ensures.bytes)
+    let (done, split, appended) = c.loop-rest.invariant.written in
+    record {
+      same_reference = search rules;
+      sound = search rules;
+      written = (done ++ take c.in_ok-count.count c.loop-rest.rest.now, moves_front _ done c.loop-rest.rest.now c.in_ok-count.count split, Appends-trans _ _ _ _ _ appended c.in_ok-count.ensures.taken);
+    }
