@@ -1,5 +1,7 @@
 //! Why a run gave no whole output.
 
+use crate::sink::WriteFailed;
+use crate::source::ReadFailed;
 use std::alloc::{AllocError, AllocFailed};
 use thiserror::Error;
 
@@ -35,5 +37,27 @@ impl<T: Drop> From<AllocFailed<T>> for RunFault {
 
     fn from(_error: AllocFailed<T>) -> RunFault {
         RunFault::Memory
+    }
+}
+
+impl From<ReadFailed> for RunFault {
+    ghost use Rattle.std.specs.Prelude.{◌≡◌};
+    ghost use Rattle.kob_text.specs.declared.fault.RunFault.TheVariants as variant;
+
+    ghost from_gives = { λ _ fault. fault ≡ variant.ReadFailed };
+
+    fn from(_failed: ReadFailed) -> RunFault {
+        RunFault::ReadFailed
+    }
+}
+
+impl From<WriteFailed> for RunFault {
+    ghost use Rattle.std.specs.Prelude.{◌≡◌};
+    ghost use Rattle.kob_text.specs.declared.fault.RunFault.TheVariants as variant;
+
+    ghost from_gives = { λ _ fault. fault ≡ variant.WriteFailed };
+
+    fn from(_failed: WriteFailed) -> RunFault {
+        RunFault::WriteFailed
     }
 }

@@ -4,9 +4,12 @@
 mod fault;
 mod output;
 mod run;
+mod sink;
+mod source;
 mod transfer;
 
 pub use fault::RunFault;
 pub use output::Ended;
 pub use run::run_text;
-pub use transfer::{READ_CALLS, SCRIPT_LIMIT};
+pub use source::READ_CALLS;
+pub use transfer::SCRIPT_LIMIT;

@@ -3,13 +3,15 @@
 ghost use Rattle.std.specs.Prelude.{◌≤◌, ◌<◌, List, ℕ, length, IfOk, IfErr, OnOk, IfSome, IsErrOf};
 ghost use Rattle.std.specs.Io.KnownBytes.{Appends, Keeps};
 ghost use Rattle.kob_text.specs.Output.{HasOutput, HasReading, IsOutput};
-ghost use Rattle.kob_text.specs.Transfer.{AppendsFront};
+ghost use Rattle.kob_text.specs.Transfer.{AppendsFront, AppendsPart};
 ghost use Rattle.kob_text.specs.declared.transfer.TheConstants.{SCRIPT_LIMIT};
 ghost use Rattle.kob_script.specs.Script.{script_of};
 ghost use Rattle.kob_script.specs.ToldScript.{HasNoAclLine};
 
 use crate::fault::RunFault;
 use crate::output::{Ended, output_of};
+use crate::sink::Sink;
+use crate::source::Source;
 use crate::transfer::{read_all, write_all};
 use std::alloc::Global;
 use std::io::{Read, Write};
@@ -31,8 +33,11 @@ pub fn run_text<R: Read, W: Write>(
     // After a fault, a front of an output was written.
     ensures front { IfErr result (λ fault. IfSome (R.remaining reader.old) (λ input. HasNoAclLine input
         → HasOutput (script_of input) (AppendsFront (W.contents writer.old) (W.contents writer.new)))) }
-    ensures front_told { IsErrOf result RunFault.WriteFailed → IfSome (R.remaining reader.old) (λ input. HasReading input (λ read.
-        HasOutput read (AppendsFront (W.contents writer.old) (W.contents writer.new)))) }
+    // After a failed write, not all of it was.
+    ensures part { IsErrOf result RunFault.WriteFailed → IfSome (R.remaining reader.old) (λ input. HasNoAclLine input
+        → HasOutput (script_of input) (AppendsPart (W.contents writer.old) (W.contents writer.new))) }
+    ensures part_told { IsErrOf result RunFault.WriteFailed → IfSome (R.remaining reader.old) (λ input. HasReading input (λ read.
+        HasOutput read (AppendsPart (W.contents writer.old) (W.contents writer.new)))) }
     // Only a failed write leaves a part.
     ensures unread { IsErrOf result RunFault.ReadFailed → Keeps (W.contents writer.old) (W.contents writer.new) }
     ensures too_long { IsErrOf result RunFault.TooLong → Keeps (W.contents writer.old) (W.contents writer.new) }
@@ -42,8 +47,8 @@ pub fn run_text<R: Read, W: Write>(
     ensures write_failed_only_within_limit { IsErrOf result RunFault.WriteFailed
         → IfSome (R.remaining reader.old) (λ input. length input ≤ SCRIPT_LIMIT) }
 {
-    let text = read_all(alloc, reader)?;
+    let text = read_all(alloc, &mut Source::new(reader))?;
     let output = output_of(alloc, &text)?;
-    write_all(writer, &output.text)?;
+    write_all(&mut Sink::new(writer), &output.text)?;
     Ok(output.ended)
 }
