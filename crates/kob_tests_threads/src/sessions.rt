@@ -28,7 +28,8 @@ pub(crate) fn create_topic<R: Wait>(
     alloc: Global,
     root: &mut Session<'_>,
 ) -> Result<(), Fail> {
-    let _ = root.call(rt, alloc, creation(alloc)?)?;
+    let receipt = root.call(rt, alloc, creation(alloc)?)?;
+    drop(receipt);
     Ok(())
 }
 
