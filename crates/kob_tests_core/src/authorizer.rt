@@ -355,8 +355,9 @@ fn first_difference(
 fn play(alloc: Global) -> Result<(Option<usize>, [bool; 4]), Fail> {
     let mut authorizer = opened(alloc)?;
     let mut seen = [false; 4];
-    let round = first_difference(alloc, &mut authorizer, &mut seen)?;
-    Ok((round, seen))
+    let round = first_difference(alloc, &mut authorizer, &mut seen);
+    drop(authorizer);
+    Ok((round?, seen))
 }
 
 #[test]

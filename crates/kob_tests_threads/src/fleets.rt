@@ -4,62 +4,162 @@ ghost use Rattle.std.specs.Prelude.{◌≤◌};
 
 use crate::gates::{Meeting, Open};
 use crate::making::{broker, metadata_times, offset_of, produce_times, script, topic_created};
-use kob_shared::{FleetEnd, FleetFault, Script, Transcript, run_scripts};
+use kob_names::Binding;
+use kob_rights::Event;
+use kob_shared::{FleetEnd, FleetFault, Gate, Script, Transcript, run_scripts};
 use std::alloc::Global;
-use std::process::Abort;
 use std::sync::Wait;
 use std::test::Fail;
 use std::thread::Threads;
+
+/// Runs the scripts on a new broker with these bindings, after the first events.
+pub(crate) fn run<R: Threads + Wait + Sync, G: Gate + Sync>(
+    rt: &R,
+    opening: Vec<Binding>,
+    first: Vec<Event>,
+    scripts: Vec<Script>,
+    gate: &G,
+    alloc: Global,
+) -> Result<FleetEnd, Fail> {
+    let broker = broker(alloc, opening)?;
+    let end = run_scripts(rt, alloc, broker, first, scripts, gate);
+    Ok(end.ok().ok_or("the fleet ran to its end")?)
+}
+
+/// A script of `User:root` of so many METADATA requests.
+fn metadata_script(alloc: Global, requests: usize) -> Result<Script, Fail> {
+    script(alloc, "User:root", metadata_times(alloc, requests)?)
+}
 
 /// So many scripts of `User:root`, each of so many METADATA requests.
 fn scripts_of(alloc: Global, workers: usize, requests: usize) -> Result<Vec<Script>, Fail> {
     let mut scripts = Vec::new(alloc);
     for _ in 0..workers {
-        scripts.push(script(alloc, "User:root", metadata_times(alloc, requests)?)?)?;
+        scripts.push(metadata_script(alloc, requests)?)?;
     }
     Ok(scripts)
 }
 
 /// So many workers, each of whom is held at its second request until all have come to theirs.
-fn meet<R: Threads + Wait + Abort + Sync>(rt: &R, alloc: Global, workers: usize) -> Result<(), Fail>
+fn meet<R: Threads + Wait + Sync>(
+    rt: &R,
+    alloc: Global,
+    workers: usize,
+    gate: &Meeting,
+) -> Result<FleetEnd, Fail> {
+    let scripts = scripts_of(alloc, workers, 2)?;
+    run(rt, Vec::new(alloc), Vec::new(alloc), scripts, gate, alloc)
+}
+
+/// Whether each of so many workers was told two replies, and nothing else happened.
+fn tells_two_each(end: &FleetEnd, workers: usize) -> bool
     requires { workers ≤ 64 }
 {
-    let scripts = scripts_of(alloc, workers, 2)?;
-    let gate = Meeting::of(workers as u64);
-    let broker = broker(alloc, Vec::new(alloc))?;
-    let end = run_scripts(rt, alloc, broker, Vec::new(alloc), scripts, &gate);
-    let end = end.ok().ok_or("the fleet ran to its end")?;
-    assert_eq!(rt; end.journal.len(), 2 * workers);
-    assert_eq!(rt; end.transcripts.len(), workers + 1);
     for told in end.transcripts.iter().skip(1) {
-        assert_eq!(rt; told.len(), 2);
+        if told.len() != 2 {
+            return false;
+        }
     }
-    assert!(rt; !gate.gave_up());
-    Ok(())
+    end.journal.len() == 2 * workers && end.transcripts.len() == workers + 1
+}
+
+/// Whether so many workers are served, two requests each.
+fn serves_two_each<R: Threads + Wait + Sync>(
+    rt: &R,
+    alloc: Global,
+    workers: usize,
+    gate: &Meeting,
+) -> Result<bool, Fail>
+    requires { workers ≤ 64 }
+{
+    let end = meet(rt, alloc, workers, gate)?;
+    let told = tells_two_each(&end, workers);
+    drop(end);
+    Ok(told)
+}
+
+/// Whether so many workers meet, and all are served.
+fn serves_at_once<R: Threads + Wait + Sync>(
+    rt: &R,
+    alloc: Global,
+    workers: usize,
+) -> Result<bool, Fail>
+    requires { workers ≤ 64 }
+{
+    let gate = Meeting::of(workers as u64);
+    let served = serves_two_each(rt, alloc, workers, &gate)?;
+    Ok(served && !gate.gave_up())
 }
 
 #[test]
 fn two_workers_at_once(rt: HostRuntime) -> Result<(), Fail> {
-    meet(&rt, rt.alloc(), 2)
+    let holds = serves_at_once(&rt, rt.alloc(), 2)?;
+    assert!(rt; holds);
+    Ok(())
 }
 
 #[test]
 fn sixty_four_workers(rt: HostRuntime) -> Result<(), Fail> {
-    meet(&rt, rt.alloc(), 64)
+    let holds = serves_at_once(&rt, rt.alloc(), 64)?;
+    assert!(rt; holds);
+    Ok(())
 }
 
-/// Notes the offsets that a worker was told; they rise, and no other worker was told them.
-fn note_offsets<R: Abort>(rt: &R, told: &Transcript, seen: &mut [bool; 200]) -> Result<(), Fail> {
+/// Notes that an offset was told, and says whether it was not before.
+fn note(offset: u64, seen: &mut [bool; 200]) -> bool {
+    match seen.get_mut(offset as usize) {
+        Some(slot) => {
+            let is_new = !*slot;
+            *slot = true;
+            is_new
+        }
+        None => false,
+    }
+}
+
+/// Notes the offsets that a worker was told: whether they rise, and no other worker was told them.
+fn are_new(told: &Transcript, seen: &mut [bool; 200]) -> bool {
     let mut next = 0;
     for receipt in told.receipts() {
-        let offset = offset_of(&receipt.reply).ok_or("an offset")?;
-        assert!(rt; next <= offset && offset < 200);
-        let slot = seen.get_mut(offset as usize).ok_or("an offset below 200")?;
-        assert!(rt; !*slot);
-        *slot = true;
-        next = offset + 1;
+        match offset_of(&receipt.reply) {
+            Some(offset) => {
+                if offset < next || offset >= 200 || !note(offset, seen) {
+                    return false;
+                }
+                next = offset + 1;
+            }
+            None => return false,
+        }
     }
-    Ok(())
+    true
+}
+
+fn all_true(seen: &[bool; 200]) -> bool {
+    seen.iter().all(|told| *told)
+}
+
+/// Whether each offset below 200 was told once.
+fn tells_all_once(end: &FleetEnd) -> bool {
+    let mut seen = [false; 200];
+    for told in end.transcripts.iter().skip(1) {
+        if !are_new(told, &mut seen) {
+            return false;
+        }
+    }
+    all_true(&seen)
+}
+
+/// A script of `User:root` of a hundred PRODUCE requests.
+fn hundred_produces(alloc: Global) -> Result<Script, Fail> {
+    script(alloc, "User:root", produce_times(alloc, 100)?)
+}
+
+fn two_scripts(alloc: Global) -> Result<Vec<Script>, Fail> {
+    let mut scripts = Vec::new(alloc);
+    for _ in 0..2 {
+        scripts.push(hundred_produces(alloc)?)?;
+    }
+    Ok(scripts)
 }
 
 /// Two workers who write a hundred records each to one partition.
@@ -68,33 +168,35 @@ fn two_writers<R: Threads + Wait + Sync>(
     alloc: Global,
     gate: &Open,
 ) -> Result<FleetEnd, Fail> {
-    let mut scripts = Vec::new(alloc);
-    for _ in 0..2 {
-        scripts.push(script(alloc, "User:root", produce_times(alloc, 100)?)?)?;
-    }
     let first = topic_created(alloc)?;
-    let broker = broker(alloc, Vec::new(alloc))?;
-    let end = run_scripts(rt, alloc, broker, first, scripts, gate);
-    Ok(end.ok().ok_or("the fleet ran to its end")?)
+    let scripts = two_scripts(alloc)?;
+    run(rt, Vec::new(alloc), first, scripts, gate, alloc)
 }
 
-/// Each offset below 200 was told once.
-fn check_offsets<R: Abort>(rt: &R, end: &FleetEnd) -> Result<(), Fail> {
-    assert_eq!(rt; end.journal.len(), 201);
-    let mut seen = [false; 200];
-    for told in end.transcripts.iter().skip(1) {
-        note_offsets(rt, told, &mut seen)?;
-    }
-    assert!(rt; seen.iter().all(|told| *told));
-    Ok(())
+/// Whether the writers are told each offset once, and nothing else happens.
+fn serves_writers<R: Threads + Wait + Sync>(
+    rt: &R,
+    alloc: Global,
+    gate: &Open,
+) -> Result<bool, Fail> {
+    let end = two_writers(rt, alloc, gate)?;
+    let told = end.journal.len() == 201 && tells_all_once(&end);
+    drop(end);
+    Ok(told)
+}
+
+/// Whether the gate is called before each request and after each worker's last, and all are served.
+fn serves_both<R: Threads + Wait + Sync>(rt: &R, alloc: Global) -> Result<bool, Fail> {
+    let gate = Open::new();
+    let served = serves_writers(rt, alloc, &gate)?;
+    Ok(served && gate.calls() == 202)
 }
 
 #[test]
 fn two_hundred_produces(rt: HostRuntime) -> Result<(), Fail> {
-    let gate = Open::new();
-    let end = two_writers(&rt, rt.alloc(), &gate)?;
-    assert_eq!(rt; gate.calls(), 202);
-    check_offsets(&rt, &end)
+    let holds = serves_both(&rt, rt.alloc())?;
+    assert!(rt; holds);
+    Ok(())
 }
 
 /// Which count a fleet was refused for.
@@ -122,17 +224,35 @@ fn refusal_of<R: Threads + Wait + Sync>(
 ) -> Result<Refusal, Fail> {
     let broker = broker(alloc, Vec::new(alloc))?;
     let end = run_scripts(rt, alloc, broker, Vec::new(alloc), scripts, gate);
-    Ok(refusal_in(&end.err()))
+    let fault = end.err();
+    let refusal = refusal_in(&fault);
+    drop(fault);
+    Ok(refusal)
+}
+
+/// What so many scripts of so many requests are refused for.
+fn refusal_to<R: Threads + Wait + Sync>(
+    rt: &R,
+    alloc: Global,
+    (workers, requests): (usize, usize),
+    gate: &Open,
+) -> Result<Refusal, Fail> {
+    let scripts = scripts_of(alloc, workers, requests)?;
+    refusal_of(rt, alloc, scripts, gate)
+}
+
+/// Whether 65 workers are refused, and a script longer than a journal, before any gate is called.
+fn refuses_both<R: Threads + Wait + Sync>(rt: &R, alloc: Global) -> Result<bool, Fail> {
+    let gate = Open::new();
+    let many = refusal_to(rt, alloc, (65, 1), &gate)?;
+    let long = refusal_to(rt, alloc, (1, 1_000_001), &gate)?;
+    let refused = matches!(many, Refusal::Workers) && matches!(long, Refusal::Entries);
+    Ok(refused && gate.calls() == 0)
 }
 
 #[test]
 fn too_many_workers_or_entries(rt: HostRuntime) -> Result<(), Fail> {
-    let alloc = rt.alloc();
-    let gate = Open::new();
-    let many = refusal_of(&rt, alloc, scripts_of(alloc, 65, 1)?, &gate)?;
-    assert!(rt; matches!(many, Refusal::Workers));
-    let long = refusal_of(&rt, alloc, scripts_of(alloc, 1, 1_000_001)?, &gate)?;
-    assert!(rt; matches!(long, Refusal::Entries));
-    assert_eq!(rt; gate.calls(), 0);
+    let holds = refuses_both(&rt, rt.alloc())?;
+    assert!(rt; holds);
     Ok(())
 }

@@ -1,4 +1,7 @@
 //! Tests of a broker that threads share, over its public surface.
+//!
+//! They are small functions, and let brokers, journals, fleets' ends and events go by `drop`: where such a value goes at
+//! the end of a function or by `?`, the function's proof takes the value apart anew, and costs ten times as much.
 #![tactic(auto)]
 
 #[cfg(test)]

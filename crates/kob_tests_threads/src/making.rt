@@ -1,6 +1,6 @@
 //! Brokers, requests and scripts that the tests share.
 
-ghost use Rattle.std.specs.Prelude.{IfOk};
+ghost use Rattle.std.specs.Prelude.{IfOk, ◌≤◌};
 ghost use Rattle.kob_shared.specs.Openings.{IsFresh};
 
 use kob_broker::{Broker, OpenFault, Settings};
@@ -9,7 +9,7 @@ use kob_names::{
     PatternKind, Permission, Principal, Record, ResourceKind, Text,
 };
 use kob_rights::{Body, CreateTopics, DeleteAcls, Event, Metadata, Produce, Reply, Request};
-use kob_shared::Script;
+use kob_shared::{Recorded, Script, SharedBroker};
 use std::alloc::{AllocError, Global};
 use std::test::Fail;
 
@@ -33,9 +33,28 @@ pub(crate) fn broker(alloc: Global, opening: Vec<Binding>) -> Result<Broker, Fai
     Ok(opened(alloc, settings)?)
 }
 
-/// Allows `User:svc` to write to the topic `t`, from every host.
-pub(crate) fn write_allowed(alloc: Global) -> Result<Vec<Binding>, Fail> {
-    let draft = Draft {
+/// Such a broker with a journal of at most so many entries.
+pub(crate) fn recorded(alloc: Global, opening: Vec<Binding>, limit: usize) -> Result<Recorded, Fail>
+    requires { limit ≤ 1000000 }
+{
+    let broker = broker(alloc, opening)?;
+    Ok(Recorded::open(alloc, broker, limit).ok().ok_or("memory")?)
+}
+
+/// Such a broker and journal under a lock.
+pub(crate) fn shared(
+    alloc: Global,
+    opening: Vec<Binding>,
+    limit: usize,
+) -> Result<SharedBroker, Fail>
+    requires { limit ≤ 1000000 }
+{
+    let recorded = recorded(alloc, opening, limit)?;
+    Ok(SharedBroker::open(recorded))
+}
+
+fn write_draft(alloc: Global) -> Result<Draft, Fail> {
+    Ok(Draft {
         permission: Permission::Allow,
         principal: Principal::parse(alloc, "User:svc")?,
         host: Host::parse(alloc, "*")?,
@@ -45,9 +64,18 @@ pub(crate) fn write_allowed(alloc: Global) -> Result<Vec<Binding>, Fail> {
             kind: PatternKind::Literal,
             name: Text::copied(alloc, "t")?,
         },
-    };
+    })
+}
+
+fn write_binding(alloc: Global) -> Result<Binding, Fail> {
+    let draft = write_draft(alloc)?;
+    Ok(Binding::new(alloc, &draft)?)
+}
+
+/// Allows `User:svc` to write to the topic `t`, from every host.
+pub(crate) fn write_allowed(alloc: Global) -> Result<Vec<Binding>, Fail> {
     let mut bindings = Vec::new(alloc);
-    bindings.push(Binding::new(alloc, &draft)?)?;
+    bindings.push(write_binding(alloc)?)?;
     Ok(bindings)
 }
 
@@ -73,22 +101,26 @@ pub(crate) fn creation(alloc: Global) -> Result<Request, AllocError> {
     }))
 }
 
-/// PRODUCE of one empty record to `t`.
-pub(crate) fn produce(alloc: Global) -> Result<Request, AllocError> {
+/// A batch of one empty record.
+fn batch(alloc: Global) -> Result<Batch, AllocError> {
     let mut records = Vec::new(alloc);
     records.push(Record {
         key: None,
         value: Bytes::from_vec(Vec::new(alloc)),
         headers: Items::from_vec(Vec::new(alloc)),
     })?;
-    let batch = Batch {
+    Ok(Batch {
         idem: None,
         records: Items::from_vec(records),
-    };
+    })
+}
+
+/// PRODUCE of one empty record to `t`.
+pub(crate) fn produce(alloc: Global) -> Result<Request, AllocError> {
     Ok(Request::Produce(Produce {
         topic: Text::copied(alloc, "t")?,
         partition: 0,
-        batch,
+        batch: batch(alloc)?,
     }))
 }
 
@@ -97,13 +129,26 @@ pub(crate) fn metadata() -> Request {
     Request::Metadata(Metadata { topic: None })
 }
 
+/// A principal, and the host `h`.
+pub(crate) fn at_host(alloc: Global, who: &str) -> Result<(Principal, Host), Fail> {
+    let principal = Principal::parse(alloc, who)?;
+    let host = Host::parse(alloc, "h")?;
+    Ok((principal, host))
+}
+
 /// An event of a principal at the host `h`.
 pub(crate) fn event(alloc: Global, who: &str, request: Request) -> Result<Event, Fail> {
-    Ok(Event {
-        principal: Principal::parse(alloc, who)?,
-        host: Host::parse(alloc, "h")?,
-        request,
-    })
+    match at_host(alloc, who) {
+        Ok((principal, host)) => Ok(Event {
+            principal,
+            host,
+            request,
+        }),
+        Err(fail) => {
+            drop(request);
+            Err(fail)
+        }
+    }
 }
 
 /// `User:root` creates the topic `t`.
@@ -115,9 +160,10 @@ pub(crate) fn topic_created(alloc: Global) -> Result<Vec<Event>, Fail> {
 
 /// The requests of a principal at the host `h`.
 pub(crate) fn script(alloc: Global, who: &str, requests: Vec<Request>) -> Result<Script, Fail> {
+    let (principal, host) = at_host(alloc, who)?;
     Ok(Script {
-        principal: Principal::parse(alloc, who)?,
-        host: Host::parse(alloc, "h")?,
+        principal,
+        host,
         requests,
     })
 }
