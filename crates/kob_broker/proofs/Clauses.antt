@@ -1,7 +1,6 @@
 -- Which clause a denial is for.
 use Rattle.std.proofs.Common.{◌≡◌, ℕ, ◌+◌, List, [], ◌∷◌, Some, None, Bool, true, false, refl, ap, arith, cond, inl, inr, take, suc}
 use Rattle.std.specs.Prelude.{slice_get, map, ◌||◌, ◌⊎◌}
-use Rattle.kob_names.specs.declared.verdict.Verdict.{Verdict}
 use Rattle.kob_authorizer.specs.Contents.{Contents, IsRising}
 use Rattle.kob_authorizer.proofs.Verdicts.{true_verdict}
 use Rattle.kob_rights.specs.declared.check.Check.{Check}

@@ -12,7 +12,7 @@ use Rattle.kob_rights.specs.declared.request.Request.TheVariants as requests
 use Rattle.kob_broker.specs.declared.broker.Broker.{Broker}
 use Rattle.kob_broker.specs.declared.prepared.Change.TheVariants.{Unchanged}
 use Rattle.kob_broker.specs.declared.prepared.Prepared.{Prepared}
-use Rattle.kob_broker.specs.Change.{Makes, MakesFor, CanCommit, changed, reply_of, state_of}
+use Rattle.kob_broker.specs.Change.{Makes, MakesFor, changed, state_of}
 use Rattle.kob_broker.specs.Effect.{effect, effect_by, named, refusal}
 use Rattle.kob_broker.specs.Metadata.{metadata_request}
 

@@ -7,5 +7,7 @@ pub mod Clauses
 pub mod Just
 pub mod Lifting
 pub mod Shown
+pub mod EachPartition
 pub mod PartitionOffsets
 pub mod Offsets
+pub mod Spending

@@ -1,22 +1,20 @@
 -- A meaning of partitions that is carried to another gives the same steps.
-use Rattle.std.proofs.Common.{◌≡◌, ℕ, ◌+◌, zero, suc, Bool, List, [], ◌∷◌, ◌++◌, Option, None, Some, map, length, slice_get, slice_set, slice_index_or, refl, sym, ap, ◌∙◌, replicate}
-use Rattle.std.specs.Prelude.{option_map, is_some, remove}
+use Rattle.std.proofs.Common.{◌≡◌, ℕ, zero, suc, List, [], ◌∷◌, ◌++◌, Option, None, Some, map, length, slice_get, slice_set, refl, sym, ap, ◌∙◌, replicate}
+use Rattle.std.specs.Prelude.{option_map, is_some}
 use Rattle.std.proofs.lemmas.List.{map-set, map-append, length-map}
 use Rattle.indexmap.proofs.SetLemmas.{map-remove}
 use Rattle.kob_authorizer.specs.Contents.{Contents}
-use Rattle.kob_catalog.proofs.Listings.{listed_mapped, has_topic_mapped}
+use Rattle.kob_catalog.proofs.Listings.{listed_mapped}
 use Rattle.kob_catalog.proofs.MapWrites.{topic_at-mapped}
 use Rattle.kob_catalog.proofs.Places.{place_of_mapped}
 use Rattle.kob_catalog.specs.Creation.{new_topic}
-use Rattle.kob_catalog.specs.Topics.{Topic, has_topic, listed_where, partition_at, partition_of, place_of, topic_at, topic_map, topics_map, with_partition, with_partition_at, with_partition_found, without_topic, without_topic_found}
+use Rattle.kob_catalog.specs.Topics.{Topic, partition_at, partition_of, place_of, topic_at, topic_map, topics_map, with_partition, with_partition_at, with_partition_found, without_topic, without_topic_found}
 use Rattle.kob_groups.specs.Groups as groups
 use Rattle.kob_names.specs.declared.batch.Batch.{Batch}
 use Rattle.kob_names.specs.declared.batch.Idem.{Idem}
-use Rattle.kob_names.specs.declared.record.Record.{Record}
 use Rattle.kob_partition.proofs.Keeping.{retaining_carries}
-use Rattle.kob_partition.specs.Append.{batch_judged, judged, unless_repeat}
+use Rattle.kob_partition.specs.Append.{judged, unless_repeat}
 use Rattle.kob_partition.specs.Batches.{Plain}
-use Rattle.kob_partition.specs.Fetch.{fetch_fault, fetched}
 use Rattle.kob_partition.specs.Meaning.{Meaning, Carries}
 use Rattle.kob_partition.specs.Retained.{Retained, plain_meaning, retained, retained_meaning}
 use Rattle.kob_producers.specs.declared.judge.Judgement.{Judgement}
@@ -27,7 +25,6 @@ use Rattle.kob_rights.specs.declared.on_partitions.Produce.{Produce as ProduceAs
 use Rattle.kob_rights.specs.declared.on_partitions.Which.{Which}
 use Rattle.kob_rights.specs.declared.on_partitions.Which.TheVariants.{Start, End}
 use Rattle.kob_rights.specs.declared.reason.Reason.{Reason}
-use Rattle.kob_rights.specs.declared.reply.Body.{Body}
 use Rattle.kob_rights.specs.declared.reply.Body.TheVariants as bodies
 use Rattle.kob_rights.specs.declared.reply.Reply.{Reply}
 use Rattle.kob_rights.specs.declared.reply.Reply.TheVariants.{Done}
@@ -38,9 +35,9 @@ use Rattle.kob_broker.specs.Effect.{Outcome, named, reasons_against, body, after
 use Rattle.kob_broker.specs.Fetch.{fetched_at, is_out_of_range}
 use Rattle.kob_broker.specs.ListOffsets.{offset_at}
 use Rattle.kob_broker.specs.Metadata.{metadata_of, metadata_reasons, topic_found}
-use Rattle.kob_broker.specs.Named.{end_at, named_reasons, start_at}
+use Rattle.kob_broker.specs.Named.{end_at, start_at}
 use Rattle.kob_broker.specs.Plainly.{StepsAlike, RunsAlike}
-use Rattle.kob_broker.specs.Produce.{judged_at, produced, with_batch}
+use Rattle.kob_broker.specs.Produce.{judged_at, with_batch}
 use Rattle.kob_broker.specs.Reasons.{first_reason}
 use Rattle.kob_broker.specs.State.{State, state_map}
 use Rattle.kob_broker.specs.Step.{step, step_by, replies_of, state_after}

@@ -1,9 +1,9 @@
 -- What a filter leaves stands in the list and passes the test.
-use Rattle.std.proofs.Common.{◌≡◌, ◌↔◌, ℕ, Bool, true, false, cond, filter, List, [], ◌∷◌, None, map, refl, sym, ap, ◌∙◌, inl, inr}
-use Rattle.std.specs.Prelude.{IsTrue, ◌⊎◌}
+use Rattle.std.proofs.Common.{◌≡◌, ◌↔◌, ℕ, Bool, true, false, cond, filter, List, [], ◌∷◌, map, refl, sym, ap, ◌∙◌, inl, inr}
+use Rattle.std.specs.Prelude.{◌⊎◌}
 use Rattle.kob_catalog.specs.Topics.{Topic, listed, listed_where}
 use Rattle.kob_rights.specs.declared.event.Event.{Event}
-use Rattle.kob_broker.specs.ListGroups.{describes_cluster, describes_group, groups_shown}
+use Rattle.kob_broker.specs.ListGroups.{describes_cluster, describes_group}
 use Rattle.kob_broker.specs.Listings.{ListsGroups, ListsTopics, StandsIn}
 use Rattle.kob_broker.specs.Metadata.{describes_topic}
 use Rattle.kob_broker.specs.State.{State}

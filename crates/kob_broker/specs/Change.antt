@@ -1,5 +1,5 @@
 -- What a prepared change does, and when there is room for it.
-use Rattle.std.specs.Prelude.{◌≡◌, true, ◌<◌, ◌+◌, ◌++◌, ℕ, List, [], ◌∷◌}
+use Rattle.std.specs.Prelude.{◌≡◌, true, ◌<◌, ◌+◌, ◌++◌, [], ◌∷◌}
 use Rattle.kob_authorizer.specs.Creation.{CanCreate, with_creation}
 use Rattle.kob_authorizer.specs.Deletion.{CanDelete, without_taken}
 use Rattle.kob_catalog.specs.Creation.{CanAdd}

@@ -1,5 +1,5 @@
 -- The creation of a topic.
-use Rattle.std.specs.Prelude.{Bool, not, ◌&&◌, ℕ, List, [], ◌∷◌, ◌++◌, is_some, length, nat_le}
+use Rattle.std.specs.Prelude.{Bool, not, ◌&&◌, List, [], ◌∷◌, ◌++◌, is_some, length, nat_le}
 use Rattle.kob_catalog.specs.Creation.{new_topic}
 use Rattle.kob_catalog.specs.Topics.{has_topic}
 use Rattle.kob_catalog.specs.declared.limits.TheConstants.{PARTITION_LIMIT, TOPIC_LIMIT}

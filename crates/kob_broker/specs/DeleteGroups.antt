@@ -1,5 +1,5 @@
 -- The deletion of a group.
-use Rattle.std.specs.Prelude.{Bool, not, ℕ, List, [], ◌∷◌, is_some}
+use Rattle.std.specs.Prelude.{Bool, not, List, [], ◌∷◌, is_some}
 use Rattle.kob_groups.specs.Groups.{Groups, has_group}
 use Rattle.kob_names.specs.GroupRules.{group_fault}
 use Rattle.kob_rights.specs.declared.on_groups.DeleteGroups.{DeleteGroups}

@@ -1,5 +1,5 @@
 -- What a request does whose rights are granted: the tables of all kinds.
-use Rattle.std.specs.Prelude.{Bool, ℕ, ◌+◌, List, [], Option, Some, None}
+use Rattle.std.specs.Prelude.{Bool, ◌+◌, List, [], Option, Some, None}
 use Rattle.kob_authorizer.specs.Deletion.{taken, without_taken}
 use Rattle.kob_catalog.specs.Topics.{partition_of}
 use Rattle.kob_groups.specs.Groups as groups

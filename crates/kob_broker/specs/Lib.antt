@@ -23,3 +23,4 @@ pub mod Justice
 pub mod Listings
 pub mod Plainly
 pub mod Offsets
+pub mod Spending

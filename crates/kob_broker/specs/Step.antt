@@ -1,5 +1,5 @@
 -- What a broker does: one event is one step.
-use Rattle.std.specs.Prelude.{ℕ, List, [], ◌∷◌, Option, Some, None}
+use Rattle.std.specs.Prelude.{List, [], ◌∷◌, Option, Some, None}
 use Rattle.kob_rights.specs.declared.event.Event.{Event}
 use Rattle.kob_rights.specs.declared.reply.Reply.{Reply}
 use Rattle.kob_broker.specs.Denial.{denial_of}

@@ -1,7 +1,7 @@
 //! Laws of the definitions. These functions do nothing: their contracts are the laws.
 
 ghost use Rattle.std.specs.List.{All};
-ghost use Rattle.std.specs.Prelude.{◌≡◌, ℕ, List};
+ghost use Rattle.std.specs.Prelude.{◌≡◌, ◌≤◌, ◌+◌, ℕ, List, length};
 ghost use Rattle.kob_names.specs.declared.binding.Binding.{Binding};
 ghost use Rattle.kob_names.specs.declared.verdict.Verdict.{Verdict};
 ghost use Rattle.kob_rights.specs.declared.code.Code.{Code};
@@ -10,10 +10,12 @@ ghost use Rattle.kob_rights.specs.declared.reason.Reason.{Reason};
 ghost use Rattle.kob_rights.specs.declared.reply.Reply.TheVariants.{Denied, Refused};
 ghost use Rattle.kob_partition.specs.Batches.{Plain};
 ghost use Rattle.kob_partition.specs.Retained.{plain_meaning};
+ghost use Rattle.kob_partition.specs.declared.limits.TheConstants.{OFFSET_LIMIT};
 ghost use Rattle.kob_broker.specs.Justice.{EachJust, SameDenial};
 ghost use Rattle.kob_broker.specs.Listings.{ListsGroups, ListsTopics};
 ghost use Rattle.kob_broker.specs.Offsets.{OffsetsWithin};
 ghost use Rattle.kob_broker.specs.Plainly.{RunsAlike, StepsAlike};
+ghost use Rattle.kob_broker.specs.Spending.{SaysNothingSpent, asked_in};
 ghost use Rattle.kob_broker.specs.State.{State, open_state};
 ghost use Rattle.kob_broker.specs.Step.{replies_of, step};
 
@@ -68,6 +70,16 @@ pub fn listings_hold_what_is_described()
 pub fn offsets_stay_within_the_limit()
     ensures { (supers : List (List ℕ)) (bindings : List Binding) (events : List Event)
         → All OffsetsWithin (replies_of plain_meaning events (open_state supers bindings)) }
+{
+    // The contract is the law.
+}
+
+/// OffsetsSpent, ProducerIdsSpent and SerialsSpent are out of reach: no reply says one of them while the opening bindings
+/// and the records, drafts and producer ids that the events ask for are at most 9,223,372,036,854,775,807 in all.
+pub fn nothing_is_spent_unasked()
+    ensures { (supers : List (List ℕ)) (bindings : List Binding) (events : List Event)
+        → length bindings + asked_in events ≤ OFFSET_LIMIT
+        → All SaysNothingSpent (replies_of plain_meaning events (open_state supers bindings)) }
 {
     // The contract is the law.
 }

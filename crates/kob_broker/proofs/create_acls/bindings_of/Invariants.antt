@@ -1,4 +1,4 @@
-use Rattle.std.proofs.Common.{◌≡◌, None, drop, map, take}
+use Rattle.std.proofs.Common.{◌≡◌, drop, map, take}
 use Rattle.std.specs.List.{flat_map}
 use Rattle.kob_names.specs.BindingRules.{drafted}
 use Rattle.kob_broker.specs.CreateAcls.{draft_reasons}

@@ -1,4 +1,3 @@
-use Rattle.kob_rights.specs.declared.request.Request.TheVariants as requests
 use Rattle.kob_broker.proofs.Decisions.{made_for, made_for_ok}
 use Rattle.kob_broker.proofs.broker.Broker.prepare_effect.Goals as goal
 

@@ -1,4 +1,4 @@
-use Rattle.std.proofs.Common.{◌≡◌, ◌++◌, length, take, drop}
+use Rattle.std.proofs.Common.{◌≡◌, length, take}
 use Rattle.kob_broker.specs.Change.{state_of}
 use Rattle.kob_partition.specs.Retained.{retained_meaning}
 use Rattle.kob_broker.specs.Step.{replies_of, state_after}
