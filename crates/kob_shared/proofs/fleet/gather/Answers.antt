@@ -10,7 +10,7 @@ ends-err : (results before left rest : List (Result (List Receipt) CallFault)) (
 ends-err results before left rest outcome fault whole begins is = whole ∙ ap (λ xs. before ++ xs) (begins ∙ ap (λ o. o ∷ rest) is)
 
 pub returns-in-Err-clause-midway : goal.returns-in-Err-clause-midway
-returns-in-Err-clause-midway c = rw c.fault_of.ensures (is_midway c.len-worker.result c.in-Err.fault)
+returns-in-Err-clause-midway c = rw c.fault_of.ensures (is_midway _ c.in-Err.fault)
 
 pub returns-in-Err-clause-named : goal.returns-in-Err-clause-named
 returns-in-Err-clause-named c =
