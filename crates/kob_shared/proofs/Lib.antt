@@ -14,4 +14,5 @@ pub mod Compared
 pub mod Counted
 pub mod Beginnings
 pub mod FaultCases
+pub mod NamedWorkers
 pub mod FleetEnds

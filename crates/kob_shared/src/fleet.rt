@@ -5,7 +5,8 @@ ghost use Rattle.kob_broker.specs.Change.{state_of};
 ghost use Rattle.kob_shared.specs.Openings.{IsFresh, opened_by, settings_of};
 ghost use Rattle.kob_shared.specs.Journals.{IsSound};
 ghost use Rattle.kob_shared.specs.Fleets.{IsAnswered, EachAnswers, EachIsAnswered, Follows, asked_of_all, entries_asked, IsFleet};
-ghost use Rattle.kob_shared.specs.Tears.{IsTornOnlyWhere, IsLater, IsMidway};
+ghost use Rattle.kob_shared.specs.Faults.{as_of_worker};
+ghost use Rattle.kob_shared.specs.Tears.{IsTornOnlyWhere, IsLater, IsMidway, NamesWorkerWithin, NamesFirstFault};
 
 use crate::compare::compare;
 use crate::faults::{CallFault, ServeFault};
@@ -45,6 +46,7 @@ fn run_workers<R: Threads + Wait + Sync, G: Gate + Sync>(
     requires { length scripts.now ≤ 64 }
     ensures each { IfOk result (λ v. EachAnswers scripts.now v.items) }
     ensures midway { IfErr result IsMidway }
+    ensures named { IfErr result (NamesWorkerWithin 0) }
 {
     thread::scope(
         thread::scope_env(),
@@ -53,6 +55,7 @@ fn run_workers<R: Threads + Wait + Sync, G: Gate + Sync>(
             requires { length scripts.now ≤ 64 }
             ensures each { IfOk result (λ v. EachAnswers scripts.entry.now v.items) }
             ensures midway { IfErr result IsMidway }
+            ensures named { IfErr result (NamesWorkerWithin 0) }
         {
             let mut handles = Vec::with_capacity(alloc, scripts.len())?;
             for (i, script) in scripts.iter().enumerate() {
@@ -109,6 +112,7 @@ fn serve_first(
     requires { recorded.old.journal ≡ [] }
     ensures told { IfOk result (λ t. (length t ≡ length first.now) × Follows 0 t) }
     ensures midway { IfErr result IsMidway }
+    ensures named { IfErr result (NamesWorkerWithin 0) }
 {
     let mut told = Transcript::new(alloc);
     for event in first {
@@ -130,10 +134,22 @@ fn begin(
     requires { IsFresh broker }
     ensures told { IfOk result (λ begun. (length begun.1 ≡ length first.now) × Follows 0 begun.1) }
     ensures midway { IfErr result IsMidway }
+    ensures named { IfErr result (NamesWorkerWithin 0) }
 {
     let mut recorded = Recorded::open(alloc, broker, MOST_ENTRIES)?;
     let told = serve_first(alloc, &mut recorded, first)?;
     Ok((recorded, told))
+}
+
+/// What a worker's fault is for the fleet.
+fn fault_of(worker: usize, fault: CallFault) -> FleetFault
+    ensures { result ≡ as_of_worker worker fault }
+{
+    match fault {
+        CallFault::Memory => FleetFault::Memory,
+        CallFault::Stale { length } => FleetFault::Stale { worker, length },
+        CallFault::JournalFull => FleetFault::Full { worker },
+    }
 }
 
 /// The transcripts of all workers, or the first fault.
@@ -145,6 +161,7 @@ fn gather(
     requires { vec_len results ≤ 64 }
     ensures all { IfOk result (λ v. map Ok v.items ≡ Ok first ∷ results.items) }
     ensures midway { IfErr result IsMidway }
+    ensures named { IfErr result (NamesFirstFault (Ok first ∷ results.items)) }
 {
     let mut told = Vec::with_capacity(alloc, results.len() + 1)?;
     told.push(first)?;
@@ -152,9 +169,7 @@ fn gather(
         let worker = told.len();
         match outcome {
             Ok(transcript) => told.push(transcript)?,
-            Err(CallFault::Memory) => return Err(FleetFault::Memory),
-            Err(CallFault::Stale { length }) => return Err(FleetFault::Stale { worker, length }),
-            Err(CallFault::JournalFull) => return Err(FleetFault::Full { worker }),
+            Err(fault) => return Err(fault_of(worker, fault)),
         }
     }
     Ok(told)
@@ -174,6 +189,7 @@ fn end_of(
     ensures ok { IfOk result (λ end. IsFleet (opened_by opening.now) first.now scripts.now end.journal (state_of end.broker) end.transcripts.items) }
     ensures torn { IfErr result (IsTornOnlyWhere opening.now (asked_of_all first.now scripts.now)) }
     ensures later { IfErr result IsLater }
+    ensures named { IfErr result (NamesWorkerWithin 0) }
 {
     if !found.opening().same(opening) {
         return Err(FleetFault::Torn {
@@ -213,6 +229,7 @@ pub fn run_scripts<R: Threads + Wait + Sync, G: Gate + Sync>(
     ensures workers { IsErrOf result FleetFault.TooManyWorkers ↔ (64 < vec_len scripts) }
     ensures full { IsErrOf result FleetFault.JournalFull ↔ ((vec_len scripts ≤ 64) × (1000000 < entries_asked first.items scripts.items)) }
     ensures torn { IfErr result (IsTornOnlyWhere (settings_of (state_of broker)) (asked_of_all first.items scripts.items)) }
+    ensures named { IfErr result (NamesWorkerWithin (vec_len scripts)) }
 {
     if scripts.len() > MOST_WORKERS {
         return Err(FleetFault::TooManyWorkers);
@@ -244,6 +261,7 @@ fn run_all<R: Threads + Wait + Sync, G: Gate + Sync>(
     ensures ok { IfOk result (λ end. IsFleet (state_of broker) first.now scripts.now end.journal (state_of end.broker) end.transcripts.items) }
     ensures torn { IfErr result (IsTornOnlyWhere (settings_of (state_of broker)) (asked_of_all first.now scripts.now)) }
     ensures later { IfErr result IsLater }
+    ensures named { IfErr result (NamesWorkerWithin (length scripts.now)) }
 {
     let opening = broker.opening(alloc)?;
     let (recorded, told) = begin(alloc, broker, first)?;

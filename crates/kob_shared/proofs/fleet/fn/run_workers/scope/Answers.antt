@@ -41,4 +41,5 @@ returns g c =
           all_zip-joined _ IsFor (λ s r. IfOk r (IsAnswered (vec_len s.requests))) (λ s h r is kept. subst (λ n. IfOk r (IsAnswered n)) is kept)
           scripts handles.items results.items (omega (arith, joined.len, handles.ok.0, results.ok.0)) started _ handles.ok.0 joined.each;
       midway = tt;
+      named = tt;
     }
