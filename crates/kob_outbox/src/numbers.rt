@@ -3,8 +3,8 @@ ghost use Rattle.sqlite.specs.declared.types.Value.TheVariants.{Int};
 
 use sqlite::types::Value;
 
-/// A number as the database takes it.
-pub(crate) fn number(n: u64) -> Value
+/// A number as `sqlite` takes it, whose integers have 64 bits with a sign.
+pub fn number(n: u64) -> Value
     requires { n < 2 ^ 63 }
     ensures { result ≡ Int (pos n) }
 {
