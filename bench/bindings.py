@@ -1,5 +1,6 @@
 #!/usr/bin/env python3
-"""Seconds per creation of a binding and per decision, while 10, 1,000 and 100,000 bindings are in force.
+"""Seconds per creation of a binding and per decision, while 10, 1,000 and 100,000 bindings are in force, and bytes a
+binding.
 
     python3 bench/bindings.py [PROGRAM]
 
@@ -9,17 +10,19 @@ its own, on as many names or all on one name. Then, on many names, principals wr
 over them all, each matched by one binding. No topic exists, so a write ends right after the decision.
 
 The seconds are processor time of the program, the least of several runs. From each time that of the script without the
-lines in question is taken away; what is left has the reading of a line and the printing of a reply in it.
+lines in question is taken away; what is left has the reading of a line and the printing of a reply in it. The bytes are
+by how much the most that the program had in memory grows from 50,000 to 100,000 bindings, line and reply with it.
 
 What is to be seen: a creation costs about the same among 1,000 and among 100,000, on many names and on one; a decision
 about a name that few bindings match costs at most 1.5 times as much among 100,000 as among 10.
 """
 
 import argparse
+import os
 import pathlib
-import resource
 import subprocess
 import sys
+import tempfile
 
 RUNS = {10: 100, 1_000: 50, 100_000: 5}
 DECISIONS = 200_000
@@ -41,29 +44,42 @@ def decisions(count):
         yield f"User:u{place:06} h produce t{place:06} 0 - v\n"
 
 
-def seconds_of(program, lines):
-    """The processor time of one run over the lines, which must be granted one and all."""
+def run(program, lines):
+    """The processor time and the most bytes in memory of one run over the lines, which must be granted one and all."""
     script = "".join(("super User:root\n", *lines)).encode()
-    before = resource.getrusage(resource.RUSAGE_CHILDREN)
-    done = subprocess.run([program], input=script, stdout=subprocess.PIPE, check=True)
-    after = resource.getrusage(resource.RUSAGE_CHILDREN)
-    if done.stdout.count(b"\n") != len(lines) or b"denied" in done.stdout:
-        sys.exit(f"{program}: a reply for each of {len(lines)} lines, and no denial, were expected: {done.stdout[:200]!r}")
-    return after.ru_utime + after.ru_stime - before.ru_utime - before.ru_stime
+    with tempfile.TemporaryFile() as given, tempfile.TemporaryFile() as printed:
+        given.write(script)
+        given.seek(0)
+        process = subprocess.Popen([program], stdin=given, stdout=printed)
+        _, status, usage = os.wait4(process.pid, 0)
+        process.returncode = os.waitstatus_to_exitcode(status)
+        printed.seek(0)
+        replies = printed.read()
+    if process.returncode != 0 or replies.count(b"\n") != len(lines) or b"denied" in replies:
+        sys.exit(f"{program}: a reply for each of {len(lines)} lines, and no denial, were expected: {replies[:200]!r}")
+    return usage.ru_utime + usage.ru_stime, usage.ru_maxrss * 1024
 
 
 def least(program, lines, runs):
-    return min(seconds_of(program, lines) for _ in range(runs))
+    """The least time of several runs, and the least memory."""
+    measured = [run(program, lines) for _ in range(runs)]
+    return tuple(min(column) for column in zip(*measured))
 
 
 def measure(program, empty, count, one_name):
     """The seconds per creation, and on many names per decision."""
     made = list(creations(count, one_name))
-    seconds = least(program, made, RUNS[count])
+    seconds = least(program, made, RUNS[count])[0]
     creation = (seconds - empty) / count
     if one_name:
         return creation, None
-    return creation, (least(program, made + list(decisions(count)), 5) - seconds) / DECISIONS
+    return creation, (least(program, made + list(decisions(count)), 5)[0] - seconds) / DECISIONS
+
+
+def bytes_each(program, count, one_name):
+    """The bytes that a binding of the second half adds to what the first half takes."""
+    peaks = [least(program, list(creations(made, one_name)), 1)[1] for made in (count // 2, count)]
+    return (peaks[1] - peaks[0]) / (count - count // 2)
 
 
 def main():
@@ -73,17 +89,19 @@ def main():
     if not program.exists():
         sys.exit(f"{program} is not there: build it by `rt run` in crates/kob_run")
     few, some, many = RUNS
-    empty = least(program, [], RUNS[few])
+    empty = least(program, [], RUNS[few])[0]
     print(f"{'bindings':>9}  {'on':<10}  {'s per creation':>14}  {'s per decision':>14}")
     rows = {}
     for one_name in (False, True):
         for count in RUNS:
             creation, decision = rows[one_name, count] = measure(program, empty, count, one_name)
             asked = "" if decision is None else f"{decision:.9f}"
-            print(f"{count:>9,}  {'one name' if one_name else 'many names':<10}  {creation:14.9f}  {asked:>14}")
+            on = "one name" if one_name else "many names"
+            print(f"{count:>9,}  {on:<10}  {creation:14.9f}  {asked:>14}")
     for one_name, on in ((False, "many names"), (True, "one name")):
         growth = rows[one_name, many][0] / rows[one_name, some][0]
         print(f"a creation among {many:,} costs {growth:.2f} times one among {some:,}, on {on}")
+        print(f"a binding takes {bytes_each(program, many, one_name):.0f} bytes, on {on}")
     growth = rows[False, many][1] / rows[False, few][1]
     print(f"a decision among {many:,} costs {growth:.2f} times one among {few:,}")
 

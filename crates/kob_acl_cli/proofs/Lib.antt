@@ -1,4 +1,3 @@
-pub mod AsciiText
-pub mod Appending
+pub mod AsciiList
 pub mod LineFacts
 pub mod Telling

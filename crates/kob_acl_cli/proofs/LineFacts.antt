@@ -1,7 +1,11 @@
 -- What clap says of a parse, said of the lines of this command.
-use Rattle.std.proofs.Common.{◌≡◌, ◌∙◌, ◌+◌, ◌<◌, ℕ, Bool, true, false, List, [], ◌∷◌, ◌++◌, length, get_or, take, codes, Option, Some, None, sym, ap, ap₂, refl}
+use Rattle.std.proofs.Common.{◌≡◌, ◌∙◌, ◌+◌, ◌<◌, ℕ, Bool, true, false, List, [], ◌∷◌, ◌++◌, length, get_or, take, codes, Option, Some, None, sym, ap, ap₂, refl, subst, inl, inr}
 use Rattle.std.specs.Borrow.{Bor}
 use Rattle.std.proofs.lemmas.List.{map_more}
+use Rattle.clap.specs.Kinds.{HasKind, IsAmong, Kinds}
+use Rattle.clap.specs.Values.{kind_of}
+use Rattle.clap.specs.declared.error.Error.{Error}
+use Rattle.clap.specs.declared.error.kind.ErrorKind.TheVariants.{OutOfMemory}
 use Rattle.clap.specs.Words.{App, HasMatchesOf, Rule, fault_of, found_of, is_simple, is_simple_and_free, matches_of, rows_of, takes, with_rule}
 use Rattle.clap.specs.declared.builder.action.ArgAction.{ArgAction}
 use Rattle.clap.specs.declared.parser.matches.ArgMatches.{ArgMatches}
@@ -25,6 +29,17 @@ found_rows app words m is has = (has (ap is_simple is ∙ line_is_simple)).0 ∙
 pub no_refusals : (app : App) (words : List (List ℕ)) → app ≡ line_app → (is_simple_and_free app ≡ true → fault_of app words ≡ []) → refusals words ≡ []
 unfolding refusals
 no_refusals app words is none = sym (ap (λ a. fault_of a words) is) ∙ none (ap is_simple_and_free is ∙ line_is_free)
+
+-- an error of another kind than want of memory comes only where there are refusals
+other_kind : (kinds : Kinds) (e : Error) → HasKind kinds e → (kind_of e ≡ OutOfMemory → ⊥) → kinds ≡ [] → ⊥
+other_kind kinds e (inl memory) other none = other memory
+other_kind kinds e (inr among) other none = subst (λ ks. IsAmong (kind_of e) ks) none among
+
+pub refused_by : (app : App) (words : List (List ℕ)) (e : Error) → app ≡ line_app → (is_simple_and_free app ≡ true → HasKind (fault_of app words) e)
+    → (kind_of e ≡ OutOfMemory → ⊥) → refusals words ≡ [] → ⊥
+unfolding refusals
+refused_by app words e is kinds other none =
+    other_kind (fault_of app words) e (kinds (ap is_simple_and_free is ∙ line_is_free)) other (ap (λ a. fault_of a words) is ∙ none)
 
 -- a line that clap takes is one that this command takes
 pub taken_by : (app : App) (words : List (List ℕ)) → app ≡ line_app → is_taken words ≡ true → takes app words ≡ true

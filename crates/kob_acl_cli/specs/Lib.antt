@@ -4,9 +4,6 @@ pub mod Lines
 pub mod Misread
 pub mod Mixes
 pub mod Parts
-pub mod PrintedBinding
 pub mod PrintedList
-pub mod PrintedText
 pub mod Rules
 pub mod Targets
-pub mod Words

@@ -3,7 +3,8 @@ use Rattle.std.specs.Prelude.{◌≡◌, ◌⊎◌, ℕ, Bool, List, [], ◌∷�
 use Rattle.std.specs.Option.{option_to_list}
 use Rattle.kob_names.specs.HostRules.{host_fault}
 use Rattle.kob_names.specs.PrincipalRules.{principal_fault}
-use Rattle.kob_acl_cli.specs.Words.{operation_named, filter_pattern_named}
+use Rattle.kob_words.specs.Operation.{operation_named}
+use Rattle.kob_words.specs.Pattern.{filter_pattern_named}
 use Rattle.kob_acl_cli.specs.declared.args.CliArgs.{CliArgs}
 use Rattle.kob_acl_cli.specs.declared.fault.CommandFault.{CommandFault}
 use Rattle.kob_acl_cli.specs.declared.fault.CommandFault.TheVariants.{BadName, Memory}

@@ -5,7 +5,8 @@ use Rattle.kob_names.specs.declared.filter.FilterPattern.TheVariants.{Literal}
 use Rattle.kob_names.specs.declared.kinds.Operation.{Operation}
 use Rattle.kob_names.specs.declared.kinds.Operation.TheVariants.{All}
 use Rattle.kob_names.specs.declared.kinds.Permission.TheVariants.{Allow, Deny}
-use Rattle.kob_acl_cli.specs.Words.{operation_named, filter_pattern_named}
+use Rattle.kob_words.specs.Operation.{operation_named}
+use Rattle.kob_words.specs.Pattern.{filter_pattern_named}
 use Rattle.kob_acl_cli.specs.declared.args.CliArgs.{CliArgs}
 use Rattle.kob_acl_cli.specs.declared.holders.Holders.{Holders}
 use Rattle.kob_acl_cli.specs.declared.parts.Parts.{Parts}

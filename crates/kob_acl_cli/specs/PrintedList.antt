@@ -1,7 +1,7 @@
 -- How lists of bindings are printed.
 use Rattle.std.specs.Prelude.{ℕ, List, ◌++◌, codes, flat_map}
-use Rattle.kob_names.specs.declared.binding.Binding.{Binding}
-use Rattle.kob_acl_cli.specs.PrintedBinding.{binding_text}
+use Rattle.kob_names.specs.Binding.{Binding}
+use Rattle.kob_words.specs.PrintedBinding.{binding_text}
 
 -- a line of its own
 abbrev pub binding_line : ℕ × Binding → List ℕ

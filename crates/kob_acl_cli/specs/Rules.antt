@@ -1,6 +1,6 @@
 -- The product of holders, hosts and operations on resources.
 use Rattle.std.specs.Prelude.{ℕ, List, ◌++◌, map, flat_map, Some}
-use Rattle.kob_names.specs.declared.binding.Draft.{Draft}
+use Rattle.kob_names.specs.declared.draft.Draft.{Draft}
 use Rattle.kob_names.specs.declared.filter.BindingFilter.{BindingFilter}
 use Rattle.kob_names.specs.declared.filter.FilterPattern.{FilterPattern}
 use Rattle.kob_names.specs.declared.filter.FilterPattern.TheVariants as filter

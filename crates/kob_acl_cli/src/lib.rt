@@ -10,18 +10,12 @@ mod line;
 mod misread;
 mod mixes;
 mod parts;
-mod printed_binding;
 mod printed_list;
-mod printed_text;
 mod rule;
 mod target;
-mod word;
 
 pub use args::CliArgs;
 pub use commands::{AclCommand, commands_of};
 pub use fault::{CommandFault, LineFault};
 pub use line::read_line;
-pub use printed_binding::print_binding;
 pub use printed_list::print_list;
-pub use printed_text::{push_bytes, push_number};
-pub use word::{filter_pattern_named, operation_named};

@@ -51,6 +51,8 @@ pub fn read_line<'a>(alloc: Global, words: &'a [&'a str]) -> Result<CliArgs, Lin
     ensures taken { IfOk result (λ args. refusals (texts words.entry.now) ≡ []) }
     ensures refused { IfErr result (λ fault.
         is_taken (texts words.entry.now) ≡ true → fault ≡ LineFault.Memory) }
+    ensures usage { IfErr result (λ fault.
+        fault ≡ LineFault.Usage → refusals (texts words.entry.now) ≡ [] → ⊥) }
 {
     let command = command(alloc)?;
     match command.try_get_matches_from(words) {
@@ -87,7 +89,8 @@ fn with_options<'a>(
 }
 
 fn fault_of(error: &Error) -> LineFault
-    ensures { kind_of error.now ≡ ErrorKind.OutOfMemory → result ≡ LineFault.Memory }
+    ensures memory { kind_of error.now ≡ ErrorKind.OutOfMemory → result ≡ LineFault.Memory }
+    ensures usage { result ≡ LineFault.Usage → kind_of error.now ≡ ErrorKind.OutOfMemory → ⊥ }
 {
     match error.kind() {
         ErrorKind::OutOfMemory => LineFault::Memory,

@@ -6,10 +6,10 @@ ghost use Rattle.kob_acl_cli.specs.Misread.{Reads, IsTold, bad_names, is_no_prin
 ghost use Rattle.kob_acl_cli.specs.Parts.{operations_named, pattern_type};
 
 use crate::fault::CommandFault;
-use crate::word::{filter_pattern_named, operation_named};
 use kob_names::{
     FilterPattern, Host, HostFault, Items, Operation, PlainValue, Principal, PrincipalFault, Text,
 };
+use kob_words::{filter_pattern_named, operation_named};
 use std::alloc::Global;
 
 /// The principals that the words write.

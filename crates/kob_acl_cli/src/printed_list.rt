@@ -4,8 +4,8 @@ ghost use Rattle.std.specs.Prelude.{◌≡◌, ◌++◌, IfOk, OnOk, string_byte
 ghost use Rattle.std.specs.Str.{IsAscii};
 ghost use Rattle.kob_acl_cli.specs.PrintedList.{binding_line, list_text};
 
-use crate::printed_binding::print_binding;
 use kob_names::Binding;
+use kob_words::print_binding;
 use std::alloc::{AllocError, Global};
 
 /// One line a binding, each with a line feed:
@@ -22,7 +22,7 @@ pub fn print_list(alloc: Global, bindings: &[(u64, Binding)]) -> Result<String, 
     Ok(String::from_utf8(out).unwrap())
 }
 
-#[tactic(auto, using(crate::proofs::Appending::appending))]
+#[tactic(auto, using(kob_words::proofs::Appending::appending))]
 fn push_line(
     alloc: Global,
     out: &mut Vec<u8>,

@@ -11,7 +11,7 @@ use Rattle.kob_authorizer.specs.Deletion.{removed}
 use Rattle.kob_names.proofs.SameBindings.{same_binding-Decides}
 use Rattle.kob_names.specs.Filter.{takes}
 use Rattle.kob_names.specs.SameBinding.{same_binding}
-use Rattle.kob_names.specs.declared.binding.Binding.{Binding}
+use Rattle.kob_names.specs.Binding.{Binding}
 use Rattle.kob_names.specs.declared.filter.BindingFilter.{BindingFilter}
 
 -- no entry has an equal binding

@@ -4,7 +4,7 @@ use Rattle.std.specs.Prelude.{Some}
 use Rattle.std.specs.List.{filter, find}
 use Rattle.std.specs.Option.{option_map}
 use Rattle.kob_authorizer.specs.Decide.{first_serial}
-use Rattle.kob_names.specs.declared.binding.Binding.{Binding}
+use Rattle.kob_names.specs.Binding.{Binding}
 
 pub first_serial_found : (test : ℕ × Binding → Bool) (entries : List (ℕ × Binding)) → first_serial (filter test entries) ≡ option_map (λ (entry : ℕ × Binding). entry.0) (find test entries)
 first_serial_found test [] = refl

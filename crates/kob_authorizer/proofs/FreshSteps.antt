@@ -6,7 +6,7 @@ use Rattle.std.specs.Option.{option_map}
 use Rattle.std.proofs.lemmas.List.{length-map, map_push}
 use Rattle.std.proofs.lemmas.List.FromFn.{length-enumerate_from}
 use Rattle.kob_names.specs.SameBinding.{same_binding}
-use Rattle.kob_names.specs.declared.binding.Binding.{Binding}
+use Rattle.kob_names.specs.Binding.{Binding}
 use Rattle.kob_authorizer.proofs.Rising.{rising_enumerate_from}
 use Rattle.kob_authorizer.proofs.Serials.{enumerate_from_push}
 use Rattle.kob_authorizer.specs.Contents.{IsRising}

@@ -7,7 +7,7 @@ use Rattle.std.proofs.lemmas.List.Elements.{Contains-append_left, Contains-appen
 use Rattle.kob_authorizer.specs.Creation.{Added, AreInForce, add_one, added, placed, serial_of}
 use Rattle.kob_names.proofs.SameBindings.{same_binding-Decides}
 use Rattle.kob_names.specs.SameBinding.{same_binding}
-use Rattle.kob_names.specs.declared.binding.Binding.{Binding}
+use Rattle.kob_names.specs.Binding.{Binding}
 
 -- the serial of the first of some entries
 abbrev serial_in : Option (ℕ × Binding) → Option ℕ

@@ -9,10 +9,10 @@ use Rattle.kob_authorizer.proofs.Serials.{enumerate_from_push, serial_of-append_
 use Rattle.kob_authorizer.specs.AtOnce.{added_at_once, creation, is_among, is_in_force, is_known, new_bindings, serials_in, with_new}
 use Rattle.kob_authorizer.specs.Creation.{Added, Creates, OnlyAdds, add_one, added, placed, serial_of}
 use Rattle.kob_authorizer.specs.Contents.{IsRising}
-use Rattle.kob_authorizer.specs.Limits.{create_fault, passed}
+use Rattle.kob_authorizer.specs.Passing.{create_fault, passed}
 use Rattle.kob_names.proofs.SameBindings.{same_binding-Decides}
 use Rattle.kob_names.specs.SameBinding.{same_binding}
-use Rattle.kob_names.specs.declared.binding.Binding.{Binding}
+use Rattle.kob_names.specs.Binding.{Binding}
 
 -- the entries, and fresh bindings under the serials from n on
 abbrev grown : ℕ → List (ℕ × Binding) → List Binding → List (ℕ × Binding)

@@ -5,7 +5,7 @@ use Rattle.std.specs.List.{filter, fold, reduce}
 use Rattle.std.proofs.Math.Nat.{le-min, min-le_left, min-le_right}
 use Rattle.std.proofs.lemmas.Bool.{eq-eqb, eqb-true}
 use Rattle.std.proofs.lemmas.List.Elements.{All-cons, All-contains, All-head, All-nil, All-tail, All-weaker, Contains-append_cases, Contains-append_left, Contains-append_right, Contains-push, Contains-push_cases, filter_passes}
-use Rattle.kob_names.specs.declared.binding.Binding.{Binding}
+use Rattle.kob_names.specs.Binding.{Binding}
 use Rattle.kob_authorizer.specs.Contents.{IsRising}
 use Rattle.kob_authorizer.specs.Decide.{first_serial}
 use Rattle.kob_authorizer.specs.LookUp.{AreRising, least_passing, passes_at}

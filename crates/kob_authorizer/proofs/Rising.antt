@@ -5,7 +5,7 @@ use Rattle.kob_authorizer.specs.Contents.{IsRising}
 use Rattle.kob_authorizer.specs.Deletion.{removed}
 use Rattle.kob_authorizer.specs.LookUp.{AreRising}
 use Rattle.kob_names.specs.Filter.{takes}
-use Rattle.kob_names.specs.declared.binding.Binding.{Binding}
+use Rattle.kob_names.specs.Binding.{Binding}
 use Rattle.kob_names.specs.declared.filter.BindingFilter.{BindingFilter}
 
 -- numbering gives rising serials

@@ -7,7 +7,7 @@ use Rattle.std.proofs.lemmas.List.FromFn.{length-enumerate_from}
 use Rattle.kob_authorizer.specs.AtOnce.{is_among, is_in_force}
 use Rattle.kob_authorizer.specs.Creation.{serial_of}
 use Rattle.kob_names.specs.SameBinding.{same_binding}
-use Rattle.kob_names.specs.declared.binding.Binding.{Binding}
+use Rattle.kob_names.specs.Binding.{Binding}
 
 -- a serial found in the first list stays found
 pub serial_of-append_some : (binding : Binding) (xs ys : List (ℕ × Binding)) (serial : ℕ) → Some serial ≡ serial_of xs binding → Some serial ≡ serial_of (xs ++ ys) binding

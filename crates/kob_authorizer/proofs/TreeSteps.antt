@@ -6,7 +6,7 @@ use Rattle.std.proofs.lemmas.List.{map-append}
 use Rattle.std.proofs.lemmas.List.Elements.{filter-append}
 use Rattle.std.proofs.lemmas.Slice.Eq.{bytes_eq-Decides}
 use Rattle.kob_names.specs.Same.{same_text}
-use Rattle.kob_names.specs.declared.binding.Binding.{Binding}
+use Rattle.kob_names.specs.Binding.{Binding}
 use Rattle.kob_prefix_tree.proofs.HeldLaws.{held_added_other, held_added_same, held_empty, held_removed_other, held_removed_same}
 use Rattle.kob_prefix_tree.proofs.ListLemmas.{taken_of_second}
 use Rattle.kob_prefix_tree.specs.Held.{Held, serials_of, with_serial, without_serial}

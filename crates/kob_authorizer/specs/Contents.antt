@@ -1,8 +1,9 @@
 -- What an authorizer holds.
 use Rattle.std.specs.Prelude.{List, [], ◌∷◌, ℕ, ◌+◌, ◌≤◌}
-use Rattle.kob_names.specs.declared.binding.Binding.{Binding}
+use Rattle.kob_names.specs.Binding.{Binding}
 
--- the bindings in force with their serials, in rising serials, the super users, and the serial that comes next
+-- the bindings in force with their serials, in rising serials, the super users, and the serial that
+-- comes next
 pub record Contents : Type 0 where
   pub entries : List (ℕ × Binding)
   pub supers : List (List ℕ)

@@ -3,11 +3,12 @@ use Rattle.std.specs.Prelude.{◌≡◌, ◌≢◌, ◌≤◌, AllPairs, Contain
 use Rattle.std.specs.List.{find, fold}
 use Rattle.std.specs.Option.{option_map}
 use Rattle.kob_names.specs.SameBinding.{same_binding}
-use Rattle.kob_names.specs.declared.binding.Binding.{Binding}
+use Rattle.kob_names.specs.Binding.{Binding}
 use Rattle.kob_authorizer.specs.Contents.{Contents, IsRising, State}
-use Rattle.kob_authorizer.specs.declared.limits.TheConstants.{BINDING_LIMIT, SERIAL_LIMIT}
+use Rattle.kob_authorizer.specs.Limits.{binding_limit, serial_limit}
 
--- the bindings in force and the next serial after bindings were added, and the serials that were answered
+-- the bindings in force and the next serial after bindings were added, and the serials that were
+-- answered
 pub record Added : Type 0 where
   pub entries : List (ℕ × Binding)
   pub next : ℕ
@@ -21,9 +22,11 @@ pub record Creation : Type 0 where
 -- the serial of the first entry with an equal binding
 abbrev pub serial_of : List (ℕ × Binding) → Binding → Option ℕ
 serial_of entries binding =
-    option_map (λ (entry : ℕ × Binding). entry.0) (find (λ (entry : ℕ × Binding). same_binding entry.1 binding) entries)
+    option_map (λ (entry : ℕ × Binding). entry.0)
+    (find (λ (entry : ℕ × Binding). same_binding entry.1 binding) entries)
 
--- a binding that is in force already gets its serial again; another is put last under the next serial
+-- a binding that is in force already gets its serial again; another is put last under the next
+-- serial
 abbrev pub placed : Option ℕ → Added → Binding → Added
 placed (Some serial) so_far binding = record so_far { serials = so_far.serials ++ serial ∷ [] }
 placed None so_far binding = record {
@@ -38,7 +41,8 @@ add_one so_far binding = placed (serial_of so_far.entries binding) so_far bindin
 
 -- the bindings are added one after another
 abbrev pub added : List (ℕ × Binding) → ℕ → List Binding → Added
-added entries next bindings = fold add_one (record { entries = entries; next = next; serials = [] }) bindings
+added entries next bindings =
+    fold add_one (record { entries = entries; next = next; serials = [] }) bindings
 
 -- each of the bindings is in force under the serial beside it
 abbrev pub AreInForce : List (ℕ × Binding) → List Binding → List ℕ → Type 0
@@ -48,7 +52,8 @@ AreInForce entries (binding ∷ bindings) (serial ∷ serials) =
 AreInForce entries [] (serial ∷ serials) = ⊥
 AreInForce entries (binding ∷ bindings) [] = ⊥
 
--- what was in force stays as it was, and the entries put last have serials that were not given before
+-- what was in force stays as it was, and the entries put last have serials that were not given
+-- before
 pub record OnlyAdds (entries : List (ℕ × Binding)) (next : ℕ) (after : Added) : Type 0 where
   pub fresh : List (ℕ × Binding)
   pub kept : after.entries ≡ entries ++ fresh
@@ -69,11 +74,14 @@ Creates entries next bindings made = added entries next bindings ≡ record {
 -- the fresh entries are put last
 abbrev pub with_creation : Contents → Creation → Contents
 with_creation contents made =
-    record contents { entries = contents.entries ++ made.fresh; next = contents.next + length made.fresh }
+    record contents {
+      entries = contents.entries ++ made.fresh;
+      next = contents.next + length made.fresh;
+    }
 
 -- the creation can be carried out: it has room, passes no limit, and its serials come next
 pub record CanCreate (made : Creation) (state : State) : Type 0 where
   pub room : length made.fresh ≤ state.room
-  pub count : length state.contents.entries + length made.fresh ≤ BINDING_LIMIT
-  pub serials : state.contents.next + length made.fresh ≤ SERIAL_LIMIT
+  pub count : length state.contents.entries + length made.fresh ≤ binding_limit
+  pub serials : state.contents.next + length made.fresh ≤ serial_limit
   pub numbered : IsRising state.contents.next made.fresh (state.contents.next + length made.fresh)

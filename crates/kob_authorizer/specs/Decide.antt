@@ -1,9 +1,10 @@
--- The verdict on a question, read off the list of bindings in force (Kafka documentation, "Authorization and ACLs").
+-- The verdict on a question, read off the list of bindings in force (Kafka documentation,
+-- "Authorization and ACLs").
 use Rattle.std.specs.Prelude.{Bool, true, false, ◌&&◌, List, [], ◌∷◌, ℕ, Option, Some, None}
 use Rattle.std.specs.List.{filter, list_any}
 use Rattle.kob_names.specs.Access.{covers, matches, reaches}
 use Rattle.kob_names.specs.Same.{same_permission, same_resource, same_text}
-use Rattle.kob_names.specs.declared.binding.Binding.{Binding}
+use Rattle.kob_names.specs.Binding.{Binding}
 use Rattle.kob_names.specs.declared.kinds.Permission.{Permission}
 use Rattle.kob_names.specs.declared.kinds.Permission.TheVariants.{Allow, Deny}
 use Rattle.kob_names.specs.declared.verdict.Verdict.{Verdict}
@@ -32,7 +33,8 @@ first_serial (entry ∷ rest) = Some entry.0
 abbrev pub is_super : List (List ℕ) → List ℕ → Bool
 is_super supers principal = list_any (same_text principal) supers
 
--- a super user is granted everything; else a deny wins over every allow, and without either the answer is no
+-- a super user is granted everything; else a deny wins over every allow, and without either the
+-- answer is no
 abbrev pub verdict_of : Bool → Option ℕ → Option ℕ → Verdict
 verdict_of true deny allow = Super
 verdict_of false (Some serial) allow = DeniedBy serial

@@ -2,7 +2,7 @@
 use Rattle.std.specs.Prelude.{◌≡◌, not, List, ℕ}
 use Rattle.std.specs.List.{filter}
 use Rattle.kob_names.specs.Filter.{takes}
-use Rattle.kob_names.specs.declared.binding.Binding.{Binding}
+use Rattle.kob_names.specs.Binding.{Binding}
 use Rattle.kob_names.specs.declared.filter.BindingFilter.{BindingFilter}
 use Rattle.kob_authorizer.specs.Contents.{Contents, State}
 

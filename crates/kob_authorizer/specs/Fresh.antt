@@ -1,6 +1,6 @@
 -- The bindings of a list of entries.
 use Rattle.std.specs.Prelude.{List, ℕ, map}
-use Rattle.kob_names.specs.declared.binding.Binding.{Binding}
+use Rattle.kob_names.specs.Binding.{Binding}
 
 -- the bindings without their serials
 abbrev pub bindings_of : List (ℕ × Binding) → List Binding

@@ -4,7 +4,7 @@ use Rattle.std.specs.FinMap as finite
 use Rattle.std.specs.List.{filter}
 use Rattle.kob_names.specs.Filter.{takes}
 use Rattle.kob_names.specs.Same.{same_resource}
-use Rattle.kob_names.specs.declared.binding.Binding.{Binding}
+use Rattle.kob_names.specs.Binding.{Binding}
 use Rattle.kob_names.specs.declared.filter.BindingFilter.{BindingFilter}
 use Rattle.kob_names.specs.declared.kinds.ResourceKind.{ResourceKind}
 use Rattle.kob_names.specs.declared.kinds.ResourceKind.TheVariants.{Topic, Group, Cluster, TransactionalId}
@@ -61,13 +61,18 @@ without_leaf index leaf =
 
 -- an entry that a filter takes is indexed no more
 abbrev pub without_if_taken : BindingFilter → Index → ℕ × Binding → Index
-without_if_taken wanted index entry = if takes wanted entry.1 then without_leaf index (leaf_of entry) else index
+without_if_taken wanted index entry =
+    if takes wanted entry.1 then without_leaf index (leaf_of entry) else index
 
 -- the entries on one kind of resource
 abbrev pub entries_on : ResourceKind → List (ℕ × Binding) → List (ℕ × Binding)
-entries_on resource entries = filter (λ (entry : ℕ × Binding). same_resource entry.1.resource resource) entries
+entries_on resource entries =
+    filter (λ (entry : ℕ × Binding). same_resource entry.1.resource resource) entries
 
--- the trees hold exactly the serials of the entries: by the pattern, in the tree of the kind of resource, and by the digest
+-- the trees hold exactly the serials of the entries: by the pattern, in the tree of the kind of
+-- resource, and by the digest
 pub record Indexes (index : Index) (entries : List (ℕ × Binding)) : Type 0 where
-  pub patterns : (resource : ResourceKind) → IsIndex pattern_place (tree_of index resource) (entries_on resource entries)
+  pub patterns :
+      (resource : ResourceKind)
+      → IsIndex pattern_place (tree_of index resource) (entries_on resource entries)
   pub digests : IsIndex digest_place index.digests entries

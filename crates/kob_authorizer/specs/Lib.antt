@@ -10,5 +10,6 @@ pub mod Index
 pub mod Limits
 pub mod LookUp
 pub mod Meaning
+pub mod Passing
 pub mod Places
 pub mod Question

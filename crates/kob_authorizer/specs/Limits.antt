@@ -1,20 +1,10 @@
 -- The limits on bindings and serials.
-use Rattle.std.specs.Prelude.{nat_lt, if◌then◌else◌, List, ℕ, Option, Some, None, length}
-use Rattle.kob_names.specs.declared.binding.Binding.{Binding}
-use Rattle.kob_authorizer.specs.Creation.{Added, added}
-use Rattle.kob_authorizer.specs.declared.fault.CreateFault.{CreateFault}
-use Rattle.kob_authorizer.specs.declared.fault.CreateFault.TheVariants.{TooMany, SerialsSpent}
-use Rattle.kob_authorizer.specs.declared.limits.TheConstants.{BINDING_LIMIT, SERIAL_LIMIT}
+use Rattle.std.specs.Prelude.{ℕ}
 
--- the limit that so many bindings and this next serial pass
-abbrev pub passed : ℕ → ℕ → Option CreateFault
-passed in_force next =
-    if nat_lt BINDING_LIMIT in_force then Some TooMany
-    else (if nat_lt SERIAL_LIMIT next then Some SerialsSpent
-    else None)
+-- the most bindings that are in force at once
+abbrev pub binding_limit : ℕ
+binding_limit = 100000
 
--- the limit that would be passed if the bindings were added
-abbrev pub create_fault : List (ℕ × Binding) → ℕ → List Binding → Option CreateFault
-create_fault entries next bindings =
-    let after : Added = added entries next bindings in
-    passed (length after.entries) after.next
+-- every serial is below this
+abbrev pub serial_limit : ℕ
+serial_limit = 18446744073709551615

@@ -2,7 +2,7 @@
 use Rattle.std.specs.Prelude.{Bool, ◌&&◌, ◌==◌, List, ◌++◌, ℕ, Option, codes, min}
 use Rattle.std.specs.List.{filter, find, list_any, reduce}
 use Rattle.kob_names.specs.SameBinding.{same_binding}
-use Rattle.kob_names.specs.declared.binding.Binding.{Binding}
+use Rattle.kob_names.specs.Binding.{Binding}
 use Rattle.kob_names.specs.declared.kinds.PatternKind.TheVariants.{Literal}
 use Rattle.kob_prefix_tree.specs.Held.{serials_of}
 use Rattle.kob_prefix_tree.specs.PrefixMap.{PrefixMap, held, walk_of}
@@ -23,7 +23,8 @@ looked_up tree name = walk_of tree name ++ serials_of (kind_in_tree Literal) (he
 
 -- an entry with this serial passes the test
 abbrev pub passes_at : (ℕ × Binding → Bool) → List (ℕ × Binding) → ℕ → Bool
-passes_at test entries serial = list_any (λ (entry : ℕ × Binding). (entry.0 == serial) && test entry) entries
+passes_at test entries serial =
+    list_any (λ (entry : ℕ × Binding). (entry.0 == serial) && test entry) entries
 
 -- the least of these serials whose entry passes the test
 abbrev pub least_passing : (ℕ × Binding → Bool) → List (ℕ × Binding) → List ℕ → Option ℕ

@@ -2,7 +2,7 @@
 use Rattle.std.specs.Prelude.{◌≡◌, ◌≤◌, IsTrue, Contains, List, ℕ}
 use Rattle.std.specs.List.{AllByRecursion}
 use Rattle.kob_names.specs.Access.{covers, matches, reaches}
-use Rattle.kob_names.specs.declared.binding.Binding.{Binding}
+use Rattle.kob_names.specs.Binding.{Binding}
 use Rattle.kob_names.specs.declared.kinds.Permission.{Permission}
 use Rattle.kob_names.specs.declared.kinds.Permission.TheVariants.{Allow, Deny}
 use Rattle.kob_names.specs.declared.verdict.Verdict.{Verdict}
@@ -20,10 +20,12 @@ pub record Hits (wanted : Permission) (question : Question) (entry : ℕ × Bind
 
 -- no binding with this permission speaks of what is asked
 abbrev pub NoneHits : Permission → Question → List (ℕ × Binding) → Type 0
-NoneHits permission question entries = AllByRecursion (λ entry. ¬ Hits permission question entry) entries
+NoneHits permission question entries = AllByRecursion
+    (λ entry. ¬ Hits permission question entry) entries
 
 -- it is the serial of a binding that hits, and no binding that hits has a lower one
-pub record IsEarliest (permission : Permission) (question : Question) (entries : List (ℕ × Binding)) (serial : ℕ) : Type 0 where
+pub record IsEarliest (permission : Permission) (question : Question)
+    (entries : List (ℕ × Binding)) (serial : ℕ) : Type 0 where
   pub entry : ℕ × Binding
   pub in_force : Contains entries entry
   pub hits : Hits permission question entry
@@ -36,6 +38,8 @@ IsTrueVerdict entries supers question Super = Contains supers question.principal
 IsTrueVerdict entries supers question (DeniedBy serial) =
     ¬ Contains supers question.principal × IsEarliest Deny question entries serial
 IsTrueVerdict entries supers question (AllowedBy serial) =
-    ¬ Contains supers question.principal × (NoneHits Deny question entries × IsEarliest Allow question entries serial)
+    ¬ Contains supers question.principal
+    × (NoneHits Deny question entries × IsEarliest Allow question entries serial)
 IsTrueVerdict entries supers question NoAllow =
-    ¬ Contains supers question.principal × (NoneHits Deny question entries × NoneHits Allow question entries)
+    ¬ Contains supers question.principal
+    × (NoneHits Deny question entries × NoneHits Allow question entries)

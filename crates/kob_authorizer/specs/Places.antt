@@ -2,7 +2,7 @@
 use Rattle.std.specs.Prelude.{◌≡◌, Bool, true, false, ◌&&◌, List, ℕ, map}
 use Rattle.std.specs.List.{filter}
 use Rattle.kob_names.specs.Same.{same_text}
-use Rattle.kob_names.specs.declared.binding.Binding.{Binding}
+use Rattle.kob_names.specs.Binding.{Binding}
 use Rattle.kob_names.specs.declared.kinds.PatternKind.{PatternKind}
 use Rattle.kob_names.specs.declared.kinds.PatternKind.TheVariants.{Literal, Prefixed}
 use Rattle.kob_prefix_tree.specs.Addition.{Addition}
@@ -30,7 +30,8 @@ same_kind in_tree.Prefixed in_tree.Prefixed = true
 
 -- among the patterns a binding stands at its pattern's name
 abbrev pub pattern_place : Binding → Place
-pattern_place binding = record { kind = kind_in_tree binding.pattern.kind; key = binding.pattern.name }
+pattern_place binding =
+    record { kind = kind_in_tree binding.pattern.kind; key = binding.pattern.name }
 
 -- among the digests it stands at the digits of its own
 abbrev pub digest_place : Binding → Place
@@ -38,7 +39,8 @@ digest_place binding = record { kind = in_tree.Literal; key = digest_key binding
 
 -- the serial of an entry on its way to its place
 abbrev pub addition : (Binding → Place) → ℕ × Binding → Addition
-addition place entry = record { key = (place entry.1).key; kind = (place entry.1).kind; serial = entry.0 }
+addition place entry =
+    record { key = (place entry.1).key; kind = (place entry.1).kind; serial = entry.0 }
 
 -- the serial is put last at its place
 abbrev pub with_addition : PrefixMap → Addition → PrefixMap
@@ -53,11 +55,14 @@ abbrev pub is_place : of_tree.PatternKind → List ℕ → Place → Bool
 is_place kind key place = same_kind place.kind kind && same_text place.key key
 
 -- the serials of the entries that stand at this place, in order
-abbrev pub serials_at : (Binding → Place) → List (ℕ × Binding) → of_tree.PatternKind → List ℕ → List ℕ
+abbrev pub serials_at : (Binding → Place) → List (ℕ × Binding) → of_tree.PatternKind → List ℕ
+    → List ℕ
 serials_at place entries kind key =
-    map (λ (entry : ℕ × Binding). entry.0) (filter (λ (entry : ℕ × Binding). is_place kind key (place entry.1)) entries)
+    map (λ (entry : ℕ × Binding). entry.0)
+    (filter (λ (entry : ℕ × Binding). is_place kind key (place entry.1)) entries)
 
 -- the tree holds exactly the serials of the entries, each at its place, in order
 abbrev pub IsIndex : (Binding → Place) → PrefixMap → List (ℕ × Binding) → Type 0
 IsIndex place tree entries =
-    (kind : of_tree.PatternKind) (key : List ℕ) → serials_of kind (held tree key) ≡ serials_at place entries kind key
+    (kind : of_tree.PatternKind) (key : List ℕ) → serials_of kind (held tree key)
+    ≡ serials_at place entries kind key

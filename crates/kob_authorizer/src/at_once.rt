@@ -2,6 +2,7 @@
 
 ghost use Rattle.std.specs.Prelude.{◌≡◌, ◌+◌, ◌≤◌, ◌++◌, ◌||◌, IfOk, length};
 ghost use Rattle.std.specs.List.{enumerate_from};
+ghost use Rattle.kob_authorizer.specs.Limits.{serial_limit};
 ghost use Rattle.kob_authorizer.specs.AtOnce.{is_among, is_in_force, is_known, new_bindings, serials_in};
 ghost use Rattle.kob_authorizer.specs.Creation.{serial_of};
 ghost use Rattle.kob_authorizer.specs.LookUp.{AreRising};
@@ -9,7 +10,6 @@ ghost use Rattle.kob_authorizer.specs.Places.{IsIndex, digest_place};
 
 use crate::equals::serial_of;
 use crate::fresh::Fresh;
-use crate::limits::SERIAL_LIMIT;
 use kob_names::Binding;
 use kob_prefix_tree::PrefixTree;
 use std::alloc::{AllocError, Global};
@@ -76,7 +76,7 @@ pub fn serials_in(
 ) -> Result<Vec<u64>, AllocError>
     requires rising { AreRising entries.now }
     requires indexed { IsIndex digest_place digests.now entries.now }
-    requires serials { next + length fresh.now ≤ SERIAL_LIMIT }
+    requires serials { next + length fresh.now ≤ serial_limit }
     ensures { IfOk result (λ made.
         made.items ≡ serials_in (entries.now ++ enumerate_from next fresh.now) bindings.now) }
 {
@@ -86,8 +86,8 @@ pub fn serials_in(
         .collect(alloc)
 }
 
-/// The serial of the first entry with an equal binding: of one in force, or else of a new one, which
-/// get the serials from `next` on.
+/// The serial of the first entry with an equal binding: of one in force, or else of a new one,
+/// which get the serials from `next` on.
 fn serial_in_either(
     entries: &[(u64, Binding)],
     digests: &PrefixTree,
@@ -97,7 +97,7 @@ fn serial_in_either(
 ) -> Option<u64>
     requires rising { AreRising entries.now }
     requires indexed { IsIndex digest_place digests.now entries.now }
-    requires serials { next + length fresh.now ≤ SERIAL_LIMIT }
+    requires serials { next + length fresh.now ≤ serial_limit }
     ensures { result ≡ serial_of (entries.now ++ enumerate_from next fresh.now) binding.now }
 {
     match serial_of(entries, digests, binding) {
@@ -109,7 +109,7 @@ fn serial_in_either(
 /// The serial of the first new binding that is equal, when they get the serials from `next` on.
 #[tactic(auto, using(crate::proofs::Serials::moved_some, crate::proofs::Serials::moved_none))]
 fn serial_among(next: u64, fresh: &Fresh, binding: &Binding) -> Option<u64>
-    requires { next + length fresh.now ≤ SERIAL_LIMIT }
+    requires { next + length fresh.now ≤ serial_limit }
     ensures { result ≡ serial_of (enumerate_from next fresh.now) binding.now }
 {
     match fresh.place_of(binding) {

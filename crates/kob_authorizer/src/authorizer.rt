@@ -5,7 +5,8 @@ ghost use Rattle.kob_authorizer.specs.Contents.{IsRising, opened};
 ghost use Rattle.kob_authorizer.specs.Creation.{CanCreate, Creates, added, with_creation};
 ghost use Rattle.kob_authorizer.specs.Decide.{decide};
 ghost use Rattle.kob_authorizer.specs.Deletion.{CanDelete, removed, taken, without_taken};
-ghost use Rattle.kob_authorizer.specs.Limits.{create_fault};
+ghost use Rattle.kob_authorizer.specs.Limits.{binding_limit};
+ghost use Rattle.kob_authorizer.specs.Passing.{create_fault};
 ghost use Rattle.kob_authorizer.specs.Meaning.{IsTrueVerdict};
 ghost use Rattle.kob_authorizer.specs.Question.{question_of};
 
@@ -13,7 +14,6 @@ use crate::creation::{PreparedCreate, put_last};
 use crate::deletion::{PreparedDelete, copies_taken, remove_taken};
 use crate::fault::CreateFault;
 use crate::index::{Index, put_all, take_out};
-use crate::limits::BINDING_LIMIT;
 use crate::look_up::verdict;
 use crate::question::{Question, is_super};
 use kob_names::{Binding, BindingFilter, Host, Operation, Principal, ResourceKind, Verdict};
@@ -37,7 +37,7 @@ impl Model for Authorizer {
     ghost use Rattle.std.specs.Prelude.{◌-◌, ◌≤◌, length, vec_len, vec_capacity};
     ghost use Rattle.kob_authorizer.specs.Contents.{IsRising, State};
     ghost use Rattle.kob_authorizer.specs.Index.{Indexes};
-    ghost use Rattle.kob_authorizer.specs.declared.limits.TheConstants.{BINDING_LIMIT};
+    ghost use Rattle.kob_authorizer.specs.Limits.{binding_limit};
 
     ghost Value = { State };
 
@@ -50,7 +50,7 @@ impl Model for Authorizer {
       room = vec_capacity authorizer.entries - vec_len authorizer.entries;
     } };
 
-    ghost invariant = { λ authorizer. (length authorizer.entries.items ≤ BINDING_LIMIT)
+    ghost invariant = { λ authorizer. (length authorizer.entries.items ≤ binding_limit)
         × IsRising 1 authorizer.entries.items authorizer.next
         × Indexes authorizer.index authorizer.entries.items };
 }
@@ -80,7 +80,7 @@ impl Authorizer {
     pub fn entries(&self) -> &[(u64, Binding)]
         ensures entries { result.now ≡ self.now.contents.entries }
         ensures rising { IsRising 1 result.now self.now.contents.next }
-        ensures count { length result.now ≤ BINDING_LIMIT }
+        ensures count { length result.now ≤ binding_limit }
     {
         self.entries.as_slice()
     }
@@ -156,7 +156,8 @@ impl Authorizer {
         bindings: &[Binding],
     ) -> Result<PreparedCreate, CreateFault>
         ensures kept { self.new.contents ≡ self.old.contents }
-        ensures ok { IfOk result (Creates self.old.contents.entries self.old.contents.next bindings.now) }
+        ensures ok { IfOk result
+            (Creates self.old.contents.entries self.old.contents.next bindings.now) }
         ensures ready { IfOk result (λ made. CanCreate made self.new) }
         ensures allowed { OnOk result (create_fault
             self.old.contents.entries self.old.contents.next bindings.now ≡ None) }
@@ -214,7 +215,8 @@ impl Authorizer {
         ensures taken { IfOk result (λ entries.
             entries.items ≡ taken filter.now self.old.contents.entries) }
         ensures rising { IfOk result (λ entries. IsRising 1 entries.items self.old.contents.next) }
-        ensures contents { OnOk result (self.new.contents ≡ without_taken filter.now self.old.contents) }
+        ensures contents { OnOk result
+            (self.new.contents ≡ without_taken filter.now self.old.contents) }
         ensures kept { OnErr result (self.new.contents ≡ self.old.contents) }
     {
         let prepared = self.prepare_delete(alloc, filter)?;
@@ -229,7 +231,8 @@ impl Authorizer {
         filter: &BindingFilter,
     ) -> Result<PreparedDelete, AllocError>
         ensures filter { IfOk result (λ made. made.filter ≡ filter.now) }
-        ensures taken { IfOk result (λ made. made.taken ≡ taken filter.now self.now.contents.entries) }
+        ensures taken { IfOk result
+            (λ made. made.taken ≡ taken filter.now self.now.contents.entries) }
         ensures rising { IfOk result (λ made. IsRising 1 made.taken self.now.contents.next) }
         ensures ready { IfOk result (λ made. CanDelete made self.now) }
     {

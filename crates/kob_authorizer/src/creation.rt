@@ -4,13 +4,14 @@ ghost use Rattle.std.specs.Prelude.{◌≡◌, ◌≢◌, ◌+◌, ◌≤◌, �
 ghost use Rattle.kob_authorizer.specs.Contents.{IsRising};
 ghost use Rattle.kob_authorizer.specs.Creation.{Creates};
 ghost use Rattle.kob_authorizer.specs.Index.{Indexes, leaf_of};
-ghost use Rattle.kob_authorizer.specs.Limits.{create_fault};
+ghost use Rattle.kob_authorizer.specs.Limits.{binding_limit, serial_limit};
+ghost use Rattle.kob_authorizer.specs.Passing.{create_fault};
 ghost use Rattle.kob_authorizer.specs.LookUp.{AreRising};
 
 use crate::at_once::{new_bindings, serials_in};
 use crate::fault::CreateFault;
 use crate::index::{Index, Leaf};
-use crate::limits::{BINDING_LIMIT, SERIAL_LIMIT, limit_fault};
+use crate::limits::limit_fault;
 use kob_names::Binding;
 use std::alloc::Global;
 use std::marker::Model;
@@ -46,14 +47,16 @@ impl PreparedCreate {
         next: u64,
         bindings: &[Binding],
     ) -> Result<PreparedCreate, CreateFault>
-        requires count { length entries.now ≤ BINDING_LIMIT }
+        requires count { length entries.now ≤ binding_limit }
         requires rising { AreRising entries.now }
         requires indexed { Indexes index.now entries.now }
         ensures ok { IfOk result (Creates entries.now next bindings.now) }
         ensures allowed { OnOk result (create_fault entries.now next bindings.now ≡ None) }
-        ensures count { IfOk result (λ made. length entries.now + length made.fresh ≤ BINDING_LIMIT) }
-        ensures serials { IfOk result (λ made. next + length made.fresh ≤ SERIAL_LIMIT) }
-        ensures numbered { IfOk result (λ made. IsRising next made.fresh (next + length made.fresh)) }
+        ensures count { IfOk result
+            (λ made. length entries.now + length made.fresh ≤ binding_limit) }
+        ensures serials { IfOk result (λ made. next + length made.fresh ≤ serial_limit) }
+        ensures numbered { IfOk result
+            (λ made. IsRising next made.fresh (next + length made.fresh)) }
         ensures fault { IfErr result (λ fault. fault ≢ CreateFault.Memory
             → create_fault entries.now next bindings.now ≡ Some fault) }
     {

@@ -43,10 +43,12 @@ fn lowest_digit(number: u32) -> u8
     (number % 16) as u8
 }
 
-/// The digest of the binding's principal, host and name: FNV-1a of Fowler, Noll and Vo, with 32 bits.
+/// The digest of the binding's principal, host and name: FNV-1a of Fowler, Noll and Vo, with 32
+/// bits.
 fn digest_of(binding: &Binding) -> u32
     ensures { result ≡ digest_of binding.now }
 {
+    let binding = binding.parts();
     let principal = with_text(BASIS, binding.principal.as_str());
     let host = with_text(principal, binding.host.as_str());
     with_text(host, binding.pattern.name.as_str())

@@ -2,12 +2,12 @@
 
 ghost use Rattle.std.specs.Prelude.{◌≡◌, ◌+◌, ◌<◌, ◌≤◌, [], ◌∷◌, ◌++◌, IfOk, IfSome, OnOk, length, vec_len};
 ghost use Rattle.std.specs.List.{enumerate_from};
+ghost use Rattle.kob_authorizer.specs.Limits.{serial_limit};
 ghost use Rattle.kob_authorizer.specs.Creation.{serial_of};
 ghost use Rattle.kob_authorizer.specs.Fresh.{bindings_of};
 
 use crate::digest::digest_key;
 use crate::equals::serial_of;
-use crate::limits::SERIAL_LIMIT;
 use kob_names::{Binding, PlainValue};
 use kob_prefix_tree::{PatternKind, PrefixTree};
 use std::alloc::{AllocError, Global};
@@ -25,7 +25,7 @@ pub struct Fresh {
 impl Model for Fresh {
     ghost use Rattle.std.specs.Prelude.{List, ◌≡◌};
     ghost use Rattle.std.specs.List.{enumerate_from};
-    ghost use Rattle.kob_names.specs.declared.binding.Binding.{Binding};
+    ghost use Rattle.kob_names.specs.Binding.{Binding};
     ghost use Rattle.kob_authorizer.specs.Places.{IsIndex, digest_place};
     ghost use Rattle.kob_authorizer.specs.Fresh.{bindings_of};
 
@@ -80,7 +80,7 @@ impl Fresh {
 
     /// The bindings under serials from `next` on.
     pub fn numbered(self, alloc: Global, next: u64) -> Result<Vec<(u64, Binding)>, AllocError>
-        requires { next + length self ≤ SERIAL_LIMIT }
+        requires { next + length self ≤ serial_limit }
         ensures { IfOk result (λ made. made.items ≡ enumerate_from next self) }
     {
         let Fresh {
@@ -98,7 +98,7 @@ fn renumbered(
     next: u64,
     entries: Vec<(u64, Binding)>,
 ) -> Result<Vec<(u64, Binding)>, AllocError>
-    requires { next + vec_len entries ≤ SERIAL_LIMIT }
+    requires { next + vec_len entries ≤ serial_limit }
     ensures { IfOk result (λ made. made.items ≡ enumerate_from next (bindings_of entries.items)) }
 {
     let mut numbered = Vec::with_capacity(alloc, entries.len())?;

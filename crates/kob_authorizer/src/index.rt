@@ -65,12 +65,12 @@ impl Index {
     pub fn prepare(&self, alloc: Global, entry: &(u64, Binding)) -> Result<Leaf, AllocError>
         ensures { IfOk result (λ leaf. leaf ≡ leaf_of entry.now) }
     {
-        let binding = &entry.1;
+        let binding = entry.1.parts();
         let tree = self.tree(binding.resource);
         let name = binding.pattern.name.as_str().as_bytes();
         let kind = kind_in_tree(binding.pattern.kind);
         let pattern = tree.prepare_add(alloc, name, kind, entry.0)?;
-        let key = digest_key(binding);
+        let key = digest_key(&entry.1);
         let kind = kob_prefix_tree::PatternKind::Literal;
         let digest = self.digests.prepare_add(alloc, &key, kind, entry.0)?;
         Ok(Leaf {
@@ -118,8 +118,8 @@ impl Index {
     pub fn remove(&mut self, entry: &(u64, Binding))
         ensures { self.new ≡ without_leaf self.old (leaf_of entry.now) }
     {
-        let binding = &entry.1;
-        let key = digest_key(binding);
+        let binding = entry.1.parts();
+        let key = digest_key(&entry.1);
         let literal = kob_prefix_tree::PatternKind::Literal;
         self.digests.remove(&key, literal, entry.0);
         let name = binding.pattern.name.as_str().as_bytes();

@@ -7,7 +7,7 @@ ghost use Rattle.kob_authorizer.specs.Decide.{decide};
 ghost use Rattle.kob_authorizer.specs.Deletion.{removed};
 ghost use Rattle.kob_authorizer.specs.Meaning.{IsTrueVerdict};
 ghost use Rattle.kob_authorizer.specs.Question.{Question};
-ghost use Rattle.kob_names.specs.declared.binding.Binding.{Binding};
+ghost use Rattle.kob_names.specs.Binding.{Binding};
 ghost use Rattle.kob_names.specs.declared.filter.BindingFilter.{BindingFilter};
 
 /// Each verdict says what is so of the whole list: a deny that is named is the one with the least
@@ -21,7 +21,8 @@ pub fn verdicts_are_true()
     // The contract is the law.
 }
 
-/// After a creation each binding of the call is in force, under the serial that was answered for it.
+/// After a creation each binding of the call is in force, under the serial that was answered for
+/// it.
 pub fn created_bindings_are_in_force()
     ensures { (entries : List (ℕ × Binding)) (next : ℕ) (bindings : List Binding)
         → AreInForce (added entries next bindings).entries bindings (added entries next bindings).serials }

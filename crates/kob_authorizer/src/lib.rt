@@ -14,7 +14,6 @@ mod laws;
 mod limits;
 mod look_up;
 mod question;
-mod scan;
 
 pub use authorizer::Authorizer;
 pub use creation::PreparedCreate;
@@ -25,4 +24,3 @@ pub use laws::{
     verdicts_are_true,
 };
 pub use limits::{BINDING_LIMIT, SERIAL_LIMIT};
-pub use scan::scan_verdict;

@@ -5,7 +5,8 @@ use Rattle.kob_authorizer.specs.Contents.{Contents, IsRising}
 use Rattle.kob_authorizer.proofs.Verdicts.{true_verdict}
 use Rattle.kob_rights.specs.declared.check.Check.{Check}
 use Rattle.kob_rights.specs.declared.event.Event.{Event}
-use Rattle.kob_broker.specs.Denial.{is_granted, question, verdict, is_met, unmet}
+use Rattle.kob_names.specs.Granted.{is_granted}
+use Rattle.kob_broker.specs.Denial.{question, verdict, is_met, unmet}
 use Rattle.kob_broker.specs.Justice.{SomeGranted, EachGranted, IsBlame, EachBlamed}
 
 or_false : (b c : Bool) → (b || c) ≡ false → (b ≡ false) × (c ≡ false)

@@ -1,7 +1,7 @@
 -- A draft that breaks a rule refuses the whole creation.
 use Rattle.std.proofs.Common.{◌≡◌, List, Some, ap, subst, sym, ◌∙◌}
 use Rattle.std.specs.List.{flat_map}
-use Rattle.kob_names.specs.declared.binding.Draft.{Draft}
+use Rattle.kob_names.specs.declared.draft.Draft.{Draft}
 use Rattle.kob_rights.specs.Reason.{code_of}
 use Rattle.kob_rights.specs.declared.on_acls.CreateAcls.{CreateAcls}
 use Rattle.kob_rights.specs.declared.reason.Reason.{Reason}

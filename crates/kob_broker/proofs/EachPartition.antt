@@ -3,9 +3,9 @@ use Rattle.std.proofs.Common.{ℕ, zero, suc, List, [], ◌∷◌, Option, Some,
 use Rattle.std.proofs.lemmas.List.Elements.{All-append, All-drop, All-head, All-nil, All-set, All-tail, All-take}
 use Rattle.kob_catalog.specs.Topics.{Topic, partition_at, partition_of, place_of, topic_at, with_partition_found, without_topic_found}
 use Rattle.kob_partition.specs.Batches.{Plain}
+use Rattle.kob_rights.specs.Partitions.{partition_named}
 use Rattle.kob_rights.specs.declared.request.Request.{Request}
-use Rattle.kob_rights.specs.declared.request.Request.TheVariants.{Produce, Fetch, ListOffsets, Metadata, OffsetCommit, OffsetFetch, ListGroups, DeleteGroups, CreateTopics, DeleteTopics, InitProducerId, DescribeAcls, CreateAcls, DeleteAcls}
-use Rattle.kob_broker.specs.Effect.{named}
+use Rattle.kob_broker.specs.Effect.{named, partition_in}
 use Rattle.kob_broker.specs.State.{State}
 
 module _ (Holds : Plain → Type 0) where
@@ -31,21 +31,13 @@ module _ (Holds : Plain → Type 0) where
   of_name name partition topics all = found_at topics (place_of name topics) partition all
 
   -- the partition that a request names
+  of_named : (topics : List (Topic Plain)) (name : Option (List ℕ × ℕ)) → All EachOf topics
+      → IfSome (partition_in topics name) Holds
+  of_named topics None all = tt
+  of_named topics (Some name) all = of_name name.0 name.1 topics all
+
   pub of_request : (s : State Plain) (request : Request) → All EachOf s.topics → IfSome (named s request) Holds
-  of_request s (Produce produce) all = of_name produce.topic produce.partition s.topics all
-  of_request s (Fetch fetch) all = of_name fetch.topic fetch.partition s.topics all
-  of_request s (ListOffsets asked) all = of_name asked.topic asked.partition s.topics all
-  of_request s (OffsetCommit commit) all = of_name commit.topic commit.partition s.topics all
-  of_request s (Metadata asked) all = tt
-  of_request s (OffsetFetch asked) all = tt
-  of_request s ListGroups all = tt
-  of_request s (DeleteGroups delete) all = tt
-  of_request s (CreateTopics create) all = tt
-  of_request s (DeleteTopics delete) all = tt
-  of_request s InitProducerId all = tt
-  of_request s (DescribeAcls asked) all = tt
-  of_request s (CreateAcls create) all = tt
-  of_request s (DeleteAcls delete) all = tt
+  of_request s request all = of_named s.topics (partition_named request) all
 
   -- a partition is written
   pub once_written : (place : Option ℕ) (number : ℕ) (written : Plain) (topics : List (Topic Plain)) → Holds written → All EachOf topics → All EachOf (with_partition_found place number written topics)

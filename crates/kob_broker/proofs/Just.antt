@@ -2,10 +2,11 @@
 use Rattle.std.proofs.Common.{◌≡◌, ℕ, List, [], ◌∷◌, Some, None, refl, ap, subst, arith, zero, suc}
 use Rattle.std.specs.Prelude.{Option, map}
 use Rattle.std.specs.Option.{option_map}
-use Rattle.kob_names.specs.BindingRules.{drafted}
 use Rattle.kob_authorizer.specs.Contents.{Contents}
 use Rattle.kob_authorizer.proofs.InTurn.{added_rises}
 use Rattle.kob_authorizer.proofs.Rising.{removed_rises}
+use Rattle.kob_rights.specs.Writes.{Write, write_of}
+use Rattle.kob_rights.specs.Writes as writes
 use Rattle.kob_rights.specs.Table.{rights, denial_code}
 use Rattle.kob_rights.specs.declared.check.Check.{Check}
 use Rattle.kob_rights.specs.declared.event.Event.{Event}
@@ -13,9 +14,8 @@ use Rattle.kob_rights.specs.declared.reason.Reason.{Reason}
 use Rattle.kob_rights.specs.declared.reply.Reply.{Reply}
 use Rattle.kob_rights.specs.declared.reply.Reply.TheVariants.{Denied, Refused, Done}
 use Rattle.kob_rights.specs.declared.request.Request.{Request}
-use Rattle.kob_rights.specs.declared.request.Request.TheVariants.{Produce, Fetch, ListOffsets, Metadata, OffsetCommit, OffsetFetch, ListGroups, DeleteGroups, CreateTopics, DeleteTopics, InitProducerId, DescribeAcls, CreateAcls, DeleteAcls}
 use Rattle.kob_broker.specs.Denial.{verdict, unmet, denied}
-use Rattle.kob_broker.specs.Effect.{after, effect_by, named, refusal}
+use Rattle.kob_broker.specs.Effect.{after_write, effect_by, named, refusal}
 use Rattle.kob_broker.specs.InForce.{access_after, changed_access}
 use Rattle.kob_broker.specs.Justice.{EachGranted, EachJust, IsDenial, IsJust}
 use Rattle.kob_partition.specs.Meaning.{Meaning}
@@ -35,24 +35,13 @@ found_denial access event found clause numbered f = record {
 }
 
 -- the bindings after what a request did, where they are numbered
-changed_numbered : (request : Request) (access : Contents) → IsNumbered access → IsNumbered (changed_access request access)
-changed_numbered (Produce produce) access numbered = numbered
-changed_numbered (Fetch fetch) access numbered = numbered
-changed_numbered (ListOffsets asked) access numbered = numbered
-changed_numbered (Metadata asked) access numbered = numbered
-changed_numbered (OffsetCommit commit) access numbered = numbered
-changed_numbered (OffsetFetch asked) access numbered = numbered
-changed_numbered ListGroups access numbered = numbered
-changed_numbered (DeleteGroups delete) access numbered = numbered
-changed_numbered (CreateTopics create) access numbered = numbered
-changed_numbered (DeleteTopics delete) access numbered = numbered
-changed_numbered InitProducerId access numbered = numbered
-changed_numbered (DescribeAcls asked) access numbered = numbered
-changed_numbered (CreateAcls create) access numbered = added_rises access.entries access.next (map drafted create.drafts) numbered
-changed_numbered (DeleteAcls delete) access numbered = removed_rises access.entries access.next delete.filter numbered
+changed_numbered : (write : Option Write) (access : Contents) → IsNumbered access → IsNumbered (changed_access write access)
+changed_numbered (Some (writes.AddBindings create)) access numbered = added_rises access.entries access.next create.drafts numbered
+changed_numbered (Some (writes.RemoveBindings delete)) access numbered = removed_rises access.entries access.next delete.filter numbered
+changed_numbered _ access numbered = numbered
 
 reply_numbered : (reply : Reply) (request : Request) (access : Contents) → IsNumbered access → IsNumbered (access_after reply request access)
-reply_numbered (Done body) request access numbered = changed_numbered request access numbered
+reply_numbered (Done body) request access numbered = changed_numbered (write_of request) access numbered
 reply_numbered (Denied code verdicts) request access numbered = numbered
 reply_numbered (Refused code reason) request access numbered = numbered
 
@@ -76,27 +65,17 @@ module _ {P : Type 0} (m : Meaning P) where
   step_just s event numbered = just_by s event (unmet s.access event 0 (rights event.request)) refl numbered
 
   -- the bindings after one event are those that its reply says
-  after_access : (s : State P) (request : Request) → (after m s (named s request) request).access ≡ changed_access request s.access
-  after_access s (Produce produce) = refl
-  after_access s (Fetch fetch) = refl
-  after_access s (ListOffsets asked) = refl
-  after_access s (Metadata asked) = refl
-  after_access s (OffsetCommit commit) = refl
-  after_access s (OffsetFetch asked) = refl
-  after_access s ListGroups = refl
-  after_access s (DeleteGroups delete) = refl
-  after_access s (CreateTopics create) = refl
-  after_access s (DeleteTopics delete) = refl
-  after_access s InitProducerId = refl
-  after_access s (DescribeAcls asked) = refl
-  after_access s (CreateAcls create) = refl
-  after_access s (DeleteAcls delete) = refl
+  after_access : (s : State P) (found : Option P) (write : Option Write)
+      → (after_write m s found write).access ≡ changed_access write s.access
+  after_access s found (Some (writes.AddBindings create)) = refl
+  after_access s found (Some (writes.RemoveBindings delete)) = refl
+  after_access s found _ = refl
 
   effect_access : (s : State P) (event : Event) (against : Option Reason) →
       let outcome = effect_by m against s (named s event.request) event event.request in
       outcome.state.access ≡ access_after outcome.reply event.request s.access
   effect_access s event (Some reason) = refl
-  effect_access s event None = after_access s event.request
+  effect_access s event None = after_access s (named s event.request) (write_of event.request)
 
   access_by : (s : State P) (event : Event) (found : Option (ℕ × List Check)) →
       let outcome = step_by m (option_map (denied s.access event) found) s event in

@@ -6,6 +6,9 @@ pub mod Batches
 pub mod Clauses
 pub mod Just
 pub mod Lifting
+pub mod Alike
+pub mod Unchanged
+pub mod Denials
 pub mod Shown
 pub mod EachPartition
 pub mod PartitionOffsets

@@ -19,6 +19,9 @@ use Rattle.kob_partition.specs.Meaning.{Meaning, Carries}
 use Rattle.kob_partition.specs.Retained.{Retained, plain_meaning, retained, retained_meaning}
 use Rattle.kob_producers.specs.declared.judge.Judgement.{Judgement}
 use Rattle.kob_producers.specs.declared.judge.Judgement.TheVariants.{Next, Repeat, OutOfOrder, OldEpoch}
+use Rattle.kob_rights.specs.Partitions.{partition_named}
+use Rattle.kob_rights.specs.Writes.{Write, write_of}
+use Rattle.kob_rights.specs.Writes as writes
 use Rattle.kob_rights.specs.declared.event.Event.{Event}
 use Rattle.kob_rights.specs.declared.on_partitions.Fetch.{Fetch as FetchAsked}
 use Rattle.kob_rights.specs.declared.on_partitions.Produce.{Produce as ProduceAsked}
@@ -29,9 +32,9 @@ use Rattle.kob_rights.specs.declared.reply.Body.TheVariants as bodies
 use Rattle.kob_rights.specs.declared.reply.Reply.{Reply}
 use Rattle.kob_rights.specs.declared.reply.Reply.TheVariants.{Done}
 use Rattle.kob_rights.specs.declared.request.Request.{Request}
-use Rattle.kob_rights.specs.declared.request.Request.TheVariants.{Produce, Fetch, ListOffsets, Metadata, OffsetCommit, OffsetFetch, ListGroups, DeleteGroups, CreateTopics, DeleteTopics, InitProducerId, DescribeAcls, CreateAcls, DeleteAcls}
+use Rattle.kob_rights.specs.declared.request.Request.TheVariants.{Produce, Fetch, ListOffsets, Metadata, OffsetCommit, CreateTopics, DeleteTopics}
 use Rattle.kob_broker.specs.Denial.{denial_of}
-use Rattle.kob_broker.specs.Effect.{Outcome, named, reasons_against, body, after, refusal, effect_by, effect}
+use Rattle.kob_broker.specs.Effect.{Outcome, named, partition_in, reasons_against, body, after, after_write, refusal, effect_by, effect}
 use Rattle.kob_broker.specs.Fetch.{fetched_at, is_out_of_range}
 use Rattle.kob_broker.specs.ListOffsets.{offset_at}
 use Rattle.kob_broker.specs.Metadata.{metadata_of, metadata_reasons, topic_found}
@@ -151,21 +154,12 @@ module _ {P Q : Type 0} (m : Meaning P) (n : Meaning Q) (f : P → Q) (c : Carri
       ap (λ j. unless_repeat j (topics_map f topics) (with_partition produce.topic produce.partition (n.append (f p) produce.batch) (topics_map f topics))) (judged_at_alike (Some p) produce.batch)
       ∙ unless_repeat-map f (judged_at m (Some p) produce.batch) topics (with_partition produce.topic produce.partition (m.append p produce.batch) topics) _ written
 
+  in_alike : (topics : List (Topic P)) (name : Option (List ℕ × ℕ)) → partition_in (topics_map f topics) name ≡ option_map f (partition_in topics name)
+  in_alike topics None = refl
+  in_alike topics (Some name) = partition_of-map f name.0 name.1 topics
+
   named_alike : (s : State P) (request : Request) → named (state_map f s) request ≡ option_map f (named s request)
-  named_alike s (Produce produce) = partition_of-map f produce.topic produce.partition s.topics
-  named_alike s (Fetch fetch) = partition_of-map f fetch.topic fetch.partition s.topics
-  named_alike s (ListOffsets asked) = partition_of-map f asked.topic asked.partition s.topics
-  named_alike s (OffsetCommit commit) = partition_of-map f commit.topic commit.partition s.topics
-  named_alike s (Metadata asked) = refl
-  named_alike s (OffsetFetch asked) = refl
-  named_alike s ListGroups = refl
-  named_alike s (DeleteGroups delete) = refl
-  named_alike s (CreateTopics create) = refl
-  named_alike s (DeleteTopics delete) = refl
-  named_alike s InitProducerId = refl
-  named_alike s (DescribeAcls asked) = refl
-  named_alike s (CreateAcls create) = refl
-  named_alike s (DeleteAcls delete) = refl
+  named_alike s request = in_alike s.topics (partition_named request)
 
   reasons_alike : (s : State P) (found : Option P) (request : Request) → reasons_against n (state_map f s) (option_map f found) request ≡ reasons_against m s found request
   reasons_alike s found (Produce produce) =
@@ -174,53 +168,42 @@ module _ {P Q : Type 0} (m : Meaning P) (n : Meaning Q) (f : P → Q) (c : Carri
   reasons_alike s found (ListOffsets asked) = rw (place_of_mapped f asked.topic s.topics, is_some-map f found) refl
   reasons_alike s found (Metadata asked) = metadata_reasons-map f s.topics asked.topic
   reasons_alike s found (OffsetCommit commit) = rw (place_of_mapped f commit.topic s.topics, is_some-map f found) refl
-  reasons_alike s found (OffsetFetch asked) = refl
-  reasons_alike s found ListGroups = refl
-  reasons_alike s found (DeleteGroups delete) = refl
   reasons_alike s found (CreateTopics create) = rw (place_of_mapped f create.name s.topics, length-map s.topics (topic_map f)) refl
   reasons_alike s found (DeleteTopics delete) = rw (place_of_mapped f delete.name s.topics) refl
-  reasons_alike s found InitProducerId = refl
-  reasons_alike s found (DescribeAcls asked) = refl
-  reasons_alike s found (CreateAcls create) = refl
-  reasons_alike s found (DeleteAcls delete) = refl
+  reasons_alike s found _ = refl
 
   body_alike : (s : State P) (found : Option P) (event : Event) (request : Request) → body n (state_map f s) (option_map f found) event request ≡ body m s found event request
   body_alike s found event (Produce produce) = rw (judged_at_alike found produce.batch, end_at_alike found) refl
   body_alike s found event (Fetch fetch) = ap bodies.Records (fetched_alike found fetch)
   body_alike s found event (ListOffsets asked) = ap bodies.Offset (offset_at_alike found asked.which)
   body_alike s found event (Metadata asked) = ap bodies.Topics (metadata-map f s.access event s.topics asked.topic)
-  body_alike s found event (OffsetCommit commit) = refl
-  body_alike s found event (OffsetFetch asked) = refl
-  body_alike s found event ListGroups = refl
-  body_alike s found event (DeleteGroups delete) = refl
-  body_alike s found event (CreateTopics create) = refl
-  body_alike s found event (DeleteTopics delete) = refl
-  body_alike s found event InitProducerId = refl
-  body_alike s found event (DescribeAcls asked) = refl
-  body_alike s found event (CreateAcls create) = refl
-  body_alike s found event (DeleteAcls delete) = refl
+  body_alike s found event _ = refl
 
   new_topic_alike : (name : List ℕ) (partitions : ℕ) → new_topic n name partitions ≡ topic_map f (new_topic m name partitions)
   new_topic_alike name partitions = λ i. record { name = name; partitions = (ap (replicate partitions) (sym c.empty) ∙ replicate-map f partitions m.empty) i }
 
-  after_alike : (s : State P) (found : Option P) (request : Request) → after n (state_map f s) (option_map f found) request ≡ state_map f (after m s found request)
-  after_alike s found (Produce produce) = λ i. record { topics = with_batch_alike found produce s.topics i; groups = s.groups; access = s.access; next_producer = s.next_producer }
-  after_alike s found (CreateTopics create) =
-      let added = ap (λ t. topics_map f s.topics ++ t ∷ []) (new_topic_alike create.name create.partitions) ∙ sym (map-append (topic_map f) s.topics (new_topic m create.name create.partitions ∷ [])) in
+  write_alike : (s : State P) (found : Option P) (write : Option Write)
+      → after_write n (state_map f s) (option_map f found) write ≡ state_map f (after_write m s found write)
+  write_alike s found (Some (writes.Append produce)) = λ i. record {
+    topics = with_batch_alike found produce s.topics i;
+    groups = s.groups;
+    access = s.access;
+    next_producer = s.next_producer;
+  }
+  write_alike s found (Some (writes.AddTopic create)) =
+      let added = ap (λ t. topics_map f s.topics ++ t ∷ []) (new_topic_alike create.name create.partitions)
+      ∙ sym (map-append (topic_map f) s.topics (new_topic m create.name create.partitions ∷ [])) in
       λ i. record { topics = added i; groups = s.groups; access = s.access; next_producer = s.next_producer }
-  after_alike s found (DeleteTopics delete) =
-      λ i. record { topics = without_topic-map f delete.name s.topics i; groups = groups.without_topic delete.name s.groups; access = s.access; next_producer = s.next_producer }
-  after_alike s found (Fetch fetch) = refl
-  after_alike s found (ListOffsets asked) = refl
-  after_alike s found (Metadata asked) = refl
-  after_alike s found (OffsetCommit commit) = refl
-  after_alike s found (OffsetFetch asked) = refl
-  after_alike s found ListGroups = refl
-  after_alike s found (DeleteGroups delete) = refl
-  after_alike s found InitProducerId = refl
-  after_alike s found (DescribeAcls asked) = refl
-  after_alike s found (CreateAcls create) = refl
-  after_alike s found (DeleteAcls delete) = refl
+  write_alike s found (Some (writes.RemoveTopic delete)) = λ i. record {
+    topics = without_topic-map f delete.name s.topics i;
+    groups = groups.without_topic delete.name s.groups;
+    access = s.access;
+    next_producer = s.next_producer;
+  }
+  write_alike s found _ = refl
+
+  after_alike : (s : State P) (found : Option P) (request : Request) → after n (state_map f s) (option_map f found) request ≡ state_map f (after m s found request)
+  after_alike s found request = write_alike s found (write_of request)
 
   effect_by_alike : (against : Option Reason) (s : State P) (found : Option P) (event : Event) (request : Request)
       → effect_by n against (state_map f s) (option_map f found) event request ≡ outcome_map f (effect_by m against s found event request)

@@ -1,70 +1,109 @@
--- What a filter leaves stands in the list and passes the test.
-use Rattle.std.proofs.Common.{◌≡◌, ◌↔◌, ℕ, Bool, true, false, cond, filter, List, [], ◌∷◌, map, refl, sym, ap, ◌∙◌, inl, inr}
-use Rattle.std.specs.Prelude.{◌⊎◌}
+-- What a filter leaves stands in the list and passes the test, in the list's order.
+use Rattle.std.proofs.Common.{◌≡◌, ◌↔◌, ℕ, Bool, true, false, cond, filter, List, [], ◌∷◌, map, refl, sym, ap, subst, ◌∙◌, inl, inr}
+use Rattle.std.specs.Prelude.{IsTrue, ◌⊎◌}
 use Rattle.kob_catalog.specs.Topics.{Topic, listed, listed_where}
+use Rattle.kob_partition.specs.Meaning.{Meaning}
 use Rattle.kob_rights.specs.declared.event.Event.{Event}
-use Rattle.kob_broker.specs.ListGroups.{describes_cluster, describes_group}
-use Rattle.kob_broker.specs.Listings.{ListsGroups, ListsTopics, StandsIn}
+use Rattle.kob_broker.specs.ListGroups.{describes_cluster, describes_group, groups_shown}
+use Rattle.kob_broker.specs.Listings.{AreThose, Lists, ListsGroups, ListsTopics, StandsIn}
 use Rattle.kob_broker.specs.Metadata.{describes_topic}
 use Rattle.kob_broker.specs.State.{State}
+
+module _ {A : Type 0} (shown : A → Type 0) where
+  -- one more that is not shown
+  not_listed : (xs : List A) (y : A) (ys : List A) → ¬ shown y → AreThose shown xs ys → AreThose shown xs (y ∷ ys)
+  not_listed [] y ys hidden rest = (hidden, rest)
+  not_listed (x ∷ xs) y ys hidden rest = inr (hidden, rest)
+
+  -- where all are shown, all are listed
+  all_in_order : (all : List A) → ((x : A) → shown x) → AreThose shown all all
+  all_in_order [] each = tt
+  all_in_order (x ∷ xs) each = inl (each x, (refl, all_in_order xs each))
+
+  pub lists_all : (all : List A) → ((x : A) → shown x) → Lists shown all all
+  lists_all all each = record {
+    holds = λ x. (λ here. (each x, here), λ both. both.1);
+    in_order = all_in_order all each;
+  }
+
+  -- a test that tells what is shown
+  module _ (test : A → Bool) (yes : (x : A) → test x ≡ true → shown x) (no : (x : A) → shown x → test x ≡ true) where
+    hidden_by : (x : A) → test x ≡ false → ¬ shown x
+    hidden_by x is there = let untrue : true ≡ false = sym (no x there) ∙ is in cc
+
+    holds_step : (x y : A) (ys : List A) (b : Bool) → test y ≡ b → StandsIn x (filter test ys) ↔ (shown x × StandsIn x ys)
+        → StandsIn x (cond b (y ∷ filter test ys) (filter test ys)) ↔ (shown x × ((x ≡ y) ⊎ StandsIn x ys))
+    holds_step x y ys true is rest = (
+      λ here. elim here [
+        | inl same ↦ (subst shown (sym same) (yes y is), inl same)
+        | inr later ↦ ((rest.0 later).0, inr (rest.0 later).1)
+      ],
+      λ both. elim both.1 [ inl same ↦ inl same | inr later ↦ inr (rest.1 (both.0, later)) ],
+    )
+    holds_step x y ys false is rest = (
+      λ here. ((rest.0 here).0, inr (rest.0 here).1),
+      λ both. elim both.1 [
+        | inl same ↦ absurd (hidden_by y is (subst shown same both.0))
+        | inr later ↦ rest.1 (both.0, later)
+      ],
+    )
+
+    holds_of : (x : A) (all : List A) → StandsIn x (filter test all) ↔ (shown x × StandsIn x all)
+    holds_of x [] = (λ nowhere. absurd nowhere, λ both. both.1)
+    holds_of x (y ∷ ys) = holds_step x y ys (test y) refl (holds_of x ys)
+
+    order_step : (y : A) (ys : List A) (b : Bool) → test y ≡ b → AreThose shown (filter test ys) ys
+        → AreThose shown (cond b (y ∷ filter test ys) (filter test ys)) (y ∷ ys)
+    order_step y ys true is rest = inl (yes y is, (refl, rest))
+    order_step y ys false is rest = not_listed (filter test ys) y ys (hidden_by y is) rest
+
+    order_of : (all : List A) → AreThose shown (filter test all) all
+    order_of [] = tt
+    order_of (y ∷ ys) = order_step y ys (test y) refl (order_of ys)
+
+    pub lists_passing : (all : List A) → Lists shown (filter test all) all
+    lists_passing all = record { holds = λ x. holds_of x all; in_order = order_of all }
 
 abbrev Pair : Type 0
 Pair = List ℕ × ℕ
 
-module _ {P : Type 0} (granted : List ℕ → Bool) (name : List ℕ) (partitions : ℕ) where
-  topic_step : (topic : Topic P) (topics : List (Topic P)) (b : Bool) → granted topic.name ≡ b
-      → StandsIn (name, partitions) (listed_where granted topics) ↔ ((granted name ≡ true) × StandsIn (name, partitions) (map listed topics))
-      → StandsIn (name, partitions) (map listed (cond b (topic ∷ filter (λ (t : Topic P). granted t.name) topics) (filter (λ (t : Topic P). granted t.name) topics)))
-      ↔ ((granted name ≡ true) × (((name, partitions) ≡ listed topic) ⊎ StandsIn (name, partitions) (map listed topics)))
-  topic_step topic topics true is rest = (
-    λ here. elim here [
-      | inl same ↦ (ap (λ (p : Pair). granted p.0) same ∙ is, inl same)
-      | inr later ↦ ((rest.0 later).0, inr (rest.0 later).1)
-    ],
-    λ both. elim both.1 [ inl same ↦ inl same | inr later ↦ inr (rest.1 (both.0, later)) ],
-  )
-  topic_step topic topics false is rest = (
-    λ here. ((rest.0 here).0, inr (rest.0 here).1),
-    λ both. elim both.1 [
-      | inl same ↦ absurd (let untrue : true ≡ false = sym both.0 ∙ ap (λ (p : Pair). granted p.0) same ∙ is in cc)
-      | inr later ↦ rest.1 (both.0, later)
-    ],
-  )
+-- the topics that are listed are those of the listing of all whose name is granted
+listed_step : {P : Type 0} (granted : List ℕ → Bool) (topic : Topic P) (topics : List (Topic P)) (b : Bool)
+    → listed_where granted topics ≡ filter (λ (p : Pair). granted p.0) (map listed topics)
+    → map listed (cond b (topic ∷ filter (λ (t : Topic P). granted t.name) topics) (filter (λ (t : Topic P). granted t.name) topics))
+    ≡ cond b (listed topic ∷ filter (λ (p : Pair). granted p.0) (map listed topics)) (filter (λ (p : Pair). granted p.0) (map listed topics))
+listed_step granted topic topics true rest = ap (λ ps. listed topic ∷ ps) rest
+listed_step granted topic topics false rest = rest
 
-  topics_shown : (topics : List (Topic P)) → StandsIn (name, partitions) (listed_where granted topics) ↔ ((granted name ≡ true) × StandsIn (name, partitions) (map listed topics))
-  topics_shown [] = (λ nowhere. absurd nowhere, λ both. both.1)
-  topics_shown (topic ∷ topics) = topic_step topic topics (granted topic.name) refl (topics_shown topics)
+listed_filter : {P : Type 0} (granted : List ℕ → Bool) (topics : List (Topic P))
+    → listed_where granted topics ≡ filter (λ (p : Pair). granted p.0) (map listed topics)
+listed_filter granted [] = refl
+listed_filter granted (topic ∷ topics) = listed_step granted topic topics (granted topic.name) (listed_filter granted topics)
 
-module _ (granted : List ℕ → Bool) (name : List ℕ) where
-  name_step : (first : List ℕ) (names : List (List ℕ)) (b : Bool) → granted first ≡ b
-      → StandsIn name (filter granted names) ↔ ((granted name ≡ true) × StandsIn name names)
-      → StandsIn name (cond b (first ∷ filter granted names) (filter granted names)) ↔ ((granted name ≡ true) × ((name ≡ first) ⊎ StandsIn name names))
-  name_step first names true is rest = (
-    λ here. elim here [ inl same ↦ (ap granted same ∙ is, inl same) | inr later ↦ ((rest.0 later).0, inr (rest.0 later).1) ],
-    λ both. elim both.1 [ inl same ↦ inl same | inr later ↦ inr (rest.1 (both.0, later)) ],
-  )
-  name_step first names false is rest = (
-    λ here. ((rest.0 here).0, inr (rest.0 here).1),
-    λ both. elim both.1 [
-      | inl same ↦ absurd (let untrue : true ≡ false = sym both.0 ∙ ap granted same ∙ is in cc)
-      | inr later ↦ rest.1 (both.0, later)
-    ],
+topics_listed : {P : Type 0} (granted : List ℕ → Bool) (topics : List (Topic P))
+    → Lists (λ (p : Pair). IsTrue (granted p.0)) (listed_where granted topics) (map listed topics)
+topics_listed granted topics =
+    subst (λ ps. Lists (λ (p : Pair). IsTrue (granted p.0)) ps (map listed topics)) (sym (listed_filter granted topics))
+    (lists_passing (λ (p : Pair). IsTrue (granted p.0)) (λ (p : Pair). granted p.0) (λ p is. is) (λ p is. is) (map listed topics))
+
+groups_listed : (cluster : Bool) (granted : List ℕ → Bool) (names : List (List ℕ))
+    → Lists (λ name. IsTrue cluster ⊎ IsTrue (granted name)) (cond cluster names (filter granted names)) names
+groups_listed true granted names = lists_all (λ name. IsTrue true ⊎ IsTrue (granted name)) names (λ name. inl refl)
+groups_listed false granted names =
+    lists_passing (λ name. IsTrue false ⊎ IsTrue (granted name)) granted (λ name is. inr is)
+    (λ name either. elim either [ inl untrue ↦ absurd (let false_is : false ≡ true = untrue in cc) | inr is ↦ is ]) names
+
+module _ {P : Type 0} (m : Meaning P) where
+  pub lists_topics : (s : State P) (event : Event) → ListsTopics m s event
+  lists_topics s event asks = (
+    listed_where (describes_topic s.access event) s.topics,
+    rw asks refl,
+    topics_listed (describes_topic s.access event) s.topics,
   )
 
-  names_shown : (names : List (List ℕ)) → StandsIn name (filter granted names) ↔ ((granted name ≡ true) × StandsIn name names)
-  names_shown [] = (λ nowhere. absurd nowhere, λ both. both.1)
-  names_shown (first ∷ names) = name_step first names (granted first) refl (names_shown names)
-
-pub lists_topics : {P : Type 0} (s : State P) (event : Event) → ListsTopics s event
-lists_topics s event name partitions = topics_shown (describes_topic s.access event) name partitions s.topics
-
-groups_by : (cluster : Bool) (granted : List ℕ → Bool) (name : List ℕ) (names : List (List ℕ))
-    → StandsIn name (cond cluster names (filter granted names)) ↔ (((cluster ≡ true) ⊎ (granted name ≡ true)) × StandsIn name names)
-groups_by true granted name names = (λ here. (inl refl, here), λ both. both.1)
-groups_by false granted name names = (
-  λ here. (inr ((names_shown granted name names).0 here).0, ((names_shown granted name names).0 here).1),
-  λ both. elim both.0 [ inl untrue ↦ absurd (let false_is : false ≡ true = untrue in cc) | inr shown ↦ (names_shown granted name names).1 (shown, both.1) ],
-)
-
-pub lists_groups : {P : Type 0} (s : State P) (event : Event) → ListsGroups s event
-lists_groups s event name = groups_by (describes_cluster s.access event) (describes_group s.access event) name s.groups.names
+  pub lists_groups : (s : State P) (event : Event) → ListsGroups m s event
+  lists_groups s event asks = (
+    groups_shown s.access event s.groups.names,
+    rw asks refl,
+    groups_listed (describes_cluster s.access event) (describes_group s.access event) s.groups.names,
+  )

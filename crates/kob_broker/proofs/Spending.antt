@@ -3,37 +3,38 @@ use Rattle.std.proofs.Common.{◌≡◌, ℕ, ◌+◌, ◌≤◌, Bool, true, fa
 use Rattle.std.specs.List.{flat_map, fold}
 use Rattle.std.specs.Option.{option_map}
 use Rattle.std.proofs.lemmas.Bool.Decides.{nat_tests}
-use Rattle.std.proofs.lemmas.List.{length-map}
 use Rattle.std.proofs.lemmas.List.Elements.{All-cons, All-nil, All-push, All-replicate, All-weaker}
 use Rattle.kob_authorizer.specs.Creation.{Added, add_one, added, placed, serial_of}
-use Rattle.kob_authorizer.specs.Limits.{create_fault}
-use Rattle.kob_authorizer.specs.declared.limits.TheConstants.{BINDING_LIMIT, SERIAL_LIMIT}
+use Rattle.kob_authorizer.specs.Passing.{create_fault}
+use Rattle.kob_authorizer.specs.Limits.{binding_limit, serial_limit}
 use Rattle.kob_authorizer.specs.declared.fault.CreateFault.TheVariants.{TooMany, SerialsSpent}
 use Rattle.kob_catalog.specs.Topics.{Topic, place_of, with_partition}
-use Rattle.kob_names.specs.BindingRules.{drafted}
-use Rattle.kob_names.specs.declared.binding.Binding.{Binding}
-use Rattle.kob_names.specs.declared.binding.Draft.{Draft}
+use Rattle.kob_names.specs.Binding.{Binding}
+use Rattle.kob_names.specs.declared.settings.Settings.{Settings}
+use Rattle.kob_names.specs.declared.draft.Draft.{Draft}
 use Rattle.kob_partition.proofs.Keeping.{records_of-push}
 use Rattle.kob_partition.specs.Append.{batch_judged, unless_repeat}
 use Rattle.kob_partition.specs.Batches.{Plain, records_of}
 use Rattle.kob_partition.specs.Retained.{plain_meaning}
-use Rattle.kob_partition.specs.declared.limits.TheConstants.{OFFSET_LIMIT}
+use Rattle.kob_partition.specs.Limits.{offset_limit}
 use Rattle.kob_producers.specs.declared.judge.Judgement.{Judgement}
 use Rattle.kob_producers.specs.declared.judge.Judgement.TheVariants.{Next, Repeat, OutOfOrder, OldEpoch}
 use Rattle.kob_rights.specs.Table.{rights}
+use Rattle.kob_rights.specs.Writes.{Write, write_of}
+use Rattle.kob_rights.specs.Writes as writes
 use Rattle.kob_rights.specs.declared.check.Check.{Check}
 use Rattle.kob_rights.specs.declared.event.Event.{Event}
 use Rattle.kob_rights.specs.declared.on_partitions.Produce.{Produce as ProduceAsked}
 use Rattle.kob_rights.specs.declared.reason.Reason.{Reason}
 use Rattle.kob_rights.specs.declared.request.Request.{Request}
-use Rattle.kob_rights.specs.declared.request.Request.TheVariants.{Produce, Fetch, ListOffsets, Metadata, OffsetCommit, OffsetFetch, ListGroups, DeleteGroups, CreateTopics, DeleteTopics, InitProducerId, DescribeAcls, CreateAcls, DeleteAcls}
-use Rattle.kob_broker.specs.CreateAcls.{bindings_of, draft_reasons, limit_reasons}
+use Rattle.kob_rights.specs.declared.request.Request.TheVariants.{Produce, Metadata, InitProducerId, CreateAcls}
+use Rattle.kob_broker.specs.CreateAcls.{draft_reasons, limit_reasons}
 use Rattle.kob_broker.specs.Denial.{denied, unmet}
-use Rattle.kob_broker.specs.Effect.{Outcome, after, effect_by, named, reasons_against, refusal}
+use Rattle.kob_broker.specs.Effect.{Outcome, after_write, effect_by, named, reasons_against, refusal}
 use Rattle.kob_broker.specs.Named.{end_at}
 use Rattle.kob_broker.specs.Produce.{is_next, judged_at, with_batch}
 use Rattle.kob_broker.specs.Reasons.{first_reason}
-use Rattle.kob_broker.specs.Spending.{SaysNothingSpent, asked_by, asked_in, is_spent}
+use Rattle.kob_broker.specs.Spending.{SaysNothingSpent, asked_by, asked_in, asked_of, is_spent}
 use Rattle.kob_broker.specs.State.{State, open_state}
 use Rattle.kob_broker.specs.Step.{replies_of, step, step_by}
 use Rattle.kob_broker.proofs.EachPartition.{EachOf, of_request, once_removed, once_written}
@@ -110,38 +111,29 @@ only_last : (test last : Bool) → last ≡ false → ((test && last) || false) 
 only_last true last none = grind (arith, nat_tests)
 only_last false last none = refl
 
-produce_spends : (found : Option Plain) (produce : ProduceAsked) (n : ℕ) → IfSome found (UpTo n) → n + length produce.batch.records ≤ OFFSET_LIMIT
-    → nat_lt OFFSET_LIMIT (end_at plain_meaning found + length produce.batch.records) ≡ false
+produce_spends : (found : Option Plain) (produce : ProduceAsked) (n : ℕ) → IfSome found (UpTo n) → n + length produce.batch.records ≤ offset_limit
+    → nat_lt offset_limit (end_at plain_meaning found + length produce.batch.records) ≡ false
 produce_spends None produce n short few = le-ltb _ _ (omega (arith, few))
 produce_spends (Some partition) produce n short few = le-ltb _ _ (omega (arith, few, short))
 
-request_spends : (n : ℕ) (s : State Plain) (found : Option Plain) (request : Request) → AskedUpTo n s → IfSome found (UpTo n) → n + asked_by request ≤ OFFSET_LIMIT
+request_spends : (n : ℕ) (s : State Plain) (found : Option Plain) (request : Request) → AskedUpTo n s → IfSome found (UpTo n) → n + asked_by request ≤ offset_limit
     → spends (reasons_against plain_meaning s found request) ≡ false
 request_spends n s found (Produce produce) asked short few =
     only_last (is_next (judged_at plain_meaning found produce.batch)) _ (produce_spends found produce n short few)
 request_spends n s found (CreateAcls create) asked short few =
     let access = s.access in
-    let after : Added = added access.entries access.next (bindings_of create) in
-    let more = added_next (bindings_of create) (record { entries = access.entries; next = access.next; serials = [] }) in
-    let fits : after.next ≤ SERIAL_LIMIT = omega (arith, more, length-map create.drafts drafted, asked.serials, few) in
-    spends_append (flat_map draft_reasons create.drafts) (limit_reasons (create_fault access.entries access.next (bindings_of create))) (drafts_spend create.drafts)
-    (limits_spend (nat_lt BINDING_LIMIT (length after.entries)) (nat_lt SERIAL_LIMIT after.next) (le-ltb SERIAL_LIMIT after.next fits))
+    let after : Added = added access.entries access.next create.drafts in
+    let more = added_next create.drafts (record { entries = access.entries; next = access.next; serials = [] }) in
+    let fits : after.next ≤ serial_limit = omega (arith, more, asked.serials, few) in
+    spends_append (flat_map draft_reasons create.drafts) (limit_reasons (create_fault access.entries access.next create.drafts)) (drafts_spend create.drafts)
+    (limits_spend (nat_lt binding_limit (length after.entries)) (nat_lt serial_limit after.next) (le-ltb serial_limit after.next fits))
 request_spends n s found InitProducerId asked short few = only_last true _ (search (arith, nat_tests, asked.producers, few))
-request_spends n s found (Fetch fetch) asked short few = refl
-request_spends n s found (ListOffsets offsets) asked short few = refl
-request_spends n s found (OffsetCommit commit) asked short few = refl
-request_spends n s found (OffsetFetch fetch) asked short few = refl
-request_spends n s found ListGroups asked short few = refl
-request_spends n s found (DeleteGroups delete) asked short few = refl
-request_spends n s found (CreateTopics create) asked short few = refl
-request_spends n s found (DeleteTopics delete) asked short few = refl
-request_spends n s found (DescribeAcls describe) asked short few = refl
-request_spends n s found (DeleteAcls delete) asked short few = refl
 request_spends n s found (Metadata metadata) asked short few = metadata_spends metadata.topic
   where
     metadata_spends : (topic : Option (List ℕ)) → spends (reasons_against plain_meaning s found (Metadata (record { topic = topic }))) ≡ false
     metadata_spends None = refl
     metadata_spends (Some name) = refl
+request_spends n s found _ asked short few = refl
 
 -- what is left of a request has no more than was asked for
 put_up_to : (judgement : Judgement) (partition : Plain) (produce : ProduceAsked) (n : ℕ) (topics : List (Topic Plain)) → UpTo n partition
@@ -169,37 +161,35 @@ batch_up_to : (found : Option Plain) (produce : ProduceAsked) (n : ℕ) (topics 
 batch_up_to None produce n topics short all = all
 batch_up_to (Some partition) produce n topics short all = put_up_to (batch_judged plain_meaning partition produce.batch) partition produce n topics short all
 
-after_asked : (n : ℕ) (s : State Plain) (found : Option Plain) (request : Request) → AskedUpTo n s → IfSome found (UpTo n)
-    → AskedUpTo (n + asked_by request) (after plain_meaning s found request)
-after_asked n s found (Produce produce) asked short =
+after_asked : (n : ℕ) (s : State Plain) (found : Option Plain) (write : Option Write) → AskedUpTo n s → IfSome found (UpTo n)
+    → AskedUpTo (n + asked_of write) (after_write plain_meaning s found write)
+after_asked n s found None asked short = grown n 0 s asked
+after_asked n s found (Some (writes.Append produce)) asked short =
     let all = grown n (length produce.batch.records) s asked in
     record { topics = batch_up_to found produce n s.topics short all.topics; producers = all.producers; serials = all.serials }
-after_asked n s found (CreateTopics create) asked short =
+after_asked n s found (Some (writes.AddTopic create)) asked short =
     let all = grown n 0 s asked in
     record {
       topics = All-push (EachOf (UpTo (n + 0))) s.topics _ all.topics (All-replicate (UpTo (n + 0)) create.partitions plain_meaning.empty (omega arith));
       producers = all.producers;
       serials = all.serials;
     }
-after_asked n s found (DeleteTopics delete) asked short =
+after_asked n s found (Some (writes.RemoveTopic delete)) asked short =
     let all = grown n 0 s asked in
     record { topics = once_removed (UpTo (n + 0)) (place_of delete.name s.topics) s.topics all.topics; producers = all.producers; serials = all.serials }
-after_asked n s found InitProducerId asked short =
+after_asked n s found (Some writes.GiveProducerId) asked short =
     let all = grown n 1 s asked in
     record { topics = all.topics; producers = omega (arith, asked.producers); serials = all.serials }
-after_asked n s found (CreateAcls create) asked short =
+after_asked n s found (Some (writes.AddBindings create)) asked short =
     let all = grown n (length create.drafts) s asked in
-    let more = added_next (bindings_of create) (record { entries = s.access.entries; next = s.access.next; serials = [] }) in
-    record { topics = all.topics; producers = all.producers; serials = omega (arith, more, length-map create.drafts drafted, asked.serials) }
-after_asked n s found (OffsetCommit commit) asked short = let all = grown n 0 s asked in record { topics = all.topics; producers = all.producers; serials = all.serials }
-after_asked n s found (DeleteGroups delete) asked short = let all = grown n 0 s asked in record { topics = all.topics; producers = all.producers; serials = all.serials }
-after_asked n s found (DeleteAcls delete) asked short = let all = grown n 0 s asked in record { topics = all.topics; producers = all.producers; serials = all.serials }
-after_asked n s found (Fetch fetch) asked short = grown n 0 s asked
-after_asked n s found (ListOffsets offsets) asked short = grown n 0 s asked
-after_asked n s found (Metadata metadata) asked short = grown n 0 s asked
-after_asked n s found (OffsetFetch fetch) asked short = grown n 0 s asked
-after_asked n s found ListGroups asked short = grown n 0 s asked
-after_asked n s found (DescribeAcls describe) asked short = grown n 0 s asked
+    let more = added_next create.drafts (record { entries = s.access.entries; next = s.access.next; serials = [] }) in
+    record { topics = all.topics; producers = all.producers; serials = omega (arith, more, asked.serials) }
+after_asked n s found (Some (writes.CommitOffset commit)) asked short =
+    let all = grown n 0 s asked in record { topics = all.topics; producers = all.producers; serials = all.serials }
+after_asked n s found (Some (writes.RemoveGroup delete)) asked short =
+    let all = grown n 0 s asked in record { topics = all.topics; producers = all.producers; serials = all.serials }
+after_asked n s found (Some (writes.RemoveBindings delete)) asked short =
+    let all = grown n 0 s asked in record { topics = all.topics; producers = all.producers; serials = all.serials }
 
 record OutcomeAsked (n : ℕ) (outcome : Outcome Plain) : Type 0 where
   reply : SaysNothingSpent outcome.reply
@@ -209,9 +199,9 @@ effect_asked : (against : Option Reason) (n : ℕ) (s : State Plain) (event : Ev
     → OutcomeAsked (n + asked_by request) (effect_by plain_meaning against s (named s request) event request)
 effect_asked (Some reason) n s event request asked unspent = record { reply = unspent; state = grown n (asked_by request) s asked }
 effect_asked None n s event request asked unspent =
-    record { reply = tt; state = after_asked n s (named s request) request asked (of_request (UpTo n) s request asked.topics) }
+    record { reply = tt; state = after_asked n s (named s request) (write_of request) asked (of_request (UpTo n) s request asked.topics) }
 
-by_asked : (found : Option (ℕ × List Check)) (n : ℕ) (s : State Plain) (event : Event) → AskedUpTo n s → n + asked_by event.request ≤ OFFSET_LIMIT
+by_asked : (found : Option (ℕ × List Check)) (n : ℕ) (s : State Plain) (event : Event) → AskedUpTo n s → n + asked_by event.request ≤ offset_limit
     → OutcomeAsked (n + asked_by event.request) (step_by plain_meaning (option_map (denied s.access event) found) s event)
 by_asked (Some blamed) n s event asked few = record { reply = tt; state = grown n (asked_by event.request) s asked }
 by_asked None n s event asked few =
@@ -220,12 +210,12 @@ by_asked None n s event asked few =
     effect_asked (refusal plain_meaning s request) n s event request asked
     (first_unspent (reasons_against plain_meaning s found request) (request_spends n s found request asked (of_request (UpTo n) s request asked.topics) few))
 
-step_asked : (n : ℕ) (s : State Plain) (event : Event) → AskedUpTo n s → n + asked_by event.request ≤ OFFSET_LIMIT
+step_asked : (n : ℕ) (s : State Plain) (event : Event) → AskedUpTo n s → n + asked_by event.request ≤ offset_limit
     → OutcomeAsked (n + asked_by event.request) (step plain_meaning s event)
 step_asked n s event asked few = by_asked (unmet s.access event 0 (rights event.request)) n s event asked few
 
 -- and so through a run
-replies_asked : (events : List Event) (n : ℕ) (s : State Plain) → AskedUpTo n s → n + asked_in events ≤ OFFSET_LIMIT
+replies_asked : (events : List Event) (n : ℕ) (s : State Plain) → AskedUpTo n s → n + asked_in events ≤ offset_limit
     → All SaysNothingSpent (replies_of plain_meaning events s)
 replies_asked [] n s asked few = All-nil SaysNothingSpent
 replies_asked (event ∷ events) n s asked few =
@@ -233,10 +223,11 @@ replies_asked (event ∷ events) n s asked few =
     All-cons SaysNothingSpent (step plain_meaning s event).reply (replies_of plain_meaning events (step plain_meaning s event).state)
     done.reply (replies_asked events (n + asked_by event.request) (step plain_meaning s event).state done.state (omega (arith, few)))
 
-pub nothing_spent : (supers : List (List ℕ)) (bindings : List Binding) (events : List Event) → length bindings + asked_in events ≤ OFFSET_LIMIT
-    → All SaysNothingSpent (replies_of plain_meaning events (open_state supers bindings))
-nothing_spent supers bindings events few =
-    let opened : State Plain = open_state supers bindings in
+pub nothing_spent : (settings : Settings) (events : List Event) → length settings.opening + asked_in events ≤ offset_limit
+    → All SaysNothingSpent (replies_of plain_meaning events (open_state settings))
+nothing_spent settings events few =
+    let bindings = settings.opening in
+    let opened : State Plain = open_state settings in
     let more = added_next bindings (record { entries = []; next = 1; serials = [] }) in
     replies_asked events (length bindings) opened
     (record { topics = All-nil (EachOf (UpTo (length bindings))); producers = omega arith; serials = omega (arith, more) }) few

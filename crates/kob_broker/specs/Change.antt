@@ -15,7 +15,7 @@ use Rattle.kob_broker.specs.declared.broker.Broker.{Broker}
 use Rattle.kob_broker.specs.declared.prepared.Change.{Change}
 use Rattle.kob_broker.specs.declared.prepared.Change.TheVariants.{Unchanged, AddTopic, RemoveTopic, AddBindings, RemoveBindings, Append, Commit, RemoveGroup, GiveProducer}
 use Rattle.kob_broker.specs.declared.prepared.Prepared.{Prepared}
-use Rattle.kob_broker.specs.declared.limits.TheConstants.{PRODUCER_LIMIT}
+use Rattle.kob_broker.specs.Limits.{producer_limit}
 use Rattle.kob_broker.specs.DeleteTopics.{delete_topics_after}
 use Rattle.kob_broker.specs.Effect.{Outcome, effect}
 use Rattle.kob_broker.specs.State.{State}
@@ -32,16 +32,20 @@ state_of broker = record {
 -- the state after a change
 abbrev pub changed : Change → Broker → State Retained
 changed Unchanged broker = state_of broker
-changed (AddTopic made) broker = record (state_of broker) { topics = topics_of broker.catalog ++ topic_map kept_of made ∷ [] }
+changed (AddTopic made) broker =
+    record (state_of broker) { topics = topics_of broker.catalog ++ topic_map kept_of made ∷ [] }
 changed (RemoveTopic name) broker = delete_topics_after (state_of broker) name
-changed (AddBindings made) broker = record (state_of broker) { access = with_creation broker.authorizer.contents made }
-changed (RemoveBindings made) broker = record (state_of broker) { access = without_taken made.filter broker.authorizer.contents }
+changed (AddBindings made) broker =
+    record (state_of broker) { access = with_creation broker.authorizer.contents made }
+changed (RemoveBindings made) broker =
+    record (state_of broker) { access = without_taken made.filter broker.authorizer.contents }
 changed (Append place partition batch) broker = record (state_of broker) {
   topics = with_partition_at place partition
       (retained_meaning.append (catalog_log broker.catalog place partition).kept batch) (topics_of broker.catalog);
 }
 changed (Commit made) broker = record (state_of broker) { groups = groups.with_commit made.place made.offset broker.groups.groups }
-changed (RemoveGroup name) broker = record (state_of broker) { groups = groups.without_group name broker.groups.groups }
+changed (RemoveGroup name) broker =
+    record (state_of broker) { groups = groups.without_group name broker.groups.groups }
 changed GiveProducer broker = record (state_of broker) { next_producer = broker.next_producer + 1 }
 
 -- there is room for the change, and its place is there
@@ -52,10 +56,11 @@ CanCommit (RemoveTopic name) broker = Unit {0}
 CanCommit (AddBindings made) broker = CanCreate made broker.authorizer
 CanCommit (RemoveBindings made) broker = CanDelete made broker.authorizer
 CanCommit (Append place partition batch) broker =
-    HasPartition broker.catalog.logs place partition × CanAppend (catalog_log broker.catalog place partition) batch
+    HasPartition broker.catalog.logs place partition
+    × CanAppend (catalog_log broker.catalog place partition) batch
 CanCommit (Commit made) broker = groups.CanCommit made broker.groups
 CanCommit (RemoveGroup name) broker = groups.has_group name broker.groups.groups ≡ true
-CanCommit GiveProducer broker = broker.next_producer < PRODUCER_LIMIT
+CanCommit GiveProducer broker = broker.next_producer < producer_limit
 
 -- the reply that is prepared, the state that its change leaves, and that there is room for it
 abbrev pub reply_of : Prepared → Reply
@@ -75,4 +80,5 @@ pub record Makes (outcome : Outcome Retained) (broker : Broker) (prepared : Prep
 
 -- what is prepared makes the effect of the request, whoever asks
 abbrev pub MakesFor : Request → Broker → Prepared → Type 0
-MakesFor request broker prepared = (event : Event) → Makes (effect retained_meaning (state_of broker) event request) broker prepared
+MakesFor request broker prepared = (event : Event)
+    → Makes (effect retained_meaning (state_of broker) event request) broker prepared

@@ -1,15 +1,12 @@
 -- The creation of bindings.
-use Rattle.std.specs.Prelude.{◌≡◌, Bool, true, not, ◌&&◌, ◌==◌, nat_lt, ℕ, List, [], ◌∷◌, ◌++◌, Option, Some, None, length, map, codes}
+use Rattle.std.specs.Prelude.{◌≡◌, Bool, true, ◌==◌, nat_lt, ℕ, List, [], ◌∷◌, ◌++◌, Option, Some, None, length}
 use Rattle.std.specs.List.{flat_map}
-use Rattle.kob_names.specs.BindingRules.{drafted}
-use Rattle.kob_names.specs.Same.{same_text, same_resource}
-use Rattle.kob_names.specs.declared.binding.Binding.{Binding}
-use Rattle.kob_names.specs.declared.binding.Draft.{Draft}
-use Rattle.kob_names.specs.declared.kinds.ResourceKind.TheVariants.{Cluster}
-use Rattle.kob_names.specs.declared.limits.TheConstants.{NAME_LIMIT}
+use Rattle.kob_names.specs.BindingRules.{is_bad_cluster}
+use Rattle.kob_names.specs.declared.draft.Draft.{Draft}
+use Rattle.kob_names.specs.Limits.{name_limit}
 use Rattle.kob_authorizer.specs.Creation.{added}
 use Rattle.kob_authorizer.specs.Contents.{Contents}
-use Rattle.kob_authorizer.specs.Limits.{create_fault}
+use Rattle.kob_authorizer.specs.Passing.{create_fault}
 use Rattle.kob_authorizer.specs.declared.fault.CreateFault.{CreateFault}
 use Rattle.kob_authorizer.specs.declared.fault.CreateFault.TheVariants as limits
 use Rattle.kob_rights.specs.declared.reason.Reason.{Reason}
@@ -22,8 +19,8 @@ use Rattle.kob_broker.specs.declared.create_acls.DraftFault.TheVariants.{Refused
 abbrev pub draft_reasons : Draft → List (Bool × Reason)
 draft_reasons draft =
     (length draft.pattern.name == 0, reasons.EmptyName)
-    ∷ (same_resource draft.resource Cluster && not (same_text draft.pattern.name (codes "kafka-cluster")), reasons.BadCluster)
-    ∷ (nat_lt NAME_LIMIT (length draft.pattern.name), reasons.NameTooLong)
+    ∷ (is_bad_cluster draft, reasons.BadCluster)
+    ∷ (nat_lt name_limit (length draft.pattern.name), reasons.NameTooLong)
     ∷ []
 
 -- the limit that the new bindings would pass
@@ -33,17 +30,14 @@ limit_reasons (Some limits.TooMany) = (true, reasons.TooManyBindings) ∷ []
 limit_reasons (Some limits.SerialsSpent) = (true, reasons.SerialsSpent) ∷ []
 limit_reasons (Some limits.Memory) = []
 
--- the bindings that the drafts are
-abbrev pub bindings_of : CreateAcls → List Binding
-bindings_of create = map drafted create.drafts
-
 abbrev pub create_acls_reasons : Contents → CreateAcls → List (Bool × Reason)
 create_acls_reasons access create =
-    flat_map draft_reasons create.drafts ++ limit_reasons (create_fault access.entries access.next (bindings_of create))
+    flat_map draft_reasons create.drafts
+    ++ limit_reasons (create_fault access.entries access.next create.drafts)
 
 -- the serials of the bindings, in the order of the drafts
 abbrev pub created_serials : Contents → CreateAcls → List ℕ
-created_serials access create = (added access.entries access.next (bindings_of create)).serials
+created_serials access create = (added access.entries access.next create.drafts).serials
 
 -- a fault that is no want of memory is the reason
 abbrev pub IsUnlessRefused : Option Reason → DraftFault → Type 0

@@ -1,8 +1,8 @@
 -- The creation of a topic.
-use Rattle.std.specs.Prelude.{Bool, not, ◌&&◌, List, [], ◌∷◌, ◌++◌, is_some, length, nat_le}
-use Rattle.kob_catalog.specs.Creation.{new_topic}
+use Rattle.std.specs.Prelude.{Bool, List, [], ◌∷◌, ◌++◌, is_some, length, nat_le}
+use Rattle.kob_catalog.specs.Creation.{is_bad_count, new_topic}
 use Rattle.kob_catalog.specs.Topics.{has_topic}
-use Rattle.kob_catalog.specs.declared.limits.TheConstants.{PARTITION_LIMIT, TOPIC_LIMIT}
+use Rattle.kob_catalog.specs.Limits.{topic_limit}
 use Rattle.kob_names.specs.TopicRules.{topic_fault}
 use Rattle.kob_partition.specs.Meaning.{Meaning}
 use Rattle.kob_rights.specs.declared.on_topics.CreateTopics.{CreateTopics}
@@ -15,10 +15,11 @@ module _ {P : Type 0} (m : Meaning P) where
   create_topics_reasons s create =
       (is_some (topic_fault create.name), reasons.BadTopicName)
       ∷ (has_topic create.name s.topics, reasons.TopicExists)
-      ∷ (not (nat_le 1 create.partitions && nat_le create.partitions PARTITION_LIMIT), reasons.BadPartitions)
-      ∷ (nat_le TOPIC_LIMIT (length s.topics), reasons.TooManyTopics)
+      ∷ (is_bad_count create.partitions, reasons.BadPartitions)
+      ∷ (nat_le topic_limit (length s.topics), reasons.TooManyTopics)
       ∷ []
 
   -- a topic with empty partitions is put last
   abbrev pub create_topics_after : State P → CreateTopics → State P
-  create_topics_after s create = record s { topics = s.topics ++ new_topic m create.name create.partitions ∷ [] }
+  create_topics_after s create =
+      record s { topics = s.topics ++ new_topic m create.name create.partitions ∷ [] }

@@ -13,4 +13,5 @@ module _ {P : Type 0} where
 
   -- the topic goes, and the commits on it
   abbrev pub delete_topics_after : State P → List ℕ → State P
-  delete_topics_after s name = record s { topics = without_topic name s.topics; groups = groups.without_topic name s.groups }
+  delete_topics_after s name =
+      record s { topics = without_topic name s.topics; groups = groups.without_topic name s.groups }

@@ -1,9 +1,10 @@
--- Which requests are denied, and how: by the event, the super users and the bindings in force alone.
-use Rattle.std.specs.Prelude.{ℕ, ◌+◌, List, [], ◌∷◌, Bool, true, false, Option, Some, None, map, if◌then◌else◌}
+-- Which requests are denied, and how: by the event, the super users and the bindings in force
+-- alone.
+use Rattle.std.specs.Prelude.{ℕ, ◌+◌, List, [], ◌∷◌, Bool, Option, Some, None, map, if◌then◌else◌}
 use Rattle.std.specs.Option.{option_map}
 use Rattle.std.specs.List.{list_any}
 use Rattle.kob_names.specs.declared.verdict.Verdict.{Verdict}
-use Rattle.kob_names.specs.declared.verdict.Verdict.TheVariants.{Super, AllowedBy, DeniedBy, NoAllow}
+use Rattle.kob_names.specs.Granted.{is_granted}
 use Rattle.kob_authorizer.specs.Contents.{Contents}
 use Rattle.kob_authorizer.specs.Decide.{decide}
 use Rattle.kob_authorizer.specs.Question.{Question, question_of}
@@ -13,16 +14,10 @@ use Rattle.kob_rights.specs.declared.reply.Reply.{Reply}
 use Rattle.kob_rights.specs.declared.reply.Reply.TheVariants.{Denied}
 use Rattle.kob_rights.specs.Table.{rights, denial_code}
 
--- the right is granted to a super user, and by an allow
-abbrev pub is_granted : Verdict → Bool
-is_granted Super = true
-is_granted (AllowedBy serial) = true
-is_granted (DeniedBy serial) = false
-is_granted NoAllow = false
-
 -- what is asked of the authorizer for an alternative
 abbrev pub question : Event → Check → Question
-question event check = question_of event.principal event.host check.operation check.resource check.name
+question event check =
+    question_of event.principal event.host check.operation check.resource check.name
 
 abbrev pub verdict : Contents → Event → Check → Verdict
 verdict access event check = decide access.entries access.supers (question event check)
@@ -35,12 +30,15 @@ is_met access event clause = list_any is_granted (map (verdict access event) cla
 abbrev pub unmet : Contents → Event → ℕ → List (List Check) → Option (ℕ × List Check)
 unmet access event place [] = None
 unmet access event place (clause ∷ clauses) =
-    if is_met access event clause then unmet access event (place + 1) clauses else Some (place, clause)
+    if is_met access event clause then unmet access event (place + 1) clauses
+    else Some (place, clause)
 
 -- the reply that names the code of a clause, and the verdicts of its alternatives
 abbrev pub denied : Contents → Event → ℕ × List Check → Reply
-denied access event blamed = Denied (denial_code event.request blamed.0) (map (verdict access event) blamed.1)
+denied access event blamed =
+    Denied (denial_code event.request blamed.0) (map (verdict access event) blamed.1)
 
 -- the denial for the first clause that isn't met
 abbrev pub denial_of : Contents → Event → Option Reply
-denial_of access event = option_map (denied access event) (unmet access event 0 (rights event.request))
+denial_of access event =
+    option_map (denied access event) (unmet access event 0 (rights event.request))

@@ -1,10 +1,13 @@
 -- What a request does whose rights are granted: the tables of all kinds.
-use Rattle.std.specs.Prelude.{Bool, ◌+◌, List, [], Option, Some, None}
+use Rattle.std.specs.Prelude.{Bool, ℕ, ◌+◌, List, [], Option, Some, None}
 use Rattle.kob_authorizer.specs.Deletion.{taken, without_taken}
-use Rattle.kob_catalog.specs.Topics.{partition_of}
+use Rattle.kob_catalog.specs.Topics.{Topic, partition_of}
 use Rattle.kob_groups.specs.Groups as groups
 use Rattle.kob_partition.specs.Meaning.{Meaning}
+use Rattle.kob_rights.specs.Partitions.{partition_named}
 use Rattle.kob_rights.specs.Reason.{code_of}
+use Rattle.kob_rights.specs.Writes.{Write, write_of}
+use Rattle.kob_rights.specs.Writes as writes
 use Rattle.kob_rights.specs.declared.event.Event.{Event}
 use Rattle.kob_rights.specs.declared.reason.Reason.{Reason}
 use Rattle.kob_rights.specs.declared.reply.Body.{Body}
@@ -13,7 +16,7 @@ use Rattle.kob_rights.specs.declared.reply.Reply.{Reply}
 use Rattle.kob_rights.specs.declared.reply.Reply.TheVariants.{Refused, Done}
 use Rattle.kob_rights.specs.declared.request.Request.{Request}
 use Rattle.kob_rights.specs.declared.request.Request.TheVariants.{Produce, Fetch, ListOffsets, Metadata, OffsetCommit, OffsetFetch, ListGroups, DeleteGroups, CreateTopics, DeleteTopics, InitProducerId, DescribeAcls, CreateAcls, DeleteAcls}
-use Rattle.kob_broker.specs.CreateAcls.{create_acls_reasons, created_serials, bindings_of}
+use Rattle.kob_broker.specs.CreateAcls.{create_acls_reasons, created_serials}
 use Rattle.kob_broker.specs.CreateTopics.{create_topics_reasons, create_topics_after}
 use Rattle.kob_broker.specs.DeleteGroups.{delete_groups_reasons}
 use Rattle.kob_broker.specs.DeleteTopics.{delete_topics_reasons, delete_topics_after}
@@ -35,22 +38,14 @@ pub record Outcome (P : Type 0) : Type 0 where
   pub state : State P
 
 module _ {P : Type 0} where
+  -- the partition of that number of the topic of that name, if there is one
+  abbrev pub partition_in : List (Topic P) → Option (List ℕ × ℕ) → Option P
+  partition_in topics None = None
+  partition_in topics (Some name) = partition_of name.0 name.1 topics
+
   -- the partition that a request names, if there is one
   abbrev pub named : State P → Request → Option P
-  named s (Produce produce) = partition_of produce.topic produce.partition s.topics
-  named s (Fetch fetch) = partition_of fetch.topic fetch.partition s.topics
-  named s (ListOffsets asked) = partition_of asked.topic asked.partition s.topics
-  named s (OffsetCommit commit) = partition_of commit.topic commit.partition s.topics
-  named s (Metadata asked) = None
-  named s (OffsetFetch asked) = None
-  named s ListGroups = None
-  named s (DeleteGroups delete) = None
-  named s (CreateTopics create) = None
-  named s (DeleteTopics delete) = None
-  named s InitProducerId = None
-  named s (DescribeAcls asked) = None
-  named s (CreateAcls create) = None
-  named s (DeleteAcls delete) = None
+  named s request = partition_in s.topics (partition_named request)
 
 module _ {P : Type 0} (m : Meaning P) where
   -- the reasons to refuse a request, in order, each with whether it holds
@@ -72,10 +67,12 @@ module _ {P : Type 0} (m : Meaning P) where
 
   -- what an event is answered whose request is done
   abbrev pub body : State P → Option P → Event → Request → Body
-  body s found event (Produce produce) = bodies.Offset (produced (judged_at m found produce.batch) (end_at m found))
+  body s found event (Produce produce) =
+      bodies.Offset (produced (judged_at m found produce.batch) (end_at m found))
   body s found event (Fetch fetch) = bodies.Records (fetched_at m found fetch)
   body s found event (ListOffsets asked) = bodies.Offset (offset_at m found asked.which)
-  body s found event (Metadata asked) = bodies.Topics (metadata_of s.access event s.topics asked.topic)
+  body s found event (Metadata asked) =
+      bodies.Topics (metadata_of s.access event s.topics asked.topic)
   body s found event (OffsetCommit commit) = bodies.Committed
   body s found event (OffsetFetch asked) = bodies.Commit (committed s.groups asked)
   body s found event ListGroups = bodies.Groups (groups_shown s.access event s.groups.names)
@@ -87,30 +84,35 @@ module _ {P : Type 0} (m : Meaning P) where
   body s found event (CreateAcls create) = bodies.Serials (created_serials s.access create)
   body s found event (DeleteAcls delete) = bodies.Bindings (taken delete.filter s.access.entries)
 
-  -- the state that it leaves
+  -- the state that it leaves; a request of a kind that only reads leaves the state as it was
+  abbrev pub after_write : State P → Option P → Option Write → State P
+  after_write s found None = s
+  after_write s found (Some (writes.Append produce)) = produce_after m s found produce
+  after_write s found (Some (writes.CommitOffset commit)) = offset_commit_after s commit
+  after_write s found (Some (writes.RemoveGroup delete)) =
+      record s { groups = groups.without_group delete.group s.groups }
+  after_write s found (Some (writes.AddTopic create)) = create_topics_after m s create
+  after_write s found (Some (writes.RemoveTopic delete)) = delete_topics_after s delete.name
+  after_write s found (Some writes.GiveProducerId) =
+      record s { next_producer = s.next_producer + 1 }
+  after_write s found (Some (writes.AddBindings create)) =
+      record s { access = with_bindings create.drafts s.access }
+  after_write s found (Some (writes.RemoveBindings delete)) =
+      record s { access = without_taken delete.filter s.access }
+
   abbrev pub after : State P → Option P → Request → State P
-  after s found (Produce produce) = produce_after m s found produce
-  after s found (Fetch fetch) = s
-  after s found (ListOffsets asked) = s
-  after s found (Metadata asked) = s
-  after s found (OffsetCommit commit) = offset_commit_after s commit
-  after s found (OffsetFetch asked) = s
-  after s found ListGroups = s
-  after s found (DeleteGroups delete) = record s { groups = groups.without_group delete.group s.groups }
-  after s found (CreateTopics create) = create_topics_after m s create
-  after s found (DeleteTopics delete) = delete_topics_after s delete.name
-  after s found InitProducerId = record s { next_producer = s.next_producer + 1 }
-  after s found (DescribeAcls asked) = s
-  after s found (CreateAcls create) = record s { access = with_bindings (bindings_of create) s.access }
-  after s found (DeleteAcls delete) = record s { access = without_taken delete.filter s.access }
+  after s found request = after_write s found (write_of request)
 
   abbrev pub refusal : State P → Request → Option Reason
   refusal s request = first_reason (reasons_against s (named s request) request)
 
-  -- refused for the first reason that holds, with the state as it was, or else done; `event` tells who asks
+  -- refused for the first reason that holds, with the state as it was, or else done; `event` tells
+  -- who asks
   abbrev pub effect_by : Option Reason → State P → Option P → Event → Request → Outcome P
-  effect_by (Some reason) s found event request = record { reply = Refused (code_of reason) reason; state = s }
-  effect_by None s found event request = record { reply = Done (body s found event request); state = after s found request }
+  effect_by (Some reason) s found event request =
+      record { reply = Refused (code_of reason) reason; state = s }
+  effect_by None s found event request =
+      record { reply = Done (body s found event request); state = after s found request }
 
   abbrev pub effect : State P → Event → Request → Outcome P
   effect s event request = effect_by (refusal s request) s (named s request) event request

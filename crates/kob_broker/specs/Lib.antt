@@ -1,3 +1,4 @@
+pub mod Limits
 pub mod State
 pub mod Denial
 pub mod Reasons
@@ -22,5 +23,4 @@ pub mod InForce
 pub mod Justice
 pub mod Listings
 pub mod Plainly
-pub mod Offsets
 pub mod Spending

@@ -5,7 +5,8 @@ use Rattle.kob_authorizer.specs.Contents.{Contents}
 use Rattle.kob_names.specs.declared.kinds.Operation.TheVariants.{Describe}
 use Rattle.kob_rights.specs.Check.{on_group, on_cluster}
 use Rattle.kob_rights.specs.declared.event.Event.{Event}
-use Rattle.kob_broker.specs.Denial.{is_granted, verdict}
+use Rattle.kob_names.specs.Granted.{is_granted}
+use Rattle.kob_broker.specs.Denial.{verdict}
 
 -- the bindings in force let the principal describe the group of that name
 abbrev pub describes_group : Contents → Event → List ℕ → Bool

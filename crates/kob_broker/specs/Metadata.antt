@@ -9,7 +9,8 @@ use Rattle.kob_rights.specs.declared.reason.Reason.{Reason}
 use Rattle.kob_rights.specs.declared.reason.Reason.TheVariants as reasons
 use Rattle.kob_rights.specs.declared.request.Request.{Request}
 use Rattle.kob_rights.specs.declared.request.Request.TheVariants as requests
-use Rattle.kob_broker.specs.Denial.{is_granted, verdict}
+use Rattle.kob_names.specs.Granted.{is_granted}
+use Rattle.kob_broker.specs.Denial.{verdict}
 
 -- the bindings in force let the principal describe the topic of that name
 abbrev pub describes_topic : Contents → Event → List ℕ → Bool
@@ -24,7 +25,8 @@ module _ {P : Type 0} where
   topic_found name topics None = []
   topic_found name topics (Some place) = (name, length (topic_at topics place).partitions) ∷ []
 
-  -- one topic with its number of partitions, or all that the principal may describe, in order of creation
+  -- one topic with its number of partitions, or all that the principal may describe, in order of
+  -- creation
   abbrev pub metadata_of : Contents → Event → List (Topic P) → Option (List ℕ) → List (List ℕ × ℕ)
   metadata_of access event topics None = listed_where (describes_topic access event) topics
   metadata_of access event topics (Some name) = topic_found name topics (place_of name topics)

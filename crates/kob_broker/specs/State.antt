@@ -4,10 +4,11 @@ use Rattle.kob_authorizer.specs.Contents.{Contents, opened}
 use Rattle.kob_authorizer.specs.Creation.{added}
 use Rattle.kob_catalog.specs.Topics.{Topic, topics_map}
 use Rattle.kob_groups.specs.Groups.{Groups, no_groups}
-use Rattle.kob_names.specs.declared.binding.Binding.{Binding}
+use Rattle.kob_names.specs.Binding.{Binding}
+use Rattle.kob_names.specs.declared.settings.Settings.{Settings}
 
--- the topics in order of creation, the groups with their committed offsets, the bindings in force with the super
--- users, and the producer id that is given next
+-- the topics in order of creation, the groups with their committed offsets, the bindings in force
+-- with the super users, and the producer id that is given next
 pub record State (P : Type 0) : Type 0 where
   pub topics : List (Topic P)
   pub groups : Groups
@@ -22,13 +23,27 @@ with_bindings bindings access = record access {
 }
 
 -- no topics and no groups, and the opening bindings in force under serials from 1 on
-abbrev pub open_state : {P : Type 0} → List (List ℕ) → List Binding → State P
-open_state supers bindings = record { topics = []; groups = no_groups; access = with_bindings bindings (opened supers); next_producer = 0 }
+abbrev pub open_state : {P : Type 0} → Settings → State P
+open_state settings = record {
+  topics = [];
+  groups = no_groups;
+  access = with_bindings settings.opening (opened settings.supers);
+  next_producer = 0;
+}
 
 -- the state with each partition seen otherwise
 abbrev pub state_map : {P Q : Type 0} → (P → Q) → State P → State Q
-state_map f s = record { topics = topics_map f s.topics; groups = s.groups; access = s.access; next_producer = s.next_producer }
+state_map f s = record {
+  topics = topics_map f s.topics;
+  groups = s.groups;
+  access = s.access;
+  next_producer = s.next_producer;
+}
 
 -- the bindings in force, in rising serials
 abbrev pub bindings_in_force : {P : Type 0} → State P → List Binding
 bindings_in_force s = map (λ (entry : ℕ × Binding). entry.1) s.access.entries
+
+-- the super users, and the bindings in force as the opening list of another broker
+abbrev pub settings_of : {P : Type 0} → State P → Settings
+settings_of s = record { supers = s.access.supers; opening = bindings_in_force s }

@@ -36,7 +36,8 @@ fn room_after_record(message: &Record, room: u64) -> Option<u64>
 
 /// What is left of `room` bytes, if the key fits.
 fn room_after_key(key: &Option<Bytes>, room: u64) -> Option<u64>
-    ensures { MatchOption result (room < key_bytes key.now) (λ left. left + key_bytes key.now ≡ room) }
+    ensures { MatchOption result (room < key_bytes key.now)
+        (λ left. left + key_bytes key.now ≡ room) }
 {
     match key {
         None => Some(room),
@@ -47,7 +48,8 @@ fn room_after_key(key: &Option<Bytes>, room: u64) -> Option<u64>
 /// What is left of `room` bytes, if the headers fit.
 #[tactic(auto, using(std::proofs::lemmas::List::Sums::sum_by_more, std::proofs::lemmas::List::Sums::sum_by_more_le))]
 fn room_after_headers(headers: &[Header], room: u64) -> Option<u64>
-    ensures { MatchOption result (room < sum_by header_bytes headers.now) (λ left. left + sum_by header_bytes headers.now ≡ room) }
+    ensures { MatchOption result (room < sum_by header_bytes headers.now)
+        (λ left. left + sum_by header_bytes headers.now ≡ room) }
 {
     let mut left = room;
     for header in headers {

@@ -1,18 +1,19 @@
 //! The broker.
 
 use crate::denial::denial_of;
+use crate::open_fault::OpenFault;
 use crate::prepared::{Change, Prepared};
-use crate::settings::{OpenFault, Settings};
 use crate::stopped::Stopped;
 use kob_authorizer::{Authorizer, CreateFault};
 use kob_catalog::Catalog;
 use kob_groups::Groups;
-use kob_names::{Binding, Items, PlainValue, Text};
+use kob_names::{Binding, Items, PlainValue, Settings, Text};
 use kob_rights::{Event, Reply, Request};
 use std::alloc::{AllocError, Global};
 
-/// The broker: topics, groups, bindings in force and super users, behind rights that are decided at each event's
-/// place. Contracts see its state (`state_of`), and beside it the room that is there for changes.
+/// The broker: topics, groups, bindings in force and super users, behind rights that are decided at
+/// each event's place. Contracts see its state (`state_of`), and beside it the room that is there
+/// for changes.
 #[derive(Drop)]
 pub struct Broker {
     pub(crate) catalog: Catalog,
@@ -22,22 +23,24 @@ pub struct Broker {
 }
 
 impl Broker {
-    ghost use Rattle.std.specs.Prelude.{◌≡◌, ◌<◌, length, take, [], IfOk, IfErr, IsErrOf, OnOk, OnErr, Some, None};
-    ghost use Rattle.kob_authorizer.specs.Limits.{create_fault};
+    ghost use Rattle.std.specs.Prelude.{◌≡◌, ◌<◌, length, take, []};
+    ghost use Rattle.std.specs.Prelude.{IfOk, IfErr, IsErrOf, OnOk, OnErr, Some, None};
+    ghost use Rattle.kob_authorizer.specs.Passing.{create_fault};
     ghost use Rattle.kob_authorizer.specs.declared.fault.CreateFault.TheVariants as limits;
     ghost use Rattle.kob_broker.specs.Change.{IsReady, Makes, reply_of, state_of, state_with};
     ghost use Rattle.kob_broker.specs.DeleteTopics.{delete_topics_after};
     ghost use Rattle.kob_broker.specs.Effect.{effect};
-    ghost use Rattle.kob_broker.specs.State.{bindings_in_force, open_state};
+    ghost use Rattle.kob_broker.specs.State.{open_state, settings_of};
     ghost use Rattle.kob_broker.specs.Step.{step, replies_of, state_after};
     ghost use Rattle.kob_partition.specs.Retained.{retained_meaning};
 
-    /// A broker with no topics and no groups, with the opening bindings in force under serials from 1 on.
-    /// `TooMany` comes where the opening list holds more than 100,000 different bindings.
+    /// A broker with no topics and no groups, with the opening bindings in force under serials from
+    /// 1 on. `TooMany` comes where the opening list holds more than 100,000 different bindings.
     pub fn open(alloc: Global, settings: Settings) -> Result<Broker, OpenFault>
-        ensures ok { IfOk result (λ broker. state_of broker ≡ open_state settings.supers settings.opening) }
+        ensures ok { IfOk result (λ broker. state_of broker ≡ open_state settings) }
         ensures few { OnOk result (create_fault [] 1 settings.opening ≡ None) }
-        ensures many { IsErrOf result OpenFault.TooMany → create_fault [] 1 settings.opening ≡ Some limits.TooMany }
+        ensures many { IsErrOf result OpenFault.TooMany → create_fault [] 1 settings.opening
+            ≡ Some limits.TooMany }
     {
         let Settings { supers, opening } = settings;
         let mut authorizer = Authorizer::open(alloc, supers.into_vec());
@@ -53,11 +56,10 @@ impl Broker {
         }
     }
 
-    /// The super users, and the bindings in force now as the opening list, in rising serials. Opened with these, a
-    /// broker has new serials from 1 on. The error is want of memory.
+    /// The super users, and the bindings in force now as the opening list, in rising serials.
+    /// Opened with these, a broker has new serials from 1 on. The error is want of memory.
     pub fn opening(&self, alloc: Global) -> Result<Settings, AllocError>
-        ensures supers { IfOk result (λ settings. settings.supers ≡ (state_of self.now).access.supers) }
-        ensures opening { IfOk result (λ settings. settings.opening ≡ bindings_in_force (state_of self.now)) }
+        ensures { IfOk result (λ settings. settings ≡ settings_of (state_of self.now)) }
     {
         let supers = Items::copied(alloc, self.authorizer.supers())?;
         let opening = bindings_of(alloc, self.authorizer.entries())?;
@@ -65,9 +67,11 @@ impl Broker {
     }
 
     /// Decides on the request of an event whose rights are granted.
+    #[tactic(auto, using(crate::proofs::Decisions::made_for, crate::proofs::Decisions::made_for_ok))]
     fn prepare_effect(&mut self, alloc: Global, event: &Event) -> Result<Prepared, AllocError>
         ensures state { state_of self.new ≡ state_of self.old }
-        ensures ok { IfOk result (Makes (effect retained_meaning (state_of self.new) event.now event.now.request) self.new) }
+        ensures ok { IfOk result (Makes
+            (effect retained_meaning (state_of self.new) event.now event.now.request) self.new) }
     {
         match &event.request {
             Request::Produce(asked) => self.prepare_produce(alloc, asked),
@@ -87,11 +91,12 @@ impl Broker {
         }
     }
 
-    /// The first step of serving an event: all growths and the reply. The contents stay, also after want of
-    /// memory, which is the error.
+    /// The first step of serving an event: all growths and the reply. The contents stay, also after
+    /// want of memory, which is the error.
     pub fn prepare(&mut self, alloc: Global, event: &Event) -> Result<Prepared, AllocError>
         ensures state { state_of self.new ≡ state_of self.old }
-        ensures ok { IfOk result (Makes (step retained_meaning (state_of self.new) event.now) self.new) }
+        ensures ok { IfOk result
+            (Makes (step retained_meaning (state_of self.new) event.now) self.new) }
     {
         match denial_of(alloc, &self.authorizer, event)? {
             Some(denial) => Ok(Prepared::new(denial, Change::Unchanged)),
@@ -99,8 +104,8 @@ impl Broker {
         }
     }
 
-    /// The second step, where nothing has changed since the first: the change is made, and the reply given.
-    /// No memory is taken.
+    /// The second step, where nothing has changed since the first: the change is made, and the
+    /// reply given. No memory is taken.
     pub fn commit(&mut self, prepared: Prepared) -> Reply
         requires { IsReady prepared self.old }
         ensures reply { result ≡ reply_of prepared }
@@ -131,22 +136,29 @@ impl Broker {
 
     /// Serves one event. The error is want of memory, and the contents are then as before.
     pub fn serve(&mut self, alloc: Global, event: &Event) -> Result<Reply, AllocError>
-        ensures reply { IfOk result (λ reply. reply ≡ (step retained_meaning (state_of self.old) event.now).reply) }
-        ensures state { OnOk result (state_of self.new ≡ (step retained_meaning (state_of self.old) event.now).state) }
+        ensures reply { IfOk result (λ reply. reply
+            ≡ (step retained_meaning (state_of self.old) event.now).reply) }
+        ensures state { OnOk result (state_of self.new
+            ≡ (step retained_meaning (state_of self.old) event.now).state) }
         ensures kept { OnErr result (state_of self.new ≡ state_of self.old) }
     {
         let prepared = self.prepare(alloc, event)?;
         Ok(self.commit(prepared))
     }
 
-    /// Serves events in order, until memory stops the run; the broker then stands after the events that are done.
+    /// Serves events in order, until memory stops the run; the broker then stands after the events
+    /// that are done.
     pub fn run(&mut self, alloc: Global, events: &[Event]) -> Result<Vec<Reply>, Stopped>
-        ensures replies { IfOk result (λ replies. replies.items ≡ replies_of retained_meaning events.now (state_of self.old)) }
-        ensures state { OnOk result (state_of self.new ≡ state_after retained_meaning events.now (state_of self.old)) }
+        ensures replies { IfOk result (λ replies. replies.items
+            ≡ replies_of retained_meaning events.now (state_of self.old)) }
+        ensures state { OnOk result (state_of self.new
+            ≡ state_after retained_meaning events.now (state_of self.old)) }
         ensures stopped { IfErr result (λ s. s.done < length events.now) }
         ensures stopped_count { IfErr result (λ s. length s.replies.items ≡ s.done) }
-        ensures stopped_replies { IfErr result (λ s. s.replies.items ≡ replies_of retained_meaning (take s.done events.now) (state_of self.old)) }
-        ensures stopped_state { IfErr result (λ s. state_of self.new ≡ state_after retained_meaning (take s.done events.now) (state_of self.old)) }
+        ensures stopped_replies { IfErr result (λ s. s.replies.items
+            ≡ replies_of retained_meaning (take s.done events.now) (state_of self.old)) }
+        ensures stopped_state { IfErr result (λ s. state_of self.new
+            ≡ state_after retained_meaning (take s.done events.now) (state_of self.old)) }
     {
         let mut replies = Vec::new(alloc);
         for (done, event) in events.iter().enumerate() {

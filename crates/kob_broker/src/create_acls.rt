@@ -1,8 +1,7 @@
 //! The creation of bindings.
 
-ghost use Rattle.std.specs.Prelude.{◌≡◌, IfOk, IfErr, OnOk, MatchResult, map, Some, None};
+ghost use Rattle.std.specs.Prelude.{◌≡◌, IfOk, IfErr, OnOk, MatchResult, Some, None};
 ghost use Rattle.std.specs.List.{flat_map};
-ghost use Rattle.kob_names.specs.BindingRules.{drafted};
 ghost use Rattle.kob_broker.specs.Change.{MakesFor, state_of};
 ghost use Rattle.kob_broker.specs.CreateAcls.{draft_reasons, IsUnlessRefused};
 ghost use Rattle.kob_broker.specs.Reasons.{first_reason};
@@ -23,7 +22,7 @@ enum DraftFault {
 
 /// The binding of a draft, if it breaks no rule.
 fn binding_of(alloc: Global, draft: &Draft) -> Result<Binding, DraftFault>
-    ensures ok { IfOk result (λ made. made ≡ drafted draft.now) }
+    ensures ok { IfOk result (λ made. made ≡ draft.now) }
     ensures allowed { OnOk result (first_reason (draft_reasons draft.now) ≡ None) }
     ensures refused { IfErr result (IsUnlessRefused (first_reason (draft_reasons draft.now))) }
 {
@@ -39,9 +38,10 @@ fn binding_of(alloc: Global, draft: &Draft) -> Result<Binding, DraftFault>
 /// The bindings of all drafts, or the first rule that one breaks.
 #[tactic(auto, using(crate::proofs::FirstReasons::first_some, crate::proofs::FirstReasons::first_none))]
 fn bindings_of(alloc: Global, drafts: &[Draft]) -> Result<Vec<Binding>, DraftFault>
-    ensures ok { IfOk result (λ made. made.items ≡ map drafted drafts.now) }
+    ensures ok { IfOk result (λ made. made.items ≡ drafts.now) }
     ensures allowed { OnOk result (first_reason (flat_map draft_reasons drafts.now) ≡ None) }
-    ensures refused { IfErr result (IsUnlessRefused (first_reason (flat_map draft_reasons drafts.now))) }
+    ensures refused { IfErr result
+        (IsUnlessRefused (first_reason (flat_map draft_reasons drafts.now))) }
 {
     let mut bindings = Vec::new(alloc);
     for draft in drafts {

@@ -2,7 +2,8 @@
 
 ghost use Rattle.std.specs.Prelude.{◌≡◌, map, IfOk, IfSome, is_none};
 ghost use Rattle.std.specs.List.{list_any};
-ghost use Rattle.kob_broker.specs.Denial.{is_granted, verdict, is_met, denial_of};
+ghost use Rattle.kob_names.specs.Granted.{is_granted};
+ghost use Rattle.kob_broker.specs.Denial.{verdict, is_met, denial_of};
 
 use kob_authorizer::Authorizer;
 use kob_names::{Items, Verdict};
@@ -16,7 +17,8 @@ fn verdicts_of(
     event: &Event,
     clause: &[Check],
 ) -> Result<Vec<Verdict>, AllocError>
-    ensures { IfOk result (λ verdicts. verdicts.items ≡ map (verdict authorizer.now.contents event.now) clause.now) }
+    ensures { IfOk result (λ verdicts. verdicts.items
+        ≡ map (verdict authorizer.now.contents event.now) clause.now) }
 {
     let mut verdicts = Vec::new(alloc);
     for check in clause {
@@ -31,20 +33,10 @@ fn verdicts_of(
     Ok(verdicts)
 }
 
-/// Whether the verdict grants the right.
-pub(crate) fn is_granted(verdict: Verdict) -> bool
-    ensures { result ≡ is_granted verdict }
-{
-    match verdict {
-        Verdict::Super | Verdict::AllowedBy(_) => true,
-        Verdict::DeniedBy(_) | Verdict::NoAllow => false,
-    }
-}
-
 fn is_any_granted(verdicts: &[Verdict]) -> bool
     ensures { result ≡ list_any is_granted verdicts.now }
 {
-    verdicts.iter().any(|verdict| is_granted(*verdict))
+    verdicts.iter().any(|verdict| verdict.is_granted())
 }
 
 /// The verdicts of a clause of which no alternative is granted.
@@ -54,7 +46,8 @@ fn blamed(
     event: &Event,
     clause: &[Check],
 ) -> Result<Option<Vec<Verdict>>, AllocError>
-    ensures met { IfOk result (λ blamed. is_met authorizer.now.contents event.now clause.now ≡ is_none blamed) }
+    ensures met { IfOk result
+        (λ blamed. is_met authorizer.now.contents event.now clause.now ≡ is_none blamed) }
     ensures verdicts { IfOk result (λ blamed. IfSome blamed (λ verdicts.
         verdicts.items ≡ map (verdict authorizer.now.contents event.now) clause.now)) }
 {

@@ -3,11 +3,10 @@
 ghost use Rattle.std.specs.Prelude.{◌≡◌};
 ghost use Rattle.kob_authorizer.specs.Decide.{decide};
 ghost use Rattle.kob_authorizer.specs.Question.{question_of};
-ghost use Rattle.kob_broker.specs.Denial.{is_granted};
+ghost use Rattle.kob_names.specs.Granted.{is_granted};
 ghost use Rattle.kob_broker.specs.ListGroups.{describes_cluster, describes_group};
 ghost use Rattle.kob_broker.specs.Metadata.{describes_topic};
 
-use crate::denial::is_granted;
 use kob_authorizer::Authorizer;
 use kob_catalog::Decider;
 use kob_names::{Operation, ResourceKind, Text};
@@ -59,5 +58,5 @@ fn describes(authorizer: &Authorizer, event: &Event, resource: ResourceKind, nam
         resource,
         name,
     );
-    is_granted(verdict)
+    verdict.is_granted()
 }

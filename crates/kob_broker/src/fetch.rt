@@ -17,7 +17,7 @@ impl Broker {
         let Some(place) = self.catalog.place_of(&fetch.topic) else {
             return Ok(Prepared::refused(Reason::UnknownTopic));
         };
-        let Some(log) = self.catalog.partition(place, fetch.partition as usize) else {
+        let Some(log) = self.catalog.partition_at(place, fetch.partition as usize) else {
             return Ok(Prepared::refused(Reason::UnknownPartition));
         };
         match log.fetch(alloc, fetch.offset, fetch.max) {

@@ -19,18 +19,19 @@ mod list_offsets;
 mod metadata;
 mod offset_commit;
 mod offset_fetch;
+mod open_fault;
 mod prepared;
 mod produce;
-mod settings;
 mod stopped;
 
 pub use broker::Broker;
+pub use kob_names::Settings;
 pub use laws::{
     denials_depend_on_bindings_alone, each_reply_is_just, listings_hold_what_is_described,
     nothing_is_spent_unasked, offsets_stay_within_the_limit, only_done_requests_change_the_state,
     what_is_kept_is_enough,
 };
 pub use limits::{BATCH_BYTE_LIMIT, EPOCH_LIMIT, PRODUCER_LIMIT, RECORD_LIMIT, SEQUENCE_LIMIT};
+pub use open_fault::OpenFault;
 pub use prepared::Prepared;
-pub use settings::{OpenFault, Settings};
 pub use stopped::Stopped;

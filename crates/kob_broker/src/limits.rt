@@ -14,3 +14,13 @@ pub const SEQUENCE_LIMIT: u64 = 2_147_483_647;
 
 /// Every producer id is below this.
 pub const PRODUCER_LIMIT: u64 = u64::MAX;
+
+const _: () = prove!(RECORD_LIMIT == 1_000);
+
+const _: () = prove!(BATCH_BYTE_LIMIT == 2_097_152);
+
+const _: () = prove!(EPOCH_LIMIT == 32_767);
+
+const _: () = prove!(SEQUENCE_LIMIT == 2_147_483_647);
+
+const _: () = prove!(PRODUCER_LIMIT == 18_446_744_073_709_551_615);

@@ -22,7 +22,9 @@ impl Broker {
         alloc: Global,
         event: &Event,
     ) -> Result<Prepared, AllocError>
-        ensures { IfOk result (Makes (effect retained_meaning (state_of self.now) event.now requests.ListGroups) self.now) }
+        ensures { IfOk result
+            (Makes (effect retained_meaning
+            (state_of self.now) event.now requests.ListGroups) self.now) }
     {
         let names = self.groups.names(alloc)?.into_vec();
         let shown = shown_of(&self.authorizer, event, names);
@@ -42,7 +44,8 @@ fn shown_of(authorizer: &Authorizer, event: &Event, mut names: Vec<Text>) -> Vec
 
 /// Keeps the names that the principal may describe.
 fn keep_described(authorizer: &Authorizer, event: &Event, names: &mut Vec<Text>)
-    ensures { names.new.items ≡ filter (describes_group authorizer.now.contents event.now) names.old.items }
+    ensures { names.new.items
+        ≡ filter (describes_group authorizer.now.contents event.now) names.old.items }
 {
     names.retain(|name| describes_group(authorizer, event, name));
 }

@@ -15,7 +15,7 @@ impl Broker {
         let Some(place) = self.catalog.place_of(&asked.topic) else {
             return Prepared::refused(Reason::UnknownTopic);
         };
-        let Some(log) = self.catalog.partition(place, asked.partition as usize) else {
+        let Some(log) = self.catalog.partition_at(place, asked.partition as usize) else {
             return Prepared::refused(Reason::UnknownPartition);
         };
         let offset = match asked.which {

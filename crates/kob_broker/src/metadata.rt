@@ -21,7 +21,9 @@ impl Broker {
         event: &Event,
         asked: &Metadata,
     ) -> Result<Prepared, AllocError>
-        ensures { IfOk result (Makes (effect retained_meaning (state_of self.now) event.now (requests.Metadata asked.now)) self.now) }
+        ensures { IfOk result
+            (Makes (effect retained_meaning (state_of self.now) event.now
+            (requests.Metadata asked.now)) self.now) }
     {
         match &asked.topic {
             None => self.prepare_metadata_of_all(alloc, event),
@@ -31,7 +33,9 @@ impl Broker {
 
     /// All topics that the principal may describe.
     fn prepare_metadata_of_all(&self, alloc: Global, event: &Event) -> Result<Prepared, AllocError>
-        ensures { IfOk result (Makes (effect retained_meaning (state_of self.now) event.now (metadata_request None)) self.now) }
+        ensures { IfOk result
+            (Makes (effect retained_meaning (state_of self.now) event.now
+            (metadata_request None)) self.now) }
     {
         let describer = TopicDescriber {
             authorizer: &self.authorizer,

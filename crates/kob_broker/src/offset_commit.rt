@@ -30,7 +30,7 @@ impl Broker {
         };
         if self
             .catalog
-            .partition(place, commit.partition as usize)
+            .partition_at(place, commit.partition as usize)
             .is_none()
         {
             return Ok(Prepared::refused(Reason::UnknownPartition));

@@ -28,7 +28,7 @@ impl Broker {
             return Ok(Prepared::refused(Reason::UnknownTopic));
         };
         let partition = produce.partition as usize;
-        let Some(_) = self.catalog.partition(place, partition) else {
+        let Some(_) = self.catalog.partition_at(place, partition) else {
             return Ok(Prepared::refused(Reason::UnknownPartition));
         };
         if let Some(reason) = against_batch(&produce.batch, self.next_producer) {

@@ -1,19 +1,23 @@
 -- The creation of a topic.
-use Rattle.std.specs.Prelude.{◌≡◌, ◌<◌, ℕ, not, ◌&&◌, nat_le, List, Option, Some, None, length, replicate, if◌then◌else◌, false}
+use Rattle.std.specs.Prelude.{◌≡◌, ◌<◌, ℕ, Bool, not, ◌&&◌, nat_le, List, Option, Some, None, length, replicate, if◌then◌else◌, false}
 use Rattle.kob_partition.specs.Log.{LogKept}
 use Rattle.kob_partition.specs.Meaning.{Meaning}
 use Rattle.kob_catalog.specs.declared.fault.CreateFault.{CreateFault}
 use Rattle.kob_catalog.specs.declared.fault.CreateFault.TheVariants.{Exists, BadPartitions, TooMany}
-use Rattle.kob_catalog.specs.declared.limits.TheConstants.{PARTITION_LIMIT, TOPIC_LIMIT}
+use Rattle.kob_catalog.specs.Limits.{partition_limit, topic_limit}
 use Rattle.kob_catalog.specs.Kept.{CatalogKept, topics_of}
 use Rattle.kob_catalog.specs.Topics.{Topic, has_topic}
+
+-- a topic has at least one partition, and not more than the limit
+abbrev pub is_bad_count : ℕ → Bool
+is_bad_count partitions = not (nat_le 1 partitions && nat_le partitions partition_limit)
 
 -- the first rule that a creation breaks
 abbrev pub create_fault : {P : Type 0} → List (Topic P) → List ℕ → ℕ → Option CreateFault
 create_fault topics name partitions =
     if has_topic name topics then Some Exists
-    else (if not (nat_le 1 partitions && nat_le partitions PARTITION_LIMIT) then Some BadPartitions
-    else (if nat_le TOPIC_LIMIT (length topics) then Some TooMany
+    else (if is_bad_count partitions then Some BadPartitions
+    else (if nat_le topic_limit (length topics) then Some TooMany
     else None))
 
 -- a topic of that name with empty partitions

@@ -1,3 +1,4 @@
+pub mod Limits
 pub mod Topics
 pub mod Codes
 pub mod Kept

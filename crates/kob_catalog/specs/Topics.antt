@@ -25,7 +25,8 @@ module _ {P : Type 0} where
   -- a partition of the topic at a place, if there is one
   abbrev pub partition_at : List (Topic P) → Option ℕ → ℕ → Option P
   partition_at topics None partition = None
-  partition_at topics (Some place) partition = slice_get (topic_at topics place).partitions partition
+  partition_at topics (Some place) partition =
+      slice_get (topic_at topics place).partitions partition
 
   -- a partition of the topic of that name
   abbrev pub partition_of : List ℕ → ℕ → List (Topic P) → Option P
@@ -34,15 +35,19 @@ module _ {P : Type 0} where
   -- the topics with a partition of the topic at a place written
   abbrev pub with_partition_at : ℕ → ℕ → P → List (Topic P) → List (Topic P)
   with_partition_at place partition written topics =
-      slice_set topics place (record (topic_at topics place) { partitions = slice_set (topic_at topics place).partitions partition written })
+      slice_set topics place (record (topic_at topics place) {
+        partitions = slice_set (topic_at topics place).partitions partition written;
+      })
 
   abbrev pub with_partition_found : Option ℕ → ℕ → P → List (Topic P) → List (Topic P)
   with_partition_found None partition written topics = topics
-  with_partition_found (Some place) partition written topics = with_partition_at place partition written topics
+  with_partition_found (Some place) partition written topics =
+      with_partition_at place partition written topics
 
   -- the topics with a partition of the topic of that name written
   abbrev pub with_partition : List ℕ → ℕ → P → List (Topic P) → List (Topic P)
-  with_partition name partition written topics = with_partition_found (place_of name topics) partition written topics
+  with_partition name partition written topics =
+      with_partition_found (place_of name topics) partition written topics
 
   abbrev pub without_topic_found : Option ℕ → List (Topic P) → List (Topic P)
   without_topic_found None topics = topics

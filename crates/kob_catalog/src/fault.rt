@@ -22,3 +22,14 @@ pub enum CreateFault {
 #[derive(Clone, Copy, Debug, PartialEq, Eq, Error)]
 #[error("no topic has the name")]
 pub struct UnknownTopic;
+
+/// Why there is no such partition.
+#[derive(Clone, Copy, Debug, PartialEq, Eq, Error)]
+pub enum PartitionFault {
+    /// No topic has the name.
+    #[error("no topic has the name")]
+    UnknownTopic,
+    /// The topic has no partition of the number.
+    #[error("the topic has no partition of the number")]
+    UnknownPartition,
+}

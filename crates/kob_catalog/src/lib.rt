@@ -10,6 +10,6 @@ mod topic;
 
 pub use catalog::Catalog;
 pub use decider::Decider;
-pub use fault::{CreateFault, UnknownTopic};
+pub use fault::{CreateFault, PartitionFault, UnknownTopic};
 pub use limits::{PARTITION_LIMIT, TOPIC_LIMIT};
 pub use prepared::PreparedTopic;

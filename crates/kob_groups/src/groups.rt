@@ -1,9 +1,8 @@
 //! Groups in order of their first commit, with their committed offsets.
 
-ghost use Rattle.std.specs.Prelude.{◌≡◌, ◌≢◌, ◌≤◌, ◌<◌, ◌&&◌, true, false, not, length, IsErrOf, IfErr, IfOk, OnErr, OnOk, nat_le};
+ghost use Rattle.std.specs.Prelude.{◌≡◌, ◌≢◌, ◌≤◌, ◌<◌, true, false, not, IsErrOf, IfErr, IfOk, OnErr, OnOk};
 ghost use Rattle.std.specs.List.{filter, list_any};
-ghost use Rattle.kob_groups.specs.Groups.{CanCommit, committed_at, has_group, no_groups, with_commit, without_group, without_topic};
-ghost use Rattle.kob_groups.specs.declared.limits.TheConstants.{GROUP_LIMIT};
+ghost use Rattle.kob_groups.specs.Groups.{CanCommit, committed_at, has_group, is_full_for, no_groups, with_commit, without_group, without_topic};
 ghost use Rattle.kob_names.specs.Same.{same_text};
 ghost use Rattle.std.specs.Option.{option_copied};
 
@@ -21,8 +20,8 @@ use thiserror::Error;
 #[error("no group has the name")]
 pub struct GroupNotFound;
 
-/// The groups in order of their first commit, and the offsets that they committed. A group stays when its last
-/// commit goes with a topic.
+/// The groups in order of their first commit, and the offsets that they committed. A group stays
+/// when its last commit goes with a topic.
 #[derive(Drop)]
 pub struct Groups {
     names: IndexSet<Text>,
@@ -63,13 +62,13 @@ impl Groups {
 
     /// Whether there is no room for one more group, and the group is a new one.
     fn is_full_for(&self, group: &Text) -> bool
-        ensures { result ≡ (not (has_group group.now self.now.groups) && nat_le GROUP_LIMIT (length self.now.groups.names)) }
+        ensures { result ≡ is_full_for group.now self.now.groups }
     {
         !self.names.contains(group) && self.names.len() >= GROUP_LIMIT
     }
 
-    /// The first step of a commit: all growths. The groups stay, also after an error. `TooMany` comes where the group
-    /// is a new one and there are 10,000.
+    /// The first step of a commit: all growths. The groups stay, also after an error. `TooMany`
+    /// comes where the group is a new one and there are 10,000.
     pub fn prepare_commit(
         &mut self,
         alloc: Global,
@@ -80,9 +79,9 @@ impl Groups {
         ensures place { IfOk result (λ made. made.place ≡ place) }
         ensures offset { IfOk result (λ made. made.offset ≡ offset) }
         ensures ready { IfOk result (λ made. CanCommit made self.new) }
-        ensures few { OnOk result ((not (has_group place.group self.old.groups) && nat_le GROUP_LIMIT (length self.old.groups.names)) ≡ false) }
+        ensures few { OnOk result (is_full_for place.group self.old.groups ≡ false) }
         ensures many { IsErrOf result CommitFault.TooMany
-            → (not (has_group place.group self.old.groups) && nat_le GROUP_LIMIT (length self.old.groups.names)) ≡ true }
+            → is_full_for place.group self.old.groups ≡ true }
     {
         if self.is_full_for(&place.group) {
             return Err(CommitFault::TooMany);
@@ -123,11 +122,12 @@ impl Groups {
         place: CommitPlace,
         offset: u64,
     ) -> Result<(), CommitFault>
-        ensures committed { OnOk result (self.new.groups ≡ with_commit place offset self.old.groups) }
+        ensures committed { OnOk result
+            (self.new.groups ≡ with_commit place offset self.old.groups) }
         ensures kept { OnErr result (self.new.groups ≡ self.old.groups) }
-        ensures few { OnOk result ((not (has_group place.group self.old.groups) && nat_le GROUP_LIMIT (length self.old.groups.names)) ≡ false) }
+        ensures few { OnOk result (is_full_for place.group self.old.groups ≡ false) }
         ensures many { IsErrOf result CommitFault.TooMany
-            → (not (has_group place.group self.old.groups) && nat_le GROUP_LIMIT (length self.old.groups.names)) ≡ true }
+            → is_full_for place.group self.old.groups ≡ true }
     {
         let made = self.prepare_commit(alloc, place, offset)?;
         self.commit_commit(made);
@@ -194,22 +194,26 @@ fn put_offset(commits: &mut IndexMap<CommitPlace, u64>, place: CommitPlace, offs
 
 /// Takes away the commits of a group.
 fn drop_commits_of(commits: &mut IndexMap<CommitPlace, u64>, group: &Text)
-    ensures { commits.new.entries ≡ filter (λ entry. not (same_text entry.0.group group.now)) commits.old.entries }
+    ensures { commits.new.entries
+        ≡ filter (λ entry. not (same_text entry.0.group group.now)) commits.old.entries }
 {
     commits.retain(
         |place: &CommitPlace, offset: &mut u64| -> bool
-            ensures { (result ≡ not (same_text place.now.group group.entry.now)) × (offset.new ≡ offset.old) }
+            ensures { (result ≡ not (same_text place.now.group group.entry.now))
+                × (offset.new ≡ offset.old) }
         { place.group != *group },
     );
 }
 
 /// Takes away the commits on a topic.
 fn drop_commits_on(commits: &mut IndexMap<CommitPlace, u64>, topic: &Text)
-    ensures { commits.new.entries ≡ filter (λ entry. not (same_text entry.0.topic topic.now)) commits.old.entries }
+    ensures { commits.new.entries
+        ≡ filter (λ entry. not (same_text entry.0.topic topic.now)) commits.old.entries }
 {
     commits.retain(
         |place: &CommitPlace, offset: &mut u64| -> bool
-            ensures { (result ≡ not (same_text place.now.topic topic.entry.now)) × (offset.new ≡ offset.old) }
+            ensures { (result ≡ not (same_text place.now.topic topic.entry.now))
+                × (offset.new ≡ offset.old) }
         { place.topic != *topic },
     );
 }

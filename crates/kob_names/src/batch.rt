@@ -5,8 +5,8 @@ use crate::plain_value::PlainValue;
 use crate::record::Record;
 use std::alloc::{AllocError, Global};
 
-/// What an idempotent producer puts on a batch: its id, its epoch, and the sequence of the batch's first record.
-/// Kafka's protocol calls them producer id, producer epoch and base sequence.
+/// What an idempotent producer puts on a batch: its id, its epoch, and the sequence of the batch's
+/// first record. Kafka's protocol calls them producer id, producer epoch and base sequence.
 #[derive(Clone, Copy, Debug, PartialEq, Eq)]
 pub struct Idem {
     pub id: u64,

@@ -38,6 +38,7 @@ impl BindingFilter {
     pub fn takes(&self, binding: &Binding) -> bool
         ensures { result ≡ takes self.now binding.now }
     {
+        let binding = binding.parts();
         takes_part(&self.resource, &binding.resource)
             && self.takes_pattern(&binding.pattern)
             && takes_part(&self.principal, &binding.principal)

@@ -43,7 +43,8 @@ pub enum GroupNameFault {
 }
 
 impl GroupName {
-    /// Reads a group's name: 1 to 255 bytes of any text. `Empty`, `TooLong` and `Memory` come in this order.
+    /// Reads a group's name: 1 to 255 bytes of any text. `Empty`, `TooLong` and `Memory` come in
+    /// this order.
     pub fn parse(alloc: Global, text: &str) -> Result<GroupName, GroupNameFault>
         ensures { OkUnlessFault (group_fault text.now) GroupNameFault.Memory text.now result }
     {

@@ -43,7 +43,8 @@ pub enum HostFault {
 }
 
 impl Host {
-    /// Reads a host: 1 to 255 bytes of any text. `Empty`, `TooLong` and `Memory` come in this order.
+    /// Reads a host: 1 to 255 bytes of any text. `Empty`, `TooLong` and `Memory` come in this
+    /// order.
     pub fn parse(alloc: Global, text: &str) -> Result<Host, HostFault>
         ensures { OkUnlessFault (host_fault text.now) HostFault.Memory text.now result }
     {

@@ -6,7 +6,8 @@ use crate::plain_value::PlainValue;
 use std::alloc::{AllocError, Global};
 use std::marker::Model;
 
-/// A list of plain values in order, seen by contracts as their list. It grows by the `Vec` that it is made of.
+/// A list of plain values in order, seen by contracts as their list. It grows by the `Vec` that it
+/// is made of.
 #[derive(Debug, Drop)]
 pub struct Items<T> {
     items: Vec<T>,

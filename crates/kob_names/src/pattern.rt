@@ -16,8 +16,8 @@ pub struct Pattern {
 }
 
 impl Pattern {
-    /// Whether the pattern matches `name` (KIP-290): a literal one the equal name, and `*` every name; a prefixed one
-    /// each name that starts with its own.
+    /// Whether the pattern matches `name` (KIP-290): a literal one the equal name, and `*` every
+    /// name; a prefixed one each name that starts with its own.
     pub fn matches(&self, name: &str) -> bool
         ensures { result ≡ matches self.now name.now }
     {

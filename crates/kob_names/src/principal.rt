@@ -47,8 +47,8 @@ pub enum PrincipalFault {
 }
 
 impl Principal {
-    /// Reads a principal: `User:` and a name of 1 to 255 bytes. The kind is the text before the first colon.
-    /// `NoColon`, `NotUser`, `Empty`, `TooLong` and `Memory` come in this order.
+    /// Reads a principal: `User:` and a name of 1 to 255 bytes. The kind is the text before the
+    /// first colon. `NoColon`, `NotUser`, `Empty`, `TooLong` and `Memory` come in this order.
     pub fn parse(alloc: Global, text: &str) -> Result<Principal, PrincipalFault>
         ensures { OkUnlessFault (principal_fault text.now) PrincipalFault.Memory text.now result }
     {

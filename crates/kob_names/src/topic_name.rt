@@ -48,9 +48,9 @@ pub enum TopicNameFault {
 }
 
 impl TopicName {
-    /// Reads a topic's name by Kafka's rules: 1 to 249 bytes of ASCII letters, digits, `.`, `_` and `-`, and not
-    /// `.` or `..`. `Empty`, `Dots`, `TooLong`, `BadByte` with the place of the first bad byte (from 0), and `Memory`
-    /// come in this order.
+    /// Reads a topic's name by Kafka's rules: 1 to 249 bytes of ASCII letters, digits, `.`, `_` and
+    /// `-`, and not `.` or `..`. `Empty`, `Dots`, `TooLong`, `BadByte` with the place of the first
+    /// bad byte (from 0), and `Memory` come in this order.
     pub fn parse(alloc: Global, text: &str) -> Result<TopicName, TopicNameFault>
         ensures { OkUnlessFault (topic_fault text.now) TopicNameFault.Memory text.now result }
     {

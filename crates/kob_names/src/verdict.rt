@@ -1,5 +1,8 @@
 //! The answer of the authorizer.
 
+ghost use Rattle.std.specs.Prelude.{◌≡◌};
+ghost use Rattle.kob_names.specs.Granted.{is_granted};
+
 use crate::plain_value::PlainValue;
 use std::alloc::{AllocError, Global};
 
@@ -14,6 +17,18 @@ pub enum Verdict {
     DeniedBy(u64),
     /// No allow grants it.
     NoAllow,
+}
+
+impl Verdict {
+    /// Whether the right is granted: to a super user, and by an allow.
+    pub fn is_granted(self) -> bool
+        ensures { result ≡ is_granted self }
+    {
+        match self {
+            Verdict::Super | Verdict::AllowedBy(_) => true,
+            Verdict::DeniedBy(_) | Verdict::NoAllow => false,
+        }
+    }
 }
 
 impl PlainValue for Verdict {

@@ -29,19 +29,18 @@ use Rattle.sqlite.specs.Command.TheVariants.{InsertOr}
 use Rattle.sqlite.specs.declared.error.Error.{Error}
 use Rattle.sqlite.specs.Does.{OnRows, OnTable}
 use Rattle.sqlite.specs.Listing.{understood}
-use Rattle.sqlite.specs.State.{EndsScope, Escapes, IsMisplaced, mode_of}
-use Rattle.sqlite_sql.specs.Ops.{fits_i64}
+use Rattle.sqlite.specs.State.{EndsScope, mode_of}
 use Rattle.sqlite_tied.specs.Compute.{everything}
 use Rattle.sqlite_typing.specs.Types.{accepts_terms}
 use Rattle.kob_outbox.proofs.statements.Failing.{IsMemory, IsWhole, NeverFails, for_memory_or, stays_inside}
-use Rattle.kob_outbox.proofs.statements.Ignoring.{IsSuited, ReferToNone, judged_clears, never_stops}
+use Rattle.kob_outbox.proofs.statements.Ignoring.{IsSuited, ReferToNone, all_fine, judged_clears, never_stops, not_escaping, not_misplaced}
 use Rattle.kob_outbox.proofs.statements.Writing.{wrote}
 use Rattle.kob_outbox.proofs.Texts.{spend_text, spend_is, spend_plain, new_spent}
 use Rattle.sqlite_rules.specs.declared.error.Rowids.TheVariants.{Given}
 use Rattle.sqlite.specs.Source.TheVariants.{Values}
 use Rattle.sqlite.specs.Effect.{Database}
 use Rattle.sqlite.specs.State.{State, Executes}
-use Rattle.kob_outbox.proofs.statements.Values.{equal_texts, unequal_numbers, number_below}
+use Rattle.kob_outbox.proofs.statements.Values.{equal_texts, fits, not_true, number_below, or_left, or_right, same_text, unequal_numbers}
 
 next_from : (k : ℕ) (ids : List (List ℕ)) → fold (λ _ r. id_in (rowid r) +ℤ pos 1) (pos k) (spent_rows k ids) ≡ pos (k + length ids)
 next_from k [] = ap pos (omega arith)
@@ -53,17 +52,6 @@ next_spent ids = next_from 1 ids ∙ ap pos (omega arith)
 pub put_last : (k n : ℕ) (ids : List (List ℕ)) (id : List ℕ) → n ≡ k + length ids → put_row (spent_row n id) (spent_rows k ids) ≡ spent_rows k (ids ++ id ∷ [])
 put_last k n [] id e = let same : n ≡ k = omega arith in rw same
 put_last k n (x ∷ ids) id e = let low : k < n = omega arith in rw (number_below k n low) (ap (λ more. spent_row k x ∷ more) (put_last (suc k) n ids id (omega arith)))
-
-same_text : (x : List ℕ) → bytes_eq x x ≡ true
-same_text x = (bytes_eq-Decides x x).1 refl
-
-or_left : (a b : Bool) → a ≡ true → (a || b) ≡ true
-or_left true b h = refl
-or_left false b h = absurd cc
-
-or_right : (a b : Bool) → b ≡ true → (a || b) ≡ true
-or_right true b h = refl
-or_right false b h = h
 
 -- a row of the table is that of one of the ids
 pub spent_at : (k : ℕ) (ids : List (List ℕ)) (r : Row) → Has (spent_rows k ids) r → (j : ℕ) × (j < k + length ids) × (id : List ℕ) × (r ≡ spent_row j id) × (is_recorded ids id ≡ true)
@@ -86,10 +74,6 @@ settled false = refl
 pub conflict_is : (j n : ℕ) (old new : List ℕ) → j < n → conflicts None service_schema.indexes spent_table (spent_row n new) (spent_row j old) ≡ bytes_eq old new
 unfolding first_key
 conflict_is j n old new low = rw (unequal_numbers j n low, equal_texts old new) (settled (bytes_eq old new))
-
-not_true : (b : Bool) → ¬ (b ≡ true) → b ≡ false
-not_true true h = absurd (h refl)
-not_true false h = refl
 
 pub alone : IsAlone service_schema Enforced spent_tree
 alone olds news = refl
@@ -115,21 +99,8 @@ suits seq id TooDeep judged = judged
 abbrev spending : Command
 spending = InsertOr 2 Ignore (Values new_spent 3) []
 
-not_misplaced : (old : State) (e : Error) → ¬ (IsMisplaced old spending e)
-not_misplaced old e (inl (is, inl (begins, h))) = cc
-not_misplaced old e (inl (is, inr (inl commits, h))) = cc
-not_misplaced old e (inl (is, inr (inr rolls, h))) = cc
-not_misplaced old e (inr (is, name, inl releases, h)) = cc
-not_misplaced old e (inr (is, name, inr goes, h)) = cc
-
-not_escaping : (old : State) → ¬ (Escapes 0 old spending)
-not_escaping old (inl (inl commits)) = cc
-not_escaping old (inl (inr rolls)) = cc
-not_escaping old (inr (name, inl releases, h)) = cc
-not_escaping old (inr (name, inr goes, h)) = cc
-
 pub not_ending : (old : State) (params : Row) → old.now.schema ≡ service_schema → ¬ (EndsScope 0 spend_text params old)
-not_ending old params has = stays_inside spend_text params old service_schema spending has spend_is (not_escaping old)
+not_ending old params has = stays_inside spend_text params old service_schema spending has spend_is (not_escaping 2 (Values new_spent 3) old)
 
 spend_whole : IsWhole 2 spend_text (understood service_schema spend_text)
 unfolding understood everything
@@ -138,13 +109,6 @@ spend_whole = (omega arith, refl)
 spend_accepted : (id : List ℕ) (seq : ℕ) → accepts_terms new_spent (Text id ∷ Int (pos seq) ∷ []) ≡ true
 unfolding everything
 spend_accepted id seq = refl
-
-fits : (seq : ℕ) → seq < 2 ^ 63 → fits_i64 (pos seq) ≡ true
-fits seq low = grind (arith, low)
-
-all_fine : (rows : List Row) → AllByRecursion (λ row. true ≡ true) rows
-all_fine [] = tt
-all_fine (row ∷ rows) = (refl, all_fine rows)
 
 pub refer_to_none : ReferToNone service_schema
 refer_to_none among db = (all_fine _, (all_fine _, (all_fine _, (all_fine _, tt))))
@@ -232,7 +196,7 @@ module _ (limit : Option ℕ) (ids : List (List ℕ)) (id : List ℕ) (seq : ℕ
       → Executes spend_text params old new (Err e) → IsMemory e
   spends_again old new e never none unlimited now low recorded h =
       let schema : old.now.schema ≡ service_schema = ap (λ (d : Database). d.schema) now in
-      elim (for_memory_or old new never spend_text params service_schema schema spend_plain spend_whole spending spend_is refl (λ e. not_misplaced old e) e h) [
+      elim (for_memory_or old new never spend_text params service_schema schema spend_plain spend_whole spending spend_is refl (not_misplaced 2 (Values new_spent 3) old) e h) [
         | inl memory ↦ memory
         | inr stopped ↦ absurd (
             never_stops limit Enforced service_schema spent_table params refer_to_none alone 2 new_spent 3 (Null ∷ params) (spent_row seq id) db (mode_of old) refl none (spend_accepted id seq) (tried_row db ids id seq holds is) (fits seq low)

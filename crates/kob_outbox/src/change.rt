@@ -1,3 +1,9 @@
+//! What a service changes.
+
+ghost use Rattle.std.specs.Prelude.{◌≡◌, IfOk, string_bytes};
+
+use std::alloc::{AllocError, Global};
+
 /// A business row as a service writes it, under the key of its kind and its id.
 ///
 /// Kind and id have up to 255 bytes, the state up to 1,048,576, and none has a zero byte.
@@ -6,4 +12,18 @@ pub struct Change {
     pub kind: String,
     pub id: String,
     pub state: String,
+}
+
+impl Change {
+    /// A change with the same texts. The error is want of memory.
+    pub fn copy(&self, alloc: Global) -> Result<Change, AllocError>
+        ensures kind { IfOk result (λ made. string_bytes made.kind ≡ string_bytes self.now.kind) }
+        ensures id { IfOk result (λ made. string_bytes made.id ≡ string_bytes self.now.id) }
+        ensures state { IfOk result (λ made. string_bytes made.state ≡ string_bytes self.now.state) }
+    {
+        let kind = String::from_str(alloc, self.kind.as_str())?;
+        let id = String::from_str(alloc, self.id.as_str())?;
+        let state = String::from_str(alloc, self.state.as_str())?;
+        Ok(Change { kind, id, state })
+    }
 }

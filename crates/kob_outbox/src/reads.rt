@@ -9,7 +9,7 @@ use crate::business_table::select_business;
 use crate::event::Row;
 use crate::fault::OutboxFault;
 use crate::mark_table::select_mark;
-use crate::number::number;
+use crate::numbers::number;
 use crate::outbox_table::select_after;
 use crate::rows::rows_of;
 use crate::spent_table::select_last;

@@ -1,5 +1,5 @@
 -- The tree's entries as a finite map, before and after a change.
-use Rattle.std.proofs.Common.{◌≡◌, ◌≢◌, ℕ, ◌+◌, length, Bool, true, false, cond, List, [], ◌∷◌, ◌++◌, Option, None, Some, refl, sym, ap, ◌∙◌, subst, arith, append-nil}
+use Rattle.std.proofs.Common.{◌≡◌, ◌≢◌, ℕ, ◌+◌, length, Bool, true, false, cond, List, [], ◌∷◌, ◌++◌, Option, None, Some, refl, sym, ap, ◌∙◌, subst, arith}
 use Rattle.std.proofs.Math.Bool.{true≢false}
 use Rattle.std.proofs.lemmas.Bool.{eqb-true}
 use Rattle.std.specs.Option.{unwrap_or}
@@ -12,11 +12,9 @@ use Rattle.std.specs.FinMap as map
 use Rattle.std.specs.FinMap.{find, nat_cmp-IsAntisymmetric, slice_cmp-IsAntisymmetric}
 use Rattle.kob_prefix_tree.specs.declared.kind.PatternKind.{PatternKind}
 use Rattle.kob_prefix_tree.specs.declared.kind.PatternKind.TheVariants.{Literal, Prefixed}
-use Rattle.kob_prefix_tree.specs.Held.{Held, nothing, is_nothing, one_serial, joined, with_serial, without_serial}
+use Rattle.kob_prefix_tree.specs.Held.{Held, nothing, is_nothing, with_serial}
 use Rattle.kob_prefix_tree.specs.Entries.{Entries, held_at, AllInUse}
-use Rattle.kob_prefix_tree.specs.Walked.{walked, IsLongestInUse}
-use Rattle.kob_prefix_tree.specs.PrefixMap.{PrefixMap, held, added, removed, walk_of}
-use Rattle.kob_prefix_tree.proofs.MergeLemmas.{joined-nothing}
+use Rattle.kob_prefix_tree.specs.PrefixMap.{PrefixMap, held, added}
 
 abbrev pub bytes : List ℕ → List ℕ → Bool
 bytes x y = eq_by_cmp (slice_cmp nat_cmp) x y
@@ -74,10 +72,6 @@ other_bytes x y e same = true≢false (sym (ap is_eq (tied_itself nat_list_cmp_t
 same_map : (es : Entries) (m : PrefixMap) → ((key : List ℕ) → find (slice_cmp nat_cmp) key es ≡ map.get m key) → map_of es ≡ m
 same_map es m is = map.same_map nat_list_cmp_total (slice_cmp-IsAntisymmetric nat_cmp-IsAntisymmetric) (map_of es) m (λ key. get_of es key ∙ is key)
 
-joined_one : (kind : PatternKind) (serial : ℕ) (h : Held) → joined h (one_serial kind serial) ≡ with_serial kind serial h
-joined_one Literal serial h i = (h.0 ++ serial ∷ [], append-nil h.1 i)
-joined_one Prefixed serial h i = (append-nil h.0 i, h.1 ++ serial ∷ [])
-
 some_behind : (xs : List ℕ) (x : ℕ) → xs ++ x ∷ [] ≢ []
 some_behind [] x e = cc
 some_behind (y ∷ xs) x e = cc
@@ -88,40 +82,43 @@ with_some Prefixed serial h e = some_behind h.1 serial (ap (λ x. x.1) e)
 
 -- entries that took in one serial
 pub map_added : (es new : Entries) (key : List ℕ) (kind : PatternKind) (serial : ℕ) → AllInUse es → AllInUse new
-    → ((k : List ℕ) → held_at new k ≡ joined (held_at es k) (held_at ((key, one_serial kind serial) ∷ []) k)) → map_of new ≡ added (map_of es) key kind serial
-map_added es new key kind serial used new_used is = same_map new (added (map_of es) key kind serial) (λ k.
-    found_of_held k new new_used ∙ ap kept (is k) ∙ at k ∙ sym (map.get-insert nat_list_cmp_total (map_of es) key (with_serial kind serial (held (map_of es) key)) k))
+    → held_at new key ≡ with_serial kind serial (held_at es key) → ((k : List ℕ) → k ≢ key → held_at new k ≡ held_at es k) → map_of new ≡ added (map_of es) key kind serial
+map_added es new key kind serial used new_used put elsewhere = same_map new (added (map_of es) key kind serial) (λ k.
+    found_of_held k new new_used ∙ at k ∙ sym (map.get-insert nat_list_cmp_total (map_of es) key (with_serial kind serial (held (map_of es) key)) k))
   where
-    at : (k : List ℕ) → kept (joined (held_at es k) (held_at ((key, one_serial kind serial) ∷ []) k)) ≡ cond (bytes k key) (Some (with_serial kind serial (held (map_of es) key))) (map.get (map_of es) k)
-    at k = elim (bytes k key) as (λ b. bytes k key ≡ b → kept (joined (held_at es k) (unwrap_or (cond b (Some (one_serial kind serial)) None) nothing)) ≡ cond b (Some (with_serial kind serial (held (map_of es) key))) (map.get (map_of es) k)) [
+    at : (k : List ℕ) → kept (held_at new k) ≡ cond (bytes k key) (Some (with_serial kind serial (held (map_of es) key))) (map.get (map_of es) k)
+    at k = elim (bytes k key) as (λ b. bytes k key ≡ b → kept (held_at new k) ≡ cond b (Some (with_serial kind serial (held (map_of es) key))) (map.get (map_of es) k)) [
       | true ↦ λ e.
-          let at_key : held_at es k ≡ held (map_of es) key = ap (held_at es) (same_bytes k key e) ∙ sym (held_of es key) in
-          ap kept (joined_one kind serial (held_at es k) ∙ ap (with_serial kind serial) at_key) ∙ kept-some _ (with_some kind serial (held (map_of es) key))
-      | false ↦ λ e. ap kept (joined-nothing (held_at es k)) ∙ sym (found_of_held k es used) ∙ sym (get_of es k)
-    ] refl
-
--- entries from which one serial was taken out
-pub map_removed : (es new : Entries) (key : List ℕ) (kind : PatternKind) (serial : ℕ) → AllInUse es → AllInUse new
-    → held_at new key ≡ without_serial kind serial (held_at es key) → ((k : List ℕ) → k ≢ key → held_at new k ≡ held_at es k) → map_of new ≡ removed (map_of es) key kind serial
-map_removed es new key kind serial used new_used taken elsewhere = same_map new (removed (map_of es) key kind serial) (λ k. found_of_held k new new_used ∙ at k ∙ sym (get_removed k))
-  where
-    get_removed : (k : List ℕ) → map.get (removed (map_of es) key kind serial) k ≡ cond (bytes k key) (kept (without_serial kind serial (held (map_of es) key))) (map.get (map_of es) k)
-    get_removed k = elim (is_nothing (without_serial kind serial (held (map_of es) key))) as (λ b. map.get (cond b (map.remove (map_of es) key) (map.insert (map_of es) key (without_serial kind serial (held (map_of es) key)))) k ≡ cond (bytes k key) (cond b None (Some (without_serial kind serial (held (map_of es) key)))) (map.get (map_of es) k)) [
-      | true ↦ map.get-remove nat_list_cmp_total (map_of es) key k
-      | false ↦ map.get-insert nat_list_cmp_total (map_of es) key (without_serial kind serial (held (map_of es) key)) k
-    ]
-
-    at : (k : List ℕ) → kept (held_at new k) ≡ cond (bytes k key) (kept (without_serial kind serial (held (map_of es) key))) (map.get (map_of es) k)
-    at k = elim (bytes k key) as (λ b. bytes k key ≡ b → kept (held_at new k) ≡ cond b (kept (without_serial kind serial (held (map_of es) key))) (map.get (map_of es) k)) [
-      | true ↦ λ e. ap kept (ap (held_at new) (same_bytes k key e) ∙ taken ∙ ap (without_serial kind serial) (sym (held_of es key)))
+          ap kept (ap (held_at new) (same_bytes k key e) ∙ put ∙ ap (with_serial kind serial) (sym (held_of es key))) ∙ kept-some _ (with_some kind serial (held (map_of es) key))
       | false ↦ λ e. ap kept (elsewhere k (other_bytes k key e)) ∙ sym (found_of_held k es used) ∙ sym (get_of es k)
     ] refl
 
-held_of_all : (es : Entries) → held_at es ≡ held (map_of es)
-held_of_all es = sym (λ i key. held_of es key i)
+-- entries of which one key holds something else now, or nothing
+pub map_left : (es new : Entries) (key : List ℕ) (left : Held) → AllInUse es → AllInUse new
+    → held_at new key ≡ left → ((k : List ℕ) → k ≢ key → held_at new k ≡ held_at es k) → map_of new ≡ cond (is_nothing left) (map.remove (map_of es) key) (map.insert (map_of es) key left)
+map_left es new key left used new_used taken elsewhere = same_map new now (λ k. found_of_held k new new_used ∙ at k ∙ sym (get_now k))
+  where
+    now : PrefixMap
+    now = cond (is_nothing left) (map.remove (map_of es) key) (map.insert (map_of es) key left)
 
-pub walk_of_entries : (es : Entries) (name : List ℕ) → walked (held_at es) name ≡ walk_of (map_of es) name
-walk_of_entries es name = ap (λ f. walked f name) (held_of_all es)
+    get_now : (k : List ℕ) → map.get now k ≡ cond (bytes k key) (kept left) (map.get (map_of es) k)
+    get_now k = elim (is_nothing left) as (λ b. map.get (cond b (map.remove (map_of es) key) (map.insert (map_of es) key left)) k ≡ cond (bytes k key) (cond b None (Some left)) (map.get (map_of es) k)) [
+      | true ↦ map.get-remove nat_list_cmp_total (map_of es) key k
+      | false ↦ map.get-insert nat_list_cmp_total (map_of es) key left k
+    ]
 
-pub longest_of_entries : (es : Entries) (name : List ℕ) (n : ℕ) → IsLongestInUse (held_at es) name n → IsLongestInUse (held (map_of es)) name n
-longest_of_entries es name n longest = subst (λ f. IsLongestInUse f name n) (held_of_all es) longest
+    at : (k : List ℕ) → kept (held_at new k) ≡ cond (bytes k key) (kept left) (map.get (map_of es) k)
+    at k = elim (bytes k key) as (λ b. bytes k key ≡ b → kept (held_at new k) ≡ cond b (kept left) (map.get (map_of es) k)) [
+      | true ↦ λ e. ap kept (ap (held_at new) (same_bytes k key e) ∙ taken)
+      | false ↦ λ e. ap kept (elsewhere k (other_bytes k key e)) ∙ sym (found_of_held k es used) ∙ sym (get_of es k)
+    ] refl
+
+-- entries that hold at each key what others hold
+pub map_same : (es new : Entries) (key : List ℕ) → AllInUse es → AllInUse new → held_at new key ≡ held_at es key → ((k : List ℕ) → k ≢ key → held_at new k ≡ held_at es k) → map_of new ≡ map_of es
+map_same es new key used new_used same elsewhere = same_map new (map_of es) (λ k. found_of_held k new new_used ∙ ap kept (at k) ∙ sym (found_of_held k es used) ∙ sym (get_of es k))
+  where
+    at : (k : List ℕ) → held_at new k ≡ held_at es k
+    at k = elim (bytes k key) as (λ b. bytes k key ≡ b → held_at new k ≡ held_at es k) [
+      | true ↦ λ e. subst (λ x. held_at new x ≡ held_at es x) (sym (same_bytes k key e)) same
+      | false ↦ λ e. elsewhere k (other_bytes k key e)
+    ] refl

@@ -1,10 +1,11 @@
 -- A walk, step by step.
-use Rattle.std.proofs.Common.{◌≡◌, ℕ, ◌+◌, List, [], ◌∷◌, ◌++◌, map, length, Option, None, Some, refl, sym, ap, ◌∙◌, append_assoc, Bor}
+use Rattle.std.proofs.Common.{◌≡◌, ℕ, ◌+◌, List, [], ◌∷◌, ◌++◌, map, length, Option, None, Some, refl, ap, ◌∙◌, append_assoc}
 use Rattle.std.specs.List.{flat_map}
 use Rattle.kob_prefix_tree.specs.declared.serials.Unread.{Unread}
 use Rattle.kob_prefix_tree.specs.declared.walk.Ahead.{Ahead}
 use Rattle.kob_prefix_tree.specs.Held.{Held, nothing}
-use Rattle.kob_prefix_tree.specs.Entries.{Entries, held_at}
+use Rattle.kob_prefix_tree.specs.Siblings.{Contents, held_in}
+use Rattle.kob_prefix_tree.specs.Contents.{seen}
 use Rattle.kob_prefix_tree.specs.Walked.{prefixes, walked}
 use Rattle.kob_prefix_tree.specs.WalkLeft.{longer_prefixes, walked_on, ahead_of, left_of}
 use Rattle.kob_prefix_tree.specs.SerialsLeft.{unread_of}
@@ -13,11 +14,6 @@ use Rattle.kob_prefix_tree.specs.SerialsLeft.{unread_of}
 abbrev pub steps_ahead : Option Ahead → ℕ
 steps_ahead None = 0
 steps_ahead (Some a) = length a.name.now + 1
-
--- how many stretches of a list are not yet begun
-abbrev pub stretches_left : Option (Bor (List (List ℕ))) → ℕ
-stretches_left None = 0
-stretches_left (Some stretches) = length stretches.now
 
 flat_map-map : (f : List ℕ → List ℕ) (byte : ℕ) (ps : List (List ℕ)) → flat_map f (map (λ prefix. byte ∷ prefix) ps) ≡ flat_map (λ prefix. f (byte ∷ prefix)) ps
 flat_map-map f byte [] = refl
@@ -32,31 +28,34 @@ pub walked-first : (held : List ℕ → Held) (name : List ℕ) → walked held 
 walked-first held name = ap (λ ps. flat_map (λ prefix. (held prefix).1) ps ++ (held name).0) (prefixes-longer name) ∙ append_assoc (held []).1 (flat_map (λ prefix. (held prefix).1) (longer_prefixes name)) (held name).0
 
 -- a child goes on
-pub walked_on-child : (es child : Entries) (byte : ℕ) (name : List ℕ) → ((key : List ℕ) → held_at es (byte ∷ key) ≡ held_at child key) → walked_on es (byte ∷ name) ≡ (held_at child []).1 ++ walked_on child name
-walked_on-child es child byte name is =
-    (λ i. flat_map-map (λ prefix. (held_at es prefix).1) byte (prefixes name) i ++ (is name i).0)
-    ∙ (λ i. flat_map (λ prefix. (is prefix i).1) (prefixes name) ++ (held_at child name).0)
-    ∙ walked-first (held_at child) name
+pub walked_on-child : (held child : List ℕ → Held) (byte : ℕ) (name : List ℕ) → ((key : List ℕ) → held (byte ∷ key) ≡ child key) → walked_on held (byte ∷ name) ≡ (child []).1 ++ walked_on child name
+walked_on-child held child byte name is =
+    (λ i. flat_map-map (λ prefix. (held prefix).1) byte (prefixes name) i ++ (is name i).0)
+    ∙ (λ i. flat_map (λ prefix. (is prefix i).1) (prefixes name) ++ (child name).0)
+    ∙ walked-first child name
 
 nothing_along : (f : List ℕ → List ℕ) (ps : List (List ℕ)) → ((p : List ℕ) → f p ≡ []) → flat_map f ps ≡ []
 nothing_along f [] none = refl
 nothing_along f (p ∷ ps) none = ap (λ ys. ys ++ flat_map f ps) (none p) ∙ nothing_along f ps none
 
 -- without a child there is nothing more
-pub walked_on-none : (es : Entries) (byte : ℕ) (name : List ℕ) → ((key : List ℕ) → held_at es (byte ∷ key) ≡ nothing) → walked_on es (byte ∷ name) ≡ []
-walked_on-none es byte name none =
-    (λ i. flat_map-map (λ prefix. (held_at es prefix).1) byte (prefixes name) i ++ (none name i).0)
-    ∙ ap (λ ys. ys ++ []) (nothing_along (λ prefix. (held_at es (byte ∷ prefix)).1) (prefixes name) (λ p. ap (λ (h : Held). h.1) (none p)))
+pub walked_on-none : (held : List ℕ → Held) (byte : ℕ) (name : List ℕ) → ((key : List ℕ) → held (byte ∷ key) ≡ nothing) → walked_on held (byte ∷ name) ≡ []
+walked_on-none held byte name none =
+    (λ i. flat_map-map (λ prefix. (held prefix).1) byte (prefixes name) i ++ (none name i).0)
+    ∙ ap (λ ys. ys ++ []) (nothing_along (λ prefix. (held (byte ∷ prefix)).1) (prefixes name) (λ p. ap (λ (h : Held). h.1) (none p)))
 
 -- a walk whose list is used up, at a byte that leads nowhere, and at one that leads to a child
 module _ (serials : Unread) (ahead : Option Ahead) (a : Ahead) (byte : ℕ) (rest : List ℕ)
     (used : unread_of serials ≡ []) (is : ahead ≡ Some a) (name : a.name.now ≡ byte ∷ rest) where
-  first_of : left_of (record { serials = serials; ahead = ahead }) ≡ walked_on a.branch.now (byte ∷ rest)
-  first_of = (λ i. used i ++ ahead_of (is i)) ∙ ap (walked_on a.branch.now) name
+  abbrev held : List ℕ → Held
+  held key = held_in key (seen a.place)
 
-  pub step_none : ((key : List ℕ) → held_at a.branch.now (byte ∷ key) ≡ nothing) → left_of (record { serials = serials; ahead = ahead }) ≡ []
-  step_none none = first_of ∙ walked_on-none a.branch.now byte rest none
+  first_of : left_of (record { serials = serials; ahead = ahead }) ≡ walked_on held (byte ∷ rest)
+  first_of = (λ i. used i ++ ahead_of (is i)) ∙ ap (walked_on held) name
 
-  pub step_child : (child : Entries) (prefixed : List ℕ) → ((key : List ℕ) → held_at a.branch.now (byte ∷ key) ≡ held_at child key) → prefixed ≡ (held_at child []).1
-      → left_of (record { serials = serials; ahead = ahead }) ≡ prefixed ++ walked_on child rest
-  step_child child prefixed same at = first_of ∙ walked_on-child a.branch.now child byte rest same ∙ ap (λ ys. ys ++ walked_on child rest) (sym at)
+  pub step_none : ((key : List ℕ) → held_in (byte ∷ key) (seen a.place) ≡ nothing) → left_of (record { serials = serials; ahead = ahead }) ≡ []
+  step_none none = first_of ∙ walked_on-none held byte rest none
+
+  pub step_child : (child : Contents) → ((key : List ℕ) → held_in (byte ∷ key) (seen a.place) ≡ held_in key child)
+      → left_of (record { serials = serials; ahead = ahead }) ≡ child.0.1 ++ walked_on (λ key. held_in key child) rest
+  step_child child same = first_of ∙ walked_on-child held (λ key. held_in key child) byte rest same

@@ -1,10 +1,12 @@
 -- What stands in a part of the tree, as a list of entries.
-use Rattle.std.specs.Prelude.{◌≡◌, ◌≢◌, ℕ, ◌+◌, ◌*◌, List, [], ◌∷◌, ◌++◌, map, length, Option, None, Some, unwrap_or, ◌==◌, if◌then◌else◌}
+use Rattle.std.specs.Prelude.{◌≡◌, ◌≢◌, ℕ, List, [], ◌∷◌, ◌++◌, map, Option, None, Some, unwrap_or}
 use Rattle.std.specs.Ordering.{nat_cmp}
 use Rattle.std.specs.Cmp.Lexicographic.{slice_cmp}
 use Rattle.std.specs.FinMap.{find}
 use Rattle.kob_prefix_tree.specs.Held.{Held, nothing}
-use Rattle.kob_prefix_tree.specs.Lists.{without_first}
+use Rattle.kob_prefix_tree.specs.Tree.{Tree, leaf, node}
+use Rattle.kob_prefix_tree.specs.declared.siblings.Item.{Item}
+use Rattle.kob_prefix_tree.specs.Siblings.{Contents, value_at}
 
 -- keys, each with what it holds
 abbrev pub Entries : Type 0
@@ -42,31 +44,22 @@ abbrev pub AllInUse : Entries → Type 0
 AllInUse [] = Unit {0}
 AllInUse (e ∷ es) = (e.1 ≢ nothing) × AllInUse es
 
--- the entries behind a first byte
-abbrev pub child_at : ℕ → Children → Option Entries
-child_at byte [] = None
-child_at byte (child ∷ children) = if child.0 == byte then Some child.1 else child_at byte children
-
 -- what stands at the rest of a key behind a first byte
 abbrev pub held_behind : Option Entries → List ℕ → Held
 held_behind None key = nothing
 held_behind (Some es) key = held_at es key
 
--- the children less the one of this byte
-abbrev pub without_child : ℕ → Children → Children
-without_child byte children = without_first (λ child. child.0 == byte) children
-
 -- each child leads to a key in use, and no two have one byte
 abbrev pub IsTidy : Children → Type 0
 IsTidy [] = Unit {0}
 IsTidy (child ∷ children) =
-    (child_at child.0 children ≡ None) × ((child.1 ≢ []) × (AllInUse child.1 × IsTidy children))
+    (value_at child.0 children ≡ None) × ((child.1 ≢ []) × (AllInUse child.1 × IsTidy children))
 
--- twice the bytes of all keys
-abbrev pub twice_bytes : Entries → ℕ
-twice_bytes [] = 0
-twice_bytes (e ∷ es) = 2 * length e.0 + twice_bytes es
+-- each sibling's byte with the entries below it, in order
+abbrev pub children_of : Tree Item → Children
+children_of leaf = []
+children_of (node item heap c below n after) = (item.byte, entries_of item.literal item.prefixed (children_of below)) ∷ children_of after
 
--- a number that falls from a part of the tree to each part below it
-abbrev pub weight : Entries → ℕ
-weight es = 1 + twice_bytes es
+-- the entries of a place of the tree
+abbrev pub entries_in : Contents → Entries
+entries_in c = entries_of c.0.0 c.0.1 (children_of c.1)

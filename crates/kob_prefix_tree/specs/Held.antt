@@ -3,7 +3,7 @@ use Rattle.std.specs.Prelude.{ℕ, ◌+◌, nat_eq, length, Bool, ◌==◌, List
 use Rattle.std.specs.List.{list_any}
 use Rattle.kob_prefix_tree.specs.declared.kind.PatternKind.{PatternKind}
 use Rattle.kob_prefix_tree.specs.declared.kind.PatternKind.TheVariants.{Literal, Prefixed}
-use Rattle.kob_prefix_tree.specs.Lists.{without_first}
+use Rattle.kob_prefix_tree.specs.Lists.{without_first, without_in_turn, has_in_turn}
 
 -- the literal serials, and the prefixed ones
 abbrev pub Held : Type 0
@@ -31,6 +31,11 @@ one_serial Prefixed serial = ([], serial ∷ [])
 abbrev pub joined : Held → Held → Held
 joined first second = (first.0 ++ second.0, first.1 ++ second.1)
 
+-- the serials put last in the list of this kind
+abbrev pub with_serials : PatternKind → List ℕ → Held → Held
+with_serials Literal serials held = (held.0 ++ serials, held.1)
+with_serials Prefixed serials held = (held.0, held.1 ++ serials)
+
 -- the serial put last in the list of its kind
 abbrev pub with_serial : PatternKind → ℕ → Held → Held
 with_serial Literal serial held = (held.0 ++ serial ∷ [], held.1)
@@ -44,3 +49,12 @@ without_serial Prefixed serial held = (held.0, without_first (λ x. x == serial)
 -- whether it is there
 abbrev pub has_serial : PatternKind → ℕ → Held → Bool
 has_serial kind serial held = list_any (λ x. x == serial) (serials_of kind held)
+
+-- these serials taken out of the list of their kind, in one pass
+abbrev pub without_serials : PatternKind → List ℕ → Held → Held
+without_serials Literal serials held = (without_in_turn serials held.0, held.1)
+without_serials Prefixed serials held = (held.0, without_in_turn serials held.1)
+
+-- whether any of them is taken out
+abbrev pub has_serials : PatternKind → List ℕ → Held → Bool
+has_serials kind serials held = has_in_turn serials (serials_of kind held)

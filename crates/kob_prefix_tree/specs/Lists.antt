@@ -1,17 +1,19 @@
 -- Words on lists.
-use Rattle.std.specs.Prelude.{ℕ, Bool, if◌then◌else◌, List, [], ◌∷◌, ◌++◌}
-
--- xs turned round, in front of ys
-abbrev pub turned_onto : {A : Type 0} → List A → List A → List A
-turned_onto [] ys = ys
-turned_onto (x ∷ xs) ys = turned_onto xs (x ∷ ys)
+use Rattle.std.specs.Prelude.{ℕ, Bool, false, ◌==◌, if◌then◌else◌, List, [], ◌∷◌}
+use Rattle.std.specs.List.{list_any}
 
 -- xs less the first element that passes the test
 abbrev pub without_first : {A : Type 0} → (A → Bool) → List A → List A
 without_first test [] = []
 without_first test (x ∷ xs) = if test x then xs else x ∷ without_first test xs
 
--- the lists joined, the last one first
-abbrev pub joined_back : List (List ℕ) → List ℕ
-joined_back [] = []
-joined_back (xs ∷ xss) = joined_back xss ++ xs
+-- xs less these numbers, in one pass: each is taken out once, behind the one before it
+abbrev pub without_in_turn : List ℕ → List ℕ → List ℕ
+without_in_turn ys [] = []
+without_in_turn [] (x ∷ xs) = x ∷ xs
+without_in_turn (y ∷ ys) (x ∷ xs) = if x == y then without_in_turn ys xs else x ∷ without_in_turn (y ∷ ys) xs
+
+-- whether such a pass takes any out
+abbrev pub has_in_turn : List ℕ → List ℕ → Bool
+has_in_turn [] xs = false
+has_in_turn (y ∷ ys) xs = list_any (λ x. x == y) xs

@@ -4,7 +4,7 @@ use Rattle.std.specs.Ordering.{nat_cmp}
 use Rattle.std.specs.Cmp.Lexicographic.{slice_cmp}
 use Rattle.std.specs.FinMap as map
 use Rattle.kob_prefix_tree.specs.declared.kind.PatternKind.{PatternKind}
-use Rattle.kob_prefix_tree.specs.Held.{Held, nothing, is_nothing, with_serial, without_serial}
+use Rattle.kob_prefix_tree.specs.Held.{Held, nothing, is_nothing, with_serial, without_serial, without_serials}
 use Rattle.kob_prefix_tree.specs.Walked.{walked, IsLongestInUse}
 
 -- keys in use, each with what it holds
@@ -23,6 +23,12 @@ added m key kind serial = map.insert m key (with_serial kind serial (held m key)
 abbrev pub removed : PrefixMap → List ℕ → PatternKind → ℕ → PrefixMap
 removed m key kind serial =
     let left = without_serial kind serial (held m key) in
+    if is_nothing left then map.remove m key else map.insert m key left
+
+-- the map after these serials are taken out, in one pass
+abbrev pub removed_all : PrefixMap → List ℕ → PatternKind → List ℕ → PrefixMap
+removed_all m key kind serials =
+    let left = without_serials kind serials (held m key) in
     if is_nothing left then map.remove m key else map.insert m key left
 
 -- the prefixed serials of the keys with which the name begins, and then its literal ones

@@ -5,8 +5,9 @@ use Rattle.kob_prefix_tree.specs.declared.kind.PatternKind.TheVariants.{Literal,
 use Rattle.kob_prefix_tree.specs.declared.walk.Ahead.{Ahead}
 use Rattle.kob_prefix_tree.specs.declared.walk.Walk.{Walk}
 use Rattle.kob_prefix_tree.specs.SerialsLeft.{unread_of}
-use Rattle.kob_prefix_tree.specs.Held.{serials_of}
-use Rattle.kob_prefix_tree.specs.Entries.{Entries, held_at}
+use Rattle.kob_prefix_tree.specs.Held.{Held, serials_of}
+use Rattle.kob_prefix_tree.specs.Siblings.{held_in}
+use Rattle.kob_prefix_tree.specs.Contents.{seen}
 use Rattle.kob_prefix_tree.specs.Walked.{prefixes}
 
 -- the beginnings of a name but the empty one
@@ -15,13 +16,13 @@ longer_prefixes [] = []
 longer_prefixes (byte ∷ name) = map (λ prefix. byte ∷ prefix) (prefixes name)
 
 -- what comes behind the prefixed serials of the place itself
-abbrev pub walked_on : Entries → List ℕ → List ℕ
-walked_on es name = flat_map (λ prefix. serials_of Prefixed (held_at es prefix)) (longer_prefixes name) ++ serials_of Literal (held_at es name)
+abbrev pub walked_on : (List ℕ → Held) → List ℕ → List ℕ
+walked_on held name = flat_map (λ prefix. serials_of Prefixed (held prefix)) (longer_prefixes name) ++ serials_of Literal (held name)
 
 -- what a place still ahead gives
 abbrev pub ahead_of : Option Ahead → List ℕ
 ahead_of None = []
-ahead_of (Some a) = walked_on a.branch.now a.name.now
+ahead_of (Some a) = walked_on (λ key. held_in key (seen a.place)) a.name.now
 
 -- the serials that are left, in order
 abbrev pub left_of : Walk → List ℕ

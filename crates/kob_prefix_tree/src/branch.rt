@@ -1,207 +1,227 @@
-//! What hangs at one place of the tree: the serials of the key that ends there, and the nodes that follow.
-ghost use Rattle.std.specs.Prelude.{◌≡◌, ◌≢◌, [], ◌∷◌, ◌<◌, ◌↔◌, IfOk, IfSome, IsTrue, MatchOption};
+//! What hangs at one place of the tree: the serials of the key that ends there, and the nodes that
+//! follow.
+ghost use Rattle.std.specs.Prelude.{◌≡◌, ◌≢◌, ◌∷◌, [], ◌≤◌, ◌↔◌, ℕ, List, length};
+ghost use Rattle.std.specs.Prelude.{IfSome, IsTrue, OnErr, OnOk, MatchOption};
+ghost use Rattle.kob_prefix_tree.specs.Held.{nothing, with_serials, without_serials, has_serials};
+ghost use Rattle.kob_prefix_tree.specs.Siblings.{bare, held_in, IsNeat};
+ghost use Rattle.kob_prefix_tree.specs.Contents.{contents, node_contents, seen};
+ghost use Rattle.kob_prefix_tree.specs.Path.{key_of};
+ghost use Rattle.kob_prefix_tree.specs.Walked.{IsLongestInUse};
 
 use crate::kind::PatternKind;
-use crate::nodes::Nodes;
+use crate::link::Link;
+use crate::node::Node;
 use crate::serials::Serials;
+use crate::siblings::{ByteNode, Item, path_of};
 use std::alloc::{AllocError, Global};
-use std::marker::Model;
 
-/// The literal and the prefixed serials of one key, and the first of the nodes that follow it.
-#[cycle(nodes)]
+/// The literal and the prefixed serials of one key, and the nodes that follow it.
 #[derive(Drop)]
 pub(crate) struct Branch {
-    literal: Serials,
-    prefixed: Serials,
-    below: Nodes,
-}
-
-impl Model for Branch {
-    ghost use Rattle.kob_prefix_tree.specs.Entries.{Entries, entries_of, IsTidy, weight};
-
-    ghost Value = { Entries };
-
-    ghost view = { λ a. entries_of a.literal a.prefixed a.below };
-
-    ghost invariant = { λ a. IsTidy a.below };
-
-    ghost size = { weight };
-
-    ghost use Rattle.kob_prefix_tree.specs.BranchFall.{deep_le-weight};
-
-    ghost size_decreases = { λ a h. deep_le-weight a h };
+    pub(crate) literal: Serials,
+    pub(crate) prefixed: Serials,
+    pub(crate) below: Link<Item>,
 }
 
 impl Branch {
-    ghost use Rattle.kob_prefix_tree.specs.NodesView.{weight_of};
-    ghost use Rattle.std.specs.Prelude.{ℕ, ◌≤◌, List, length};
-    ghost use Rattle.kob_prefix_tree.specs.Held.{nothing, one_serial, joined, without_serial, has_serial};
-    ghost use Rattle.kob_prefix_tree.specs.Entries.{weight, behind, held_at, AllInUse};
-    ghost use Rattle.kob_prefix_tree.specs.Walked.{IsLongestInUse};
-
     pub(crate) fn new() -> Branch
-        ensures { result ≡ [] }
+        ensures { contents result ≡ bare }
     {
         Branch {
             literal: Serials::new(),
             prefixed: Serials::new(),
-            below: Nodes::new(),
+            below: Link::null(),
         }
     }
 
-    fn leaf(alloc: Global, kind: PatternKind, serial: u64) -> Result<Branch, AllocError>
-        ensures { IfOk result (λ b. b ≡ ([], one_serial kind serial) ∷ []) }
+    /// The branch, to be read.
+    pub(crate) fn place(&self) -> Place<'_>
+        ensures { seen result ≡ contents self.now }
     {
-        let serials = Serials::one(alloc, serial)?;
-        let below = Nodes::new();
-        Ok(match kind {
-            PatternKind::Literal => Branch {
-                literal: serials,
-                prefixed: Serials::new(),
-                below,
-            },
-            PatternKind::Prefixed => Branch {
-                literal: Serials::new(),
-                prefixed: serials,
-                below,
-            },
-        })
+        Place {
+            literal: &self.literal,
+            prefixed: &self.prefixed,
+            below: &self.below,
+        }
     }
 
-    /// This branch as what follows one byte.
-    fn above(self, alloc: Global, byte: u8) -> Result<Branch, AllocError>
-        requires some { self ≢ [] }
-        requires in_use { AllInUse self }
-        ensures { IfOk result (λ b. b ≡ behind byte self) }
+    pub(crate) fn is_bare(&self) -> bool
+        ensures { IsTrue result ↔ (contents self.now ≡ bare) }
     {
-        let below = Nodes::one(alloc, byte, self)?;
-        Ok(Branch {
-            literal: Serials::new(),
-            prefixed: Serials::new(),
-            below,
-        })
+        self.literal.is_empty() && self.prefixed.is_empty() && self.below.is_null()
     }
 
-    /// A branch that has the one serial, at the key.
-    pub(crate) fn path(
+    /// Puts the serials last at the key that the nodes of the path spell. Those whose byte stands
+    /// already are freed, the others linked in. It calls itself once a byte.
+    #[cycle(grow)]
+    pub(crate) fn grow(&mut self, path: Link<Item>, kind: PatternKind, serials: Serials)
+        requires neat { IsNeat self.old.below.nodes }
+        requires some { serials ≢ [] }
+        ensures neat { IsNeat self.new.below.nodes }
+        ensures some { contents self.new ≢ bare }
+        ensures put { held_in (key_of path.nodes) (contents self.new)
+            ≡ with_serials kind serials (held_in (key_of path.nodes) (contents self.old)) }
+        ensures elsewhere { (other : List ℕ) → other ≢ key_of path.nodes
+            → held_in other (contents self.new) ≡ held_in other (contents self.old) }
+    {
+        if path.is_null() {
+            path.give_up();
+            match kind {
+                PatternKind::Literal => self.literal.append(serials),
+                PatternKind::Prefixed => self.prefixed.append(serials),
+            }
+            return;
+        }
+        let alloc = path.get().alloc;
+        let (node, room) = path.take(alloc);
+        let byte = node.item.byte;
+        let mut branch = Branch::new();
+        if self.below.find(byte).is_some() {
+            room.free();
+            self.below.exchange(byte, &mut branch);
+            branch.grow(node.next, kind, serials);
+            self.below.exchange(byte, &mut branch);
+            return;
+        }
+        branch.grow(node.next, kind, serials);
+        self.below.put_front(room, alloc, byte, branch);
+    }
+
+    /// Puts the serials last at the key. It makes the nodes that are missing, and no others, and
+    /// links them in when all are made. It calls itself once a byte that leads on.
+    #[cycle(add)]
+    pub(crate) fn add(
+        &mut self,
         alloc: Global,
         key: &[u8],
         kind: PatternKind,
-        serial: u64,
-    ) -> Result<Branch, AllocError>
-        ensures { IfOk result (λ b. b ≡ (key.now, one_serial kind serial) ∷ []) }
+        serials: Serials,
+    ) -> Result<(), AllocError>
+        requires neat { IsNeat self.old.below.nodes }
+        requires some { serials ≢ [] }
+        ensures neat { IsNeat self.new.below.nodes }
+        ensures put { OnOk result
+            (held_in key.now (contents self.new)
+            ≡ with_serials kind serials (held_in key.now (contents self.old))) }
+        ensures elsewhere { (other : List ℕ) → other ≢ key.now
+            → held_in other (contents self.new) ≡ held_in other (contents self.old) }
+        ensures refused { OnErr result
+            (held_in key.now (contents self.new) ≡ held_in key.now (contents self.old)) }
+    {
+        if let Some((byte, rest)) = key.split_first() {
+            if self.below.find(*byte).is_some() {
+                let mut branch = Branch::new();
+                self.below.exchange(*byte, &mut branch);
+                let added = branch.add(alloc, rest, kind, serials);
+                self.below.exchange(*byte, &mut branch);
+                return added;
+            }
+        }
+        let path = path_of(alloc, key)?;
+        self.grow(path, kind, serials);
+        Ok(())
+    }
+
+    /// Takes these serials out at the key in one pass, says whether any was there, and frees the
+    /// nodes that then keep nothing and lead nowhere. It calls itself once a byte.
+    #[cycle(remove_all)]
+    pub(crate) fn remove_all(&mut self, key: &[u8], kind: PatternKind, serials: &[u64]) -> bool
+        requires neat { IsNeat self.old.below.nodes }
+        ensures neat { IsNeat self.new.below.nodes }
+        ensures found { result ≡ has_serials kind serials.now (held_in key.now (contents self.old)) }
+        ensures taken { held_in key.now (contents self.new)
+            ≡ without_serials kind serials.now (held_in key.now (contents self.old)) }
+        ensures elsewhere { (other : List ℕ) → other ≢ key.now
+            → held_in other (contents self.new) ≡ held_in other (contents self.old) }
     {
         match key.split_first() {
-            None => Branch::leaf(alloc, kind, serial),
+            None => match kind {
+                PatternKind::Literal => self.literal.remove_all(serials),
+                PatternKind::Prefixed => self.prefixed.remove_all(serials),
+            },
             Some((byte, rest)) => {
-                let branch = Branch::path(alloc, rest, kind, serial)?;
-                branch.above(alloc, *byte)
+                if self.below.find(*byte).is_none() {
+                    return false;
+                }
+                let mut branch = Branch::new();
+                self.below.exchange(*byte, &mut branch);
+                let found = branch.remove_all(rest, kind, serials);
+                if branch.is_bare() {
+                    self.below.unlink(*byte);
+                    return found;
+                }
+                self.below.exchange(*byte, &mut branch);
+                found
             }
         }
     }
+}
 
-    /// The literal serials of the key that ends here.
-    pub(crate) fn literal(&self) -> &Serials
-        ensures { result.now ≡ (held_at self.now []).0 }
-    {
-        &self.literal
-    }
+/// A branch that is read: the root's, or that of a node.
+#[derive(Clone, Copy, Drop)]
+pub(crate) struct Place<'a> {
+    pub(crate) literal: &'a Serials,
+    pub(crate) prefixed: &'a Serials,
+    pub(crate) below: &'a Link<Item>,
+}
 
-    /// The prefixed serials of the key that ends here.
-    pub(crate) fn prefixed(&self) -> &Serials
-        ensures { result.now ≡ (held_at self.now []).1 }
+impl<'a> Place<'a> {
+    fn of(node: &'a ByteNode) -> Place<'a>
+        ensures { seen result ≡ node_contents node.now }
     {
-        &self.prefixed
+        Place {
+            literal: &node.item.literal,
+            prefixed: &node.item.prefixed,
+            below: &node.child,
+        }
     }
 
     /// What follows one byte.
-    pub(crate) fn child(&self, byte: u8) -> Option<&Branch>
-        ensures held { MatchOption result ((key : List ℕ) → held_at self.now (byte ∷ key) ≡ nothing) (λ b. (key : List ℕ) → held_at self.now (byte ∷ key) ≡ held_at b.now key) }
-        ensures leads { IfSome result (λ b. (b.now ≢ []) × AllInUse b.now) }
+    pub(crate) fn child(self, byte: u8) -> Option<Place<'a>>
+        ensures held { MatchOption result
+            ((key : List ℕ) → held_in (byte ∷ key) (seen self.entry) ≡ nothing)
+            (λ p. (key : List ℕ) → held_in (byte ∷ key) (seen self.entry) ≡ held_in key (seen p)) }
+        ensures leads { IsNeat self.entry.below.now.nodes
+            → IfSome result (λ p. (seen p ≢ bare) × IsNeat p.below.now.nodes) }
     {
-        self.below.find(byte)
+        match self.below.find(byte) {
+            None => None,
+            Some(node) => Some(Place::of(node)),
+        }
     }
 
-    /// The branch at a key.
-    pub(crate) fn at(&self, key: &[u8]) -> Option<&Branch>
-        ensures { MatchOption result (held_at self.now key.now ≡ nothing) (λ b. held_at self.now key.now ≡ held_at b.now []) }
+    /// The place of a key.
+    pub(crate) fn at(self, key: &[u8]) -> Option<Place<'a>>
+        ensures { MatchOption result
+            (held_in key.now (seen self.entry) ≡ nothing)
+            (λ p. held_in key.now (seen self.entry) ≡ held_in [] (seen p)) }
     {
-        let mut branch = self;
+        let mut place = self;
         let mut rest = key;
         while let Some((byte, others)) = rest.split_first() {
-            branch = branch.child(*byte)?;
+            place = place.child(*byte)?;
             rest = others;
         }
-        Some(branch)
+        Some(place)
     }
 
     /// How many bytes of a name lead on.
-    pub(crate) fn depth_of(&self, name: &[u8]) -> usize
-        ensures longest { IsLongestInUse (held_at self.now) name.now result }
+    pub(crate) fn depth_of(self, name: &[u8]) -> usize
+        requires { IsNeat self.below.now.nodes }
+        ensures longest { IsLongestInUse (λ key. held_in key (seen self.entry)) name.now result }
         ensures bounded { result ≤ length name.now }
     {
-        let mut branch = self;
+        let mut place = self;
         let mut rest = name;
         let mut depth = 0;
         while let Some((byte, others)) = rest.split_first() {
-            match branch.child(*byte) {
+            match place.child(*byte) {
                 None => break,
-                Some(child) => branch = child,
+                Some(child) => place = child,
             }
             rest = others;
             depth += 1;
         }
         depth
-    }
-
-    pub(crate) fn is_empty(&self) -> bool
-        ensures { IsTrue result ↔ (self.now ≡ []) }
-    {
-        self.literal.is_empty() && self.prefixed.is_empty() && self.below.is_empty()
-    }
-
-    /// Takes in all that another branch holds, behind what stands here.
-    #[cycle(merge)]
-    pub(crate) fn merge(&mut self, other: Branch)
-        ensures in_use { AllInUse self.new }
-        ensures held { (key : List ℕ) → held_at self.new key ≡ joined (held_at self.old key) (held_at other key) }
-    {
-        let Branch {
-            literal,
-            prefixed,
-            below,
-        } = other;
-        self.literal.append(literal);
-        self.prefixed.append(prefixed);
-        self.below.merge(below);
-    }
-
-    /// Takes a serial out at the key, and frees the nodes that then lead nowhere.
-    #[cycle(remove)]
-    pub(crate) fn remove(&mut self, key: &[u8], kind: PatternKind, serial: u64) -> bool
-        ensures in_use { AllInUse self.new }
-        ensures found { result ≡ has_serial kind serial (held_at self.old key.now) }
-        ensures taken { held_at self.new key.now ≡ without_serial kind serial (held_at self.old key.now) }
-        ensures elsewhere { (other : List ℕ) → other ≢ key.now → held_at self.new other ≡ held_at self.old other }
-    {
-        match key.split_first() {
-            None => match kind {
-                PatternKind::Literal => self.literal.remove(serial),
-                PatternKind::Prefixed => self.prefixed.remove(serial),
-            },
-            Some((byte, rest)) => self.below.remove(*byte, rest, kind, serial),
-        }
-    }
-
-    /// Gives up the serials, and keeps the nodes that follow.
-    pub(crate) fn into_below(self) -> Nodes
-        ensures { weight_of result < weight self }
-    {
-        let Branch {
-            literal: _,
-            prefixed: _,
-            below,
-        } = self;
-        below
     }
 }

@@ -2,12 +2,11 @@
 #![tactic(auto)]
 
 mod branch;
-mod chain;
 mod kind;
-mod nodes;
+mod link;
+mod node;
 mod serials;
-mod slot;
-mod stretches;
+mod siblings;
 mod tree;
 mod walk;
 

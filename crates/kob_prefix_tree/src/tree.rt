@@ -1,22 +1,27 @@
 //! The tree, seen as a finite map from keys to serials.
 ghost use Rattle.std.specs.Prelude.{◌≡◌, ◌+◌, ◌≤◌, length, OnOk, OnErr, IfOk};
 ghost use Rattle.std.specs.FinMap as map;
-ghost use Rattle.kob_prefix_tree.specs.Held.{has_serial, serials_of};
-ghost use Rattle.kob_prefix_tree.specs.PrefixMap.{held, added, removed, walk_of, IsLevels};
+ghost use Rattle.kob_prefix_tree.specs.Held.{has_serial, has_serials, serials_of};
+ghost use Rattle.kob_prefix_tree.specs.PrefixMap.{held, added, removed, removed_all};
+ghost use Rattle.kob_prefix_tree.specs.PrefixMap.{walk_of, IsLevels};
 ghost use Rattle.kob_prefix_tree.specs.WalkLeft.{left_of};
 
 use crate::branch::Branch;
 use crate::kind::PatternKind;
-use crate::serials::Unread;
+use crate::link::Link;
+use crate::serials::{Serials, Unread};
+use crate::siblings::{Item, path_of};
 use crate::walk::Walk;
 use std::alloc::{AllocError, Global};
 use std::marker::Model;
 
-/// A map from keys, which are byte strings, to two lists of serials: the literal and the prefixed ones.
+/// A map from keys, which are byte strings, to two lists of serials: the literal and the prefixed
+/// ones.
 ///
-/// It is a tree of single bytes: a node has its byte, its own serials, its first child and its next sibling. No node stays that holds
-/// nothing and leads nowhere. `add` and `remove` call themselves once a byte of the key; all else is loops, freeing the tree too. A tree
-/// may be moved to another thread.
+/// It is a tree of single bytes: a node has its byte, its own serials, its first child and its next
+/// sibling. No node stays that holds nothing and leads nowhere. What adds or removes calls itself
+/// once a byte of the key, and at each byte once a sibling, from which it comes back before it goes
+/// on. All else is loops, freeing the tree too. A tree may be moved to another thread.
 #[derive(Drop)]
 pub struct PrefixTree {
     root: Branch,
@@ -25,33 +30,38 @@ pub struct PrefixTree {
 impl Model for PrefixTree {
     ghost use Rattle.std.specs.Coded.{coded_ℕ, coded_list, coded×};
     ghost use Rattle.std.specs.FinMap as map;
-    ghost use Rattle.kob_prefix_tree.specs.Entries.{AllInUse};
+    ghost use Rattle.kob_prefix_tree.specs.Siblings.{IsNeat};
+    ghost use Rattle.kob_prefix_tree.specs.Entries.{entries_in};
+    ghost use Rattle.kob_prefix_tree.specs.Contents.{contents};
     ghost use Rattle.kob_prefix_tree.specs.PrefixMap.{PrefixMap};
 
     ghost Value = { PrefixMap };
 
     ghost coded = { map.code (coded_list coded_ℕ) (coded× (coded_list coded_ℕ) (coded_list coded_ℕ)) };
 
-    ghost view = { λ a. map.from_entries a.root };
+    ghost view = { λ a. map.from_entries (entries_in (contents a.root)) };
 
-    ghost invariant = { λ a. AllInUse a.root };
+    ghost invariant = { λ a. IsNeat a.root.below.nodes };
 }
 
 /// The nodes of one key and its serial's place, made ahead. One that is let go frees them.
 #[derive(Drop)]
 pub struct Prepared {
-    path: Branch,
+    path: Link<Item>,
+    kind: PatternKind,
+    serials: Serials,
 }
 
 impl Model for Prepared {
-    ghost use Rattle.std.specs.Prelude.{◌≡◌};
-    ghost use Rattle.kob_prefix_tree.specs.Addition.{Addition, addition_of, entry_of};
+    ghost use Rattle.std.specs.Prelude.{◌≡◌, ◌∷◌, []};
+    ghost use Rattle.kob_prefix_tree.specs.Addition.{Addition};
+    ghost use Rattle.kob_prefix_tree.specs.Path.{key_of, first_serial};
 
     ghost Value = { Addition };
 
-    ghost view = { λ a. addition_of a.path };
+    ghost view = { λ a. record { key = key_of a.path.nodes; kind = a.kind; serial = first_serial a.serials } };
 
-    ghost invariant = { λ a. a.path ≡ entry_of (addition_of a.path) };
+    ghost invariant = { λ a. a.serials ≡ first_serial a.serials ∷ [] };
 }
 
 impl PrefixTree {
@@ -64,7 +74,8 @@ impl PrefixTree {
         }
     }
 
-    /// Puts the serial last in the key's list of its kind. `AllocError` says that memory was short, and nothing else.
+    /// Puts the serial last in the key's list of its kind. `AllocError` says that memory was short,
+    /// and nothing else. No node is made that stands already.
     pub fn add(
         &mut self,
         alloc: Global,
@@ -75,12 +86,13 @@ impl PrefixTree {
         ensures added { OnOk result (self.new ≡ added self.old key.now kind serial) }
         ensures refused { OnErr result (self.new ≡ self.old) }
     {
-        let prepared = self.prepare_add(alloc, key, kind, serial)?;
-        self.commit_add(prepared);
-        Ok(())
+        let serials = Serials::one(alloc, serial)?;
+        self.root.add(alloc, key, kind, serials)
     }
 
-    /// The first step of `add`: makes the nodes and the serial's place as a piece of its own.
+    /// The first step of an addition: makes the nodes and the serial's place as a piece of its own.
+    /// It makes a node for each byte, since those that stand now may be removed before the second
+    /// step.
     pub fn prepare_add(
         &self,
         alloc: Global,
@@ -90,42 +102,64 @@ impl PrefixTree {
     ) -> Result<Prepared, AllocError>
         ensures { IfOk result (λ p. p ≡ record { key = key.now; kind = kind; serial = serial }) }
     {
-        let path = Branch::path(alloc, key, kind, serial)?;
-        Ok(Prepared { path })
+        let serials = Serials::one(alloc, serial)?;
+        let path = path_of(alloc, key)?;
+        Ok(Prepared {
+            path,
+            kind,
+            serials,
+        })
     }
 
-    /// The second step of `add`: links in what was made, whatever was added and removed since. It takes no memory.
+    /// The second step: links in what was made, whatever was added and removed since, and frees the
+    /// nodes that stand already. It takes no memory.
     pub fn commit_add(&mut self, prepared: Prepared)
         ensures { self.new ≡ added self.old prepared.key prepared.kind prepared.serial }
     {
-        let Prepared { path } = prepared;
-        self.root.merge(path);
+        let Prepared {
+            path,
+            kind,
+            serials,
+        } = prepared;
+        self.root.grow(path, kind, serials);
     }
 
-    /// Takes the serial out of the key's list of its kind, once if it is there more often, and says whether it was there. Nodes that then hold
-    /// nothing and lead nowhere are freed. It takes no memory.
+    /// Takes the serial out of the key's list of its kind, once if it is there more often, and says
+    /// whether it was there. Nodes that then hold nothing and lead nowhere are freed. It takes no
+    /// memory.
     pub fn remove(&mut self, key: &[u8], kind: PatternKind, serial: u64) -> bool
         ensures found { result ≡ has_serial kind serial (held self.old key.now) }
         ensures removed { self.new ≡ removed self.old key.now kind serial }
     {
-        self.root.remove(key, kind, serial)
+        self.root.remove_all(key, kind, &[serial])
     }
 
-    /// The prefixed serials of the keys with which the name begins, the shortest key first, and then the literal ones of the name. It takes
-    /// no memory, and enters no more places than `levels` tells.
+    /// Takes these serials out of the key's list of their kind in one pass, so they have to come in
+    /// the order of that list: each is looked for behind the one before it. It says whether any was
+    /// there. Nodes that then hold nothing and lead nowhere are freed. It takes no memory.
+    pub fn remove_all(&mut self, key: &[u8], kind: PatternKind, serials: &[u64]) -> bool
+        ensures found { result ≡ has_serials kind serials.now (held self.old key.now) }
+        ensures removed { self.new ≡ removed_all self.old key.now kind serials.now }
+    {
+        self.root.remove_all(key, kind, serials)
+    }
+
+    /// The prefixed serials of the keys with which the name begins, the shortest key first, and
+    /// then the literal ones of the name. It takes no memory, and enters no more places than
+    /// `levels` tells.
     pub fn walk<'a>(&'a self, name: &'a [u8]) -> Walk<'a>
         ensures { left_of result ≡ walk_of self.now name.now }
     {
-        Walk::along(&self.root, name)
+        Walk::along(self.root.place(), name)
     }
 
     /// The literal serials of the name alone. It takes no memory.
     pub fn literal(&self, name: &[u8]) -> Walk<'_>
         ensures { left_of result ≡ serials_of PatternKind.Literal (held self.now name.now) }
     {
-        match self.root.at(name) {
+        match self.root.place().at(name) {
             None => Walk::over(Unread::nothing()),
-            Some(branch) => Walk::over(branch.literal().unread()),
+            Some(place) => Walk::over(place.literal.unread()),
         }
     }
 
@@ -134,6 +168,6 @@ impl PrefixTree {
         ensures levels { IsLevels self.now name.now result }
         ensures bounded { result ≤ length name.now + 1 }
     {
-        self.root.depth_of(name) + 1
+        self.root.place().depth_of(name) + 1
     }
 }

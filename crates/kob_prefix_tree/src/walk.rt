@@ -1,17 +1,18 @@
 //! The serials along a name, one at a time.
 ghost use Rattle.std.specs.Prelude.{◌≡◌, [], ◌++◌};
 ghost use Rattle.std.specs.Iterator.{YieldsFirst, item_count};
-ghost use Rattle.kob_prefix_tree.specs.Entries.{held_at};
+ghost use Rattle.kob_prefix_tree.specs.Contents.{seen};
+ghost use Rattle.kob_prefix_tree.specs.Siblings.{held_in};
 ghost use Rattle.kob_prefix_tree.specs.WalkLeft.{left_of, walked_on};
 ghost use Rattle.kob_prefix_tree.specs.SerialsLeft.{unread_of};
 
-use crate::branch::Branch;
+use crate::branch::Place;
 use crate::serials::Unread;
 
 /// A place of the tree, and the bytes of the name that are still to follow from there.
 #[derive(Clone, Copy, Drop)]
 pub(crate) struct Ahead<'a> {
-    branch: &'a Branch,
+    place: Place<'a>,
     name: &'a [u8],
 }
 
@@ -23,12 +24,14 @@ pub struct Walk<'a> {
 }
 
 impl<'a> Walk<'a> {
-    pub(crate) fn along(branch: &'a Branch, name: &'a [u8]) -> Walk<'a>
-        ensures { left_of result ≡ (held_at branch.now []).1 ++ walked_on branch.now name.now }
+    pub(crate) fn along(place: Place<'a>, name: &'a [u8]) -> Walk<'a>
+        ensures { left_of result
+            ≡ (held_in [] (seen place.entry)).1
+            ++ walked_on (λ key. held_in key (seen place.entry)) name.now }
     {
         Walk {
-            serials: branch.prefixed().unread(),
-            ahead: Some(Ahead { branch, name }),
+            serials: place.prefixed.unread(),
+            ahead: Some(Ahead { place, name }),
         }
     }
 
@@ -57,15 +60,15 @@ impl<'a> Iterator for Walk<'a> {
             let ahead = self.ahead?;
             match ahead.name.split_first() {
                 None => {
-                    self.serials = ahead.branch.literal().unread();
+                    self.serials = ahead.place.literal.unread();
                     self.ahead = None;
                 }
-                Some((byte, rest)) => match ahead.branch.child(*byte) {
+                Some((byte, rest)) => match ahead.place.child(*byte) {
                     None => self.ahead = None,
                     Some(child) => {
-                        self.serials = child.prefixed().unread();
+                        self.serials = child.prefixed.unread();
                         self.ahead = Some(Ahead {
-                            branch: child,
+                            place: child,
                             name: rest,
                         });
                     }

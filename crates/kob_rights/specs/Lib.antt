@@ -2,4 +2,8 @@ pub mod Check
 pub mod Code
 pub mod Reason
 pub mod Table
+pub mod Bodies
+pub mod Offsets
+pub mod Partitions
+pub mod Writes
 pub use Rattle.kob_names.specs.Access

@@ -12,7 +12,8 @@ use Rattle.kob_rights.specs.declared.request.Request.TheVariants.{Produce, Fetch
 -- an idempotent producer needs a right on the cluster first
 abbrev pub produce_rights : Option Idem → List ℕ → List (List Check)
 produce_rights None topic = (on_topic Write topic ∷ []) ∷ []
-produce_rights (Some idem) topic = (on_cluster IdempotentWrite ∷ []) ∷ (on_topic Write topic ∷ []) ∷ []
+produce_rights (Some idem) topic =
+    (on_cluster IdempotentWrite ∷ []) ∷ (on_topic Write topic ∷ []) ∷ []
 
 -- the listing of all topics needs no right, and is filtered
 abbrev pub metadata_rights : Option (List ℕ) → List (List Check)
@@ -25,8 +26,10 @@ rights (Produce produce) = produce_rights produce.batch.idem produce.topic
 rights (Fetch fetch) = (on_topic Read fetch.topic ∷ []) ∷ []
 rights (ListOffsets asked) = (on_topic Describe asked.topic ∷ []) ∷ []
 rights (Metadata asked) = metadata_rights asked.topic
-rights (OffsetCommit commit) = (on_group Read commit.group ∷ []) ∷ (on_topic Read commit.topic ∷ []) ∷ []
-rights (OffsetFetch asked) = (on_group Describe asked.group ∷ []) ∷ (on_topic Describe asked.topic ∷ []) ∷ []
+rights (OffsetCommit commit) =
+    (on_group Read commit.group ∷ []) ∷ (on_topic Read commit.topic ∷ []) ∷ []
+rights (OffsetFetch asked) =
+    (on_group Describe asked.group ∷ []) ∷ (on_topic Describe asked.topic ∷ []) ∷ []
 rights ListGroups = []
 rights (DeleteGroups delete) = (on_group Delete delete.group ∷ []) ∷ []
 rights (CreateTopics create) = (on_cluster Create ∷ on_topic Create create.name ∷ []) ∷ []
@@ -46,7 +49,8 @@ produce_code None clause = TopicAuthorizationFailed
 produce_code (Some idem) zero = ClusterAuthorizationFailed
 produce_code (Some idem) (suc later) = TopicAuthorizationFailed
 
--- the code of a denial by the clause at a place: that of its resource, and the topic's for a creation
+-- the code of a denial by the clause at a place: that of its resource, and the topic's for a
+-- creation
 abbrev pub denial_code : Request → ℕ → Code
 denial_code (Produce produce) clause = produce_code produce.batch.idem clause
 denial_code (Fetch fetch) clause = TopicAuthorizationFailed

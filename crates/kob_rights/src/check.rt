@@ -127,7 +127,9 @@ pub(crate) fn right_on_group_and_topic(
     group: &Text,
     topic: &Text,
 ) -> Result<Rights, AllocError>
-    ensures { IfOk result (λ rights. rights ≡ (on_group operation group.now ∷ []) ∷ (on_topic operation topic.now ∷ []) ∷ []) }
+    ensures { IfOk result
+        (λ rights. rights ≡ (on_group operation group.now ∷ [])
+        ∷ (on_topic operation topic.now ∷ []) ∷ []) }
 {
     let on_group = Check::on_group(alloc, operation, group)?;
     let on_topic = Check::on_topic(alloc, operation, topic)?;

@@ -3,7 +3,8 @@
 use kob_names::{Batch, PlainValue, Text};
 use std::alloc::{AllocError, Global};
 
-/// Which offset of a partition is asked for. Kafka's protocol writes -2 for the start and -1 for the end.
+/// Which offset of a partition is asked for. Kafka's protocol writes -2 for the start and -1 for
+/// the end.
 #[derive(Clone, Copy, Debug, PartialEq, Eq)]
 pub enum Which {
     Start,

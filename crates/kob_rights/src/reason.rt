@@ -18,7 +18,8 @@ pub enum Reason {
     NoRecords,
     /// The batch has more than 1,000 records.
     TooManyRecords,
-    /// The batch's keys, values, header names and header values have more than 2,097,152 bytes together.
+    /// The batch's keys, values, header names and header values have more than 2,097,152 bytes
+    /// together.
     TooLarge,
     /// The batch would end past the greatest offset, 9,223,372,036,854,775,807.
     OffsetsSpent,

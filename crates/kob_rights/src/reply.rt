@@ -35,7 +35,8 @@ pub enum Body {
 /// The answer to a request.
 #[derive(Debug, Drop)]
 pub enum Reply {
-    /// A right is not granted. The verdicts are those of the alternatives of the first clause that is not met.
+    /// A right is not granted. The verdicts are those of the alternatives of the first clause that
+    /// is not met.
     Denied {
         code: Code,
         verdicts: Items<Verdict>,

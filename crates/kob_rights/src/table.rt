@@ -51,14 +51,19 @@ impl Request {
     {
         match self {
             Request::Produce(asked) => asked.denial_code(clause),
+            Request::Fetch(_) => Code::TopicAuthorizationFailed,
+            Request::ListOffsets(_) => Code::TopicAuthorizationFailed,
+            Request::Metadata(_) => Code::TopicAuthorizationFailed,
             Request::OffsetCommit(_) => group_then_topic(clause),
             Request::OffsetFetch(_) => group_then_topic(clause),
+            Request::ListGroups => Code::TopicAuthorizationFailed,
             Request::DeleteGroups(_) => Code::GroupAuthorizationFailed,
+            Request::CreateTopics(_) => Code::TopicAuthorizationFailed,
+            Request::DeleteTopics(_) => Code::TopicAuthorizationFailed,
             Request::InitProducerId => Code::ClusterAuthorizationFailed,
             Request::DescribeAcls(_) => Code::ClusterAuthorizationFailed,
             Request::CreateAcls(_) => Code::ClusterAuthorizationFailed,
             Request::DeleteAcls(_) => Code::ClusterAuthorizationFailed,
-            _ => Code::TopicAuthorizationFailed,
         }
     }
 }

@@ -4,7 +4,7 @@ use Rattle.std.specs.List.{list_all}
 use Rattle.std.specs.Option.{is_none}
 use Rattle.std.specs.Str.{bytes_eq}
 use Rattle.kob_acl_cli.specs.declared.args.CliArgs.{CliArgs}
-use Rattle.kob_script.specs.Commands.{events_named, events_of}
+use Rattle.kob_script.specs.CommandLines.{events_named, events_of}
 use Rattle.kob_script.specs.declared.fault.FaultKind.{FaultKind}
 use Rattle.kob_script.specs.declared.fault.Fault as fault
 use Rattle.kob_script.specs.declared.fault.ScriptError.{ScriptError}

@@ -2,7 +2,8 @@ pub mod Acl
 pub mod AclLines
 pub mod Askers
 pub mod Batches
-pub mod Commands
+pub mod Command
+pub mod CommandLines
 pub mod Drafts
 pub mod Escapes
 pub mod Filters

@@ -1,12 +1,12 @@
 -- How the body of a reply is printed.
 use Rattle.std.specs.Prelude.{ℕ, List, [], ◌++◌, codes, length, Option, Some, None, flat_map}
 use Rattle.std.specs.Fmt.{decimal}
-use Rattle.kob_names.specs.declared.binding.Binding.{Binding}
+use Rattle.kob_names.specs.Binding.{Binding}
 use Rattle.kob_names.specs.declared.record.Record.{Record}
 use Rattle.kob_rights.specs.declared.reply.Body.{Body}
 use Rattle.kob_rights.specs.declared.reply.Body.TheVariants.{Created, Deleted, Committed, Serials, Bindings, Offset, Commit, Records, Topics, Groups, Producer}
-use Rattle.kob_acl_cli.specs.PrintedBinding.{binding_text}
-use Rattle.kob_acl_cli.specs.PrintedText.{bytes_text}
+use Rattle.kob_words.specs.PrintedBinding.{binding_text}
+use Rattle.kob_words.specs.PrintedText.{bytes_text}
 
 -- an item of a list, after a space
 abbrev pub serial_item : ℕ → List ℕ

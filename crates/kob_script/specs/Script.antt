@@ -3,7 +3,7 @@ use Rattle.std.specs.Prelude.{◌+◌, ◌==◌, ℕ, List, [], ◌∷◌, ◌++
 use Rattle.std.specs.Str.{bytes_eq}
 use Rattle.bstr.specs.Text.{lines_of, without_terminator}
 use Rattle.kob_acl_cli.specs.declared.args.CliArgs.{CliArgs}
-use Rattle.kob_script.specs.Commands.{events_of}
+use Rattle.kob_script.specs.CommandLines.{events_of}
 use Rattle.kob_script.specs.declared.fault.FaultKind.{FaultKind}
 use Rattle.kob_script.specs.declared.fault.FaultKind.TheVariants.{BadLine, LateSetting}
 use Rattle.kob_script.specs.declared.fault.Fault.{Fault}

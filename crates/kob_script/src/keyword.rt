@@ -1,60 +1,16 @@
 //! The words of the tables: permissions, operations, resources and patterns.
 
-ghost use Rattle.std.specs.Prelude.{◌≡◌};
-ghost use Rattle.kob_script.specs.Keywords.{permission_named, resource_named, pattern_named, permission_of, resource_of, pattern_of, operation_of, filter_pattern_of};
+ghost use Rattle.kob_script.specs.Keywords.{permission_of, resource_of, pattern_of, operation_of, filter_pattern_of};
 ghost use Rattle.kob_script.specs.Reading.{Gives, found_or, unless_dash};
 ghost use Rattle.kob_script.specs.declared.fault.FaultKind.TheVariants.{BadWord};
 
 use crate::escape::bytes_of;
 use crate::fault::{FaultKind, LineError};
-use kob_acl_cli::{filter_pattern_named, operation_named};
 use kob_names::{FilterPattern, Operation, PatternKind, Permission, ResourceKind};
+use kob_words::{
+    filter_pattern_named, operation_named, pattern_named, permission_named, resource_named,
+};
 use std::alloc::Global;
-
-/// The permission of that name, in any ASCII case.
-pub fn permission_named(name: &[u8]) -> Option<Permission>
-    ensures { result ≡ permission_named name.now }
-{
-    if name.eq_ignore_ascii_case(b"Allow") {
-        return Some(Permission::Allow);
-    }
-    if name.eq_ignore_ascii_case(b"Deny") {
-        return Some(Permission::Deny);
-    }
-    None
-}
-
-/// The kind of resource of that name, in any ASCII case.
-pub fn resource_named(name: &[u8]) -> Option<ResourceKind>
-    ensures { result ≡ resource_named name.now }
-{
-    if name.eq_ignore_ascii_case(b"Topic") {
-        return Some(ResourceKind::Topic);
-    }
-    if name.eq_ignore_ascii_case(b"Group") {
-        return Some(ResourceKind::Group);
-    }
-    if name.eq_ignore_ascii_case(b"Cluster") {
-        return Some(ResourceKind::Cluster);
-    }
-    if name.eq_ignore_ascii_case(b"TransactionalId") {
-        return Some(ResourceKind::TransactionalId);
-    }
-    None
-}
-
-/// The kind of pattern of that name, in any ASCII case.
-pub fn pattern_named(name: &[u8]) -> Option<PatternKind>
-    ensures { result ≡ pattern_named name.now }
-{
-    if name.eq_ignore_ascii_case(b"Literal") {
-        return Some(PatternKind::Literal);
-    }
-    if name.eq_ignore_ascii_case(b"Prefixed") {
-        return Some(PatternKind::Prefixed);
-    }
-    None
-}
 
 fn known<T: Copy>(found: Option<T>) -> Result<T, LineError>
     ensures { Gives result (found_or BadWord found) }

@@ -6,6 +6,7 @@ mod acl_lines;
 mod asker;
 mod batch;
 mod command;
+mod command_lines;
 mod draft;
 mod escape;
 mod fault;

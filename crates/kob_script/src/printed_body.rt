@@ -4,13 +4,13 @@ ghost use Rattle.std.specs.Prelude.{◌≡◌, ◌++◌, OnOk};
 ghost use Rattle.kob_rights.specs.declared.reply.Body.TheVariants.{Serials, Bindings, Offset, Commit, Records, Topics, Groups, Producer};
 ghost use Rattle.kob_script.specs.PrintedBody.{topic_item, record_item, body_text};
 
-use kob_acl_cli::{print_binding, push_bytes, push_number};
 use kob_names::{Binding, Record, Text};
 use kob_rights::Body;
+use kob_words::{print_binding, push_bytes, push_number};
 use std::alloc::{AllocError, Global};
 
 /// Prints the body of a reply.
-#[tactic(auto, using(kob_acl_cli::proofs::Appending::appending))]
+#[tactic(auto, using(kob_words::proofs::Appending::appending))]
 pub fn push_body(alloc: Global, out: &mut Vec<u8>, body: &Body) -> Result<(), AllocError>
     ensures { OnOk result (out.new.items ≡ out.old.items ++ body_text body.now) }
 {
@@ -29,7 +29,7 @@ pub fn push_body(alloc: Global, out: &mut Vec<u8>, body: &Body) -> Result<(), Al
     }
 }
 
-#[tactic(auto, using(kob_acl_cli::proofs::Appending::appending))]
+#[tactic(auto, using(kob_words::proofs::Appending::appending))]
 fn push_serials(alloc: Global, out: &mut Vec<u8>, serials: &[u64]) -> Result<(), AllocError>
     ensures { OnOk result (out.new.items ≡ out.old.items ++ body_text (Serials serials.now)) }
 {
@@ -41,7 +41,7 @@ fn push_serials(alloc: Global, out: &mut Vec<u8>, serials: &[u64]) -> Result<(),
     Ok(())
 }
 
-#[tactic(auto, using(kob_acl_cli::proofs::Appending::appending))]
+#[tactic(auto, using(kob_words::proofs::Appending::appending))]
 fn push_bindings(
     alloc: Global,
     out: &mut Vec<u8>,
@@ -58,7 +58,7 @@ fn push_bindings(
     Ok(())
 }
 
-#[tactic(auto, using(kob_acl_cli::proofs::Appending::appending))]
+#[tactic(auto, using(kob_words::proofs::Appending::appending))]
 fn push_offset(alloc: Global, out: &mut Vec<u8>, offset: u64) -> Result<(), AllocError>
     ensures { OnOk result (out.new.items ≡ out.old.items ++ body_text (Offset offset)) }
 {
@@ -66,7 +66,7 @@ fn push_offset(alloc: Global, out: &mut Vec<u8>, offset: u64) -> Result<(), Allo
     push_number(alloc, out, offset)
 }
 
-#[tactic(auto, using(kob_acl_cli::proofs::Appending::appending))]
+#[tactic(auto, using(kob_words::proofs::Appending::appending))]
 fn push_commit(alloc: Global, out: &mut Vec<u8>, commit: Option<u64>) -> Result<(), AllocError>
     ensures { OnOk result (out.new.items ≡ out.old.items ++ body_text (Commit commit)) }
 {
@@ -77,7 +77,7 @@ fn push_commit(alloc: Global, out: &mut Vec<u8>, commit: Option<u64>) -> Result<
     }
 }
 
-#[tactic(auto, using(kob_acl_cli::proofs::Appending::appending))]
+#[tactic(auto, using(kob_words::proofs::Appending::appending))]
 fn push_records(
     alloc: Global,
     out: &mut Vec<u8>,
@@ -92,7 +92,7 @@ fn push_records(
     Ok(())
 }
 
-#[tactic(auto, using(kob_acl_cli::proofs::Appending::appending))]
+#[tactic(auto, using(kob_words::proofs::Appending::appending))]
 fn push_record(
     alloc: Global,
     out: &mut Vec<u8>,
@@ -111,7 +111,7 @@ fn push_record(
     push_bytes(out, message.value.as_slice())
 }
 
-#[tactic(auto, using(kob_acl_cli::proofs::Appending::appending))]
+#[tactic(auto, using(kob_words::proofs::Appending::appending))]
 fn push_topics(alloc: Global, out: &mut Vec<u8>, topics: &[(Text, u64)]) -> Result<(), AllocError>
     ensures { OnOk result (out.new.items ≡ out.old.items ++ body_text (Topics topics.now)) }
 {
@@ -122,7 +122,7 @@ fn push_topics(alloc: Global, out: &mut Vec<u8>, topics: &[(Text, u64)]) -> Resu
     Ok(())
 }
 
-#[tactic(auto, using(kob_acl_cli::proofs::Appending::appending))]
+#[tactic(auto, using(kob_words::proofs::Appending::appending))]
 fn push_topic(
     alloc: Global,
     out: &mut Vec<u8>,
@@ -137,7 +137,7 @@ fn push_topic(
     push_number(alloc, out, partitions)
 }
 
-#[tactic(auto, using(kob_acl_cli::proofs::Appending::appending))]
+#[tactic(auto, using(kob_words::proofs::Appending::appending))]
 fn push_groups(out: &mut Vec<u8>, groups: &[Text]) -> Result<(), AllocError>
     ensures { OnOk result (out.new.items ≡ out.old.items ++ body_text (Groups groups.now)) }
 {
@@ -149,7 +149,7 @@ fn push_groups(out: &mut Vec<u8>, groups: &[Text]) -> Result<(), AllocError>
     Ok(())
 }
 
-#[tactic(auto, using(kob_acl_cli::proofs::Appending::appending))]
+#[tactic(auto, using(kob_words::proofs::Appending::appending))]
 fn push_producer(alloc: Global, out: &mut Vec<u8>, id: u64, epoch: u64) -> Result<(), AllocError>
     ensures { OnOk result (out.new.items ≡ out.old.items ++ body_text (Producer id epoch)) }
 {

@@ -4,9 +4,9 @@ ghost use Rattle.std.specs.Prelude.{◌≡◌, ◌++◌, OnOk};
 ghost use Rattle.kob_script.specs.PrintedReply.{verdict_text, verdicts_text, code_text, outcome_text, reply_text, text_of_replies, stopped_text};
 
 use crate::printed_body::push_body;
-use kob_acl_cli::push_number;
 use kob_names::Verdict;
 use kob_rights::{Code, Reply};
+use kob_words::push_number;
 use std::alloc::{AllocError, Global};
 
 /// Prints replies, numbered from 1, each with a line feed after it. The error is want of memory; `out` has then grown
@@ -20,7 +20,7 @@ pub fn print_replies(alloc: Global, out: &mut Vec<u8>, replies: &[Reply]) -> Res
     Ok(())
 }
 
-#[tactic(auto, using(kob_acl_cli::proofs::Appending::appending))]
+#[tactic(auto, using(kob_words::proofs::Appending::appending))]
 fn push_reply(
     alloc: Global,
     out: &mut Vec<u8>,
@@ -34,7 +34,7 @@ fn push_reply(
     out.extend_from_slice(b"\n")
 }
 
-#[tactic(auto, using(kob_acl_cli::proofs::Appending::appending))]
+#[tactic(auto, using(kob_words::proofs::Appending::appending))]
 fn push_outcome(alloc: Global, out: &mut Vec<u8>, reply: &Reply) -> Result<(), AllocError>
     ensures { OnOk result (out.new.items ≡ out.old.items ++ outcome_text reply.now) }
 {
@@ -58,7 +58,7 @@ fn push_outcome(alloc: Global, out: &mut Vec<u8>, reply: &Reply) -> Result<(), A
     }
 }
 
-#[tactic(auto, using(kob_acl_cli::proofs::Appending::appending))]
+#[tactic(auto, using(kob_words::proofs::Appending::appending))]
 fn push_code(alloc: Global, out: &mut Vec<u8>, code: Code) -> Result<(), AllocError>
     ensures { OnOk result (out.new.items ≡ out.old.items ++ code_text code) }
 {
@@ -67,7 +67,7 @@ fn push_code(alloc: Global, out: &mut Vec<u8>, code: Code) -> Result<(), AllocEr
     out.extend_from_slice(code.name().as_bytes())
 }
 
-#[tactic(auto, using(kob_acl_cli::proofs::Appending::appending))]
+#[tactic(auto, using(kob_words::proofs::Appending::appending))]
 fn push_verdicts(alloc: Global, out: &mut Vec<u8>, verdicts: &[Verdict]) -> Result<(), AllocError>
     ensures { OnOk result (out.new.items ≡ out.old.items ++ verdicts_text verdicts.now) }
 {
@@ -82,7 +82,7 @@ fn push_verdicts(alloc: Global, out: &mut Vec<u8>, verdicts: &[Verdict]) -> Resu
     Ok(())
 }
 
-#[tactic(auto, using(kob_acl_cli::proofs::Appending::appending))]
+#[tactic(auto, using(kob_words::proofs::Appending::appending))]
 fn push_verdict(alloc: Global, out: &mut Vec<u8>, verdict: Verdict) -> Result<(), AllocError>
     ensures { OnOk result (out.new.items ≡ out.old.items ++ verdict_text verdict) }
 {
@@ -102,7 +102,7 @@ fn push_verdict(alloc: Global, out: &mut Vec<u8>, verdict: Verdict) -> Result<()
 
 /// Prints the line `stopped after DONE` with its line feed, for a run that memory stopped after so many requests. The
 /// error is want of memory; `out` has then grown by a part of it.
-#[tactic(auto, using(kob_acl_cli::proofs::Appending::appending))]
+#[tactic(auto, using(kob_words::proofs::Appending::appending))]
 pub fn print_stopped(alloc: Global, out: &mut Vec<u8>, done: u64) -> Result<(), AllocError>
     ensures { OnOk result (out.new.items ≡ out.old.items ++ stopped_text done) }
 {

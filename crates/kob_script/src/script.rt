@@ -7,7 +7,7 @@ ghost use Rattle.kob_script.specs.Reading.{Gives, GivesUnit, each};
 ghost use Rattle.kob_script.specs.Script.{super_of, with_super, with_events, with_words, script_of};
 ghost use Rattle.kob_script.specs.ToldScript.{HasNoAclLine, LineReadsAs, MayGiveNext, MayRead};
 
-use crate::command::events_of;
+use crate::command_lines::events_of;
 use crate::escape::bytes_of;
 use crate::fault::{Fault, FaultKind, LineError, ScriptError};
 use crate::text::{principal_of, text_of};

@@ -1,25 +1,26 @@
 -- The faults of a fleet.
-use Rattle.std.proofs.Common.{List}
+use Rattle.std.proofs.Common.{List, ℕ}
 use Rattle.kob_rights.specs.declared.event.Event.{Event}
-use Rattle.kob_broker.specs.declared.settings.Settings.{Settings}
-use Rattle.kob_shared.specs.declared.fleet_fault.FleetFault.{FleetFault}
-use Rattle.kob_shared.specs.declared.fleet_fault.FleetFault.TheVariants.{TooManyWorkers, JournalFull, NotBegun, Memory, Stale, Full, Torn}
-use Rattle.kob_shared.specs.Tears.{IsTornOnlyWhere, IsLater, IsMidway}
+use Rattle.kob_names.specs.declared.settings.Settings.{Settings}
+use Rattle.kob_shared.specs.declared.fleet_stop.FleetStop.{FleetStop}
+use Rattle.kob_shared.specs.declared.fleet_stop.FleetStop.TheVariants.{NotBegun, Memory, Stale, Full}
+use Rattle.kob_shared.specs.Runs.{IsNamedWithin, as_fault}
+use Rattle.kob_shared.specs.Tears.{IsTornOnlyWhere, IsLater, NamesWorkerWithin}
 
-pub later_midway : (f : FleetFault) → IsMidway f → IsLater f
-later_midway (Torn worker place found told) midway = absurd midway
-later_midway TooManyWorkers midway = midway
-later_midway JournalFull midway = midway
-later_midway NotBegun midway = tt
-later_midway Memory midway = tt
-later_midway (Stale worker length) midway = tt
-later_midway (Full worker) midway = tt
+pub later_stopped : (s : FleetStop) → IsLater (as_fault s)
+later_stopped NotBegun = tt
+later_stopped Memory = tt
+later_stopped (Stale worker length) = tt
+later_stopped (Full worker) = tt
 
-pub torn_midway : (opening : Settings) (asked : List (List Event)) (f : FleetFault) → IsMidway f → IsTornOnlyWhere opening asked f
-torn_midway opening asked (Torn worker place found told) midway = absurd midway
-torn_midway opening asked TooManyWorkers midway = tt
-torn_midway opening asked JournalFull midway = tt
-torn_midway opening asked NotBegun midway = tt
-torn_midway opening asked Memory midway = tt
-torn_midway opening asked (Stale worker length) midway = tt
-torn_midway opening asked (Full worker) midway = tt
+pub torn_stopped : (opening : Settings) (asked : List (List Event)) (s : FleetStop) → IsTornOnlyWhere opening asked (as_fault s)
+torn_stopped opening asked NotBegun = tt
+torn_stopped opening asked Memory = tt
+torn_stopped opening asked (Stale worker length) = tt
+torn_stopped opening asked (Full worker) = tt
+
+pub named_stopped : (count : ℕ) (s : FleetStop) → IsNamedWithin count s → NamesWorkerWithin count (as_fault s)
+named_stopped count NotBegun named = tt
+named_stopped count Memory named = tt
+named_stopped count (Stale worker length) named = named
+named_stopped count (Full worker) named = named

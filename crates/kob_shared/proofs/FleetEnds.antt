@@ -1,14 +1,22 @@
 -- What a fleet leaves.
-use Rattle.std.proofs.Common.{◌≡◌, ℕ, List, [], ◌∷◌, arith, subst}
+use Rattle.std.proofs.Common.{◌≡◌, ◌≢◌, ◌⊎◌, List, [], ◌∷◌, arith, sym, subst}
 use Rattle.std.specs.Prelude.{slice_get, IfSome}
 use Rattle.kob_rights.specs.declared.event.Event.{Event}
+use Rattle.std.specs.List.{AllZip}
 use Rattle.kob_partition.specs.Retained.{Retained}
 use Rattle.kob_broker.specs.State.{State}
 use Rattle.kob_shared.specs.declared.script.Script.{Script}
+use Rattle.kob_names.specs.declared.settings.Settings.{Settings}
+use Rattle.kob_shared.specs.declared.compare.Difference.{Difference}
+use Rattle.kob_shared.specs.declared.work.Done.{Done}
+use Rattle.kob_shared.specs.Noted.{Noted}
+use Rattle.kob_shared.specs.Openings.{opened_by}
+use Rattle.kob_shared.specs.Runs.{IsAsNoted, IsTaken, IsTear, events_in, notes_of}
+use Rattle.kob_shared.proofs.Noted.{asked-scripts, told-taken}
 use Rattle.kob_shared.specs.declared.journal.Entry.{Entry}
 use Rattle.kob_shared.specs.declared.journal.Receipt.{Receipt}
-use Rattle.kob_shared.specs.Journals.{IsLegal}
-use Rattle.kob_shared.specs.Fleets.{IsFleet, IsKept, EachIsAnswered, Follows, asked_of_all, claims_of, DifferAt}
+use Rattle.kob_shared.specs.Journals.{IsLegal, Record}
+use Rattle.kob_shared.specs.Fleets.{IsFleet, IsKept, EachIsAnswered, Follows, asked_of_all, claims_of, DifferAt, events_of_script}
 use Rattle.kob_shared.proofs.Beginnings.{begins-with}
 use Rattle.kob_shared.proofs.Counted.{length-kept}
 
@@ -24,8 +32,27 @@ fleet_of opening first scripts journal now (t ∷ ts) legal each begun kept =
       counted = length-kept first scripts (t ∷ ts) journal each kept;
     }
 
--- a difference of equal journals and transcripts
-pub differ_same : (worker place : ℕ) (asked : List (List Event)) (compared journal : List Entry) (told transcripts : List (List Receipt)) → compared ≡ journal → told ≡ transcripts
-    → DifferAt worker compared (claims_of asked told worker) place → DifferAt worker journal (claims_of asked transcripts worker) place
-differ_same worker place asked compared journal told transcripts same also differs =
-    subst (λ ts. DifferAt worker journal (claims_of asked ts worker) place) also (subst (λ j. DifferAt worker j (claims_of asked told worker) place) same differs)
+-- what a fleet of scripts leaves, where its journal is what was noted
+pub scripts_end : {E : Type 0} (opening : Settings) (first : Noted) (scripts : List Script) (done : List (Done E)) (found : Record) (told : List (List Receipt))
+    → IsLegal (opened_by found.opening) found.journal found.broker → (found.opening ≡ opening) × IsAsNoted (notes_of first done) found → Follows 0 first.told
+    → AllZip (λ (s : Script) (d : Done E). d.notes.events ≡ events_of_script s) scripts done → AllZip IsTaken (notes_of first done) told
+    → IsFleet (opened_by opening) first.events scripts found.journal found.broker told
+scripts_end {E} opening first scripts done found told legal kept follows each taken =
+    let same = told-taken (notes_of first done) told taken in
+    let asked = asked-scripts first scripts done each in
+    fleet_of (opened_by opening) first.events scripts found.journal found.broker told
+    (subst (λ o. IsLegal (opened_by o) found.journal found.broker) kept.0 legal)
+    (subst (λ es. EachIsAnswered es told) asked same.1)
+    (subst (λ ts. IfSome (slice_get ts 0) (Follows 0)) (sym same.0) follows)
+    (subst (λ es. IsKept es told found.journal) asked (subst (λ ts. IsKept (events_in (notes_of first done)) ts found.journal) (sym same.0) kept.1))
+
+-- where it is torn
+pub scripts_torn : {E : Type 0} (opening : Settings) (first : Noted) (scripts : List Script) (done : List (Done E)) (found : Record) (told : List (List Receipt)) (d : Difference)
+    → IsTear opening (notes_of first done) found d
+    → AllZip (λ (s : Script) (d : Done E). d.notes.events ≡ events_of_script s) scripts done → AllZip IsTaken (notes_of first done) told
+    → DifferAt d.worker found.journal (claims_of (asked_of_all first.events scripts) told d.worker) d.place ⊎ ((d.worker ≡ 0) × (found.opening ≢ opening))
+scripts_torn {E} opening first scripts done found told d tear each taken =
+    let same = told-taken (notes_of first done) told taken in
+    let asked = asked-scripts first scripts done each in
+    subst (λ es. DifferAt d.worker found.journal (claims_of es told d.worker) d.place ⊎ ((d.worker ≡ 0) × (found.opening ≢ opening))) asked
+    (subst (λ ts. DifferAt d.worker found.journal (claims_of (events_in (notes_of first done)) ts d.worker) d.place ⊎ ((d.worker ≡ 0) × (found.opening ≢ opening))) (sym same.0) tear)

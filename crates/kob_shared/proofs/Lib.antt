@@ -15,4 +15,6 @@ pub mod Counted
 pub mod Beginnings
 pub mod FaultCases
 pub mod NamedWorkers
+pub mod Noted
 pub mod FleetEnds
+pub mod Decided

@@ -1,8 +1,9 @@
 pub mod Openings
 pub mod Journals
-pub mod Bodies
 pub mod Sessions
 pub mod Faults
 pub mod Fleets
-pub mod Asks
+pub mod Noted
+pub mod Runs
 pub mod Tears
+pub mod Decided

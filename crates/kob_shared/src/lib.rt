@@ -2,20 +2,32 @@
 #![tactic(auto)]
 
 mod compare;
+mod desk;
 mod faults;
 mod fleet;
 mod fleet_fault;
+mod fleet_stop;
 mod journal;
+mod laws;
+mod notes;
 mod recorded;
 mod script;
+mod scripts;
 mod session;
+mod work;
 mod worker;
 
+pub use compare::Difference;
+pub use desk::Desk;
 pub use faults::{CallFault, ServeFault};
-pub use fleet::{FleetEnd, MOST_WORKERS, run_scripts};
+pub use fleet::{Ran, find_tear, run_fleet};
 pub use fleet_fault::FleetFault;
+pub use fleet_stop::FleetStop;
 pub use journal::{Entry, Journal, Receipt};
+pub use laws::each_entry_is_just;
+pub use notes::Notes;
 pub use recorded::{MOST_ENTRIES, Recorded};
 pub use script::{Script, Transcript};
+pub use scripts::{FleetEnd, MOST_WORKERS, run_scripts};
 pub use session::{Session, SharedBroker};
-pub use worker::Gate;
+pub use work::{Done, Gate, Work};

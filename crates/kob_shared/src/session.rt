@@ -1,8 +1,8 @@
 //! Sessions over a broker under one lock.
 
 ghost use Rattle.std.specs.Prelude.{◌≡◌, ◌+◌, ◌<◌, ◌≤◌, IfOk, IfErr, OnErr};
-ghost use Rattle.kob_broker.specs.Offsets.{OffsetsWithin};
-ghost use Rattle.kob_shared.specs.Bodies.{Fits};
+ghost use Rattle.kob_rights.specs.Offsets.{OffsetsWithin};
+ghost use Rattle.kob_rights.specs.Bodies.{Fits};
 ghost use Rattle.kob_shared.specs.Journals.{IsSound};
 ghost use Rattle.kob_shared.specs.Sessions.{Seat, event_by, IsServed, IsStaleOnlyBelow};
 
@@ -48,12 +48,12 @@ impl SharedBroker {
         rt: &R,
         alloc: Global,
         worker: usize,
-        event: &Event,
+        event: Event,
         seen: usize,
     ) -> Result<Receipt, CallFault>
         ensures place { IfOk result (λ r. (seen ≤ r.place) × (r.place < 1000000)) }
-        ensures served { IfOk result (λ r. IsServed event.now r) }
-        ensures fits { IfOk result (λ r. Fits event.now.request r.reply) }
+        ensures served { IfOk result (λ r. IsServed event r) }
+        ensures fits { IfOk result (λ r. Fits event.request r.reply) }
         ensures offsets { IfOk result (λ r. OffsetsWithin r.reply) }
         ensures stale { IfErr result (IsStaleOnlyBelow seen) }
     {
@@ -113,15 +113,30 @@ impl<'a> Session<'a> {
         ensures stale { IfErr result (IsStaleOnlyBelow self.old.seen) }
     {
         let event = self.event(alloc, request)?;
-        let receipt = self
-            .shared
-            .serve(rt, alloc, self.worker, &event, self.seen)?;
+        self.send(rt, alloc, event)
+    }
+
+    /// Serves an event under the lock, as `call` does.
+    pub(crate) fn send<R: Wait>(
+        &mut self,
+        rt: &R,
+        alloc: Global,
+        event: Event,
+    ) -> Result<Receipt, CallFault>
+        ensures ok { IfOk result (λ r. (self.old.seen ≤ r.place) × (self.new ≡ record self.old { seen = r.place + 1 })) }
+        ensures err { OnErr result (self.new ≡ self.old) }
+        ensures served { IfOk result (λ r. IsServed event r) }
+        ensures fits { IfOk result (λ r. Fits event.request r.reply) }
+        ensures offsets { IfOk result (λ r. OffsetsWithin r.reply) }
+        ensures stale { IfErr result (IsStaleOnlyBelow self.old.seen) }
+    {
+        let receipt = self.shared.serve(rt, alloc, self.worker, event, self.seen)?;
         self.seen = receipt.place + 1;
         Ok(receipt)
     }
 
     /// The event that the session's principal and host make with the request.
-    fn event(&self, alloc: Global, request: Request) -> Result<Event, AllocError>
+    pub(crate) fn event(&self, alloc: Global, request: Request) -> Result<Event, AllocError>
         ensures { IfOk result (λ event. event ≡ event_by self.now.principal self.now.host request) }
     {
         let principal = self.principal.copy(alloc)?;

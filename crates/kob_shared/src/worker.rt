@@ -1,41 +1,44 @@
-//! A worker of a fleet.
+//! Workers that send the requests of a script.
 
-ghost use Rattle.std.specs.Prelude.{IfOk, vec_len};
-ghost use Rattle.kob_shared.specs.Fleets.{IsAnswered};
-
+use crate::desk::Desk;
 use crate::faults::CallFault;
-use crate::script::{Script, Transcript};
+use crate::script::Script;
 use crate::session::SharedBroker;
+use crate::work::{Done, Gate, Work};
 use kob_names::PlainValue;
 use std::alloc::Global;
 use std::sync::Wait;
 
-/// What workers ask before they go on.
-pub trait Gate {
-    /// A worker calls it before its k-th request, from 1, and once more after its last.
-    fn before(&self, worker: usize, k: usize);
-}
+impl Work for Script {
+    ghost use Rattle.std.specs.Prelude.{◌≡◌};
+    ghost use Rattle.kob_shared.specs.Fleets.{events_of_script};
 
-/// Sends the requests of a script, one after another.
-pub(crate) fn work<R: Wait, G: Gate>(
-    rt: &R,
-    alloc: Global,
-    shared: &SharedBroker,
-    gate: &G,
-    worker: usize,
-    script: &Script,
-) -> Result<Transcript, CallFault>
-    ensures { IfOk result (IsAnswered (vec_len script.now.requests)) }
-{
-    let principal = script.principal.copy(alloc)?;
-    let host = script.host.copy(alloc)?;
-    let mut session = shared.session(worker, principal, host);
-    let mut told = Transcript::new(alloc);
-    for request in &script.requests {
-        gate.before(worker, told.len() + 1);
-        let receipt = session.call(rt, alloc, request.copy(alloc)?)?;
-        told.push(receipt)?;
+    type Shared = SharedBroker;
+
+    type End = ();
+
+    ghost keeps = { λ script noted _. noted.events ≡ events_of_script script };
+
+    /// Sends the requests, one after another.
+    fn work<R: Wait, G: Gate>(
+        &self,
+        rt: &R,
+        alloc: Global,
+        worker: usize,
+        shared: &SharedBroker,
+        gate: &G,
+    ) -> Result<Done<()>, CallFault> {
+        let principal = self.principal.copy(alloc)?;
+        let host = self.host.copy(alloc)?;
+        let mut desk = Desk::open(alloc, shared.session(worker, principal, host));
+        for request in &self.requests {
+            gate.before(worker, desk.len() + 1);
+            desk.call(rt, alloc, request.copy(alloc)?)?;
+        }
+        gate.before(worker, desk.len() + 1);
+        Ok(Done {
+            notes: desk.close(),
+            end: (),
+        })
     }
-    gate.before(worker, told.len() + 1);
-    Ok(told)
 }

@@ -1,10 +1,7 @@
 //! The authorizer: which bindings a filter takes, and which binding a verdict names.
 
-ghost use Rattle.std.specs.Prelude.{◌<◌};
-
-use crate::dice::Dice;
 use crate::rules::{Rule, bound};
-use kob_authorizer::{Authorizer, scan_verdict};
+use kob_authorizer::Authorizer;
 use kob_names::{
     BindingFilter, FilterPattern, Host, Operation, PatternKind, Permission, Principal,
     ResourceKind, Text, Verdict,
@@ -271,99 +268,5 @@ fn first_wrong_once_opened(alloc: Global) -> Result<Option<usize>, Fail> {
 fn deny_beats_longer_allow(rt: HostRuntime) -> Result<(), Fail> {
     let wrong = first_wrong_once_opened(rt.alloc())?;
     assert_eq!(rt; wrong, None, "the place of a step with another answer");
-    Ok(())
-}
-
-/// Creates two bindings, or deletes those of one name.
-fn change(alloc: Global, dice: &mut Dice, authorizer: &mut Authorizer) -> Result<(), Fail> {
-    if dice.below(4) == 0 {
-        let name = dice.pick_name(ResourceKind::Topic);
-        authorizer.delete(alloc, &named(alloc, FilterPattern::Any, name)?)?;
-    } else {
-        let rules = [dice.pick_rule(), dice.pick_rule()];
-        create(alloc, authorizer, &rules)?;
-    }
-    Ok(())
-}
-
-/// What the trees and the scan answer to one question.
-fn ask_both(
-    alloc: Global,
-    dice: &mut Dice,
-    authorizer: &Authorizer,
-) -> Result<(Verdict, Verdict), Fail> {
-    let who = Principal::parse(
-        alloc,
-        dice.pick(&["User:a", "User:b", "User:c", "User:root"]),
-    )?;
-    let host = Host::parse(alloc, "h")?;
-    let operation = dice.pick_operation();
-    let resource = dice.pick_resource();
-    let name = dice.pick_name(resource);
-    let by_trees = authorizer.authorize(&who, &host, operation, resource, name);
-    let (entries, supers) = (authorizer.entries(), authorizer.supers());
-    let by_scan = scan_verdict(entries, supers, &who, &host, operation, resource, name);
-    Ok((by_trees, by_scan))
-}
-
-/// The place of the verdict's kind among the four.
-fn kind_of(verdict: Verdict) -> usize
-    ensures { result < 4 }
-{
-    match verdict {
-        Verdict::Super => 0,
-        Verdict::AllowedBy(_) => 1,
-        Verdict::DeniedBy(_) => 2,
-        Verdict::NoAllow => 3,
-    }
-}
-
-/// Changes the bindings and asks thirty questions. Says whether both answered alike each time, and
-/// notes which kinds of verdicts came.
-fn compare(
-    alloc: Global,
-    dice: &mut Dice,
-    authorizer: &mut Authorizer,
-    seen: &mut [bool; 4],
-) -> Result<bool, Fail> {
-    change(alloc, dice, authorizer)?;
-    let mut alike = true;
-    for _question in 0..30 {
-        let (by_trees, by_scan) = ask_both(alloc, dice, authorizer)?;
-        alike = alike && by_trees == by_scan;
-        seen[kind_of(by_scan)] = true;
-    }
-    Ok(alike)
-}
-
-/// The first of a hundred rounds in which the answers differ.
-fn first_difference(
-    alloc: Global,
-    authorizer: &mut Authorizer,
-    seen: &mut [bool; 4],
-) -> Result<Option<usize>, Fail> {
-    let mut dice = Dice::new();
-    for round in 0..100 {
-        if !compare(alloc, &mut dice, authorizer, seen)? {
-            return Ok(Some(round));
-        }
-    }
-    Ok(None)
-}
-
-/// The first round in which the answers of a new authorizer differ, and which kinds of verdicts came.
-fn play(alloc: Global) -> Result<(Option<usize>, [bool; 4]), Fail> {
-    let mut authorizer = opened(alloc)?;
-    let mut seen = [false; 4];
-    let round = first_difference(alloc, &mut authorizer, &mut seen);
-    drop(authorizer);
-    Ok((round?, seen))
-}
-
-#[test]
-fn scan_and_trees_agree(rt: HostRuntime) -> Result<(), Fail> {
-    let (round, seen) = play(rt.alloc())?;
-    assert_eq!(rt; round, None, "the answers differ in this round");
-    assert!(rt; seen == [true; 4], "not every kind of verdict came");
     Ok(())
 }

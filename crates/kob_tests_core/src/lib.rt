@@ -6,8 +6,6 @@ mod authorizer;
 #[cfg(test)]
 mod chunks;
 #[cfg(test)]
-mod dice;
-#[cfg(test)]
 mod names;
 #[cfg(test)]
 mod partition;

@@ -88,7 +88,7 @@ fn on_cluster(alloc: Global, name: &str) -> Result<Result<Binding, BindingFault>
 /// Whether a binding on the cluster under that name is made, with the name.
 fn has_name(alloc: Global, name: &str) -> Result<bool, Fail> {
     let made = on_cluster(alloc, name)?;
-    Ok(matches!(&made, Ok(binding) if binding.pattern.name.as_str() == name))
+    Ok(matches!(&made, Ok(binding) if binding.parts().pattern.name.as_str() == name))
 }
 
 /// Whether a binding on the cluster under that name is refused for the name.

@@ -160,7 +160,8 @@ fn commit_in_turn(alloc: Global, tree: &mut PrefixTree) -> Result<(), AllocError
     Ok(())
 }
 
-/// What was prepared goes in behind what was committed before it, and what is not committed is let go.
+/// What was prepared goes in behind what was committed before it, and what is not committed is let
+/// go.
 #[test]
 fn tree_commits_in_any_order(rt: HostRuntime) -> Result<(), Fail> {
     let mut tree = PrefixTree::new();
@@ -196,4 +197,161 @@ fn many_serials_on_one_key(rt: HostRuntime) -> Result<(), Fail> {
     put_many(rt.alloc(), &mut tree, 100_000)?;
     assert!(rt; gives_below(tree.walk(b"events-of-today"), 100_000));
     Ok(())
+}
+
+/// What the test itself keeps of an addition.
+#[derive(Drop)]
+struct Entry {
+    key: Vec<u8>,
+    kind: PatternKind,
+    serial: u64,
+}
+
+/// The next of a row of numbers that look random.
+fn next_roll(roll: u64) -> u64 {
+    roll.wrapping_mul(6_364_136_223_846_793_005)
+        .wrapping_add(1_442_695_040_888_963_407)
+}
+
+/// A name of at most 300 bytes, each of them `a`, `b` or `c`: the beginning of one of six names, at
+/// times with another byte in it.
+fn name_of(alloc: Global, roll: u64) -> Result<Vec<u8>, AllocError> {
+    let mut name = Vec::new(alloc);
+    let length = (roll >> 8) % 301;
+    let other = (roll >> 24) % 400;
+    let mut stream = (roll >> 40) % 6;
+    for place in 0..length {
+        stream = next_roll(stream);
+        let byte = match (stream >> 33) % 3 {
+            0 => b'a',
+            1 => b'b',
+            _ => b'c',
+        };
+        let byte = if place == other { b'c' } else { byte };
+        name.push(byte)?;
+    }
+    Ok(name)
+}
+
+/// The serials that a walk of the name has to give, by going through all entries.
+fn filtered(alloc: Global, entries: &[Entry], name: &[u8]) -> Result<Vec<u64>, AllocError> {
+    let mut serials = Vec::new(alloc);
+    for length in 0..=name.len() {
+        for entry in entries {
+            let key = entry.key.as_slice();
+            if entry.kind == PatternKind::Prefixed && key.len() == length && name.starts_with(key) {
+                serials.push(entry.serial)?;
+            }
+        }
+    }
+    for entry in entries {
+        if entry.kind == PatternKind::Literal && entry.key.as_slice() == name {
+            serials.push(entry.serial)?;
+        }
+    }
+    Ok(serials)
+}
+
+/// Adds the serial to a name, or takes one of the entries out, and says whether the tree did so
+/// too.
+fn changes(
+    alloc: Global,
+    tree: &mut PrefixTree,
+    entries: &mut Vec<Entry>,
+    roll: u64,
+    serial: u64,
+) -> Result<bool, AllocError> {
+    let place = (roll >> 16) as usize % 1000;
+    if roll >> 62 == 0 && place < entries.len() {
+        let entry = entries.remove(place);
+        return Ok(tree.remove(&entry.key, entry.kind, entry.serial));
+    }
+    let key = name_of(alloc, roll)?;
+    let kind = if roll >> 61 == 3 {
+        PatternKind::Literal
+    } else {
+        PatternKind::Prefixed
+    };
+    tree.add(alloc, &key, kind, serial)?;
+    entries.push(Entry { key, kind, serial })?;
+    Ok(true)
+}
+
+/// Whether a walk of the name gives what the filter gives.
+fn agrees(
+    alloc: Global,
+    tree: &PrefixTree,
+    entries: &[Entry],
+    name: &[u8],
+) -> Result<bool, AllocError> {
+    let wanted = filtered(alloc, entries, name)?;
+    Ok(gives(tree.walk(name), &wanted))
+}
+
+/// Whether each entry comes out of the tree.
+fn lets_go(tree: &mut PrefixTree, entries: &[Entry]) -> bool {
+    for entry in entries {
+        if !tree.remove(&entry.key, entry.kind, entry.serial) {
+            return false;
+        }
+    }
+    true
+}
+
+/// Four thousand additions and removals, beside a plain list of the entries.
+#[test]
+fn walks_as_a_filter_of_a_list(rt: HostRuntime) -> Result<(), Fail> {
+    let mut tree = PrefixTree::new();
+    let mut entries = Vec::new(rt.alloc());
+    let mut roll = 12;
+    for serial in 0..4000u64 {
+        roll = next_roll(roll);
+        let changed = changes(rt.alloc(), &mut tree, &mut entries, roll, serial)?;
+        assert!(rt; changed);
+        if serial % 25 == 0 {
+            let name = name_of(rt.alloc(), next_roll(roll))?;
+            let same = agrees(rt.alloc(), &tree, &entries, &name)?;
+            assert!(rt; same);
+        }
+    }
+    assert!(rt; lets_go(&mut tree, &entries));
+    assert_eq!(rt; tree.levels(b"abc"), 1);
+    Ok(())
+}
+
+/// Whether many serials of one key come out in one pass, the others stay in order, and a pass that
+/// finds none says so.
+fn takes_many_out(tree: &mut PrefixTree) -> bool {
+    tree.remove_all(b"events", PatternKind::Prefixed, &[0, 3, 4, 9])
+        && gives(tree.walk(b"events"), &[1, 2, 5, 6, 7, 8])
+        && !tree.remove_all(b"events", PatternKind::Literal, &[1])
+        && tree.remove_all(b"events", PatternKind::Prefixed, &[1, 2, 5, 6, 7, 8])
+        && tree.levels(b"events") == 1
+}
+
+#[test]
+fn many_serials_out_in_one_pass(rt: HostRuntime) -> Result<(), Fail> {
+    let mut tree = PrefixTree::new();
+    put_many(rt.alloc(), &mut tree, 10)?;
+    assert!(rt; takes_many_out(&mut tree));
+    Ok(())
+}
+
+/// Three additions. Wherever memory was refused, the tree is as it was before that addition; run
+/// with each growth refused in turn.
+#[test]
+fn refused_addition_leaves_the_tree(rt: HostRuntime) {
+    let mut tree = PrefixTree::new();
+    let first = tree
+        .add(rt.alloc(), b"ab", PatternKind::Prefixed, 1)
+        .is_ok();
+    let second = tree
+        .add(rt.alloc(), b"abcd", PatternKind::Prefixed, 2)
+        .is_ok();
+    let third = tree.add(rt.alloc(), b"ab", PatternKind::Literal, 3).is_ok();
+    assert_eq!(rt; gives(tree.walk(b"abcd"), &[1, 2]), first && second);
+    assert_eq!(rt; gives(tree.walk(b"abcd"), &[2]), !first && second);
+    assert_eq!(rt; gives(tree.walk(b"abcd"), &[1]), first && !second);
+    assert_eq!(rt; gives(tree.literal(b"ab"), &[3]), third);
+    assert_eq!(rt; tree.levels(b"abcd") == 5, second);
 }

@@ -8,6 +8,14 @@ mod acl_lines;
 #[cfg(test)]
 mod full;
 #[cfg(test)]
+mod groups;
+#[cfg(test)]
+mod guide;
+#[cfg(test)]
+mod limits;
+#[cfg(test)]
+mod played;
+#[cfg(test)]
 mod rows;
 #[cfg(test)]
 mod runs;

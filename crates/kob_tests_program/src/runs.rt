@@ -1,64 +1,11 @@
 //! Whole runs: scripts with their outputs, and readers and writers that give little or fail.
 
+use crate::guide::{FIRST_SCRIPT_OUT, FIRST_SCRIPT_TXT};
 use kob_text::{Ended, RunFault, SCRIPT_LIMIT, run_text};
 use std::alloc::{AllocError, Global};
 use std::io;
 use std::io::{Error, ErrorKind, Read, Write};
 use std::test::Fail;
-
-const FIRST_SCRIPT: &str = "super User:root
-User:root 10.0.0.1 create-topic outbox.event.orders 1
-User:root 10.0.0.1 create-acl allow User:svc * Write Topic literal outbox.event.orders
-User:svc 10.0.0.2 produce outbox.event.orders 0 - 42=paid
-User:bob 10.0.0.3 produce outbox.event.orders 0 - 42=void
-User:root 10.0.0.1 fetch outbox.event.orders 0 0 10
-User:svc 10.0.0.2 fetch outbox.event.orders 0 0 10
-";
-
-const FIRST_OUTPUT: &str = "1 ok created
-2 ok serials 1
-3 ok offset 0
-4 denied 29 TOPIC_AUTHORIZATION_FAILED no-allow
-5 ok records 0:42=paid
-6 denied 29 TOPIC_AUTHORIZATION_FAILED no-allow
-";
-
-const ACL_SCRIPT: &str = "super User:root
-User:root h create-acl allow User:svc * Write Topic prefixed outbox.event.
-User:root h create-acl deny User:* * Write Topic literal outbox.event.payments
-User:root h describe-acls Topic outbox.event.payments match - - - -
-User:root h delete-acls - - - User:* - - -
-";
-
-const ACL_OUTPUT: &str = "1 ok serials 1
-2 ok serials 2
-3 ok bindings 2
-binding 1 ALLOW User:svc * Write Topic PREFIXED outbox.event.
-binding 2 DENY User:* * Write Topic LITERAL outbox.event.payments
-4 ok bindings 1
-binding 2 DENY User:* * Write Topic LITERAL outbox.event.payments
-";
-
-const TOPIC_SCRIPT: &str = "super User:root
-User:root h create-topic t 1
-User:root h produce t 0 - a
-User:root h commit g t 0 1
-User:root h delete-topic t
-User:root h committed g t 0
-User:root h groups
-User:root h create-topic t 1
-User:root h produce t 0 - b
-";
-
-const TOPIC_OUTPUT: &str = "1 ok created
-2 ok offset 0
-3 ok committed
-4 ok deleted
-5 ok commit -1
-6 ok groups g
-7 ok created
-8 ok offset 0
-";
 
 /// Gives one byte a call, and fails at the call after so many.
 #[derive(Drop)]
@@ -145,12 +92,6 @@ pub(crate) fn plays(
 }
 
 #[test]
-fn first_script(rt: HostRuntime) -> Result<(), Fail> {
-    assert!(rt; plays(rt.alloc(), FIRST_SCRIPT, FIRST_OUTPUT, Ended::Clean)?);
-    Ok(())
-}
-
-#[test]
 fn empty_and_bad_script(rt: HostRuntime) -> Result<(), Fail> {
     let cases = [
         ("", "", Ended::Clean),
@@ -168,15 +109,8 @@ fn empty_and_bad_script(rt: HostRuntime) -> Result<(), Fail> {
 }
 
 #[test]
-fn scripts_of_bindings_and_topics(rt: HostRuntime) -> Result<(), Fail> {
-    assert!(rt; plays(rt.alloc(), ACL_SCRIPT, ACL_OUTPUT, Ended::Clean)?);
-    assert!(rt; plays(rt.alloc(), TOPIC_SCRIPT, TOPIC_OUTPUT, Ended::Clean)?);
-    Ok(())
-}
-
-#[test]
 fn each_prefix_ends(rt: HostRuntime) -> Result<(), Fail> {
-    let script = FIRST_SCRIPT.as_bytes();
+    let script = FIRST_SCRIPT_TXT.as_bytes();
     for end in 0..script.len() {
         let (ended, _) = run(rt.alloc(), &script[..end])?;
         assert!(rt; ended != Ended::Stopped);
@@ -186,19 +120,19 @@ fn each_prefix_ends(rt: HostRuntime) -> Result<(), Fail> {
 
 #[test]
 fn failed_reads_write_nothing(rt: HostRuntime) -> Result<(), Fail> {
-    for calls in 0..FIRST_SCRIPT.len() + 2 {
+    for calls in 0..FIRST_SCRIPT_TXT.len() + 2 {
         let mut written = Vec::new(rt.alloc());
         let mut reader = Slow {
-            rest: FIRST_SCRIPT.as_bytes(),
+            rest: FIRST_SCRIPT_TXT.as_bytes(),
             calls,
         };
         let ended = run_text(rt.alloc(), &mut reader, &mut written);
-        if calls <= FIRST_SCRIPT.len() {
+        if calls <= FIRST_SCRIPT_TXT.len() {
             assert_eq!(rt; ended, Err(RunFault::ReadFailed));
             assert_eq!(rt; written.len(), 0);
         } else {
             assert_eq!(rt; ended, Ok(Ended::Clean));
-            assert_eq!(rt; written.as_slice(), FIRST_OUTPUT.as_bytes());
+            assert_eq!(rt; written.as_slice(), FIRST_SCRIPT_OUT.as_bytes());
         }
     }
     Ok(())
@@ -211,12 +145,12 @@ fn failed_writes_leave_a_front(rt: HostRuntime) -> Result<(), Fail> {
             taken: Vec::new(rt.alloc()),
             calls,
         };
-        let mut reader = FIRST_SCRIPT.as_bytes();
+        let mut reader = FIRST_SCRIPT_TXT.as_bytes();
         let ended = run_text(rt.alloc(), &mut reader, &mut writer);
         assert_eq!(rt; ended, Err(RunFault::WriteFailed));
         assert_eq!(rt;
             writer.taken.as_slice(),
-            &FIRST_OUTPUT.as_bytes()[..7 * calls]
+            &FIRST_SCRIPT_OUT.as_bytes()[..7 * calls]
         );
     }
     Ok(())

@@ -1,6 +1,6 @@
 //! The topics of a catalog: which are created, and a partition that is written where it stands.
 
-use kob_catalog::{Catalog, CreateFault};
+use kob_catalog::{Catalog, CreateFault, PartitionFault};
 use kob_names::{Batch, Bytes, Items, Record, Text, TopicName};
 use std::alloc::{AllocError, Global};
 use std::test::Fail;
@@ -19,17 +19,15 @@ fn batch(alloc: Global, value: &[u8]) -> Result<Batch, AllocError> {
     })
 }
 
-/// The end of a partition, if there is one of that number.
+/// The end of the partition of that number of the topic of that name.
 fn end_of(
     alloc: Global,
     catalog: &Catalog,
     topic: &str,
     partition: usize,
-) -> Result<Option<u64>, AllocError> {
-    let Some(place) = catalog.place_of(&Text::copied(alloc, topic)?) else {
-        return Ok(None);
-    };
-    Ok(catalog.partition(place, partition).map(|log| log.end()))
+) -> Result<Result<u64, PartitionFault>, AllocError> {
+    let topic = Text::copied(alloc, topic)?;
+    Ok(catalog.partition(&topic, partition).map(|log| log.end()))
 }
 
 #[test]
@@ -60,20 +58,22 @@ fn one_partition_is_written(rt: HostRuntime) -> Result<(), Fail> {
         let name = TopicName::parse(alloc, name)?;
         assert_eq!(rt; catalog.create(alloc, &name, 2), Ok(()));
     }
-    if let Some(place) = catalog.place_of(&Text::copied(alloc, "b")?) {
-        assert!(rt; catalog.partition_mut(place, 2).is_none());
-        if let Some(log) = catalog.partition_mut(place, 1) {
-            assert_eq!(rt; log.append(batch(alloc, b"x")?), Ok(0));
-        }
-        let fetched = catalog
-            .partition(place, 1)
-            .map(|log| log.fetch(alloc, 0, 10));
-        assert!(rt; matches!(&fetched, Some(Ok(records)) if records.len() == 1));
-    }
-    let ends = [("a", 0, 0), ("a", 1, 0), ("b", 0, 0), ("b", 1, 1)];
+    let name = Text::copied(alloc, "b")?;
+    let log = catalog.partition_mut(&name, 1)?;
+    assert_eq!(rt; log.append(batch(alloc, b"x")?), Ok(0));
+    let fetched = catalog.partition(&name, 1)?.fetch(alloc, 0, 10)?;
+    assert_eq!(rt; fetched.len(), 1);
+    let ends = [
+        ("a", 0, Ok(0)),
+        ("a", 1, Ok(0)),
+        ("a", 2, Err(PartitionFault::UnknownPartition)),
+        ("b", 0, Ok(0)),
+        ("b", 1, Ok(1)),
+        ("b", 2, Err(PartitionFault::UnknownPartition)),
+        ("c", 0, Err(PartitionFault::UnknownTopic)),
+    ];
     for (topic, partition, end) in ends {
-        assert_eq!(rt; end_of(alloc, &catalog, topic, partition)?, Some(end));
+        assert_eq!(rt; end_of(alloc, &catalog, topic, partition)?, end);
     }
-    assert_eq!(rt; end_of(alloc, &catalog, "b", 2)?, None);
     Ok(())
 }

@@ -1,7 +1,9 @@
-//! Tests of a service's tables and of a catalog's topics, over their public surface.
+//! Tests of a service's tables, of an inbox and of a catalog's topics, over their public surface.
 #![tactic(auto)]
 
 #[cfg(test)]
 mod catalog;
+#[cfg(test)]
+mod inbox;
 #[cfg(test)]
 mod outbox;

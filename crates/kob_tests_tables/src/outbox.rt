@@ -1,3 +1,5 @@
+//! The rows, mark and limits of an outbox, and want of memory.
+
 use kob_outbox::{Change, Column, MarkFault, Outbox, OutboxEvent, RecordFault};
 use std::alloc::{AllocError, Global};
 use std::process::Abort;

@@ -88,7 +88,7 @@ fn serves_at_once<R: Threads + Wait + Sync>(
 {
     let gate = Meeting::of(workers as u64);
     let served = serves_two_each(rt, alloc, workers, &gate)?;
-    Ok(served && !gate.gave_up())
+    Ok(served && gate.all_came())
 }
 
 #[test]

@@ -24,8 +24,9 @@ impl Meeting {
         }
     }
 
-    pub(crate) fn gave_up(&self) -> bool {
-        self.gave_up.load(Ordering::SeqCst)
+    /// Whether all workers came to their second request, and none was let go before.
+    pub(crate) fn all_came(&self) -> bool {
+        self.come.load(Ordering::SeqCst) == self.workers && !self.gave_up.load(Ordering::SeqCst)
     }
 }
 

@@ -15,7 +15,8 @@ use Rattle.kob_script.specs.ToldScript.{ReadsAs}
 
 -- the replies of a broker that was opened with super users and with no bindings, which keeps all accepted batches
 abbrev pub replies_to : List (List ℕ) → List Event → List Reply
-replies_to supers events = replies_of plain_meaning events (open_state supers [])
+replies_to supers events =
+    replies_of plain_meaning events (open_state (record { supers = supers; opening = [] }))
 
 -- The text is the output for what was read, by how the run ended: all replies, or those to the first requests where
 -- memory stopped it, or the fault of the script.

@@ -1,6 +1,7 @@
 -- INSERT OR IGNORE of one row.
-use Rattle.std.proofs.Common.{ℤ, ◌≡◌, inl, inr, ℕ, List, [], ◌∷◌, ◌++◌, length, true, None, Some, Option, Ok, Err, sym, subst, ◌∙◌}
+use Rattle.std.proofs.Common.{ℤ, ◌≡◌, inl, inr, ℕ, List, [], ◌∷◌, ◌++◌, length, true, None, Some, Option, Ok, Err, refl, sym, subst, ◌∙◌}
 use Rattle.std.specs.Prelude.{◌/◌}
+use Rattle.std.specs.List.{AllByRecursion}
 use Rattle.sqlite.specs.Order.{Row}
 use Rattle.sqlite.specs.Tree.{Trees}
 use Rattle.sqlite.specs.Table.{Table}
@@ -8,6 +9,8 @@ use Rattle.sqlite.specs.Schema.{Schema}
 use Rattle.sqlite.specs.Term.{Term}
 use Rattle.sqlite.specs.Command.TheVariants.{InsertOr}
 use Rattle.sqlite.specs.Source.TheVariants.{Values}
+use Rattle.sqlite_schema.specs.declared.command.Source.{Source}
+use Rattle.sqlite.specs.State.{Escapes, IsMisplaced, State}
 use Rattle.sqlite.specs.Effect.{value_rows}
 use Rattle.sqlite.specs.Rows.{Outcome, Task, Written, Clears, Judged, InsertsOr, Sourced, Tries, TriesEach, count_of, nothing}
 use Rattle.sqlite.specs.Does.{Concludes, OnRows}
@@ -33,6 +36,26 @@ IsSuited table new = (why : Refusal) → ¬ (IsJudged (uncounted table) new (Som
 -- no table refers to another
 abbrev pub ReferToNone : Schema → Type 0
 ReferToNone schema = (among : Among) (db : Trees) → Refers among schema db
+
+-- no row of such a table refers to a row
+pub all_fine : (rows : List Row) → AllByRecursion (λ row. true ≡ true) rows
+all_fine [] = tt
+all_fine (row ∷ rows) = (refl, all_fine rows)
+
+-- the statement may stand anywhere, and ends no transaction
+module _ (at : ℕ) (from : Source) (old : State) where
+  pub not_misplaced : (e : Error) → ¬ (IsMisplaced old (InsertOr at Ignore from []) e)
+  not_misplaced e (inl (is, inl (begins, h))) = cc
+  not_misplaced e (inl (is, inr (inl commits, h))) = cc
+  not_misplaced e (inl (is, inr (inr rolls, h))) = cc
+  not_misplaced e (inr (is, name, inl releases, h)) = cc
+  not_misplaced e (inr (is, name, inr goes, h)) = cc
+
+  pub not_escaping : ¬ (Escapes 0 old (InsertOr at Ignore from []))
+  not_escaping (inl (inl commits)) = cc
+  not_escaping (inl (inr rolls)) = cc
+  not_escaping (inr (name, inl releases, h)) = cc
+  not_escaping (inr (name, inr goes, h)) = cc
 
 module _ (limit : Option ℕ) (keys : Keys) (schema : Schema) (table : Table) (params : Row) where
   abbrev Here : Task

@@ -1,7 +1,7 @@
 use Rattle.std.proofs.Common.{arith, append_assoc, take}
 use Rattle.std.proofs.lemmas.Grind.{common_steps}
 use Rattle.std.proofs.lemmas.Str.{IsUtf8-from_ascii}
-use Rattle.kob_acl_cli.proofs.AsciiText.{list-ascii-more}
+use Rattle.kob_acl_cli.proofs.AsciiList.{list-ascii-more}
 use Rattle.kob_acl_cli.specs.PrintedList.{list_text}
 use Rattle.kob_acl_cli.proofs.printed_list.print_list.Goals as goal
 

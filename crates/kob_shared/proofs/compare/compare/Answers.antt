@@ -1,27 +1,26 @@
-use Rattle.std.proofs.Common.{length, sym, ap, ◌∙◌, arith}
-use Rattle.kob_shared.specs.Fleets.{asked_of_all, IsAnswered}
-use Rattle.kob_shared.proofs.Zips.{length-all_zip}
-use Rattle.kob_shared.proofs.Compared.{answered-at, kept-or-stranger}
+use Rattle.std.proofs.Common.{◌+◌, arith, length, refl}
+use Rattle.std.proofs.lemmas.Option.{slice_get_read}
+use Rattle.kob_shared.specs.Runs.{events_in, notes_of, told_in}
+use Rattle.kob_shared.proofs.Compared.{kept-or-stranger}
+use Rattle.kob_shared.proofs.Noted.{differ-done, length-events, mine-done}
 use Rattle.kob_shared.proofs.compare.compare.Goals as goal
 
-pub asked_by-asked-requires : goal.asked_by-asked-requires
-asked_by-asked-requires c =
-    let same = length-all_zip (λ es rs. IsAnswered (length es) rs) (asked_of_all c.args.first.now c.args.scripts.now) c.args.told.now c.requires in
-    omega arith
+pub returns-in-Some-find_difference : goal.returns-in-Some-find_difference
+returns-in-Some-find_difference g c =
+    let done = c.args.done.now in
+    let one = c.index-done-k.result in
+    let at = slice_get_read done (length done) c.loop-k.k one refl c.loop-k-test.true c.index-done-k.is in
+    differ-done c.args.first.now done c.loop-k.k one c.args.journal.now c.in-Some-find_difference.place at c.in-Some-find_difference.ensures
 
-pub find_difference-found-requires-clause-counted : goal.find_difference-found-requires-clause-counted
-find_difference-found-requires-clause-counted c =
-    let asked = asked_of_all c.args.first.now c.args.scripts.now in
-    let at = answered-at asked c.args.told.now c.loop-worker.worker c.index-told-worker.result c.requires c.loop-worker-test.true c.index-told-worker.is in
-    ap length c.asked_by-asked.ensures ∙ sym at.counted ∙ ap length (sym c.receipts.ensures)
-
-pub find_difference-found-requires-clause-rising : goal.find_difference-found-requires-clause-rising
-find_difference-found-requires-clause-rising c =
-    let asked = asked_of_all c.args.first.now c.args.scripts.now in
-    let at = answered-at asked c.args.told.now c.loop-worker.worker c.index-told-worker.result c.requires c.loop-worker-test.true c.index-told-worker.is in
-    rw c.receipts.ensures at.rising
+pub loop-k-preserved : goal.loop-k-preserved
+loop-k-preserved g c =
+    let done = c.args.done.now in
+    let one = c.index-done-k.result in
+    let at = slice_get_read done (length done) c.loop-k.k one refl c.loop-k-test.true c.index-done-k.is in
+    mine-done c.args.first.now done c.loop-k.k one c.args.journal.now at c.loop-k.invariant c.in_default-find_difference.ensures
 
 pub returns : goal.returns
-returns c =
-    let asked = asked_of_all c.args.first.now c.args.scripts.now in
-    kept-or-stranger c.args.journal.now asked c.args.told.now c.find_stranger.result c.requires (λ w low. c.loop-worker.invariant w (omega arith)) c.find_stranger.ensures
+returns g c =
+    let notes = notes_of c.args.first.now c.args.done.now in
+    kept-or-stranger c.args.journal.now (events_in notes) (told_in notes) (length c.args.done.now + 1) c.find_stranger.result
+    (length-events c.args.first.now c.args.done.now) (λ w within. c.loop-k.invariant w (omega arith)) c.find_stranger.ensures

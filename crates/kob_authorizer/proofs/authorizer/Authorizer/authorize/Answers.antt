@@ -6,7 +6,7 @@ use Rattle.kob_authorizer.specs.Contents.{IsRising, State}
 use Rattle.kob_authorizer.specs.Decide.{first_serial, hits, is_super, verdict_of}
 use Rattle.kob_authorizer.specs.LookUp.{AreRising}
 use Rattle.kob_authorizer.specs.Question.{Question, question_of}
-use Rattle.kob_names.specs.declared.binding.Binding.{Binding}
+use Rattle.kob_names.specs.Binding.{Binding}
 use Rattle.kob_names.specs.declared.kinds.Permission.TheVariants.{Allow, Deny}
 
 pub returns-then-is_super-clause-meaning : goal.returns-then-is_super-clause-meaning

@@ -1,9 +1,9 @@
 use Rattle.std.proofs.Common.{◌≡◌, ◌∙◌, sym, ap, subst, ◌++◌, length, map, rules, List, ℕ}
 use Rattle.std.specs.List.{fold}
-use Rattle.kob_names.specs.declared.binding.Binding.{Binding}
+use Rattle.kob_names.specs.Binding.{Binding}
 use Rattle.kob_authorizer.specs.Index.{Indexes, leaf_of, with_leaf}
 use Rattle.kob_authorizer.specs.declared.index.Index.{Index}
-use Rattle.kob_authorizer.specs.declared.limits.TheConstants.{BINDING_LIMIT}
+use Rattle.kob_authorizer.specs.Limits.{binding_limit}
 use Rattle.kob_authorizer.proofs.IndexSteps.{indexes_put_all}
 use Rattle.kob_authorizer.proofs.Rising.{put_rises}
 use Rattle.kob_authorizer.proofs.authorizer.Authorizer.commit_create.Goals as goal
@@ -17,7 +17,7 @@ invariant_of-self c =
     rw (← c.into_parts-fresh.ensures.fresh) c.put_last.ensures.items in
     let within = rw (← c.self.view_is) at c.requires.count in
     let numbered = rw (← c.self.view_is) at c.requires.numbered in
-    let rises = put_rises BINDING_LIMIT c.self.inside.next c.len.result before fresh count within c.self.invariant.1 numbered in
+    let rises = put_rises binding_limit c.self.inside.next c.len.result before fresh count within c.self.invariant.1 numbered in
     let index : fold with_leaf c.self.inside.index (map leaf_of fresh) ≡ c.put_all.new.index =
     ap (fold with_leaf c.self.inside.index) (sym c.into_parts-fresh.ensures.leaves) ∙ sym c.put_all.ensures in
     let indexed : Indexes c.put_all.new.index (before ++ fresh) =

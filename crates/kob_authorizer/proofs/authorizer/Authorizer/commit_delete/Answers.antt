@@ -1,6 +1,6 @@
 use Rattle.std.proofs.Common.{◌≡◌, ◌∙◌, sym, ap, subst, arith, length, List, [], ℕ}
 use Rattle.std.specs.List.{fold}
-use Rattle.kob_names.specs.declared.binding.Binding.{Binding}
+use Rattle.kob_names.specs.Binding.{Binding}
 use Rattle.kob_authorizer.specs.Deletion.{removed}
 use Rattle.kob_authorizer.specs.Index.{Indexes, without_if_taken}
 use Rattle.kob_authorizer.specs.declared.index.Index.{Index}

@@ -1,6 +1,6 @@
 use Rattle.std.proofs.Common.{◌≡◌, ◌∙◌, ◌<◌, ap, length, sym, subst, List}
 use Rattle.std.specs.Prelude.{IfSome}
-use Rattle.kob_names.specs.declared.binding.Binding.{Binding}
+use Rattle.kob_names.specs.Binding.{Binding}
 use Rattle.kob_authorizer.proofs.FreshSteps.{places_below, places_rise}
 use Rattle.kob_authorizer.specs.Creation.{serial_of}
 use Rattle.kob_authorizer.specs.LookUp.{AreRising}

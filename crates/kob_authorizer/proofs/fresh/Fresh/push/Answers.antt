@@ -1,5 +1,5 @@
 use Rattle.std.proofs.Common.{◌≡◌, ◌++◌, ◌∷◌, [], ℕ, List, ap, ◌∙◌, sym, subst, length, rules}
-use Rattle.kob_names.specs.declared.binding.Binding.{Binding}
+use Rattle.kob_names.specs.Binding.{Binding}
 use Rattle.kob_prefix_tree.specs.PrefixMap.{PrefixMap}
 use Rattle.kob_authorizer.proofs.FreshSteps.{places_push}
 use Rattle.kob_authorizer.proofs.TreeSteps.{index_added}

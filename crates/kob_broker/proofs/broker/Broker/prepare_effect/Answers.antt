@@ -1,4 +1,4 @@
-use Rattle.kob_broker.proofs.Decisions.{made_for, made_for_ok}
+use Rattle.kob_broker.proofs.Decisions.{made_for}
 use Rattle.kob_broker.proofs.broker.Broker.prepare_effect.Goals as goal
 
 pub returns-in-ListOffsets-clause-ok : goal.returns-in-ListOffsets-clause-ok
@@ -6,9 +6,3 @@ returns-in-ListOffsets-clause-ok c = made_for c.args.self.now _ c.args.event.now
 
 pub returns-in-InitProducerId-clause-ok : goal.returns-in-InitProducerId-clause-ok
 returns-in-InitProducerId-clause-ok c = made_for c.args.self.now _ c.args.event.now c.prepare_init_producer_id.result c.in-InitProducerId.is c.prepare_init_producer_id.ensures
-
-pub returns-in-DescribeAcls-clause-ok : goal.returns-in-DescribeAcls-clause-ok
-returns-in-DescribeAcls-clause-ok c = made_for_ok c.args.self.now _ c.args.event.now c.prepare_describe_acls.result c.in-DescribeAcls.is c.prepare_describe_acls.ensures
-
-pub returns-in-DeleteAcls-clause-ok : goal.returns-in-DeleteAcls-clause-ok
-returns-in-DeleteAcls-clause-ok c = made_for_ok c.args.self.now _ c.args.event.now c.prepare_delete_acls.result c.in-DeleteAcls.is c.prepare_delete_acls.ensures

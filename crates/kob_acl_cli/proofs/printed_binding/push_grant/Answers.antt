@@ -1,6 +1,0 @@
-use Rattle.std.proofs.Common.{rules}
-use Rattle.kob_acl_cli.proofs.AsciiText.{grant-ascii}
-use Rattle.kob_acl_cli.proofs.printed_binding.push_grant.Goals as goal
-
-pub returns-clause-ascii : goal.returns-clause-ascii
-returns-clause-ascii c = search (rules, grant-ascii c.args.binding.now)

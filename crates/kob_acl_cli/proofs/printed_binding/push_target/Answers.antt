@@ -1,6 +1,0 @@
-use Rattle.std.proofs.Common.{rules}
-use Rattle.kob_acl_cli.proofs.AsciiText.{target-ascii}
-use Rattle.kob_acl_cli.proofs.printed_binding.push_target.Goals as goal
-
-pub returns-clause-ascii : goal.returns-clause-ascii
-returns-clause-ascii c = search (rules, target-ascii c.args.binding.now)

@@ -1,0 +1,12 @@
+//! Why a broker can't be opened.
+
+use thiserror::Error;
+
+/// Why a broker can't be opened.
+#[derive(Clone, Copy, Debug, PartialEq, Eq, Error)]
+pub enum OpenFault {
+    #[error("too many bindings")]
+    TooMany,
+    #[error("out of memory")]
+    Memory,
+}

@@ -1,0 +1,13 @@
+pub mod Answering
+pub mod Cursoring
+pub mod Holding
+pub mod Intakes
+pub mod Keys
+pub mod Memory
+pub mod Opening
+pub mod Places
+pub mod Reading
+pub mod Running
+pub mod Shown
+pub mod Texts
+pub mod Ticking

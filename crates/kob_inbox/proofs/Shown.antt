@@ -1,0 +1,35 @@
+-- Events read back from the rows of a query.
+use Rattle.std.proofs.Common.{◌≡◌, ℕ, ◌+◌, List, [], ◌∷◌, map, refl, sym, ap, ◌∙◌}
+use Rattle.std.specs.List.{AllByRecursion, enumerate_from}
+use Rattle.sqlite.specs.Order.{Row}
+use Rattle.sqlite_value.specs.Order.{column}
+use Rattle.kob_outbox.specs.Layout.{blob_in, text_in}
+use Rattle.kob_outbox.specs.Numbers.{number_in}
+use Rattle.kob_inbox.specs.Contents.{Contents, Intake}
+use Rattle.kob_inbox.specs.Layout.{IsReadable, IsShown, key_in, shown_intake}
+use Rattle.kob_inbox.proofs.Places.{key_back}
+
+-- the event that a row shows, behind its place
+abbrev intake_shown : Row → ℕ × Intake
+intake_shown row = (
+  number_in (column row 0),
+  record {
+    id = text_in (column row 1);
+    topic = text_in (column row 2);
+    partition = number_in (column row 3);
+    offset = number_in (column row 4);
+    key = key_in (column row 5);
+    value = blob_in (column row 6);
+  },
+)
+
+shown_back : (events : List (ℕ × Intake)) → map intake_shown (map shown_intake events) ≡ events
+shown_back [] = refl
+shown_back (p ∷ events) = ap (λ key. (p.0, record p.1 { key = key }) ∷ map intake_shown (map shown_intake events)) (key_back p.1.key) ∙ ap (λ more. p ∷ more) (shown_back events)
+
+pub same_events : (xs ys : List (ℕ × Intake)) → map shown_intake xs ≡ map shown_intake ys → xs ≡ ys
+same_events xs ys h = sym (shown_back xs) ∙ ap (map intake_shown) h ∙ shown_back ys
+
+pub all_shown : (k : ℕ) (events : Contents) → AllByRecursion IsReadable events → AllByRecursion IsShown (map shown_intake (enumerate_from k events))
+all_shown k [] all = tt
+all_shown k (e ∷ events) all = (record { place = k; event = e; is = refl; readable = all.0 }, all_shown (k + 1) events all.1)

@@ -1,0 +1,12 @@
+use Rattle.std.proofs.Common.{◌≡◌, None, take}
+use Rattle.kob_inbox.specs.Intake.{arrivals, taken_in}
+use Rattle.kob_inbox.specs.Run.{behind}
+use Rattle.kob_inbox.proofs.intake.take_all.Given as goal
+
+abbrev pub invariant-loop-at : goal.invariant-loop-at
+invariant-loop-at l = record {
+  count : l.passed.count ≡ l.at-index;
+  fine : l.passed.fault ≡ None;
+  taken : l.inbox ≡ taken_in l.fn.inbox (arrivals l.place (take l.at-index l.records));
+  behind : l.passed.position ≡ behind l.fn.position (take l.at-index l.records);
+}

@@ -1,0 +1,7 @@
+use Rattle.std.proofs.Common.{◌≡◌, map, take}
+use Rattle.kob_inbox.specs.Layout.{shown_intake}
+use Rattle.kob_inbox.specs.Rows.{placed_intake}
+use Rattle.kob_inbox.proofs.rows.rows_of.Given as goal
+
+abbrev pub invariant-loop-row : goal.invariant-loop-row
+invariant-loop-row l = map (λ r. shown_intake (placed_intake r)) l.out.items ≡ take l.row-index l.rows

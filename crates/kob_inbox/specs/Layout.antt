@@ -1,0 +1,96 @@
+-- How the events stand in the rows of the table.
+use Rattle.std.specs.Prelude.{◌≡◌, ℕ, zero, suc, ◌<◌, ◌^◌, length, pos, List, [], ◌∷◌, map, Option, None, Some}
+use Rattle.std.specs.List.{AllByRecursion, enumerate_from}
+use Rattle.std.specs.Str.{IsUtf8}
+use Rattle.sqlite.specs.declared.types.Value.{Value}
+use Rattle.sqlite.specs.declared.types.Value.TheVariants.{Null, Int, Real, Text, Blob}
+use Rattle.sqlite.specs.Order.{Row}
+use Rattle.sqlite.specs.Tree.{Trees}
+use Rattle.sqlite_value.specs.Order.{column}
+use Rattle.uuid.specs.Text.{parsed}
+use Rattle.kob_outbox.specs.Events.{id_text}
+use Rattle.kob_outbox.specs.Layout.{blob_in, text_in}
+use Rattle.kob_outbox.specs.Numbers.{number_in}
+use Rattle.kob_inbox.specs.Contents.{Contents, Intake, IsOnce}
+
+-- the tree of the table's rows
+abbrev pub inbox_tree : ℕ
+inbox_tree = 0
+
+-- ---- from rows to events
+
+-- the key in a value
+abbrev pub key_in : Value → Option (List ℕ)
+key_in Null = None
+key_in (Int n) = None
+key_in (Real x) = None
+key_in (Text t) = None
+key_in (Blob b) = Some b
+
+-- the event in a row
+abbrev pub intake_in : Row → Intake
+intake_in row = record {
+  id = text_in (column row 2);
+  topic = text_in (column row 3);
+  partition = number_in (column row 4);
+  offset = number_in (column row 5);
+  key = key_in (column row 6);
+  value = blob_in (column row 7);
+}
+
+-- the events as they are read off the table
+abbrev pub contents_in : Trees → Contents
+contents_in trees = map intake_in (trees inbox_tree)
+
+-- ---- from events to rows
+
+-- a key as a value, where there is one
+abbrev pub key_value : Option (List ℕ) → Value
+key_value None = Null
+key_value (Some key) = Blob key
+
+-- the values of an event, in the order of the columns behind its place
+abbrev pub values_of : Intake → Row
+values_of e =
+    Text e.id ∷ Text e.topic ∷ Int (pos e.partition) ∷ Int (pos e.offset) ∷ key_value e.key
+    ∷ Blob e.value ∷ []
+
+-- the row of an event at a place, which is the table's key
+abbrev pub placed_row : ℕ × Intake → Row
+placed_row p = Int (pos p.0) ∷ Null ∷ values_of p.1
+
+-- the event's fields can be read back
+pub record IsReadable (e : Intake) : Type 0 where
+  pub uuid : List ℕ
+  pub id : e.id ≡ id_text uuid
+  pub parses : Some uuid ≡ parsed e.id
+  pub text : IsUtf8 e.id
+  pub topic : IsUtf8 e.topic
+  pub partition : e.partition < 2 ^ 63
+  pub offset : e.offset < 2 ^ 63
+
+-- the tree holds these events at their places
+pub record Holds (events : Contents) (trees : Trees) : Type 0 where
+  pub rows : trees inbox_tree ≡ map placed_row (enumerate_from 1 events)
+  -- each place fits the database
+  pub room : length events < 2 ^ 63
+  pub once : IsOnce events
+  pub readable : AllByRecursion IsReadable events
+
+-- ---- rows as the reads show them
+
+-- an event as a query shows it, behind its place
+abbrev pub shown_intake : ℕ × Intake → Row
+shown_intake p = Int (pos p.0) ∷ values_of p.1
+
+-- a row shows a readable event
+pub record IsShown (row : Row) : Type 0 where
+  pub place : ℕ
+  pub event : Intake
+  pub is : row ≡ shown_intake (place, event)
+  pub readable : IsReadable event
+
+-- the last place, where one is taken
+abbrev pub shown_last : ℕ → List Row
+shown_last zero = []
+shown_last (suc n) = (Int (pos (suc n)) ∷ []) ∷ []

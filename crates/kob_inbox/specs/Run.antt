@@ -1,0 +1,161 @@
+-- What a consumer may do to a broker and an inbox.
+use Rattle.std.specs.Prelude.{◌≡◌, ℕ, ◌+◌, ◌%◌, ◌≤◌, List, [], ◌∷◌, ◌++◌, length, take, false, if◌then◌else◌, Option, None, Some, slice_get, unwrap_or}
+use Rattle.kob_names.specs.declared.record.Record.{Record}
+use Rattle.kob_rights.specs.declared.request.Request.{Request}
+use Rattle.kob_rights.specs.declared.request.Request.TheVariants.{Fetch, OffsetCommit, OffsetFetch}
+use Rattle.kob_rights.specs.declared.reply.Reply.{Reply}
+use Rattle.kob_rights.specs.declared.reply.Reply.TheVariants.{Denied, Refused, Done}
+use Rattle.kob_rights.specs.declared.reply.Body.{Body}
+use Rattle.kob_rights.specs.declared.reply.Body.TheVariants as bodies
+use Rattle.kob_router.specs.declared.line.Call.{Call}
+use Rattle.kob_router.specs.declared.place.Place.{Place}
+use Rattle.kob_inbox.specs.declared.cursors.Cursor.{Cursor}
+use Rattle.kob_inbox.specs.declared.cursors.Standing.{Standing}
+use Rattle.kob_inbox.specs.declared.fetcher.Subscription.{Subscription}
+use Rattle.kob_inbox.specs.Contents.{Contents}
+use Rattle.kob_inbox.specs.Cursors.{advanced, cursor_of, moved, standing}
+use Rattle.kob_inbox.specs.Intake.{Arrival, arrivals, taken_in}
+
+-- an inbox, how far its consumer has come on each partition, and the place in the assignment of the
+-- partition that has the turn
+pub record State : Type 0 where
+  pub inbox : Contents
+  pub cursors : List Cursor
+  pub turn : ℕ
+
+-- an empty inbox and a new consumer
+abbrev pub start : State
+start = record { inbox = []; cursors = []; turn = 0 }
+
+-- one thing that is done
+pub data Move : Type 0 where
+  -- the consumer forgets all positions and which records were passed
+  Restarted : Move
+  -- a call; of the records that were heard so many are taken in
+  Called : (call : Call) (count : ℕ) → Move
+
+-- the request that is due on a partition that stands so: its position is asked for first, records
+-- that were passed are committed, and else the next ones are fetched
+abbrev pub due : Subscription → Place → Option Standing → Request
+due t place None =
+    OffsetFetch (record { group = t.group; topic = place.topic; partition = place.partition })
+due t place (Some c) =
+    if c.uncommitted
+    then OffsetCommit (record {
+      group = t.group;
+      topic = place.topic;
+      partition = place.partition;
+      offset = c.position;
+    })
+    else Fetch (record {
+      topic = place.topic;
+      partition = place.partition;
+      offset = c.position;
+      max = t.max;
+    })
+
+-- the request is the one that is due on the partition that has the turn
+pub record IsDue (t : Subscription) (s : State) (request : Request) : Type 0 where
+  pub place : Place
+  pub its_turn : slice_get t.assignment s.turn ≡ Some place
+  pub is_due : request ≡ due t place (standing (cursor_of s.cursors place))
+
+-- the records of a reply that was heard
+abbrev pub records_heard : Option Reply → List (ℕ × Record)
+records_heard (Some (Done (bodies.Records records))) = records
+records_heard _ = []
+
+-- what may be done: the call that is due, and the first of the records that it brings are taken in
+abbrev pub May : Subscription → State → Move → Type 0
+May t s Restarted = Unit {0}
+May t s (Called call count) =
+    IsDue t s call.request × (count ≤ length (records_heard call.heard))
+
+-- the next assigned partition
+abbrev pub next_turn : Subscription → ℕ → ℕ
+next_turn t turn = (turn + 1) % length t.assignment
+
+-- the position behind records
+abbrev pub behind : ℕ → List (ℕ × Record) → ℕ
+behind position [] = position
+behind position (x ∷ records) = behind (x.0 + 1) records
+
+-- a partition by its topic and number
+abbrev pub place_at : List ℕ → ℕ → Place
+place_at topic partition = record { topic = topic; partition = partition }
+
+-- the records that a request takes in that was done, where it takes in so many
+abbrev pub taken_from : Request → Body → ℕ → List Arrival
+taken_from (Fetch asked) (bodies.Records records) count =
+    arrivals (place_at asked.topic asked.partition) (take count records)
+taken_from request body count = []
+
+-- the cursors then: a position is what is committed, or 0 where nothing is; records that are taken
+-- in move it behind them; and what was committed is no longer due
+abbrev pub cursors_after : List Cursor → Request → Body → ℕ → List Cursor
+cursors_after cursors (OffsetFetch asked) (bodies.Commit committed) count = moved cursors (record {
+  place = place_at asked.topic asked.partition;
+  position = unwrap_or committed 0;
+  uncommitted = false;
+})
+cursors_after cursors (OffsetCommit asked) body count = moved cursors (record {
+  place = place_at asked.topic asked.partition;
+  position = asked.offset;
+  uncommitted = false;
+})
+cursors_after cursors (Fetch asked) (bodies.Records records) count =
+    advanced cursors (place_at asked.topic asked.partition) count
+    (behind asked.offset (take count records))
+cursors_after cursors request body count = cursors
+
+-- the turn then: it passes after a commit, and where there are no records
+abbrev pub turn_after : Subscription → ℕ → Request → Body → ℕ
+turn_after t turn (OffsetCommit asked) body = next_turn t turn
+turn_after t turn (Fetch asked) (bodies.Records []) = next_turn t turn
+turn_after t turn request body = turn
+
+-- after a request that was done, and that takes in so many records
+abbrev pub done : Subscription → State → Request → Body → ℕ → State
+done t s request body count = record {
+  inbox = taken_in s.inbox (taken_from request body count);
+  cursors = cursors_after s.cursors request body count;
+  turn = turn_after t s.turn request body;
+}
+
+-- after a call, of whose records so many are taken in: a call that was lost, denied or refused
+-- leaves all
+abbrev pub answered : Subscription → State → Request → Option Reply → ℕ → State
+answered t s request None count = s
+answered t s request (Some (Denied code verdicts)) count = s
+answered t s request (Some (Refused code reason)) count = s
+answered t s request (Some (Done body)) count = done t s request body count
+
+-- what is done leaves
+abbrev pub after : Subscription → State → Move → State
+after t s Restarted = record { inbox = s.inbox; cursors = []; turn = 0 }
+after t s (Called call count) = answered t s call.request call.heard count
+
+-- these moves may be made one after another, and lead from one state to the other
+abbrev pub IsConsumerRun : Subscription → State → List Move → State → Type 0
+IsConsumerRun t old [] new = new ≡ old
+IsConsumerRun t old (move ∷ moves) new =
+    May t old move × IsConsumerRun t (after t old move) moves new
+
+-- the calls among the moves
+abbrev pub calls_of : List Move → List Call
+calls_of [] = []
+calls_of (Called call count ∷ moves) = call ∷ calls_of moves
+calls_of (Restarted ∷ moves) = calls_of moves
+
+-- what a call takes in
+abbrev pub taken_by : Request → Option Reply → ℕ → List Arrival
+taken_by request None count = []
+taken_by request (Some (Denied code verdicts)) count = []
+taken_by request (Some (Refused code reason)) count = []
+taken_by request (Some (Done body)) count = taken_from request body count
+
+-- what the moves take in, in order
+abbrev pub taken_of : List Move → List Arrival
+taken_of [] = []
+taken_of (Called call count ∷ moves) = taken_by call.request call.heard count ++ taken_of moves
+taken_of (Restarted ∷ moves) = taken_of moves

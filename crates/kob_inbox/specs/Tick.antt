@@ -1,0 +1,109 @@
+-- What one tick of a consumer does.
+use Rattle.std.specs.Prelude.{◌≡◌, ◌⊎◌, ℕ, ◌<◌, ◌≤◌, List, [], ◌∷◌, ◌++◌, length, Option, None, Some, unwrap_or}
+use Rattle.kob_names.specs.declared.record.Record.{Record}
+use Rattle.kob_rights.specs.declared.request.Request.{Request}
+use Rattle.kob_rights.specs.declared.request.Request.TheVariants.{Fetch, OffsetCommit, OffsetFetch}
+use Rattle.kob_rights.specs.declared.on_groups.OffsetCommit.{OffsetCommit as CommitRequest}
+use Rattle.kob_rights.specs.declared.on_groups.OffsetFetch.{OffsetFetch as PositionRequest}
+use Rattle.kob_rights.specs.declared.on_partitions.Fetch.{Fetch as FetchRequest}
+use Rattle.kob_rights.specs.declared.reply.Reply.{Reply}
+use Rattle.kob_rights.specs.declared.reply.Reply.TheVariants.{Denied, Refused, Done}
+use Rattle.kob_rights.specs.declared.reply.Body.{Body}
+use Rattle.kob_rights.specs.declared.reply.Body.TheVariants as bodies
+use Rattle.kob_router.specs.Line.{one_more}
+use Rattle.kob_router.specs.declared.line.Call.{Call}
+use Rattle.kob_inbox.specs.declared.fetcher.Fetcher.{Fetcher}
+use Rattle.kob_inbox.specs.declared.fetcher.Subscription.{Subscription}
+use Rattle.kob_inbox.specs.declared.tick.StopReason.{StopReason}
+use Rattle.kob_inbox.specs.declared.tick.StopReason.TheVariants as stop
+use Rattle.kob_inbox.specs.declared.tick.Tick.{Tick}
+use Rattle.kob_inbox.specs.declared.tick.Tick.TheVariants.{Placed, Took, Committed, Idle, Repeat, Stopped}
+use Rattle.kob_inbox.specs.Contents.{Contents}
+use Rattle.kob_inbox.specs.Run.{State, Move, IsConsumerRun, calls_of, answered, records_heard}
+use Rattle.kob_inbox.specs.Run.Move.{Called}
+
+-- a consumer with its inbox
+abbrev pub state_of : Fetcher → Contents → State
+state_of f inbox = record { inbox = inbox; cursors = f.cursors.items; turn = f.turn }
+
+-- a consumer with its inbox, and what its line tells
+pub record Scene : Type 0 where
+  pub state : State
+  pub calls : List Call
+  pub unmade : ℕ
+
+-- both, at one time
+abbrev pub scene_of : Fetcher → Contents → List Call → ℕ → Scene
+scene_of f inbox calls unmade = record { state = state_of f inbox; calls = calls; unmade = unmade }
+
+-- some assigned partition has the turn, where there is one
+abbrev pub IsOnTurn : Fetcher → Type 0
+IsOnTurn f = (f.subscription.assignment ≡ []) ⊎ (f.turn < length f.subscription.assignment)
+
+-- one call was made
+abbrev pub IsCall : List Move → Request → Option Reply → ℕ → Type 0
+IsCall moves request heard count =
+    moves ≡ Called (record { request = request; heard = heard }) count ∷ []
+
+-- records were heard of which not all were taken in
+abbrev pub IsCut : List Move → Type 0
+IsCut moves =
+    (asked : FetchRequest) × (records : List (ℕ × Record)) × (count : ℕ)
+    × IsCall moves (Fetch asked) (Some (Done (bodies.Records records))) count
+    × (count < length records)
+
+-- why a tick stopped
+abbrev pub IsReason : StopReason → List Move → Type 0
+IsReason (stop.Denied code verdicts) moves =
+    (request : Request) × IsCall moves request (Some (Denied code verdicts)) 0
+IsReason (stop.Refused code reason) moves =
+    (request : Request) × IsCall moves request (Some (Refused code reason)) 0
+IsReason stop.Memory moves = (moves ≡ []) ⊎ IsCut moves
+IsReason stop.Store moves = IsCut moves
+
+-- what a tick answers, by the one move that it makes
+abbrev pub IsAnswer : Subscription → Tick → List Move → Type 0
+IsAnswer t (Placed position) moves =
+    (asked : PositionRequest) × (committed : Option ℕ)
+    × IsCall moves (OffsetFetch asked) (Some (Done (bodies.Commit committed))) 0
+    × (position ≡ unwrap_or committed 0)
+IsAnswer t (Took count) moves =
+    (asked : FetchRequest) × (records : List (ℕ × Record))
+    × IsCall moves (Fetch asked) (Some (Done (bodies.Records records))) count
+    × (count ≡ length records) × (0 < count)
+IsAnswer t Committed moves =
+    (asked : CommitRequest) × IsCall moves (OffsetCommit asked) (Some (Done bodies.Committed)) 0
+IsAnswer t Idle moves =
+    ((t.assignment ≡ []) × (moves ≡ []))
+    ⊎ ((asked : FetchRequest) × IsCall moves (Fetch asked) (Some (Done (bodies.Records []))) 0)
+IsAnswer t Repeat moves = (moves ≡ []) ⊎ ((request : Request) × IsCall moves request None 0)
+IsAnswer t (Stopped reason) moves = IsReason reason moves
+
+-- how often calls were not made for want of memory, after a tick without a call: only a loss tells
+-- of one
+abbrev pub unmade_after : Tick → ℕ → ℕ
+unmade_after Repeat unmade = one_more unmade
+unmade_after tick unmade = unmade
+
+-- the same after a tick with these moves
+abbrev pub unmade_by : Tick → List Move → ℕ → ℕ
+unmade_by tick [] unmade = unmade_after tick unmade
+unmade_by tick (move ∷ moves) unmade = unmade
+
+-- the one move of a tick, or none: it is a run, its call is what the line notes, and the answer
+-- tells of it
+pub record Ticks (t : Subscription) (old new : Scene) (tick : Tick) : Type 0 where
+  pub moves : List Move
+  pub run : IsConsumerRun t old.state moves new.state
+  pub calls : new.calls ≡ old.calls ++ calls_of moves
+  pub answer : IsAnswer t tick moves
+  pub counted : new.unmade ≡ unmade_by tick moves old.unmade
+
+-- what becomes of a body that was heard
+pub record Hears (t : Subscription) (old new : State) (request : Request) (body : Body)
+    (tick : Tick) : Type 0 where
+  pub count : ℕ
+  pub within : count ≤ length (records_heard (Some (Done body)))
+  pub changed : new ≡ answered t old request (Some (Done body)) count
+  pub answer : IsAnswer t tick
+      (Called (record { request = request; heard = Some (Done body) }) count ∷ [])

@@ -1,0 +1,90 @@
+//! A consumer of partitions that it assigned itself.
+
+use crate::fetcher::{Fetcher, Subscription};
+use crate::inbox::Inbox;
+use crate::tick::Tick;
+use kob_names::{Items, Text};
+use kob_router::{Line, Place};
+use std::alloc::Global;
+use std::marker::Model;
+
+/// Takes the records of its partitions into an inbox, and commits its positions for its group after
+/// that.
+///
+/// Each record is taken in at least once and each event id once, as Kafka's consumers have it that
+/// commit what they have processed.
+#[derive(Debug, Drop)]
+pub struct Consumer {
+    fetcher: Fetcher,
+}
+
+impl Model for Consumer {
+    ghost use Rattle.kob_inbox.specs.declared.fetcher.Fetcher.{Fetcher};
+    ghost use Rattle.kob_inbox.specs.Tick.{IsOnTurn};
+
+    ghost Value = { Fetcher };
+
+    ghost view = { λ consumer. consumer.fetcher };
+
+    ghost invariant = { λ consumer. IsOnTurn consumer.fetcher };
+}
+
+impl Consumer {
+    ghost use Rattle.std.specs.Prelude.{◌≡◌, []};
+    ghost use Rattle.kob_inbox.specs.Contents.{Contents};
+    ghost use Rattle.kob_inbox.specs.Run.{after};
+    ghost use Rattle.kob_inbox.specs.Run.Move.{Restarted};
+    ghost use Rattle.kob_inbox.specs.Tick.{Ticks, scene_of, state_of};
+
+    /// A consumer that knows no position. The first assigned partition has the first turn; one that
+    /// is assigned twice has two turns and one position. A FETCH asks for at most `max` records, of
+    /// which the broker gives at most 1,000. No memory is taken.
+    pub fn new(alloc: Global, group: Text, assignment: Items<Place>, max: u64) -> Consumer
+        ensures settings { result.subscription
+            ≡ record { group = group; assignment = assignment; max = max } }
+        ensures state { (inbox : Contents)
+            → state_of result inbox ≡ record { inbox = inbox; cursors = []; turn = 0 } }
+    {
+        Consumer {
+            fetcher: Fetcher {
+                subscription: Subscription {
+                    group,
+                    assignment,
+                    max,
+                },
+                cursors: Vec::new(alloc),
+                turn: 0,
+            },
+        }
+    }
+
+    /// One step: one request on the assigned partition that has the turn.
+    ///
+    /// Where its position is not known, the group's commit is asked for (`Placed`). Where records
+    /// were passed and no commit of them was heard, the position is committed, and the next
+    /// partition has the turn (`Committed`). Else records are fetched at the position and taken in
+    /// one after another (`Took`), or there are none, and the next partition has the turn (`Idle`).
+    /// After `Repeat` and `Stopped` the partition keeps the turn. Where the inbox keeps a record
+    /// out, the position stays before it.
+    pub fn tick<L: Line>(&mut self, alloc: Global, inbox: &mut Inbox, line: &mut L) -> Tick
+        ensures same { self.new.subscription ≡ self.old.subscription }
+        ensures done { Ticks self.old.subscription
+            (scene_of self.old inbox.old (L.calls line.old) (L.unmade line.old))
+            (scene_of self.new inbox.new (L.calls line.new) (L.unmade line.new))
+            result }
+    {
+        self.fetcher.tick(alloc, inbox, line)
+    }
+
+    /// Forgets all positions and which records were passed, as a consumer that starts again does.
+    /// The first assigned partition has the next turn. No memory is taken.
+    pub fn restart(&mut self)
+        ensures same { self.new.subscription ≡ self.old.subscription }
+        ensures done { (inbox : Contents)
+            → state_of self.new inbox
+            ≡ after self.old.subscription (state_of self.old inbox) Restarted }
+    {
+        self.fetcher.cursors.clear();
+        self.fetcher.turn = 0;
+    }
+}

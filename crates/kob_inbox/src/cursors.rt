@@ -1,0 +1,68 @@
+//! How far a consumer has come on each partition.
+
+ghost use Rattle.std.specs.Prelude.{◌≡◌, ◌<◌, None, false, vec_len, vec_capacity};
+ghost use Rattle.kob_inbox.specs.Cursors.{IsKnown, cursor_of, moved, standing};
+
+use kob_router::{Place, is_same_place};
+
+/// How far a consumer has come on a partition.
+#[derive(Debug, Drop)]
+pub struct Cursor {
+    pub place: Place,
+    /// The offset of the next record.
+    pub position: u64,
+    /// Whether records were passed and no commit of them was heard.
+    pub uncommitted: bool,
+}
+
+/// A cursor without its partition.
+#[derive(Clone, Copy, Debug, PartialEq, Eq)]
+pub struct Standing {
+    pub position: u64,
+    pub uncommitted: bool,
+}
+
+/// How a partition stands, if it has a cursor.
+pub(crate) fn standing_of(cursors: &[Cursor], place: &Place) -> Option<Standing>
+    ensures { result ≡ standing (cursor_of cursors.now place.now) }
+{
+    for cursor in cursors {
+        if is_same_place(&cursor.place, place) {
+            return Some(Standing {
+                position: cursor.position,
+                uncommitted: cursor.uncommitted,
+            });
+        }
+    }
+    None
+}
+
+/// Adds the cursor of a partition that has none, in the room that is there.
+pub(crate) fn put(cursors: &mut Vec<Cursor>, place: Place, position: u64)
+    requires room { vec_len cursors.old < vec_capacity cursors.old }
+    requires unknown { standing (cursor_of cursors.old.items place) ≡ None }
+    ensures { cursors.new.items ≡ moved cursors.old.items
+        (record { place = place; position = position; uncommitted = false }) }
+{
+    cursors.push_reserved(Cursor {
+        place,
+        position,
+        uncommitted: false,
+    });
+}
+
+/// Moves the cursor of a partition.
+pub(crate) fn set(cursors: &mut [Cursor], place: &Place, position: u64, uncommitted: bool)
+    requires { IsKnown (cursor_of cursors.old place.now) }
+    ensures { cursors.new ≡ moved cursors.old
+        (record { place = place.now; position = position; uncommitted = uncommitted }) }
+{
+    for i in 0..cursors.len() {
+        let cursor = &mut cursors[i];
+        if is_same_place(&cursor.place, place) {
+            cursor.position = position;
+            cursor.uncommitted = uncommitted;
+            return;
+        }
+    }
+}

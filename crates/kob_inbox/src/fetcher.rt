@@ -1,0 +1,244 @@
+//! A consumer's step.
+
+ghost use Rattle.std.specs.Prelude.{◌≡◌, ◌≤◌, MatchOption, length, slice_get, Some};
+
+use crate::cursors::{Cursor, Standing, put, set, standing_of};
+use crate::fault::InboxFault;
+use crate::inbox::Inbox;
+use crate::intake::{Passed, take_all};
+use crate::tick::{StopReason, Tick};
+use kob_names::{Items, PlainValue, Record, Text};
+use kob_rights::{Body, Fetch, OffsetCommit, OffsetFetch, Reply, Request};
+use kob_router::{Delivery, Line, Place};
+use std::alloc::{AllocError, Global};
+
+/// What a consumer is to do: for which group it reads which partitions, and how many records at
+/// most at once.
+#[derive(Debug, Drop)]
+pub struct Subscription {
+    pub group: Text,
+    pub assignment: Items<Place>,
+    pub max: u64,
+}
+
+/// What a consumer holds: how far it has come, and which of its assigned partitions has the turn.
+#[derive(Debug, Drop)]
+pub struct Fetcher {
+    pub subscription: Subscription,
+    pub cursors: Vec<Cursor>,
+    pub turn: usize,
+}
+
+impl Fetcher {
+    ghost use Rattle.std.specs.Prelude.{ℕ, ◌<◌, ◌+◌, ◌%◌, List, None, IfOk, vec_len, vec_capacity, true, false};
+    ghost use Rattle.std.specs.List.{All};
+    ghost use Rattle.kob_names.specs.declared.record.Record.{Record};
+    ghost use Rattle.kob_rights.specs.Bodies.{IsBodyOf};
+    ghost use Rattle.kob_rights.specs.Offsets.{BodyWithin, greatest_offset};
+    ghost use Rattle.kob_inbox.specs.Contents.{Contents};
+    ghost use Rattle.kob_inbox.specs.Cursors.{IsKnown, advanced, cursor_of, standing};
+    ghost use Rattle.kob_inbox.specs.Run.{answered, due};
+    ghost use Rattle.kob_inbox.specs.Tick.{Hears, IsOnTurn, Ticks, scene_of, state_of};
+
+    /// One step: one request on the partition that has the turn. Room for its cursor is made before
+    /// the request, so that only the inbox can fail once a reply is heard.
+    pub(crate) fn tick<L: Line>(&mut self, alloc: Global, inbox: &mut Inbox, line: &mut L) -> Tick
+        requires { IsOnTurn self.old }
+        ensures same { self.new.subscription ≡ self.old.subscription }
+        ensures turn { IsOnTurn self.new }
+        ensures done { Ticks self.old.subscription
+            (scene_of self.old inbox.old (L.calls line.old) (L.unmade line.old))
+            (scene_of self.new inbox.new (L.calls line.new) (L.unmade line.new))
+            result }
+    {
+        let Some(assigned) = place_on(self.subscription.assignment.as_slice(), self.turn) else {
+            return Tick::Idle;
+        };
+        let Ok(place) = assigned.copy(alloc) else {
+            return Tick::Stopped(StopReason::Memory);
+        };
+        let stood = standing_of(&self.cursors, &place);
+        if self.cursors.reserve(1).is_err() {
+            return Tick::Stopped(StopReason::Memory);
+        }
+        let Ok(request) = self.due(alloc, &place, stood) else {
+            return Tick::Stopped(StopReason::Memory);
+        };
+        match line.send(alloc, request) {
+            Delivery::Lost => Tick::Repeat,
+            Delivery::Delivered(Reply::Denied { code, verdicts }) => {
+                Tick::Stopped(StopReason::Denied { code, verdicts })
+            }
+            Delivery::Delivered(Reply::Refused { code, reason }) => {
+                Tick::Stopped(StopReason::Refused { code, reason })
+            }
+            Delivery::Delivered(Reply::Done(body)) => self.hear(inbox, place, stood, body),
+        }
+    }
+
+    /// The request that is due on a partition.
+    fn due(
+        &self,
+        alloc: Global,
+        place: &Place,
+        stood: Option<Standing>,
+    ) -> Result<Request, AllocError>
+        ensures { IfOk result (λ request. request ≡ due self.now.subscription place.now stood) }
+    {
+        let topic = place.topic.copy(alloc)?;
+        let partition = place.partition;
+        let Some(standing) = stood else {
+            let group = self.subscription.group.copy(alloc)?;
+            return Ok(Request::OffsetFetch(OffsetFetch {
+                group,
+                topic,
+                partition,
+            }));
+        };
+        let offset = standing.position;
+        if standing.uncommitted {
+            let group = self.subscription.group.copy(alloc)?;
+            return Ok(Request::OffsetCommit(OffsetCommit {
+                group,
+                topic,
+                partition,
+                offset,
+            }));
+        }
+        Ok(Request::Fetch(Fetch {
+            topic,
+            partition,
+            offset,
+            max: self.subscription.max,
+        }))
+    }
+
+    /// What the body of the reply says is done.
+    fn hear(&mut self, inbox: &mut Inbox, place: Place, stood: Option<Standing>, body: Body) -> Tick
+        requires turn { self.old.turn < length self.old.subscription.assignment }
+        requires room { vec_len self.old.cursors < vec_capacity self.old.cursors }
+        requires stands { standing (cursor_of self.old.cursors.items place) ≡ stood }
+        requires fits { IsBodyOf (due self.old.subscription place stood) body }
+        requires within { BodyWithin body }
+        ensures same { self.new.subscription ≡ self.old.subscription }
+        ensures turn { self.new.turn < length self.new.subscription.assignment }
+        ensures done { Hears self.old.subscription
+            (state_of self.old inbox.old) (state_of self.new inbox.new)
+            (due self.old.subscription place stood) body result }
+    {
+        let Some(standing) = stood else {
+            return match body {
+                Body::Commit(committed) => {
+                    let position = committed.unwrap_or(0);
+                    put(&mut self.cursors, place, position);
+                    Tick::Placed(position)
+                }
+                _ => unreachable!(),
+            };
+        };
+        if standing.uncommitted {
+            return match body {
+                Body::Committed => {
+                    self.committed(&place, standing.position);
+                    Tick::Committed
+                }
+                _ => unreachable!(),
+            };
+        }
+        match body {
+            Body::Records(records) => {
+                self.take(inbox, &place, standing.position, records.as_slice())
+            }
+            _ => unreachable!(),
+        }
+    }
+
+    /// A commit of the position was heard.
+    fn committed(&mut self, place: &Place, position: u64)
+        requires turn { self.old.turn < length self.old.subscription.assignment }
+        requires known { IsKnown (cursor_of self.old.cursors.items place.now) }
+        ensures same { self.new.subscription ≡ self.old.subscription }
+        ensures turn { self.new.turn < length self.new.subscription.assignment }
+        ensures done { (inbox : Contents) → state_of self.new inbox
+            ≡ answered self.old.subscription (state_of self.old inbox)
+            (Request.OffsetCommit (record {
+              group = self.old.subscription.group;
+              topic = place.now.topic;
+              partition = place.now.partition;
+              offset = position;
+            }))
+            (Some (Reply.Done Body.Committed)) 0 }
+    {
+        set(&mut self.cursors, place, position, false);
+        self.pass_turn();
+    }
+
+    /// Records were heard.
+    fn take(
+        &mut self,
+        inbox: &mut Inbox,
+        place: &Place,
+        position: u64,
+        records: &[(u64, Record)],
+    ) -> Tick
+        requires turn { self.old.turn < length self.old.subscription.assignment }
+        requires known { IsKnown (cursor_of self.old.cursors.items place.now) }
+        requires within { All (λ (entry : ℕ × Record). entry.0 < greatest_offset) records.now }
+        ensures same { self.new.subscription ≡ self.old.subscription }
+        ensures turn { self.new.turn < length self.new.subscription.assignment }
+        ensures done { Hears self.old.subscription
+            (state_of self.old inbox.old) (state_of self.new inbox.new)
+            (Request.Fetch (record {
+              topic = place.now.topic;
+              partition = place.now.partition;
+              offset = position;
+              max = self.old.subscription.max;
+            }))
+            (Body.Records records.now) result }
+    {
+        if records.len() == 0 {
+            self.pass_turn();
+            return Tick::Idle;
+        }
+        let passed = take_all(inbox, place, position, records);
+        self.advance(place, passed);
+        match passed.fault {
+            None => Tick::Took(passed.count),
+            Some(InboxFault::Memory) => Tick::Stopped(StopReason::Memory),
+            Some(InboxFault::Store) => Tick::Stopped(StopReason::Store),
+        }
+    }
+
+    /// The position moves behind the records that were passed.
+    fn advance(&mut self, place: &Place, passed: Passed)
+        requires { IsKnown (cursor_of self.old.cursors.items place.now) }
+        ensures same { self.new.subscription ≡ self.old.subscription }
+        ensures turn { self.new.turn ≡ self.old.turn }
+        ensures moved { self.new.cursors.items
+            ≡ advanced self.old.cursors.items place.now passed.count passed.position }
+    {
+        if passed.count == 0 {
+            return;
+        }
+        set(&mut self.cursors, place, passed.position, true);
+    }
+
+    /// The next assigned partition has the turn.
+    fn pass_turn(&mut self)
+        requires { self.old.turn < length self.old.subscription.assignment }
+        ensures { self.new ≡ record self.old {
+          turn = (self.old.turn + 1) % length self.old.subscription.assignment;
+        } }
+    {
+        let count = self.subscription.assignment.as_slice().len();
+        self.turn = (self.turn + 1) % count;
+    }
+}
+
+/// The assigned partition that has the turn.
+fn place_on(assignment: &[Place], turn: usize) -> Option<&Place>
+    ensures { MatchOption result (length assignment.now ≤ turn)
+        (λ place. slice_get assignment.now turn ≡ Some place.now) }
+{
+    assignment.get(turn)
+}

@@ -1,0 +1,133 @@
+//! The inbox.
+
+ghost use Rattle.std.specs.Prelude.{◌≡◌, ◌⊎◌, ◌<◌, ◌≤◌, ◌^◌, None, Ok, [], map, IfErr, IfOk, OnErr, OnOk, IsErrOf};
+ghost use Rattle.std.specs.List.{enumerate_from};
+ghost use Rattle.kob_router.specs.HeaderId.{event_id};
+ghost use Rattle.kob_inbox.specs.Contents.{IsOnce, next_place};
+ghost use Rattle.kob_inbox.specs.Intake.{answer_to, with_record};
+ghost use Rattle.kob_inbox.specs.Rows.{placed_intake};
+
+use crate::fault::InboxFault;
+use crate::inbox_row::InboxRow;
+use crate::inbox_table::{create_inbox, insert_intake};
+use crate::origin::Origin;
+use crate::reads::{all_rows, last_place};
+use kob_names::Record;
+use kob_outbox::number;
+use kob_router::event_id;
+use sqlite::{Connection, MemStore};
+use std::alloc::Global;
+use std::marker::Model;
+use uuid::Uuid;
+
+/// What became of a record.
+#[derive(Clone, Copy, Debug, PartialEq, Eq)]
+pub enum TakeIn {
+    /// Its event id is new, and its event stands last in the inbox.
+    Taken,
+    /// Its event id is there, in whatever form it was written. Nothing is written.
+    Seen,
+    /// Its first header named `id` is no UUID, or it has none. Nothing is written.
+    NoEventId,
+}
+
+/// A consumer's database in memory, which takes each event in once.
+///
+/// It is seen as the events in the order of their intake; the first is at place 1. Each call
+/// changes all that it says or nothing. Calls that only read take `&mut self`, since the database
+/// reads through a cache.
+#[derive(Drop)]
+pub struct Inbox {
+    conn: Connection<MemStore>,
+    alloc: Global,
+}
+
+impl Model for Inbox {
+    ghost use Rattle.kob_inbox.specs.Contents.{Contents};
+    ghost use Rattle.kob_inbox.specs.Database.{IsInbox, contents};
+    ghost use Rattle.kob_outbox.specs.Service.{database};
+
+    ghost Value = { Contents };
+
+    ghost view = { λ inbox. contents inbox.conn };
+
+    ghost invariant = { λ inbox. IsInbox (database inbox.conn) };
+}
+
+impl Inbox {
+    /// Makes the table, with no row.
+    pub fn open_in_memory(alloc: Global) -> Result<Inbox, InboxFault>
+        ensures { IfOk result (λ inbox. inbox ≡ []) }
+    {
+        let mut conn = Connection::open_in_memory(alloc).map_err(|_| InboxFault::Memory)?;
+        create_inbox(&mut conn)?;
+        Ok(Inbox { conn, alloc })
+    }
+
+    /// Takes a record in that stands at this offset of a partition.
+    ///
+    /// The event id is told by the first header named `id`, in any form of a UUID. The table's
+    /// unique id decides whether it is there, so that the cost does not grow with the number of
+    /// rows. Where all 9,223,372,036,854,775,807 places are taken, or the number of the partition
+    /// is greater than that, the answer is `Store`.
+    pub fn take_in(
+        &mut self,
+        topic: &str,
+        partition: u64,
+        offset: u64,
+        message: &Record,
+    ) -> Result<TakeIn, InboxFault>
+        requires { offset < 2 ^ 63 }
+        ensures answer { IfOk result (λ answer.
+            answer ≡ answer_to self.old (event_id message.now)) }
+        ensures ok { OnOk result (self.new ≡ with_record self.old (event_id message.now) (record {
+          place = record { topic = topic.now; partition = partition };
+          offset = offset;
+          message = message.now;
+        })) }
+        ensures err { OnErr result (self.new ≡ self.old) }
+        ensures without_id { event_id message.now ≡ None → result ≡ Ok TakeIn.NoEventId }
+        ensures store { IsErrOf result InboxFault.Store
+            → (answer_to self.old (event_id message.now) ≡ TakeIn.Taken)
+            ⊎ ((next_place self.old ≡ 2 ^ 63) ⊎ (2 ^ 63 ≤ partition)) }
+    {
+        let Some(id) = event_id(message) else {
+            return Ok(TakeIn::NoEventId);
+        };
+        if partition > i64::MAX as u64 {
+            return Err(InboxFault::Store);
+        }
+        let mut buffer = Uuid::encode_buffer();
+        let id = id.hyphenated().encode_lower(&mut buffer);
+        let last = last_place(&mut self.conn)?;
+        if last >= i64::MAX as u64 {
+            return Err(InboxFault::Store);
+        }
+        let origin = Origin {
+            topic,
+            partition,
+            offset,
+        };
+        if insert_intake(&mut self.conn, &number(last + 1), id, &origin, message)? == 0 {
+            return Ok(TakeIn::Seen);
+        }
+        Ok(TakeIn::Taken)
+    }
+
+    /// All events, in the order of their intake.
+    pub fn taken(&mut self) -> Result<Vec<InboxRow>, InboxFault>
+        ensures rows { IfOk result (λ rows.
+            map placed_intake rows.items ≡ enumerate_from 1 self.old) }
+        ensures memory { IfErr result (λ f. f ≡ InboxFault.Memory) }
+        ensures same { self.new ≡ self.old }
+    {
+        all_rows(&mut self.conn, self.alloc)
+    }
+
+    /// What holds of every inbox; it does nothing. No event id comes twice.
+    pub fn is_in_order(&self)
+        ensures { IsOnce self.now }
+    {
+        let _conn = &self.conn;
+    }
+}

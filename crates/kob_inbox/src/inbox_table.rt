@@ -1,0 +1,95 @@
+//! The one table of an inbox: the texts that make, read and write it.
+
+ghost use Rattle.std.specs.Prelude.{◌≡◌, ◌<◌, ◌^◌, [], pos, length, map, if◌then◌else◌, IsTrue, IfOk, IfErr, OnOk, OnErr};
+ghost use Rattle.std.specs.List.{enumerate_from};
+ghost use Rattle.sqlite.specs.declared.types.Value.TheVariants.{Int};
+ghost use Rattle.std.specs.Option.{option_copied};
+ghost use Rattle.kob_outbox.specs.Blank.{IsBlank};
+ghost use Rattle.kob_outbox.specs.Service.{database};
+ghost use Rattle.kob_outbox.specs.Tables.{no_schema};
+ghost use Rattle.kob_inbox.specs.Contents.{next_place};
+ghost use Rattle.kob_inbox.specs.Database.{IsInbox, contents};
+ghost use Rattle.kob_inbox.specs.Intake.{intake_of, is_there, with_intake};
+ghost use Rattle.kob_inbox.specs.Layout.{IsReadable, shown_intake, shown_last};
+ghost use Rattle.kob_inbox.specs.Origin.{arrival_from};
+
+use crate::origin::Origin;
+use kob_names::Record;
+use kob_outbox::number;
+use sqlite::types::Value;
+use sqlite::{Connection, Error, ErrorCode, MemStore, Row, params};
+
+pub(crate) fn create_inbox(conn: &mut Connection<MemStore>) -> Result<usize, Error>
+    requires { IsBlank no_schema (database conn.old) }
+    ensures inbox { OnOk result (IsInbox (database conn.new)) }
+    ensures empty { OnOk result (contents conn.new ≡ []) }
+{
+    conn.execute(
+        "CREATE TABLE inbox (place INTEGER PRIMARY KEY NOT NULL, id TEXT UNIQUE NOT NULL, topic TEXT NOT NULL, part INTEGER NOT NULL, off INTEGER NOT NULL, rkey BLOB, rvalue BLOB NOT NULL)",
+        &[],
+    )
+}
+
+/// The last place that was taken, if one was. It reads one row, however many there are.
+pub(crate) fn select_last(conn: &mut Connection<MemStore>) -> Result<Vec<Row>, Error>
+    requires { IsInbox (database conn.old) }
+    ensures rows { IfOk result (λ rows. rows.items ≡ shown_last (length (contents conn.old))) }
+    ensures memory { IfErr result (λ e. e ≡ Error.SqliteFailure ErrorCode.OutOfMemory) }
+    ensures inbox { IsInbox (database conn.new) }
+    ensures same { contents conn.new ≡ contents conn.old }
+{
+    conn.query_all("SELECT place FROM inbox ORDER BY place DESC LIMIT 1", &[])
+}
+
+/// Adds an event at the next place. It answers 0 where its id is there.
+pub(crate) fn insert_intake<'a>(
+    conn: &mut Connection<MemStore>,
+    place: &'a Value,
+    id: &'a str,
+    origin: &'a Origin<'a>,
+    message: &'a Record,
+) -> Result<usize, Error>
+    requires inbox { IsInbox (database conn.old) }
+    requires place { place.now ≡ Int (pos (next_place (contents conn.old))) }
+    requires room { next_place (contents conn.old) < 2 ^ 63 }
+    requires readable { IsReadable (intake_of id.now (arrival_from origin.now message.now)) }
+    ensures inbox { IsInbox (database conn.new) }
+    ensures ok { OnOk result (contents conn.new ≡ with_intake (contents conn.old)
+        (intake_of id.now (arrival_from origin.now message.now))) }
+    ensures count { IfOk result (λ count.
+        count ≡ (if is_there (contents conn.old) id.now then 0 else 1)) }
+    ensures err { OnErr result (contents conn.new ≡ contents conn.old) }
+    ensures again { IfErr result (λ e. IsTrue (is_there (contents conn.old) id.now)
+        → e ≡ Error.SqliteFailure ErrorCode.OutOfMemory) }
+{
+    let partition = number(origin.partition);
+    let offset = number(origin.offset);
+    let key = key_of(message);
+    let value = message.value.as_slice();
+    conn.execute(
+        "INSERT OR IGNORE INTO inbox (place, id, topic, part, off, rkey, rvalue) VALUES (?1, ?2, ?3, ?4, ?5, ?6, ?7)",
+        params![place, id, origin.topic, &partition, &offset, key, value,],
+    )
+}
+
+/// The bytes of a record's key, if it has one.
+fn key_of(message: &Record) -> Option<&[u8]>
+    ensures { option_copied result ≡ message.now.key }
+{
+    message.key.as_ref().map(|key| key.as_slice())
+}
+
+/// All events, in the order of their places.
+pub(crate) fn select_taken(conn: &mut Connection<MemStore>) -> Result<Vec<Row>, Error>
+    requires { IsInbox (database conn.old) }
+    ensures rows { IfOk result (λ rows.
+        rows.items ≡ map shown_intake (enumerate_from 1 (contents conn.old))) }
+    ensures memory { IfErr result (λ e. e ≡ Error.SqliteFailure ErrorCode.OutOfMemory) }
+    ensures inbox { IsInbox (database conn.new) }
+    ensures same { contents conn.new ≡ contents conn.old }
+{
+    conn.query_all(
+        "SELECT place, id, topic, part, off, rkey, rvalue FROM inbox ORDER BY place",
+        &[],
+    )
+}

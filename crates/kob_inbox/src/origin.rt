@@ -1,0 +1,9 @@
+//! Where a record stands.
+
+/// The partition and the offset at which a record stands.
+#[derive(Clone, Copy)]
+pub(crate) struct Origin<'a> {
+    pub topic: &'a str,
+    pub partition: u64,
+    pub offset: u64,
+}

@@ -1,0 +1,44 @@
+//! Events read back from the rows of a query.
+
+ghost use Rattle.std.specs.Prelude.{◌≡◌, map, IfOk, IfErr};
+ghost use Rattle.std.specs.List.{AllByRecursion};
+ghost use Rattle.kob_inbox.specs.Layout.{IsShown, shown_intake};
+ghost use Rattle.kob_inbox.specs.Rows.{placed_intake};
+
+use crate::fault::InboxFault;
+use crate::inbox_row::InboxRow;
+use kob_names::{Bytes, Text};
+use std::alloc::Global;
+use uuid::Uuid;
+
+fn row_of(row: &sqlite::Row) -> Result<InboxRow, InboxFault>
+    requires { IsShown row.now }
+    ensures row { IfOk result (λ r. shown_intake (placed_intake r) ≡ row.now) }
+    ensures memory { IfErr result (λ f. f ≡ InboxFault.Memory) }
+{
+    let id: String = row.get(1)?;
+    let key: Option<Vec<u8>> = row.get(5)?;
+    Ok(InboxRow {
+        place: row.get(0)?,
+        id: Uuid::parse_str(&id).map_err(|_| InboxFault::Store)?,
+        topic: Text::from_string(row.get(2)?),
+        partition: row.get(3)?,
+        offset: row.get(4)?,
+        key: key.map(Bytes::from_vec),
+        value: Bytes::from_vec(row.get(6)?),
+    })
+}
+
+/// The events that the rows show, in their order.
+pub(crate) fn rows_of(alloc: Global, rows: &[sqlite::Row]) -> Result<Vec<InboxRow>, InboxFault>
+    requires { AllByRecursion IsShown rows.now }
+    ensures rows { IfOk result (λ out.
+        map (λ r. shown_intake (placed_intake r)) out.items ≡ rows.now) }
+    ensures memory { IfErr result (λ f. f ≡ InboxFault.Memory) }
+{
+    let mut out = Vec::new(alloc);
+    for row in rows {
+        out.push(row_of(row)?).map_err(|_| InboxFault::Memory)?;
+    }
+    Ok(out)
+}

@@ -1,0 +1,10 @@
+-- The limits on the lengths of names, in bytes.
+use Rattle.std.specs.Prelude.{ℕ}
+
+-- of a group name, a pattern name, a host, and the name in a principal
+abbrev pub name_limit : ℕ
+name_limit = 255
+
+-- of a topic name, as in Kafka
+abbrev pub topic_name_limit : ℕ
+topic_name_limit = 249

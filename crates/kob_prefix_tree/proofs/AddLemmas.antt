@@ -1,0 +1,48 @@
+-- An addition that succeeds, and one that is refused.
+use Rattle.std.proofs.Common.{◌≡◌, ◌≢◌, List, ℕ, [], Result, Ok, Err, OnOk, OnErr, refl, sym, ap, ◌∙◌}
+use Rattle.kob_prefix_tree.specs.declared.kind.PatternKind.{PatternKind}
+use Rattle.kob_prefix_tree.specs.declared.kind.PatternKind.TheVariants.{Literal, Prefixed}
+use Rattle.kob_prefix_tree.specs.Held.{Held, nothing, with_serials}
+use Rattle.kob_prefix_tree.specs.Siblings.{Contents, bare, held_in, IsNeat}
+use Rattle.kob_prefix_tree.proofs.ChangeLemmas.{ChangedAt, held_in_bare, some_behind}
+use Rattle.kob_prefix_tree.proofs.PlaceLemmas.{some_key}
+
+with_some : (kind : PatternKind) (serials : List ℕ) (h : Held) → serials ≢ [] → with_serials kind serials h ≢ nothing
+with_some Literal serials h some e = some_behind h.0 serials refl some (ap (λ x. x.0) e)
+with_some Prefixed serials h some e = some_behind h.1 serials refl some (ap (λ x. x.1) e)
+
+module _ {A E : Type 0} where
+  pub on_ok : {P Q : Type 0} (r : Result A E) → (P → Q) → OnOk r P → OnOk r Q
+  on_ok (Ok a) f p = f p
+  on_ok (Err e) f p = p
+
+  pub on_err : {P Q : Type 0} (r : Result A E) → (P → Q) → OnErr r P → OnErr r Q
+  on_err (Ok a) f p = p
+  on_err (Err e) f p = f p
+
+  module _ (kind : PatternKind) (serials : List ℕ) where
+    -- what the answer says was done at the key
+    abbrev pub done_by : Result A E → Held → Held
+    done_by (Ok a) held = with_serials kind serials held
+    done_by (Err e) held = held
+
+    pub at_done : (r : Result A E) (new old : Held) → OnOk r (new ≡ with_serials kind serials old) → OnErr r (new ≡ old) → new ≡ done_by r old
+    at_done (Ok a) new old put refused = put
+    at_done (Err e) new old put refused = refused
+
+    pub put_done : (r : Result A E) (new old : Held) → new ≡ done_by r old → OnOk r (new ≡ with_serials kind serials old)
+    put_done (Ok a) new old is = is
+    put_done (Err e) new old is = tt
+
+    pub refused_done : (r : Result A E) (new old : Held) → new ≡ done_by r old → OnErr r (new ≡ old)
+    refused_done (Ok a) new old is = tt
+    refused_done (Err e) new old is = is
+
+    -- what was not bare is not bare after it
+    pub some_done : (r : Result A E) (key : List ℕ) (c d : Contents) → serials ≢ [] → IsNeat c.1 → c ≢ bare → ChangedAt key (done_by r) c d → d ≢ bare
+    some_done (Ok a) key c d some neat used done none = with_some kind serials (held_in key c) some (sym done.at ∙ ap (held_in key) none ∙ held_in_bare key)
+    some_done (Err e) key c d some neat used done none =
+        let (k, holds) = some_key c.0.0 c.0.1 c.1 neat used in
+        let gone : held_in k d ≡ nothing = ap (held_in k) none ∙ held_in_bare k in
+        let other : k ≢ key = λ same. holds (ap (λ x. held_in x c) same ∙ sym done.at ∙ ap (λ x. held_in x d) (sym same) ∙ gone) in
+        holds (sym (done.elsewhere k other) ∙ gone)

@@ -1,0 +1,131 @@
+-- A place of the tree, its entries and its map.
+use Rattle.std.proofs.Common.{◌≡◌, ◌≢◌, ℕ, ◌==◌, true, false, cond, List, [], ◌∷◌, ◌++◌, Option, None, Some, refl, sym, ap, ◌∙◌, subst}
+use Rattle.std.proofs.lemmas.Bool.{eq-eqb}
+use Rattle.kob_prefix_tree.specs.Tree.{Tree, leaf, node}
+use Rattle.kob_prefix_tree.specs.declared.siblings.Item.{Item}
+use Rattle.kob_prefix_tree.specs.Held.{Held, nothing}
+use Rattle.kob_prefix_tree.specs.Siblings.{Contents, bare, siblings, value_at, behind_one, held_in, IsNeat}
+use Rattle.kob_prefix_tree.specs.Entries.{Entries, held_at, held_behind, behind, entries_below, entries_of, AllInUse, IsTidy, children_of, entries_in}
+use Rattle.kob_prefix_tree.specs.declared.kind.PatternKind.{PatternKind}
+use Rattle.kob_prefix_tree.specs.declared.kind.PatternKind.TheVariants.{Literal, Prefixed}
+use Rattle.kob_prefix_tree.specs.Held.{is_nothing, with_serial, with_serials, without_serial, without_serials}
+use Rattle.kob_prefix_tree.specs.Walked.{walked, IsLongestInUse}
+use Rattle.kob_prefix_tree.specs.PrefixMap.{PrefixMap, held, added, removed, removed_all, walk_of}
+use Rattle.std.specs.FinMap as map
+use Rattle.kob_prefix_tree.specs.Lists.{without_first, without_in_turn}
+use Rattle.kob_prefix_tree.proofs.MapLemmas.{map_of, map_added, map_left, map_same, held_of}
+use Rattle.kob_prefix_tree.proofs.EntriesLemmas.{held_at-own, held_at-below, AllInUse-entries_of}
+use Rattle.kob_prefix_tree.proofs.SiblingLemmas.{neat_list, neat_at}
+
+abbrev entries_at : Option Contents → Option Entries
+entries_at None = None
+entries_at (Some c) = Some (entries_in c)
+
+child_is : (byte : ℕ) (t : Tree Item) → value_at byte (children_of t) ≡ entries_at (value_at byte (siblings t))
+child_is byte leaf = refl
+child_is byte (node item heap c below n after) =
+    elim (item.byte == byte) as (λ b. cond b (Some (entries_of item.literal item.prefixed (children_of below))) (value_at byte (children_of after)) ≡ entries_at (cond b (Some ((item.literal, item.prefixed), below)) (value_at byte (siblings after)))) [
+      | true ↦ refl
+      | false ↦ child_is byte after
+    ]
+
+some_entries : (byte : ℕ) (es : Entries) → es ≢ [] → (fs : Entries) → behind byte es ++ fs ≢ []
+some_entries byte [] some fs e = some refl
+some_entries byte (x ∷ es) some fs e = cc
+
+-- a place that is not bare has an entry
+entries_some : (l p : List ℕ) (t : Tree Item) → IsNeat t → ((l, p), t) ≢ bare → entries_of l p (children_of t) ≢ []
+entries_some (x ∷ l) p t neat some e = cc
+entries_some [] (x ∷ p) t neat some e = cc
+entries_some [] [] leaf neat some e = some refl
+entries_some [] [] (node item heap c below n after) neat some e =
+    some_entries item.byte (entries_of item.literal item.prefixed (children_of below)) (entries_some item.literal item.prefixed below neat.1.1.0 neat.1.0) (entries_below (children_of after)) e
+
+pub tidy_of : (t : Tree Item) → IsNeat t → IsTidy (children_of t)
+tidy_of leaf neat = tt
+tidy_of (node item heap c below n after) neat =
+    (child_is item.byte after ∙ ap entries_at neat.0, (entries_some item.literal item.prefixed below neat.1.1.0 neat.1.0, (AllInUse-entries_of item.literal item.prefixed (children_of below) (tidy_of below neat.1.1.0), tidy_of after neat.1.1.1)))
+
+pub in_use : (c : Contents) → IsNeat c.1 → AllInUse (entries_in c)
+in_use c neat = AllInUse-entries_of c.0.0 c.0.1 (children_of c.1) (tidy_of c.1 neat)
+
+-- what the entries hold at a key is what stands there
+pub held_of_entries : (key : List ℕ) (c : Contents) → IsNeat c.1 → held_at (entries_in c) key ≡ held_in key c
+held_of_entries [] c neat = held_at-own c.0.0 c.0.1 (children_of c.1)
+held_of_entries (byte ∷ key) c neat =
+    let rest = held_of_entries key in
+    held_at-below c.0.0 c.0.1 (children_of c.1) byte key (tidy_of c.1 neat) ∙ ap (λ o. held_behind o key) (child_is byte c.1)
+    ∙ elim (value_at byte (siblings c.1)) as (λ o. value_at byte (siblings c.1) ≡ o → held_behind (entries_at o) key ≡ behind_one (held_in key) o) [
+      | None ↦ λ e. refl
+      | Some d ↦ λ e. rest d (neat_at byte d (siblings c.1) (neat_list c.1 neat) e).1
+    ] refl
+
+-- some key of a place that is not bare holds something
+pub some_key : (l p : List ℕ) (t : Tree Item) → IsNeat t → ((l, p), t) ≢ bare → (key : List ℕ) × (held_in key ((l, p), t) ≢ nothing)
+some_key (x ∷ l) p t neat some = ([], λ e. let e' : x ∷ l ≡ [] = ap (λ h. h.0) e in cc)
+some_key [] (x ∷ p) t neat some = ([], λ e. let e' : x ∷ p ≡ [] = ap (λ h. h.1) e in cc)
+some_key [] [] leaf neat some = absurd (some refl)
+some_key [] [] (node item heap c below n after) neat some =
+    let (key, ne) = some_key item.literal item.prefixed below neat.1.1.0 neat.1.0 in
+    (item.byte ∷ key, λ e. ne (sym (ap (λ b. behind_one (held_in key) (cond b (Some ((item.literal, item.prefixed), below)) (value_at item.byte (siblings after)))) (eq-eqb item.byte item.byte refl)) ∙ e))
+
+-- the map of a place
+abbrev pub map_at : Contents → PrefixMap
+map_at c = map_of (entries_in c)
+
+pub held_of_map : (key : List ℕ) (c : Contents) → IsNeat c.1 → held (map_at c) key ≡ held_in key c
+held_of_map key c neat = held_of (entries_in c) key ∙ held_of_entries key c neat
+
+held_everywhere : (c : Contents) → IsNeat c.1 → (λ key. held_in key c) ≡ held (map_at c)
+held_everywhere c neat = sym (λ i key. held_of_map key c neat i)
+
+pub walk_of_place : (c : Contents) (name : List ℕ) → IsNeat c.1 → walked (λ key. held_in key c) name ≡ walk_of (map_at c) name
+walk_of_place c name neat = ap (λ f. walked f name) (held_everywhere c neat)
+
+pub longest_of_place : (c : Contents) (name : List ℕ) (n : ℕ) → IsNeat c.1 → IsLongestInUse (λ key. held_in key c) name n → IsLongestInUse (held (map_at c)) name n
+longest_of_place c name n neat longest = subst (λ f. IsLongestInUse f name n) (held_everywhere c neat) longest
+
+pub one_behind : (kind : PatternKind) (serial : ℕ) (h : Held) → with_serials kind (serial ∷ []) h ≡ with_serial kind serial h
+one_behind Literal serial h = refl
+one_behind Prefixed serial h = refl
+
+without_one_of : (y : ℕ) (xs : List ℕ) → without_in_turn (y ∷ []) xs ≡ without_first (λ x. x == y) xs
+without_one_of y [] = refl
+without_one_of y (x ∷ xs) = λ i. cond (x == y) (all_left xs i) (x ∷ without_one_of y xs i)
+  where
+    all_left : (zs : List ℕ) → without_in_turn [] zs ≡ zs
+    all_left [] = refl
+    all_left (z ∷ zs) = refl
+
+without_one : (kind : PatternKind) (serial : ℕ) (h : Held) → without_serials kind (serial ∷ []) h ≡ without_serial kind serial h
+without_one Literal serial h i = (without_one_of serial h.0 i, h.1)
+without_one Prefixed serial h i = (h.0, without_one_of serial h.1 i)
+
+module _ (old new : Contents) (key : List ℕ) (kind : PatternKind) (serial : ℕ) (neat : IsNeat old.1) (neat' : IsNeat new.1) where
+  before : (k : List ℕ) → held_at (entries_in old) k ≡ held_in k old
+  before k = held_of_entries k old neat
+
+  after : (k : List ℕ) → held_at (entries_in new) k ≡ held_in k new
+  after k = held_of_entries k new neat'
+
+  pub added_of : held_in key new ≡ with_serial kind serial (held_in key old) → ((k : List ℕ) → k ≢ key → held_in k new ≡ held_in k old) → map_at new ≡ added (map_at old) key kind serial
+  added_of put elsewhere = map_added (entries_in old) (entries_in new) key kind serial (in_use old neat) (in_use new neat')
+      (after key ∙ put ∙ ap (with_serial kind serial) (sym (before key))) (λ k ne. after k ∙ elsewhere k ne ∙ sym (before k))
+
+  pub same_of : held_in key new ≡ held_in key old → ((k : List ℕ) → k ≢ key → held_in k new ≡ held_in k old) → map_at new ≡ map_at old
+  same_of same elsewhere = map_same (entries_in old) (entries_in new) key (in_use old neat) (in_use new neat')
+      (after key ∙ same ∙ sym (before key)) (λ k ne. after k ∙ elsewhere k ne ∙ sym (before k))
+
+  -- at the key f was done, and elsewhere nothing
+  left_of : (f : Held → Held) → held_in key new ≡ f (held_in key old) → ((k : List ℕ) → k ≢ key → held_in k new ≡ held_in k old)
+      → map_at new ≡ cond (is_nothing (f (held (map_at old) key))) (map.remove (map_at old) key) (map.insert (map_at old) key (f (held (map_at old) key)))
+  left_of f taken elsewhere = map_left (entries_in old) (entries_in new) key (f (held (map_at old) key)) (in_use old neat) (in_use new neat')
+      (after key ∙ taken ∙ ap f (sym (held_of_map key old neat))) (λ k ne. after k ∙ elsewhere k ne ∙ sym (before k))
+
+  pub removed_all_of : (serials : List ℕ) → held_in key new ≡ without_serials kind serials (held_in key old) → ((k : List ℕ) → k ≢ key → held_in k new ≡ held_in k old)
+      → map_at new ≡ removed_all (map_at old) key kind serials
+  removed_all_of serials taken elsewhere = left_of (without_serials kind serials) taken elsewhere
+
+  pub removed_of : held_in key new ≡ without_serials kind (serial ∷ []) (held_in key old) → ((k : List ℕ) → k ≢ key → held_in k new ≡ held_in k old)
+      → map_at new ≡ removed (map_at old) key kind serial
+  removed_of taken elsewhere = left_of (without_serial kind serial) (taken ∙ without_one kind serial (held_in key old)) elsewhere

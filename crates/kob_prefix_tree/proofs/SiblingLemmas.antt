@@ -1,0 +1,121 @@
+-- Siblings, when one is changed, taken out or put in.
+use Rattle.std.proofs.Common.{◌≡◌, ◌≢◌, ℕ, ◌==◌, true, false, cond, List, [], ◌∷◌, None, Some, refl, sym, ap, ◌∙◌, subst}
+use Rattle.std.proofs.Math.Bool.{true≢false}
+use Rattle.std.proofs.lemmas.Bool.{eqb-true, eq-eqb}
+use Rattle.kob_prefix_tree.specs.Tree.{Tree, leaf, node}
+use Rattle.kob_prefix_tree.specs.declared.siblings.Item.{Item}
+use Rattle.kob_prefix_tree.specs.Siblings.{Contents, bare, siblings, value_at, with_value, without, IsNeat}
+
+ne_eqb : (a b : ℕ) → a ≢ b → a == b ≡ false
+ne_eqb a b ne = elim (a == b) as (λ t. a == b ≡ t → t ≡ false) [ true ↦ λ e. absurd (ne (eqb-true a b e)) | false ↦ λ e. refl ] refl
+
+pub differ : (a b : ℕ) → a == b ≡ false → a ≢ b
+differ a b e same = true≢false (sym (eq-eqb a b same) ∙ e)
+
+module _ {A : Type 0} where
+  pub at_first : (byte : ℕ) (v : A) (xs : List (ℕ × A)) → value_at byte ((byte, v) ∷ xs) ≡ Some v
+  at_first byte v xs = ap (λ b. cond b (Some v) (value_at byte xs)) (eq-eqb byte byte refl)
+
+  pub at_past : (byte other : ℕ) (v : A) (xs : List (ℕ × A)) → other ≢ byte → value_at byte ((other, v) ∷ xs) ≡ value_at byte xs
+  at_past byte other v xs ne = ap (λ b. cond b (Some v) (value_at byte xs)) (ne_eqb other byte ne)
+
+  pub some_not_none : (v : A) → Some v ≢ None
+  some_not_none v e = cc
+
+  -- the value put there stands there
+  pub at_changed : (byte : ℕ) (v w : A) (xs : List (ℕ × A)) → value_at byte xs ≡ Some w → value_at byte (with_value byte v xs) ≡ Some v
+  at_changed byte v w [] is = absurd (some_not_none w (sym is))
+  at_changed byte v w (x ∷ xs) is =
+      let rest = at_changed byte v w xs in
+      elim (x.0 == byte) as (λ b. x.0 == byte ≡ b → cond b (Some x.1) (value_at byte xs) ≡ Some w → value_at byte (cond b ((x.0, v) ∷ xs) (x ∷ with_value byte v xs)) ≡ Some v) [
+        | true ↦ λ e _. ap (λ b. cond b (Some v) (value_at byte xs)) e
+        | false ↦ λ e later. ap (λ b. cond b (Some x.1) (value_at byte (with_value byte v xs))) e ∙ rest later
+      ] refl is
+
+  -- the others stay
+  pub at_changed_other : (byte other : ℕ) (v : A) (xs : List (ℕ × A)) → other ≢ byte → value_at other (with_value byte v xs) ≡ value_at other xs
+  at_changed_other byte other v [] ne = refl
+  at_changed_other byte other v (x ∷ xs) ne =
+      let rest = at_changed_other byte other v xs ne in
+      elim (x.0 == byte) as (λ b. x.0 == byte ≡ b → value_at other (cond b ((x.0, v) ∷ xs) (x ∷ with_value byte v xs)) ≡ value_at other (x ∷ xs)) [
+        | true ↦ λ e. let past : x.0 ≢ other = λ same. ne (sym same ∙ eqb-true x.0 byte e) in at_past other x.0 v xs past ∙ sym (at_past other x.0 x.1 xs past)
+        | false ↦ λ e. ap (λ o. cond (x.0 == other) (Some x.1) o) rest
+      ] refl
+
+  pub at_without_other : (byte other : ℕ) (xs : List (ℕ × A)) → other ≢ byte → value_at other (without byte xs) ≡ value_at other xs
+  at_without_other byte other [] ne = refl
+  at_without_other byte other (x ∷ xs) ne =
+      let rest = at_without_other byte other xs ne in
+      elim (x.0 == byte) as (λ b. x.0 == byte ≡ b → value_at other (cond b xs (x ∷ without byte xs)) ≡ value_at other (x ∷ xs)) [
+        | true ↦ λ e. sym (at_past other x.0 x.1 xs (λ same. ne (sym same ∙ eqb-true x.0 byte e)))
+        | false ↦ λ e. ap (λ o. cond (x.0 == other) (Some x.1) o) rest
+      ] refl
+
+  -- of two changes at one byte the second counts
+  pub changed_twice : (byte : ℕ) (v w : A) (xs : List (ℕ × A)) → with_value byte v (with_value byte w xs) ≡ with_value byte v xs
+  changed_twice byte v w [] = refl
+  changed_twice byte v w (x ∷ xs) =
+      let rest = changed_twice byte v w xs in
+      elim (x.0 == byte) as (λ b. x.0 == byte ≡ b → with_value byte v (cond b ((x.0, w) ∷ xs) (x ∷ with_value byte w xs)) ≡ cond b ((x.0, v) ∷ xs) (x ∷ with_value byte v xs)) [
+        | true ↦ λ e. ap (λ b. cond b ((x.0, v) ∷ xs) ((x.0, w) ∷ with_value byte v xs)) e
+        | false ↦ λ e. ap (λ b. cond b ((x.0, v) ∷ with_value byte w xs) (x ∷ with_value byte v (with_value byte w xs))) e ∙ ap (λ ys. x ∷ ys) rest
+      ] refl
+
+  pub without_changed : (byte : ℕ) (w : A) (xs : List (ℕ × A)) → without byte (with_value byte w xs) ≡ without byte xs
+  without_changed byte w [] = refl
+  without_changed byte w (x ∷ xs) =
+      let rest = without_changed byte w xs in
+      elim (x.0 == byte) as (λ b. x.0 == byte ≡ b → without byte (cond b ((x.0, w) ∷ xs) (x ∷ with_value byte w xs)) ≡ cond b xs (x ∷ without byte xs)) [
+        | true ↦ λ e. ap (λ b. cond b xs ((x.0, w) ∷ without byte xs)) e
+        | false ↦ λ e. ap (λ b. cond b (with_value byte w xs) (x ∷ without byte (with_value byte w xs))) e ∙ ap (λ ys. x ∷ ys) rest
+      ] refl
+
+-- neat siblings, as a list
+abbrev pub AllNeat : List (ℕ × Contents) → Type 0
+AllNeat [] = Unit {0}
+AllNeat (s ∷ ss) = (value_at s.0 ss ≡ None) × ((s.1 ≢ bare) × (IsNeat s.1.1 × AllNeat ss))
+
+pub neat_list : (t : Tree Item) → IsNeat t → AllNeat (siblings t)
+neat_list leaf neat = tt
+neat_list (node item heap c below n after) neat = (neat.0, (neat.1.0, (neat.1.1.0, neat_list after neat.1.1.1)))
+
+pub neat_tree : (t : Tree Item) → AllNeat (siblings t) → IsNeat t
+neat_tree leaf neat = tt
+neat_tree (node item heap c below n after) neat = (neat.0, (neat.1.0, (neat.1.1.0, neat_tree after neat.1.1.1)))
+
+pub neat_changed : (byte : ℕ) (v : Contents) (ss : List (ℕ × Contents)) → AllNeat ss → v ≢ bare → IsNeat v.1 → AllNeat (with_value byte v ss)
+neat_changed byte v [] neat some below = tt
+neat_changed byte v (s ∷ ss) neat some below =
+    let rest = neat_changed byte v ss neat.1.1.1 some below in
+    elim (s.0 == byte) as (λ b. s.0 == byte ≡ b → AllNeat (cond b ((s.0, v) ∷ ss) (s ∷ with_value byte v ss))) [
+      | true ↦ λ e. (neat.0, (some, (below, neat.1.1.1)))
+      | false ↦ λ e. (at_changed_other byte s.0 v ss (differ s.0 byte e) ∙ neat.0, (neat.1.0, (neat.1.1.0, rest)))
+    ] refl
+
+pub neat_without : (byte : ℕ) (ss : List (ℕ × Contents)) → AllNeat ss → AllNeat (without byte ss)
+neat_without byte [] neat = tt
+neat_without byte (s ∷ ss) neat =
+    let rest = neat_without byte ss neat.1.1.1 in
+    elim (s.0 == byte) as (λ b. s.0 == byte ≡ b → AllNeat (cond b ss (s ∷ without byte ss))) [
+      | true ↦ λ e. neat.1.1.1
+      | false ↦ λ e. (at_without_other byte s.0 ss (differ s.0 byte e) ∙ neat.0, (neat.1.0, (neat.1.1.0, rest)))
+    ] refl
+
+-- the sibling taken out is gone
+pub at_without : (byte : ℕ) (ss : List (ℕ × Contents)) → AllNeat ss → value_at byte (without byte ss) ≡ None
+at_without byte [] neat = refl
+at_without byte (s ∷ ss) neat =
+    let rest = at_without byte ss neat.1.1.1 in
+    elim (s.0 == byte) as (λ b. s.0 == byte ≡ b → value_at byte (cond b ss (s ∷ without byte ss)) ≡ None) [
+      | true ↦ λ e. subst (λ b. value_at b ss ≡ None) (eqb-true s.0 byte e) neat.0
+      | false ↦ λ e. ap (λ b. cond b (Some s.1) (value_at byte (without byte ss))) e ∙ rest
+    ] refl
+
+pub neat_at : (byte : ℕ) (v : Contents) (ss : List (ℕ × Contents)) → AllNeat ss → value_at byte ss ≡ Some v → (v ≢ bare) × IsNeat v.1
+neat_at byte v [] neat is = absurd (some_not_none v (sym is))
+neat_at byte v (s ∷ ss) neat is =
+    let rest = neat_at byte v ss neat.1.1.1 in
+    elim (s.0 == byte) as (λ b. cond b (Some s.1) (value_at byte ss) ≡ Some v → (v ≢ bare) × IsNeat v.1) [
+      | true ↦ λ e. let same : s.1 ≡ v = cc in subst (λ x. (x ≢ bare) × IsNeat x.1) same (neat.1.0, neat.1.1.0)
+      | false ↦ λ e. rest e
+    ] is

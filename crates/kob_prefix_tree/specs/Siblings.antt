@@ -1,0 +1,54 @@
+-- What stands among siblings: values, each under a byte.
+use Rattle.std.specs.Prelude.{◌≡◌, ◌≢◌, ℕ, ◌+◌, List, [], ◌∷◌, Option, None, Some, ◌==◌, if◌then◌else◌}
+use Rattle.kob_prefix_tree.specs.Tree.{Tree, leaf, node}
+use Rattle.kob_prefix_tree.specs.declared.siblings.Item.{Item}
+use Rattle.kob_prefix_tree.specs.Held.{Held, nothing}
+
+module _ {A : Type 0} where
+  -- the first value under this byte
+  abbrev pub value_at : ℕ → List (ℕ × A) → Option A
+  value_at byte [] = None
+  value_at byte (x ∷ xs) = if x.0 == byte then Some x.1 else value_at byte xs
+
+  -- another value put in its place
+  abbrev pub with_value : ℕ → A → List (ℕ × A) → List (ℕ × A)
+  with_value byte value [] = []
+  with_value byte value (x ∷ xs) = if x.0 == byte then (x.0, value) ∷ xs else x ∷ with_value byte value xs
+
+  -- all but that one
+  abbrev pub without : ℕ → List (ℕ × A) → List (ℕ × A)
+  without byte [] = []
+  without byte (x ∷ xs) = if x.0 == byte then xs else x ∷ without byte xs
+
+-- what a place keeps, and the nodes below it
+abbrev pub Contents : Type 0
+Contents = Held × Tree Item
+
+-- a place that keeps nothing and leads nowhere
+abbrev pub bare : Contents
+bare = (nothing, leaf)
+
+-- each sibling's byte with its contents, in order
+abbrev pub siblings : Tree Item → List (ℕ × Contents)
+siblings leaf = []
+siblings (node item heap c below n after) = (item.byte, ((item.literal, item.prefixed), below)) ∷ siblings after
+
+-- how many they are
+abbrev pub count : {X : Type 0} → Tree X → ℕ
+count leaf = 0
+count (node item heap c below n after) = 1 + count after
+
+-- what stands at a key, behind a place
+abbrev pub behind_one : (Contents → Held) → Option Contents → Held
+behind_one held None = nothing
+behind_one held (Some c) = held c
+
+abbrev pub held_in : List ℕ → Contents → Held
+held_in [] c = c.0
+held_in (byte ∷ key) c = behind_one (held_in key) (value_at byte (siblings c.1))
+
+-- no two siblings have one byte, and none is bare, here and below
+abbrev pub IsNeat : Tree Item → Type 0
+IsNeat leaf = Unit {0}
+IsNeat (node item heap c below n after) =
+    (value_at item.byte (siblings after) ≡ None) × ((((item.literal, item.prefixed), below) ≢ bare) × (IsNeat below × IsNeat after))

@@ -1,0 +1,183 @@
+//! The way to a list of siblings: a pointer that is null, or leads to the first of them. No other
+//! module follows a raw pointer.
+ghost use Rattle.std.specs.Prelude.{◌≡◌, ◌↔◌, IsTrue};
+ghost use types.Logic.{sem};
+ghost use Rattle.kob_prefix_tree.specs.Tree.{Tree, leaf, tree_coded};
+ghost use Rattle.kob_prefix_tree.specs.Owned.{nodes_own, nodes_lent};
+
+use crate::node::Node;
+use std::alloc::Global;
+use std::marker::{Model, Send, Sync};
+use std::ptr;
+use std_alloc::room::Vacant;
+
+/// One pointer. It owns the siblings that it leads to, and through them all that is below.
+pub struct Link<T> {
+    first: *mut Node<T, Link<T>, Link<T>>,
+    pub ghost nodes: { Tree T } by { tree_coded T.code },
+}
+
+impl<T> Model for Link<T> {
+    ghost also_owns = { λ l. nodes_own T.row l.nodes l.first };
+
+    ghost also_shares = { λ l _ κ. nodes_lent T.row l.nodes l.first κ };
+}
+
+impl<T> Link<T> {
+    ghost use Rattle.kob_prefix_tree.specs.Nodes.{Leads, tree_of, last_of, joined, keeps_what_is_left};
+
+    /// The way to no node.
+    pub fn null() -> Link<T>
+        ensures { result.nodes ≡ leaf }
+    {
+        Link {
+            first: ptr::null_mut(),
+        }
+    }
+
+    /// Whether there is no node.
+    pub fn is_null(&self) -> bool
+        ensures { IsTrue result ↔ (self.now.nodes ≡ leaf) }
+    {
+        self.first == ptr::null_mut()
+    }
+
+    /// Where the first node lies.
+    pub fn start(&self) -> *mut Node<T, Link<T>, Link<T>>
+        ensures { result ≡ self.now.first }
+    {
+        self.first
+    }
+
+    /// Reads the first node.
+    pub fn get(&self) -> &Node<T, Link<T>, Link<T>>
+        requires { Leads self.now.nodes }
+        ensures { self.now.nodes ≡ tree_of result.now }
+    {
+        unsafe { &*self.first }
+    }
+
+    /// Lends the first node, to be changed.
+    pub fn get_mut(&mut self) -> &mut Node<T, Link<T>, Link<T>>
+        requires { Leads self.old.nodes }
+        ensures* writes_back { sem 𝓛 (keeps_what_is_left T.row self.entry result) }
+        ensures value { self.old.nodes ≡ tree_of result.now }
+    {
+        unsafe { &mut *self.first }
+    }
+
+    /// Writes the node into an empty block, and links it.
+    pub fn of(
+        room: Vacant<Node<T, Link<T>, Link<T>>, Global>,
+        node: Node<T, Link<T>, Link<T>>,
+    ) -> Link<T>
+        ensures { result.nodes ≡ tree_of node }
+    {
+        let Vacant { ptr, alloc: _ } = room;
+        unsafe {
+            ptr.write(node);
+        }
+        Link { first: ptr }
+    }
+
+    /// Reads the first node out of its block. What is below and beside it goes with it.
+    pub fn take(
+        self,
+        alloc: Global,
+    ) -> (
+        Node<T, Link<T>, Link<T>>,
+        Vacant<Node<T, Link<T>, Link<T>>, Global>,
+    )
+        requires { Leads self.nodes }
+        ensures { self.nodes ≡ tree_of result.0 }
+    {
+        let Link { first } = self;
+        unsafe {
+            let node = first.read();
+            (node, Vacant { ptr: first, alloc })
+        }
+    }
+
+    /// Links other siblings behind the last of these, which lies at `last`.
+    pub fn join(self, last: *mut Node<T, Link<T>, Link<T>>, others: Link<T>) -> Link<T>
+        requires leads { Leads self.nodes }
+        requires last { last ≡ last_of self.nodes self.first }
+        ensures first { result.first ≡ self.first }
+        ensures nodes { result.nodes ≡ joined self.nodes others }
+    {
+        unsafe {
+            let next = &raw mut (*last).next;
+            next.write(others);
+        }
+        self
+    }
+
+    /// Lets go of a link to no node.
+    pub fn give_up(self)
+        requires { self.nodes ≡ leaf }
+    {
+        let Link { first: _ } = self;
+    }
+}
+
+impl<T: Drop> Drop for Link<T> {
+    fn drop(mut self) {
+        loop {
+            if self.is_null() {
+                self.give_up();
+                return;
+            }
+            let alloc = self.get().alloc;
+            let (node, room) = self.take(alloc);
+            room.free();
+            let Node {
+                item,
+                child,
+                next,
+                alloc: _,
+            } = node;
+            drop(item);
+            self = Link::before(child, next);
+        }
+    }
+}
+
+impl<T> Link<T> {
+    ghost use Rattle.std.specs.Prelude.{◌+◌};
+    ghost use Rattle.kob_prefix_tree.specs.Nodes.{size};
+
+    /// The siblings of `first`, turned round, and then those of `rest`.
+    fn before(first: Link<T>, rest: Link<T>) -> Link<T>
+        ensures { size result.nodes ≡ size first.nodes + size rest.nodes }
+    {
+        let mut first = first;
+        let mut rest = rest;
+        while !first.is_null() {
+            let heap = first.get().alloc;
+            let (node, room) = first.take(heap);
+            let Node {
+                item,
+                child,
+                next,
+                alloc,
+            } = node;
+            rest = Link::of(
+                room,
+                Node {
+                    item,
+                    child,
+                    next: rest,
+                    alloc,
+                },
+            );
+            first = next;
+        }
+        first.give_up();
+        rest
+    }
+}
+
+// A link is the only way to its nodes, so it goes where what they keep may go.
+unsafe impl<T: Send> Send for Link<T> {}
+
+unsafe impl<T: Sync> Sync for Link<T> {}

@@ -1,0 +1,132 @@
+//! The nodes that follow one place of the tree: siblings, each of another byte. The one that came
+//! last stands first.
+ghost use Rattle.std.specs.Prelude.{◌≡◌, ◌∷◌, Some, None, unwrap_or, IfOk, MatchOption};
+ghost use Rattle.kob_prefix_tree.specs.Siblings.{value_at, with_value, without, siblings};
+ghost use Rattle.kob_prefix_tree.specs.Contents.{contents, node_contents};
+ghost use Rattle.kob_prefix_tree.specs.Path.{key_of};
+
+use crate::branch::Branch;
+use crate::link::Link;
+use crate::node::Node;
+use crate::serials::Serials;
+use std::alloc::{AllocError, Global};
+use std::mem::{replace, swap};
+use std_alloc::room::Vacant;
+
+/// What a node keeps: its byte, and the serials of the key that ends there.
+#[derive(Drop)]
+pub(crate) struct Item {
+    pub(crate) byte: u8,
+    pub(crate) literal: Serials,
+    pub(crate) prefixed: Serials,
+}
+
+/// A node of the tree. It takes 40 bytes.
+pub(crate) type ByteNode = Node<Item, Link<Item>, Link<Item>>;
+
+/// A block for a node.
+pub(crate) type Room = Vacant<Node<Item, Link<Item>, Link<Item>>, Global>;
+
+impl Link<Item> {
+    /// The node of this byte.
+    pub(crate) fn find(&self, byte: u8) -> Option<&ByteNode>
+        ensures { MatchOption result
+            (value_at byte (siblings self.now.nodes) ≡ None)
+            (λ n. value_at byte (siblings self.now.nodes) ≡ Some (node_contents n.now)) }
+    {
+        let mut at = self;
+        while !at.is_null() {
+            let node = at.get();
+            if node.item.byte == byte {
+                return Some(node);
+            }
+            at = &node.next;
+        }
+        None
+    }
+
+    /// Links a node in front.
+    pub(crate) fn put_front(&mut self, room: Room, alloc: Global, byte: u8, branch: Branch)
+        ensures { siblings self.new.nodes ≡ (byte, contents branch) ∷ siblings self.old.nodes }
+    {
+        let Branch {
+            literal,
+            prefixed,
+            below,
+        } = branch;
+        let item = Item {
+            byte,
+            literal,
+            prefixed,
+        };
+        let next = replace(self, Link::null());
+        let node = Node {
+            item,
+            child: below,
+            next,
+            alloc,
+        };
+        let emptied = replace(self, Link::of(room, node));
+        emptied.give_up();
+    }
+
+    /// Exchanges what the node of this byte keeps, and what is below it, for a branch. The node
+    /// stays where it is. It calls itself once a sibling, and so at most 256 times.
+    #[cycle(exchange)]
+    pub(crate) fn exchange(&mut self, byte: u8, branch: &mut Branch)
+        ensures here { siblings self.new.nodes
+            ≡ with_value byte (contents branch.old) (siblings self.old.nodes) }
+        ensures there { contents branch.new
+            ≡ unwrap_or (value_at byte (siblings self.old.nodes)) (contents branch.old) }
+    {
+        if self.is_null() {
+            return;
+        }
+        let node = self.get_mut();
+        if node.item.byte == byte {
+            swap(&mut node.item.literal, &mut branch.literal);
+            swap(&mut node.item.prefixed, &mut branch.prefixed);
+            swap(&mut node.child, &mut branch.below);
+            return;
+        }
+        node.next.exchange(byte, branch);
+    }
+
+    /// Takes the node of this byte out and frees it. The one behind it takes its place. It calls
+    /// itself once a sibling.
+    #[cycle(unlink)]
+    pub(crate) fn unlink(&mut self, byte: u8)
+        ensures { siblings self.new.nodes ≡ without byte (siblings self.old.nodes) }
+    {
+        if self.is_null() {
+            return;
+        }
+        let node = self.get_mut();
+        if node.item.byte == byte {
+            let alloc = node.alloc;
+            let first = replace(self, Link::null());
+            let (node, room) = first.take(alloc);
+            room.free();
+            let emptied = replace(self, node.next);
+            emptied.give_up();
+            return;
+        }
+        node.next.unlink(byte);
+    }
+}
+
+/// Nodes for a key, one a byte, linked beside one another. One that can't be made frees the others.
+pub(crate) fn path_of(alloc: Global, key: &[u8]) -> Result<Link<Item>, AllocError>
+    ensures { IfOk result (λ path. key_of path.nodes ≡ key.now) }
+{
+    let mut path = Link::null();
+    let mut rest = key;
+    while let Some((byte, before)) = rest.split_last() {
+        let Ok(room) = Vacant::take(alloc) else {
+            return Err(AllocError);
+        };
+        path.put_front(room, alloc, *byte, Branch::new());
+        rest = before;
+    }
+    Ok(path)
+}

@@ -1,0 +1,19 @@
+use Rattle.std.proofs.Common.{◌≡◌, ◌↔◌, ◌∙◌, ℕ, List, Option, Some, None, Result, Ok, Err, IsOk, IfOk, true, false, true≢false, refl, sym}
+use Rattle.std.specs.Result.{result_ok}
+use Rattle.uuid.specs.Text.{parsed}
+use Rattle.kob_router.proofs.header_id.read_id.Goals as goal
+
+nothing_parsed : (text : List ℕ) (found : Option (List ℕ)) → parsed text ≡ found
+    → (((id : List ℕ) × (parsed text ≡ Some id)) → true ≡ false) → None ≡ found
+nothing_parsed text None is hopeless = refl
+nothing_parsed text (Some id) is hopeless = absurd (true≢false (hopeless (id, is)))
+
+read : {E : Type 0} (answer : Result (List ℕ) E) (text : List ℕ)
+    → (IsOk answer ↔ ((id : List ℕ) × (parsed text ≡ Some id)))
+    → IfOk answer (λ id. Some id ≡ parsed text) → result_ok answer ≡ parsed text
+read (Ok id) text ok bytes = bytes
+read (Err fault) text ok bytes = nothing_parsed text (parsed text) refl (λ found. sym (ok.1 found))
+
+pub returns : goal.returns
+returns c = c.ok.ensures.value ∙ read c.try_parse_ascii.result c.args.text.now c.try_parse_ascii.ensures.ok
+    c.try_parse_ascii.ensures.bytes

@@ -1,0 +1,37 @@
+use Rattle.std.proofs.Common.{◌≡◌, ◌<◌, ◌+◌, ◌≤◌, ℕ, length, drop, List, ◌∷◌, get_or, ap, sym, ◌∙◌, arith}
+use Rattle.std.proofs.lemmas.List.{drop_more}
+use Rattle.kob_router.specs.Partitioner.{with_bytes, with_word}
+use Rattle.kob_router.proofs.partitioner.with_bytes.Goals as goal
+
+-- the first of the bytes from a place on
+next_byte : (bytes : List ℕ) (at next : ℕ) → at < length bytes → next ≡ at + 1
+    → drop at bytes ≡ get_or bytes at 0 ∷ drop next bytes
+next_byte bytes at next within is = drop_more bytes at 0 within
+    ∙ ap (λ (k : ℕ). get_or bytes at 0 ∷ drop k bytes) (sym is)
+
+-- the first four of the bytes from a place on
+next_word : (bytes : List ℕ) (at : ℕ) → at + 4 ≤ length bytes
+    → drop at bytes ≡ get_or bytes at 0 ∷ get_or bytes (at + 1) 0 ∷ get_or bytes (at + 2) 0 ∷ get_or bytes (at + 3)
+    0 ∷ drop (at + 4) bytes
+next_word bytes at fits =
+    next_byte bytes at (at + 1) (omega arith) (omega arith)
+    ∙ ap (λ (rest : List ℕ). get_or bytes at 0 ∷ rest)
+    (next_byte bytes (at + 1) (at + 2) (omega arith) (omega arith)
+    ∙ ap (λ (rest : List ℕ). get_or bytes (at + 1) 0 ∷ rest)
+    (next_byte bytes (at + 2) (at + 3) (omega arith) (omega arith)
+    ∙ ap (λ (rest : List ℕ). get_or bytes (at + 2) 0 ∷ rest)
+    (next_byte bytes (at + 3) (at + 4) (omega arith) (omega arith))))
+
+pub loop-at-preserved : goal.loop-at-preserved
+loop-at-preserved c =
+    let bytes = c.args.bytes.now in
+    let at = c.loop-at.at in
+    let fits : at + 4 ≤ length bytes = omega arith in
+    record {
+      within = fits;
+      rest =
+          ap (λ (h : ℕ). with_bytes h (drop (at + 4) bytes))
+          (c.with_word-hash.ensures ∙ ap (with_word c.loop-at.hash) c.word_at.ensures)
+          ∙ sym (ap (with_bytes c.loop-at.hash) (next_word bytes at fits))
+          ∙ c.loop-at.invariant.rest;
+    }

@@ -1,0 +1,37 @@
+use Rattle.std.proofs.Common.{◌≡◌, ◌∙◌, List, true, false, Option, Some, None, inl, inr, refl, sym, ap, true≢false}
+use Rattle.std.specs.Prelude.{option_map}
+use Rattle.std.specs.Option.{is_some}
+use Rattle.kob_outbox.specs.Events.{stored_row}
+use Rattle.kob_router.specs.declared.sequences.Sequence.{Sequence}
+use Rattle.kob_router.specs.Dispatches.{place_of}
+use Rattle.kob_router.proofs.sender.Sender.take_in_hand.Goals as goal
+
+some_there : {A : Type 0} (o : Option A) → is_some o ≡ true → (x : A) × (o ≡ Some x)
+some_there None there = absurd (true≢false (sym there))
+some_there (Some x) there = (x, refl)
+
+none_there : {A : Type 0} (o : Option A) → is_some o ≡ false → o ≡ None
+none_there None there = refl
+none_there (Some x) there = absurd (true≢false there)
+
+pub returns-then-is_some-clause-done : goal.returns-then-is_some-clause-done
+returns-then-is_some-clause-done c =
+    let there = some_there c.args.self.now.hand (sym c.is_some.ensures ∙ c.if-is_some.true) in inl
+    (there.0, there.1, refl)
+
+pub returns-clause-done : goal.returns-clause-done
+returns-clause-done c =
+    inr
+    (record {
+      held = record { row = c.in-Ok-Some.row; place = c.in-Ok.dispatch.place };
+      nothing_before = none_there c.args.self.now.hand (sym c.is_some.ensures ∙ c.if-is_some.false);
+      first_waits = sym c.in-Ok-Some.ensures.row ∙ ap (option_map stored_row) c.in-Ok-Some.field-0-is;
+      goes = ap place_of c.in-Ok.ensures;
+      taken = ap (λ (ss : List Sequence). record {
+        target = c.args.self.now.target;
+        producer = c.args.self.now.producer;
+        sequences = ss;
+        hand = Some
+            (record { row = c.in-Ok-Some.row; place = c.in-Ok.dispatch.place });
+      }) c.in-Ok-prepare.ensures.ok;
+    })

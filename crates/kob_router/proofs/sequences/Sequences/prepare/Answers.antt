@@ -1,0 +1,47 @@
+use Rattle.std.proofs.Common.{◌≡◌, ◌++◌, ◌∷◌, [], List, true, false, sym, ap, ◌∙◌, refl, inl, inr, true≢false}
+use Rattle.std.proofs.lemmas.Bool.{both_ways, cases_Bool, cond-false, cond-true, or_cases, or_parts}
+use Rattle.kob_router.specs.declared.place.Place.{Place}
+use Rattle.kob_router.specs.declared.sequences.Sequence.{Sequence}
+use Rattle.kob_router.specs.Places.{has_place, prepared, same_place}
+use Rattle.kob_router.proofs.sequences.Sequences.prepare.Goals as goal
+
+prepared_there : (ss : List Sequence) (p : Place) → has_place ss p ≡ true → prepared ss p ≡ ss
+prepared_there [] p there = absurd (true≢false (sym there))
+prepared_there (s ∷ ss) p there =
+    elim (cases_Bool (same_place s.place p)) [
+      | inl on ↦ cond-true (same_place s.place p) (s ∷ ss) (s ∷ prepared ss p) on
+      | inr off ↦
+          cond-false (same_place s.place p) (s ∷ ss) (s ∷ prepared ss p) off
+          ∙ elim (or_cases (same_place s.place p) (has_place ss p) there) [
+            | inl on ↦ absurd (both_ways (same_place s.place p) off on)
+            | inr later ↦ ap (λ (xs : List Sequence). s ∷ xs) (prepared_there ss p later)
+          ]
+    ]
+
+prepared_new : (ss : List Sequence) (p : Place) → has_place ss p ≡ false
+    → prepared ss p ≡ ss ++ record { place = p; next = 0 } ∷ []
+prepared_new [] p new = refl
+prepared_new (s ∷ ss) p new =
+    let parts = or_parts (same_place s.place p) (has_place ss p) new in
+    cond-false (same_place s.place p) (s ∷ ss) (s ∷ prepared ss p) parts.0
+    ∙ ap (λ (xs : List Sequence). s ∷ xs) (prepared_new ss p parts.1)
+
+pub returns-then-has_place-clause-ok : goal.returns-then-has_place-clause-ok
+returns-then-has_place-clause-ok c =
+    let view : c.deref.result.now ≡ c.args.self.now = c.deref.ensures.value ∙ c.self.view_is in
+    let there : has_place c.args.self.now c.args.place.now ≡ true = ap
+    (λ (ss : List Sequence). has_place ss c.args.place.now) (sym view) ∙ sym c.has_place.ensures
+    ∙ c.if-has_place.true in
+    sym (prepared_there c.args.self.now c.args.place.now there)
+
+pub returns-clause-ok : goal.returns-clause-ok
+returns-clause-ok c =
+    let ss = c.args.self.now in
+    let p = c.args.place.now in
+    let view : c.deref.result.now ≡ ss = c.deref.ensures.value ∙ c.self.view_is in
+    let new : has_place ss p ≡ false = ap (λ (xs : List Sequence). has_place xs p) (sym view)
+    ∙ sym c.has_place.ensures ∙ c.if-has_place.false in
+    c.in_ok-push.ensures.items
+    ∙ ap (λ (xs : List Sequence). xs ++ record { place = c.in_ok-place.place; next = 0 } ∷ []) c.self.view_is
+    ∙ ap (λ (place : Place). ss ++ record { place = place; next = 0 } ∷ []) c.in_ok-place.ensures
+    ∙ sym (prepared_new ss p new)

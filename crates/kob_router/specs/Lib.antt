@@ -1,0 +1,12 @@
+pub mod Answers
+pub mod Dispatches
+pub mod HeaderId
+pub mod Line
+pub mod Partitioner
+pub mod Parts
+pub mod Placement
+pub mod Places
+pub mod Route
+pub mod Run
+pub mod Template
+pub mod Tick

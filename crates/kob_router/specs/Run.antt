@@ -1,0 +1,159 @@
+-- What a service and its router may do to an outbox and a broker.
+use Rattle.std.specs.Prelude.{◌≡◌, ℕ, ◌<◌, ◌^◌, List, [], ◌∷◌, Bool, true, false, if◌then◌else◌, Option, None, Some}
+use Rattle.std.specs.List.{slice_get}
+use Rattle.kob_names.specs.declared.record.Record.{Record}
+use Rattle.kob_names.specs.declared.batch.Batch.{Batch}
+use Rattle.kob_rights.specs.declared.request.Request.{Request}
+use Rattle.kob_rights.specs.declared.request.Request.TheVariants.{InitProducerId, Produce}
+use Rattle.kob_rights.specs.declared.on_partitions.Produce.{Produce as ProduceRequest}
+use Rattle.kob_rights.specs.declared.reply.Reply.{Reply}
+use Rattle.kob_rights.specs.declared.reply.Reply.TheVariants.{Done}
+use Rattle.kob_rights.specs.declared.reply.Body.TheVariants as bodies
+use Rattle.kob_outbox.specs.declared.change.Change.{Change}
+use Rattle.kob_outbox.specs.declared.event.OutboxEvent.{OutboxEvent}
+use Rattle.kob_outbox.specs.Contents.{Contents, Event, empty}
+use Rattle.kob_outbox.specs.Events.{id_text, stored_event}
+use Rattle.kob_outbox.specs.Fields.{first_bad}
+use Rattle.kob_outbox.specs.Reading.{later_than, without_sent}
+use Rattle.kob_outbox.specs.Recording.{is_recorded, next_seq, recorded}
+use Rattle.kob_router.specs.declared.line.Call.{Call}
+use Rattle.kob_router.specs.declared.place.Place.{Place}
+use Rattle.kob_router.specs.declared.sender.Producer.{Producer}
+use Rattle.kob_router.specs.declared.sequences.Sequence.{Sequence}
+use Rattle.kob_router.specs.Dispatches.{Dispatching, place_of}
+use Rattle.kob_router.specs.Places.{prepared, sequence_of, used}
+
+-- the row that is sent until it is acknowledged, and where it goes
+pub record Hand : Type 0 where
+  pub event : Event
+  pub place : Place
+
+-- an outbox and its router
+pub record State : Type 0 where
+  pub outbox : Contents
+  pub producer : Option Producer
+  pub sequences : List Sequence
+  pub hand : Option Hand
+
+-- an empty outbox and a new router
+abbrev pub start : State
+start = record { outbox = empty; producer = None; sequences = []; hand = None }
+
+-- the first row after the mark
+abbrev pub next_row : Contents → Option Event
+next_row c = slice_get (later_than c.mark c.events) 0
+
+-- one thing that is done
+pub data Move : Type 0 where
+  -- an event is recorded
+  Recorded : (change : Change) (event : OutboxEvent) → Move
+  -- the rows up to the mark are dropped
+  Swept : Move
+  -- the router forgets what was in hand, its producer id and all sequences
+  Restarted : Move
+  -- the first row after the mark is taken in hand
+  Took : (hand : Hand) → Move
+  -- a call; where it marks, the mark then moves to the row in hand
+  Called : (call : Call) (marks : Bool) → Move
+
+-- the texts fit, the id was never recorded, and a number is left
+pub record IsRecordable (c : Contents) (change : Change) (event : OutboxEvent) : Type 0 where
+  pub fits : first_bad change event ≡ None
+  pub fresh : is_recorded c.ids (id_text event.id) ≡ false
+  pub room : next_seq c < 2 ^ 63
+
+-- a batch of one record, with the producer's sequence
+abbrev pub batch_of : Producer → ℕ → Record → Batch
+batch_of producer base message =
+    record {
+      idem = Some (record { id = producer.id; epoch = producer.epoch; base = base });
+      records = message ∷ [];
+    }
+
+-- the one request that sends what is in hand: to its place, with the next sequence there
+pub record IsSending (route : Dispatching) (s : State) (produce : ProduceRequest) : Type 0 where
+  pub producer : Producer
+  pub hand : Hand
+  pub message : Record
+  pub has_producer : s.producer ≡ Some producer
+  pub has_hand : s.hand ≡ Some hand
+  pub routed : route hand.event ≡ Some (record { place = hand.place; message = message })
+  pub same_topic : produce.topic ≡ hand.place.topic
+  pub same_partition : produce.partition ≡ hand.place.partition
+  pub same_batch : produce.batch ≡ batch_of producer (sequence_of s.sequences hand.place) message
+
+-- the reply was heard, and it says that the request is done
+abbrev pub IsDone : Option Reply → Type 0
+IsDone (Some (Done body)) = Unit {0}
+IsDone _ = ⊥
+
+-- a producer id is asked for where there is none; only what is in hand is sent, and it is acknowledged
+-- only once the reply was heard that it is done
+abbrev pub MayCall : Dispatching → State → Request → Option Reply → Bool → Type 0
+MayCall route s InitProducerId heard marks = (s.producer ≡ None) × (marks ≡ false)
+MayCall route s (Produce produce) heard marks =
+    IsSending route s produce × (marks ≡ true → IsDone heard)
+MayCall route s _ heard marks = ⊥
+
+-- what may be done
+abbrev pub May : Dispatching → State → Move → Type 0
+May route s (Recorded change event) = IsRecordable s.outbox change event
+May route s Swept = Unit {0}
+May route s Restarted = Unit {0}
+May route s (Took hand) =
+    (s.hand ≡ None)
+    × (next_row s.outbox ≡ Some hand.event)
+    × (place_of (route hand.event) ≡ Some hand.place)
+May route s (Called call marks) = MayCall route s call.request call.heard marks
+
+-- the producer id after an INIT_PRODUCER_ID
+abbrev pub given : Option Producer → Request → Option Reply → Option Producer
+given old InitProducerId (Some (Done (bodies.Producer id epoch))) =
+    Some (record { id = id; epoch = epoch })
+given old _ _ = old
+
+-- the row in hand is acknowledged: the mark moves to it, its sequence is used, nothing is in hand
+abbrev pub advanced : State → Option Hand → State
+advanced s None = s
+advanced s (Some hand) =
+    record {
+      outbox = record s.outbox { mark = hand.event.seq };
+      producer = s.producer;
+      sequences = used s.sequences hand.place;
+      hand = None;
+    }
+
+-- what is done leaves
+abbrev pub after : State → Move → State
+after s (Recorded change event) = record s { outbox = recorded s.outbox change event }
+after s Swept = record s { outbox = without_sent s.outbox.mark s.outbox }
+after s Restarted = record { outbox = s.outbox; producer = None; sequences = []; hand = None }
+after s (Took hand) =
+    record {
+      outbox = s.outbox;
+      producer = s.producer;
+      sequences = prepared s.sequences hand.place;
+      hand = Some hand;
+    }
+after s (Called call marks) =
+    if marks then advanced s s.hand
+    else record s { producer = given s.producer call.request call.heard }
+
+-- these moves may be made one after another, and lead from one state to the other
+abbrev pub IsRouterRun : Dispatching → State → List Move → State → Type 0
+IsRouterRun route old [] new = new ≡ old
+IsRouterRun route old (move ∷ moves) new =
+    May route old move × IsRouterRun route (after old move) moves new
+
+-- the calls among the moves
+abbrev pub calls_of : List Move → List Call
+calls_of [] = []
+calls_of (Called call marks ∷ moves) = call ∷ calls_of moves
+calls_of (_ ∷ moves) = calls_of moves
+
+-- the events that the moves record, with their numbers from this state on
+abbrev pub events_of : Contents → List Move → List Event
+events_of c [] = []
+events_of c (Recorded change event ∷ moves) =
+    stored_event (next_seq c) event ∷ events_of (recorded c change event) moves
+events_of c (_ ∷ moves) = events_of c moves

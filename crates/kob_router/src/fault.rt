@@ -1,0 +1,58 @@
+//! Why a route, or a row's record, could not be made.
+
+use kob_names::TopicNameFault;
+use std::alloc::{AllocError, AllocFailed};
+use thiserror::Error;
+
+/// Why settings are no route.
+#[derive(Clone, Copy, Debug, PartialEq, Eq, Error)]
+pub enum RouteFault {
+    #[error("the replacement is empty, or has a `$` that does not begin `${{routedByValue}}`")]
+    BadTemplate,
+    #[error("the placement is not made of up to 16 entries `column:header:alias`")]
+    BadPlacement,
+    #[error("out of memory")]
+    Memory,
+}
+
+/// Why a row has no record.
+#[derive(Clone, Copy, Debug, PartialEq, Eq, Error)]
+pub enum RecordFault {
+    #[error("the name that the route makes is no topic's")]
+    BadTopic,
+    #[error("out of memory")]
+    Memory,
+}
+
+impl From<AllocError> for RouteFault {
+    ghost use Rattle.std.specs.Prelude.{◌≡◌};
+    ghost use Rattle.kob_router.specs.declared.fault.RouteFault.TheVariants.{Memory};
+
+    ghost from_gives = { λ _ fault. fault ≡ Memory };
+
+    fn from(_error: AllocError) -> RouteFault {
+        RouteFault::Memory
+    }
+}
+
+impl<T: Drop> From<AllocFailed<T>> for RouteFault {
+    ghost use Rattle.std.specs.Prelude.{◌≡◌};
+    ghost use Rattle.kob_router.specs.declared.fault.RouteFault.TheVariants.{Memory};
+
+    ghost from_gives = { λ _ fault. fault ≡ Memory };
+
+    fn from(_error: AllocFailed<T>) -> RouteFault {
+        RouteFault::Memory
+    }
+}
+
+impl From<AllocError> for RecordFault {
+    ghost use Rattle.std.specs.Prelude.{◌≡◌};
+    ghost use Rattle.kob_router.specs.declared.fault.RecordFault.TheVariants.{Memory};
+
+    ghost from_gives = { λ _ fault. fault ≡ Memory };
+
+    fn from(_error: AllocError) -> RecordFault {
+        RecordFault::Memory
+    }
+}

@@ -1,0 +1,35 @@
+//! The id that a record carries in its headers.
+
+ghost use Rattle.std.specs.Prelude.{◌≡◌};
+ghost use Rattle.std.specs.List.{find};
+ghost use Rattle.std.specs.Option.{option_copied};
+ghost use Rattle.uuid.specs.Text.{parsed};
+ghost use Rattle.kob_router.specs.HeaderId.{event_id, is_id};
+
+use kob_names::{Header, Record};
+use uuid::Uuid;
+
+/// The event id of a record: the value of its first header named `id`, read as the text of a UUID
+/// in any of its forms, in either case. None where no header has the name, or the first that has it
+/// is no such text. No memory is taken. Debezium's outbox event router writes this header, so that
+/// consumers know an event that they have seen.
+pub fn event_id(sent: &Record) -> Option<Uuid>
+    ensures { result ≡ event_id sent.now }
+{
+    let header = id_header(sent.headers.as_slice())?;
+    read_id(header.value.as_slice())
+}
+
+/// The first header named `id`.
+fn id_header(headers: &[Header]) -> Option<&Header>
+    ensures { option_copied result ≡ find is_id headers.now }
+{
+    headers.iter().find(|header| header.name.as_str() == "id")
+}
+
+/// The UUID that a text spells, if it spells one.
+fn read_id(text: &[u8]) -> Option<Uuid>
+    ensures { result ≡ parsed text.now }
+{
+    Uuid::try_parse_ascii(text).ok()
+}

@@ -1,0 +1,50 @@
+//! Calls to a broker, of which some are lost.
+
+ghost use Rattle.std.specs.Prelude.{◌≡◌, List, ℕ};
+ghost use Rattle.kob_router.specs.Line.{Adds, IsFaithful};
+
+use kob_rights::{Reply, Request};
+use std::alloc::Global;
+
+/// A request that was made, and the reply that was heard, or none where the call was lost.
+#[derive(Debug, Drop)]
+pub struct Call {
+    pub request: Request,
+    pub heard: Option<Reply>,
+}
+
+/// What came of a call.
+#[derive(Debug, Drop)]
+pub enum Delivery {
+    /// The broker served the request, and this is its reply.
+    Delivered(Reply),
+    /// No reply was heard. The broker may have served the request, or may not.
+    Lost,
+}
+
+/// A way to a broker, by which requests are made one after another. It keeps what was asked and
+/// what was heard.
+pub trait Line {
+    ghost use Rattle.kob_router.specs.declared.line.Call.{Call};
+
+    /// The calls that were made, the oldest first.
+    ghost calls: { Self → List Call };
+
+    /// How often there was no memory to note a call, which was then not made.
+    ghost unmade: { Self → ℕ };
+
+    /// Makes a call. Where there is no memory to note it, it is not made, and the answer is `Lost`;
+    /// this is counted.
+    fn send(&mut self, alloc: Global, request: Request) -> Delivery
+        ensures added { Adds (calls self.old) (calls self.new) (unmade self.old) (unmade self.new)
+            request result }
+        ensures faithful { IsFaithful request result };
+
+    /// The calls that were made, the oldest first. No memory is taken.
+    fn made_calls(&self) -> &[Call]
+        ensures { result.now ≡ calls self.now };
+
+    /// How often a call was not made for want of memory, counted up to 18,446,744,073,709,551,615.
+    fn unmade_calls(&self) -> u64
+        ensures { result ≡ unmade self.now };
+}

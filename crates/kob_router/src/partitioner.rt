@@ -1,0 +1,90 @@
+//! The partition of a key, as Kafka's default partitioner picks it.
+
+ghost use Rattle.std.specs.Prelude.{◌≡◌, ◌<◌, ◌+◌, ◌≤◌, length, slice_index};
+ghost use Rattle.kob_router.specs.Partitioner.{finished, murmur2, partition_of, with_bytes};
+ghost use Rattle.kob_router.specs.Partitioner.{with_rest, with_upper_bits, with_word, word};
+
+const FACTOR: u32 = 0x5bd1e995;
+
+const SEED: u32 = 0x9747b28c;
+
+/// The partition of a key, of so many: murmur2 of the key without its sign bit, modulo their
+/// number, as Kafka's default partitioner has it. Equal keys have equal partitions. No memory is
+/// taken.
+pub fn partition_of(key: &[u8], partitions: u32) -> u32
+    requires { 0 < partitions }
+    ensures value { result ≡ partition_of key.now partitions }
+    ensures within { result < partitions }
+{
+    (murmur2(key) & 0x7fffffff) % partitions
+}
+
+fn murmur2(bytes: &[u8]) -> u32
+    ensures { result ≡ murmur2 bytes.now }
+{
+    let length = (bytes.len() % 0x1_0000_0000) as u32;
+    finished(with_bytes(SEED ^ length, bytes))
+}
+
+fn with_bytes(start: u32, bytes: &[u8]) -> u32
+    ensures { result ≡ with_bytes start bytes.now }
+{
+    let mut hash = start;
+    let mut at: usize = 0;
+    while bytes.len() - at >= 4 {
+        hash = with_word(hash, word_at(bytes, at));
+        at += 4;
+    }
+    with_last_bytes(hash, &bytes[at..])
+}
+
+/// The four bytes from a place on, the lowest first.
+fn word_at(bytes: &[u8], at: usize) -> u32
+    requires { at + 4 ≤ length bytes.now }
+    ensures { result ≡ word (slice_index bytes.now at) (slice_index bytes.now (at + 1))
+        (slice_index bytes.now (at + 2)) (slice_index bytes.now (at + 3)) }
+{
+    bytes[at] as u32
+        + 0x100 * bytes[at + 1] as u32
+        + 0x1_0000 * bytes[at + 2] as u32
+        + 0x100_0000 * bytes[at + 3] as u32
+}
+
+fn with_word(hash: u32, word: u32) -> u32
+    ensures { result ≡ with_word hash word }
+{
+    let word = with_upper_bits(word.wrapping_mul(FACTOR), 24).wrapping_mul(FACTOR);
+    hash.wrapping_mul(FACTOR) ^ word
+}
+
+fn with_upper_bits(number: u32, bits: u32) -> u32
+    requires { bits < 32 }
+    ensures { result ≡ with_upper_bits number bits }
+{
+    number ^ (number >> bits)
+}
+
+fn with_last_bytes(hash: u32, bytes: &[u8]) -> u32
+    requires { length bytes.now < 4 }
+    ensures { result ≡ with_bytes hash bytes.now }
+{
+    match bytes {
+        [] => hash,
+        [a] => with_rest(hash, *a as u32),
+        [a, b] => with_rest(hash, *a as u32 + 0x100 * *b as u32),
+        [a, b, c] => with_rest(hash, *a as u32 + 0x100 * *b as u32 + 0x1_0000 * *c as u32),
+        _ => unreachable!(),
+    }
+}
+
+fn with_rest(hash: u32, rest: u32) -> u32
+    ensures { result ≡ with_rest hash rest }
+{
+    (hash ^ rest).wrapping_mul(FACTOR)
+}
+
+fn finished(hash: u32) -> u32
+    ensures { result ≡ finished hash }
+{
+    with_upper_bits(with_upper_bits(hash, 13).wrapping_mul(FACTOR), 15)
+}

@@ -1,0 +1,127 @@
+//! Which columns of a row are sent as headers.
+
+ghost use Rattle.std.specs.Prelude.{◌≡◌, ◌==◌, IfOk, map};
+ghost use Rattle.std.specs.List.{slice_split};
+ghost use Rattle.kob_router.specs.Answers.{OkIfSome};
+ghost use Rattle.kob_router.specs.Placement.{column_named, each_entry, entries_of, entry_of};
+ghost use Rattle.kob_router.specs.Placement.{entry_of_parts, is_alias, placed_as};
+
+use crate::fault::RouteFault;
+use kob_names::{Items, Text};
+use std::alloc::{AllocError, Global};
+
+/// The most entries that a placement may have.
+const ENTRY_LIMIT: usize = 16;
+
+/// The most bytes that a header's name may have.
+const ALIAS_LIMIT: usize = 255;
+
+/// A column that can be sent as a header.
+#[derive(Clone, Copy, Debug, PartialEq, Eq)]
+pub enum PlacedColumn {
+    /// `aggregatetype`.
+    AggregateType,
+    /// `aggregateid`.
+    AggregateId,
+    /// `type`.
+    EventType,
+}
+
+/// A column that is sent as a header, and the header's name.
+#[derive(Debug, Drop)]
+pub struct Placed {
+    pub column: PlacedColumn,
+    pub header: Text,
+}
+
+/// The entries of a placement, in order.
+pub(crate) fn entries_of(alloc: Global, text: &str) -> Result<Items<Placed>, RouteFault>
+    ensures { OkIfSome (entries_of text.now) RouteFault.BadPlacement RouteFault.Memory result }
+{
+    if text.is_empty() {
+        return Ok(Items::from_vec(Vec::new(alloc)));
+    }
+    let texts = cut_at_commas(alloc, text)?;
+    if texts.len() > ENTRY_LIMIT {
+        return Err(RouteFault::BadPlacement);
+    }
+    each_entry(alloc, &texts)
+}
+
+fn cut_at_commas(alloc: Global, text: &str) -> Result<Vec<&str>, AllocError>
+    ensures { IfOk result (λ parts.
+        map (λ part. part.now) parts.items ≡ slice_split (λ byte. byte == 44) text.now) }
+{
+    text.split(',').collect(alloc)
+}
+
+fn cut_at_colons(alloc: Global, text: &str) -> Result<Vec<&str>, AllocError>
+    ensures { IfOk result (λ parts.
+        map (λ part. part.now) parts.items ≡ slice_split (λ byte. byte == 58) text.now) }
+{
+    text.split(':').collect(alloc)
+}
+
+fn each_entry(alloc: Global, texts: &[&str]) -> Result<Items<Placed>, RouteFault>
+    ensures { OkIfSome (each_entry (map (λ text. text.now) texts.now))
+        RouteFault.BadPlacement RouteFault.Memory result }
+{
+    let mut entries = Vec::new(alloc);
+    for text in texts {
+        let entry = entry_of(alloc, text)?;
+        entries.push(entry)?;
+    }
+    Ok(Items::from_vec(entries))
+}
+
+fn entry_of(alloc: Global, text: &str) -> Result<Placed, RouteFault>
+    ensures { OkIfSome (entry_of text.now) RouteFault.BadPlacement RouteFault.Memory result }
+{
+    let parts = cut_at_colons(alloc, text)?;
+    entry_of_parts(alloc, &parts)
+}
+
+fn entry_of_parts(alloc: Global, parts: &[&str]) -> Result<Placed, RouteFault>
+    ensures { OkIfSome (entry_of_parts (map (λ part. part.now) parts.now))
+        RouteFault.BadPlacement RouteFault.Memory result }
+{
+    match parts {
+        [column, word] => placed_as(alloc, column, word, column),
+        [column, word, alias] => placed_as(alloc, column, word, alias),
+        _ => Err(RouteFault::BadPlacement),
+    }
+}
+
+fn placed_as(alloc: Global, column: &str, word: &str, alias: &str) -> Result<Placed, RouteFault>
+    ensures { OkIfSome (placed_as column.now word.now alias.now)
+        RouteFault.BadPlacement RouteFault.Memory result }
+{
+    if word != "header" || !is_alias(alias) {
+        return Err(RouteFault::BadPlacement);
+    }
+    let Some(column) = column_named(column) else {
+        return Err(RouteFault::BadPlacement);
+    };
+    let header = Text::copied(alloc, alias)?;
+    Ok(Placed { column, header })
+}
+
+fn is_alias(alias: &str) -> bool
+    ensures { result ≡ is_alias alias.now }
+{
+    1 <= alias.len() && alias.len() <= ALIAS_LIMIT
+}
+
+fn column_named(name: &str) -> Option<PlacedColumn>
+    ensures { result ≡ column_named name.now }
+{
+    if name == "aggregatetype" {
+        Some(PlacedColumn::AggregateType)
+    } else if name == "aggregateid" {
+        Some(PlacedColumn::AggregateId)
+    } else if name == "type" {
+        Some(PlacedColumn::EventType)
+    } else {
+        None
+    }
+}

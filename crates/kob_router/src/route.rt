@@ -1,0 +1,63 @@
+//! Routes.
+
+ghost use Rattle.std.specs.Prelude.{◌≡◌, ◌↔◌, Some, None, false, IfOk, IsErrOf};
+ghost use Rattle.kob_router.specs.Placement.{entries_of};
+ghost use Rattle.kob_router.specs.Template.{is_template};
+
+use crate::fault::RouteFault;
+use crate::placement::entries_of;
+use crate::settings::{RouteSettings, Routing};
+use crate::template::is_template;
+use kob_names::PlainValue;
+use std::alloc::Global;
+use std::marker::Model;
+
+/// Where a row goes, and as what: by which column, under which name of a topic, and with which
+/// headers.
+#[derive(Debug, Drop)]
+pub struct Route {
+    routing: Routing,
+}
+
+impl Model for Route {
+    ghost use Rattle.kob_router.specs.declared.settings.Routing.{Routing};
+
+    ghost Value = { Routing };
+
+    ghost view = { λ route. route.routing };
+}
+
+impl Route {
+    /// Reads the settings. `BadTemplate` comes where the replacement is empty or has a `$` that
+    /// does not begin `${routedByValue}`, and `BadPlacement` where the placement is neither empty
+    /// nor made of up to 16 entries.
+    pub fn new(alloc: Global, settings: &RouteSettings) -> Result<Route, RouteFault>
+        ensures by { IfOk result (λ route. route.by ≡ settings.now.by) }
+        ensures template { IfOk result (λ route. route.template ≡ settings.now.replacement) }
+        ensures placement { IfOk result (λ route.
+            entries_of settings.now.placement ≡ Some route.placement) }
+        ensures bad_template { IsErrOf result RouteFault.BadTemplate
+            ↔ (is_template settings.now.replacement ≡ false) }
+        ensures bad_placement { IsErrOf result RouteFault.BadPlacement
+            → entries_of settings.now.placement ≡ None }
+    {
+        if !is_template(settings.replacement.as_str().as_bytes()) {
+            return Err(RouteFault::BadTemplate);
+        }
+        let placement = entries_of(alloc, settings.placement.as_str())?;
+        let template = settings.replacement.copy(alloc)?;
+        Ok(Route {
+            routing: Routing {
+                by: settings.by,
+                template,
+                placement,
+            },
+        })
+    }
+
+    pub(crate) fn as_routing(&self) -> &Routing
+        ensures { result.now ≡ self.now }
+    {
+        &self.routing
+    }
+}

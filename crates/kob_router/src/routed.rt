@@ -1,0 +1,125 @@
+//! The record of a row, and the topic to which it goes.
+
+ghost use Rattle.std.specs.Prelude.{◌≡◌, IfOk};
+ghost use Rattle.kob_outbox.specs.Events.{stored_row};
+ghost use Rattle.kob_router.specs.Answers.{OkIfSome};
+ghost use Rattle.kob_router.specs.Route.{headers_of, id_header, message_of, placed_header};
+ghost use Rattle.kob_router.specs.Route.{placed_value, routed, routed_value, topic_named, topic_of};
+
+use crate::fault::RecordFault;
+use crate::placement::{Placed, PlacedColumn};
+use crate::route::Route;
+use crate::settings::{RouteBy, Routing};
+use crate::template::filled;
+use kob_names::{Bytes, Header, Items, Record, Text, TopicName, TopicNameFault};
+use kob_outbox::Row;
+use std::alloc::{AllocError, Global};
+use std::str::from_utf8;
+use uuid::Uuid;
+
+/// The record of a row, and the topic to which it goes.
+#[derive(Debug, Drop)]
+pub struct Routed {
+    pub topic: TopicName,
+    pub message: Record,
+}
+
+/// The record of a row and its topic, as the route has it: the aggregate's id is the key, the
+/// payload's bytes are the value, and the headers are `id`, in lower-case hyphenated form, and the
+/// placed columns in their order. `BadTopic` comes where the template, filled with the row's value,
+/// is no name of a topic.
+pub fn record_of(alloc: Global, route: &Route, row: &Row) -> Result<Routed, RecordFault>
+    ensures { OkIfSome (routed route.now (stored_row row.now))
+        RecordFault.BadTopic RecordFault.Memory result }
+{
+    let routing = route.as_routing();
+    let text = topic_text(alloc, routing, row)?;
+    let topic = topic_named(alloc, &text)?;
+    let message = message_of(alloc, routing, row)?;
+    Ok(Routed { topic, message })
+}
+
+fn topic_text(alloc: Global, routing: &Routing, row: &Row) -> Result<Vec<u8>, AllocError>
+    ensures { IfOk result (λ text. text.items ≡ topic_of routing.now (stored_row row.now)) }
+{
+    let value = routed_value(routing.by, row);
+    filled(
+        alloc,
+        routing.template.as_str().as_bytes(),
+        value.as_bytes(),
+    )
+}
+
+fn routed_value(by: RouteBy, row: &Row) -> &str
+    ensures { result.now ≡ routed_value by (stored_row row.now) }
+{
+    match by {
+        RouteBy::AggregateType => row.event.aggregate_type.as_str(),
+        RouteBy::AggregateId => row.event.aggregate_id.as_str(),
+    }
+}
+
+fn topic_named(alloc: Global, text: &[u8]) -> Result<TopicName, RecordFault>
+    ensures { OkIfSome (topic_named text.now) RecordFault.BadTopic RecordFault.Memory result }
+{
+    let Ok(name) = from_utf8(text) else {
+        return Err(RecordFault::BadTopic);
+    };
+    match TopicName::parse(alloc, name) {
+        Ok(topic) => Ok(topic),
+        Err(TopicNameFault::Memory) => Err(RecordFault::Memory),
+        Err(_) => Err(RecordFault::BadTopic),
+    }
+}
+
+fn message_of(alloc: Global, routing: &Routing, row: &Row) -> Result<Record, AllocError>
+    ensures { IfOk result (λ message. message ≡ message_of routing.now (stored_row row.now)) }
+{
+    let key = Bytes::copied(alloc, row.event.aggregate_id.as_bytes())?;
+    let value = Bytes::copied(alloc, row.event.payload.as_bytes())?;
+    let headers = headers_of(alloc, routing, row)?;
+    Ok(Record {
+        key: Some(key),
+        value,
+        headers,
+    })
+}
+
+fn headers_of(alloc: Global, routing: &Routing, row: &Row) -> Result<Items<Header>, AllocError>
+    ensures { IfOk result (λ headers. headers ≡ headers_of routing.now (stored_row row.now)) }
+{
+    let mut headers = Vec::new(alloc);
+    headers.push(id_header(alloc, row)?)?;
+    for entry in routing.placement.as_slice() {
+        headers.push(placed_header(alloc, row, entry)?)?;
+    }
+    Ok(Items::from_vec(headers))
+}
+
+fn id_header(alloc: Global, row: &Row) -> Result<Header, AllocError>
+    ensures { IfOk result (λ header. header ≡ id_header (stored_row row.now)) }
+{
+    let mut buffer = Uuid::encode_buffer();
+    let id = row.event.id.hyphenated().encode_lower(&mut buffer);
+    let name = Text::copied(alloc, "id")?;
+    let value = Bytes::copied(alloc, id.as_bytes())?;
+    Ok(Header { name, value })
+}
+
+fn placed_header(alloc: Global, row: &Row, entry: &Placed) -> Result<Header, AllocError>
+    ensures { IfOk result (λ header. header ≡ placed_header (stored_row row.now) entry.now) }
+{
+    let name = Text::copied(alloc, entry.header.as_str())?;
+    let value = Bytes::copied(alloc, placed_value(entry.column, row).as_bytes())?;
+    Ok(Header { name, value })
+}
+
+fn placed_value(column: PlacedColumn, row: &Row) -> &str
+    ensures { result.now ≡ placed_value column (stored_row row.now) }
+{
+    match column {
+        PlacedColumn::AggregateType => row.event.aggregate_type.as_str(),
+        PlacedColumn::AggregateId => row.event.aggregate_id.as_str(),
+        PlacedColumn::EventType => row.event.event_type.as_str(),
+    }
+}

@@ -1,0 +1,94 @@
+//! The router.
+
+ghost use Rattle.std.specs.Prelude.{◌≡◌, ◌≤◌};
+
+use crate::dispatch::Target;
+use crate::line::Line;
+use crate::route::Route;
+use crate::sender::Sender;
+use crate::sequences::Sequences;
+use crate::tick::Tick;
+use kob_outbox::Outbox;
+use std::alloc::Global;
+use std::marker::Model;
+
+/// Sends the rows of one outbox to the topics that a route names, in the order of their numbers,
+/// each until the broker has it. The rows go with the router's own producer id and, on each
+/// partition, with rising sequences, so that the broker knows a batch that is sent again.
+#[derive(Debug, Drop)]
+pub struct Router {
+    sender: Sender,
+}
+
+impl Model for Router {
+    ghost use Rattle.kob_router.specs.declared.sender.Sender.{Sender};
+    ghost use Rattle.kob_router.specs.Tick.{IsInOrder};
+
+    ghost Value = { Sender };
+
+    ghost view = { λ router. router.sender };
+
+    ghost invariant = { λ router. IsInOrder router.sender };
+}
+
+impl Router {
+    ghost use Rattle.std.specs.Prelude.{None, [], option_map};
+    ghost use Rattle.kob_outbox.specs.Contents.{Contents};
+    ghost use Rattle.kob_router.specs.Dispatches.{dispatch_of};
+    ghost use Rattle.kob_router.specs.Run.Move.{Restarted};
+    ghost use Rattle.kob_router.specs.Run.{after};
+    ghost use Rattle.kob_router.specs.Tick.{IsFirst, IsOneTick, Ticks, hand_of, scene_of, state_of};
+
+    /// A router for topics that have so many partitions each, 1 to 1,000. It has no producer id,
+    /// and nothing in hand. No memory is taken.
+    pub fn new(alloc: Global, route: Route, partitions: u32) -> Router
+        requires some { 1 ≤ partitions }
+        requires most { partitions ≤ 1000 }
+        ensures { result ≡ record {
+          target = record { route = route; partitions = partitions };
+          producer = None;
+          sequences = [];
+          hand = None;
+        } }
+    {
+        Router {
+            sender: Sender {
+                target: Target { route, partitions },
+                producer: None,
+                sequences: Sequences::new(alloc),
+                hand: None,
+            },
+        }
+    }
+
+    /// One step. Without a producer id it first asks for one. Then it sends the first row after the
+    /// mark, as a batch of one record with the next sequence of its partition, and moves the mark
+    /// once it heard that the broker has it: `Moved`. Where a call was lost, the answer is
+    /// `Repeat`, and the next step makes the same call again. `Idle` says that no row waits.
+    ///
+    /// The condition is that the row in hand is the first one after this outbox's mark: a router
+    /// serves one outbox, whose mark nobody else moves.
+    pub fn tick<L: Line>(&mut self, alloc: Global, outbox: &mut Outbox, line: &mut L) -> Tick
+        requires { IsFirst (option_map hand_of self.old.hand) outbox.old }
+        ensures same { self.new.target ≡ self.old.target }
+        ensures done { Ticks IsOneTick (dispatch_of self.old.target)
+            (scene_of self.old outbox.old (L.calls line.old) (L.unmade line.old))
+            (scene_of self.new outbox.new (L.calls line.new) (L.unmade line.new))
+            result }
+        ensures first { IsFirst (option_map hand_of self.new.hand) outbox.new }
+    {
+        self.sender.tick(alloc, outbox, line)
+    }
+
+    /// Forgets what was in hand, the producer id and all sequences, as a service that starts again
+    /// does. Then the next step asks for a producer id, and the broker cannot know the row that was
+    /// in hand: it may get it twice. No memory is taken.
+    pub fn restart(&mut self)
+        ensures same { self.new.target ≡ self.old.target }
+        ensures done { (outbox : Contents)
+            → state_of self.new outbox ≡ after (state_of self.old outbox) Restarted }
+        ensures empty { self.new.hand ≡ None }
+    {
+        self.sender.restart()
+    }
+}

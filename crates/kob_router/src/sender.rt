@@ -1,0 +1,248 @@
+//! What a router holds, and the parts of its step.
+
+ghost use Rattle.std.specs.Prelude.{◌≡◌, ◌<◌, IfErr, IfOk, option_map};
+ghost use Rattle.kob_outbox.specs.Events.{stored_row};
+ghost use Rattle.kob_router.specs.Run.{batch_of, next_row};
+
+use crate::dispatch::{Dispatch, Target, dispatch_of};
+use crate::fault::RecordFault;
+use crate::line::{Delivery, Line};
+use crate::place::Place;
+use crate::sequences::Sequences;
+use crate::tick::{StopReason, Tick};
+use kob_names::{Batch, Idem, Items, Record};
+use kob_outbox::{MarkFault, Outbox, OutboxFault, Row};
+use kob_rights::{Body, Produce, Reply, Request};
+use std::alloc::{AllocError, Global};
+
+/// The row that is sent until it is acknowledged, and where it goes.
+#[derive(Debug, Drop)]
+pub struct HeldRow {
+    pub row: Row,
+    pub place: Place,
+}
+
+/// A producer id with its epoch.
+#[derive(Clone, Copy, Debug, PartialEq, Eq)]
+pub struct Producer {
+    pub id: u64,
+    pub epoch: u64,
+}
+
+/// What a router holds: how it routes, its producer id, its sequences, and the row in hand.
+#[derive(Debug, Drop)]
+pub struct Sender {
+    pub target: Target,
+    pub producer: Option<Producer>,
+    pub sequences: Sequences,
+    pub hand: Option<HeldRow>,
+}
+
+impl Sender {
+    ghost use Rattle.std.specs.Prelude.{[], Some, None};
+    ghost use Rattle.kob_router.specs.Dispatches.{dispatch_of};
+    ghost use Rattle.kob_router.specs.Parts.{Acknowledges, HasHand, Introduces, Requests, Takes};
+    ghost use Rattle.kob_router.specs.Tick.{IsAtMostOne, IsHeld, IsOneTick, IsPlaced, Ticks};
+    ghost use Rattle.kob_router.specs.Tick.{hand_of, scene_of, state_of};
+
+    /// One step: asks for a producer id where there is none, then sends the first row after the
+    /// mark.
+    pub(crate) fn tick<L: Line>(&mut self, alloc: Global, outbox: &mut Outbox, line: &mut L) -> Tick
+        requires some { 0 < self.old.target.partitions }
+        requires held { IsHeld (dispatch_of self.old.target) (state_of self.old outbox.old) }
+        ensures same { self.new.target ≡ self.old.target }
+        ensures done { Ticks IsOneTick (dispatch_of self.old.target)
+            (scene_of self.old outbox.old (L.calls line.old) (L.unmade line.old))
+            (scene_of self.new outbox.new (L.calls line.new) (L.unmade line.new))
+            result }
+    {
+        let producer = match self.introduce(alloc, line) {
+            Ok(producer) => producer,
+            Err(tick) => return tick,
+        };
+        match self.take_in_hand(alloc, outbox) {
+            Ok(true) => self.deliver(alloc, outbox, line, producer),
+            Ok(false) => Tick::Idle,
+            Err(reason) => Tick::Stopped(reason),
+        }
+    }
+
+    /// Forgets what was in hand, the producer id and all sequences.
+    pub(crate) fn restart(&mut self)
+        ensures { self.new ≡ record self.old { producer = None; sequences = []; hand = None } }
+    {
+        self.producer = None;
+        self.sequences.clear();
+        self.hand = None;
+    }
+
+    /// Asks for a producer id, where there is none.
+    fn introduce<L: Line>(&mut self, alloc: Global, line: &mut L) -> Result<Producer, Tick>
+        ensures rest { self.new ≡ record self.old { producer = self.new.producer } }
+        ensures made { Introduces self.old.producer self.new.producer
+            (L.calls line.old) (L.calls line.new) (L.unmade line.old) (L.unmade line.new) result }
+    {
+        if let Some(producer) = self.producer {
+            return Ok(producer);
+        }
+        match line.send(alloc, Request::InitProducerId) {
+            Delivery::Lost => Err(Tick::Repeat),
+            Delivery::Delivered(Reply::Denied { code, verdicts }) => {
+                Err(Tick::Stopped(StopReason::Denied { code, verdicts }))
+            }
+            Delivery::Delivered(Reply::Refused { code, reason }) => {
+                Err(Tick::Stopped(StopReason::Refused { code, reason }))
+            }
+            Delivery::Delivered(Reply::Done(Body::Producer { id, epoch })) => {
+                let producer = Producer { id, epoch };
+                self.producer = Some(producer);
+                Ok(producer)
+            }
+            Delivery::Delivered(Reply::Done(_)) => unreachable!(),
+        }
+    }
+
+    /// Takes the first row after the mark in hand, where nothing is. False where no row waits.
+    fn take_in_hand(&mut self, alloc: Global, outbox: &mut Outbox) -> Result<bool, StopReason>
+        requires { 0 < self.old.target.partitions }
+        ensures same { outbox.new ≡ outbox.old }
+        ensures done { Takes (dispatch_of self.old.target) outbox.old self.old self.new result }
+    {
+        if self.hand.is_some() {
+            return Ok(true);
+        }
+        let row = match next_row(outbox) {
+            Ok(Some(row)) => row,
+            Ok(None) => return Ok(false),
+            Err(_) => return Err(StopReason::Memory),
+        };
+        let place = match dispatch_of(alloc, &self.target, &row) {
+            Ok(dispatch) => dispatch.place,
+            Err(RecordFault::BadTopic) => return Err(StopReason::BadTopic),
+            Err(RecordFault::Memory) => return Err(StopReason::Memory),
+        };
+        let Ok(()) = self.sequences.prepare(alloc, &place) else {
+            return Err(StopReason::Memory);
+        };
+        self.hand = Some(HeldRow { row, place });
+        Ok(true)
+    }
+
+    /// Sends what is in hand.
+    fn deliver<L: Line>(
+        &mut self,
+        alloc: Global,
+        outbox: &mut Outbox,
+        line: &mut L,
+        producer: Producer,
+    ) -> Tick
+        requires some { 0 < self.old.target.partitions }
+        requires known { self.old.producer ≡ Some producer }
+        requires full { HasHand self.old }
+        requires held { IsHeld (dispatch_of self.old.target) (state_of self.old outbox.old) }
+        ensures same { self.new.target ≡ self.old.target }
+        ensures done { Ticks IsAtMostOne (dispatch_of self.old.target)
+            (scene_of self.old outbox.old (L.calls line.old) (L.unmade line.old))
+            (scene_of self.new outbox.new (L.calls line.new) (L.unmade line.new))
+            result }
+    {
+        let request = match self.request(alloc, producer) {
+            Ok(request) => request,
+            Err(reason) => return Tick::Stopped(reason),
+        };
+        match line.send(alloc, request) {
+            Delivery::Lost => Tick::Repeat,
+            Delivery::Delivered(Reply::Denied { code, verdicts }) => {
+                Tick::Stopped(StopReason::Denied { code, verdicts })
+            }
+            Delivery::Delivered(Reply::Refused { code, reason }) => {
+                Tick::Stopped(StopReason::Refused { code, reason })
+            }
+            Delivery::Delivered(Reply::Done(_)) => match self.acknowledge(outbox) {
+                Ok(seq) => Tick::Moved(seq),
+                Err(reason) => Tick::Stopped(reason),
+            },
+        }
+    }
+
+    /// The request that sends what is in hand.
+    fn request(&self, alloc: Global, producer: Producer) -> Result<Request, StopReason>
+        requires some { 0 < self.now.target.partitions }
+        requires known { self.now.producer ≡ Some producer }
+        requires full { HasHand self.now }
+        requires placed { IsPlaced (dispatch_of self.now.target) (option_map hand_of self.now.hand)
+            self.now.sequences }
+        ensures { Requests (dispatch_of self.now.target) self.now result }
+    {
+        let Some(hand) = &self.hand else {
+            unreachable!();
+        };
+        let Ok(Dispatch { place, message }) = dispatch_of(alloc, &self.target, &hand.row) else {
+            return Err(StopReason::Memory);
+        };
+        let base = self.sequences.next(&hand.place);
+        let Ok(batch) = batch_of(alloc, producer, base, message) else {
+            return Err(StopReason::Memory);
+        };
+        Ok(Request::Produce(Produce {
+            topic: place.topic,
+            partition: place.partition,
+            batch,
+        }))
+    }
+
+    /// Moves the mark to the row in hand, of which nothing is left in hand then.
+    fn acknowledge(&mut self, outbox: &mut Outbox) -> Result<u64, StopReason>
+        requires full { HasHand self.old }
+        requires placed { IsPlaced (dispatch_of self.old.target) (option_map hand_of self.old.hand)
+            self.old.sequences }
+        ensures same { self.new.target ≡ self.old.target }
+        ensures done { Acknowledges (state_of self.old outbox.old) (state_of self.new outbox.new)
+            result }
+    {
+        let Some(hand) = &self.hand else {
+            unreachable!();
+        };
+        let seq = hand.row.seq;
+        match outbox.set_mark(seq) {
+            Ok(()) => {}
+            Err(MarkFault::Memory) => return Err(StopReason::Memory),
+            Err(_) => return Err(StopReason::Store),
+        }
+        self.sequences.use_one(&hand.place);
+        self.hand = None;
+        Ok(seq)
+    }
+}
+
+/// The first row after the mark.
+fn next_row(outbox: &mut Outbox) -> Result<Option<Row>, OutboxFault>
+    ensures row { IfOk result (λ row. option_map stored_row row ≡ next_row outbox.old) }
+    ensures memory { IfErr result (λ fault. fault ≡ OutboxFault.Memory) }
+    ensures same { outbox.new ≡ outbox.old }
+{
+    let mark = outbox.mark()?;
+    let mut rows = outbox.after(mark, 1)?;
+    Ok(rows.pop())
+}
+
+/// A row's record as a batch of its own.
+fn batch_of(
+    alloc: Global,
+    producer: Producer,
+    base: u64,
+    message: Record,
+) -> Result<Batch, AllocError>
+    ensures { IfOk result (λ batch. batch ≡ batch_of producer base message) }
+{
+    let mut records = Vec::new(alloc);
+    records.push(message)?;
+    Ok(Batch {
+        idem: Some(Idem {
+            id: producer.id,
+            epoch: producer.epoch,
+            base,
+        }),
+        records: Items::from_vec(records),
+    })
+}

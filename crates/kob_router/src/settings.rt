@@ -1,0 +1,57 @@
+//! How rows are routed, as it is set and as it is kept.
+
+ghost use Rattle.std.specs.Prelude.{◌≡◌, [], codes, IfOk};
+ghost use Rattle.kob_router.specs.declared.settings.RouteBy.TheVariants.{AggregateType};
+
+use crate::placement::Placed;
+use kob_names::{Items, Text};
+use std::alloc::{AllocError, Global};
+
+/// The column by which rows are routed: Debezium's `route.by.field`.
+#[derive(Clone, Copy, Debug, PartialEq, Eq)]
+pub enum RouteBy {
+    /// `aggregatetype`, the default.
+    AggregateType,
+    /// `aggregateid`.
+    AggregateId,
+}
+
+/// How rows are routed, as it is set.
+#[derive(Debug, Drop)]
+pub struct RouteSettings {
+    /// Debezium's `route.by.field`.
+    pub by: RouteBy,
+    /// Debezium's `route.topic.replacement`: the topic's name, in which each `${routedByValue}`
+    /// stands for the value of the column `by`.
+    pub replacement: Text,
+    /// Debezium's `table.fields.additional.placement`: nothing, or up to 16 entries with commas
+    /// between them, each `column:header` or `column:header:alias`. A column is `aggregatetype`,
+    /// `aggregateid` or `type`; an alias has 1 to 255 bytes.
+    pub placement: Text,
+}
+
+impl RouteSettings {
+    /// Debezium's defaults: rows go by their aggregate's type to the topic
+    /// `outbox.event.${routedByValue}`, and no column is placed in a header. The error is want of
+    /// memory.
+    pub fn by_default(alloc: Global) -> Result<RouteSettings, AllocError>
+        ensures by { IfOk result (λ settings. settings.by ≡ AggregateType) }
+        ensures replacement { IfOk result (λ settings.
+            settings.replacement ≡ codes "outbox.event.${routedByValue}") }
+        ensures placement { IfOk result (λ settings. settings.placement ≡ []) }
+    {
+        Ok(RouteSettings {
+            by: RouteBy::AggregateType,
+            replacement: Text::copied(alloc, "outbox.event.${routedByValue}")?,
+            placement: Text::copied(alloc, "")?,
+        })
+    }
+}
+
+/// How rows are routed, once it is read.
+#[derive(Debug, Drop)]
+pub struct Routing {
+    pub by: RouteBy,
+    pub template: Text,
+    pub placement: Items<Placed>,
+}

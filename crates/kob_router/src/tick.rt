@@ -1,0 +1,38 @@
+//! What one step of a router answers.
+
+use kob_names::{Items, Verdict};
+use kob_rights::{Code, Reason};
+
+/// Why a step stopped. The row in hand, if there is one, stays in hand, and the mark stays.
+#[derive(Debug, Drop)]
+pub enum StopReason {
+    /// The broker denied a right, with these verdicts.
+    Denied {
+        code: Code,
+        verdicts: Items<Verdict>,
+    },
+    /// The broker refused the request.
+    Refused {
+        code: Code,
+        reason: Reason,
+    },
+    /// The route makes no topic's name of the first row after the mark.
+    BadTopic,
+    /// Memory was refused: nothing was sent, or what was sent is done and the mark could not be
+    /// moved.
+    Memory,
+    /// What was sent is done, and the database refused to move the mark.
+    Store,
+}
+
+/// What one step of a router did.
+#[derive(Debug, Drop)]
+pub enum Tick {
+    /// The broker has the row, and the mark moved to this number.
+    Moved(u64),
+    /// No row waits.
+    Idle,
+    /// The last call was lost: the next step makes the same call again.
+    Repeat,
+    Stopped(StopReason),
+}

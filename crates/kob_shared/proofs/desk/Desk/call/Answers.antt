@@ -1,0 +1,18 @@
+use Rattle.std.proofs.Common.{◌≡◌, ◌++◌, [], ◌∷◌, arith, length-append, ap, ◌∙◌}
+use Rattle.kob_shared.proofs.Rising.{rises-push}
+use Rattle.kob_shared.proofs.desk.Desk.call.Goals as goal
+
+pub invariant_of-self-2 : goal.invariant_of-self-2
+invariant_of-self-2 g c =
+    let was = c.self.invariant in
+    let old = c.self.inside in
+    let event = c.in_ok-noted.noted in
+    let receipt = c.in-Ok.receipt in
+    let served = c.in-Ok.ensures.ok in
+    let events : c.push_reserved.new.self.items ≡ old.events.items ++ event ∷ [] =
+    c.push_reserved.ensures.items ∙ ap (λ es. es ++ event ∷ []) c.make_room.ensures.events in
+    let told : c.push_reserved-2.new.self.items ≡ old.receipts.items ++ receipt ∷ [] =
+    c.push_reserved-2.ensures.items ∙ ap (λ rs. rs ++ receipt ∷ []) c.make_room.ensures.receipts in (
+      rw (events, told) (omega (arith, length-append old.events.items (event ∷ []), length-append old.receipts.items (receipt ∷ []), was.0)),
+      rw (told, ap (λ s. s.seen) served.1) (rises-push 0 old.receipts.items old.session.seen receipt was.1 served.0),
+    )

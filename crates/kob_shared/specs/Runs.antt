@@ -1,0 +1,72 @@
+-- What the workers of a fleet left.
+use Rattle.std.specs.Prelude.{◌≡◌, ◌≢◌, ◌⊎◌, ℕ, ◌+◌, ◌≤◌, List, ◌∷◌, length, map, take, Result, Ok, Err, Some, slice_get}
+use Rattle.kob_rights.specs.declared.event.Event.{Event}
+use Rattle.kob_names.specs.declared.settings.Settings.{Settings}
+use Rattle.kob_shared.specs.declared.compare.Difference.{Difference}
+use Rattle.kob_shared.specs.declared.faults.CallFault.{CallFault}
+use Rattle.kob_shared.specs.declared.faults.CallFault.TheVariants as calls
+use Rattle.kob_shared.specs.declared.fleet_fault.FleetFault.{FleetFault}
+use Rattle.kob_shared.specs.declared.fleet_fault.FleetFault.TheVariants as faults
+use Rattle.kob_shared.specs.declared.fleet_stop.FleetStop.{FleetStop}
+use Rattle.kob_shared.specs.declared.fleet_stop.FleetStop.TheVariants.{NotBegun, Memory, Stale, Full}
+use Rattle.kob_shared.specs.declared.journal.Receipt.{Receipt}
+use Rattle.kob_shared.specs.declared.work.Done.{Done}
+use Rattle.kob_shared.specs.Fleets.{IsAnswered, claims_of, DifferAt, IsKept}
+use Rattle.kob_shared.specs.Journals.{Record}
+use Rattle.kob_shared.specs.Noted.{Noted}
+
+-- the notes of all workers, worker 0's first
+abbrev pub notes_of : {E : Type 0} → Noted → List (Done E) → List Noted
+notes_of {E} first done = first ∷ map (λ (d : Done E). d.notes) done
+
+abbrev pub events_in : List Noted → List (List Event)
+events_in notes = map (λ (n : Noted). n.events) notes
+
+abbrev pub told_in : List Noted → List (List Receipt)
+told_in notes = map (λ (n : Noted). n.told) notes
+
+-- the journal is what the workers noted
+abbrev pub IsAsNoted : List Noted → Record → Type 0
+IsAsNoted notes found = IsKept (events_in notes) (told_in notes) found.journal
+
+-- the journal differs at the place from what the worker noted; or, for worker 0, another opening was stored
+abbrev pub IsTear : Settings → List Noted → Record → Difference → Type 0
+IsTear opening notes found d =
+    DifferAt d.worker found.journal (claims_of (events_in notes) (told_in notes) d.worker) d.place ⊎ ((d.worker ≡ 0) × (found.opening ≢ opening))
+
+-- the transcript has the receipts of the notes, one for each event, at rising places
+abbrev pub IsTaken : Noted → List Receipt → Type 0
+IsTaken noted told = (told ≡ noted.told) × IsAnswered (length noted.events) told
+
+-- what a worker's fault is for its fleet
+abbrev pub as_of_worker : ℕ → CallFault → FleetStop
+as_of_worker worker calls.Memory = Memory
+as_of_worker worker (calls.Stale length) = Stale worker length
+as_of_worker worker calls.JournalFull = Full worker
+
+-- the worker is one of worker 0 and so many more, and worker 0 is not stale
+abbrev pub IsNamedWithin : ℕ → FleetStop → Type 0
+IsNamedWithin count (Stale worker length) = (1 ≤ worker) × (worker ≤ count)
+IsNamedWithin count (Full worker) = worker ≤ count
+IsNamedWithin count stop = Unit {0}
+
+-- the result at this place is this fault, and all before it are no faults
+pub record IsFirstFault {T : Type 0} (results : List (Result T CallFault)) (k : ℕ) (fault : CallFault) : Type 0 where
+  pub told : List T
+  pub before : take k results ≡ map Ok told
+  pub here : slice_get results k ≡ Some (Err fault)
+
+-- the worker that is named is the first whose result is a fault, and it is that fault. Workers count from 1
+abbrev pub NamesFirstFault : {T : Type 0} → List (Result T CallFault) → FleetStop → Type 0
+NamesFirstFault results (Stale worker length) = (k : ℕ) × (worker ≡ k + 1) × IsFirstFault results k (calls.Stale length)
+NamesFirstFault results (Full worker) = (k : ℕ) × (worker ≡ k + 1) × IsFirstFault results k calls.JournalFull
+NamesFirstFault results stop = Unit {0}
+
+abbrev pub as_fault : FleetStop → FleetFault
+as_fault NotBegun = faults.NotBegun
+as_fault Memory = faults.Memory
+as_fault (Stale worker length) = faults.Stale worker length
+as_fault (Full worker) = faults.Full worker
+
+abbrev pub IsAsFault : FleetStop → FleetFault → Type 0
+IsAsFault stop fault = fault ≡ as_fault stop

@@ -1,0 +1,114 @@
+//! Sessions that note what they are told.
+
+ghost use Rattle.std.specs.Prelude.{◌≡◌, ◌<◌, ◌^◌, length, vec_len, vec_capacity, IfErr, OnOk, OnErr};
+ghost use Rattle.kob_shared.specs.Noted.{IsHeard, nothing};
+ghost use Rattle.kob_shared.specs.Sessions.{IsStaleOnlyBelow};
+
+use crate::faults::CallFault;
+use crate::journal::Receipt;
+use crate::notes::Notes;
+use crate::session::Session;
+use kob_names::PlainValue;
+use kob_rights::{Event, Request};
+use std::alloc::{AllocError, Global};
+use std::marker::Model;
+use std::sync::Wait;
+
+/// A session that notes each event that was served, and its receipt.
+#[derive(Drop)]
+pub struct Desk<'a> {
+    session: Session<'a>,
+    events: Vec<Event>,
+    receipts: Vec<Receipt>,
+}
+
+impl<'a> Model for Desk<'a> {
+    ghost use Rattle.std.specs.Prelude.{◌≡◌, length};
+    ghost use Rattle.kob_shared.specs.Fleets.{RisesWithin};
+    ghost use Rattle.kob_shared.specs.Noted.{AtDesk};
+
+    ghost Value = { AtDesk };
+
+    ghost view = { λ d. record { seat = d.session; noted = record { events = d.events.items; told = d.receipts.items } } };
+
+    ghost invariant = { λ d. (length d.receipts.items ≡ length d.events.items) × RisesWithin 0 d.receipts.items d.session.seen };
+}
+
+impl<'a> Desk<'a> {
+    /// A desk for the session that has noted nothing yet; no memory is taken.
+    pub fn open(alloc: Global, session: Session<'a>) -> Desk<'a>
+        ensures { result ≡ record { seat = session.entry; noted = nothing } }
+    {
+        Desk {
+            session,
+            events: Vec::new(alloc),
+            receipts: Vec::new(alloc),
+        }
+    }
+
+    /// How many events were noted.
+    pub fn len(&self) -> usize
+        ensures events { result ≡ length self.now.noted.events }
+        ensures told { result ≡ length self.now.noted.told }
+        ensures small { result < 2 ^ 63 }
+    {
+        self.receipts.len()
+    }
+
+    /// The receipts, in order.
+    pub fn receipts(&self) -> &[Receipt]
+        ensures { result.now ≡ self.now.noted.told }
+    {
+        self.receipts.as_slice()
+    }
+
+    /// Calls as a session does, and notes the event and the receipt. Room for the note is made before the call, so
+    /// that what is served is noted.
+    pub fn call<R: Wait>(
+        &mut self,
+        rt: &R,
+        alloc: Global,
+        request: Request,
+    ) -> Result<(), CallFault>
+        ensures ok { OnOk result (IsHeard self.old self.new request) }
+        ensures err { OnErr result (self.new ≡ self.old) }
+        ensures stale { IfErr result (IsStaleOnlyBelow self.old.seat.seen) }
+    {
+        make_room(&mut self.events, &mut self.receipts)?;
+        let event = self.session.event(alloc, request)?;
+        let noted = event.copy(alloc)?;
+        let receipt = match self.session.send(rt, alloc, event) {
+            Ok(receipt) => receipt,
+            Err(fault) => {
+                drop(noted);
+                return Err(fault);
+            }
+        };
+        self.events.push_reserved(noted);
+        self.receipts.push_reserved(receipt);
+        Ok(())
+    }
+
+    /// What was noted; no memory is taken.
+    pub fn close(self) -> Notes
+        ensures { result ≡ self.entry.noted }
+    {
+        let Desk {
+            session: _,
+            events,
+            receipts,
+        } = self;
+        Notes::new(events, receipts)
+    }
+}
+
+/// Makes room for one more event and its receipt. The error is want of memory.
+fn make_room(events: &mut Vec<Event>, receipts: &mut Vec<Receipt>) -> Result<(), AllocError>
+    ensures events { events.new.items ≡ events.old.items }
+    ensures receipts { receipts.new.items ≡ receipts.old.items }
+    ensures room { OnOk result (vec_len events.new < vec_capacity events.new) }
+    ensures also { OnOk result (vec_len receipts.new < vec_capacity receipts.new) }
+{
+    events.reserve(1)?;
+    receipts.reserve(1)
+}

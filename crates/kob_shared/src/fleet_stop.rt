@@ -1,0 +1,36 @@
+//! Why fleets stop before the journal is compared.
+
+use std::alloc::{AllocError, AllocFailed};
+
+/// Why a fleet did not come to the comparison of its journal.
+#[derive(Clone, Copy, Debug, PartialEq, Eq)]
+pub enum FleetStop {
+    /// A thread could not be started.
+    NotBegun,
+    Memory,
+    Stale { worker: usize, length: usize },
+    /// A session found the journal full.
+    Full { worker: usize },
+}
+
+impl From<AllocError> for FleetStop {
+    ghost use Rattle.std.specs.Prelude.{◌≡◌};
+    ghost use Rattle.kob_shared.specs.declared.fleet_stop.FleetStop.TheVariants.{Memory};
+
+    ghost from_gives = { λ _ fault. fault ≡ Memory };
+
+    fn from(_refused: AllocError) -> FleetStop {
+        FleetStop::Memory
+    }
+}
+
+impl<T: Drop> From<AllocFailed<T>> for FleetStop {
+    ghost use Rattle.std.specs.Prelude.{◌≡◌};
+    ghost use Rattle.kob_shared.specs.declared.fleet_stop.FleetStop.TheVariants.{Memory};
+
+    ghost from_gives = { λ _ fault. fault ≡ Memory };
+
+    fn from(_refused: AllocFailed<T>) -> FleetStop {
+        FleetStop::Memory
+    }
+}

@@ -1,0 +1,153 @@
+//! Fleets of scripts.
+
+ghost use Rattle.std.specs.Prelude.{◌≡◌, ◌≤◌, ◌<◌, ◌↔◌, vec_len, IfOk, IfErr, IsTrue, IsErrOf};
+ghost use Rattle.std.specs.List.{AllZip};
+ghost use Rattle.kob_broker.specs.Change.{state_of};
+ghost use Rattle.kob_broker.specs.State.{settings_of};
+ghost use Rattle.kob_shared.specs.Openings.{IsFresh, opened_by};
+ghost use Rattle.kob_shared.specs.Journals.{IsSound};
+ghost use Rattle.kob_shared.specs.Fleets.{Follows, asked_of_all, entries_asked, events_of_script, IsFleet};
+ghost use Rattle.kob_shared.specs.Tears.{IsTornOnlyWhere, IsLater, NamesWorkerWithin};
+ghost use Rattle.kob_shared.specs.Runs.{IsTaken, notes_of};
+
+use crate::fleet::{Ran, find_tear, run_fleet};
+use crate::fleet_fault::FleetFault;
+use crate::journal::Journal;
+use crate::notes::Notes;
+use crate::recorded::MOST_ENTRIES;
+use crate::script::{Script, Transcript};
+use crate::work::{Done, Gate};
+use kob_broker::{Broker, Settings};
+use kob_rights::Event;
+use std::alloc::{AllocError, Global};
+use std::sync::Wait;
+use std::thread::Threads;
+
+/// More workers are refused.
+pub const MOST_WORKERS: usize = 64;
+
+/// What a fleet leaves: the broker, the journal, and what each worker was told, worker 0 first.
+#[derive(Drop)]
+pub struct FleetEnd {
+    pub broker: Broker,
+    pub journal: Journal,
+    pub transcripts: Vec<Transcript>,
+}
+
+/// Whether the events of all workers fit a journal.
+fn has_room(first: &[Event], scripts: &[Script]) -> bool
+    ensures { IsTrue result ↔ (entries_asked first.now scripts.now ≤ 1000000) }
+{
+    if first.len() > MOST_ENTRIES {
+        return false;
+    }
+    let mut room = MOST_ENTRIES - first.len();
+    for script in scripts {
+        let requests = script.requests.len();
+        if requests > room {
+            return false;
+        }
+        room -= requests;
+    }
+    true
+}
+
+/// What each worker was told, worker 0 first. The error is want of memory.
+fn transcripts_of(
+    alloc: Global,
+    first: Notes,
+    done: Vec<Done<()>>,
+) -> Result<Vec<Transcript>, AllocError>
+    ensures { IfOk result (λ v. AllZip IsTaken (notes_of first done.items) v.items) }
+{
+    let mut transcripts = Vec::new(alloc);
+    transcripts.push(first.into_transcript())?;
+    for one in done {
+        transcripts.push(one.notes.into_transcript())?;
+    }
+    Ok(transcripts)
+}
+
+/// Holds the journal to what the workers were told.
+fn end_of(
+    alloc: Global,
+    opening: &Settings,
+    ran: Ran<()>,
+    scripts: &[Script],
+) -> Result<FleetEnd, FleetFault>
+    requires sound { IsSound ran.found }
+    requires first { Follows 0 ran.first.told }
+    requires each { AllZip (λ s d. d.notes.events ≡ events_of_script s) scripts.now ran.done.items }
+    ensures ok { IfOk result (λ end. IsFleet (opened_by opening.now) ran.first.events scripts.now end.journal (state_of end.broker) end.transcripts.items) }
+    ensures torn { IfErr result (IsTornOnlyWhere opening.now (asked_of_all ran.first.events scripts.now)) }
+    ensures later { IfErr result IsLater }
+    ensures named { IfErr result (NamesWorkerWithin 0) }
+{
+    let difference = find_tear(opening, &ran);
+    let Ran {
+        found,
+        first: noted,
+        done,
+    } = ran;
+    let transcripts = transcripts_of(alloc, noted, done)?;
+    if let Some(difference) = difference {
+        return Err(FleetFault::Torn {
+            worker: difference.worker,
+            place: difference.place,
+            found,
+            transcripts,
+        });
+    }
+    let (broker, journal) = found.into_parts();
+    Ok(FleetEnd {
+        broker,
+        journal,
+        transcripts,
+    })
+}
+
+/// Serves the first events as worker 0, and then runs each script in a thread of its own, numbered from 1.
+pub fn run_scripts<R: Threads + Wait + Sync, G: Gate + Sync>(
+    rt: &R,
+    alloc: Global,
+    broker: Broker,
+    first: Vec<Event>,
+    scripts: Vec<Script>,
+    gate: &G,
+) -> Result<FleetEnd, FleetFault>
+    requires { IsFresh broker }
+    ensures ok { IfOk result (λ end. IsFleet (state_of broker) first.items scripts.items end.journal (state_of end.broker) end.transcripts.items) }
+    ensures workers { IsErrOf result FleetFault.TooManyWorkers ↔ (64 < vec_len scripts) }
+    ensures full { IsErrOf result FleetFault.JournalFull ↔ ((vec_len scripts ≤ 64) × (1000000 < entries_asked first.items scripts.items)) }
+    ensures torn { IfErr result (IsTornOnlyWhere (settings_of (state_of broker)) (asked_of_all first.items scripts.items)) }
+    ensures named { IfErr result (NamesWorkerWithin (vec_len scripts)) }
+{
+    if scripts.len() > MOST_WORKERS {
+        return Err(FleetFault::TooManyWorkers);
+    }
+    if !has_room(first.as_slice(), scripts.as_slice()) {
+        return Err(FleetFault::JournalFull);
+    }
+    run_all(rt, alloc, broker, first, scripts, gate)
+}
+
+#[tactic(auto, using(crate::proofs::FaultCases::later_stopped))]
+fn run_all<R: Threads + Wait + Sync, G: Gate + Sync>(
+    rt: &R,
+    alloc: Global,
+    broker: Broker,
+    first: Vec<Event>,
+    scripts: Vec<Script>,
+    gate: &G,
+) -> Result<FleetEnd, FleetFault>
+    requires fresh { IsFresh broker }
+    requires few { vec_len scripts ≤ 64 }
+    ensures ok { IfOk result (λ end. IsFleet (state_of broker) first.items scripts.items end.journal (state_of end.broker) end.transcripts.items) }
+    ensures torn { IfErr result (IsTornOnlyWhere (settings_of (state_of broker)) (asked_of_all first.items scripts.items)) }
+    ensures later { IfErr result IsLater }
+    ensures named { IfErr result (NamesWorkerWithin (vec_len scripts)) }
+{
+    let opening = broker.opening(alloc)?;
+    let ran = run_fleet(rt, alloc, broker, first, scripts.as_slice(), gate)?;
+    end_of(alloc, &opening, ran, scripts.as_slice())
+}

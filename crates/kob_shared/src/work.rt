@@ -1,0 +1,46 @@
+//! What the workers of a fleet do.
+
+ghost use Rattle.std.specs.Prelude.{IfOk};
+
+use crate::faults::CallFault;
+use crate::notes::Notes;
+use std::alloc::Global;
+use std::sync::Wait;
+
+/// What workers ask before they go on.
+pub trait Gate {
+    /// A worker calls it before its k-th request, from 1, and once more after its last.
+    fn before(&self, worker: usize, k: usize);
+}
+
+/// What a worker leaves: what it noted, and what else its kind leaves.
+#[derive(Drop)]
+pub struct Done<E> {
+    pub notes: Notes,
+    pub end: E,
+}
+
+/// What a worker of a fleet does in a thread of its own.
+pub trait Work {
+    ghost use Rattle.kob_shared.specs.Noted.{Noted};
+
+    /// What all workers share.
+    type Shared;
+
+    /// What it leaves besides its notes, a fault of its own among it.
+    type End;
+
+    // what it noted and what it leaves are as it says
+    ghost keeps: { Self → Noted → Self.End → Type 0 };
+
+    /// Does it as this worker, over what all workers share. It asks the gate before each request.
+    fn work<R: Wait, G: Gate>(
+        &self,
+        rt: &R,
+        alloc: Global,
+        worker: usize,
+        shared: &Self::Shared,
+        gate: &G,
+    ) -> Result<Done<Self::End>, CallFault>
+        ensures { IfOk result (λ d. keeps self.now d.notes d.end) };
+}

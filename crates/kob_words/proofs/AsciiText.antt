@@ -1,0 +1,95 @@
+-- What is printed of a binding is ASCII.
+use Rattle.std.proofs.Common.{◌≡◌, ◌+◌, ◌<◌, ℕ, true, List, [], ◌∷◌, ◌++◌, length, get_or, take, codes, refl, append-nil, arith, Result, Ok, Err, OnOk}
+use Rattle.std.specs.Char.{is_ascii}
+use Rattle.std.specs.Fmt.{decimal}
+use Rattle.std.specs.List.{list_all}
+use Rattle.std.specs.Str.{IsAscii}
+use Rattle.std.proofs.lemmas.Bool.Decides.{nat_tests}
+use Rattle.std.proofs.lemmas.Grind.{flat_map-append}
+use Rattle.std.proofs.lemmas.List.{take_more}
+use Rattle.std.proofs.lemmas.Str.{IsAscii-append}
+use Rattle.std.proofs.lemmas.Str.Ascii.{IsAscii-nil, IsAscii-cons}
+use Rattle.kob_names.specs.Binding.{Binding}
+use Rattle.kob_names.specs.declared.kinds.Operation.{Operation}
+use Rattle.kob_names.specs.declared.kinds.Operation.TheVariants.{All, Read, Write, Create, Delete, Alter, Describe, ClusterAction, DescribeConfigs, AlterConfigs, IdempotentWrite}
+use Rattle.kob_names.specs.declared.kinds.PatternKind.{PatternKind}
+use Rattle.kob_names.specs.declared.kinds.PatternKind.TheVariants.{Literal, Prefixed}
+use Rattle.kob_names.specs.declared.kinds.Permission.{Permission}
+use Rattle.kob_names.specs.declared.kinds.Permission.TheVariants.{Allow, Deny}
+use Rattle.kob_names.specs.declared.kinds.ResourceKind.{ResourceKind}
+use Rattle.kob_names.specs.declared.kinds.ResourceKind.TheVariants.{Topic, Group, Cluster, TransactionalId}
+use Rattle.kob_words.specs.PrintedBinding.{grant_text, target_text, binding_text}
+use Rattle.kob_words.specs.Operation.{operation_name}
+use Rattle.kob_words.specs.Pattern.{pattern_name}
+use Rattle.kob_words.specs.Permission.{permission_name}
+use Rattle.kob_words.specs.Resource.{resource_name}
+use Rattle.kob_words.specs.PrintedText.{byte_text, bytes_text}
+
+-- a literal text passes the test by computing
+literal : (text : List ℕ) → list_all is_ascii text ≡ true → IsAscii text
+literal [] passes = IsAscii-nil
+literal (b ∷ bs) passes = IsAscii-cons b bs (grind (arith, nat_tests)) (literal bs (grind (arith, nat_tests)))
+
+permission-ascii : (p : Permission) → IsAscii (permission_name p)
+permission-ascii Allow = literal (codes "ALLOW") refl
+permission-ascii Deny = literal (codes "DENY") refl
+
+operation-ascii : (o : Operation) → IsAscii (operation_name o)
+operation-ascii All = literal (codes "All") refl
+operation-ascii Read = literal (codes "Read") refl
+operation-ascii Write = literal (codes "Write") refl
+operation-ascii Create = literal (codes "Create") refl
+operation-ascii Delete = literal (codes "Delete") refl
+operation-ascii Alter = literal (codes "Alter") refl
+operation-ascii Describe = literal (codes "Describe") refl
+operation-ascii ClusterAction = literal (codes "ClusterAction") refl
+operation-ascii DescribeConfigs = literal (codes "DescribeConfigs") refl
+operation-ascii AlterConfigs = literal (codes "AlterConfigs") refl
+operation-ascii IdempotentWrite = literal (codes "IdempotentWrite") refl
+
+resource-ascii : (r : ResourceKind) → IsAscii (resource_name r)
+resource-ascii Topic = literal (codes "Topic") refl
+resource-ascii Group = literal (codes "Group") refl
+resource-ascii Cluster = literal (codes "Cluster") refl
+resource-ascii TransactionalId = literal (codes "TransactionalId") refl
+
+pattern-ascii : (k : PatternKind) → IsAscii (pattern_name k)
+pattern-ascii Literal = literal (codes "LITERAL") refl
+pattern-ascii Prefixed = literal (codes "PREFIXED") refl
+
+-- a text, and another one after a space
+spaced : (one two : List ℕ) → IsAscii one → IsAscii two → IsAscii (one ++ codes " " ++ two)
+spaced one two first second = IsAscii-append (one ++ codes " ") two (IsAscii-append one (codes " ") first (literal (codes " ") refl)) second
+
+pub grant-ascii : (b : Binding) → IsAscii (bytes_text b.principal) → IsAscii (bytes_text b.host) → IsAscii (grant_text b)
+grant-ascii b principal host =
+    spaced (permission_name b.permission ++ codes " " ++ bytes_text b.principal ++ codes " " ++ bytes_text b.host) (operation_name b.operation)
+    (spaced (permission_name b.permission ++ codes " " ++ bytes_text b.principal) (bytes_text b.host)
+    (spaced (permission_name b.permission) (bytes_text b.principal) (permission-ascii b.permission) principal) host)
+    (operation-ascii b.operation)
+
+pub target-ascii : (b : Binding) → IsAscii (bytes_text b.pattern.name) → IsAscii (target_text b)
+target-ascii b name =
+    spaced (resource_name b.resource ++ codes " " ++ pattern_name b.pattern.kind) (bytes_text b.pattern.name)
+    (spaced (resource_name b.resource) (pattern_name b.pattern.kind) (resource-ascii b.resource) (pattern-ascii b.pattern.kind)) name
+
+pub binding-ascii : (serial : ℕ) (b : Binding) → IsAscii (decimal serial) → IsAscii (grant_text b) → IsAscii (target_text b) → IsAscii (binding_text serial b)
+binding-ascii serial b number grant target =
+    spaced (codes "binding " ++ decimal serial ++ codes " " ++ grant_text b) (target_text b)
+    (spaced (codes "binding " ++ decimal serial) (grant_text b) (IsAscii-append (codes "binding ") (decimal serial) (literal (codes "binding ") refl) number) grant)
+    target
+
+-- one byte more
+pub bytes-ascii-more : (bytes : List ℕ) (i d : ℕ) → i < length bytes → IsAscii (bytes_text (take i bytes)) → IsAscii (byte_text (get_or bytes i d)) → IsAscii (bytes_text (take (i + 1) bytes))
+bytes-ascii-more bytes i d below before more =
+    rw (take_more bytes i d below, flat_map-append byte_text (take i bytes) (get_or bytes i d ∷ []), append-nil (byte_text (get_or bytes i d)))
+    (IsAscii-append (bytes_text (take i bytes)) (byte_text (get_or bytes i d)) before more)
+
+-- a line
+pub line-ascii : (text : List ℕ) → IsAscii text → IsAscii (text ++ codes "\n")
+line-ascii text is = IsAscii-append text (codes "\n") is (literal (codes "\n") refl)
+
+-- a fact of what was done, from another one
+pub on_ok : {A E : Type 0} (r : Result A E) (P Q : Type 0) → OnOk r P → (P → Q) → OnOk r Q
+on_ok (Ok x) P Q holds follows = follows holds
+on_ok (Err e) P Q holds follows = holds

@@ -1,0 +1,2 @@
+pub mod AsciiText
+pub mod Appending

@@ -1,0 +1,16 @@
+//! The words for what bindings are made of, and how bindings, bytes and numbers are printed.
+#![tactic(auto)]
+
+mod operation;
+mod pattern;
+mod permission;
+mod printed_binding;
+mod printed_text;
+mod resource;
+
+pub use operation::{operation_name, operation_named};
+pub use pattern::{filter_pattern_named, pattern_name, pattern_named};
+pub use permission::{permission_name, permission_named};
+pub use printed_binding::print_binding;
+pub use printed_text::{push_bytes, push_number};
+pub use resource::{resource_name, resource_named};

@@ -1,0 +1,63 @@
+//! How bytes and numbers are printed.
+
+ghost use Rattle.std.specs.Prelude.{◌≡◌, ◌<◌, ◌++◌, OnOk};
+ghost use Rattle.std.specs.Char.{digit_char};
+ghost use Rattle.std.specs.Fmt.{decimal};
+ghost use Rattle.std.specs.Str.{IsAscii};
+ghost use Rattle.kob_words.specs.PrintedText.{is_plain, byte_text, bytes_text};
+
+use std::alloc::{AllocError, Global};
+
+/// Prints bytes: each outside 0x21 to 0x7e, and each `%` and `=`, is `%` and two lower-case hexadecimal digits.
+#[tactic(auto, using(crate::proofs::Appending::appending))]
+pub fn push_bytes(out: &mut Vec<u8>, bytes: &[u8]) -> Result<(), AllocError>
+    ensures text { OnOk result (out.new.items ≡ out.old.items ++ bytes_text bytes.now) }
+    ensures ascii { OnOk result (IsAscii (bytes_text bytes.now)) }
+{
+    for byte in bytes {
+        push_byte(out, *byte)?;
+    }
+    Ok(())
+}
+
+#[tactic(auto, using(crate::proofs::Appending::appending))]
+fn push_byte(out: &mut Vec<u8>, byte: u8) -> Result<(), AllocError>
+    ensures text { OnOk result (out.new.items ≡ out.old.items ++ byte_text byte) }
+    ensures ascii { OnOk result (IsAscii (byte_text byte)) }
+{
+    if is_plain(byte) {
+        out.push(byte)?;
+        return Ok(());
+    }
+    out.push(b'%')?;
+    out.push(hex_digit(byte / 16))?;
+    out.push(hex_digit(byte % 16))?;
+    Ok(())
+}
+
+fn is_plain(byte: u8) -> bool
+    ensures { result ≡ is_plain byte }
+{
+    0x21 <= byte && byte <= 0x7e && byte != b'%' && byte != b'='
+}
+
+fn hex_digit(digit: u8) -> u8
+    requires { digit < 16 }
+    ensures { result ≡ digit_char digit }
+{
+    if digit < 10 {
+        b'0' + digit
+    } else {
+        b'a' + (digit - 10)
+    }
+}
+
+/// Prints a number in decimal digits.
+#[tactic(auto, using(crate::proofs::Appending::appending))]
+pub fn push_number(alloc: Global, out: &mut Vec<u8>, number: u64) -> Result<(), AllocError>
+    ensures text { OnOk result (out.new.items ≡ out.old.items ++ decimal number) }
+    ensures ascii { OnOk result (IsAscii (decimal number)) }
+{
+    let digits = number.to_string(alloc)?;
+    out.extend_from_slice(digits.as_bytes())
+}
