@@ -1,4 +1,5 @@
 pub mod AddLemmas
+pub mod Blocks
 pub mod CellLemmas
 pub mod ChangeLemmas
 pub mod Ends
@@ -8,6 +9,7 @@ pub mod HeldLaws
 pub mod LevelsLemmas
 pub mod ListLemmas
 pub mod MapLemmas
+pub mod Moves
 pub mod PlaceLemmas
 pub mod Read
 pub mod SiblingLemmas

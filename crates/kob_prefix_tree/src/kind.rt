@@ -1,3 +1,4 @@
+//! The two ways in which a key stands for names.
 /// How a key is meant, as the pattern types of KIP-290.
 #[derive(Clone, Copy, PartialEq, Eq, Debug, Drop)]
 pub enum PatternKind {
