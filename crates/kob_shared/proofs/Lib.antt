@@ -18,3 +18,4 @@ pub mod NamedWorkers
 pub mod Noted
 pub mod FleetEnds
 pub mod Decided
+pub mod Told

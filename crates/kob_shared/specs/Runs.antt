@@ -1,5 +1,5 @@
 -- What the workers of a fleet left.
-use Rattle.std.specs.Prelude.{◌≡◌, ◌≢◌, ◌⊎◌, ℕ, ◌+◌, ◌≤◌, List, ◌∷◌, length, map, take, Result, Ok, Err, Some, slice_get}
+use Rattle.std.specs.Prelude.{◌≡◌, ◌≢◌, ◌⊎◌, ℕ, ◌+◌, ◌<◌, ◌≤◌, List, ◌∷◌, length, map, take, Result, Ok, Err, Some, slice_get}
 use Rattle.kob_rights.specs.declared.event.Event.{Event}
 use Rattle.kob_names.specs.declared.settings.Settings.{Settings}
 use Rattle.kob_shared.specs.declared.compare.Difference.{Difference}
@@ -11,7 +11,8 @@ use Rattle.kob_shared.specs.declared.fleet_stop.FleetStop.{FleetStop}
 use Rattle.kob_shared.specs.declared.fleet_stop.FleetStop.TheVariants.{NotBegun, Memory, Stale, Full}
 use Rattle.kob_shared.specs.declared.journal.Receipt.{Receipt}
 use Rattle.kob_shared.specs.declared.work.Done.{Done}
-use Rattle.kob_shared.specs.Fleets.{IsAnswered, claims_of, DifferAt, IsKept}
+use Rattle.kob_shared.specs.Fleets.{IsAnswered, claims_of, entries_told, DifferAt, IsKept}
+use Rattle.kob_shared.specs.Limits.{entry_limit}
 use Rattle.kob_shared.specs.Journals.{Record}
 use Rattle.kob_shared.specs.Noted.{Noted}
 
@@ -50,17 +51,35 @@ IsNamedWithin count (Stale worker length) = (1 ≤ worker) × (worker ≤ count)
 IsNamedWithin count (Full worker) = worker ≤ count
 IsNamedWithin count stop = Unit {0}
 
+-- no worker is named
+abbrev pub NamesNoWorker : FleetStop → Type 0
+NamesNoWorker (Stale worker length) = ⊥
+NamesNoWorker (Full worker) = ⊥
+NamesNoWorker stop = Unit {0}
+
+-- worker 0 finds a journal of at most so many entries full only where it has more events
+abbrev pub IsFullOnlyPast : ℕ → ℕ → FleetStop → Type 0
+IsFullOnlyPast limit count (Full worker) = worker ≡ 0 → limit < count
+IsFullOnlyPast limit count stop = Unit {0}
+
+-- the journal has what worker 0 noted and no more, from this opening on, and takes as many entries as a journal may
+pub record HasBegun (settings : Settings) (first : Noted) (found : Record) : Type 0 where
+  pub opening : found.opening ≡ settings
+  pub limit : found.limit ≡ entry_limit
+  pub journal : found.journal ≡ entries_told 0 first.events first.told
+
 -- the result at this place is this fault, and all before it are no faults
 pub record IsFirstFault {T : Type 0} (results : List (Result T CallFault)) (k : ℕ) (fault : CallFault) : Type 0 where
   pub told : List T
   pub before : take k results ≡ map Ok told
   pub here : slice_get results k ≡ Some (Err fault)
 
--- the worker that is named is the first whose result is a fault, and it is that fault. Workers count from 1
+-- the first result that is a fault is this one, and its worker is named. Workers count from 1, and want of memory names none
 abbrev pub NamesFirstFault : {T : Type 0} → List (Result T CallFault) → FleetStop → Type 0
 NamesFirstFault results (Stale worker length) = (k : ℕ) × (worker ≡ k + 1) × IsFirstFault results k (calls.Stale length)
 NamesFirstFault results (Full worker) = (k : ℕ) × (worker ≡ k + 1) × IsFirstFault results k calls.JournalFull
-NamesFirstFault results stop = Unit {0}
+NamesFirstFault results Memory = (k : ℕ) × IsFirstFault results k calls.Memory
+NamesFirstFault results NotBegun = ⊥
 
 abbrev pub as_fault : FleetStop → FleetFault
 as_fault NotBegun = faults.NotBegun

@@ -18,8 +18,8 @@ IsLater TooManyWorkers = ⊥
 IsLater JournalFull = ⊥
 IsLater fault = Unit {0}
 
--- the worker is one of worker 0 and so many more, and worker 0 is not stale
+-- the worker is one of so many, and not worker 0, whose events fit
 abbrev pub NamesWorkerWithin : ℕ → FleetFault → Type 0
 NamesWorkerWithin count (Stale worker length) = (1 ≤ worker) × (worker ≤ count)
-NamesWorkerWithin count (Full worker) = worker ≤ count
+NamesWorkerWithin count (Full worker) = (1 ≤ worker) × (worker ≤ count)
 NamesWorkerWithin count fault = Unit {0}

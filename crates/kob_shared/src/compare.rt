@@ -13,7 +13,9 @@ use kob_rights::Event;
 
 /// The place of the first difference between the journal and what a worker noted.
 fn find_difference(journal: &Journal, worker: usize, notes: &Notes) -> Option<usize>
-    ensures { MatchOption result (mine worker journal.now ≡ claims worker notes.now.events notes.now.told) (DifferAt worker journal.now (claims worker notes.now.events notes.now.told)) }
+    ensures { MatchOption result
+        (mine worker journal.now ≡ claims worker notes.now.events notes.now.told)
+        (DifferAt worker journal.now (claims worker notes.now.events notes.now.told)) }
 {
     walk(journal, worker, notes.events(), notes.receipts())
 }
@@ -21,7 +23,8 @@ fn find_difference(journal: &Journal, worker: usize, notes: &Notes) -> Option<us
 fn walk(journal: &Journal, worker: usize, events: &[Event], told: &[Receipt]) -> Option<usize>
     requires counted { length events.now ≡ length told.now }
     requires rising { IsRising told.now }
-    ensures { MatchOption result (mine worker journal.now ≡ claims worker events.now told.now) (DifferAt worker journal.now (claims worker events.now told.now)) }
+    ensures { MatchOption result (mine worker journal.now ≡ claims worker events.now told.now)
+        (DifferAt worker journal.now (claims worker events.now told.now)) }
 {
     let mut next = 0;
     for place in 0..journal.len() {
@@ -68,9 +71,13 @@ pub struct Difference {
     pub place: usize,
 }
 
-/// The first difference between the journal and what all workers noted: worker 0, and those that are done, from 1 on.
+/// The first difference between the journal and what all workers noted: worker 0, and those that
+/// are done, from 1 on.
 pub(crate) fn compare<E>(journal: &Journal, first: &Notes, done: &[Done<E>]) -> Option<Difference>
-    ensures { MatchOption result (IsKept (events_in (notes_of first.now done.now)) (told_in (notes_of first.now done.now)) journal.now) (λ d. DifferAt d.worker journal.now (claims_of (events_in (notes_of first.now done.now)) (told_in (notes_of first.now done.now)) d.worker) d.place) }
+    ensures { let notes = notes_of first.now done.now in
+        MatchOption result (IsKept (events_in notes) (told_in notes) journal.now)
+        (λ d. DifferAt d.worker journal.now
+        (claims_of (events_in notes) (told_in notes) d.worker) d.place) }
 {
     if let Some(place) = find_difference(journal, 0, first) {
         return Some(Difference { worker: 0, place });
@@ -86,7 +93,10 @@ pub(crate) fn compare<E>(journal: &Journal, first: &Notes, done: &[Done<E>]) -> 
 
 /// An entry of a worker that is not among so many.
 fn find_stranger(journal: &Journal, workers: usize) -> Option<Difference>
-    ensures { MatchOption result (All (λ x. x.worker < workers) journal.now) (λ d. (workers ≤ d.worker) × IfSome (slice_get journal.now d.place) (λ x. x.worker ≡ d.worker) × (d.place < length journal.now)) }
+    ensures { MatchOption result (All (λ x. x.worker < workers) journal.now)
+        (λ d. (workers ≤ d.worker)
+        × IfSome (slice_get journal.now d.place) (λ x. x.worker ≡ d.worker)
+        × (d.place < length journal.now)) }
 {
     for place in 0..journal.len() {
         let entry = journal.at(place);

@@ -29,9 +29,13 @@ impl<'a> Model for Desk<'a> {
 
     ghost Value = { AtDesk };
 
-    ghost view = { λ d. record { seat = d.session; noted = record { events = d.events.items; told = d.receipts.items } } };
+    ghost view = { λ d. record {
+      seat = d.session;
+      noted = record { events = d.events.items; told = d.receipts.items };
+    } };
 
-    ghost invariant = { λ d. (length d.receipts.items ≡ length d.events.items) × RisesWithin 0 d.receipts.items d.session.seen };
+    ghost invariant = { λ d. (length d.receipts.items ≡ length d.events.items)
+        × RisesWithin 0 d.receipts.items d.session.seen };
 }
 
 impl<'a> Desk<'a> {
@@ -62,8 +66,8 @@ impl<'a> Desk<'a> {
         self.receipts.as_slice()
     }
 
-    /// Calls as a session does, and notes the event and the receipt. Room for the note is made before the call, so
-    /// that what is served is noted.
+    /// Calls as a session does, and notes the event and the receipt. Room for the note is made
+    /// before the call, so that what is served is noted.
     pub fn call<R: Wait>(
         &mut self,
         rt: &R,

@@ -1,11 +1,14 @@
 //! Fleets: workers that run at once over one broker.
 
-ghost use Rattle.std.specs.Prelude.{◌≡◌, ◌≤◌, [], length, map, vec_len, IfOk, IfErr, MatchOption, Ok};
+ghost use Rattle.std.specs.Prelude.{◌≡◌, ◌≤◌, [], length, map, vec_capacity, vec_len, IfOk, IfErr, MatchOption, Ok};
 ghost use Rattle.std.specs.List.{AllZip};
+ghost use Rattle.kob_broker.specs.Change.{state_of};
+ghost use Rattle.kob_broker.specs.State.{settings_of};
+ghost use Rattle.kob_shared.specs.Limits.{entry_limit, worker_limit};
 ghost use Rattle.kob_shared.specs.Openings.{IsFresh};
 ghost use Rattle.kob_shared.specs.Journals.{IsSound};
-ghost use Rattle.kob_shared.specs.Fleets.{Follows};
-ghost use Rattle.kob_shared.specs.Runs.{IsAsNoted, IsNamedWithin, IsTear, NamesFirstFault, as_of_worker, notes_of};
+ghost use Rattle.kob_shared.specs.Fleets.{Follows, entries_told};
+ghost use Rattle.kob_shared.specs.Runs.{HasBegun, IsAsNoted, IsFullOnlyPast, IsNamedWithin, IsTear, NamesFirstFault, NamesNoWorker, as_of_worker, notes_of};
 
 use crate::compare::{Difference, compare};
 use crate::faults::{CallFault, ServeFault};
@@ -45,17 +48,20 @@ fn run_workers<R: Threads + Wait + Sync, G: Gate + Sync, W: Work + Sync>(
 where
     W::Shared: Sync,
     W::End: Send + Drop,
-    requires { length works.now ≤ 64 }
-    ensures each { IfOk result (λ v. AllZip (λ w r. IfOk r (λ d. W.keeps w d.notes d.end)) works.now v.items) }
-    ensures named { IfErr result (IsNamedWithin 0) }
+    requires { length works.now ≤ worker_limit }
+    ensures each { IfOk result
+        (λ v. AllZip (λ w r. IfOk r (λ d. W.keeps w d.notes d.end)) works.now v.items) }
+    ensures named { IfErr result NamesNoWorker }
 {
     thread::scope(
         thread::scope_env(),
         rt,
         |scope| -> Result<Vec<Result<Done<W::End>, CallFault>>, FleetStop>
-            requires { length works.now ≤ 64 }
-            ensures each { IfOk result (λ v. AllZip (λ w r. IfOk r (λ d. W.keeps w d.notes d.end)) works.entry.now v.items) }
-            ensures named { IfErr result (IsNamedWithin 0) }
+            requires { length works.now ≤ worker_limit }
+            ensures each { IfOk result
+                (λ v. AllZip (λ w r. IfOk r (λ d. W.keeps w d.notes d.end)) works.entry.now
+                v.items) }
+            ensures named { IfErr result NamesNoWorker }
         {
             let mut handles = Vec::with_capacity(alloc, works.len())?;
             for (i, work) in works.iter().enumerate() {
@@ -74,7 +80,8 @@ where
     )
 }
 
-/// Serves the first events, as worker 0.
+/// Serves the first events, as worker 0, into an empty journal. `Full` comes only where there are
+/// more of them than the journal takes.
 fn serve_first(
     alloc: Global,
     recorded: &mut Recorded,
@@ -82,7 +89,12 @@ fn serve_first(
 ) -> Result<Vec<Receipt>, FleetStop>
     requires { recorded.old.journal ≡ [] }
     ensures told { IfOk result (λ v. (length v.items ≡ length first.now) × Follows 0 v.items) }
+    ensures served { IfOk result
+        (λ v. recorded.new.journal ≡ entries_told 0 first.now v.items) }
+    ensures limit { recorded.new.limit ≡ recorded.old.limit }
+    ensures opening { recorded.new.opening ≡ recorded.old.opening }
     ensures named { IfErr result (IsNamedWithin 0) }
+    ensures full { IfErr result (IsFullOnlyPast recorded.old.limit (length first.now)) }
 {
     let mut told = Vec::new(alloc);
     for event in first {
@@ -98,8 +110,12 @@ fn serve_first(
 /// Opens the journal, and serves the first events.
 fn begin(alloc: Global, broker: Broker, first: Vec<Event>) -> Result<(Recorded, Notes), FleetStop>
     requires { IsFresh broker }
-    ensures told { IfOk result (λ begun. (begun.1.events ≡ first.items) × Follows 0 begun.1.told) }
+    ensures told { IfOk result
+        (λ begun. (begun.1.events ≡ first.items) × Follows 0 begun.1.told) }
+    ensures begun { IfOk result
+        (λ begun. HasBegun (settings_of (state_of broker)) begun.1 begun.0) }
     ensures named { IfErr result (IsNamedWithin 0) }
+    ensures full { IfErr result (IsFullOnlyPast entry_limit (vec_len first)) }
 {
     let mut recorded = Recorded::open(alloc, broker, MOST_ENTRIES)?;
     let told = serve_first(alloc, &mut recorded, first.as_slice())?;
@@ -117,24 +133,27 @@ fn stop_of(worker: usize, fault: CallFault) -> FleetStop
     }
 }
 
-/// What all workers left, from worker 1 on, or the first fault.
-fn gather<T: Drop>(alloc: Global, results: Vec<Result<T, CallFault>>) -> Result<Vec<T>, FleetStop>
-    requires { vec_len results ≤ 64 }
+/// What all workers left, from worker 1 on, or the first fault. It goes into room that was made
+/// before, so `Memory` is the fault of a worker.
+fn gather<T: Drop>(room: Vec<T>, results: Vec<Result<T, CallFault>>) -> Result<Vec<T>, FleetStop>
+    requires empty { room.items ≡ [] }
+    requires room { vec_len results ≤ vec_capacity room }
     ensures all { IfOk result (λ v. map Ok v.items ≡ results.items) }
     ensures named { IfErr result (NamesFirstFault results.items) }
 {
-    let mut done = Vec::with_capacity(alloc, results.len())?;
+    let mut done = room;
     for outcome in results {
         let k = done.len();
         match outcome {
-            Ok(one) => done.push(one)?,
+            Ok(one) => done.push_reserved(one),
             Err(fault) => return Err(stop_of(k + 1, fault)),
         }
     }
     Ok(done)
 }
 
-/// What a fleet leaves: the broker with its journal, what worker 0 noted, and what the others left, from worker 1 on.
+/// What a fleet leaves: the broker with its journal, what worker 0 noted, and what the others left,
+/// from worker 1 on.
 #[derive(Drop)]
 pub struct Ran<E> {
     pub found: Recorded,
@@ -142,8 +161,10 @@ pub struct Ran<E> {
     pub done: Vec<Done<E>>,
 }
 
-/// Serves the first events as worker 0, and then runs each worker in a thread of its own, numbered from 1. The journal
-/// is not compared yet with what was noted: that is for `find_tear`.
+/// Serves the first events as worker 0, and then runs each worker in a thread of its own, numbered
+/// from 1. The journal is not compared yet with what was noted: that is for `find_tear`. `Full`
+/// names worker 0 only where there are more first events than a journal takes. Room for what the
+/// workers leave is made before they run.
 #[tactic(auto, using(crate::proofs::Crossing::shared_sync))]
 pub fn run_fleet<R: Threads + Wait + Sync, G: Gate + Sync, W: Work<Shared = SharedBroker> + Sync>(
     rt: &R,
@@ -156,16 +177,20 @@ pub fn run_fleet<R: Threads + Wait + Sync, G: Gate + Sync, W: Work<Shared = Shar
 where
     W::End: Send + Drop,
     requires fresh { IsFresh broker }
-    requires few { length works.now ≤ 64 }
+    requires few { length works.now ≤ worker_limit }
     ensures sound { IfOk result (λ ran. IsSound ran.found) }
-    ensures first { IfOk result (λ ran. (ran.first.events ≡ first.items) × Follows 0 ran.first.told) }
-    ensures each { IfOk result (λ ran. AllZip (λ w d. W.keeps w d.notes d.end) works.now ran.done.items) }
+    ensures first { IfOk result
+        (λ ran. (ran.first.events ≡ first.items) × Follows 0 ran.first.told) }
+    ensures each { IfOk result
+        (λ ran. AllZip (λ w d. W.keeps w d.notes d.end) works.now ran.done.items) }
     ensures named { IfErr result (IsNamedWithin (length works.now)) }
+    ensures full { IfErr result (IsFullOnlyPast entry_limit (vec_len first)) }
 {
+    let room = Vec::with_capacity(alloc, works.len())?;
     let (recorded, noted) = begin(alloc, broker, first)?;
     let shared = SharedBroker::open(recorded);
     let results = run_workers(rt, alloc, &shared, works, gate)?;
-    let done = gather(alloc, results)?;
+    let done = gather(room, results)?;
     Ok(Ran {
         found: shared.finish(),
         first: noted,
@@ -173,10 +198,13 @@ where
     })
 }
 
-/// The first place where the journal differs from what the workers noted; place 0 of worker 0 also where another
-/// opening was stored. With None the journal is what was noted, from this opening on.
+/// The first place where the journal differs from what the workers noted; place 0 of worker 0 also
+/// where another opening was stored. With None the journal is what was noted, from this opening on.
 pub fn find_tear<E>(opening: &Settings, ran: &Ran<E>) -> Option<Difference>
-    ensures { MatchOption result ((ran.now.found.opening ≡ opening.now) × IsAsNoted (notes_of ran.now.first ran.now.done.items) ran.now.found) (IsTear opening.now (notes_of ran.now.first ran.now.done.items) ran.now.found) }
+    ensures { let notes = notes_of ran.now.first ran.now.done.items in
+        MatchOption result
+        ((ran.now.found.opening ≡ opening.now) × IsAsNoted notes ran.now.found)
+        (IsTear opening.now notes ran.now.found) }
 {
     if !ran.found.opening().same(opening) {
         return Some(Difference {

@@ -7,6 +7,7 @@ ghost use Rattle.kob_broker.specs.State.{settings_of};
 ghost use Rattle.kob_shared.specs.Openings.{IsFresh, opened_by};
 ghost use Rattle.kob_shared.specs.Journals.{IsSound};
 ghost use Rattle.kob_shared.specs.Fleets.{Follows, asked_of_all, entries_asked, events_of_script, IsFleet};
+ghost use Rattle.kob_shared.specs.Limits.{entry_limit, worker_limit};
 ghost use Rattle.kob_shared.specs.Tears.{IsTornOnlyWhere, IsLater, NamesWorkerWithin};
 ghost use Rattle.kob_shared.specs.Runs.{IsTaken, notes_of};
 
@@ -26,6 +27,8 @@ use std::thread::Threads;
 /// More workers are refused.
 pub const MOST_WORKERS: usize = 64;
 
+const _: () = prove!(MOST_WORKERS == 64);
+
 /// What a fleet leaves: the broker, the journal, and what each worker was told, worker 0 first.
 #[derive(Drop)]
 pub struct FleetEnd {
@@ -36,7 +39,7 @@ pub struct FleetEnd {
 
 /// Whether the events of all workers fit a journal.
 fn has_room(first: &[Event], scripts: &[Script]) -> bool
-    ensures { IsTrue result ↔ (entries_asked first.now scripts.now ≤ 1000000) }
+    ensures { IsTrue result ↔ (entries_asked first.now scripts.now ≤ entry_limit) }
 {
     if first.len() > MOST_ENTRIES {
         return false;
@@ -78,8 +81,10 @@ fn end_of(
     requires sound { IsSound ran.found }
     requires first { Follows 0 ran.first.told }
     requires each { AllZip (λ s d. d.notes.events ≡ events_of_script s) scripts.now ran.done.items }
-    ensures ok { IfOk result (λ end. IsFleet (opened_by opening.now) ran.first.events scripts.now end.journal (state_of end.broker) end.transcripts.items) }
-    ensures torn { IfErr result (IsTornOnlyWhere opening.now (asked_of_all ran.first.events scripts.now)) }
+    ensures ok { IfOk result (λ end. IsFleet (opened_by opening.now) ran.first.events scripts.now
+        end.journal (state_of end.broker) end.transcripts.items) }
+    ensures torn { IfErr result
+        (IsTornOnlyWhere opening.now (asked_of_all ran.first.events scripts.now)) }
     ensures later { IfErr result IsLater }
     ensures named { IfErr result (NamesWorkerWithin 0) }
 {
@@ -106,7 +111,8 @@ fn end_of(
     })
 }
 
-/// Serves the first events as worker 0, and then runs each script in a thread of its own, numbered from 1.
+/// Serves the first events as worker 0, and then runs each script in a thread of its own, numbered
+/// from 1.
 pub fn run_scripts<R: Threads + Wait + Sync, G: Gate + Sync>(
     rt: &R,
     alloc: Global,
@@ -116,10 +122,14 @@ pub fn run_scripts<R: Threads + Wait + Sync, G: Gate + Sync>(
     gate: &G,
 ) -> Result<FleetEnd, FleetFault>
     requires { IsFresh broker }
-    ensures ok { IfOk result (λ end. IsFleet (state_of broker) first.items scripts.items end.journal (state_of end.broker) end.transcripts.items) }
-    ensures workers { IsErrOf result FleetFault.TooManyWorkers ↔ (64 < vec_len scripts) }
-    ensures full { IsErrOf result FleetFault.JournalFull ↔ ((vec_len scripts ≤ 64) × (1000000 < entries_asked first.items scripts.items)) }
-    ensures torn { IfErr result (IsTornOnlyWhere (settings_of (state_of broker)) (asked_of_all first.items scripts.items)) }
+    ensures ok { IfOk result (λ end. IsFleet (state_of broker) first.items scripts.items
+        end.journal (state_of end.broker) end.transcripts.items) }
+    ensures workers { IsErrOf result FleetFault.TooManyWorkers
+        ↔ (worker_limit < vec_len scripts) }
+    ensures full { IsErrOf result FleetFault.JournalFull ↔ ((vec_len scripts ≤ worker_limit)
+        × (entry_limit < entries_asked first.items scripts.items)) }
+    ensures torn { IfErr result
+        (IsTornOnlyWhere (settings_of (state_of broker)) (asked_of_all first.items scripts.items)) }
     ensures named { IfErr result (NamesWorkerWithin (vec_len scripts)) }
 {
     if scripts.len() > MOST_WORKERS {
@@ -141,9 +151,12 @@ fn run_all<R: Threads + Wait + Sync, G: Gate + Sync>(
     gate: &G,
 ) -> Result<FleetEnd, FleetFault>
     requires fresh { IsFresh broker }
-    requires few { vec_len scripts ≤ 64 }
-    ensures ok { IfOk result (λ end. IsFleet (state_of broker) first.items scripts.items end.journal (state_of end.broker) end.transcripts.items) }
-    ensures torn { IfErr result (IsTornOnlyWhere (settings_of (state_of broker)) (asked_of_all first.items scripts.items)) }
+    requires few { vec_len scripts ≤ worker_limit }
+    requires fits { entries_asked first.items scripts.items ≤ entry_limit }
+    ensures ok { IfOk result (λ end. IsFleet (state_of broker) first.items scripts.items
+        end.journal (state_of end.broker) end.transcripts.items) }
+    ensures torn { IfErr result
+        (IsTornOnlyWhere (settings_of (state_of broker)) (asked_of_all first.items scripts.items)) }
     ensures later { IfErr result IsLater }
     ensures named { IfErr result (NamesWorkerWithin (vec_len scripts)) }
 {

@@ -4,6 +4,7 @@ ghost use Rattle.std.specs.Prelude.{◌≡◌, ◌+◌, ◌<◌, ◌≤◌, IfOk
 ghost use Rattle.kob_rights.specs.Offsets.{OffsetsWithin};
 ghost use Rattle.kob_rights.specs.Bodies.{Fits};
 ghost use Rattle.kob_shared.specs.Journals.{IsSound};
+ghost use Rattle.kob_shared.specs.Limits.{entry_limit};
 ghost use Rattle.kob_shared.specs.Sessions.{Seat, event_by, IsServed, IsStaleOnlyBelow};
 
 use crate::faults::CallFault;
@@ -29,9 +30,11 @@ impl SharedBroker {
         }
     }
 
-    /// A session of a worker, for one principal at one host, that has seen nothing yet; no memory is taken.
+    /// A session of a worker, for one principal at one host, that has seen nothing yet; no memory
+    /// is taken.
     pub fn session(&self, worker: usize, principal: Principal, host: Host) -> Session<'_>
-        ensures { result ≡ record { worker = worker; principal = principal; host = host; seen = 0 } }
+        ensures { result
+            ≡ record { worker = worker; principal = principal; host = host; seen = 0 } }
     {
         Session {
             shared: self,
@@ -51,7 +54,7 @@ impl SharedBroker {
         event: Event,
         seen: usize,
     ) -> Result<Receipt, CallFault>
-        ensures place { IfOk result (λ r. (seen ≤ r.place) × (r.place < 1000000)) }
+        ensures place { IfOk result (λ r. (seen ≤ r.place) × (r.place < entry_limit)) }
         ensures served { IfOk result (λ r. IsServed event r) }
         ensures fits { IfOk result (λ r. Fits event.request r.reply) }
         ensures offsets { IfOk result (λ r. OffsetsWithin r.reply) }
@@ -61,7 +64,8 @@ impl SharedBroker {
         recorded.serve_after(alloc, worker, event, seen)
     }
 
-    /// Gives back the broker and its journal, which replays to the broker's state; it waits for nobody.
+    /// Gives back the broker and its journal, which replays to the broker's state; it waits for
+    /// nobody.
     pub fn finish(self) -> Recorded
         ensures { IsSound result }
     {
@@ -86,7 +90,12 @@ impl<'a> Model for Session<'a> {
 
     ghost Value = { Seat };
 
-    ghost view = { λ s. record { worker = s.worker; principal = s.principal; host = s.host; seen = s.seen } };
+    ghost view = { λ s. record {
+      worker = s.worker;
+      principal = s.principal;
+      host = s.host;
+      seen = s.seen;
+    } };
 }
 
 impl<'a> Session<'a> {
@@ -97,17 +106,20 @@ impl<'a> Session<'a> {
         self.seen
     }
 
-    /// Serves a request under the lock. The event is put together before the lock (`Memory`); under it `Stale` comes
-    /// first, then `JournalFull`, then `Memory`. After a fault there is no entry, and the session has seen no more.
+    /// Serves a request under the lock. The event is put together before the lock (`Memory`); under
+    /// it `Stale` comes first, then `JournalFull`, then `Memory`. After a fault there is no entry,
+    /// and the session has seen no more.
     pub fn call<R: Wait>(
         &mut self,
         rt: &R,
         alloc: Global,
         request: Request,
     ) -> Result<Receipt, CallFault>
-        ensures ok { IfOk result (λ r. (self.old.seen ≤ r.place) × (self.new ≡ record self.old { seen = r.place + 1 })) }
+        ensures ok { IfOk result (λ r. (self.old.seen ≤ r.place)
+            × (self.new ≡ record self.old { seen = r.place + 1 })) }
         ensures err { OnErr result (self.new ≡ self.old) }
-        ensures served { IfOk result (λ r. IsServed (event_by self.old.principal self.old.host request) r) }
+        ensures served { IfOk result
+            (λ r. IsServed (event_by self.old.principal self.old.host request) r) }
         ensures fits { IfOk result (λ r. Fits request r.reply) }
         ensures offsets { IfOk result (λ r. OffsetsWithin r.reply) }
         ensures stale { IfErr result (IsStaleOnlyBelow self.old.seen) }
@@ -123,7 +135,8 @@ impl<'a> Session<'a> {
         alloc: Global,
         event: Event,
     ) -> Result<Receipt, CallFault>
-        ensures ok { IfOk result (λ r. (self.old.seen ≤ r.place) × (self.new ≡ record self.old { seen = r.place + 1 })) }
+        ensures ok { IfOk result (λ r. (self.old.seen ≤ r.place)
+            × (self.new ≡ record self.old { seen = r.place + 1 })) }
         ensures err { OnErr result (self.new ≡ self.old) }
         ensures served { IfOk result (λ r. IsServed event r) }
         ensures fits { IfOk result (λ r. Fits event.request r.reply) }
@@ -137,7 +150,8 @@ impl<'a> Session<'a> {
 
     /// The event that the session's principal and host make with the request.
     pub(crate) fn event(&self, alloc: Global, request: Request) -> Result<Event, AllocError>
-        ensures { IfOk result (λ event. event ≡ event_by self.now.principal self.now.host request) }
+        ensures { IfOk result
+            (λ event. event ≡ event_by self.now.principal self.now.host request) }
     {
         let principal = self.principal.copy(alloc)?;
         let host = self.host.copy(alloc)?;

@@ -1,4 +1,4 @@
-use Rattle.std.proofs.Common.{arith, subst, IfOk, IfErr, vec_len, ◌≡◌, ◌∙◌}
+use Rattle.std.proofs.Common.{arith, subst, IfOk, IfErr, vec_len}
 use Rattle.std.proofs.lemmas.Result.{IfErr-weaker}
 use Rattle.kob_broker.specs.Change.{state_of}
 use Rattle.kob_shared.specs.Fleets.{asked_of_all, IsFleet}
