@@ -7,7 +7,8 @@ use Rattle.kob_acl_cli.specs.Misread.{IsFirstFault}
 use Rattle.kob_script.specs.Acl.{error_of, unless_faults}
 use Rattle.kob_script.specs.Reading.{Fails}
 
-fails_first : (fault : CommandFault) (others : List CommandFault) (commands : List AclCommand) → Fails (error_of fault) (unless_faults (fault ∷ others) commands)
+fails_first : (fault : CommandFault) (others : List CommandFault) (commands : List AclCommand)
+    → Fails (error_of fault) (unless_faults (fault ∷ others) commands)
 fails_first NoAction others commands = refl
 fails_first (BadName word) others commands = refl
 fails_first BadMix others commands = refl
@@ -16,7 +17,8 @@ fails_first NoPrincipal others commands = refl
 fails_first Memory others commands = tt
 
 -- the first of the faults is the one that reading gives
-pub fails_first_of : (faults : List CommandFault) (fault : CommandFault) (commands : List AclCommand) → IsFirstFault faults fault → Fails (error_of fault) (unless_faults faults commands)
+pub fails_first_of : (faults : List CommandFault) (fault : CommandFault) (commands : List AclCommand)
+    → IsFirstFault faults fault → Fails (error_of fault) (unless_faults faults commands)
 fails_first_of [] fault commands is_first = rw is_first tt
 fails_first_of (first ∷ others) fault commands (inl is) = rw is (fails_first first others commands)
 fails_first_of (first ∷ others) fault commands (inr is) = rw is tt

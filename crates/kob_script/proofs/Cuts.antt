@@ -30,7 +30,8 @@ after_cut byte (high ∷ low ∷ rest) other whole =
     after_other (byte == 37) (are_hexadecimal high low && has_whole_escapes rest) (has_whole_escapes (high ∷ low ∷ rest)) other whole
 
 -- a byte before the cut, and what comes after it: an escape would reach over the cut
-before_cut : {P : Type 0} (b escape rest : Bool) → (escape ≡ true → ⊥) → (rest ≡ true → P) → (if b then escape else rest) ≡ true
+before_cut : {P : Type 0} (b escape rest : Bool) → (escape ≡ true → ⊥) → (rest ≡ true → P)
+    → (if b then escape else rest) ≡ true
     → (b ≡ false) × P
 before_cut true escape rest none others e = absurd (none e)
 before_cut false escape rest none others e = (refl, others e)

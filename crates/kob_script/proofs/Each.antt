@@ -22,7 +22,8 @@ unfolding each
 steps read xs i d below = ap (λ rest. each read rest) (drop_more xs i d below)
 
 -- the same, where the value at the index is known
-steps_at : {A B : Type 0} (read : A → Result B FaultKind) (xs : List A) (i : ℕ) (d x : A) → i < length xs → x ≡ get_or xs i d
+steps_at : {A B : Type 0} (read : A → Result B FaultKind) (xs : List A) (i : ℕ) (d x : A) → i < length xs
+    → x ≡ get_or xs i d
     → each read (drop i xs) ≡ one_more read (drop (i + 1) xs) (read x)
 steps_at read xs i d x below is = steps read xs i d below ∙ ap (λ y. one_more read (drop (i + 1) xs) (read y)) (sym is)
 

@@ -104,7 +104,8 @@ bytes-plain (byte ∷ rest) none =
     let here = both_false (byte == 37) (list_any (λ y. y == 37) rest) none in
     bytes-step byte rest ∙ bytes_after_plain (byte == 37) byte rest rest here.0 ∙ ap (λ r. byte ∷ r) (bytes-plain rest here.1)
 
-pub word_of-plain : (word : List ℕ) → list_any (λ y. y == 37) word ≡ false → word_of word ≡ Ok (record { raw = word; decoded = word })
+pub word_of-plain : (word : List ℕ) → list_any (λ y. y == 37) word ≡ false
+    → word_of word ≡ Ok (record { raw = word; decoded = word })
 word_of-plain word none =
     chosen_true (has_whole_escapes word) _ _ (whole-plain word none)
     ∙ ap (λ bytes. Ok (record { raw = word; decoded = bytes })) (bytes-plain word none)
@@ -116,7 +117,8 @@ pub whole_keeps : (word rest others : List ℕ) (first : ℕ) (found : Option (�
 whole_keeps word rest others first found kept split read =
     ap whole_after read ∙ sym (whole-step first others) ∙ sym (ap has_whole_escapes split) ∙ kept
 
-pub whole_ends : (word rest : List ℕ) → has_whole_escapes rest ≡ has_whole_escapes word → rest ≡ [] → true ≡ has_whole_escapes word
+pub whole_ends : (word rest : List ℕ) → has_whole_escapes rest ≡ has_whole_escapes word → rest ≡ []
+    → true ≡ has_whole_escapes word
 unfolding has_whole_escapes
 whole_ends word rest kept empty = sym (ap has_whole_escapes empty) ∙ kept
 
@@ -127,7 +129,8 @@ found_or_first first others (Some f) = refl
 found_or_first first others None = refl
 
 pub bytes_keep : (out more word rest : List ℕ) (first : ℕ) (others : Bor (List ℕ)) (found : Option (ℕ × Bor (List ℕ))) (next : ℕ × Bor (List ℕ))
-    → out ++ bytes_of rest ≡ bytes_of word → rest ≡ first ∷ others.now → option_map (λ f. (f.0, f.1.now)) found ≡ byte_at first others.now
+    → out ++ bytes_of rest ≡ bytes_of word → rest ≡ first ∷ others.now
+    → option_map (λ f. (f.0, f.1.now)) found ≡ byte_at first others.now
     → next ≡ unwrap_or found (first, others) → more ≡ out ++ next.0 ∷ [] → more ++ bytes_of next.1.now ≡ bytes_of word
 bytes_keep out more word rest first others found next kept split read is grown =
     ap (λ o. o ++ bytes_of next.1.now) grown

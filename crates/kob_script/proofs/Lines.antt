@@ -42,7 +42,8 @@ line_fails old line new (Fault kind) fails = subst (ByWords old (Err kind)) (sym
 abbrev pub Leads : List ℕ → Script → ℕ → List (List ℕ) → Type 0
 Leads text s number rest = (read : Result Script fault.Fault) → LinesFrom s number rest read → ReadsAs text read
 
-pub lines_begin : (text : List ℕ) (growing : Growing) → growing.supers.items ≡ [] → growing.events.items ≡ [] → Leads text (grown growing) 1 (lines_in text)
+pub lines_begin : (text : List ℕ) (growing : Growing) → growing.supers.items ≡ [] → growing.events.items ≡ []
+    → Leads text (grown growing) 1 (lines_in text)
 lines_begin text growing nobody nothing =
     let same : grown growing ≡ empty_script = λ i. record { settings = record { supers = nobody i; opening = [] }; events = nothing i } in
     λ read may. subst (λ (s : Script). LinesFrom s 1 (lines_in text) read) same may
@@ -54,14 +55,16 @@ line_keeps text s next number rest line more leads split reads =
     λ read others. leads read (subst (λ (lines : List (List ℕ)). LinesFrom s number lines read) (sym split) (Ok next, reads, others))
 
 pub line_stops : (text : List ℕ) (s : Script) (growing : Growing) (number : ℕ) (rest : List (List ℕ)) (line : List ℕ) (more : List (List ℕ)) (e : LineError)
-    → Leads text s number rest → rest ≡ line ∷ more → MayGiveNext (LineReadsAs s line) growing (Err e) → MayRead text (Err (fault_at number e))
+    → Leads text s number rest → rest ≡ line ∷ more → MayGiveNext (LineReadsAs s line) growing (Err e)
+    → MayRead text (Err (fault_at number e))
 unfolding LinesFrom
 line_stops text s growing number rest line more Memory leads split reads = tt
 line_stops text s growing number rest line more (Fault kind) leads split reads =
     let read : Result Script fault.Fault = Err (record { line = number; kind = kind }) in
     leads read (subst (λ (lines : List (List ℕ)). LinesFrom s number lines read) (sym split) (Err kind, reads, refl))
 
-pub lines_end : (text : List ℕ) (s : Script) (number : ℕ) (rest : List (List ℕ)) → Leads text s number rest → rest ≡ [] → ReadsAs text (Ok s)
+pub lines_end : (text : List ℕ) (s : Script) (number : ℕ) (rest : List (List ℕ)) → Leads text s number rest
+    → rest ≡ [] → ReadsAs text (Ok s)
 unfolding LinesFrom
 lines_end text s number rest leads empty =
     let read : Result Script fault.Fault = Ok s in

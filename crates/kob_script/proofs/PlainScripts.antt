@@ -44,12 +44,14 @@ line_alike answer s (Ok (first ∷ host ∷ command ∷ arguments)) plain =
 
 then_alike : (number : ℕ) (lines : List (List ℕ)) (first : Result Script FaultKind) (read : Result Script fault.Fault)
     → ((next : Script) → LinesFrom next (number + 1) lines read → read ≡ lines_from next (number + 1) lines)
-    → ThenLines number first (λ next. LinesFrom next (number + 1) lines read) read → read ≡ then_lines (at_line number first) (λ next. lines_from next (number + 1) lines)
+    → ThenLines number first (λ next. LinesFrom next (number + 1) lines read) read
+    → read ≡ then_lines (at_line number first) (λ next. lines_from next (number + 1) lines)
 then_alike number lines (Ok next) read others may = others next may
 then_alike number lines (Err kind) read others may = may
 
 lines_alike : (s : Script) (number : ℕ) (lines : List (List ℕ)) (read : Result Script fault.Fault)
-    → list_all (λ line. is_plain (words_of line)) lines ≡ true → LinesFrom s number lines read → read ≡ lines_from s number lines
+    → list_all (λ line. is_plain (words_of line)) lines ≡ true → LinesFrom s number lines read
+    → read ≡ lines_from s number lines
 unfolding LinesFrom lines_from with_line
 lines_alike s number [] read plain may = may
 lines_alike s number (line ∷ lines) read plain (first, (answer, is, gives), others) =
@@ -58,11 +60,13 @@ lines_alike s number (line ∷ lines) read plain (first, (answer, is, gives), ot
     (subst (λ (r : Result Script FaultKind). ThenLines number r (λ next. LinesFrom next (number + 1) lines read) read)
     (sym gives ∙ line_alike answer s (words_of line) here.0) others)
 
-pub one_reading : (text : List ℕ) (read : Result Script fault.Fault) → HasNoAclLine text → ReadsAs text read → read ≡ script_of text
+pub one_reading : (text : List ℕ) (read : Result Script fault.Fault) → HasNoAclLine text → ReadsAs text read
+    → read ≡ script_of text
 unfolding script_of
 one_reading text read plain may = lines_alike empty_script 1 (lines_in text) read plain may
 
-pub reads_plain : (text : List ℕ) (result : Result Script ScriptError) → MayRead text result → HasNoAclLine text → Reads result (script_of text)
+pub reads_plain : (text : List ℕ) (result : Result Script ScriptError) → MayRead text result → HasNoAclLine text
+    → Reads result (script_of text)
 reads_plain text (Ok script) may plain = sym (one_reading text (Ok script) plain may)
 reads_plain text (Err Memory) may plain = tt
 reads_plain text (Err (Fault fault)) may plain = sym (one_reading text (Err fault) plain may)

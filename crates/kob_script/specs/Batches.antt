@@ -17,12 +17,14 @@ use Rattle.kob_script.specs.Word.{Word}
 
 -- the three parts of ID:EPOCH:BASE; escapes are replaced after the cut, which leaves each whole
 abbrev pub three_of : List (List ℕ) → Result (Option IdemParts) FaultKind
-three_of (id ∷ epoch ∷ base ∷ []) = Ok (Some (record { id = bytes_of id; epoch = bytes_of epoch; base = bytes_of base }))
+three_of (id ∷ epoch ∷ base ∷ []) =
+    Ok (Some (record { id = bytes_of id; epoch = bytes_of epoch; base = bytes_of base }))
 three_of _ = Err BadLine
 
 -- `-` for no producer, or three parts with colons between them
 unfoldable pub idem_parts : Word → Result (Option IdemParts) FaultKind
-idem_parts word = if bytes_eq word.raw (codes "-") then Ok None else three_of (slice_split (λ byte. byte == 58) word.raw)
+idem_parts word =
+    if bytes_eq word.raw (codes "-") then Ok None else three_of (slice_split (λ byte. byte == 58) word.raw)
 
 -- the numbers that the parts write
 unfoldable pub idem_of : Option IdemParts → Result (Option Idem) FaultKind
@@ -35,7 +37,8 @@ idem_of (Some parts) = do
 
 -- what stands before and after the first `=`
 unfoldable pub key_and_value : List ℕ → Option (List ℕ × List ℕ)
-key_and_value word = option_map (λ place. (take place word, drop (place + 1) word)) (first_of (matches word (codes "=") 0))
+key_and_value word =
+    option_map (λ place. (take place word, drop (place + 1) word)) (first_of (matches word (codes "=") 0))
 
 -- a key and a value, or a value alone; escapes are replaced after the cut, which leaves each whole
 abbrev pub record_in : Option (List ℕ × List ℕ) → Word → Record

@@ -12,7 +12,10 @@ use Rattle.kob_script.specs.Reading.{Fails}
 
 -- the script so far, in which no binding is opened
 abbrev pub grown : Growing → Script
-grown growing = record { settings = record { supers = growing.supers.items; opening = [] }; events = growing.events.items }
+grown growing = record {
+  settings = record { supers = growing.supers.items; opening = [] };
+  events = growing.events.items;
+}
 
 -- what was wrong, with the number of its line
 abbrev pub fault_at : ℕ → LineError → ScriptError

@@ -29,7 +29,8 @@ pub fn run_text<R: Read, W: Write>(
         → Writes (script_of input) ended (W.contents writer.old) (W.contents writer.new))) }
     // With `acl` lines too, it is the output for what the bytes may be read as.
     ensures ok_any { IfOk result (λ ended. IfSome (R.remaining reader.old) (λ input.
-        HasReading input (λ read. Writes read ended (W.contents writer.old) (W.contents writer.new)))) }
+        HasReading input (λ read.
+        Writes read ended (W.contents writer.old) (W.contents writer.new)))) }
     ensures limited { OnOk result
         (IfSome (R.remaining reader.old) (λ input. length input ≤ script_limit)) }
     // After a fault, a front of an output was written.
