@@ -1,3 +1,3 @@
 pub mod AsciiList
+pub mod FirstFaults
 pub mod LineFacts
-pub mod Telling

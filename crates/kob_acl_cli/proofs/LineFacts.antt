@@ -21,12 +21,14 @@ unfolding clap_on_literals
 line_is_free = refl
 
 -- what was found is what clap reads of the line
-pub found_rows : (app : App) (words : List (List ℕ)) (m : ArgMatches) → app ≡ line_app → HasMatchesOf app words m → rows_of (found_of m) ≡ rows_of_line words
+pub found_rows : (app : App) (words : List (List ℕ)) (m : ArgMatches) → app ≡ line_app → HasMatchesOf app words m
+    → rows_of (found_of m) ≡ rows_of_line words
 unfolding rows_of_line
 found_rows app words m is has = (has (ap is_simple is ∙ line_is_simple)).0 ∙ ap (λ a. matches_of a words) is
 
 -- a line that was read has no refusal
-pub no_refusals : (app : App) (words : List (List ℕ)) → app ≡ line_app → (is_simple_and_free app ≡ true → fault_of app words ≡ []) → refusals words ≡ []
+pub no_refusals : (app : App) (words : List (List ℕ)) → app ≡ line_app
+    → (is_simple_and_free app ≡ true → fault_of app words ≡ []) → refusals words ≡ []
 unfolding refusals
 no_refusals app words is none = sym (ap (λ a. fault_of a words) is) ∙ none (ap is_simple_and_free is ∙ line_is_free)
 
@@ -35,7 +37,8 @@ other_kind : (kinds : Kinds) (e : Error) → HasKind kinds e → (kind_of e ≡ 
 other_kind kinds e (inl memory) other none = other memory
 other_kind kinds e (inr among) other none = subst (λ ks. IsAmong (kind_of e) ks) none among
 
-pub refused_by : (app : App) (words : List (List ℕ)) (e : Error) → app ≡ line_app → (is_simple_and_free app ≡ true → HasKind (fault_of app words) e)
+pub refused_by : (app : App) (words : List (List ℕ)) (e : Error) → app ≡ line_app
+    → (is_simple_and_free app ≡ true → HasKind (fault_of app words) e)
     → (kind_of e ≡ OutOfMemory → ⊥) → refusals words ≡ [] → ⊥
 unfolding refusals
 refused_by app words e is kinds other none =
@@ -46,20 +49,23 @@ pub taken_by : (app : App) (words : List (List ℕ)) → app ≡ line_app → is
 unfolding is_taken
 taken_by app words is taken = ap (λ a. takes a words) is ∙ taken
 
-folded : (action : ArgAction) (app : App) (names : List (List ℕ)) (name : List ℕ) → with_options action app (names ++ name ∷ []) ≡ with_rule (with_options action app names) (option action name)
+folded : (action : ArgAction) (app : App) (names : List (List ℕ)) (name : List ℕ)
+    → with_options action app (names ++ name ∷ []) ≡ with_rule (with_options action app names) (option action name)
 folded action app [] name = refl
 folded action app (first ∷ others) name = folded action (with_rule app (option action first)) others name
 
 -- one option more
 pub options_more : (action : ArgAction) (app : App) (names : List (Bor (List ℕ))) (i : ℕ) (d : Bor (List ℕ)) (grown next : App) (rule : Rule) → i < length names
-    → grown ≡ with_options action app (texts (take i names)) → next ≡ with_rule grown rule → rule ≡ option action (get_or names i d).now
+    → grown ≡ with_options action app (texts (take i names)) → next ≡ with_rule grown rule
+    → rule ≡ option action (get_or names i d).now
     → next ≡ with_options action app (texts (take (i + 1) names))
 options_more action app names i d grown next rule below before added is =
     added ∙ ap₂ with_rule before is
     ∙ sym (ap (with_options action app) (map_more (λ (name : Bor (List ℕ)). name.now) names i d below) ∙ folded action app (texts (take i names)) (get_or names i d).now)
 
 -- a flag by the text that clap has of it
-pub flag_by : (text found : Option (List ℕ)) (flag : Bool) → found ≡ text → (found ≡ None → flag ≡ false) → (found ≡ Some (codes "true") → flag ≡ true)
+pub flag_by : (text found : Option (List ℕ)) (flag : Bool) → found ≡ text → (found ≡ None → flag ≡ false)
+    → (found ≡ Some (codes "true") → flag ≡ true)
     → (found ≡ Some (codes "false") → flag ≡ false) → IsFlagBy text flag
 flag_by None found flag same none given other = none same
 flag_by (Some text) found flag same none given other = (λ is. given (same ∙ ap Some is), λ is. other (same ∙ ap Some is))

@@ -3,7 +3,7 @@ use Rattle.std.specs.Prelude.{ℕ, not, List, [], ◌∷◌, ◌++◌, map, flat
 use Rattle.kob_names.specs.declared.filter.BindingFilter.{BindingFilter}
 use Rattle.kob_names.specs.declared.filter.FilterPattern.TheVariants.{Any}
 use Rattle.kob_acl_cli.specs.Accesses.{accesses}
-use Rattle.kob_acl_cli.specs.Misread.{misread, bad_names}
+use Rattle.kob_acl_cli.specs.Misread.{misread_words, bad_names}
 use Rattle.kob_acl_cli.specs.Mixes.{has_one_action, has_holder, is_bad_mix, lacks_resource, lacks_principal}
 use Rattle.kob_acl_cli.specs.Parts.{or_default, parts}
 use Rattle.kob_acl_cli.specs.Rules.{product, draft_of, filter_of}
@@ -21,7 +21,7 @@ use Rattle.kob_acl_cli.specs.declared.target.Target.{Target}
 abbrev pub faults : CliArgs → List CommandFault
 faults args =
     only_if (not (has_one_action args)) (NoAction ∷ [])
-    ++ bad_names (misread args)
+    ++ bad_names (misread_words args)
     ++ only_if (is_bad_mix args) (BadMix ∷ [])
     ++ only_if (lacks_resource args) (NoResource ∷ [])
     ++ only_if (lacks_principal args) (NoPrincipal ∷ [])

@@ -18,20 +18,20 @@ abbrev pub with_options : ArgAction → App → List (List ℕ) → App
 with_options action app names = fold (λ grown name. with_rule grown (option action name)) app names
 
 -- no word is the program's name, and --help is no option
-abbrev pub bare : App
-bare = record {
+abbrev pub bare_app : App
+bare_app = record {
   top = record (new_app (codes "kafka-acls")).top { no_binary_name = true; disable_help_flag = true };
   subs = [];
 }
 
 -- options with values that may be repeated
-abbrev pub repeated : List (List ℕ)
-repeated = codes "allow-principal" ∷ codes "deny-principal" ∷ codes "allow-host" ∷ codes "deny-host" ∷ codes "operation"
+abbrev pub repeatable_options : List (List ℕ)
+repeatable_options = codes "allow-principal" ∷ codes "deny-principal" ∷ codes "allow-host" ∷ codes "deny-host" ∷ codes "operation"
     ∷ codes "topic" ∷ codes "group" ∷ codes "transactional-id" ∷ codes "principal" ∷ []
 
 -- options with a value that stand once
-abbrev pub single : List (List ℕ)
-single = codes "resource-pattern-type" ∷ codes "bootstrap-server" ∷ codes "command-config" ∷ []
+abbrev pub single_options : List (List ℕ)
+single_options = codes "resource-pattern-type" ∷ codes "bootstrap-server" ∷ codes "command-config" ∷ []
 
 abbrev pub flags : List (List ℕ)
 flags = codes "add" ∷ codes "remove" ∷ codes "list" ∷ codes "cluster" ∷ codes "producer" ∷ codes "consumer"
@@ -39,7 +39,7 @@ flags = codes "add" ∷ codes "remove" ∷ codes "list" ∷ codes "cluster" ∷ 
 
 -- the command whose words are read
 abbrev pub line_app : App
-line_app = with_options SetTrue (with_options Set (with_options Append bare repeated) single) flags
+line_app = with_options SetTrue (with_options Set (with_options Append bare_app repeatable_options) single_options) flags
 
 -- what clap reads of a line for each option
 unfoldable pub rows_of_line : List (List ℕ) → List Row

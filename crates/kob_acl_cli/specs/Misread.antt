@@ -22,8 +22,8 @@ abbrev pub is_no_pattern_type : List ℕ → Bool
 is_no_pattern_type word = is_none (filter_pattern_named word)
 
 -- the words that are not read, in the order of their options
-abbrev pub misread : CliArgs → List (List ℕ)
-misread args =
+abbrev pub misread_words : CliArgs → List (List ℕ)
+misread_words args =
     filter is_no_principal args.allow_principals ++ filter is_no_principal args.deny_principals
     ++ filter is_no_host args.allow_hosts ++ filter is_no_host args.deny_hosts
     ++ filter is_no_operation args.operations ++ filter is_no_principal args.principals
@@ -32,12 +32,12 @@ misread args =
 abbrev pub bad_names : List (List ℕ) → List CommandFault
 bad_names words = map (λ word. BadName word) words
 
--- the fault told is the first of those that stand, or want of memory
-abbrev pub IsTold : List CommandFault → CommandFault → Type 0
-IsTold [] fault = fault ≡ Memory
-IsTold (first ∷ others) fault = (fault ≡ first) ⊎ (fault ≡ Memory)
+-- the fault is the first of those that stand, or want of memory
+abbrev pub IsFirstFault : List CommandFault → CommandFault → Type 0
+IsFirstFault [] fault = fault ≡ Memory
+IsFirstFault (first ∷ others) fault = (fault ≡ first) ⊎ (fault ≡ Memory)
 
--- The value was read and no word of it was misread, or the first such word is told.
+-- The value was read and no word of it was misread, or the fault names the first such word.
 abbrev pub Reads : {A : Type 0} → List (List ℕ) → A → Result A CommandFault → Type 0
 Reads words value (Ok made) = (words ≡ []) × (made ≡ value)
-Reads words value (Err fault) = IsTold (bad_names words) fault
+Reads words value (Err fault) = IsFirstFault (bad_names words) fault

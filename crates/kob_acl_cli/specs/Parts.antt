@@ -25,17 +25,19 @@ pattern_type None = Literal
 pattern_type (Some word) = unwrap_or (filter_pattern_named word) Literal
 
 -- without a host every host is meant
-abbrev pub allowed : CliArgs → Holders
-allowed args = record { permission = Allow; principals = args.allow_principals; hosts = or_default (codes "*") args.allow_hosts }
+abbrev pub allowed_holders : CliArgs → Holders
+allowed_holders args =
+    record { permission = Allow; principals = args.allow_principals; hosts = or_default (codes "*") args.allow_hosts }
 
-abbrev pub denied : CliArgs → Holders
-denied args = record { permission = Deny; principals = args.deny_principals; hosts = or_default (codes "*") args.deny_hosts }
+abbrev pub denied_holders : CliArgs → Holders
+denied_holders args =
+    record { permission = Deny; principals = args.deny_principals; hosts = or_default (codes "*") args.deny_hosts }
 
 -- without an operation every operation is meant
 abbrev pub parts : CliArgs → Parts
 parts args = record {
-  allowed = allowed args;
-  denied = denied args;
+  allowed = allowed_holders args;
+  denied = denied_holders args;
   operations = or_default All (operations_named args.operations);
   principals = args.principals;
   pattern = pattern_type args.pattern_type;

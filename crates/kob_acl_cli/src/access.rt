@@ -1,7 +1,8 @@
 //! The operations that a line means on each resource.
 
 ghost use Rattle.std.specs.Prelude.{◌≡◌, ◌++◌, map, OnOk, IfOk};
-ghost use Rattle.kob_acl_cli.specs.Accesses.{accesses_to, topic_operations, plain_accesses, convenience_accesses, accesses};
+ghost use Rattle.kob_acl_cli.specs.Accesses.{accesses_to, topic_operations, plain_accesses};
+ghost use Rattle.kob_acl_cli.specs.Accesses.{convenience_accesses, accesses};
 
 use crate::args::CliArgs;
 use crate::mixes::has_convenience;
@@ -16,8 +17,8 @@ pub struct Access {
     pub operations: Items<Operation>,
 }
 
-/// The operations on each resource that the line names: those given, or those that `--producer` and `--consumer` stand
-/// for.
+/// The operations on each resource that the line names: those given, or those that `--producer` and
+/// `--consumer` stand for.
 pub fn accesses(
     alloc: Global,
     args: &CliArgs,
@@ -87,7 +88,8 @@ fn push_accesses(
     operations: &[Operation],
     targets: &[Target],
 ) -> Result<(), AllocError>
-    ensures { OnOk result (made.new.items ≡ made.old.items ++ accesses_to operations.now targets.now) }
+    ensures { OnOk result
+        (made.new.items ≡ made.old.items ++ accesses_to operations.now targets.now) }
 {
     for target in targets {
         made.push(access_to(alloc, operations, target)?)?;
@@ -96,7 +98,8 @@ fn push_accesses(
 }
 
 fn access_to(alloc: Global, operations: &[Operation], target: &Target) -> Result<Access, AllocError>
-    ensures { IfOk result (λ made. made ≡ record { target = target.now; operations = operations.now }) }
+    ensures { IfOk result (λ made.
+        made ≡ record { target = target.now; operations = operations.now }) }
 {
     let target = target.copy(alloc)?;
     let operations = Items::copied(alloc, operations)?;

@@ -2,8 +2,8 @@
 
 use kob_names::{Items, Text};
 
-/// The texts of each option that has values, in the order given, and which flags were given. Options without an effect
-/// are left out.
+/// The texts of each option that has values, in the order given, and which flags were given.
+/// Options without an effect are left out.
 #[derive(Debug, Drop)]
 pub struct CliArgs {
     pub allow_principals: Items<Text>,

@@ -2,7 +2,7 @@
 
 ghost use Rattle.std.specs.Prelude.{◌≡◌, ◌++◌, [], map, false, IfOk, IfErr, IsErrOf, OnOk};
 ghost use Rattle.kob_acl_cli.specs.Commands as commands;
-ghost use Rattle.kob_acl_cli.specs.Misread.{IsTold};
+ghost use Rattle.kob_acl_cli.specs.Misread.{IsFirstFault};
 ghost use Rattle.kob_acl_cli.specs.Mixes as mixes;
 
 use crate::access::accesses;
@@ -24,13 +24,15 @@ pub enum AclCommand {
     Describe(BindingFilter),
 }
 
-/// What the options ask for, as `kafka-acls` has it (Kafka's documentation, "Authorization and ACLs"): one `Create` with
-/// all bindings, a `Delete` for each binding or resource, or a `Describe` for each resource and principal. The first
-/// fault that stands is told, in the order `NoAction`, `BadName` (the first principal, host, operation or pattern type
-/// that isn't read), `BadMix`, `NoResource`, `NoPrincipal`. `Memory` may come in place of any answer but `NoAction`.
+/// What the options ask for, as `kafka-acls` has it (Kafka's documentation, "Authorization and
+/// ACLs"): one `Create` with all bindings, a `Delete` for each binding or resource, or a `Describe`
+/// for each resource and principal. The first fault that stands is answered, in the order `NoAction`,
+/// `BadName` (the first principal, host, operation or pattern type that isn't read), `BadMix`,
+/// `NoResource`, `NoPrincipal`. `Memory` may come in place of any answer but `NoAction`.
 pub fn commands_of(alloc: Global, args: &CliArgs) -> Result<Vec<AclCommand>, CommandFault>
-    ensures refused { IfErr result (λ fault. IsTold (commands.faults args.now) fault) }
-    ensures no_action { mixes.has_one_action args.now ≡ false → IsErrOf result CommandFault.NoAction }
+    ensures refused { IfErr result (λ fault. IsFirstFault (commands.faults args.now) fault) }
+    ensures no_action { mixes.has_one_action args.now ≡ false
+        → IsErrOf result CommandFault.NoAction }
     ensures sound { IfOk result (λ made. commands.faults args.now ≡ []) }
     ensures commands { IfOk result (λ made. made.items ≡ commands.commands args.now) }
 {

@@ -2,7 +2,8 @@
 
 ghost use Rattle.std.specs.Prelude.{◌≡◌, [], true, IfOk, IfErr};
 ghost use Rattle.clap.specs.Words.{app_of, first_of, found_of, kind_of, rows_of};
-ghost use Rattle.kob_acl_cli.specs.Lines.{IsFlag, IsReadOf, is_taken, line_app, refusals, rows_of_line, texts, values_of, with_options};
+ghost use Rattle.kob_acl_cli.specs.Lines.{IsFlag, IsReadOf, is_taken, line_app, refusals};
+ghost use Rattle.kob_acl_cli.specs.Lines.{rows_of_line, texts, values_of, with_options};
 
 use crate::args::CliArgs;
 use crate::fault::LineFault;
@@ -40,11 +41,12 @@ static FLAGS: [&str; 8] = [
     "force",
 ];
 
-/// The options that the words give, as `clap` reads them: no abbreviations, and a value follows `=` or is the next word,
-/// which must not begin with `-` unless it is `-` alone. Options that name something may be repeated;
-/// `--resource-pattern-type`, `--bootstrap-server`, `--command-config` and flags stand once at most. `--force`,
-/// `--bootstrap-server` and `--command-config` have no effect. `Usage` is whatever `clap` refuses for another cause than
-/// memory, bare words and `--help` too. The contract speaks by `clap`'s own account of what it takes and gives; what that
+/// The options that the words give, as `clap` reads them: no abbreviations, and a value follows `=`
+/// or is the next word, which must not begin with `-` unless it is `-` alone. Options that name
+/// something may be repeated; `--resource-pattern-type`, `--bootstrap-server`, `--command-config`
+/// and flags stand once at most. `--force`, `--bootstrap-server` and `--command-config` have no
+/// effect. `Usage` is whatever `clap` refuses for another cause than memory, bare words and
+/// `--help` too. The contract speaks by `clap`'s own account of what it takes and gives; what that
 /// is for a line is shown by tests.
 pub fn read_line<'a>(alloc: Global, words: &'a [&'a str]) -> Result<CliArgs, LineFault>
     ensures read { IfOk result (λ args. IsReadOf (rows_of_line (texts words.entry.now)) args) }

@@ -2,7 +2,8 @@
 
 ghost use Rattle.std.specs.Prelude.{◌≡◌, [], ◌∷◌, filter, IfOk, IfErr};
 ghost use Rattle.std.specs.Option.{option_to_list};
-ghost use Rattle.kob_acl_cli.specs.Misread.{Reads, IsTold, bad_names, is_no_principal, is_no_host, is_no_operation, is_no_pattern_type};
+ghost use Rattle.kob_acl_cli.specs.Misread.{Reads, IsFirstFault, bad_names, is_no_principal};
+ghost use Rattle.kob_acl_cli.specs.Misread.{is_no_host, is_no_operation, is_no_pattern_type};
 ghost use Rattle.kob_acl_cli.specs.Parts.{operations_named, pattern_type};
 
 use crate::fault::CommandFault;
@@ -67,7 +68,7 @@ pub fn read_operations(alloc: Global, words: &Items<Text>) -> Result<Items<Opera
 
 fn read_operation(alloc: Global, word: &Text) -> Result<Operation, CommandFault>
     ensures misread { IfErr result (λ fault.
-        IsTold (bad_names (filter is_no_operation (word.now ∷ []))) fault) }
+        IsFirstFault (bad_names (filter is_no_operation (word.now ∷ []))) fault) }
     ensures named { IfOk result (λ made. filter is_no_operation (word.now ∷ []) ≡ []) }
     ensures read { IfOk result (λ made. operations_named (word.now ∷ []) ≡ made ∷ []) }
 {
@@ -79,7 +80,8 @@ fn read_operation(alloc: Global, word: &Text) -> Result<Operation, CommandFault>
 
 /// The pattern type that the word names; without a word it is literal.
 pub fn read_pattern_type(alloc: Global, word: &Option<Text>) -> Result<FilterPattern, CommandFault>
-    ensures { Reads (filter is_no_pattern_type (option_to_list word.now)) (pattern_type word.now) result }
+    ensures { Reads (filter is_no_pattern_type (option_to_list word.now))
+        (pattern_type word.now) result }
 {
     match word {
         None => Ok(FilterPattern::Literal),

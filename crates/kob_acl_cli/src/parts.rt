@@ -2,7 +2,7 @@
 
 ghost use Rattle.std.specs.Prelude.{◌≡◌, IfOk};
 ghost use Rattle.kob_names.specs.declared.kinds.Operation.TheVariants.{All};
-ghost use Rattle.kob_acl_cli.specs.Misread.{Reads, misread};
+ghost use Rattle.kob_acl_cli.specs.Misread.{Reads, misread_words};
 ghost use Rattle.kob_acl_cli.specs.Parts.{or_default, parts};
 
 use crate::args::CliArgs;
@@ -24,7 +24,7 @@ pub struct Parts {
 
 /// Reads the words of a line, up to the first that isn't read.
 pub fn read_parts(alloc: Global, args: &CliArgs) -> Result<Parts, CommandFault>
-    ensures { Reads (misread args.now) (parts args.now) result }
+    ensures { Reads (misread_words args.now) (parts args.now) result }
 {
     let allow_principals = read_principals(alloc, &args.allow_principals)?;
     let deny_principals = read_principals(alloc, &args.deny_principals)?;

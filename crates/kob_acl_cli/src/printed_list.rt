@@ -8,10 +8,9 @@ use kob_names::Binding;
 use kob_words::print_binding;
 use std::alloc::{AllocError, Global};
 
-/// One line a binding, each with a line feed:
-/// `binding SERIAL PERMISSION PRINCIPAL HOST OPERATION RESOURCE PATTERN NAME`.
-/// Bytes of names outside 0x21 to 0x7e, and each `%` and `=`, are `%` and two lower-case hexadecimal digits. The error is
-/// want of memory.
+/// One line a binding, each with a line feed: `binding SERIAL PERMISSION PRINCIPAL HOST OPERATION
+/// RESOURCE PATTERN NAME`. Bytes of names outside 0x21 to 0x7e, and each `%` and `=`, are `%` and
+/// two lower-case hexadecimal digits. The error is want of memory.
 pub fn print_list(alloc: Global, bindings: &[(u64, Binding)]) -> Result<String, AllocError>
     ensures { IfOk result (λ text. string_bytes text ≡ list_text bindings.now) }
 {
@@ -29,7 +28,8 @@ fn push_line(
     serial: u64,
     binding: &Binding,
 ) -> Result<(), AllocError>
-    ensures text { OnOk result (out.new.items ≡ out.old.items ++ binding_line (serial, binding.now)) }
+    ensures text { OnOk result
+        (out.new.items ≡ out.old.items ++ binding_line (serial, binding.now)) }
     ensures ascii { OnOk result (IsAscii (binding_line (serial, binding.now))) }
 {
     print_binding(alloc, out, serial, binding)?;

@@ -79,7 +79,8 @@ fn push_rules(
     holders: &Holders,
     access: &Access,
 ) -> Result<(), AllocError>
-    ensures { OnOk result (made.new.items ≡ made.old.items ++ rules.rules_of holders.now access.now) }
+    ensures { OnOk result
+        (made.new.items ≡ made.old.items ++ rules.rules_of holders.now access.now) }
 {
     for principal in holders.principals.as_slice() {
         push_of_principal(alloc, made, holders, access, principal)?;
@@ -95,7 +96,8 @@ fn push_of_principal(
     principal: &Principal,
 ) -> Result<(), AllocError>
     ensures { OnOk result (made.new.items ≡ made.old.items
-        ++ rules.rules_of_principal holders.now.permission holders.now.hosts access.now principal.now) }
+        ++ rules.rules_of_principal holders.now.permission holders.now.hosts access.now
+        principal.now) }
 {
     for host in holders.hosts.as_slice() {
         push_on_host(alloc, made, holders.permission, access, principal, host)?;

@@ -72,7 +72,8 @@ fn push_named(
     pattern: FilterPattern,
     names: &Items<Text>,
 ) -> Result<(), AllocError>
-    ensures { OnOk result (made.new.items ≡ made.old.items ++ targets_named kind pattern names.now) }
+    ensures { OnOk result
+        (made.new.items ≡ made.old.items ++ targets_named kind pattern names.now) }
 {
     for name in names.as_slice() {
         let name = name.copy(alloc)?;

@@ -1,5 +1,5 @@
 -- Values that are read in turn, by a loop over what they are read from.
-use Rattle.std.proofs.Common.{◌≡◌, ◌∙◌, ◌<◌, ◌≤◌, ◌+◌, ℕ, List, [], ◌∷◌, ◌++◌, Result, Ok, Err, length, get_or, drop, map, sym, ap, append-nil, append_assoc, refl, drop_of_length-le}
+use Rattle.std.proofs.Common.{◌≡◌, ◌∙◌, ◌<◌, ◌≤◌, ◌+◌, ℕ, List, [], ◌∷◌, ◌++◌, Result, Ok, Err, length, get_or, drop, map, sym, ap, subst, append-nil, append_assoc, refl, drop_of_length-le}
 use Rattle.std.proofs.lemmas.List.{drop_more}
 use Rattle.kob_script.specs.declared.fault.FaultKind.{FaultKind}
 use Rattle.kob_script.specs.declared.fault.LineError.{LineError}
@@ -7,7 +7,8 @@ use Rattle.kob_script.specs.declared.fault.LineError.TheVariants.{Memory, Fault}
 use Rattle.kob_script.specs.Reading.{◌>>=◌, Fails, each, with_front}
 
 -- one value more at the front
-pub with_front-more : {A : Type 0} (front : List A) (x : A) (read : Result (List A) FaultKind) → with_front (front ++ x ∷ []) read ≡ with_front front (read >>= λ others. Ok (x ∷ others))
+pub with_front-more : {A : Type 0} (front : List A) (x : A) (read : Result (List A) FaultKind)
+    → with_front (front ++ x ∷ []) read ≡ with_front front (read >>= λ others. Ok (x ∷ others))
 with_front-more front x (Ok xs) = ap Ok (append_assoc front (x ∷ []) xs)
 with_front-more front x (Err kind) = refl
 
@@ -15,25 +16,44 @@ with_front-more front x (Err kind) = refl
 abbrev pub one_more : {A B : Type 0} → (A → Result B FaultKind) → List A → Result B FaultKind → Result (List B) FaultKind
 one_more read rest r = r >>= λ first. each read rest >>= λ others. Ok (first ∷ others)
 
-pub steps : {X A B : Type 0} (read : A → Result B FaultKind) (view : X → A) (xs : List X) (i : ℕ) (d : X) → i < length xs
-    → each read (map view (drop i xs)) ≡ one_more read (map view (drop (i + 1) xs)) (read (view (get_or xs i d)))
+steps : {A B : Type 0} (read : A → Result B FaultKind) (xs : List A) (i : ℕ) (d : A) → i < length xs
+    → each read (drop i xs) ≡ one_more read (drop (i + 1) xs) (read (get_or xs i d))
 unfolding each
-steps read view xs i d below = ap (λ rest. each read (map view rest)) (drop_more xs i d below)
+steps read xs i d below = ap (λ rest. each read rest) (drop_more xs i d below)
 
-pub each_fails : {X A B : Type 0} (read : A → Result B FaultKind) (view : X → A) (xs : List X) (i : ℕ) (d : X) (front : List B) (e : LineError)
-    → with_front front (each read (map view (drop i xs))) ≡ each read (map view xs) → i < length xs → Fails e (read (view (get_or xs i d))) → Fails e (each read (map view xs))
-each_fails read view xs i d front Memory kept below fails = tt
-each_fails read view xs i d front (Fault kind) kept below fails =
-    sym kept ∙ ap (with_front front) (steps read view xs i d below ∙ ap (one_more read (map view (drop (i + 1) xs))) fails)
+-- the same, where the value at the index is known
+steps_at : {A B : Type 0} (read : A → Result B FaultKind) (xs : List A) (i : ℕ) (d x : A) → i < length xs
+    → x ≡ get_or xs i d
+    → each read (drop i xs) ≡ one_more read (drop (i + 1) xs) (read x)
+steps_at read xs i d x below is = steps read xs i d below ∙ ap (λ y. one_more read (drop (i + 1) xs) (read y)) (sym is)
 
-pub each_keeps : {X A B : Type 0} (read : A → Result B FaultKind) (view : X → A) (xs : List X) (i : ℕ) (d : X) (front : List B) (y : B)
-    → with_front front (each read (map view (drop i xs))) ≡ each read (map view xs) → i < length xs → read (view (get_or xs i d)) ≡ Ok y
-    → with_front (front ++ y ∷ []) (each read (map view (drop (i + 1) xs))) ≡ each read (map view xs)
-each_keeps read view xs i d front y kept below gives =
-    with_front-more front y _ ∙ sym (ap (with_front front) (steps read view xs i d below ∙ ap (one_more read (map view (drop (i + 1) xs))) gives)) ∙ kept
+pub each_fails : {A B : Type 0} (read : A → Result B FaultKind) (xs : List A) (i : ℕ) (d x : A) (front : List B) (e : LineError)
+    → with_front front (each read (drop i xs)) ≡ each read xs → i < length xs → x ≡ get_or xs i d → Fails e (read x)
+    → Fails e (each read xs)
+each_fails read xs i d x front Memory kept below is fails = tt
+each_fails read xs i d x front (Fault kind) kept below is fails =
+    sym kept ∙ ap (with_front front) (steps_at read xs i d x below is ∙ ap (one_more read (drop (i + 1) xs)) fails)
 
-pub each_ends : {X A B : Type 0} (read : A → Result B FaultKind) (view : X → A) (xs : List X) (i : ℕ) (front : List B)
-    → with_front front (each read (map view (drop i xs))) ≡ each read (map view xs) → length xs ≤ i → each read (map view xs) ≡ Ok front
+pub each_keeps : {A B : Type 0} (read : A → Result B FaultKind) (xs : List A) (i : ℕ) (d x : A) (front : List B) (y : B)
+    → with_front front (each read (drop i xs)) ≡ each read xs → i < length xs → x ≡ get_or xs i d → read x ≡ Ok y
+    → with_front (front ++ y ∷ []) (each read (drop (i + 1) xs)) ≡ each read xs
+each_keeps read xs i d x front y kept below is gives =
+    with_front-more front y _
+    ∙ sym (ap (with_front front) (steps_at read xs i d x below is ∙ ap (one_more read (drop (i + 1) xs)) gives)) ∙ kept
+
+pub each_ends : {A B : Type 0} (read : A → Result B FaultKind) (xs : List A) (i : ℕ) (front : List B)
+    → with_front front (each read (drop i xs)) ≡ each read xs → length xs ≤ i → each read xs ≡ Ok front
 unfolding each
-each_ends read view xs i front kept past =
-    sym kept ∙ ap (λ rest. with_front front (each read (map view rest))) (drop_of_length-le xs past) ∙ ap Ok (append-nil front)
+each_ends read xs i front kept past =
+    sym kept ∙ ap (λ rest. with_front front (each read rest)) (drop_of_length-le xs past) ∙ ap Ok (append-nil front)
+
+-- what is read of values that are seen by a view
+pub each-map : {X A B : Type 0} (read : A → Result B FaultKind) (view : X → A) (xs : List X)
+    → each read (map view xs) ≡ each (λ x. read (view x)) xs
+unfolding each
+each-map read view [] = refl
+each-map read view (x ∷ xs) = ap (λ r. read (view x) >>= λ first. r >>= λ others. Ok (first ∷ others)) (each-map read view xs)
+
+pub each_fails-map : {X A B : Type 0} (read : A → Result B FaultKind) (view : X → A) (xs : List X) (e : LineError)
+    → Fails e (each (λ x. read (view x)) xs) → Fails e (each read (map view xs))
+each_fails-map read view xs e fails = subst (Fails e) (sym (each-map read view xs)) fails

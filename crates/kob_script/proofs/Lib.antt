@@ -1,8 +1,9 @@
+pub mod AclFaults
 pub mod Choices
+pub mod Cuts
 pub mod Each
 pub mod Escapes
 pub mod Lines
 pub mod Numbers
 pub mod PlainScripts
 pub mod Printed
-pub mod Telling

@@ -6,7 +6,8 @@ use Rattle.kob_rights.specs.declared.reply.Reply.{Reply}
 use Rattle.kob_script.specs.PrintedReply.{verdict_text, verdicts_text, reply_text, replies_text}
 
 -- a verdict and what follows it
-verdicts-more : (v : Verdict) (others : List Verdict) → 0 < length others → verdicts_text (v ∷ others) ≡ (verdict_text v ++ codes ",") ++ verdicts_text others
+verdicts-more : (v : Verdict) (others : List Verdict) → 0 < length others
+    → verdicts_text (v ∷ others) ≡ (verdict_text v ++ codes ",") ++ verdicts_text others
 unfolding verdicts_text
 verdicts-more v [] some = absurd (omega arith)
 verdicts-more v (w ∷ more) some = refl
@@ -17,7 +18,8 @@ verdicts-last v [] none = refl
 verdicts-last v (w ∷ more) none = absurd (omega arith)
 
 pub verdict_keeps : (out more last : List ℕ) (rest : List Verdict) (v : Verdict) (others : List Verdict) (all : List ℕ)
-    → out ++ verdicts_text rest ≡ all → rest ≡ v ∷ others → 0 < length others → more ≡ out ++ verdict_text v → last ≡ more ++ codes "," → last ++ verdicts_text others ≡ all
+    → out ++ verdicts_text rest ≡ all → rest ≡ v ∷ others → 0 < length others → more ≡ out ++ verdict_text v
+    → last ≡ more ++ codes "," → last ++ verdicts_text others ≡ all
 verdict_keeps out more last rest v others all kept split some grown ended =
     ap (λ o. o ++ verdicts_text others) (ended ∙ ap (λ o. o ++ codes ",") grown ∙ append_assoc out (verdict_text v) (codes ","))
     ∙ append_assoc out (verdict_text v ++ codes ",") (verdicts_text others)
@@ -30,17 +32,20 @@ nothing [] none = refl
 nothing (w ∷ more) none = absurd (omega arith)
 
 pub verdict_ends : (out last : List ℕ) (rest : List Verdict) (v : Verdict) (others : List Verdict) (all : List ℕ)
-    → out ++ verdicts_text rest ≡ all → rest ≡ v ∷ others → length others ≡ 0 → last ≡ out ++ verdict_text v → last ++ verdicts_text others ≡ all
+    → out ++ verdicts_text rest ≡ all → rest ≡ v ∷ others → length others ≡ 0 → last ≡ out ++ verdict_text v
+    → last ++ verdicts_text others ≡ all
 verdict_ends out last rest v others all kept split none grown =
     ap (λ o. last ++ o) (nothing others none) ∙ append-nil last ∙ grown ∙ sym (ap (λ t. out ++ t) (ap verdicts_text split ∙ verdicts-last v others none)) ∙ kept
 
-pub verdicts_done : (out : List ℕ) (rest : List Verdict) (all : List ℕ) → out ++ verdicts_text rest ≡ all → length rest ≡ 0 → out ≡ all
+pub verdicts_done : (out : List ℕ) (rest : List Verdict) (all : List ℕ) → out ++ verdicts_text rest ≡ all
+    → length rest ≡ 0 → out ≡ all
 unfolding verdicts_text
 verdicts_done out [] all kept none = sym (append-nil out) ∙ kept
 verdicts_done out (w ∷ more) all kept none = absurd (omega arith)
 
 pub reply_keeps : (out more : List ℕ) (replies : List Reply) (i : ℕ) (r : Reply) (all : List ℕ)
-    → out ++ replies_text (i + 1) (drop i replies) ≡ all → i < length replies → r ≡ get_or replies i r → more ≡ out ++ reply_text (i + 1) r
+    → out ++ replies_text (i + 1) (drop i replies) ≡ all → i < length replies → r ≡ get_or replies i r
+    → more ≡ out ++ reply_text (i + 1) r
     → more ++ replies_text (i + 1 + 1) (drop (i + 1) replies) ≡ all
 unfolding replies_text
 reply_keeps out more replies i r all kept below is grown =

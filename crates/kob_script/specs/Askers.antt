@@ -1,19 +1,25 @@
 -- Who asks.
-use Rattle.std.specs.Prelude.{ℕ, List, Result, Ok}
+use Rattle.std.specs.Prelude.{Result, Ok}
 use Rattle.kob_rights.specs.declared.event.Event.{Event}
 use Rattle.kob_rights.specs.declared.request.Request.{Request}
-use Rattle.kob_script.specs.declared.asker.AskedName.{AskedName}
 use Rattle.kob_script.specs.declared.asker.Asker.{Asker}
 use Rattle.kob_script.specs.declared.asker.AskerText.{AskerText}
+use Rattle.kob_script.specs.declared.asker.AskerWithName.{AskerWithName}
 use Rattle.kob_script.specs.declared.fault.FaultKind.{FaultKind}
 use Rattle.kob_script.specs.Reading.{◌>>=◌}
 use Rattle.kob_script.specs.Texts.{text_of, principal_of, host_of}
+use Rattle.kob_script.specs.Word.{Word}
 
--- the texts of the first two words of a line
-unfoldable pub asker_text : List ℕ → List ℕ → Result AskerText FaultKind
-asker_text who from = do
-  principal ← text_of who
-  host ← text_of from
+-- the first two words of a line
+pub record AskerWords : Type 0 where
+  pub principal : Word
+  pub host : Word
+
+-- their texts
+unfoldable pub asker_text : AskerWords → Result AskerText FaultKind
+asker_text words = do
+  principal ← text_of words.principal
+  host ← text_of words.host
   Ok (record { principal = principal; host = host })
 
 -- the principal and the host that the texts are
@@ -24,9 +30,9 @@ asker_of texts = do
   Ok (record { principal = principal; host = host })
 
 -- a name, and who asks by it; all three are texts before any is a principal or a host
-unfoldable pub asked_name : List ℕ → List ℕ → List ℕ → Result AskedName FaultKind
-asked_name who from word = do
-  texts ← asker_text who from
+unfoldable pub asker_with_name : AskerWords → Word → Result AskerWithName FaultKind
+asker_with_name words word = do
+  texts ← asker_text words
   name ← text_of word
   asker ← asker_of texts
   Ok (record { asker = asker; name = name })

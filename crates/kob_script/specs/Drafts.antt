@@ -1,8 +1,8 @@
 -- The words of a binding, by the order in which faults are looked for.
-use Rattle.std.specs.Prelude.{ℕ, List, Result, Ok}
-use Rattle.kob_script.specs.Askers.{asker_text}
+use Rattle.std.specs.Prelude.{Result, Ok}
+use Rattle.kob_script.specs.Askers.{AskerWords, asker_text}
 use Rattle.kob_script.specs.declared.asker.AskerText.{AskerText}
-use Rattle.kob_script.specs.declared.draft.AskedDraft.{AskedDraft}
+use Rattle.kob_script.specs.declared.draft.AskerWithDraft.{AskerWithDraft}
 use Rattle.kob_script.specs.declared.draft.DraftKinds.{DraftKinds}
 use Rattle.kob_script.specs.declared.draft.DraftNames.{DraftNames}
 use Rattle.kob_script.specs.declared.draft.DraftTexts.{DraftTexts}
@@ -10,14 +10,24 @@ use Rattle.kob_script.specs.declared.fault.FaultKind.{FaultKind}
 use Rattle.kob_script.specs.Keywords.{permission_of, resource_of, pattern_of, operation_of}
 use Rattle.kob_script.specs.Reading.{◌>>=◌}
 use Rattle.kob_script.specs.Texts.{text_of, principal_of, host_of}
+use Rattle.kob_script.specs.Word.{Word}
+
+-- the words that write a binding
+pub record DraftWords : Type 0 where
+  pub permission : Word
+  pub bound : AskerWords
+  pub operation : Word
+  pub resource : Word
+  pub pattern : Word
+  pub name : Word
 
 -- the texts of who asks, of whom the binding speaks to, and of the name of its pattern
-unfoldable pub draft_texts : List ℕ → List ℕ → List ℕ → List ℕ → List ℕ → Result DraftTexts FaultKind
-draft_texts who from bound_who bound_from name = do
-  asker ← asker_text who from
-  bound ← asker_text bound_who bound_from
-  pattern_name ← text_of name
-  Ok (record { asker = asker; bound = bound; name = pattern_name })
+unfoldable pub draft_texts : AskerWords → DraftWords → Result DraftTexts FaultKind
+draft_texts asker words = do
+  asker_texts ← asker_text asker
+  bound ← asker_text words.bound
+  name ← text_of words.name
+  Ok (record { asker = asker_texts; bound = bound; name = name })
 
 -- who asks, and whom the binding speaks to; both principals come before both hosts
 unfoldable pub draft_names : AskerText → AskerText → Result DraftNames FaultKind
@@ -32,16 +42,16 @@ draft_names asker bound = do
   })
 
 -- the words of the tables
-unfoldable pub draft_kinds : List ℕ → List ℕ → List ℕ → List ℕ → Result DraftKinds FaultKind
-draft_kinds permission operation resource pattern = do
-  grant ← permission_of permission
-  act ← operation_of operation
-  kind ← resource_of resource
-  shape ← pattern_of pattern
-  Ok (record { permission = grant; operation = act; resource = kind; pattern = shape })
+unfoldable pub draft_kinds : DraftWords → Result DraftKinds FaultKind
+draft_kinds words = do
+  permission ← permission_of words.permission
+  operation ← operation_of words.operation
+  resource ← resource_of words.resource
+  pattern ← pattern_of words.pattern
+  Ok (record { permission = permission; operation = operation; resource = resource; pattern = pattern })
 
-abbrev pub asked_draft : DraftTexts → DraftNames → DraftKinds → AskedDraft
-asked_draft texts names kinds = record {
+abbrev pub asker_with_draft : DraftTexts → DraftNames → DraftKinds → AskerWithDraft
+asker_with_draft texts names kinds = record {
   asker = names.asker;
   draft = record {
     permission = kinds.permission;
@@ -53,10 +63,10 @@ asked_draft texts names kinds = record {
   };
 }
 
--- PERMISSION PRINCIPAL HOST OPERATION RESOURCE PATTERN NAME of a binding, and who asks for it
-unfoldable pub draft_of : List ℕ → List ℕ → List ℕ → List ℕ → List ℕ → List ℕ → List ℕ → List ℕ → List ℕ → Result AskedDraft FaultKind
-draft_of who from permission bound_who bound_from operation resource pattern name = do
-  texts ← draft_texts who from bound_who bound_from name
+-- the binding that the words write, and who asks for it
+unfoldable pub draft_of : AskerWords → DraftWords → Result AskerWithDraft FaultKind
+draft_of asker words = do
+  texts ← draft_texts asker words
   names ← draft_names texts.asker texts.bound
-  kinds ← draft_kinds permission operation resource pattern
-  Ok (asked_draft texts names kinds)
+  kinds ← draft_kinds words
+  Ok (asker_with_draft texts names kinds)

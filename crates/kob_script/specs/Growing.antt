@@ -1,5 +1,5 @@
 -- A script as it is read.
-use Rattle.std.specs.Prelude.{◌≡◌, ℕ, Result, Ok, Err}
+use Rattle.std.specs.Prelude.{◌≡◌, ℕ, [], Result, Ok, Err}
 use Rattle.kob_script.specs.declared.fault.Fault.{Fault}
 use Rattle.kob_script.specs.declared.fault.FaultKind.{FaultKind}
 use Rattle.kob_script.specs.declared.fault.LineError.{LineError}
@@ -10,9 +10,12 @@ use Rattle.kob_script.specs.declared.script.Growing.{Growing}
 use Rattle.kob_script.specs.declared.script.Script.{Script}
 use Rattle.kob_script.specs.Reading.{Fails}
 
--- the script so far
+-- the script so far, in which no binding is opened
 abbrev pub grown : Growing → Script
-grown growing = record { supers = growing.supers.items; events = growing.events.items }
+grown growing = record {
+  settings = record { supers = growing.supers.items; opening = [] };
+  events = growing.events.items;
+}
 
 -- what was wrong, with the number of its line
 abbrev pub fault_at : ℕ → LineError → ScriptError

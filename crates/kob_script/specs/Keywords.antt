@@ -1,5 +1,5 @@
 -- The words of the tables: permissions, operations, resources and patterns.
-use Rattle.std.specs.Prelude.{ℕ, List, Result, Ok, codes, if◌then◌else◌}
+use Rattle.std.specs.Prelude.{Result, Ok, codes, if◌then◌else◌}
 use Rattle.std.specs.Str.{bytes_eq}
 use Rattle.kob_words.specs.Operation.{operation_named}
 use Rattle.kob_words.specs.Pattern.{filter_pattern_named, pattern_named}
@@ -13,24 +13,23 @@ use Rattle.kob_names.specs.declared.kinds.Permission.{Permission}
 use Rattle.kob_names.specs.declared.kinds.ResourceKind.{ResourceKind}
 use Rattle.kob_script.specs.declared.fault.FaultKind.{FaultKind}
 use Rattle.kob_script.specs.declared.fault.FaultKind.TheVariants.{BadWord}
-use Rattle.kob_script.specs.Escapes.{bytes_of}
-use Rattle.kob_script.specs.Reading.{◌>>=◌, found_or}
+use Rattle.kob_script.specs.Reading.{found_or}
+use Rattle.kob_script.specs.Word.{Word}
 
--- what a word names after its escapes
-unfoldable pub permission_of : List ℕ → Result Permission FaultKind
-permission_of word = bytes_of word >>= λ name. found_or BadWord (permission_named name)
+-- what a word names
+abbrev pub permission_of : Word → Result Permission FaultKind
+permission_of word = found_or BadWord (permission_named word.decoded)
 
-unfoldable pub resource_of : List ℕ → Result ResourceKind FaultKind
-resource_of word = bytes_of word >>= λ name. found_or BadWord (resource_named name)
+abbrev pub resource_of : Word → Result ResourceKind FaultKind
+resource_of word = found_or BadWord (resource_named word.decoded)
 
-unfoldable pub pattern_of : List ℕ → Result PatternKind FaultKind
-pattern_of word = bytes_of word >>= λ name. found_or BadWord (pattern_named name)
+abbrev pub pattern_of : Word → Result PatternKind FaultKind
+pattern_of word = found_or BadWord (pattern_named word.decoded)
 
-unfoldable pub operation_of : List ℕ → Result Operation FaultKind
-operation_of word = bytes_of word >>= λ name. found_or BadWord (operation_named name)
+abbrev pub operation_of : Word → Result Operation FaultKind
+operation_of word = found_or BadWord (operation_named word.decoded)
 
 -- a filter takes any pattern by `-` too, which has to stand without escapes
-unfoldable pub filter_pattern_of : List ℕ → Result FilterPattern FaultKind
+abbrev pub filter_pattern_of : Word → Result FilterPattern FaultKind
 filter_pattern_of word =
-    if bytes_eq word (codes "-") then Ok Any
-    else (bytes_of word >>= λ name. found_or BadWord (filter_pattern_named name))
+    if bytes_eq word.raw (codes "-") then Ok Any else found_or BadWord (filter_pattern_named word.decoded)

@@ -2,6 +2,7 @@ pub mod Acl
 pub mod AclLines
 pub mod Askers
 pub mod Batches
+pub mod ClapAnswer
 pub mod Command
 pub mod CommandLines
 pub mod Drafts
@@ -17,8 +18,9 @@ pub mod PrintedFault
 pub mod PrintedReply
 pub mod Reading
 pub mod Script
+pub mod ScriptReadings
+pub mod Settings
 pub mod Texts
-pub mod Told
-pub mod ToldScript
 pub mod TopicLines
+pub mod Word
 pub mod Words

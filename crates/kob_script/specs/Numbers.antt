@@ -4,8 +4,7 @@ use Rattle.std.specs.Str.{all_ascii_digits}
 use Rattle.std.specs.Str.Parse.{digits_value}
 use Rattle.kob_script.specs.declared.fault.FaultKind.{FaultKind}
 use Rattle.kob_script.specs.declared.fault.FaultKind.TheVariants.{BadNumber}
-use Rattle.kob_script.specs.Escapes.{bytes_of}
-use Rattle.kob_script.specs.Reading.{◌>>=◌}
+use Rattle.kob_script.specs.Word.{Word}
 
 -- one or more decimal digits that write a number of 64 bits
 abbrev pub is_number : List ℕ → Bool
@@ -15,5 +14,5 @@ abbrev pub number_in : List ℕ → Result ℕ FaultKind
 number_in digits = if is_number digits then Ok (digits_value 10 digits) else Err BadNumber
 
 -- the number that a word writes
-unfoldable pub number_of : List ℕ → Result ℕ FaultKind
-number_of word = bytes_of word >>= number_in
+abbrev pub number_of : Word → Result ℕ FaultKind
+number_of word = number_in word.decoded

@@ -1,9 +1,10 @@
 -- Reading, up to the first fault.
-use Rattle.std.specs.Prelude.{◌≡◌, ℕ, List, [], ◌∷◌, ◌++◌, Option, Some, None, Result, Ok, Err, codes, if◌then◌else◌}
+use Rattle.std.specs.Prelude.{◌≡◌, List, [], ◌∷◌, ◌++◌, Option, Some, None, Result, Ok, Err, codes, if◌then◌else◌}
 use Rattle.std.specs.Str.{bytes_eq}
 use Rattle.kob_script.specs.declared.fault.FaultKind.{FaultKind}
 use Rattle.kob_script.specs.declared.fault.LineError.{LineError}
 use Rattle.kob_script.specs.declared.fault.LineError.TheVariants.{Memory, Fault}
+use Rattle.kob_script.specs.Word.{Word}
 
 -- a step of reading, and those after it unless it failed
 infixl 10 ◌>>=◌
@@ -25,11 +26,6 @@ Gives (Err error) read = Fails error read
 abbrev pub GivesSeen : {A B : Type 0} → (A → B) → Result A LineError → Result B FaultKind → Type 0
 GivesSeen view (Ok x) read = read ≡ Ok (view x)
 GivesSeen view (Err error) read = Fails error read
-
--- Reading gives something or the fault, unless memory ran out.
-abbrev pub GivesUnit : {A : Type 0} → Result (Unit {0}) LineError → Result A FaultKind → Type 0
-GivesUnit {A} (Ok done) read = (x : A) × (read ≡ Ok x)
-GivesUnit (Err error) read = Fails error read
 
 -- each in turn, up to the first fault
 unfoldable pub each : {A B : Type 0} → (A → Result B FaultKind) → List A → Result (List B) FaultKind
@@ -56,5 +52,5 @@ optionally read None = Ok None
 optionally read (Some x) = read x >>= λ y. Ok (Some y)
 
 -- nothing for the word `-`, which has to stand without escapes
-abbrev pub unless_dash : {A : Type 0} → (List ℕ → Result A FaultKind) → List ℕ → Result (Option A) FaultKind
-unless_dash read word = if bytes_eq word (codes "-") then Ok None else (read word >>= λ x. Ok (Some x))
+abbrev pub unless_dash : {A : Type 0} → (Word → Result A FaultKind) → Word → Result (Option A) FaultKind
+unless_dash read word = if bytes_eq word.raw (codes "-") then Ok None else (read word >>= λ x. Ok (Some x))

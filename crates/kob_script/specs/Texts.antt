@@ -5,15 +5,15 @@ use Rattle.kob_names.specs.HostRules.{host_fault}
 use Rattle.kob_names.specs.PrincipalRules.{principal_fault}
 use Rattle.kob_script.specs.declared.fault.FaultKind.{FaultKind}
 use Rattle.kob_script.specs.declared.fault.FaultKind.TheVariants.{BadText, BadPrincipal, BadHost}
-use Rattle.kob_script.specs.Escapes.{bytes_of}
-use Rattle.kob_script.specs.Reading.{◌>>=◌, unless_fault}
+use Rattle.kob_script.specs.Reading.{unless_fault}
+use Rattle.kob_script.specs.Word.{Word}
 
 abbrev pub text_in : List ℕ → Result (List ℕ) FaultKind
 text_in bytes = if is_utf8 bytes then Ok bytes else Err BadText
 
 -- the text of a word
-unfoldable pub text_of : List ℕ → Result (List ℕ) FaultKind
-text_of word = bytes_of word >>= text_in
+abbrev pub text_of : Word → Result (List ℕ) FaultKind
+text_of word = text_in word.decoded
 
 -- a text that is a principal
 unfoldable pub principal_of : List ℕ → Result (List ℕ) FaultKind

@@ -1,30 +1,32 @@
 //! The command `acl`: words of `kafka-acls`, each command of which is a request of its own.
 
-ghost use Rattle.std.specs.Prelude.{◌≡◌, map, IfOk};
-ghost use Rattle.kob_script.specs.Acl.{acl_line, asker_before, commands_in, error_of, request_of, requests_by};
+ghost use Rattle.std.specs.Prelude.{◌≡◌, IfOk};
+ghost use Rattle.kob_script.specs.Acl.{acl_line, asker_before, commands_in, error_of};
+ghost use Rattle.kob_script.specs.Acl.{request_of, requests_by};
 ghost use Rattle.kob_script.specs.Reading.{Gives, GivesSeen};
 
 use crate::asker::{Asker, AskerWords};
 use crate::fault::{FaultKind, LineError};
 use crate::text::texts_of;
+use crate::word::Word;
 use kob_acl_cli::{AclCommand, CliArgs, CommandFault, commands_of};
 use kob_rights::{CreateAcls, DeleteAcls, DescribeAcls, Event, Request};
 use std::alloc::{AllocError, Global};
 
-/// `acl` and words of `kafka-acls`, by what `clap` told of the words: options, or nothing where it refused them. All words
-/// are looked at as texts, and then at who asks, before any option is.
+/// `acl` and words of `kafka-acls`, by what `clap` answers to the words: options, or nothing where
+/// it refuses them. All words are looked at as texts, and then at who asks, before any option is.
 #[tactic(auto, unfolding(crate::specs::Acl::acl_line))]
 pub fn acl_line(
     alloc: Global,
-    asker: AskerWords<'_>,
-    words: &[&[u8]],
-    told: &Option<CliArgs>,
+    asker: &AskerWords<'_, '_>,
+    words: &[Word<'_>],
+    answer: &Option<CliArgs>,
 ) -> Result<Vec<Event>, LineError>
     ensures { GivesSeen (λ events. events.items) result
-        (acl_line told.now asker.entry.principal.now asker.entry.host.now (map (λ word. word.now) words.now)) }
+        (acl_line answer.now asker.now words.now) }
 {
     let asker = asker_before(alloc, asker, words)?;
-    let Some(args) = told else {
+    let Some(args) = answer else {
         return Err(LineError::Fault(FaultKind::Usage));
     };
     let commands = commands_in(alloc, args)?;
@@ -33,8 +35,12 @@ pub fn acl_line(
 }
 
 #[tactic(auto, unfolding(crate::specs::Acl::asker_before))]
-fn asker_before(alloc: Global, asker: AskerWords<'_>, words: &[&[u8]]) -> Result<Asker, LineError>
-    ensures { Gives result (asker_before asker.entry.principal.now asker.entry.host.now (map (λ word. word.now) words.now)) }
+fn asker_before(
+    alloc: Global,
+    asker: &AskerWords<'_, '_>,
+    words: &[Word<'_>],
+) -> Result<Asker, LineError>
+    ensures { Gives result (asker_before asker.now words.now) }
 {
     let texts = asker.text(alloc)?;
     texts_of(alloc, words)?;

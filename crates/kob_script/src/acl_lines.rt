@@ -1,13 +1,14 @@
 //! Lines that ask for something of bindings.
 
-ghost use Rattle.std.specs.Prelude.{map};
-ghost use Rattle.kob_script.specs.AclLines.{create_acl, create_acl_line, filter_line, describe_acls_line, delete_acls_line};
+ghost use Rattle.kob_script.specs.AclLines.{create_acl, create_acl_line, delete_acls_line};
+ghost use Rattle.kob_script.specs.AclLines.{describe_acls_line, filter_line};
 ghost use Rattle.kob_script.specs.Reading.{Gives};
 
 use crate::asker::AskerWords;
-use crate::draft::{AskedDraft, DraftWords, draft_of};
+use crate::draft::{AskerWithDraft, DraftWords, draft_of};
 use crate::fault::{FaultKind, LineError};
-use crate::filter::{AskedFilter, FilterWords, filter_of};
+use crate::filter::{AskerWithFilter, FilterWords, filter_of};
+use crate::word::Word;
 use kob_names::Items;
 use kob_rights::{CreateAcls, DeleteAcls, DescribeAcls, Event, Request};
 use std::alloc::Global;
@@ -15,13 +16,12 @@ use std::alloc::Global;
 #[tactic(auto, unfolding(crate::specs::AclLines::create_acl))]
 fn create_acl(
     alloc: Global,
-    asker: AskerWords<'_>,
-    words: DraftWords<'_>,
+    asker: &AskerWords<'_, '_>,
+    words: &DraftWords<'_, '_>,
 ) -> Result<Event, LineError>
-    ensures { let w = words.entry in Gives result
-        (create_acl asker.entry.principal.now asker.entry.host.now w.permission.now w.bound.principal.now w.bound.host.now w.operation.now w.resource.now w.pattern.now w.name.now) }
+    ensures { Gives result (create_acl asker.now words.now) }
 {
-    let AskedDraft { asker, draft } = draft_of(alloc, asker, words)?;
+    let AskerWithDraft { asker, draft } = draft_of(alloc, asker, words)?;
     let mut drafts = Vec::new(alloc);
     drafts.push(draft)?;
     let drafts = Items::from_vec(drafts);
@@ -31,10 +31,10 @@ fn create_acl(
 /// `create-acl PERMISSION PRINCIPAL HOST OPERATION RESOURCE PATTERN NAME`
 pub fn create_acl_line(
     alloc: Global,
-    asker: AskerWords<'_>,
-    words: &[&[u8]],
+    asker: &AskerWords<'_, '_>,
+    words: &[Word<'_>],
 ) -> Result<Event, LineError>
-    ensures { Gives result (create_acl_line asker.entry.principal.now asker.entry.host.now (map (λ word. word.now) words.now)) }
+    ensures { Gives result (create_acl_line asker.now words.now) }
 {
     match words {
         [
@@ -54,7 +54,7 @@ pub fn create_acl_line(
                 pattern,
                 name,
             };
-            create_acl(alloc, asker, words)
+            create_acl(alloc, asker, &words)
         }
         _ => Err(LineError::Fault(FaultKind::BadLine)),
     }
@@ -63,10 +63,10 @@ pub fn create_acl_line(
 // RESOURCE NAME PATTERN PRINCIPAL HOST OPERATION PERMISSION, each `-` for any.
 fn filter_line(
     alloc: Global,
-    asker: AskerWords<'_>,
-    words: &[&[u8]],
-) -> Result<AskedFilter, LineError>
-    ensures { Gives result (filter_line asker.entry.principal.now asker.entry.host.now (map (λ word. word.now) words.now)) }
+    asker: &AskerWords<'_, '_>,
+    words: &[Word<'_>],
+) -> Result<AskerWithFilter, LineError>
+    ensures { Gives result (filter_line asker.now words.now) }
 {
     match words {
         [
@@ -87,7 +87,7 @@ fn filter_line(
                 operation,
                 permission,
             };
-            filter_of(alloc, asker, words)
+            filter_of(alloc, asker, &words)
         }
         _ => Err(LineError::Fault(FaultKind::BadLine)),
     }
@@ -96,23 +96,23 @@ fn filter_line(
 /// `describe-acls` and the words of a filter
 pub fn describe_acls_line(
     alloc: Global,
-    asker: AskerWords<'_>,
-    words: &[&[u8]],
+    asker: &AskerWords<'_, '_>,
+    words: &[Word<'_>],
 ) -> Result<Event, LineError>
-    ensures { Gives result (describe_acls_line asker.entry.principal.now asker.entry.host.now (map (λ word. word.now) words.now)) }
+    ensures { Gives result (describe_acls_line asker.now words.now) }
 {
-    let AskedFilter { asker, filter } = filter_line(alloc, asker, words)?;
+    let AskerWithFilter { asker, filter } = filter_line(alloc, asker, words)?;
     Ok(asker.asks(Request::DescribeAcls(DescribeAcls { filter })))
 }
 
 /// `delete-acls` and the words of a filter
 pub fn delete_acls_line(
     alloc: Global,
-    asker: AskerWords<'_>,
-    words: &[&[u8]],
+    asker: &AskerWords<'_, '_>,
+    words: &[Word<'_>],
 ) -> Result<Event, LineError>
-    ensures { Gives result (delete_acls_line asker.entry.principal.now asker.entry.host.now (map (λ word. word.now) words.now)) }
+    ensures { Gives result (delete_acls_line asker.now words.now) }
 {
-    let AskedFilter { asker, filter } = filter_line(alloc, asker, words)?;
+    let AskerWithFilter { asker, filter } = filter_line(alloc, asker, words)?;
     Ok(asker.asks(Request::DeleteAcls(DeleteAcls { filter })))
 }

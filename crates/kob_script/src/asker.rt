@@ -1,20 +1,30 @@
 //! Who asks.
 
 ghost use Rattle.std.specs.Prelude.{◌≡◌, IfOk};
-ghost use Rattle.kob_script.specs.Askers.{asker_text, asker_of, asked_name, asks};
+ghost use Rattle.kob_script.specs.Askers.{asker_text, asker_of, asker_with_name, asks};
 ghost use Rattle.kob_script.specs.Reading.{Gives};
 
 use crate::fault::LineError;
 use crate::text::{host_of, principal_of, text_of};
+use crate::word::Word;
 use kob_names::{Host, PlainValue, Principal, Text};
 use kob_rights::{Event, Request};
 use std::alloc::{AllocError, Global};
+use std::marker::Model;
 
 /// Who asks and from where, as the words stand in a line.
-#[derive(Clone, Copy)]
-pub struct AskerWords<'a> {
-    pub principal: &'a [u8],
-    pub host: &'a [u8],
+#[derive(Drop)]
+pub struct AskerWords<'w, 'l> {
+    pub principal: &'w Word<'l>,
+    pub host: &'w Word<'l>,
+}
+
+impl<'w, 'l> Model for AskerWords<'w, 'l> {
+    ghost use Rattle.kob_script.specs.Askers.{AskerWords};
+
+    ghost Value = { AskerWords };
+
+    ghost view = { λ words. record { principal = words.principal.now; host = words.host.now } };
 }
 
 /// Who asks and from where, as texts.
@@ -33,16 +43,16 @@ pub struct Asker {
 
 /// A name, and who asks by it.
 #[derive(Debug, Drop)]
-pub struct AskedName {
+pub struct AskerWithName {
     pub asker: Asker,
     pub name: Text,
 }
 
-impl AskerWords<'_> {
+impl AskerWords<'_, '_> {
     /// The texts of the words.
     #[tactic(auto, unfolding(crate::specs::Askers::asker_text))]
-    pub fn text(self, alloc: Global) -> Result<AskerText, LineError>
-        ensures { Gives result (asker_text self.entry.principal.now self.entry.host.now) }
+    pub fn text(&self, alloc: Global) -> Result<AskerText, LineError>
+        ensures { Gives result (asker_text self.now) }
     {
         let principal = text_of(alloc, self.principal)?;
         let host = text_of(alloc, self.host)?;
@@ -50,14 +60,14 @@ impl AskerWords<'_> {
     }
 
     /// The asker, and the name that a further word is.
-    #[tactic(auto, unfolding(crate::specs::Askers::asked_name))]
-    pub fn with_name(self, alloc: Global, name: &[u8]) -> Result<AskedName, LineError>
-        ensures { Gives result (asked_name self.entry.principal.now self.entry.host.now name.now) }
+    #[tactic(auto, unfolding(crate::specs::Askers::asker_with_name))]
+    pub fn with_name(&self, alloc: Global, name: &Word<'_>) -> Result<AskerWithName, LineError>
+        ensures { Gives result (asker_with_name self.now name.now) }
     {
         let texts = self.text(alloc)?;
         let name = text_of(alloc, name)?;
         let asker = texts.asker(alloc)?;
-        Ok(AskedName { asker, name })
+        Ok(AskerWithName { asker, name })
     }
 }
 

@@ -4,7 +4,8 @@ ghost use Rattle.std.specs.Option.{option_copied};
 ghost use Rattle.std.specs.Prelude.{◌≡◌};
 ghost use Rattle.kob_script.specs.Command.{command_among, command_named, command_word};
 
-/// What a line asks for. `acl` is none of these, since it may ask for more than one request, or none.
+/// What a line asks for. `acl` is none of these, since it may ask for more than one request, or
+/// none.
 #[derive(Clone, Copy, Debug, PartialEq, Eq)]
 pub enum Command {
     CreateTopic,

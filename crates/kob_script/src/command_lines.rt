@@ -1,6 +1,5 @@
 //! Which line each command has, and the events of a line.
 
-ghost use Rattle.std.specs.Prelude.{map};
 ghost use Rattle.kob_script.specs.CommandLines.{command_line, events_named, events_of, line_named};
 ghost use Rattle.kob_script.specs.Reading.{Gives, GivesSeen};
 
@@ -8,11 +7,11 @@ use crate::acl::acl_line;
 use crate::acl_lines::{create_acl_line, delete_acls_line, describe_acls_line};
 use crate::asker::AskerWords;
 use crate::command::{Command, command_named};
-use crate::escape::bytes_of;
 use crate::fault::{FaultKind, LineError};
 use crate::group_lines::{commit_line, committed_line, delete_group_line, groups_line};
 use crate::partition_lines::{fetch_line, init_producer_line, list_offsets_line, produce_line};
 use crate::topic_lines::{create_topic_line, delete_topic_line, metadata_line};
+use crate::word::Word;
 use kob_acl_cli::CliArgs;
 use kob_rights::Event;
 use std::alloc::Global;
@@ -21,11 +20,10 @@ use std::alloc::Global;
 fn command_line(
     alloc: Global,
     command: Command,
-    asker: AskerWords<'_>,
-    words: &[&[u8]],
+    asker: &AskerWords<'_, '_>,
+    words: &[Word<'_>],
 ) -> Result<Event, LineError>
-    ensures { Gives result (command_line command asker.entry.principal.now asker.entry.host.now
-        (map (λ word. word.now) words.now)) }
+    ensures { Gives result (command_line command asker.now words.now) }
 {
     match command {
         Command::CreateTopic => create_topic_line(alloc, asker, words),
@@ -48,11 +46,10 @@ fn command_line(
 fn line_named(
     alloc: Global,
     name: &[u8],
-    asker: AskerWords<'_>,
-    words: &[&[u8]],
+    asker: &AskerWords<'_, '_>,
+    words: &[Word<'_>],
 ) -> Result<Event, LineError>
-    ensures { Gives result (line_named name.now asker.entry.principal.now asker.entry.host.now
-        (map (λ word. word.now) words.now)) }
+    ensures { Gives result (line_named name.now asker.now words.now) }
 {
     match command_named(name) {
         Some(command) => command_line(alloc, command, asker, words),
@@ -63,16 +60,15 @@ fn line_named(
 fn events_named(
     alloc: Global,
     name: &[u8],
-    asker: AskerWords<'_>,
-    words: &[&[u8]],
-    told: &Option<CliArgs>,
+    asker: &AskerWords<'_, '_>,
+    words: &[Word<'_>],
+    answer: &Option<CliArgs>,
 ) -> Result<Vec<Event>, LineError>
     ensures { GivesSeen (λ events. events.items) result
-        (events_named told.now name.now asker.entry.principal.now asker.entry.host.now
-        (map (λ word. word.now) words.now)) }
+        (events_named answer.now name.now asker.now words.now) }
 {
     if name == b"acl".as_slice() {
-        return acl_line(alloc, asker, words, told);
+        return acl_line(alloc, asker, words, answer);
     }
     let event = line_named(alloc, name, asker, words)?;
     let mut events = Vec::new(alloc);
@@ -80,21 +76,20 @@ fn events_named(
     Ok(events)
 }
 
-/// The events of a line's words, by what `clap` told of those of `acl`.
+/// The events of a line's words, by `clap`'s answer to those of `acl`.
 #[tactic(auto, unfolding(crate::specs::CommandLines::events_of))]
 pub fn events_of(
     alloc: Global,
-    words: &[&[u8]],
-    told: &Option<CliArgs>,
+    words: &[Word<'_>],
+    answer: &Option<CliArgs>,
 ) -> Result<Vec<Event>, LineError>
     ensures { GivesSeen (λ events. events.items) result
-        (events_of told.now (map (λ word. word.now) words.now)) }
+        (events_of answer.now words.now) }
 {
     match words {
         [principal, host, command, arguments @ ..] => {
-            let name = bytes_of(alloc, command)?;
             let asker = AskerWords { principal, host };
-            events_named(alloc, name.as_slice(), asker, arguments, told)
+            events_named(alloc, command.decoded(), &asker, arguments, answer)
         }
         _ => Err(LineError::Fault(FaultKind::BadLine)),
     }

@@ -1,30 +1,48 @@
 //! The words of a binding, by the order in which faults are looked for.
 
 ghost use Rattle.std.specs.Prelude.{◌≡◌};
-ghost use Rattle.kob_script.specs.Drafts.{draft_texts, draft_names, draft_kinds, asked_draft, draft_of};
+ghost use Rattle.kob_script.specs.Drafts.{asker_with_draft, draft_kinds, draft_names, draft_of};
+ghost use Rattle.kob_script.specs.Drafts.{draft_texts};
 ghost use Rattle.kob_script.specs.Reading.{Gives};
 
 use crate::asker::{Asker, AskerText, AskerWords};
 use crate::fault::LineError;
 use crate::keyword::{operation_of, pattern_of, permission_of, resource_of};
 use crate::text::{host_of, principal_of, text_of};
+use crate::word::Word;
 use kob_names::{Draft, Operation, Pattern, PatternKind, Permission, ResourceKind, Text};
 use std::alloc::Global;
+use std::marker::Model;
 
 /// The words that write a binding.
-#[derive(Clone, Copy)]
-pub struct DraftWords<'a> {
-    pub permission: &'a [u8],
-    pub bound: AskerWords<'a>,
-    pub operation: &'a [u8],
-    pub resource: &'a [u8],
-    pub pattern: &'a [u8],
-    pub name: &'a [u8],
+#[derive(Drop)]
+pub struct DraftWords<'w, 'l> {
+    pub permission: &'w Word<'l>,
+    pub bound: AskerWords<'w, 'l>,
+    pub operation: &'w Word<'l>,
+    pub resource: &'w Word<'l>,
+    pub pattern: &'w Word<'l>,
+    pub name: &'w Word<'l>,
+}
+
+impl<'w, 'l> Model for DraftWords<'w, 'l> {
+    ghost use Rattle.kob_script.specs.Drafts.{DraftWords};
+
+    ghost Value = { DraftWords };
+
+    ghost view = { λ words. record {
+      permission = words.permission.now;
+      bound = words.bound;
+      operation = words.operation.now;
+      resource = words.resource.now;
+      pattern = words.pattern.now;
+      name = words.name.now;
+    } };
 }
 
 /// A binding, and who asks for it.
 #[derive(Debug, Drop)]
-pub struct AskedDraft {
+pub struct AskerWithDraft {
     pub asker: Asker,
     pub draft: Draft,
 }
@@ -56,16 +74,14 @@ struct DraftKinds {
 #[tactic(auto, unfolding(crate::specs::Drafts::draft_texts))]
 fn draft_texts(
     alloc: Global,
-    asker: AskerWords<'_>,
-    bound: AskerWords<'_>,
-    name: &[u8],
+    asker: &AskerWords<'_, '_>,
+    words: &DraftWords<'_, '_>,
 ) -> Result<DraftTexts, LineError>
-    ensures { Gives result
-        (draft_texts asker.entry.principal.now asker.entry.host.now bound.entry.principal.now bound.entry.host.now name.now) }
+    ensures { Gives result (draft_texts asker.now words.now) }
 {
     let asker = asker.text(alloc)?;
-    let bound = bound.text(alloc)?;
-    let name = text_of(alloc, name)?;
+    let bound = words.bound.text(alloc)?;
+    let name = text_of(alloc, words.name)?;
     Ok(DraftTexts { asker, bound, name })
 }
 
@@ -87,14 +103,13 @@ fn draft_names(alloc: Global, asker: &AskerText, bound: &AskerText) -> Result<Dr
 }
 
 #[tactic(auto, unfolding(crate::specs::Drafts::draft_kinds))]
-fn draft_kinds(alloc: Global, words: DraftWords<'_>) -> Result<DraftKinds, LineError>
-    ensures { let w = words.entry in Gives result
-        (draft_kinds w.permission.now w.operation.now w.resource.now w.pattern.now) }
+fn draft_kinds(words: &DraftWords<'_, '_>) -> Result<DraftKinds, LineError>
+    ensures { Gives result (draft_kinds words.now) }
 {
-    let permission = permission_of(alloc, words.permission)?;
-    let operation = operation_of(alloc, words.operation)?;
-    let resource = resource_of(alloc, words.resource)?;
-    let pattern = pattern_of(alloc, words.pattern)?;
+    let permission = permission_of(words.permission)?;
+    let operation = operation_of(words.operation)?;
+    let resource = resource_of(words.resource)?;
+    let pattern = pattern_of(words.pattern)?;
     Ok(DraftKinds {
         permission,
         operation,
@@ -107,25 +122,24 @@ fn draft_kinds(alloc: Global, words: DraftWords<'_>) -> Result<DraftKinds, LineE
 #[tactic(auto, unfolding(crate::specs::Drafts::draft_of))]
 pub fn draft_of(
     alloc: Global,
-    asker: AskerWords<'_>,
-    words: DraftWords<'_>,
-) -> Result<AskedDraft, LineError>
-    ensures { let w = words.entry in Gives result
-        (draft_of asker.entry.principal.now asker.entry.host.now w.permission.now w.bound.principal.now w.bound.host.now w.operation.now w.resource.now w.pattern.now w.name.now) }
+    asker: &AskerWords<'_, '_>,
+    words: &DraftWords<'_, '_>,
+) -> Result<AskerWithDraft, LineError>
+    ensures { Gives result (draft_of asker.now words.now) }
 {
-    let texts = draft_texts(alloc, asker, words.bound, words.name)?;
+    let texts = draft_texts(alloc, asker, words)?;
     let names = draft_names(alloc, &texts.asker, &texts.bound)?;
-    let kinds = draft_kinds(alloc, words)?;
-    Ok(asked_draft(texts, names, kinds))
+    let kinds = draft_kinds(words)?;
+    Ok(asker_with_draft(texts, names, kinds))
 }
 
-fn asked_draft(texts: DraftTexts, names: DraftNames, kinds: DraftKinds) -> AskedDraft
-    ensures { result ≡ asked_draft texts names kinds }
+fn asker_with_draft(texts: DraftTexts, names: DraftNames, kinds: DraftKinds) -> AskerWithDraft
+    ensures { result ≡ asker_with_draft texts names kinds }
 {
     let DraftTexts { name, .. } = texts;
     let DraftNames { asker, bound } = names;
     let Asker { principal, host } = bound;
-    AskedDraft {
+    AskerWithDraft {
         asker,
         draft: Draft {
             permission: kinds.permission,

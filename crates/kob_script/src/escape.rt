@@ -1,46 +1,62 @@
-//! The bytes that a word stands for.
+//! Escapes: `%` and two hexadecimal digits stand for one byte.
 
-ghost use Rattle.std.specs.Prelude.{◌≤◌, length, IfOk};
-ghost use Rattle.kob_script.specs.Escapes.{escaped_byte, byte_at, bytes_of};
-ghost use Rattle.kob_script.specs.Reading.{Gives, GivesSeen};
+ghost use Rattle.std.specs.Prelude.{◌≡◌, ◌≤◌, length, IfOk, IfSome, if◌then◌else◌};
+ghost use Rattle.std.specs.Option.{option_map};
+ghost use Rattle.kob_script.specs.Escapes.{are_hexadecimal, byte_at, bytes_of};
+ghost use Rattle.kob_script.specs.Escapes.{has_whole_escapes, hexadecimal};
 
-use crate::fault::{FaultKind, LineError};
 use kob_names::Bytes;
-use std::alloc::Global;
+use std::alloc::{AllocError, Global};
 
-/// The bytes of a word: `%` and two hexadecimal digits stand for one byte.
-pub fn bytes_of(alloc: Global, word: &[u8]) -> Result<Bytes, LineError>
-    ensures { Gives result (bytes_of word.now) }
+/// Whether two hexadecimal digits follow each percent sign.
+pub fn has_whole_escapes(word: &[u8]) -> bool
+    ensures { result ≡ has_whole_escapes word.now }
+{
+    let mut rest = word;
+    while let Some((first, others)) = rest.split_first() {
+        match byte_at(*first, others) {
+            Some((_, after)) => rest = after,
+            None => return false,
+        }
+    }
+    true
+}
+
+/// The bytes that a word stands for. A percent sign that begins no escape stands for itself.
+pub fn bytes_of(alloc: Global, word: &[u8]) -> Result<Bytes, AllocError>
+    ensures { IfOk result (λ bytes. bytes ≡ bytes_of word.now) }
 {
     let mut bytes = Vec::new(alloc);
     let mut rest = word;
     while let Some((first, others)) = rest.split_first() {
-        let (byte, after) = byte_at(*first, others)?;
+        let (byte, after) = byte_at(*first, others).unwrap_or((*first, others));
         bytes.push(byte)?;
         rest = after;
     }
     Ok(Bytes::from_vec(bytes))
 }
 
-/// The byte that stands at the front of a word, and what comes after it.
-fn byte_at(first: u8, others: &[u8]) -> Result<(u8, &[u8]), LineError>
-    ensures read { GivesSeen (λ found. (found.0, found.1.now)) result (byte_at first others.now) }
-    ensures shrinks { IfOk result (λ found. length found.1.now ≤ length others.now) }
+/// The byte that stands at the front of a word, and what comes after it, unless a percent sign
+/// there begins no escape.
+fn byte_at(first: u8, others: &[u8]) -> Option<(u8, &[u8])>
+    ensures read { option_map (λ found. (found.0, found.1.now)) result ≡ byte_at first others.now }
+    ensures shrinks { IfSome result (λ found. length found.1.now ≤ length others.now) }
 {
     if first != b'%' {
-        return Ok((first, others));
+        return Some((first, others));
     }
     match others {
-        [high, low, after @ ..] => Ok((escaped_byte(*high, *low)?, after)),
-        _ => Err(LineError::Fault(FaultKind::BadEscape)),
+        [high, low, after @ ..] => Some((hexadecimal(*high, *low)?, after)),
+        _ => None,
     }
 }
 
-fn escaped_byte(high: u8, low: u8) -> Result<u8, LineError>
-    ensures { Gives result (escaped_byte high low) }
+/// The byte that two hexadecimal digits write.
+fn hexadecimal(high: u8, low: u8) -> Option<u8>
+    ensures { result ≡ (if are_hexadecimal high low then Some (hexadecimal high low) else None) }
 {
     match (char::from(high).to_digit(16), char::from(low).to_digit(16)) {
-        (Some(high), Some(low)) => Ok((16 * high + low) as u8),
-        _ => Err(LineError::Fault(FaultKind::BadEscape)),
+        (Some(high), Some(low)) => Some((16 * high + low) as u8),
+        _ => None,
     }
 }

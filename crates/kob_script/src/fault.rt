@@ -3,7 +3,8 @@
 use std::alloc::{AllocError, AllocFailed};
 use thiserror::Error;
 
-/// What is wrong with a line. The kinds stand in the order in which they are looked for over a whole line.
+/// What is wrong with a line. The kinds stand in the order in which they are looked for over a
+/// whole line.
 #[derive(Clone, Copy, Debug, PartialEq, Eq, Error)]
 pub enum FaultKind {
     #[error("a percent sign without two hexadecimal digits")]

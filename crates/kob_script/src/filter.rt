@@ -1,7 +1,8 @@
 //! The words of a filter, by the order in which faults are looked for.
 
 ghost use Rattle.std.specs.Prelude.{◌≡◌};
-ghost use Rattle.kob_script.specs.Filters.{filter_texts, filter_names, filter_kinds, asked_filter, filter_of};
+ghost use Rattle.kob_script.specs.Filters.{asker_with_filter, filter_kinds, filter_names};
+ghost use Rattle.kob_script.specs.Filters.{filter_of, filter_texts};
 ghost use Rattle.kob_script.specs.Reading.{Gives};
 
 use crate::asker::{Asker, AskerText, AskerWords};
@@ -12,26 +13,44 @@ use crate::keyword::{
 use crate::text::{
     host_of, optional_host_of, optional_principal_of, principal_of, text_unless_dash,
 };
+use crate::word::Word;
 use kob_names::{
     BindingFilter, FilterPattern, Host, Operation, Permission, Principal, ResourceKind, Text,
 };
 use std::alloc::Global;
+use std::marker::Model;
 
 /// The words that write a filter.
-#[derive(Clone, Copy)]
-pub struct FilterWords<'a> {
-    pub resource: &'a [u8],
-    pub name: &'a [u8],
-    pub pattern: &'a [u8],
-    pub principal: &'a [u8],
-    pub host: &'a [u8],
-    pub operation: &'a [u8],
-    pub permission: &'a [u8],
+#[derive(Drop)]
+pub struct FilterWords<'w, 'l> {
+    pub resource: &'w Word<'l>,
+    pub name: &'w Word<'l>,
+    pub pattern: &'w Word<'l>,
+    pub principal: &'w Word<'l>,
+    pub host: &'w Word<'l>,
+    pub operation: &'w Word<'l>,
+    pub permission: &'w Word<'l>,
+}
+
+impl<'w, 'l> Model for FilterWords<'w, 'l> {
+    ghost use Rattle.kob_script.specs.Filters.{FilterWords};
+
+    ghost Value = { FilterWords };
+
+    ghost view = { λ words. record {
+      resource = words.resource.now;
+      name = words.name.now;
+      pattern = words.pattern.now;
+      principal = words.principal.now;
+      host = words.host.now;
+      operation = words.operation.now;
+      permission = words.permission.now;
+    } };
 }
 
 /// A filter, and who asks by it.
 #[derive(Debug, Drop)]
-pub struct AskedFilter {
+pub struct AskerWithFilter {
     pub asker: Asker,
     pub filter: BindingFilter,
 }
@@ -65,11 +84,10 @@ struct FilterKinds {
 #[tactic(auto, unfolding(crate::specs::Filters::filter_texts))]
 fn filter_texts(
     alloc: Global,
-    asker: AskerWords<'_>,
-    words: FilterWords<'_>,
+    asker: &AskerWords<'_, '_>,
+    words: &FilterWords<'_, '_>,
 ) -> Result<FilterTexts, LineError>
-    ensures { let w = words.entry in Gives result
-        (filter_texts asker.entry.principal.now asker.entry.host.now w.name.now w.principal.now w.host.now) }
+    ensures { Gives result (filter_texts asker.now words.now) }
 {
     let asker = asker.text(alloc)?;
     let name = text_unless_dash(alloc, words.name)?;
@@ -99,14 +117,13 @@ fn filter_names(alloc: Global, texts: &FilterTexts) -> Result<FilterNames, LineE
 }
 
 #[tactic(auto, unfolding(crate::specs::Filters::filter_kinds))]
-fn filter_kinds(alloc: Global, words: FilterWords<'_>) -> Result<FilterKinds, LineError>
-    ensures { let w = words.entry in Gives result
-        (filter_kinds w.resource.now w.pattern.now w.operation.now w.permission.now) }
+fn filter_kinds(words: &FilterWords<'_, '_>) -> Result<FilterKinds, LineError>
+    ensures { Gives result (filter_kinds words.now) }
 {
-    let resource = resource_unless_dash(alloc, words.resource)?;
-    let pattern = filter_pattern_of(alloc, words.pattern)?;
-    let operation = operation_unless_dash(alloc, words.operation)?;
-    let permission = permission_unless_dash(alloc, words.permission)?;
+    let resource = resource_unless_dash(words.resource)?;
+    let pattern = filter_pattern_of(words.pattern)?;
+    let operation = operation_unless_dash(words.operation)?;
+    let permission = permission_unless_dash(words.permission)?;
     Ok(FilterKinds {
         resource,
         pattern,
@@ -119,20 +136,19 @@ fn filter_kinds(alloc: Global, words: FilterWords<'_>) -> Result<FilterKinds, Li
 #[tactic(auto, unfolding(crate::specs::Filters::filter_of))]
 pub fn filter_of(
     alloc: Global,
-    asker: AskerWords<'_>,
-    words: FilterWords<'_>,
-) -> Result<AskedFilter, LineError>
-    ensures { let w = words.entry in Gives result
-        (filter_of asker.entry.principal.now asker.entry.host.now w.resource.now w.name.now w.pattern.now w.principal.now w.host.now w.operation.now w.permission.now) }
+    asker: &AskerWords<'_, '_>,
+    words: &FilterWords<'_, '_>,
+) -> Result<AskerWithFilter, LineError>
+    ensures { Gives result (filter_of asker.now words.now) }
 {
     let texts = filter_texts(alloc, asker, words)?;
     let names = filter_names(alloc, &texts)?;
-    let kinds = filter_kinds(alloc, words)?;
-    Ok(asked_filter(texts, names, kinds))
+    let kinds = filter_kinds(words)?;
+    Ok(asker_with_filter(texts, names, kinds))
 }
 
-fn asked_filter(texts: FilterTexts, names: FilterNames, kinds: FilterKinds) -> AskedFilter
-    ensures { result ≡ asked_filter texts names kinds }
+fn asker_with_filter(texts: FilterTexts, names: FilterNames, kinds: FilterKinds) -> AskerWithFilter
+    ensures { result ≡ asker_with_filter texts names kinds }
 {
     let FilterTexts { name, .. } = texts;
     let FilterNames {
@@ -140,7 +156,7 @@ fn asked_filter(texts: FilterTexts, names: FilterNames, kinds: FilterKinds) -> A
         principal,
         host,
     } = names;
-    AskedFilter {
+    AskerWithFilter {
         asker,
         filter: BindingFilter {
             resource: kinds.resource,

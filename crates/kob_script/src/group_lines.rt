@@ -1,39 +1,41 @@
 //! Lines that ask for something of groups.
 
-ghost use Rattle.std.specs.Prelude.{map};
-ghost use Rattle.kob_script.specs.GroupLines.{asked_offset, commit, committed, groups, delete_group, commit_line, committed_line, groups_line, delete_group_line};
+ghost use Rattle.kob_script.specs.GroupLines.{asker_with_group, commit, commit_line};
+ghost use Rattle.kob_script.specs.GroupLines.{committed_line, committed_offset, delete_group};
+ghost use Rattle.kob_script.specs.GroupLines.{delete_group_line, groups, groups_line};
 ghost use Rattle.kob_script.specs.Reading.{Gives};
 
-use crate::asker::{AskedName, Asker, AskerWords};
+use crate::asker::{Asker, AskerWithName, AskerWords};
 use crate::fault::{FaultKind, LineError};
 use crate::number::number_of;
 use crate::text::text_of;
+use crate::word::Word;
 use kob_names::Text;
 use kob_rights::{DeleteGroups, Event, OffsetCommit, OffsetFetch, Request};
 use std::alloc::Global;
 
 /// The group and the topic of an offset, and who asks by them.
 #[derive(Drop)]
-struct AskedOffset {
+struct AskerWithGroup {
     asker: Asker,
     group: Text,
     topic: Text,
 }
 
-#[tactic(auto, unfolding(crate::specs::GroupLines::asked_offset))]
-fn asked_offset(
+#[tactic(auto, unfolding(crate::specs::GroupLines::asker_with_group))]
+fn asker_with_group(
     alloc: Global,
-    asker: AskerWords<'_>,
-    group: &[u8],
-    topic: &[u8],
-) -> Result<AskedOffset, LineError>
-    ensures { Gives result (asked_offset asker.entry.principal.now asker.entry.host.now group.now topic.now) }
+    asker: &AskerWords<'_, '_>,
+    group: &Word<'_>,
+    topic: &Word<'_>,
+) -> Result<AskerWithGroup, LineError>
+    ensures { Gives result (asker_with_group asker.now group.now topic.now) }
 {
     let texts = asker.text(alloc)?;
     let group = text_of(alloc, group)?;
     let topic = text_of(alloc, topic)?;
     let asker = texts.asker(alloc)?;
-    Ok(AskedOffset {
+    Ok(AskerWithGroup {
         asker,
         group,
         topic,
@@ -43,21 +45,21 @@ fn asked_offset(
 #[tactic(auto, unfolding(crate::specs::GroupLines::commit))]
 fn commit(
     alloc: Global,
-    asker: AskerWords<'_>,
-    group: &[u8],
-    topic: &[u8],
-    partition: &[u8],
-    offset: &[u8],
+    asker: &AskerWords<'_, '_>,
+    group: &Word<'_>,
+    topic: &Word<'_>,
+    partition: &Word<'_>,
+    offset: &Word<'_>,
 ) -> Result<Event, LineError>
-    ensures { Gives result (commit asker.entry.principal.now asker.entry.host.now group.now topic.now partition.now offset.now) }
+    ensures { Gives result (commit asker.now group.now topic.now partition.now offset.now) }
 {
-    let AskedOffset {
+    let AskerWithGroup {
         asker,
         group,
         topic,
-    } = asked_offset(alloc, asker, group, topic)?;
-    let partition = number_of(alloc, partition)?;
-    let offset = number_of(alloc, offset)?;
+    } = asker_with_group(alloc, asker, group, topic)?;
+    let partition = number_of(partition)?;
+    let offset = number_of(offset)?;
     Ok(asker.asks(Request::OffsetCommit(OffsetCommit {
         group,
         topic,
@@ -66,22 +68,22 @@ fn commit(
     })))
 }
 
-#[tactic(auto, unfolding(crate::specs::GroupLines::committed))]
-fn committed(
+#[tactic(auto, unfolding(crate::specs::GroupLines::committed_offset))]
+fn committed_offset(
     alloc: Global,
-    asker: AskerWords<'_>,
-    group: &[u8],
-    topic: &[u8],
-    partition: &[u8],
+    asker: &AskerWords<'_, '_>,
+    group: &Word<'_>,
+    topic: &Word<'_>,
+    partition: &Word<'_>,
 ) -> Result<Event, LineError>
-    ensures { Gives result (committed asker.entry.principal.now asker.entry.host.now group.now topic.now partition.now) }
+    ensures { Gives result (committed_offset asker.now group.now topic.now partition.now) }
 {
-    let AskedOffset {
+    let AskerWithGroup {
         asker,
         group,
         topic,
-    } = asked_offset(alloc, asker, group, topic)?;
-    let partition = number_of(alloc, partition)?;
+    } = asker_with_group(alloc, asker, group, topic)?;
+    let partition = number_of(partition)?;
     Ok(asker.asks(Request::OffsetFetch(OffsetFetch {
         group,
         topic,
@@ -90,8 +92,8 @@ fn committed(
 }
 
 #[tactic(auto, unfolding(crate::specs::GroupLines::groups))]
-fn groups(alloc: Global, asker: AskerWords<'_>) -> Result<Event, LineError>
-    ensures { Gives result (groups asker.entry.principal.now asker.entry.host.now) }
+fn groups(alloc: Global, asker: &AskerWords<'_, '_>) -> Result<Event, LineError>
+    ensures { Gives result (groups asker.now) }
 {
     let texts = asker.text(alloc)?;
     let asker = texts.asker(alloc)?;
@@ -99,20 +101,24 @@ fn groups(alloc: Global, asker: AskerWords<'_>) -> Result<Event, LineError>
 }
 
 #[tactic(auto, unfolding(crate::specs::GroupLines::delete_group))]
-fn delete_group(alloc: Global, asker: AskerWords<'_>, group: &[u8]) -> Result<Event, LineError>
-    ensures { Gives result (delete_group asker.entry.principal.now asker.entry.host.now group.now) }
+fn delete_group(
+    alloc: Global,
+    asker: &AskerWords<'_, '_>,
+    group: &Word<'_>,
+) -> Result<Event, LineError>
+    ensures { Gives result (delete_group asker.now group.now) }
 {
-    let AskedName { asker, name } = asker.with_name(alloc, group)?;
+    let AskerWithName { asker, name } = asker.with_name(alloc, group)?;
     Ok(asker.asks(Request::DeleteGroups(DeleteGroups { group: name })))
 }
 
 /// `commit GROUP TOPIC PARTITION OFFSET`
 pub fn commit_line(
     alloc: Global,
-    asker: AskerWords<'_>,
-    words: &[&[u8]],
+    asker: &AskerWords<'_, '_>,
+    words: &[Word<'_>],
 ) -> Result<Event, LineError>
-    ensures { Gives result (commit_line asker.entry.principal.now asker.entry.host.now (map (λ word. word.now) words.now)) }
+    ensures { Gives result (commit_line asker.now words.now) }
 {
     match words {
         [group, topic, partition, offset] => commit(alloc, asker, group, topic, partition, offset),
@@ -123,13 +129,13 @@ pub fn commit_line(
 /// `committed GROUP TOPIC PARTITION`
 pub fn committed_line(
     alloc: Global,
-    asker: AskerWords<'_>,
-    words: &[&[u8]],
+    asker: &AskerWords<'_, '_>,
+    words: &[Word<'_>],
 ) -> Result<Event, LineError>
-    ensures { Gives result (committed_line asker.entry.principal.now asker.entry.host.now (map (λ word. word.now) words.now)) }
+    ensures { Gives result (committed_line asker.now words.now) }
 {
     match words {
-        [group, topic, partition] => committed(alloc, asker, group, topic, partition),
+        [group, topic, partition] => committed_offset(alloc, asker, group, topic, partition),
         _ => Err(LineError::Fault(FaultKind::BadLine)),
     }
 }
@@ -137,10 +143,10 @@ pub fn committed_line(
 /// `groups`
 pub fn groups_line(
     alloc: Global,
-    asker: AskerWords<'_>,
-    words: &[&[u8]],
+    asker: &AskerWords<'_, '_>,
+    words: &[Word<'_>],
 ) -> Result<Event, LineError>
-    ensures { Gives result (groups_line asker.entry.principal.now asker.entry.host.now (map (λ word. word.now) words.now)) }
+    ensures { Gives result (groups_line asker.now words.now) }
 {
     match words {
         [] => groups(alloc, asker),
@@ -151,10 +157,10 @@ pub fn groups_line(
 /// `delete-group GROUP`
 pub fn delete_group_line(
     alloc: Global,
-    asker: AskerWords<'_>,
-    words: &[&[u8]],
+    asker: &AskerWords<'_, '_>,
+    words: &[Word<'_>],
 ) -> Result<Event, LineError>
-    ensures { Gives result (delete_group_line asker.entry.principal.now asker.entry.host.now (map (λ word. word.now) words.now)) }
+    ensures { Gives result (delete_group_line asker.now words.now) }
 {
     match words {
         [group] => delete_group(alloc, asker, group),

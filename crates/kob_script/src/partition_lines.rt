@@ -1,31 +1,33 @@
 //! Lines that ask for something of partitions and their producers.
 
-ghost use Rattle.std.specs.Prelude.{map};
-ghost use Rattle.kob_script.specs.PartitionLines.{produce, fetch, which_in, which_of, list_offsets, init_producer, produce_line, fetch_line, list_offsets_line, init_producer_line};
+ghost use Rattle.kob_script.specs.PartitionLines.{fetch, fetch_line, init_producer};
+ghost use Rattle.kob_script.specs.PartitionLines.{init_producer_line, list_offsets};
+ghost use Rattle.kob_script.specs.PartitionLines.{list_offsets_line, produce, produce_line};
+ghost use Rattle.kob_script.specs.PartitionLines.{which_in, which_of};
 ghost use Rattle.kob_script.specs.Reading.{Gives};
 
-use crate::asker::{AskedName, AskerWords};
+use crate::asker::{AskerWithName, AskerWords};
 use crate::batch::{batch_of, idem_parts};
-use crate::escape::bytes_of;
 use crate::fault::{FaultKind, LineError};
 use crate::number::number_of;
+use crate::word::Word;
 use kob_rights::{Event, Fetch, ListOffsets, Produce, Request, Which};
 use std::alloc::Global;
 
 #[tactic(auto, unfolding(crate::specs::PartitionLines::produce))]
 fn produce(
     alloc: Global,
-    asker: AskerWords<'_>,
-    topic: &[u8],
-    partition: &[u8],
-    idem: &[u8],
-    records: &[&[u8]],
+    asker: &AskerWords<'_, '_>,
+    topic: &Word<'_>,
+    partition: &Word<'_>,
+    idem: &Word<'_>,
+    records: &[Word<'_>],
 ) -> Result<Event, LineError>
-    ensures { Gives result (produce asker.entry.principal.now asker.entry.host.now topic.now partition.now idem.now (map (λ word. word.now) records.now)) }
+    ensures { Gives result (produce asker.now topic.now partition.now idem.now records.now) }
 {
     let parts = idem_parts(alloc, idem)?;
-    let AskedName { asker, name } = asker.with_name(alloc, topic)?;
-    let partition = number_of(alloc, partition)?;
+    let AskerWithName { asker, name } = asker.with_name(alloc, topic)?;
+    let partition = number_of(partition)?;
     let batch = batch_of(alloc, parts, records)?;
     Ok(asker.asks(Request::Produce(Produce {
         topic: name,
@@ -37,18 +39,18 @@ fn produce(
 #[tactic(auto, unfolding(crate::specs::PartitionLines::fetch))]
 fn fetch(
     alloc: Global,
-    asker: AskerWords<'_>,
-    topic: &[u8],
-    partition: &[u8],
-    offset: &[u8],
-    max: &[u8],
+    asker: &AskerWords<'_, '_>,
+    topic: &Word<'_>,
+    partition: &Word<'_>,
+    offset: &Word<'_>,
+    max: &Word<'_>,
 ) -> Result<Event, LineError>
-    ensures { Gives result (fetch asker.entry.principal.now asker.entry.host.now topic.now partition.now offset.now max.now) }
+    ensures { Gives result (fetch asker.now topic.now partition.now offset.now max.now) }
 {
-    let AskedName { asker, name } = asker.with_name(alloc, topic)?;
-    let partition = number_of(alloc, partition)?;
-    let offset = number_of(alloc, offset)?;
-    let max = number_of(alloc, max)?;
+    let AskerWithName { asker, name } = asker.with_name(alloc, topic)?;
+    let partition = number_of(partition)?;
+    let offset = number_of(offset)?;
+    let max = number_of(max)?;
     Ok(asker.asks(Request::Fetch(Fetch {
         topic: name,
         partition,
@@ -57,12 +59,10 @@ fn fetch(
     })))
 }
 
-#[tactic(auto, unfolding(crate::specs::PartitionLines::which_of))]
-fn which_of(alloc: Global, word: &[u8]) -> Result<Which, LineError>
+fn which_of(word: &Word<'_>) -> Result<Which, LineError>
     ensures { Gives result (which_of word.now) }
 {
-    let name = bytes_of(alloc, word)?;
-    which_in(name.as_slice())
+    which_in(word.decoded())
 }
 
 fn which_in(name: &[u8]) -> Result<Which, LineError>
@@ -80,16 +80,16 @@ fn which_in(name: &[u8]) -> Result<Which, LineError>
 #[tactic(auto, unfolding(crate::specs::PartitionLines::list_offsets))]
 fn list_offsets(
     alloc: Global,
-    asker: AskerWords<'_>,
-    topic: &[u8],
-    partition: &[u8],
-    which: &[u8],
+    asker: &AskerWords<'_, '_>,
+    topic: &Word<'_>,
+    partition: &Word<'_>,
+    which: &Word<'_>,
 ) -> Result<Event, LineError>
-    ensures { Gives result (list_offsets asker.entry.principal.now asker.entry.host.now topic.now partition.now which.now) }
+    ensures { Gives result (list_offsets asker.now topic.now partition.now which.now) }
 {
-    let which = which_of(alloc, which)?;
-    let AskedName { asker, name } = asker.with_name(alloc, topic)?;
-    let partition = number_of(alloc, partition)?;
+    let which = which_of(which)?;
+    let AskerWithName { asker, name } = asker.with_name(alloc, topic)?;
+    let partition = number_of(partition)?;
     Ok(asker.asks(Request::ListOffsets(ListOffsets {
         topic: name,
         partition,
@@ -98,8 +98,8 @@ fn list_offsets(
 }
 
 #[tactic(auto, unfolding(crate::specs::PartitionLines::init_producer))]
-fn init_producer(alloc: Global, asker: AskerWords<'_>) -> Result<Event, LineError>
-    ensures { Gives result (init_producer asker.entry.principal.now asker.entry.host.now) }
+fn init_producer(alloc: Global, asker: &AskerWords<'_, '_>) -> Result<Event, LineError>
+    ensures { Gives result (init_producer asker.now) }
 {
     let texts = asker.text(alloc)?;
     let asker = texts.asker(alloc)?;
@@ -109,10 +109,10 @@ fn init_producer(alloc: Global, asker: AskerWords<'_>) -> Result<Event, LineErro
 /// `produce TOPIC PARTITION`, then `-` or `ID:EPOCH:BASE`, then records
 pub fn produce_line(
     alloc: Global,
-    asker: AskerWords<'_>,
-    words: &[&[u8]],
+    asker: &AskerWords<'_, '_>,
+    words: &[Word<'_>],
 ) -> Result<Event, LineError>
-    ensures { Gives result (produce_line asker.entry.principal.now asker.entry.host.now (map (λ word. word.now) words.now)) }
+    ensures { Gives result (produce_line asker.now words.now) }
 {
     match words {
         [topic, partition, idem, records @ ..] => produce(
@@ -123,8 +123,12 @@ pub fn produce_line(
 }
 
 /// `fetch TOPIC PARTITION OFFSET MAX`
-pub fn fetch_line(alloc: Global, asker: AskerWords<'_>, words: &[&[u8]]) -> Result<Event, LineError>
-    ensures { Gives result (fetch_line asker.entry.principal.now asker.entry.host.now (map (λ word. word.now) words.now)) }
+pub fn fetch_line(
+    alloc: Global,
+    asker: &AskerWords<'_, '_>,
+    words: &[Word<'_>],
+) -> Result<Event, LineError>
+    ensures { Gives result (fetch_line asker.now words.now) }
 {
     match words {
         [topic, partition, offset, max] => fetch(alloc, asker, topic, partition, offset, max),
@@ -135,10 +139,10 @@ pub fn fetch_line(alloc: Global, asker: AskerWords<'_>, words: &[&[u8]]) -> Resu
 /// `list-offsets TOPIC PARTITION`, then `-2` for the start or `-1` for the end
 pub fn list_offsets_line(
     alloc: Global,
-    asker: AskerWords<'_>,
-    words: &[&[u8]],
+    asker: &AskerWords<'_, '_>,
+    words: &[Word<'_>],
 ) -> Result<Event, LineError>
-    ensures { Gives result (list_offsets_line asker.entry.principal.now asker.entry.host.now (map (λ word. word.now) words.now)) }
+    ensures { Gives result (list_offsets_line asker.now words.now) }
 {
     match words {
         [topic, partition, which] => list_offsets(alloc, asker, topic, partition, which),
@@ -149,10 +153,10 @@ pub fn list_offsets_line(
 /// `init-producer`
 pub fn init_producer_line(
     alloc: Global,
-    asker: AskerWords<'_>,
-    words: &[&[u8]],
+    asker: &AskerWords<'_, '_>,
+    words: &[Word<'_>],
 ) -> Result<Event, LineError>
-    ensures { Gives result (init_producer_line asker.entry.principal.now asker.entry.host.now (map (λ word. word.now) words.now)) }
+    ensures { Gives result (init_producer_line asker.now words.now) }
 {
     match words {
         [] => init_producer(alloc, asker),

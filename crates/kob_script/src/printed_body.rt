@@ -1,7 +1,9 @@
 //! How the body of a reply is printed.
 
 ghost use Rattle.std.specs.Prelude.{◌≡◌, ◌++◌, OnOk};
-ghost use Rattle.kob_rights.specs.declared.reply.Body.TheVariants.{Serials, Bindings, Offset, Commit, Records, Topics, Groups, Producer};
+ghost use Rattle.kob_rights.specs.declared.reply.Body.TheVariants.{Serials, Bindings, Offset};
+ghost use Rattle.kob_rights.specs.declared.reply.Body.TheVariants.{Commit, Records, Topics, Groups};
+ghost use Rattle.kob_rights.specs.declared.reply.Body.TheVariants.{Producer};
 ghost use Rattle.kob_script.specs.PrintedBody.{topic_item, record_item, body_text};
 
 use kob_names::{Binding, Record, Text};

@@ -7,8 +7,8 @@ use crate::fault::{Fault, FaultKind};
 use kob_words::push_number;
 use std::alloc::{AllocError, Global};
 
-/// Prints the line `fault line LINE KIND` with its line feed. The error is want of memory; `out` has then grown by a
-/// part of it.
+/// Prints the line `fault line LINE KIND` with its line feed. The error is want of memory; `out`
+/// has then grown by a part of it.
 #[tactic(auto, using(kob_words::proofs::Appending::appending))]
 pub fn print_fault(alloc: Global, out: &mut Vec<u8>, fault: Fault) -> Result<(), AllocError>
     ensures { OnOk result (out.new.items ≡ out.old.items ++ fault_text fault) }

@@ -1,7 +1,9 @@
 //! How replies are printed.
 
 ghost use Rattle.std.specs.Prelude.{◌≡◌, ◌++◌, OnOk};
-ghost use Rattle.kob_script.specs.PrintedReply.{verdict_text, verdicts_text, code_text, outcome_text, reply_text, text_of_replies, stopped_text};
+ghost use Rattle.kob_script.specs.PrintedReply.{verdict_text, verdicts_text, code_text};
+ghost use Rattle.kob_script.specs.PrintedReply.{outcome_text, reply_text, text_of_replies};
+ghost use Rattle.kob_script.specs.PrintedReply.{stopped_text};
 
 use crate::printed_body::push_body;
 use kob_names::Verdict;
@@ -9,8 +11,8 @@ use kob_rights::{Code, Reply};
 use kob_words::push_number;
 use std::alloc::{AllocError, Global};
 
-/// Prints replies, numbered from 1, each with a line feed after it. The error is want of memory; `out` has then grown
-/// by a part of them.
+/// Prints replies, numbered from 1, each with a line feed after it. The error is want of memory;
+/// `out` has then grown by a part of them.
 pub fn print_replies(alloc: Global, out: &mut Vec<u8>, replies: &[Reply]) -> Result<(), AllocError>
     ensures { OnOk result (out.new.items ≡ out.old.items ++ text_of_replies replies.now) }
 {
@@ -100,8 +102,8 @@ fn push_verdict(alloc: Global, out: &mut Vec<u8>, verdict: Verdict) -> Result<()
     }
 }
 
-/// Prints the line `stopped after DONE` with its line feed, for a run that memory stopped after so many requests. The
-/// error is want of memory; `out` has then grown by a part of it.
+/// Prints the line `stopped after DONE` with its line feed, for a run that memory stopped after so
+/// many requests. The error is want of memory; `out` has then grown by a part of it.
 #[tactic(auto, using(kob_words::proofs::Appending::appending))]
 pub fn print_stopped(alloc: Global, out: &mut Vec<u8>, done: u64) -> Result<(), AllocError>
     ensures { OnOk result (out.new.items ≡ out.old.items ++ stopped_text done) }

@@ -1,27 +1,24 @@
 //! Names, principals and hosts.
 
-ghost use Rattle.std.specs.Prelude.{◌≡◌, map};
 ghost use Rattle.kob_script.specs.Reading.{Gives, each, unless_dash, optionally};
 ghost use Rattle.kob_script.specs.Texts.{text_in, text_of, principal_of, host_of};
 
-use crate::escape::bytes_of;
 use crate::fault::{FaultKind, LineError};
+use crate::word::Word;
 use bstr::ByteSlice;
 use kob_names::{Host, HostFault, Items, Principal, PrincipalFault, Text};
 use std::alloc::Global;
 
 /// The text of a word.
-#[tactic(auto, unfolding(crate::specs::Texts::text_of))]
-pub fn text_of(alloc: Global, word: &[u8]) -> Result<Text, LineError>
+pub fn text_of(alloc: Global, word: &Word<'_>) -> Result<Text, LineError>
     ensures { Gives result (text_of word.now) }
 {
-    let bytes = bytes_of(alloc, word)?;
-    text_in(alloc, bytes.as_slice())
+    text_in(alloc, word.decoded())
 }
 
 /// The texts of the words, in order.
-pub fn texts_of(alloc: Global, words: &[&[u8]]) -> Result<Items<Text>, LineError>
-    ensures { Gives result (each text_of (map (λ word. word.now) words.now)) }
+pub fn texts_of(alloc: Global, words: &[Word<'_>]) -> Result<Items<Text>, LineError>
+    ensures { Gives result (each text_of words.now) }
 {
     let mut texts = Vec::new(alloc);
     for word in words {
@@ -65,10 +62,10 @@ pub fn host_of(alloc: Global, text: &Text) -> Result<Host, LineError>
 }
 
 /// The text of a word that is not `-`.
-pub fn text_unless_dash(alloc: Global, word: &[u8]) -> Result<Option<Text>, LineError>
+pub fn text_unless_dash(alloc: Global, word: &Word<'_>) -> Result<Option<Text>, LineError>
     ensures { Gives result (unless_dash text_of word.now) }
 {
-    if word == b"-".as_slice() {
+    if word.is_dash() {
         return Ok(None);
     }
     Ok(Some(text_of(alloc, word)?))

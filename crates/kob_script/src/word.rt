@@ -1,15 +1,75 @@
-//! The words of a line.
+//! A word of a line.
 
-ghost use Rattle.std.specs.Prelude.{◌≡◌, IfOk, map};
-ghost use Rattle.kob_script.specs.Words.{words};
+ghost use Rattle.std.specs.Prelude.{◌≡◌, codes};
+ghost use Rattle.std.specs.Str.{bytes_eq};
+ghost use Rattle.kob_script.specs.Reading.{Gives};
+ghost use Rattle.kob_script.specs.Word.{word_of};
 
-use std::alloc::{AllocError, Global};
+use crate::escape::{bytes_of, has_whole_escapes};
+use crate::fault::{FaultKind, LineError};
+use kob_names::Bytes;
+use std::alloc::Global;
+use std::marker::Model;
 
-/// What stands between the spaces and tabs of a line.
-pub fn words(alloc: Global, line: &[u8]) -> Result<Vec<&[u8]>, AllocError>
-    ensures { IfOk result (λ found. map (λ word. word.now) found.items ≡ words line.now) }
-{
-    line.split(|byte| *byte == b' ' || *byte == b'\t')
-        .filter(|word| !word.is_empty())
-        .collect(alloc)
+/// A word as it stands in a line, and the bytes that it stands for. Contracts see both.
+#[derive(Drop)]
+pub struct Word<'a> {
+    raw: &'a [u8],
+    /// The bytes that it stands for, where these are others.
+    replaced: Option<Bytes>,
+}
+
+impl<'a> Model for Word<'a> {
+    ghost use Rattle.kob_script.specs.Word.{Word, decoded_or};
+
+    ghost Value = { Word };
+
+    ghost view = { λ word. record {
+      raw = word.raw.now;
+      decoded = decoded_or word.replaced word.raw.now;
+    } };
+}
+
+impl<'a> Word<'a> {
+    /// The word that stands so in a line. The fault is `BadEscape`; a word without a percent sign
+    /// takes no memory.
+    pub fn read(alloc: Global, raw: &'a [u8]) -> Result<Word<'a>, LineError>
+        ensures { Gives result (word_of raw.now) }
+    {
+        if !raw.contains(&b'%') {
+            return Ok(Word {
+                raw,
+                replaced: None,
+            });
+        }
+        if !has_whole_escapes(raw) {
+            return Err(LineError::Fault(FaultKind::BadEscape));
+        }
+        let replaced = Some(bytes_of(alloc, raw)?);
+        Ok(Word { raw, replaced })
+    }
+
+    /// The word as it stands in the line.
+    pub fn raw(&self) -> &[u8]
+        ensures { result.now ≡ self.now.raw }
+    {
+        self.raw
+    }
+
+    /// The bytes that it stands for.
+    pub fn decoded(&self) -> &[u8]
+        ensures { result.now ≡ self.now.decoded }
+    {
+        match &self.replaced {
+            Some(bytes) => bytes.as_slice(),
+            None => self.raw,
+        }
+    }
+
+    /// Whether it is `-`, which has to stand without escapes.
+    pub fn is_dash(&self) -> bool
+        ensures { result ≡ bytes_eq self.now.raw (codes "-") }
+    {
+        self.raw == b"-".as_slice()
+    }
 }

@@ -15,7 +15,7 @@ fn read(alloc: Global, line: &str) -> Result<Result<CliArgs, LineFault>, AllocEr
 }
 
 /// What a line asks for, as text: the fault, or each command with its bindings or its filter.
-fn asked(alloc: Global, line: &str) -> Result<String, Fail> {
+fn commands_text(alloc: Global, line: &str) -> Result<String, Fail> {
     let args = match read(alloc, line)? {
         Ok(args) => args,
         Err(fault) => return Ok(format!(in alloc; "{fault:?}")?),
@@ -83,7 +83,7 @@ fn word<T: Debug>(alloc: Global, part: &Option<T>) -> Result<String, AllocError>
 /// Each line asks for what stands beside it.
 fn check_all(alloc: Global, lines: &[(&str, &str)]) -> Result<(), Fail> {
     for (line, expected) in lines {
-        let found = asked(alloc, line)?;
+        let found = commands_text(alloc, line)?;
         if found.as_str() != *expected {
             return Err(Fail::new(format!(in alloc; "{line}: {}", found.as_str())?));
         }
@@ -96,7 +96,8 @@ fn producer_command_is_idempotent(rt: HostRuntime) -> Result<(), Fail> {
     check_all(
         rt.alloc(),
         &[(
-            "--add --allow-principal User:svc --producer --idempotent --topic outbox.event. --resource-pattern-type prefixed",
+            "--add --allow-principal User:svc --producer --idempotent --topic outbox.event. \
+             --resource-pattern-type prefixed",
             "create
 binding 1 ALLOW User:svc * Write Topic PREFIXED outbox.event.
 binding 2 ALLOW User:svc * Describe Topic PREFIXED outbox.event.
@@ -152,9 +153,10 @@ fn command_line_faults(rt: HostRuntime) -> Result<(), Fail> {
             ("--add --operation fly --allow-host h", "BadName(fly)"),
             ("--add --allow-host h", "BadMix"),
             ("--add", "NoResource"),
-            // the first word that isn't read is told, in the order of the options
+            // the first word that isn't read is named, in the order of the options
             (
-                "--list --resource-pattern-type x --principal p --operation o --deny-host= --deny-principal d",
+                "--list --resource-pattern-type x --principal p --operation o --deny-host= \
+                 --deny-principal d",
                 "BadName(d)",
             ),
             (
@@ -216,7 +218,8 @@ fn options_that_do_not_mix(rt: HostRuntime) -> Result<(), Fail> {
                 "BadMix",
             ),
             (
-                "--add --consumer --topic t --group g --allow-principal User:a --transactional-id i",
+                "--add --consumer --topic t --group g --allow-principal User:a \
+                 --transactional-id i",
                 "BadMix",
             ),
             (
@@ -295,7 +298,8 @@ fn product_of_options(rt: HostRuntime) -> Result<(), Fail> {
         rt.alloc(),
         &[
             (
-                "--remove --cluster --transactional-id i --group g --topic t --topic u --resource-pattern-type any",
+                "--remove --cluster --transactional-id i --group g --topic t --topic u \
+                 --resource-pattern-type any",
                 "delete Topic t Any - - - -
 delete Topic u Any - - - -
 delete Group g Any - - - -
@@ -304,7 +308,8 @@ delete TransactionalId i Any - - - -
 ",
             ),
             (
-                "--list --cluster --topic t --principal User:a --principal User:b --resource-pattern-type PREFIXED",
+                "--list --cluster --topic t --principal User:a --principal User:b \
+                 --resource-pattern-type PREFIXED",
                 "describe Topic t Prefixed User:a - - -
 describe Topic t Prefixed User:b - - -
 describe Cluster kafka-cluster Literal User:a - - -
@@ -316,13 +321,16 @@ describe Cluster kafka-cluster Literal User:b - - -
                 "describe - - Any User:a - - -\n",
             ),
             (
-                "--remove --topic t --deny-principal User:d --deny-host h --allow-principal User:a --resource-pattern-type match",
+                "--remove --topic t --deny-principal User:d --deny-host h \
+                 --allow-principal User:a --resource-pattern-type match",
                 "delete Topic t Matching User:a * All Allow
 delete Topic t Matching User:d h All Deny
 ",
             ),
             (
-                "--add --topic t --cluster --operation aLTER --operation READ --deny-principal User:d --allow-principal User:a --allow-principal User:b --allow-host h --allow-host i",
+                "--add --topic t --cluster --operation aLTER --operation READ \
+                 --deny-principal User:d --allow-principal User:a --allow-principal User:b \
+                 --allow-host h --allow-host i",
                 "create
 binding 1 ALLOW User:a h Alter Topic LITERAL t
 binding 2 ALLOW User:a h Read Topic LITERAL t
@@ -347,7 +355,8 @@ binding 20 DENY User:d * Read Cluster LITERAL kafka-cluster
 ",
             ),
             (
-                "--add --consumer --topic t --group g --group=h --resource-pattern-type prefixed --allow-principal User:a",
+                "--add --consumer --topic t --group g --group=h \
+                 --resource-pattern-type prefixed --allow-principal User:a",
                 "create
 binding 1 ALLOW User:a * Read Topic PREFIXED t
 binding 2 ALLOW User:a * Describe Topic PREFIXED t

@@ -1,4 +1,4 @@
-//! The command `acl` of scripts: the requests that its words make, and its faults in their place among the others.
+//! The command `acl` of scripts: the requests that its words make, and its faults among the others.
 
 use crate::played::play;
 use crate::runs::plays;
@@ -29,9 +29,11 @@ fn refuse_all(alloc: Global, scripts: &[(&str, &str)]) -> Result<(), Fail> {
 }
 
 const PRODUCER_COMMAND_IS_IDEMPOTENT_SCRIPT: &str = "super User:root
-User:root h acl --add --allow-principal User:svc --producer --idempotent --topic outbox.event. --resource-pattern-type prefixed
+User:root h acl --add --allow-principal User:svc --producer --idempotent --topic outbox.event. \
+--resource-pattern-type prefixed
     1 ok serials 1 2 3 4
-User:root h acl --add --allow-principal User:svc --producer --idempotent --topic outbox.event. --resource-pattern-type prefixed
+User:root h acl --add --allow-principal User:svc --producer --idempotent --topic outbox.event. \
+--resource-pattern-type prefixed
     2 ok serials 1 2 3 4
 User:root h acl --list
     3 ok bindings 4
@@ -97,7 +99,8 @@ User:root h acl --list --topic u --topic t --principal User:a --principal User:b
     4 ok bindings 1
     binding 1 ALLOW User:a * Read Topic LITERAL t
     5 ok bindings 0
-User:root h acl --remove --topic t --topic u --operation Read --allow-principal User:b --allow-principal User:a
+User:root h acl --remove --topic t --topic u --operation Read --allow-principal User:b \
+--allow-principal User:a
     6 ok bindings 0
     7 ok bindings 1
     binding 1 ALLOW User:a * Read Topic LITERAL t
@@ -137,7 +140,8 @@ fn rights_are_asked_for_each_command(rt: HostRuntime) -> Result<(), Fail> {
 }
 
 const WORDS_OF_ACL_HAVE_ESCAPES: &str = "super User:root
-User:root\th %61cl %2d%2dadd --topic%3da%20b --deny-principal User:x%20y --operation%3daLTER --allow-principal %55ser:* --allow-host %31
+User:root\th %61cl %2d%2dadd --topic%3da%20b --deny-principal User:x%20y --operation%3daLTER \
+--allow-principal %55ser:* --allow-host %31
     1 ok serials 1 2
 User:root h acl --list --topic %2d
     2 ok bindings 0
@@ -189,7 +193,7 @@ fn command_line_faults_script(rt: HostRuntime) -> Result<(), Fail> {
                 "fault line 1 NoPrincipal\n",
             ),
             ("User:a h acl --nonsense\n", "fault line 1 Usage\n"),
-            // nothing runs, and the first line with a fault is told
+            // nothing runs, and the first line with a fault is printed
             (
                 "super User:root\nUser:root h acl --list\n\nUser:root h acl --help\nUser:a h acl\n",
                 "fault line 4 Usage\n",

@@ -4,7 +4,8 @@ use crate::played::play;
 use kob_text::Ended;
 use std::test::Fail;
 
-// Every request on a group asks for a right on it: Read to commit, Describe to look a commit up, Delete to delete it.
+// Every request on a group asks for a right on it: Read to commit, Describe to look a commit up,
+// Delete to delete it.
 const GROUP_DENIALS: &str = "super User:root
 User:root h create-topic t 1
     1 ok created
@@ -56,7 +57,8 @@ fn a_commit_needs_the_topic_too(rt: HostRuntime) -> Result<(), Fail> {
     play(rt.alloc(), TOPIC_DENIED_BEHIND_GROUP, Ended::Clean)
 }
 
-// Groups are listed in the order of their first commit: those that may be described, or all by Describe on the cluster.
+// Groups are listed in the order of their first commit: those that may be described, or all by
+// Describe on the cluster.
 const GROUPS_LISTED: &str = "super User:root
 User:root h create-topic t 1
     1 ok created

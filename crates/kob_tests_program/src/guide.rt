@@ -21,23 +21,6 @@ pub(crate) const DENY_BEATS_ALLOW_OUT: &str = "1 ok created
 5 ok offset 0
 ";
 
-pub(crate) const FIRST_SCRIPT_TXT: &str = "super User:root
-User:root 10.0.0.1 create-topic outbox.event.orders 1
-User:root 10.0.0.1 create-acl allow User:svc * Write Topic literal outbox.event.orders
-User:svc 10.0.0.2 produce outbox.event.orders 0 - 42=paid
-User:bob 10.0.0.3 produce outbox.event.orders 0 - 42=void
-User:root 10.0.0.1 fetch outbox.event.orders 0 0 10
-User:svc 10.0.0.2 fetch outbox.event.orders 0 0 10
-";
-
-pub(crate) const FIRST_SCRIPT_OUT: &str = "1 ok created
-2 ok serials 1
-3 ok offset 0
-4 denied 29 TOPIC_AUTHORIZATION_FAILED no-allow
-5 ok records 0:42=paid
-6 denied 29 TOPIC_AUTHORIZATION_FAILED no-allow
-";
-
 pub(crate) const HIDDEN_LISTING_TXT: &str = "super User:root
 User:root h create-topic orders 1
 User:root h create-topic payments 2
@@ -118,13 +101,12 @@ binding 1 ALLOW User:svc 10.0.0.2 Write Topic PREFIXED outbox.event.
 
 // End of the files.
 
-const EXAMPLES: [(&str, &str, &str); 6] = [
+const EXAMPLES: [(&str, &str, &str); 5] = [
     (
         "deny_beats_allow",
         DENY_BEATS_ALLOW_TXT,
         DENY_BEATS_ALLOW_OUT,
     ),
-    ("first_script", FIRST_SCRIPT_TXT, FIRST_SCRIPT_OUT),
     ("hidden_listing", HIDDEN_LISTING_TXT, HIDDEN_LISTING_OUT),
     (
         "idempotent_repeat",

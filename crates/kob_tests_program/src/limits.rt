@@ -52,8 +52,8 @@ fn fetched(alloc: Global, fetch: &[u8], end: &str) -> Result<bool, Fail> {
 
 #[test]
 fn at_most_1000_records_are_fetched(rt: HostRuntime) -> Result<(), Fail> {
-    let asked = b"User:r h fetch t 0 1 1000\n";
-    assert!(rt; fetched(rt.alloc(), asked, " 999:v 1000:last\n")?);
+    let fetch = b"User:r h fetch t 0 1 1000\n";
+    assert!(rt; fetched(rt.alloc(), fetch, " 999:v 1000:last\n")?);
     let beyond = b"User:r h fetch t 0 0 1001\n";
     assert!(rt; fetched(rt.alloc(), beyond, " 998:v 999:v\n")?);
     Ok(())

@@ -7,8 +7,9 @@ use std::test::Fail;
 /// What stands before a line of output in a transcript.
 const PRINTED: &str = "    ";
 
-/// Plays a transcript: lines of a script, and behind four spaces, under the line that it answers, each line that is
-/// printed. The failure names the first printed line that differs, or says how the script ended.
+/// Plays a transcript: lines of a script, and behind four spaces, under the line that it answers,
+/// each line that is printed. The failure names the first printed line that differs, or says how
+/// the script ended.
 pub(crate) fn play(alloc: Global, transcript: &str, end: Ended) -> Result<(), Fail> {
     let mut script = String::new(alloc);
     let mut printed = String::new(alloc);

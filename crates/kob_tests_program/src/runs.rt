@@ -1,6 +1,6 @@
 //! Whole runs: scripts with their outputs, and readers and writers that give little or fail.
 
-use crate::guide::{FIRST_SCRIPT_OUT, FIRST_SCRIPT_TXT};
+use crate::guide::{DENY_BEATS_ALLOW_OUT, DENY_BEATS_ALLOW_TXT};
 use kob_text::{Ended, RunFault, SCRIPT_LIMIT, run_text};
 use std::alloc::{AllocError, Global};
 use std::io;
@@ -110,7 +110,7 @@ fn empty_and_bad_script(rt: HostRuntime) -> Result<(), Fail> {
 
 #[test]
 fn each_prefix_ends(rt: HostRuntime) -> Result<(), Fail> {
-    let script = FIRST_SCRIPT_TXT.as_bytes();
+    let script = DENY_BEATS_ALLOW_TXT.as_bytes();
     for end in 0..script.len() {
         let (ended, _) = run(rt.alloc(), &script[..end])?;
         assert!(rt; ended != Ended::Stopped);
@@ -120,19 +120,19 @@ fn each_prefix_ends(rt: HostRuntime) -> Result<(), Fail> {
 
 #[test]
 fn failed_reads_write_nothing(rt: HostRuntime) -> Result<(), Fail> {
-    for calls in 0..FIRST_SCRIPT_TXT.len() + 2 {
+    for calls in 0..DENY_BEATS_ALLOW_TXT.len() + 2 {
         let mut written = Vec::new(rt.alloc());
         let mut reader = Slow {
-            rest: FIRST_SCRIPT_TXT.as_bytes(),
+            rest: DENY_BEATS_ALLOW_TXT.as_bytes(),
             calls,
         };
         let ended = run_text(rt.alloc(), &mut reader, &mut written);
-        if calls <= FIRST_SCRIPT_TXT.len() {
+        if calls <= DENY_BEATS_ALLOW_TXT.len() {
             assert_eq!(rt; ended, Err(RunFault::ReadFailed));
             assert_eq!(rt; written.len(), 0);
         } else {
             assert_eq!(rt; ended, Ok(Ended::Clean));
-            assert_eq!(rt; written.as_slice(), FIRST_SCRIPT_OUT.as_bytes());
+            assert_eq!(rt; written.as_slice(), DENY_BEATS_ALLOW_OUT.as_bytes());
         }
     }
     Ok(())
@@ -145,12 +145,12 @@ fn failed_writes_leave_a_front(rt: HostRuntime) -> Result<(), Fail> {
             taken: Vec::new(rt.alloc()),
             calls,
         };
-        let mut reader = FIRST_SCRIPT_TXT.as_bytes();
+        let mut reader = DENY_BEATS_ALLOW_TXT.as_bytes();
         let ended = run_text(rt.alloc(), &mut reader, &mut writer);
         assert_eq!(rt; ended, Err(RunFault::WriteFailed));
         assert_eq!(rt;
             writer.taken.as_slice(),
-            &FIRST_SCRIPT_OUT.as_bytes()[..7 * calls]
+            &DENY_BEATS_ALLOW_OUT.as_bytes()[..7 * calls]
         );
     }
     Ok(())
@@ -196,12 +196,13 @@ fn batches_have_a_limit(rt: HostRuntime) -> Result<(), Fail> {
     Ok(())
 }
 
-/// A script in which one with Create on the cluster, one without it and the super user create topics whose names are so
-/// many letters long.
+/// A script in which one with Create on the cluster, one without it and the super user create
+/// topics whose names are so many letters long.
 fn creating() -> [(&'static str, usize, &'static str); 5] {
     [
         (
-            "User:root h create-acl allow User:a * Create Cluster literal kafka-cluster\nUser:a h create-topic ",
+            "User:root h create-acl allow User:a * Create Cluster literal kafka-cluster\n\
+             User:a h create-topic ",
             249,
             " 1\n",
         ),

@@ -1,4 +1,5 @@
-//! Scripts: what is printed for each kind of fault, spellings that read alike, and how replies are printed.
+//! Scripts: what is printed for each kind of fault, spellings that read alike, and how replies are
+//! printed.
 
 use kob_names::{
     Binding, Bytes, Draft, Host, Items, Operation, Pattern, PatternKind, Permission, PlainValue,
@@ -106,7 +107,8 @@ fn spellings_read_alike(rt: HostRuntime) -> Result<(), Fail> {
         ),
         (
             "User:a h acl --remove --topic t --group g\n",
-            "User:a h delete-acls Topic t literal - - - -\nUser:a h delete-acls Group g literal - - - -\n",
+            "User:a h delete-acls Topic t literal - - - -\n\
+             User:a h delete-acls Group g literal - - - -\n",
         ),
         (
             "User:a h acl --list --principal User:b\n",
@@ -116,7 +118,7 @@ fn spellings_read_alike(rt: HostRuntime) -> Result<(), Fail> {
     for (one, two) in pairs {
         let one = read(rt.alloc(), one)?;
         let two = read(rt.alloc(), two)?;
-        assert!(rt; one.supers.same(&two.supers));
+        assert!(rt; one.settings.same(&two.settings));
         assert!(rt; one.events.same(&two.events));
     }
     Ok(())

@@ -1,7 +1,9 @@
 -- What a run writes for a script.
-use Rattle.std.specs.Prelude.{◌≡◌, ◌<◌, ◌++◌, ℕ, List, [], length, take, Result, Ok, Err}
+use Rattle.std.specs.Io.KnownBytes.{Appends}
+use Rattle.std.specs.Prelude.{◌≡◌, ◌<◌, ◌++◌, ℕ, List, length, take, Option, Result, Ok, Err}
 use Rattle.kob_broker.specs.State.{open_state}
 use Rattle.kob_broker.specs.Step.{replies_of}
+use Rattle.kob_names.specs.declared.settings.Settings.{Settings}
 use Rattle.kob_partition.specs.Retained.{plain_meaning}
 use Rattle.kob_rights.specs.declared.event.Event.{Event}
 use Rattle.kob_rights.specs.declared.reply.Reply.{Reply}
@@ -11,19 +13,19 @@ use Rattle.kob_script.specs.declared.fault.Fault as fault
 use Rattle.kob_script.specs.declared.script.Script.{Script}
 use Rattle.kob_script.specs.PrintedFault.{fault_text}
 use Rattle.kob_script.specs.PrintedReply.{text_of_replies, stopped_text}
-use Rattle.kob_script.specs.ToldScript.{ReadsAs}
+use Rattle.kob_script.specs.ScriptReadings.{ReadsAs}
 
--- the replies of a broker that was opened with super users and with no bindings, which keeps all accepted batches
-abbrev pub replies_to : List (List ℕ) → List Event → List Reply
-replies_to supers events =
-    replies_of plain_meaning events (open_state (record { supers = supers; opening = [] }))
+-- the replies of a broker that was opened with the settings, which keeps all accepted batches
+abbrev pub replies_to : Settings → List Event → List Reply
+replies_to settings events = replies_of plain_meaning events (open_state settings)
 
 -- The text is the output for what was read, by how the run ended: all replies, or those to the first requests where
 -- memory stopped it, or the fault of the script.
 abbrev pub IsOutput : Result Script fault.Fault → Ended → List ℕ → Type 0
-IsOutput (Ok s) Clean text = text ≡ text_of_replies (replies_to s.supers s.events)
+IsOutput (Ok s) Clean text = text ≡ text_of_replies (replies_to s.settings s.events)
 IsOutput (Ok s) Stopped text =
-    (done : ℕ) × (done < length s.events) × (text ≡ text_of_replies (replies_to s.supers (take done s.events)) ++ stopped_text done)
+    (done : ℕ) × (done < length s.events)
+    × (text ≡ text_of_replies (replies_to s.settings (take done s.events)) ++ stopped_text done)
 IsOutput (Ok s) Fault text = ⊥
 IsOutput (Err fault) Fault text = text ≡ fault_text fault
 IsOutput (Err fault) Clean text = ⊥
@@ -36,3 +38,7 @@ HasOutput read P = (ended : Ended) × (text : List ℕ) × IsOutput read ended t
 -- Something that the bytes may be read as has the property. Bytes without `acl` lines may be read in one way alone.
 abbrev pub HasReading : List ℕ → (Result Script fault.Fault → Type 0) → Type 0
 HasReading bytes P = (read : Result Script fault.Fault) × ReadsAs bytes read × P read
+
+-- What was written is an output for what was read, by how the run ended.
+abbrev pub Writes : Result Script fault.Fault → Ended → Option (List ℕ) → Option (List ℕ) → Type 0
+Writes read ended old new = (text : List ℕ) × IsOutput read ended text × Appends old new text

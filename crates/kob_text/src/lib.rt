@@ -2,6 +2,7 @@
 #![tactic(auto)]
 
 mod fault;
+mod limits;
 mod output;
 mod run;
 mod sink;
@@ -9,7 +10,6 @@ mod source;
 mod transfer;
 
 pub use fault::RunFault;
+pub use limits::{READ_LIMIT, SCRIPT_LIMIT};
 pub use output::Ended;
 pub use run::run_text;
-pub use source::READ_CALLS;
-pub use transfer::SCRIPT_LIMIT;

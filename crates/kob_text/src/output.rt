@@ -8,11 +8,11 @@ ghost use Rattle.kob_rights.specs.declared.event.Event as event;
 ghost use Rattle.kob_text.specs.Output.{HasReading, IsOutput, replies_to};
 ghost use Rattle.kob_script.specs.PrintedReply.{text_of_replies, stopped_text};
 ghost use Rattle.kob_script.specs.Script.{script_of};
-ghost use Rattle.kob_script.specs.ToldScript.{HasNoAclLine};
+ghost use Rattle.kob_script.specs.ScriptReadings.{HasNoAclLine};
 
 use crate::fault::RunFault;
-use kob_broker::{Broker, OpenFault, Settings, Stopped};
-use kob_names::{Items, Principal};
+use kob_broker::{Broker, OpenFault, Stopped};
+use kob_names::Settings;
 use kob_rights::{Event, Reply};
 use kob_script::{Script, ScriptError, print_fault, print_replies, print_stopped, read_script};
 use std::alloc::Global;
@@ -37,8 +37,10 @@ pub struct Output {
 
 /// The output for a script. The error is want of memory.
 pub fn output_of(alloc: Global, script: &[u8]) -> Result<Output, RunFault>
-    ensures told { IfOk result (λ output. HasReading script.now (λ read. IsOutput read output.ended output.text.items)) }
-    ensures output { HasNoAclLine script.now → IfOk result (λ output. IsOutput (script_of script.now) output.ended output.text.items) }
+    ensures any { IfOk result (λ output. HasReading script.now
+        (λ read. IsOutput read output.ended output.text.items)) }
+    ensures plain { HasNoAclLine script.now → IfOk result (λ output.
+        IsOutput (script_of script.now) output.ended output.text.items) }
     ensures memory { IfErr result (λ fault. fault ≡ RunFault.Memory) }
 {
     match read_script(alloc, script) {
@@ -55,32 +57,32 @@ pub fn output_of(alloc: Global, script: &[u8]) -> Result<Output, RunFault>
     }
 }
 
-// No bindings are opened, so that want of memory is the only error.
-fn opened(alloc: Global, supers: Items<Principal>) -> Result<Broker, RunFault>
+// A script opens no bindings, so that want of memory is the only error.
+fn broker_by(alloc: Global, settings: Settings) -> Result<Broker, RunFault>
     ensures answers { IfOk result (λ broker. (events : List event.Event)
-        → replies_of retained_meaning events (state_of broker) ≡ replies_to supers events) }
+        → replies_of retained_meaning events (state_of broker) ≡ replies_to settings events) }
     ensures memory { IfErr result (λ fault. fault ≡ RunFault.Memory) }
 {
-    let opening = Items::from_vec(Vec::new(alloc));
-    match Broker::open(alloc, Settings { supers, opening }) {
+    match Broker::open(alloc, settings) {
         Ok(broker) => Ok(broker),
         Err(OpenFault::Memory | OpenFault::TooMany) => Err(RunFault::Memory),
     }
 }
 
 // What a new broker answers. The outer error is want of memory before the first event.
-fn served(
+fn replies_to(
     alloc: Global,
-    supers: Items<Principal>,
+    settings: Settings,
     events: &[Event],
 ) -> Result<Result<Vec<Reply>, Stopped>, RunFault>
-    ensures all { IfOk result (λ ran. IfOk ran (λ replies. replies.items ≡ replies_to supers events.now)) }
+    ensures all { IfOk result (λ ran. IfOk ran (λ replies.
+        replies.items ≡ replies_to settings events.now)) }
     ensures few { IfOk result (λ ran. IfErr ran (λ stopped. stopped.done < length events.now)) }
     ensures first { IfOk result (λ ran. IfErr ran (λ stopped.
-        stopped.replies.items ≡ replies_to supers (take stopped.done events.now))) }
+        stopped.replies.items ≡ replies_to settings (take stopped.done events.now))) }
     ensures memory { IfErr result (λ fault. fault ≡ RunFault.Memory) }
 {
-    let mut broker = opened(alloc, supers)?;
+    let mut broker = broker_by(alloc, settings)?;
     Ok(broker.run(alloc, events))
 }
 
@@ -88,8 +90,8 @@ fn output_of_run(alloc: Global, script: Script) -> Result<Output, RunFault>
     ensures output { IfOk result (λ output. IsOutput (Ok script) output.ended output.text.items) }
     ensures memory { IfErr result (λ fault. fault ≡ RunFault.Memory) }
 {
-    let Script { supers, events } = script;
-    match served(alloc, supers, events.as_slice())? {
+    let Script { settings, events } = script;
+    match replies_to(alloc, settings, events.as_slice())? {
         Ok(replies) => clean_output(alloc, &replies),
         Err(stopped) => stopped_output(alloc, &stopped),
     }

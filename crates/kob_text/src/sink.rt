@@ -1,6 +1,7 @@
 //! A writer that is known to have failed.
 
-ghost use Rattle.std.specs.Prelude.{◌≡◌, ◌<◌, ◌≤◌, length, true, false, take, OnErr, OnOk, IfOk};
+ghost use Rattle.std.specs.Prelude.{◌≡◌, ◌<◌, ◌≤◌, length, true, false, take};
+ghost use Rattle.std.specs.Prelude.{OnErr, OnOk, IfOk};
 ghost use Rattle.std.specs.Io.KnownBytes.{Appends, Keeps};
 
 use std::io::Write;
@@ -29,7 +30,8 @@ impl<'a, W: Write> Sink<'a, W> {
         }
     }
 
-    /// Writes some of the text, and tells how many bytes of it. For an empty text the writer is not called.
+    /// Writes some of the text, and tells how many bytes of it. For an empty text the writer is not
+    /// called.
     pub fn write(&mut self, text: &[u8]) -> Result<usize, WriteFailed>
         ensures same_reference { self.new.writer.ghost_name ≡ self.old.writer.ghost_name }
         ensures failed { OnErr result (self.new.failed ≡ true) }
@@ -37,8 +39,10 @@ impl<'a, W: Write> Sink<'a, W> {
         ensures bound { IfOk result (λ count. count ≤ length text.now) }
         ensures some { IfOk result (λ count. 0 < length text.now → 0 < count) }
         ensures nothing { OnErr result (0 < length text.now) }
-        ensures taken { IfOk result (λ count. Appends (W.contents self.old.writer.now) (W.contents self.new.writer.now) (take count text.now)) }
-        ensures kept { OnErr result (Keeps (W.contents self.old.writer.now) (W.contents self.new.writer.now)) }
+        ensures taken { IfOk result (λ count. Appends (W.contents self.old.writer.now)
+            (W.contents self.new.writer.now) (take count text.now)) }
+        ensures kept { OnErr result
+            (Keeps (W.contents self.old.writer.now) (W.contents self.new.writer.now)) }
     {
         if text.is_empty() {
             return Ok(0);

@@ -1,15 +1,14 @@
 //! A reader that is asked only so often.
 
-ghost use Rattle.std.specs.Prelude.{◌≡◌, ◌-◌, ◌<◌, ◌≤◌, length, true, false, take, OnErr, OnOk, IfOk};
+ghost use Rattle.std.specs.Prelude.{◌≡◌, ◌⊎◌, ◌-◌, ◌<◌, ◌≤◌, length, true, false, take};
+ghost use Rattle.std.specs.Prelude.{OnErr, OnOk, IfOk};
 ghost use Rattle.std.specs.Io.KnownBytes.{Consumes, IsAtEnd};
-ghost use Rattle.kob_text.specs.declared.source.TheConstants.{READ_CALLS};
+ghost use Rattle.kob_text.specs.Limits.{read_limit};
 
+use crate::limits::READ_LIMIT;
 use std::io::Read;
 
-/// How often a reader is asked for bytes before it counts as failed.
-pub const READ_CALLS: u32 = 20_000_000;
-
-/// A reader, how many calls of it are left, and whether it has failed: a call did, or one more was wanted than are left.
+/// A reader, how many calls of it are left, and whether a call of it failed.
 #[derive(Drop)]
 pub struct Source<'a, R> {
     reader: &'a mut R,
@@ -25,29 +24,30 @@ impl<'a, R: Read> Source<'a, R> {
     /// A reader of which all calls are left.
     pub fn new(reader: &'a mut R) -> Source<'a, R>
         ensures reader { R.remaining result.reader.now ≡ R.remaining reader.old }
-        ensures calls { result.calls_left ≡ READ_CALLS }
+        ensures calls { result.calls_left ≡ read_limit }
         ensures fresh { result.failed ≡ false }
     {
         Source {
             reader,
-            calls_left: READ_CALLS,
+            calls_left: READ_LIMIT,
             failed: false,
         }
     }
 
     /// The next bytes, put at the front of the piece; their number is 0 at the end of the reader.
     pub fn read(&mut self, piece: &mut [u8]) -> Result<usize, ReadFailed>
-        ensures failed { OnErr result (self.new.failed ≡ true) }
+        ensures failed { OnErr result ((self.old.calls_left ≡ 0) ⊎ (self.new.failed ≡ true)) }
         ensures sound { OnOk result (self.new.failed ≡ self.old.failed) }
         ensures calls { self.new.calls_left ≡ self.old.calls_left - 1 }
         ensures left { OnOk result (0 < self.old.calls_left) }
         ensures bound { IfOk result (λ count. count ≤ length piece.new) }
         ensures length { length piece.new ≡ length piece.old }
-        ensures bytes { IfOk result (λ count. Consumes (R.remaining self.old.reader.now) (R.remaining self.new.reader.now) (take count piece.new)) }
-        ensures end { IfOk result (λ count. count ≡ 0 → 0 < length piece.new → IsAtEnd (R.remaining self.new.reader.now)) }
+        ensures bytes { IfOk result (λ count. Consumes (R.remaining self.old.reader.now)
+            (R.remaining self.new.reader.now) (take count piece.new)) }
+        ensures end { IfOk result (λ count. count ≡ 0 → 0 < length piece.new
+            → IsAtEnd (R.remaining self.new.reader.now)) }
     {
         if self.calls_left == 0 {
-            self.failed = true;
             return Err(ReadFailed);
         }
         self.calls_left -= 1;

@@ -1,26 +1,29 @@
 //! Reading a whole script and writing a whole output.
 
-ghost use Rattle.std.specs.Prelude.{◌≡◌, ◌<◌, ◌≤◌, true, length, vec_len, IfOk, IfErr, IfSome, OnOk, OnErr, IsErrOf};
+ghost use Rattle.std.specs.Prelude.{◌≡◌, ◌⊎◌, ◌<◌, ◌≤◌, true, length, vec_len};
+ghost use Rattle.std.specs.Prelude.{IfOk, IfErr, IfSome, OnOk, OnErr, IsErrOf};
 ghost use Rattle.std.specs.Io.KnownBytes.{Appends};
+ghost use Rattle.kob_text.specs.Limits.{script_limit};
 ghost use Rattle.kob_text.specs.Transfer.{AppendsPart};
 
 use crate::fault::RunFault;
+use crate::limits::SCRIPT_LIMIT;
 use crate::sink::Sink;
 use crate::source::Source;
 use std::alloc::Global;
 use std::io::{Read, Write};
 
-/// The most bytes of a script.
-pub const SCRIPT_LIMIT: usize = 16_777_216;
-
-/// All that the reader has left, at most 16,777,216 bytes of it. The error is `ReadFailed`, `TooLong` or `Memory`.
+/// All that the reader has left, at most 16,777,216 bytes of it. The error is `ReadFailed`,
+/// `TooLong` or `Memory`.
 pub fn read_all<R: Read>(alloc: Global, source: &mut Source<'_, R>) -> Result<Vec<u8>, RunFault>
-    ensures whole { IfOk result (λ text. IfSome (R.remaining source.old.reader.now) (λ bytes. text.items ≡ bytes)) }
-    ensures limited { IfOk result (λ text. vec_len text ≤ SCRIPT_LIMIT) }
+    ensures whole { IfOk result (λ text. IfSome (R.remaining source.old.reader.now)
+        (λ bytes. text.items ≡ bytes)) }
+    ensures limited { IfOk result (λ text. vec_len text ≤ script_limit) }
     ensures sound { OnOk result (source.new.failed ≡ source.old.failed) }
-    ensures failed { IsErrOf result RunFault.ReadFailed → source.new.failed ≡ true }
+    ensures failed { IsErrOf result RunFault.ReadFailed
+        → (source.new.calls_left ≡ 0) ⊎ (source.new.failed ≡ true) }
     ensures too_long { IsErrOf result RunFault.TooLong
-        → IfSome (R.remaining source.old.reader.now) (λ bytes. SCRIPT_LIMIT < length bytes) }
+        → IfSome (R.remaining source.old.reader.now) (λ bytes. script_limit < length bytes) }
     ensures not_write { IsErrOf result RunFault.WriteFailed → ⊥ }
 {
     let mut text = Vec::new(alloc);
@@ -37,11 +40,14 @@ pub fn read_all<R: Read>(alloc: Global, source: &mut Source<'_, R>) -> Result<Ve
     }
 }
 
-/// Writes all of the text. After the fault, which is `WriteFailed`, the writer has taken a front of it, and not all.
+/// Writes all of the text. After the fault, which is `WriteFailed`, the writer has taken a front of
+/// it, and not all.
 pub fn write_all<W: Write>(sink: &mut Sink<'_, W>, text: &[u8]) -> Result<(), RunFault>
     ensures same_reference { sink.new.writer.ghost_name ≡ sink.old.writer.ghost_name }
-    ensures whole { OnOk result (Appends (W.contents sink.old.writer.now) (W.contents sink.new.writer.now) text.now) }
-    ensures part { OnErr result (AppendsPart (W.contents sink.old.writer.now) (W.contents sink.new.writer.now) text.now) }
+    ensures whole { OnOk result
+        (Appends (W.contents sink.old.writer.now) (W.contents sink.new.writer.now) text.now) }
+    ensures part { OnErr result
+        (AppendsPart (W.contents sink.old.writer.now) (W.contents sink.new.writer.now) text.now) }
     ensures sound { OnOk result (sink.new.failed ≡ sink.old.failed) }
     ensures failed { OnErr result (sink.new.failed ≡ true) }
     ensures fault { IfErr result (λ fault. fault ≡ RunFault.WriteFailed) }

@@ -12,8 +12,9 @@ use crate::resource::resource_name;
 use kob_names::{Binding, Draft};
 use std::alloc::{AllocError, Global};
 
-/// Prints a binding with its serial, as `binding SERIAL PERMISSION PRINCIPAL HOST OPERATION RESOURCE PATTERN NAME`, with
-/// no line feed after it. The error is want of memory; `out` has then grown by a part of it.
+/// Prints a binding with its serial, as `binding SERIAL PERMISSION PRINCIPAL HOST OPERATION
+/// RESOURCE PATTERN NAME`, with no line feed after it. The error is want of memory; `out` has then
+/// grown by a part of it.
 #[tactic(auto, using(crate::proofs::Appending::appending))]
 pub fn print_binding(
     alloc: Global,

@@ -8,7 +8,8 @@ ghost use Rattle.kob_words.specs.PrintedText.{is_plain, byte_text, bytes_text};
 
 use std::alloc::{AllocError, Global};
 
-/// Prints bytes: each outside 0x21 to 0x7e, and each `%` and `=`, is `%` and two lower-case hexadecimal digits.
+/// Prints bytes: each outside 0x21 to 0x7e, and each `%` and `=`, is `%` and two lower-case
+/// hexadecimal digits.
 #[tactic(auto, using(crate::proofs::Appending::appending))]
 pub fn push_bytes(out: &mut Vec<u8>, bytes: &[u8]) -> Result<(), AllocError>
     ensures text { OnOk result (out.new.items ≡ out.old.items ++ bytes_text bytes.now) }

@@ -1,7 +1,7 @@
 use Rattle.std.proofs.Common.{rules}
-use Rattle.kob_acl_cli.proofs.Telling.{told_at}
+use Rattle.kob_acl_cli.proofs.FirstFaults.{first_at}
 use Rattle.kob_acl_cli.specs.Misread.{is_no_principal}
 use Rattle.kob_acl_cli.proofs.misread.read_principals.Goals as goal
 
 pub returns-in_err-read_principal : goal.returns-in_err-read_principal
-returns-in_err-read_principal c = search (rules, told_at is_no_principal c.args.words.now c.loop-word.word-index)
+returns-in_err-read_principal c = search (rules, first_at is_no_principal c.args.words.now c.loop-word.word-index)

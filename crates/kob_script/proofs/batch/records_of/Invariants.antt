@@ -1,8 +1,6 @@
--- What was read, and then what the rest stands for, is what the words stand for.
-use Rattle.std.proofs.Common.{◌≡◌, map, drop}
-use Rattle.kob_script.specs.Reading.{each, with_front}
+use Rattle.std.proofs.Common.{◌≡◌, map, take}
 use Rattle.kob_script.specs.Batches.{record_of}
 use Rattle.kob_script.proofs.batch.records_of.Given as goal
 
 abbrev pub invariant-loop-word : goal.invariant-loop-word
-invariant-loop-word l = with_front l.records.items (each record_of (map (λ word. word.now) (drop l.word-index l.words))) ≡ each record_of (map (λ word. word.now) l.words)
+invariant-loop-word l = l.records.items ≡ map record_of (take l.word-index l.words)

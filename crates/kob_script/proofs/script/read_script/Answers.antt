@@ -22,8 +22,8 @@ loop-line-preserved c =
       leads = line_keeps _ _ _ (c.loop-line.number + 1) _ _ _ c.loop-line.invariant.leads split c.in-Ok.ensures;
     }
 
-pub returns-in-Err-clause-told : goal.returns-in-Err-clause-told
-returns-in-Err-clause-told c =
+pub returns-in-Err-clause-any : goal.returns-in-Err-clause-any
+returns-in-Err-clause-any c =
     rw c.fault_at.ensures
     (line_stops _ _ c.add_line.new.script (c.loop-line.number + 1) _ _ _ _ c.loop-line.invariant.leads c.in-Some.ensures.steps c.in-Err.ensures)
 
@@ -32,8 +32,8 @@ returns-in-Err-clause-plain c =
     rw c.fault_at.ensures
     (reads_plain _ (Err (fault_at (c.loop-line.number + 1) c.in-Err.error)) (line_stops _ _ c.add_line.new.script (c.loop-line.number + 1) _ _ _ _ c.loop-line.invariant.leads c.in-Some.ensures.steps c.in-Err.ensures))
 
-pub returns-clause-told : goal.returns-clause-told
-returns-clause-told c = rw c.finished.ensures (lines_end _ _ (c.loop-line.number + 1) _ c.loop-line.invariant.leads c.in-None.ensures.steps.0)
+pub returns-clause-any : goal.returns-clause-any
+returns-clause-any c = rw c.finished.ensures (lines_end _ _ (c.loop-line.number + 1) _ c.loop-line.invariant.leads c.in-None.ensures.steps.0)
 
 pub returns-clause-plain : goal.returns-clause-plain
 returns-clause-plain c =

@@ -1,12 +1,12 @@
 -- What was read stands in the text.
 use Rattle.std.proofs.Common.{◌≡◌, ◌≤◌, vec_len}
 use Rattle.std.specs.Io.KnownBytes.{Consumes}
-use Rattle.kob_text.specs.declared.transfer.TheConstants.{SCRIPT_LIMIT}
+use Rattle.kob_text.specs.Limits.{script_limit}
 use Rattle.kob_text.proofs.transfer.read_all.Given as goal
 
 abbrev pub invariant-loop-text : goal.invariant-loop-text
 invariant-loop-text g l = record {
-  within : vec_len l.text ≤ SCRIPT_LIMIT;
+  within : vec_len l.text ≤ script_limit;
   sound : l.source.failed ≡ l.initial.source.failed;
   read : Consumes (g.R.Read.remaining l.initial.source.reader.now) (g.R.Read.remaining l.source.reader.now) l.text.items;
 }

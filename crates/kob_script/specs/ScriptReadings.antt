@@ -1,7 +1,8 @@
--- What scripts may be read as, by what clap may tell of their `acl` lines.
-use Rattle.std.specs.Prelude.{◌≡◌, ◌+◌, ℕ, true, List, [], ◌∷◌, Option, is_none, Result, Ok, Err}
+-- What scripts may be read as, by what clap may answer to their `acl` lines.
+use Rattle.std.specs.Prelude.{◌≡◌, ◌+◌, ℕ, Bool, true, List, [], ◌∷◌, Option, is_none, Result, Ok, Err}
 use Rattle.std.specs.List.{list_all}
 use Rattle.kob_acl_cli.specs.declared.args.CliArgs.{CliArgs}
+use Rattle.kob_script.specs.ClapAnswer.{after_acl, IsAnswerTo}
 use Rattle.kob_script.specs.declared.fault.FaultKind.{FaultKind}
 use Rattle.kob_script.specs.declared.fault.Fault.{Fault}
 use Rattle.kob_script.specs.declared.fault.LineError.{LineError}
@@ -12,12 +13,18 @@ use Rattle.kob_script.specs.declared.script.Growing.{Growing}
 use Rattle.kob_script.specs.declared.script.Script.{Script}
 use Rattle.kob_script.specs.Growing.{grown}
 use Rattle.kob_script.specs.Script.{with_line, lines_in, empty_script}
-use Rattle.kob_script.specs.Told.{after_acl, IsToldOf}
-use Rattle.kob_script.specs.Words.{words}
+use Rattle.kob_script.specs.Word.{Word}
+use Rattle.kob_script.specs.Words.{words_of}
+
+-- nothing is asked of a line with an escape that is not whole
+abbrev pub IsAnswerToLine : Result (List Word) FaultKind → Option CliArgs → Type 0
+IsAnswerToLine (Ok words) answer = IsAnswerTo words answer
+IsAnswerToLine (Err kind) answer = Unit {0}
 
 -- with a line more, the script may be this
 abbrev pub LineReadsAs : Script → List ℕ → Result Script FaultKind → Type 0
-LineReadsAs s line read = (told : Option CliArgs) × IsToldOf (words line) told × (with_line told s line ≡ read)
+LineReadsAs s line read =
+    (answer : Option CliArgs) × IsAnswerToLine (words_of line) answer × (with_line answer s line ≡ read)
 
 -- the lines after one may be read as this, unless that one has a fault
 abbrev pub ThenLines : ℕ → Result Script FaultKind → (Script → Type 0) → Result Script Fault → Type 0
@@ -28,15 +35,21 @@ ThenLines number (Err kind) Others read = read ≡ Err (record { line = number; 
 unfoldable pub LinesFrom : Script → ℕ → List (List ℕ) → Result Script Fault → Type 0
 LinesFrom s number [] read = read ≡ Ok s
 LinesFrom s number (line ∷ lines) read =
-    (first : Result Script FaultKind) × LineReadsAs s line first × ThenLines number first (λ next. LinesFrom next (number + 1) lines read) read
+    (first : Result Script FaultKind) × LineReadsAs s line first
+    × ThenLines number first (λ next. LinesFrom next (number + 1) lines read) read
 
 -- The bytes may be read as this script, or as having this first fault, with lines counted from 1.
 abbrev pub ReadsAs : List ℕ → Result Script Fault → Type 0
 ReadsAs text read = LinesFrom empty_script 1 (lines_in text) read
 
+-- clap isn't asked about a line
+abbrev pub is_plain : Result (List Word) FaultKind → Bool
+is_plain (Ok words) = is_none (after_acl words)
+is_plain (Err kind) = true
+
 -- No line of the bytes asks by `acl`.
 abbrev pub HasNoAclLine : List ℕ → Type 0
-HasNoAclLine text = list_all (λ line. is_none (after_acl (words line))) (lines_in text) ≡ true
+HasNoAclLine text = list_all (λ line. is_plain (words_of line)) (lines_in text) ≡ true
 
 -- A line was read as it may be, unless memory ran out.
 abbrev pub MayGiveNext : (Result Script FaultKind → Type 0) → Growing → Result (Unit {0}) LineError → Type 0

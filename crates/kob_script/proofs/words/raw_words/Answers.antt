@@ -2,7 +2,7 @@ use Rattle.std.proofs.Common.{rules, tests, length, nat_lt, List, ℕ}
 use Rattle.std.proofs.lemmas.Iterator.Consumers.{YieldsList-at, YieldsList-from_filter, map_from_collect}
 use Rattle.std.proofs.lemmas.Iterator.Splits.{YieldsList-from_slice_split}
 use Rattle.kob_script.specs.Words.{is_blank}
-use Rattle.kob_script.proofs.word.words.Goals as goal
+use Rattle.kob_script.proofs.words.raw_words.Goals as goal
 
 pub returns : goal.returns
 returns c =

@@ -1,0 +1,10 @@
+-- The limits on a run.
+use Rattle.std.specs.Prelude.{ℕ}
+
+-- the most bytes of a script
+abbrev pub script_limit : ℕ
+script_limit = 16777216
+
+-- the most calls of a reader
+abbrev pub read_limit : ℕ
+read_limit = 20000000

@@ -1,0 +1,11 @@
+//! The limits on a run.
+
+/// The most bytes of a script.
+pub const SCRIPT_LIMIT: usize = 16_777_216;
+
+const _: () = prove!(SCRIPT_LIMIT == 16_777_216);
+
+/// The most calls of a reader; one that has not come to its end after so many counts as failed.
+pub const READ_LIMIT: u32 = 20_000_000;
+
+const _: () = prove!(READ_LIMIT == 20_000_000);
