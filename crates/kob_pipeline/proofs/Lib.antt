@@ -1,0 +1,8 @@
+mod Lists
+mod Events
+mod Sending
+mod Logged
+mod RouterKept
+mod RouterSteps
+mod RouterServed
+mod RouterRun
