@@ -6,3 +6,8 @@ mod RouterKept
 mod RouterSteps
 mod RouterServed
 mod RouterRun
+mod Ids
+mod Offsets
+mod ConsumerKept
+mod ConsumerServed
+mod ConsumerRun
