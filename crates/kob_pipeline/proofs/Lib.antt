@@ -11,3 +11,4 @@ mod Offsets
 mod ConsumerKept
 mod ConsumerServed
 mod ConsumerRun
+mod RowsRun
