@@ -12,3 +12,6 @@ mod ConsumerKept
 mod ConsumerServed
 mod ConsumerRun
 mod RowsRun
+mod Once
+mod Arriving
+mod Aggregates
