@@ -48,8 +48,7 @@ module _ (test : Event → Bool) where
   older (x ∷ xs) more row new h =
       let parts = or_parts (bytes_eq row.id x.id) (list_any (bytes_eq row.id) (ids_of xs)) new in
       let none : list_any (bytes_eq x.id) (row.id ∷ []) ≡ false =
-          ap (λ (b : Bool). b || false) (bytes_turned x.id row.id ∙ parts.0) in
-      (
+      ap (λ (b : Bool). b || false) (bytes_turned x.id row.id ∙ parts.0) in (
         list_any-append (bytes_eq x.id) (ids_of (filter test more)) (row.id ∷ [])
             ∙ ap (λ (b : Bool). list_any (bytes_eq x.id) (ids_of (filter test more)) || b) none
             ∙ or_false (list_any (bytes_eq x.id) (ids_of (filter test more)))
@@ -64,7 +63,7 @@ module _ (test : Event → Bool) where
         | inl on ↦
             let ids : List (List ℕ) = ids_of (filter test rows) in
             let e : ids_of (filter test (rows ++ row ∷ [])) ≡ ids ++ row.id ∷ [] =
-                ap ids_of (filter_last test rows row on) ∙ map_push (λ (r : Event). r.id) (filter test rows) row in
+            ap ids_of (filter_last test rows row on) ∙ map_push (λ (r : Event). r.id) (filter test rows) row in
             subst (λ (xs : List (List ℕ)). AllByRecursion (λ (x : Event). list_any (bytes_eq x.id) xs ≡ test x) (rows ++ row ∷ [])) (sym e)
             (all_last (λ (x : Event). list_any (bytes_eq x.id) (ids ++ row.id ∷ []) ≡ test x) rows row (older rows rows row new h)
             (any_last (bytes_eq row.id) ids row.id (same_bytes row.id) ∙ sym on))

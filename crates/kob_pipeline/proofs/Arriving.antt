@@ -144,11 +144,11 @@ passes_here test q (a ∷ arrived) h =
           (sym (cond-true (same_place a.place q) (a ∷ from_place q arrived) (from_place q arrived) on))
       | inr off ↦
           let fails : passes test (told_id a.message) ≡ false =
-              elim (cases_Bool (passes test (told_id a.message))) [
-                | inl p ↦
-                    absurd (both_ways (same_place a.place q) off (ap (λ (y : Place). same_place y q) (h.0 p) ∙ same_here q))
-                | inr f ↦ f
-              ] in
+          elim (cases_Bool (passes test (told_id a.message))) [
+            | inl p ↦
+                absurd (both_ways (same_place a.place q) off (ap (λ (y : Place). same_place y q) (h.0 p) ∙ same_here q))
+            | inr f ↦ f
+          ] in
           filter_skip test (told_id a.message) (ids_told arrived) fails
           ∙ passes_here test q arrived h.1
           ∙ ap (λ (ys : List Arrival). filter test (ids_told ys))
@@ -213,12 +213,12 @@ firsts_of_front records m (a ∷ arrived) n e h =
           (ap (λ (ks : List ℕ). with_each_new nat_eq ks (map offset_of arrived)) (sym (numbers_again n a.offset lt)) ∙ e) h.1
       | inr ge ↦
           let e' : with_each_new nat_eq (numbers_below n ++ a.offset ∷ []) (map offset_of arrived) ≡ numbers_below m =
-              ap (λ (ks : List ℕ). with_each_new nat_eq ks (map offset_of arrived)) (sym (numbers_beyond n a.offset ge)) ∙ e in
+          ap (λ (ks : List ℕ). with_each_new nat_eq ks (map offset_of arrived)) (sym (numbers_beyond n a.offset ge)) ∙ e in
           let more = each_new_more nat_eq (numbers_below n ++ a.offset ∷ []) (map offset_of arrived) in
           let at : a.offset ≡ n =
-              next_number n m a.offset more.0 (sym (append_assoc (numbers_below n) (a.offset ∷ []) more.0) ∙ sym more.1 ∙ e') in
+          next_number n m a.offset more.0 (sym (append_assoc (numbers_below n) (a.offset ∷ []) more.0) ∙ sym more.1 ∙ e') in
           let next : with_each_new nat_eq (numbers_below (suc n)) (map offset_of arrived) ≡ numbers_below m =
-              subst (λ (k : ℕ). with_each_new nat_eq (numbers_below n ++ k ∷ []) (map offset_of arrived) ≡ numbers_below m) at e' in
+          subst (λ (k : ℕ). with_each_new nat_eq (numbers_below n ++ k ∷ []) (map offset_of arrived) ≡ numbers_below m) at e' in
           let there : slice_get records n ≡ Some a.message = subst (λ (k : ℕ). slice_get records k ≡ Some a.message) at h.0 in
           one_then_all (front_ids records n) (told_id a.message) (ids_told arrived)
           ∙ ap (λ (xs : List (List ℕ)). with_each_new bytes_eq xs (ids_told arrived)) (sym (ids_more records n a.message there))

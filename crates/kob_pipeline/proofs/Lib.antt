@@ -15,3 +15,4 @@ mod RowsRun
 mod Once
 mod Arriving
 mod Aggregates
+mod Reaching

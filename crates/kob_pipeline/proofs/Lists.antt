@@ -149,13 +149,23 @@ pub all_weaker : {A : Type 0} (P R : A → Type 0) → ((x : A) → P x → R x)
 all_weaker P R f [] h = tt
 all_weaker P R f (x ∷ xs) h = (f x h.0, all_weaker P R f xs h.1)
 
-pub all_filter : {A : Type 0} (P : A → Type 0) (test : A → Bool) (xs : List A) → AllByRecursion P xs → AllByRecursion P (filter test xs)
-all_filter P test [] h = tt
-all_filter {A} P test (x ∷ xs) h =
+-- what holds of all holds of what a filter keeps, and that passes
+pub all_passing : {A : Type 0} (P : A → Type 0) (test : A → Bool) (xs : List A) → AllByRecursion P xs
+    → AllByRecursion (λ x. P x × (test x ≡ true)) (filter test xs)
+all_passing P test [] h = tt
+all_passing {A} P test (x ∷ xs) h =
     elim (cases_Bool (test x)) [
-      | inl on ↦ subst (AllByRecursion P) (sym (cond-true (test x) (x ∷ filter test xs) (filter test xs) on)) (h.0, all_filter P test xs h.1)
-      | inr off ↦ subst (AllByRecursion P) (sym (cond-false (test x) (x ∷ filter test xs) (filter test xs) off)) (all_filter P test xs h.1)
+      | inl on ↦
+          subst (AllByRecursion (λ y. P y × (test y ≡ true))) (sym (cond-true (test x) (x ∷ filter test xs) (filter test xs) on))
+          ((h.0, on), all_passing P test xs h.1)
+      | inr off ↦
+          subst (AllByRecursion (λ y. P y × (test y ≡ true))) (sym (cond-false (test x) (x ∷ filter test xs) (filter test xs) off))
+          (all_passing P test xs h.1)
     ]
+
+pub all_both : {A : Type 0} (P R : A → Type 0) (xs : List A) → AllByRecursion P xs → AllByRecursion R xs → AllByRecursion (λ x. P x × R x) xs
+all_both P R [] h k = tt
+all_both P R (x ∷ xs) h k = ((h.0, k.0), all_both P R xs h.1 k.1)
 
 -- of each element that a list contains
 pub all_contained : {A : Type 0} (P : A → Type 0) (xs : List A) → ((x : A) → Contains xs x → P x) → AllByRecursion P xs

@@ -61,10 +61,10 @@ any_passing test y h (x ∷ xs) =
       | inl on ↦ rw on (ap (λ (b : Bool). bytes_eq y x || b) (any_passing test y h xs))
       | inr off ↦
           let apart : bytes_eq y x ≡ false =
-              elim (cases_Bool (bytes_eq y x)) [
-                | inl e ↦ absurd (both_ways (test x) off (ap test (sym (bytes_are y x e)) ∙ h))
-                | inr e ↦ e
-              ] in
+          elim (cases_Bool (bytes_eq y x)) [
+            | inl e ↦ absurd (both_ways (test x) off (ap test (sym (bytes_are y x e)) ∙ h))
+            | inr e ↦ e
+          ] in
           rw (off, apart) (any_passing test y h xs)
     ]
 
@@ -149,10 +149,10 @@ get_number (suc m) i h =
 pub next_number : (n m k : ℕ) (rest : List ℕ) → numbers_below n ++ k ∷ rest ≡ numbers_below m → k ≡ n
 next_number n m k rest e =
     let lengths : n + suc (length rest) ≡ m =
-        ap (λ (x : ℕ). x + suc (length rest)) (sym (length_numbers n))
-        ∙ sym (length-append (numbers_below n) (k ∷ rest))
-        ∙ ap length e
-        ∙ length_numbers m in
+    ap (λ (x : ℕ). x + suc (length rest)) (sym (length_numbers n))
+    ∙ sym (length-append (numbers_below n) (k ∷ rest))
+    ∙ ap length e
+    ∙ length_numbers m in
     sym (get_or_at (numbers_below n) k rest 0 n (length_numbers n))
     ∙ ap (λ (xs : List ℕ). get_or xs n 0) e
     ∙ get_number m n (omega arith)

@@ -171,15 +171,15 @@ module _ (route : Dispatching) (worker : ℕ) (journal : List Entry) where
       → AllByRecursion (IsWaitingOrSent route worker journal final.outbox) (events_of start.outbox moves)
   all_wait_or_sent moves final run served =
       let k : Kept (events_of start.outbox moves) final =
-          kept_all (events_of start.outbox moves) final moves start [] (served_to worker journal) refl run served (own_entry worker journal)
-          (record { sent = []; wait = []; kept = kept_at_start; holds = tt; each = tt }) in
+      kept_all (events_of start.outbox moves) final moves start [] (served_to worker journal) refl run served (own_entry worker journal)
+      (record { sent = []; wait = []; kept = kept_at_start; holds = tt; each = tt }) in
       let waits : AllByRecursion (IsWaitingOrSent route worker journal final.outbox) k.wait =
-          all_contained (IsWaitingOrSent route worker journal final.outbox) k.wait
-          (λ row c.
-          let f = kept_by (λ r. nat_lt final.outbox.mark r.seq) final.outbox.events row
-          (subst (λ (rs : List Event). Contains rs row) (sym k.kept.waits) c) in
-          inl (record { past = ltb-true final.outbox.mark row.seq f.1; there = f.0 })) in
+      all_contained (IsWaitingOrSent route worker journal final.outbox) k.wait
+      (λ row c.
+      let f = kept_by (λ r. nat_lt final.outbox.mark r.seq) final.outbox.events row
+      (subst (λ (rs : List Event). Contains rs row) (sym k.kept.waits) c) in
+      inl (record { past = ltb-true final.outbox.mark row.seq f.1; there = f.0 })) in
       let done : AllByRecursion (IsWaitingOrSent route worker journal final.outbox) k.sent =
-          all_weaker (IsSent route worker journal) (IsWaitingOrSent route worker journal final.outbox) (λ row e. inr e) k.sent k.each in
+      all_weaker (IsSent route worker journal) (IsWaitingOrSent route worker journal final.outbox) (λ row e. inr e) k.sent k.each in
       subst (AllByRecursion (IsWaitingOrSent route worker journal final.outbox)) (sym k.kept.rows_are)
       (all_append (IsWaitingOrSent route worker journal final.outbox) k.sent k.wait done waits)
