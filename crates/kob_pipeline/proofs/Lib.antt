@@ -16,3 +16,4 @@ mod Once
 mod Arriving
 mod Aggregates
 mod Reaching
+mod DeliveryLaws
