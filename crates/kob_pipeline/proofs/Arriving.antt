@@ -1,5 +1,5 @@
 -- What an inbox makes of the records that arrive.
-use Rattle.std.proofs.Common.{◌≡◌, ◌⊎◌, ℕ, zero, suc, ◌<◌, ◌≤◌, List, [], ◌∷◌, ◌++◌, Bool, true, false, ◌||◌, cond, refl, sym, ap, ◌∙◌, inl, inr, subst, length, take, arith, append_assoc}
+use Rattle.std.proofs.Common.{◌≡◌, ◌⊎◌, ℕ, suc, ◌<◌, List, [], ◌∷◌, ◌++◌, Bool, true, false, ◌||◌, cond, refl, sym, ap, ◌∙◌, inl, inr, subst, length, take, append_assoc}
 use Rattle.std.specs.Prelude.{Option, Some, None, Contains, filter, map, nat_eq, option_map, slice_get, bytes_eq}
 use Rattle.std.specs.List.{list_any, AllByRecursion, filter_map, cons_option}
 use Rattle.std.proofs.lemmas.Bool.{both_ways, cases_Bool, cases_lt, cond-false, cond-true}
@@ -7,7 +7,6 @@ use Rattle.std.proofs.lemmas.List.{map_push}
 use Rattle.std.proofs.lemmas.List.Elements.{filter_map-append}
 use Rattle.kob_names.specs.declared.record.Record.{Record}
 use Rattle.kob_outbox.specs.Events.{id_text}
-use Rattle.kob_rights.specs.declared.reply.Body.{Body}
 use Rattle.kob_rights.specs.declared.reply.Body.TheVariants as bodies
 use Rattle.kob_rights.specs.declared.reply.Reply.{Reply}
 use Rattle.kob_rights.specs.declared.reply.Reply.TheVariants.{Denied, Done, Refused}
@@ -29,7 +28,7 @@ use Rattle.kob_pipeline.specs.Firsts.{firsts, numbers_below, with_each_new, with
 use Rattle.kob_pipeline.specs.Reaching.{taken_ids}
 use Rattle.kob_pipeline.proofs.ConsumerKept.{IsContent, offset_of}
 use Rattle.kob_pipeline.proofs.ConsumerServed.{IsDueAs, is_due_as}
-use Rattle.kob_pipeline.proofs.Lists.{all_append, all_last, any_same, bytes_turned, contains_at, same_here}
+use Rattle.kob_pipeline.proofs.Lists.{all_append, bytes_turned, contains_at, same_here}
 use Rattle.kob_pipeline.proofs.Logged.{each_new_append, new_put, old_left}
 use Rattle.kob_pipeline.proofs.Offsets.{numbers_again, numbers_beyond}
 use Rattle.kob_pipeline.proofs.Once.{any_first, each_new_more, front_has, length_numbers, next_number, take_one_more}

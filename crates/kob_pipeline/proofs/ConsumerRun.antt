@@ -23,7 +23,7 @@ use Rattle.kob_pipeline.specs.Consuming.{IsTakenInOrder}
 use Rattle.kob_pipeline.specs.Premises.{Commits, Deletes, IsNeverDeleted, IsSoleCommitter}
 use Rattle.kob_pipeline.specs.Served.{AreServed, Served, served_in, served_to}
 use Rattle.kob_pipeline.specs.View.{Accepts, IsHistory, IsSameView, Step, View, judged_in, opening_view, with_batch}
-use Rattle.kob_pipeline.proofs.ConsumerKept.{Taking, WithinOffset, taking_after_restart, taking_first, taking_later, taking_nothing, taking_with_commit}
+use Rattle.kob_pipeline.proofs.ConsumerKept.{Taking, WithinOffset, taking_after_restart, taking_first, taking_later, taking_with_commit}
 use Rattle.kob_pipeline.proofs.ConsumerServed.{TakingIn, is_due_as, taking_served, taking_shown, taking_silent}
 use Rattle.kob_pipeline.proofs.Lists.{bytes_are, places_are}
 use Rattle.kob_pipeline.proofs.Logged.{records_more}

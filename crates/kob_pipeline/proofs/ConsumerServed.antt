@@ -1,8 +1,7 @@
 -- What each call of a consumer keeps, served or not.
-use Rattle.std.proofs.Common.{◌≡◌, ◌⊎◌, ℕ, zero, suc, ◌≤◌, List, [], ◌∷◌, ◌++◌, Bool, true, false, ◌&&◌, cond, refl, sym, ap, ◌∙◌, inl, inr, subst, take, arith, if◌then◌else◌}
+use Rattle.std.proofs.Common.{◌≡◌, ℕ, ◌≤◌, List, [], ◌++◌, Bool, true, false, ◌&&◌, cond, refl, sym, ap, ◌∙◌, inl, inr, subst, take, arith, if◌then◌else◌}
 use Rattle.std.specs.Prelude.{Option, Some, None, unwrap_or, bytes_eq}
-use Rattle.std.proofs.lemmas.Bool.{and_parts, cases_Bool, cond-false, cond-true}
-use Rattle.std.proofs.lemmas.List.{append-nil}
+use Rattle.std.proofs.lemmas.Bool.{and_parts}
 use Rattle.kob_names.specs.declared.record.Record.{Record}
 use Rattle.kob_partition.specs.Batches.{records_of}
 use Rattle.kob_rights.specs.declared.on_groups.OffsetCommit.{OffsetCommit as CommitRequest}
@@ -16,9 +15,9 @@ use Rattle.kob_rights.specs.declared.request.Request.{Request}
 use Rattle.kob_rights.specs.declared.request.Request.TheVariants.{Fetch, OffsetCommit, OffsetFetch}
 use Rattle.kob_router.specs.Places.{same_place}
 use Rattle.kob_router.specs.declared.place.Place.{Place}
-use Rattle.kob_inbox.specs.Cursors.{advanced, cursor_of, moved, standing}
-use Rattle.kob_inbox.specs.Intake.{Arrival, arrivals}
-use Rattle.kob_inbox.specs.Run.{IsDue, State, answered, behind, due, place_at, taken_by}
+use Rattle.kob_inbox.specs.Cursors.{cursor_of, moved, standing}
+use Rattle.kob_inbox.specs.Intake.{Arrival}
+use Rattle.kob_inbox.specs.Run.{IsDue, State, answered, due, place_at, taken_by}
 use Rattle.kob_inbox.specs.declared.cursors.Cursor.{Cursor}
 use Rattle.kob_inbox.specs.declared.cursors.Standing.{Standing}
 use Rattle.kob_inbox.specs.declared.fetcher.Subscription.{Subscription}

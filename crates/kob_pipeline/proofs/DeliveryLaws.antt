@@ -1,5 +1,5 @@
 -- The laws of delivery, of the parts that workers have in a journal.
-use Rattle.std.proofs.Common.{◌≡◌, ℕ, List, [], refl}
+use Rattle.std.proofs.Common.{ℕ, List, [], refl}
 use Rattle.std.specs.Prelude.{Contains}
 use Rattle.std.specs.List.{AllByRecursion}
 use Rattle.kob_outbox.specs.Contents.{Event, empty}

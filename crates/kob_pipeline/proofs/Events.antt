@@ -1,13 +1,13 @@
 -- What the outbox of a service keeps of the rows that were recorded.
-use Rattle.std.proofs.Common.{◌≡◌, ℕ, suc, ◌+◌, ◌<◌, ◌≤◌, List, [], ◌∷◌, ◌++◌, Bool, true, false, refl, sym, ap, ◌∙◌, inl, inr, subst, length, append_assoc, arith, length-append}
-use Rattle.std.specs.Prelude.{filter, map, nat_lt, Option, Some, None, bytes_eq}
+use Rattle.std.proofs.Common.{◌≡◌, ℕ, ◌+◌, ◌<◌, ◌≤◌, List, [], ◌∷◌, ◌++◌, true, false, refl, sym, ap, ◌∙◌, subst, length, append_assoc, arith, length-append}
+use Rattle.std.specs.Prelude.{filter, nat_lt, bytes_eq}
 use Rattle.std.specs.List.{list_any, AllByRecursion}
-use Rattle.std.proofs.lemmas.Bool.{ltb-true, lt-ltb, le-ltb, cases_Bool}
+use Rattle.std.proofs.lemmas.Bool.{ltb-true, lt-ltb, le-ltb}
 use Rattle.std.proofs.lemmas.List.{append-nil, map_push, map-append, length_push, length-map}
 use Rattle.kob_outbox.specs.Contents.{Contents, Event, empty}
 use Rattle.kob_outbox.specs.Events.{id_text, stored_event}
 use Rattle.kob_outbox.specs.Reading.{later_than, without_sent}
-use Rattle.kob_outbox.specs.Recording.{is_recorded, next_seq, recorded}
+use Rattle.kob_outbox.specs.Recording.{next_seq, recorded}
 use Rattle.kob_outbox.specs.declared.change.Change.{Change}
 use Rattle.kob_outbox.specs.declared.event.OutboxEvent.{OutboxEvent}
 use Rattle.kob_router.specs.Run.{IsRecordable}

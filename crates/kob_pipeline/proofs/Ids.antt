@@ -1,8 +1,7 @@
 -- A recorded event's id reads back from the record that is sent for it.
-use Rattle.std.proofs.Common.{◌≡◌, ℕ, zero, suc, ◌+◌, ◌/◌, ◌%◌, ◌<◌, ◌==◌, All, List, [], ◌∷◌, ◌++◌, Bool, true, false, cond, refl, sym, ap, ◌∙◌, inl, inr, length, get_or, slice_index, arith, if◌then◌else◌}
+use Rattle.std.proofs.Common.{◌≡◌, ℕ, zero, suc, ◌/◌, ◌%◌, ◌<◌, ◌==◌, All, List, Bool, true, false, cond, refl, sym, ap, ◌∙◌, inl, slice_index, arith, if◌then◌else◌}
 use Rattle.std.specs.Prelude.{Option, Some, None, option_map}
 use Rattle.std.specs.Option.{is_some}
-use Rattle.std.proofs.lemmas.Bool.{cases_Bool, cases_lt, cond-true, cond-false}
 use Rattle.std.proofs.lemmas.Bool.Decides.{nat_tests}
 use Rattle.std.proofs.lemmas.List.Elements.{All-from_recursion}
 use Rattle.std.specs.List.{AllByRecursion}
@@ -13,17 +12,15 @@ use Rattle.kob_names.specs.TopicRules.{topic_fault}
 use Rattle.kob_names.specs.declared.record.Record.{Record}
 use Rattle.kob_outbox.specs.Contents.{Event}
 use Rattle.kob_outbox.specs.Events.{id_text, stored_event}
-use Rattle.kob_outbox.specs.declared.event.OutboxEvent.{OutboxEvent}
 use Rattle.kob_router.specs.Dispatches.{dispatch_of}
 use Rattle.kob_router.specs.Partitioner.{partition_of}
 use Rattle.kob_router.specs.Route.{key_of, message_of, topic_of}
 use Rattle.kob_router.specs.declared.dispatch.Dispatch.{Dispatch}
 use Rattle.kob_router.specs.declared.dispatch.Target.{Target}
-use Rattle.kob_router.specs.declared.place.Place.{Place}
 use Rattle.kob_router.specs.declared.routed.Routed.{Routed}
 use Rattle.kob_pipeline.specs.Delivery.{told_id}
 use Rattle.kob_pipeline.proofs.Lists.{all_last}
-use Rattle.kob_pipeline.proofs.RouterKept.{TellsIds, TellsItsId}
+use Rattle.kob_pipeline.proofs.RouterKept.{TellsIds}
 
 -- the sixteen bytes that the text of an id is made of
 abbrev bytes_of : List ℕ → List ℕ

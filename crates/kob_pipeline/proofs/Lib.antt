@@ -17,3 +17,5 @@ mod Arriving
 mod Aggregates
 mod Reaching
 mod DeliveryLaws
+mod Samples
+mod Example

@@ -1,6 +1,6 @@
 -- What a partition's log holds of the rows that are routed there.
-use Rattle.std.proofs.Common.{◌≡◌, ℕ, ◌<◌, ◌≤◌, List, [], ◌∷◌, ◌++◌, Bool, true, false, refl, sym, ap, ◌∙◌, subst, append_assoc, arith}
-use Rattle.std.specs.Prelude.{map, Contains, Option, Some, None, bytes_eq}
+use Rattle.std.proofs.Common.{◌≡◌, ℕ, ◌≤◌, List, [], ◌∷◌, ◌++◌, Bool, true, false, refl, sym, ap, ◌∙◌, subst, append_assoc, arith}
+use Rattle.std.specs.Prelude.{Contains, Option, Some, None, bytes_eq}
 use Rattle.std.specs.List.{list_any, AllByRecursion, filter_map}
 use Rattle.std.proofs.lemmas.Bool.{cond-true, cond-false}
 use Rattle.std.proofs.lemmas.List.{append-nil, map_push}

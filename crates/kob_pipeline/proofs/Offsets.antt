@@ -1,6 +1,6 @@
 -- Offsets that are taken in order.
-use Rattle.std.proofs.Common.{◌≡◌, ℕ, zero, suc, ◌+◌, ◌<◌, ◌≤◌, min, List, [], ◌∷◌, ◌++◌, Bool, true, false, refl, sym, ap, ◌∙◌, inl, inr, subst, length, take, drop, arith, append_assoc}
-use Rattle.std.specs.Prelude.{Option, Some, None, map, nat_eq, slice_get}
+use Rattle.std.proofs.Common.{◌≡◌, ℕ, zero, suc, ◌+◌, ◌<◌, ◌≤◌, min, List, [], ◌∷◌, ◌++◌, true, false, refl, sym, ap, ◌∙◌, inl, inr, subst, length, take, drop, arith, append_assoc}
+use Rattle.std.specs.Prelude.{Some, map, nat_eq, slice_get}
 use Rattle.std.specs.List.{list_any, AllByRecursion, enumerate_from}
 use Rattle.std.proofs.lemmas.Bool.{eq-eqb, ne_eqb, cases_lt, cases_eq, or_left, or_from}
 use Rattle.std.proofs.lemmas.List.{length_push, take-append-drop, length-take-le, drop_all}

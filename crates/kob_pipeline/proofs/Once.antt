@@ -1,5 +1,5 @@
 -- Lists with each element once, and filters of them.
-use Rattle.std.proofs.Common.{◌≡◌, ◌⊎◌, ℕ, zero, suc, ◌+◌, ◌<◌, List, [], ◌∷◌, ◌++◌, Bool, true, false, ◌||◌, refl, sym, ap, ◌∙◌, inl, inr, subst, length, length-append, get_or, take, arith, append_assoc}
+use Rattle.std.proofs.Common.{◌≡◌, ℕ, zero, suc, ◌+◌, ◌<◌, List, [], ◌∷◌, ◌++◌, Bool, true, false, ◌||◌, refl, sym, ap, ◌∙◌, inl, inr, subst, length, length-append, get_or, take, arith, append_assoc}
 use Rattle.std.specs.Prelude.{Option, Some, None, filter, map, slice_get, bytes_eq}
 use Rattle.std.specs.List.{list_any, AllByRecursion, IsDistinct, filter_map, cons_option}
 use Rattle.std.proofs.lemmas.Bool.{both_ways, cases_Bool, cases_eq, cond-false, cond-true, or_cases, or_left, or_parts, or_right, true≢false}

@@ -1,6 +1,6 @@
 -- What reaches an inbox follows of what was delivered and what was taken in order, as an aggregate has one place.
-use Rattle.std.proofs.Common.{◌≡◌, ◌⊎◌, ℕ, List, [], ◌∷◌, ◌++◌, Bool, true, false, refl, sym, ap, ◌∙◌, inl, inr, subst, take, drop}
-use Rattle.std.specs.Prelude.{Option, Some, None, Contains, filter, map, slice_get, bytes_eq}
+use Rattle.std.proofs.Common.{◌≡◌, ℕ, List, [], ◌∷◌, ◌++◌, Bool, true, false, refl, sym, ap, ◌∙◌, inl, inr, subst, take, drop}
+use Rattle.std.specs.Prelude.{Option, Some, None, Contains, filter, bytes_eq}
 use Rattle.std.specs.List.{list_any, AllByRecursion, IsDistinct, filter_map}
 use Rattle.std.proofs.lemmas.Bool.{cases_Bool, cond-false, cond-true}
 use Rattle.std.proofs.lemmas.List.{take-append-drop}
@@ -13,7 +13,7 @@ use Rattle.kob_router.specs.Places.{same_place}
 use Rattle.kob_router.specs.declared.dispatch.Target.{Target}
 use Rattle.kob_router.specs.declared.place.Place.{Place}
 use Rattle.kob_inbox.specs.Contents.{Contents, Intake}
-use Rattle.kob_inbox.specs.Intake.{Arrival, intake_of, is_there, taken_in, with_intake, with_record}
+use Rattle.kob_inbox.specs.Intake.{Arrival, intake_of, is_there, taken_in, with_record}
 use Rattle.kob_pipeline.specs.Consuming.{IsTakenInOrder, from_place}
 use Rattle.kob_pipeline.specs.Delivery.{IsDelivered, IsRecordOf, goes_to, ids_of, routed_to, told_id}
 use Rattle.kob_pipeline.specs.Firsts.{IsPrefixOf, firsts}

@@ -1,7 +1,6 @@
 -- What a router leaves on a partition: by its own moves and the entries of the journal, each at its pace.
-use Rattle.std.proofs.Common.{◌≡◌, ◌⊎◌, ℕ, suc, ◌+◌, ◌≤◌, ◌==◌, List, [], ◌∷◌, ◌++◌, Bool, true, false, refl, sym, ap, ◌∙◌, inl, inr, subst, length, append_assoc, arith}
-use Rattle.std.specs.Prelude.{Option, Some, None, filter, map, bytes_eq}
-use Rattle.std.specs.List.{AllByRecursion, filter_map}
+use Rattle.std.proofs.Common.{◌≡◌, ℕ, suc, ◌≤◌, ◌==◌, List, [], ◌∷◌, ◌++◌, Bool, true, false, refl, sym, ap, ◌∙◌, inl, inr, subst, length, append_assoc, arith}
+use Rattle.std.specs.Prelude.{Option, Some, None, map, bytes_eq}
 use Rattle.std.proofs.lemmas.Bool.{cond-true, cond-false, cases_Bool, eqb-false}
 use Rattle.std.proofs.lemmas.List.{append-nil, map-append}
 use Rattle.std.proofs.lemmas.List.Elements.{filter-append}
@@ -24,11 +23,10 @@ use Rattle.kob_router.specs.declared.line.Call.{Call}
 use Rattle.kob_router.specs.declared.place.Place.{Place}
 use Rattle.kob_inbox.specs.Run.{place_at}
 use Rattle.kob_shared.specs.declared.journal.Entry.{Entry}
-use Rattle.kob_pipeline.specs.Delivery.{IsDelivered, goes_to, routed_to, told_id}
-use Rattle.kob_pipeline.specs.Firsts.{firsts}
+use Rattle.kob_pipeline.specs.Delivery.{IsDelivered, goes_to, routed_to}
 use Rattle.kob_pipeline.specs.Premises.{Deletes, IsNeverDeleted, IsSoleProducer, Produces}
 use Rattle.kob_pipeline.specs.Served.{AreServed, Served, served_in, served_to}
-use Rattle.kob_pipeline.specs.View.{Accepts, Does, IsHistory, IsSameView, Step, View, judged_in, opening_view, with_batch}
+use Rattle.kob_pipeline.specs.View.{Accepts, IsHistory, IsSameView, Step, View, judged_in, opening_view, with_batch}
 use Rattle.kob_pipeline.proofs.Lists.{bytes_are, places_are}
 use Rattle.kob_pipeline.proofs.RouterKept.{Kept, TellsIds, here, kept_after_record, kept_after_restart, kept_after_sweep, kept_after_take, kept_first, kept_later}
 use Rattle.kob_pipeline.proofs.RouterServed.{KeptIn, heard_none, kept_after_no_answer, kept_after_served, shown}

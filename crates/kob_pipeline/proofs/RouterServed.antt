@@ -1,5 +1,5 @@
 -- What each call of a router keeps, served or not.
-use Rattle.std.proofs.Common.{◌≡◌, ◌⊎◌, ℕ, ◌+◌, ◌≤◌, List, [], ◌∷◌, ◌++◌, Bool, true, false, refl, sym, ap, ◌∙◌, inl, inr, subst, length, arith}
+use Rattle.std.proofs.Common.{◌≡◌, ◌⊎◌, ℕ, ◌+◌, List, [], ◌∷◌, ◌++◌, Bool, true, false, refl, sym, ap, ◌∙◌, inl, inr, subst, length, arith}
 use Rattle.std.specs.Prelude.{Option, Some, None}
 use Rattle.std.proofs.lemmas.Bool.{true≢false, cond-true, cond-false}
 use Rattle.kob_names.specs.declared.batch.Batch.{Batch}
@@ -27,7 +27,7 @@ use Rattle.kob_inbox.specs.Run.{place_at}
 use Rattle.kob_pipeline.specs.View.{Accepts, Does, IsSameView, Step, View, judged_in, with_batch, with_producer}
 use Rattle.kob_pipeline.proofs.Lists.{place_cases, same_here}
 use Rattle.kob_pipeline.proofs.RouterKept.{Kept, kept_after_id, kept_later}
-use Rattle.kob_pipeline.proofs.RouterSteps.{IsReady, IsServed, holding, kept_after_batch, kept_after_mark, repeat_is_pending}
+use Rattle.kob_pipeline.proofs.RouterSteps.{IsServed, holding, kept_after_batch, kept_after_mark, repeat_is_pending}
 use Rattle.kob_pipeline.proofs.Sending.{idem_of}
 
 -- what holds of a log and a next producer id holds in each view that shows them

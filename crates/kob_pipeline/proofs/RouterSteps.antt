@@ -1,7 +1,7 @@
 -- What a served call of a router keeps.
-use Rattle.std.proofs.Common.{◌≡◌, ◌⊎◌, ℕ, ◌+◌, List, [], ◌∷◌, ◌++◌, Bool, true, false, refl, sym, ap, ◌∙◌, inl, inr, subst, length, arith}
+use Rattle.std.proofs.Common.{◌≡◌, ◌⊎◌, ℕ, ◌+◌, List, [], ◌∷◌, ◌++◌, false, refl, sym, ap, ◌∙◌, inl, inr, subst, length, arith}
 use Rattle.std.specs.Prelude.{Contains, Option, Some, None, slice_get, bytes_eq}
-use Rattle.std.specs.List.{list_any, AllByRecursion}
+use Rattle.std.specs.List.{list_any}
 use Rattle.std.proofs.lemmas.Bool.{both_ways, cases_Bool}
 use Rattle.std.proofs.lemmas.List.{append-nil, length_push}
 use Rattle.std.proofs.lemmas.List.Elements.{All-contains, All-from_recursion, Contains-append_right}
@@ -20,12 +20,11 @@ use Rattle.kob_router.specs.declared.dispatch.Dispatch.{Dispatch}
 use Rattle.kob_router.specs.declared.place.Place.{Place}
 use Rattle.kob_router.specs.declared.sender.Producer.{Producer}
 use Rattle.kob_router.specs.declared.sequences.Sequence.{Sequence}
-use Rattle.kob_pipeline.specs.Delivery.{goes_to, ids_of, told_id}
-use Rattle.kob_pipeline.specs.View.{IsGiven}
+use Rattle.kob_pipeline.specs.Delivery.{goes_to, ids_of}
 use Rattle.kob_pipeline.proofs.Events.{IsKept, first_is_new, kept_marked}
 use Rattle.kob_pipeline.proofs.Lists.{first_is, places_are, same_here, same_some}
 use Rattle.kob_pipeline.proofs.Logged.{IsBatchOf, IsLogged, logged_again, logged_elsewhere, logged_first}
-use Rattle.kob_pipeline.proofs.RouterKept.{InHand, InStep, IsKnown, IsPending, Kept, Known, TellsItsId, here}
+use Rattle.kob_pipeline.proofs.RouterKept.{InStep, IsPending, Kept, TellsItsId, here}
 use Rattle.kob_pipeline.proofs.Sending.{AreCounted, IsNumber, apart_wrapped, counted_last, history_last, idem_of, next_base, next_wrapped, repeat_base, sequence_used_elsewhere, sequence_used_here, wrapped}
 
 -- a router with a row in hand

@@ -1,11 +1,11 @@
 -- No recorded row is lost.
-use Rattle.std.proofs.Common.{◌≡◌, ◌⊎◌, ℕ, zero, suc, ◌<◌, ◌==◌, List, [], ◌∷◌, ◌++◌, Bool, true, false, refl, sym, ap, ◌∙◌, inl, inr, subst, length, arith}
+use Rattle.std.proofs.Common.{◌≡◌, ℕ, ◌==◌, List, [], ◌∷◌, ◌++◌, Bool, true, false, refl, sym, ap, ◌∙◌, inl, inr, subst, arith}
 use Rattle.std.specs.Prelude.{Option, Some, None, Contains, nat_lt, slice_get}
 use Rattle.std.specs.List.{AllByRecursion}
 use Rattle.std.proofs.lemmas.Bool.{cases_Bool, cond-false, cond-true, eqb-true, ltb-true, true≢false}
 use Rattle.std.proofs.lemmas.List.{append-nil}
 use Rattle.kob_names.specs.declared.batch.Batch.{Batch}
-use Rattle.kob_outbox.specs.Contents.{Contents, Event}
+use Rattle.kob_outbox.specs.Contents.{Event}
 use Rattle.kob_outbox.specs.Events.{stored_event}
 use Rattle.kob_outbox.specs.Recording.{next_seq, recorded}
 use Rattle.kob_rights.specs.declared.on_partitions.Produce.{Produce as ProduceRequest}
@@ -20,7 +20,7 @@ use Rattle.kob_router.specs.Run.Move.{Called, Recorded, Restarted, Swept, Took}
 use Rattle.kob_router.specs.declared.line.Call.{Call}
 use Rattle.kob_shared.specs.declared.journal.Entry.{Entry}
 use Rattle.kob_pipeline.specs.Served.{AreServed, Served, served_in, served_to}
-use Rattle.kob_pipeline.specs.Waiting.{IsSent, IsWaitingOrSent, Sends}
+use Rattle.kob_pipeline.specs.Waiting.{IsSent, IsWaitingOrSent}
 use Rattle.kob_pipeline.proofs.Events.{IsKept, kept_at_start, kept_marked, kept_recorded, kept_swept}
 use Rattle.kob_pipeline.proofs.Lists.{all_append, all_contained, all_last, all_weaker, contains_more, first_is, first_or_behind, kept_by, same_some}
 use Rattle.kob_pipeline.proofs.RouterKept.{InHand, in_hand_more}

@@ -1,19 +1,17 @@
 -- The sequences of one producer on one partition, and how the broker judges its batches of one record.
-use Rattle.std.proofs.Common.{◌≡◌, ◌⊎◌, ℕ, zero, suc, ◌+◌, ◌-◌, ◌%◌, ◌<◌, ◌≤◌, ◌==◌, ◌&&◌, List, [], ◌∷◌, ◌++◌, Bool, true, false, cond, refl, sym, ap, ◌∙◌, inl, inr, subst, length, get_or, drop, find, arith, append_assoc, eqb-true, nat_lt}
+use Rattle.std.proofs.Common.{◌≡◌, ℕ, suc, ◌+◌, ◌-◌, ◌%◌, ◌<◌, ◌≤◌, ◌==◌, ◌&&◌, List, [], ◌∷◌, ◌++◌, Bool, true, false, cond, refl, sym, ap, ◌∙◌, inl, inr, subst, length, get_or, drop, find, arith, append_assoc, eqb-true, nat_lt}
 use Rattle.std.specs.Prelude.{Option, Some, None, slice_get}
 use Rattle.std.specs.List.{AllByRecursion}
 use Rattle.std.proofs.lemmas.Bool.{cases_Bool, cond-true, cond-false, and_parts, cases_eq, le-ltb, eqb-false}
 use Rattle.std.proofs.lemmas.List.{append-nil, get_or_append_left, get_or_push, get_or-drop, length-drop, length_push}
-use Rattle.std.proofs.lemmas.Option.{get_or_from_slice_get}
 use Rattle.circular_buffer.specs.Buffer.{keep_last, last_item}
 use Rattle.kob_names.specs.declared.batch.Batch.{Batch}
 use Rattle.kob_names.specs.declared.batch.Idem.{Idem}
 use Rattle.kob_names.specs.declared.record.Record.{Record}
-use Rattle.kob_producers.specs.Judge.{is_same, judge, judge_base, judge_first, judge_same, remembered}
+use Rattle.kob_producers.specs.Judge.{is_same, judge, judge_same, remembered}
 use Rattle.kob_producers.specs.Recent.{sent}
 use Rattle.kob_producers.specs.Sequence.{last_of, next_sequence}
-use Rattle.kob_producers.specs.declared.judge.Judgement.{Judgement}
-use Rattle.kob_producers.specs.declared.judge.Judgement.TheVariants.{Next, Repeat, OutOfOrder, OldEpoch}
+use Rattle.kob_producers.specs.declared.judge.Judgement.TheVariants.{Next, Repeat, OutOfOrder}
 use Rattle.kob_producers.specs.declared.sent.Sent.{Sent}
 use Rattle.kob_partition.specs.Batches.{history, history_from, sent_in}
 use Rattle.kob_router.specs.Places.{prepared, same_place, sequence_of, used}
