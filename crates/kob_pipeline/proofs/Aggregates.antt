@@ -25,7 +25,8 @@ use Rattle.kob_pipeline.proofs.RouterKept.{TellsItsId}
 use Rattle.kob_pipeline.proofs.RouterRun.{called_ids, none_recorded, one_recorded}
 
 -- what a target makes of a recorded row tells its id
-pub rows_tell : (target : Target) (c : Contents) (moves : List Move) → AllByRecursion (TellsItsId (dispatch_of target)) (events_of c moves)
+pub rows_tell : (target : Target) (c : Contents) (moves : List Move)
+    → AllByRecursion (TellsItsId (dispatch_of target)) (events_of c moves)
 rows_tell target c [] = tt
 rows_tell target c (Recorded change event ∷ moves) =
     (target_tells target (next_seq c) event, rows_tell target (recorded c change event) moves)
@@ -43,7 +44,8 @@ module _ (test : Event → Bool) where
   -- the rows before one with a new id
   older : (rows more : List Event) (row : Event) → list_any (bytes_eq row.id) (ids_of rows) ≡ false
       → AllByRecursion (IsToldById test more) rows
-      → AllByRecursion (λ (x : Event). list_any (bytes_eq x.id) (ids_of (filter test more) ++ row.id ∷ []) ≡ test x) rows
+      → AllByRecursion (λ (x : Event). list_any (bytes_eq x.id) (ids_of (filter test more) ++ row.id ∷ []) ≡ test x)
+      rows
   older [] more row new h = tt
   older (x ∷ xs) more row new h =
       let parts = or_parts (bytes_eq row.id x.id) (list_any (bytes_eq row.id) (ids_of xs)) new in
@@ -57,20 +59,24 @@ module _ (test : Event → Bool) where
       )
 
   told_more : (rows : List Event) (row : Event) → list_any (bytes_eq row.id) (ids_of rows) ≡ false
-      → AllByRecursion (IsToldById test rows) rows → AllByRecursion (IsToldById test (rows ++ row ∷ [])) (rows ++ row ∷ [])
+      → AllByRecursion (IsToldById test rows) rows → AllByRecursion (IsToldById test (rows ++ row ∷ []))
+      (rows ++ row ∷ [])
   told_more rows row new h =
       elim (cases_Bool (test row)) [
         | inl on ↦
             let ids : List (List ℕ) = ids_of (filter test rows) in
             let e : ids_of (filter test (rows ++ row ∷ [])) ≡ ids ++ row.id ∷ [] =
             ap ids_of (filter_last test rows row on) ∙ map_push (λ (r : Event). r.id) (filter test rows) row in
-            subst (λ (xs : List (List ℕ)). AllByRecursion (λ (x : Event). list_any (bytes_eq x.id) xs ≡ test x) (rows ++ row ∷ [])) (sym e)
-            (all_last (λ (x : Event). list_any (bytes_eq x.id) (ids ++ row.id ∷ []) ≡ test x) rows row (older rows rows row new h)
+            subst (λ (xs : List (List ℕ)). AllByRecursion (λ (x : Event). list_any (bytes_eq x.id) xs ≡ test x)
+            (rows ++ row ∷ [])) (sym e)
+            (all_last (λ (x : Event). list_any (bytes_eq x.id) (ids ++ row.id ∷ []) ≡ test x) rows row
+            (older rows rows row new h)
             (any_last (bytes_eq row.id) ids row.id (same_bytes row.id) ∙ sym on))
         | inr off ↦
             let ids : List (List ℕ) = ids_of (filter test rows) in
             let e : ids_of (filter test (rows ++ row ∷ [])) ≡ ids = ap ids_of (filter_not_last test rows row off) in
-            subst (λ (xs : List (List ℕ)). AllByRecursion (λ (x : Event). list_any (bytes_eq x.id) xs ≡ test x) (rows ++ row ∷ [])) (sym e)
+            subst (λ (xs : List (List ℕ)). AllByRecursion (λ (x : Event). list_any (bytes_eq x.id) xs ≡ test x)
+            (rows ++ row ∷ [])) (sym e)
             (all_last (λ (x : Event). list_any (bytes_eq x.id) ids ≡ test x) rows row h
             (none_in_filter (bytes_eq row.id) (λ (r : Event). r.id) test rows new ∙ sym off))
       ]
@@ -86,9 +92,11 @@ module _ (test : Event → Bool) where
       (one_recorded all rows (events_of (recorded s.outbox change event) ms) row are) run.1
       (ap (λ (xs : List (List ℕ)). xs ++ row.id ∷ []) ids ∙ sym (map_push (λ (r : Event). r.id) rows row))
       (told_more rows row
-      (subst (λ (xs : List (List ℕ)). list_any (bytes_eq row.id) xs ≡ false) ids (is_fresh s.outbox change event run.0)) h)
+      (subst (λ (xs : List (List ℕ)). list_any (bytes_eq row.id) xs ≡ false) ids (is_fresh s.outbox change event run.0))
+      h)
   told_all route all (Swept ∷ ms) s final rows are run ids h =
-      told_all route all ms (after s Swept) final rows (none_recorded all rows ms (after s Swept).outbox s.outbox refl are) run.1 ids h
+      told_all route all ms (after s Swept) final rows (none_recorded all rows ms (after s Swept).outbox s.outbox refl
+      are) run.1 ids h
   told_all route all (Restarted ∷ ms) s final rows are run ids h =
       told_all route all ms (after s Restarted) final rows are run.1 ids h
   told_all route all (Took hand ∷ ms) s final rows are run ids h =
@@ -99,7 +107,8 @@ module _ (test : Event → Bool) where
       (called_ids s c marks ∙ ids) h
 
 -- the rows of a place whose ids pass are those of the aggregate
-pub filter_both : (p r s : Event → Bool) (rows : List Event) → AllByRecursion (λ (x : Event). cond (r x) (p x) false ≡ s x) rows
+pub filter_both : (p r s : Event → Bool) (rows : List Event)
+    → AllByRecursion (λ (x : Event). cond (r x) (p x) false ≡ s x) rows
     → filter p (filter r rows) ≡ filter s rows
 filter_both p r s [] h = refl
 filter_both p r s (x ∷ rows) h =
@@ -116,7 +125,8 @@ filter_both p r s (x ∷ rows) h =
           ∙ sym (cond-false (s x) (x ∷ filter s rows) (filter s rows) same)
     ]
 
-same_aggregate : (kind id : List ℕ) (row : Event) → is_of_aggregate kind id row ≡ true → (row.aggregate_type ≡ kind) × (row.aggregate_id ≡ id)
+same_aggregate : (kind id : List ℕ) (row : Event) → is_of_aggregate kind id row ≡ true → (row.aggregate_type ≡ kind)
+    × (row.aggregate_id ≡ id)
 same_aggregate kind id row h =
     let parts = and_parts (bytes_eq row.aggregate_type kind) (bytes_eq row.aggregate_id id) h in
     (bytes_are row.aggregate_type kind parts.0, bytes_are row.aggregate_id id parts.1)
@@ -138,9 +148,12 @@ module _ (target : Target) (kind id : List ℕ) where
   fails_too true p e = e
   fails_too false p e = refl
 
-  pub passes_as : (q : Place) (row : Event) → is_of_aggregate kind id row ≡ true → place_of (dispatch_of target row) ≡ Some q
-      → (test : List ℕ → Bool) (rows : List Event) → AllByRecursion (λ (x : Event). test x.id ≡ is_of_aggregate kind id x) rows
-      → AllByRecursion (λ (x : Event). cond (goes_to q (dispatch_of target x)) (test x.id) false ≡ is_of_aggregate kind id x) rows
+  pub passes_as : (q : Place) (row : Event) → is_of_aggregate kind id row ≡ true
+      → place_of (dispatch_of target row) ≡ Some q
+      → (test : List ℕ → Bool) (rows : List Event) → AllByRecursion
+      (λ (x : Event). test x.id ≡ is_of_aggregate kind id x) rows
+      → AllByRecursion (λ (x : Event). cond (goes_to q (dispatch_of target x)) (test x.id) false ≡ is_of_aggregate kind
+      id x) rows
   passes_as q row is at test [] h = tt
   passes_as q row is at test (x ∷ rows) h = (one, passes_as q row is at test rows h.1)
     where

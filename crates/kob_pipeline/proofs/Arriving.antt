@@ -22,7 +22,7 @@ use Rattle.kob_inbox.specs.Run.{IsConsumerRun, Move, State, after, place_at, tak
 use Rattle.kob_inbox.specs.Run.Move.{Called, Restarted}
 use Rattle.kob_inbox.specs.declared.cursors.Standing.{Standing}
 use Rattle.kob_inbox.specs.declared.fetcher.Subscription.{Subscription}
-use Rattle.kob_pipeline.specs.Consuming.{from_place}
+use Rattle.kob_pipeline.specs.Taking.{from_place}
 use Rattle.kob_pipeline.specs.Delivery.{told_id}
 use Rattle.kob_pipeline.specs.Firsts.{firsts, numbers_below, with_each_new, with_new}
 use Rattle.kob_pipeline.specs.Reaching.{taken_ids}
@@ -42,21 +42,25 @@ abbrev pub with_told : Contents → Option (List ℕ) → Arrival → Contents
 with_told events None a = events
 with_told events (Some text) a = with_intake events (intake_of text a)
 
-pub record_told : (events : Contents) (o : Option (List ℕ)) (a : Arrival) → with_record events o a ≡ with_told events (option_map id_text o) a
+pub record_told : (events : Contents) (o : Option (List ℕ)) (a : Arrival)
+    → with_record events o a ≡ with_told events (option_map id_text o) a
 record_told events None a = refl
 record_told events (Some id) a = refl
 
 -- what arrives is of assigned places
 
-places_at : (P : Place → Type 0) (p : Place) (xs : List (ℕ × Record)) → P p → AllByRecursion (λ (a : Arrival). P a.place) (arrivals p xs)
+places_at : (P : Place → Type 0) (p : Place) (xs : List (ℕ × Record)) → P p
+    → AllByRecursion (λ (a : Arrival). P a.place) (arrivals p xs)
 places_at P p [] h = tt
 places_at P p (x ∷ xs) h = (h, places_at P p xs h)
 
 abbrev IsAssigned : Subscription → Arrival → Type 0
 IsAssigned t a = Contains t.assignment a.place
 
-places_by : (t : Subscription) (place : Place) (o : Option Standing) (request : Request) (heard : Option Reply) (count : ℕ)
-    → Contains t.assignment place → IsDueAs t place o request → AllByRecursion (IsAssigned t) (taken_by request heard count)
+places_by : (t : Subscription) (place : Place) (o : Option Standing) (request : Request) (heard : Option Reply)
+    (count : ℕ)
+    → Contains t.assignment place → IsDueAs t place o request
+    → AllByRecursion (IsAssigned t) (taken_by request heard count)
 places_by t place o request None count c d = tt
 places_by t place o request (Some (Denied code verdicts)) count c d = tt
 places_by t place o request (Some (Refused code reason)) count c d = tt
@@ -87,10 +91,12 @@ there_as (e ∷ events) id =
 pub intake_old : (events : Contents) (e : Intake) → is_there events e.id ≡ true → with_intake events e ≡ events
 intake_old events e h = cond-true (is_there events e.id) events (events ++ e ∷ []) h
 
-pub intake_new : (events : Contents) (e : Intake) → is_there events e.id ≡ false → with_intake events e ≡ events ++ e ∷ []
+pub intake_new : (events : Contents) (e : Intake) → is_there events e.id ≡ false
+    → with_intake events e ≡ events ++ e ∷ []
 intake_new events e h = cond-false (is_there events e.id) events (events ++ e ∷ []) h
 
-intake_id : (events : Contents) (e : Intake) → taken_ids (with_intake events e) ≡ with_new bytes_eq (taken_ids events) e.id
+intake_id : (events : Contents) (e : Intake) → taken_ids (with_intake events e) ≡ with_new bytes_eq (taken_ids events)
+    e.id
 intake_id events e =
     elim (cases_Bool (is_there events e.id)) [
       | inl old ↦
@@ -103,16 +109,19 @@ intake_id events e =
     ]
 
 told_one : (events : Contents) (o : Option (List ℕ)) (a : Arrival) (ids : List (List ℕ))
-    → with_each_new bytes_eq (taken_ids (with_told events o a)) ids ≡ with_each_new bytes_eq (taken_ids events) (cons_option o ids)
+    → with_each_new bytes_eq (taken_ids (with_told events o a)) ids ≡ with_each_new bytes_eq (taken_ids events)
+    (cons_option o ids)
 told_one events None a ids = refl
-told_one events (Some text) a ids = ap (λ (ys : List (List ℕ)). with_each_new bytes_eq ys ids) (intake_id events (intake_of text a))
+told_one events (Some text) a ids = ap (λ (ys : List (List ℕ)). with_each_new bytes_eq ys ids)
+    (intake_id events (intake_of text a))
 
 pub inbox_ids : (events : Contents) (arrived : List Arrival)
     → taken_ids (taken_in events arrived) ≡ with_each_new bytes_eq (taken_ids events) (ids_told arrived)
 inbox_ids events [] = refl
 inbox_ids events (a ∷ arrived) =
     inbox_ids (with_record events (event_id a.message) a) arrived
-    ∙ ap (λ (x : Contents). with_each_new bytes_eq (taken_ids x) (ids_told arrived)) (record_told events (event_id a.message) a)
+    ∙ ap (λ (x : Contents). with_each_new bytes_eq (taken_ids x) (ids_told arrived))
+    (record_told events (event_id a.message) a)
     ∙ told_one events (told_id a.message) a (ids_told arrived)
 
 -- what passes a test
@@ -121,11 +130,13 @@ abbrev pub passes : (List ℕ → Bool) → Option (List ℕ) → Bool
 passes test None = false
 passes test (Some id) = test id
 
-filter_skip : (test : List ℕ → Bool) (o : Option (List ℕ)) (ids : List (List ℕ)) → passes test o ≡ false → filter test (cons_option o ids) ≡ filter test ids
+filter_skip : (test : List ℕ → Bool) (o : Option (List ℕ)) (ids : List (List ℕ)) → passes test o ≡ false
+    → filter test (cons_option o ids) ≡ filter test ids
 filter_skip test None ids h = refl
 filter_skip test (Some id) ids h = cond-false (test id) (id ∷ filter test ids) (filter test ids) h
 
-filter_put : (test : List ℕ → Bool) (o : Option (List ℕ)) (ids other : List (List ℕ)) → filter test ids ≡ filter test other
+filter_put : (test : List ℕ → Bool) (o : Option (List ℕ)) (ids other : List (List ℕ))
+    → filter test ids ≡ filter test other
     → filter test (cons_option o ids) ≡ filter test (cons_option o other)
 filter_put test None ids other h = h
 filter_put test (Some id) ids other h = ap (λ (ys : List (List ℕ)). cond (test id) (id ∷ ys) ys) h
@@ -138,7 +149,8 @@ passes_here test q [] h = refl
 passes_here test q (a ∷ arrived) h =
     elim (cases_Bool (same_place a.place q)) [
       | inl on ↦
-          filter_put test (told_id a.message) (ids_told arrived) (ids_told (from_place q arrived)) (passes_here test q arrived h.1)
+          filter_put test (told_id a.message) (ids_told arrived) (ids_told (from_place q arrived))
+          (passes_here test q arrived h.1)
           ∙ ap (λ (ys : List Arrival). filter test (ids_told ys))
           (sym (cond-true (same_place a.place q) (a ∷ from_place q arrived) (from_place q arrived) on))
       | inr off ↦
@@ -155,9 +167,11 @@ passes_here test q (a ∷ arrived) h =
     ]
 
 pub none_passes : (test : List ℕ → Bool) (arrived : List Arrival)
-    → AllByRecursion (λ (a : Arrival). passes test (told_id a.message) ≡ false) arrived → filter test (ids_told arrived) ≡ []
+    → AllByRecursion (λ (a : Arrival). passes test (told_id a.message) ≡ false) arrived
+    → filter test (ids_told arrived) ≡ []
 none_passes test [] h = refl
-none_passes test (a ∷ arrived) h = filter_skip test (told_id a.message) (ids_told arrived) h.0 ∙ none_passes test arrived h.1
+none_passes test (a ∷ arrived) h = filter_skip test (told_id a.message) (ids_told arrived) h.0
+    ∙ none_passes test arrived h.1
 
 -- either nothing passes, or something with P does
 pub one_passes : (test : List ℕ → Bool) (P : Arrival → Type 0) (arrived : List Arrival) → AllByRecursion P arrived
@@ -184,13 +198,15 @@ ids_more records n x at =
     ∙ each_new_append bytes_eq [] (filter_map told_id (take n records)) (cons_option (told_id x) [])
 
 one_then_all : (xs : List (List ℕ)) (o : Option (List ℕ)) (ids : List (List ℕ))
-    → with_each_new bytes_eq xs (cons_option o ids) ≡ with_each_new bytes_eq (with_each_new bytes_eq xs (cons_option o [])) ids
+    → with_each_new bytes_eq xs (cons_option o ids) ≡ with_each_new bytes_eq
+    (with_each_new bytes_eq xs (cons_option o [])) ids
 one_then_all xs None ids = refl
 one_then_all xs (Some id) ids = refl
 
 told_again : (records : List Record) (n k : ℕ) (x : Record) (o : Option (List ℕ)) (ids : List (List ℕ)) → k < n
     → slice_get records k ≡ Some x → told_id x ≡ o
-    → with_each_new bytes_eq (front_ids records n) (cons_option o ids) ≡ with_each_new bytes_eq (front_ids records n) ids
+    → with_each_new bytes_eq (front_ids records n) (cons_option o ids) ≡ with_each_new bytes_eq (front_ids records n)
+    ids
 told_again records n k x None ids l at e = refl
 told_again records n k x (Some id) ids l at e =
     ap (λ (xs : List (List ℕ)). with_each_new bytes_eq xs ids)
@@ -209,17 +225,23 @@ firsts_of_front records m (a ∷ arrived) n e h =
       | inl lt ↦
           told_again records n a.offset a.message (told_id a.message) (ids_told arrived) lt h.0 refl
           ∙ firsts_of_front records m arrived n
-          (ap (λ (ks : List ℕ). with_each_new nat_eq ks (map offset_of arrived)) (sym (numbers_again n a.offset lt)) ∙ e) h.1
+          (ap (λ (ks : List ℕ). with_each_new nat_eq ks (map offset_of arrived)) (sym (numbers_again n a.offset lt))
+          ∙ e) h.1
       | inr ge ↦
           let e' : with_each_new nat_eq (numbers_below n ++ a.offset ∷ []) (map offset_of arrived) ≡ numbers_below m =
-          ap (λ (ks : List ℕ). with_each_new nat_eq ks (map offset_of arrived)) (sym (numbers_beyond n a.offset ge)) ∙ e in
+          ap (λ (ks : List ℕ). with_each_new nat_eq ks (map offset_of arrived)) (sym (numbers_beyond n a.offset ge))
+          ∙ e in
           let more = each_new_more nat_eq (numbers_below n ++ a.offset ∷ []) (map offset_of arrived) in
           let at : a.offset ≡ n =
-          next_number n m a.offset more.0 (sym (append_assoc (numbers_below n) (a.offset ∷ []) more.0) ∙ sym more.1 ∙ e') in
+          next_number n m a.offset more.0 (sym (append_assoc (numbers_below n) (a.offset ∷ []) more.0) ∙ sym more.1
+          ∙ e') in
           let next : with_each_new nat_eq (numbers_below (suc n)) (map offset_of arrived) ≡ numbers_below m =
-          subst (λ (k : ℕ). with_each_new nat_eq (numbers_below n ++ k ∷ []) (map offset_of arrived) ≡ numbers_below m) at e' in
-          let there : slice_get records n ≡ Some a.message = subst (λ (k : ℕ). slice_get records k ≡ Some a.message) at h.0 in
+          subst (λ (k : ℕ). with_each_new nat_eq (numbers_below n ++ k ∷ []) (map offset_of arrived) ≡ numbers_below m)
+          at e' in
+          let there : slice_get records n ≡ Some a.message = subst (λ (k : ℕ). slice_get records k ≡ Some a.message) at
+          h.0 in
           one_then_all (front_ids records n) (told_id a.message) (ids_told arrived)
-          ∙ ap (λ (xs : List (List ℕ)). with_each_new bytes_eq xs (ids_told arrived)) (sym (ids_more records n a.message there))
+          ∙ ap (λ (xs : List (List ℕ)). with_each_new bytes_eq xs (ids_told arrived))
+          (sym (ids_more records n a.message there))
           ∙ firsts_of_front records m arrived (suc n) next h.1
     ]

@@ -12,7 +12,7 @@ use Rattle.kob_inbox.specs.Cursors.{advanced, cursor_of, moved}
 use Rattle.kob_inbox.specs.Intake.{Arrival, arrivals}
 use Rattle.kob_inbox.specs.Run.{behind}
 use Rattle.kob_inbox.specs.declared.cursors.Cursor.{Cursor}
-use Rattle.kob_pipeline.specs.Consuming.{from_place}
+use Rattle.kob_pipeline.specs.Taking.{from_place}
 use Rattle.kob_pipeline.specs.Firsts.{firsts, numbers_below, with_each_new}
 use Rattle.kob_pipeline.proofs.Lists.{all_append, all_weaker, place_cases, places_are, same_here}
 use Rattle.kob_pipeline.proofs.Logged.{each_new_append}
@@ -41,14 +41,17 @@ cursor_moved (x ∷ cs) c =
       | inr miss ↦ rw (miss, miss) (cursor_moved cs c)
     ]
 
-cursor_elsewhere : (cs : List Cursor) (c : Cursor) (q : Place) → same_place c.place q ≡ false → cursor_of (moved cs c) q ≡ cursor_of cs q
+cursor_elsewhere : (cs : List Cursor) (c : Cursor) (q : Place) → same_place c.place q ≡ false
+    → cursor_of (moved cs c) q ≡ cursor_of cs q
 cursor_elsewhere [] c q h = rw h refl
 cursor_elsewhere (x ∷ cs) c q h =
     elim (cases_Bool (same_place x.place c.place)) [
       | inl hit ↦
-          let miss : same_place x.place q ≡ false = ap (λ (y : Place). same_place y q) (places_are x.place c.place hit) ∙ h in
+          let miss : same_place x.place q ≡ false = ap (λ (y : Place). same_place y q) (places_are x.place c.place hit)
+          ∙ h in
           rw (hit, h, miss) refl
-      | inr other ↦ rw other (ap (λ (o : Option Cursor). cond (same_place x.place q) (Some x) o) (cursor_elsewhere cs c q h))
+      | inr other ↦ rw other (ap (λ (o : Option Cursor). cond (same_place x.place q) (Some x) o)
+          (cursor_elsewhere cs c q h))
     ]
 
 -- a cursor that moves within the bound
@@ -67,13 +70,15 @@ within_more (Some x) m n l w = omega arith
 here_all : (q : Place) (xs : List (ℕ × Record)) → from_place q (arrivals q xs) ≡ arrivals q xs
 here_all q [] = refl
 here_all q (x ∷ xs) =
-    rw (same_here q) (ap (λ (ys : List Arrival). record { place = q; offset = x.0; message = x.1 } ∷ ys) (here_all q xs))
+    rw (same_here q) (ap (λ (ys : List Arrival). record { place = q; offset = x.0; message = x.1 } ∷ ys)
+    (here_all q xs))
 
 here_none : (p q : Place) → same_place p q ≡ false → (xs : List (ℕ × Record)) → from_place q (arrivals p xs) ≡ []
 here_none p q h [] = refl
 here_none p q h (x ∷ xs) = rw h (here_none p q h xs)
 
-offsets_arrived : (q : Place) (xs : List (ℕ × Record)) → map offset_of (arrivals q xs) ≡ map (λ (x : ℕ × Record). x.0) xs
+offsets_arrived : (q : Place) (xs : List (ℕ × Record)) → map offset_of (arrivals q xs) ≡ map (λ (x : ℕ × Record). x.0)
+    xs
 offsets_arrived q [] = refl
 offsets_arrived q (x ∷ xs) = ap (λ (ns : List ℕ). x.0 ∷ ns) (offsets_arrived q xs)
 
@@ -88,7 +93,8 @@ cursor_behind place position xs = record { place = place; position = behind posi
 
 module _ (q : Place) where
   -- what arrived has the offsets below a bound; neither the position nor the commit is beyond it
-  pub record Taking (records : List Record) (committed : Option ℕ) (cursors : List Cursor) (arrived : List Arrival) : Type 0 where
+  pub record Taking (records : List Record) (committed : Option ℕ) (cursors : List Cursor) (arrived : List Arrival) :
+      Type 0 where
     pub bound : ℕ
     pub offsets : firsts nat_eq (map offset_of (from_place q arrived)) ≡ numbers_below bound
     pub contents : AllByRecursion (IsContent records) (from_place q arrived)
@@ -99,7 +105,8 @@ module _ (q : Place) where
   taking_first = record { bound = 0; offsets = refl; contents = tt; cursor = tt; commit = tt }
 
   -- the log grew
-  pub taking_later : (records more : List Record) (committed : Option ℕ) (cursors : List Cursor) (arrived : List Arrival)
+  pub taking_later : (records more : List Record) (committed : Option ℕ) (cursors : List Cursor)
+      (arrived : List Arrival)
       → Taking records committed cursors arrived → Taking (records ++ more) committed cursors arrived
   taking_later records more committed cursors arrived k =
       record {
@@ -111,13 +118,15 @@ module _ (q : Place) where
         commit = k.commit;
       }
 
-  pub taking_after_restart : (records : List Record) (committed : Option ℕ) (cursors : List Cursor) (arrived : List Arrival)
+  pub taking_after_restart : (records : List Record) (committed : Option ℕ) (cursors : List Cursor)
+      (arrived : List Arrival)
       → Taking records committed cursors arrived → Taking records committed [] arrived
   taking_after_restart records committed cursors arrived k =
       record { bound = k.bound; offsets = k.offsets; contents = k.contents; cursor = tt; commit = k.commit }
 
   -- the cursor of some place moves
-  pub taking_after_move : (records : List Record) (committed : Option ℕ) (cursors : List Cursor) (arrived : List Arrival) (c : Cursor)
+  pub taking_after_move : (records : List Record) (committed : Option ℕ) (cursors : List Cursor)
+      (arrived : List Arrival) (c : Cursor)
       (k : Taking records committed cursors arrived) → (c.place ≡ q → c.position ≤ k.bound)
       → Taking records committed (moved cursors c) arrived
   taking_after_move records committed cursors arrived c k new =
@@ -130,18 +139,22 @@ module _ (q : Place) where
       }
 
   -- what is committed changes, within the bound
-  abbrev pub taking_with_commit : (records : List Record) (old new : Option ℕ) (cursors : List Cursor) (arrived : List Arrival)
+  abbrev pub taking_with_commit : (records : List Record) (old new : Option ℕ) (cursors : List Cursor)
+      (arrived : List Arrival)
       (k : Taking records old cursors arrived) → WithinOffset k.bound new → Taking records new cursors arrived
   taking_with_commit records old new cursors arrived k w =
       record { bound = k.bound; offsets = k.offsets; contents = k.contents; cursor = k.cursor; commit = w }
 
   pub taking_nothing : (records : List Record) (committed : Option ℕ) (cursors : List Cursor) (arrived : List Arrival)
       → Taking records committed cursors arrived → Taking records committed cursors (arrived ++ [])
-  taking_nothing records committed cursors arrived k = subst (Taking records committed cursors) (sym (append-nil arrived)) k
+  taking_nothing records committed cursors arrived k = subst (Taking records committed cursors)
+      (sym (append-nil arrived)) k
 
   -- records are taken in from the position on
-  taking_here : (records : List Record) (committed : Option ℕ) (cursors : List Cursor) (arrived : List Arrival) (position : ℕ)
-      (xs : List (ℕ × Record)) (k : Taking records committed cursors arrived) → position ≤ k.bound → AreConsecutive position xs
+  taking_here : (records : List Record) (committed : Option ℕ) (cursors : List Cursor) (arrived : List Arrival)
+      (position : ℕ)
+      (xs : List (ℕ × Record)) (k : Taking records committed cursors arrived) → position ≤ k.bound
+      → AreConsecutive position xs
       → AllByRecursion (Stands records) xs
       → Taking records committed (moved cursors (cursor_behind q position xs)) (arrived ++ arrivals q xs)
   taking_here records committed cursors arrived position xs k l c all =
@@ -160,13 +173,15 @@ module _ (q : Place) where
             ∙ r.offsets;
         contents =
             subst (AllByRecursion (IsContent records)) (sym more)
-            (all_append (IsContent records) (from_place q arrived) (arrivals q xs) k.contents (contents_arrived records q xs all));
+            (all_append (IsContent records) (from_place q arrived) (arrivals q xs) k.contents
+            (contents_arrived records q xs all));
         cursor = subst (WithinCursor r.reach) (sym (cursor_moved cursors (cursor_behind q position xs))) r.within;
         commit = within_more committed k.bound r.reach r.no_less k.commit;
       }
 
   -- records of another place
-  taking_elsewhere : (p : Place) (records : List Record) (committed : Option ℕ) (cursors : List Cursor) (arrived : List Arrival)
+  taking_elsewhere : (p : Place) (records : List Record) (committed : Option ℕ) (cursors : List Cursor)
+      (arrived : List Arrival)
       (position : ℕ) (xs : List (ℕ × Record)) → same_place p q ≡ false → Taking records committed cursors arrived
       → Taking records committed (moved cursors (cursor_behind p position xs)) (arrived ++ arrivals p xs)
   taking_elsewhere p records committed cursors arrived position xs apart k =
@@ -178,7 +193,8 @@ module _ (q : Place) where
         bound = k.bound;
         offsets = ap (λ (ys : List Arrival). firsts nat_eq (map offset_of ys)) more ∙ k.offsets;
         contents = subst (AllByRecursion (IsContent records)) (sym more) k.contents;
-        cursor = subst (WithinCursor k.bound) (sym (cursor_elsewhere cursors (cursor_behind p position xs) q apart)) k.cursor;
+        cursor = subst (WithinCursor k.bound) (sym (cursor_elsewhere cursors (cursor_behind p position xs) q apart))
+            k.cursor;
         commit = k.commit;
       }
 
@@ -187,7 +203,8 @@ module _ (q : Place) where
   Fits records bound position xs = (position ≤ bound) × AreConsecutive position xs × AllByRecursion (Stands records) xs
 
   -- so many of the records that were heard are taken in
-  pub taking_after_fetch : (p : Place) (records : List Record) (committed : Option ℕ) (cursors : List Cursor) (arrived : List Arrival)
+  pub taking_after_fetch : (p : Place) (records : List Record) (committed : Option ℕ) (cursors : List Cursor)
+      (arrived : List Arrival)
       (position count : ℕ) (xs : List (ℕ × Record)) (k : Taking records committed cursors arrived)
       → (count ≡ 0 → xs ≡ []) → (p ≡ q → Fits records k.bound position xs)
       → Taking records committed (advanced cursors p count (behind position xs)) (arrived ++ arrivals p xs)
@@ -199,6 +216,7 @@ module _ (q : Place) where
         | inl e ↦
             let f = fits e in
             let there = taking_here records committed cursors arrived position xs k f.0 f.1 f.2 in
-            subst (λ (y : Place). Taking records committed (moved cursors (cursor_behind y position xs)) (arrived ++ arrivals y xs)) (sym e) there
+            subst (λ (y : Place). Taking records committed (moved cursors (cursor_behind y position xs))
+            (arrived ++ arrivals y xs)) (sym e) there
         | inr apart ↦ taking_elsewhere p records committed cursors arrived position xs apart k
       ]

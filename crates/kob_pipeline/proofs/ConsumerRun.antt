@@ -19,7 +19,7 @@ use Rattle.kob_inbox.specs.Run.{IsConsumerRun, Move, State, after, calls_of, pla
 use Rattle.kob_inbox.specs.Run.Move.{Called, Restarted}
 use Rattle.kob_inbox.specs.declared.fetcher.Subscription.{Subscription}
 use Rattle.kob_shared.specs.declared.journal.Entry.{Entry}
-use Rattle.kob_pipeline.specs.Consuming.{IsTakenInOrder}
+use Rattle.kob_pipeline.specs.Taking.{IsTakenInOrder}
 use Rattle.kob_pipeline.specs.Premises.{Commits, Deletes, IsNeverDeleted, IsSoleCommitter}
 use Rattle.kob_pipeline.specs.Served.{AreServed, Served, served_in, served_to}
 use Rattle.kob_pipeline.specs.View.{Accepts, IsHistory, IsSameView, Step, View, judged_in, opening_view, with_batch}
@@ -42,16 +42,19 @@ grows_same : (group : List ℕ) (q : Place) (v w : View) → IsSameView w v → 
 grows_same group q v w same =
     record { more = []; log = nothing_more q v w (same.log q); commit = inl (same.committed group q) }
 
-grows_batch : (group : List ℕ) (q place : Place) (b : Batch) (v w : View) → IsSameView w (with_batch v place b) → Grows group q v w
+grows_batch : (group : List ℕ) (q place : Place) (b : Batch) (v w : View) → IsSameView w (with_batch v place b)
+    → Grows group q v w
 grows_batch group q place b v w same =
     let m = put (same_place place q) in
     record { more = m.0; log = ap records_of (same.log q) ∙ m.1; commit = inl (same.committed group q) }
   where
-    put : (c : Bool) → (more : List Record) × (records_of (cond c (v.log q ++ b ∷ []) (v.log q)) ≡ records_of (v.log q) ++ more)
+    put : (c : Bool) → (more : List Record) × (records_of (cond c (v.log q ++ b ∷ []) (v.log q)) ≡ records_of (v.log q)
+        ++ more)
     put true = (records_of (b ∷ []), records_more (v.log q) (b ∷ []))
     put false = ([], sym (append-nil (records_of (v.log q))))
 
-grows_accepted : (group : List ℕ) (q place : Place) (b : Batch) (v w : View) (j : Judgement) → Accepts j v place b w → Grows group q v w
+grows_accepted : (group : List ℕ) (q place : Place) (b : Batch) (v w : View) (j : Judgement) → Accepts j v place b w
+    → Grows group q v w
 grows_accepted group q place b v w Next a = grows_batch group q place b v w a
 grows_accepted group q place b v w (Repeat offset) a = grows_same group q v w a
 grows_accepted group q place b v w OutOfOrder a = absurd a
@@ -65,7 +68,8 @@ at_first : (a b o : Option ℕ) → a ≡ b → (b ≡ o) ⊎ (b ≡ None) → (
 at_first a b o e (inl x) = inl (e ∙ x)
 at_first a b o e (inr x) = inr (e ∙ x)
 
-other_grows : (group : List ℕ) (q : Place) (v w : View) (request : Request) (reply : Reply) → (Commits group q.topic request reply → ⊥)
+other_grows : (group : List ℕ) (q : Place) (v w : View) (request : Request) (reply : Reply)
+    → (Commits group q.topic request reply → ⊥)
     → (Deletes q.topic request reply → ⊥) → Step v request reply w → Grows group q v w
 other_grows group q v w request (Denied code verdicts) c d step = grows_same group q v w step
 other_grows group q v w request (Refused code reason) c d step = grows_same group q v w step
@@ -97,7 +101,8 @@ other_grows group q v w (DeleteGroups asked) (Done body) c d step =
       more = [];
       log = nothing_more q v w (step.log q);
       commit =
-          at_first (w.committed group q) (cond (bytes_eq asked.group group) None (v.committed group q)) (v.committed group q)
+          at_first (w.committed group q) (cond (bytes_eq asked.group group) None (v.committed group q))
+          (v.committed group q)
           (step.committed group q) (none_or_same (bytes_eq asked.group group) (v.committed group q));
     }
 other_grows group q v w (DeleteTopics asked) (Done body) c d step =
@@ -119,10 +124,12 @@ within_left bound o n (inl e) w = subst (WithinOffset bound) (sym e) w
 within_left bound o n (inr e) w = subst (WithinOffset bound) (sym e) tt
 
 module _ (t : Subscription) (q : Place) where
-  taking_after_other : (s : State) (v w : View) (arrived : List Arrival) → Grows t.group q v w → TakingIn t q s v arrived
+  taking_after_other : (s : State) (v w : View) (arrived : List Arrival) → Grows t.group q v w
+      → TakingIn t q s v arrived
       → TakingIn t q s w arrived
   taking_after_other s v w arrived g k =
-      taking_with_commit q (records_of (w.log q)) (v.committed t.group q) (w.committed t.group q) s.cursors arrived grown
+      taking_with_commit q (records_of (w.log q)) (v.committed t.group q) (w.committed t.group q) s.cursors arrived
+      grown
       (within_left grown.bound (v.committed t.group q) (w.committed t.group q) g.commit grown.commit)
     where
       grown : Taking q (records_of (w.log q)) (v.committed t.group q) s.cursors arrived
@@ -140,7 +147,8 @@ module _ (t : Subscription) (q : Place) where
     arrived_are : now ++ taken_of left ≡ all
     keeps : (w : View) → Step v e.request e.reply w → TakingIn t q state w now
 
-  led : (all : List Arrival) (v : View) (final : State) (e : Served) (es : List Served) (moves : List Move) (arrived : List Arrival) (s : State)
+  led : (all : List Arrival) (v : View) (final : State) (e : Served) (es : List Served) (moves : List Move)
+      (arrived : List Arrival) (s : State)
       → arrived ++ taken_of moves ≡ all → IsConsumerRun t s moves final → AreServed (calls_of moves) (e ∷ es)
       → TakingIn t q s v arrived → Led all v final e es
   led all v final e es [] arrived s are run served k = absurd served
@@ -149,7 +157,8 @@ module _ (t : Subscription) (q : Place) where
       (taking_after_restart q (records_of (v.log q)) (v.committed t.group q) s.cursors arrived k)
   led all v final e es (Called c count ∷ ms) arrived s are run (inl (none, served)) k =
       let new : List Arrival = taken_by c.request c.heard count in
-      led all v final e es ms (arrived ++ new) (after t s (Called c count)) (append_assoc arrived new (taken_of ms) ∙ are) run.1 served
+      led all v final e es ms (arrived ++ new) (after t s (Called c count))
+      (append_assoc arrived new (taken_of ms) ∙ are) run.1 served
       (taking_silent t q s v arrived c.request c.heard count (heard_none c.heard none) k)
   led all v final e es (Called c count ∷ ms) arrived s are run (inr (same, hears, served)) k =
       let new : List Arrival = taken_by c.request c.heard count in
@@ -161,7 +170,8 @@ module _ (t : Subscription) (q : Place) where
         rest_served = served;
         arrived_are = append_assoc arrived new (taken_of ms) ∙ are;
         keeps = λ w step.
-            taking_served t q s v w arrived run.0.0.place c.request e.reply c.heard count (is_due_as t s c.request run.0.0) hears
+            taking_served t q s v w arrived run.0.0.place c.request e.reply c.heard count
+            (is_due_as t s c.request run.0.0) hears
             (subst (λ (r : Request). Step v r e.reply w) same step) k;
       }
 
@@ -177,13 +187,16 @@ module _ (t : Subscription) (q : Place) where
       (taking_after_restart q (records_of (v.log q)) (v.committed t.group q) s.cursors arrived k)
   to_the_end all v final (Called c count ∷ ms) arrived s are run (none, served) k =
       let new : List Arrival = taken_by c.request c.heard count in
-      to_the_end all v final ms (arrived ++ new) (after t s (Called c count)) (append_assoc arrived new (taken_of ms) ∙ are) run.1 served
+      to_the_end all v final ms (arrived ++ new) (after t s (Called c count))
+      (append_assoc arrived new (taken_of ms) ∙ are) run.1 served
       (taking_silent t q s v arrived c.request c.heard count (heard_none c.heard none) k)
 
-  whole_run : (worker : ℕ) (all : List Arrival) (end : View) (final : State) (journal : List Entry) (v : View) (moves : List Move)
+  whole_run : (worker : ℕ) (all : List Arrival) (end : View) (final : State) (journal : List Entry) (v : View)
+      (moves : List Move)
       (arrived : List Arrival) (s : State)
       → arrived ++ taken_of moves ≡ all → IsHistory v journal end → IsConsumerRun t s moves final
-      → AreServed (calls_of moves) (served_to worker journal) → IsSoleCommitter worker t.group q.topic journal → IsNeverDeleted q.topic journal
+      → AreServed (calls_of moves) (served_to worker journal) → IsSoleCommitter worker t.group q.topic journal
+      → IsNeverDeleted q.topic journal
       → TakingIn t q s v arrived → TakingIn t q final end all
   whole_run worker all end final [] v moves arrived s are history run served sole never k =
       to_the_end all end final moves arrived s are run served (taking_shown t q s v end arrived history k)
@@ -192,9 +205,11 @@ module _ (t : Subscription) (q : Place) where
         | inl own ↦
             let own_served : AreServed (calls_of moves) (served_in e ∷ served_to worker journal) =
             subst (AreServed (calls_of moves))
-            (cond-true (e.worker == worker) (served_in e ∷ served_to worker journal) (served_to worker journal) own) served in
+            (cond-true (e.worker == worker) (served_in e ∷ served_to worker journal) (served_to worker journal) own)
+            served in
             let l = led all v final (served_in e) (served_to worker journal) moves arrived s are run own_served k in
-            whole_run worker all end final journal mid l.left l.now l.state l.arrived_are history l.run l.rest_served sole.1 never.1
+            whole_run worker all end final journal mid l.left l.now l.state l.arrived_are history l.run l.rest_served
+            sole.1 never.1
             (l.keeps mid step)
         | inr other ↦
             let differs = eqb-false e.worker worker other in
@@ -202,16 +217,19 @@ module _ (t : Subscription) (q : Place) where
             other_grows t.group q v mid e.event.request e.reply (λ c. differs (sole.0 c)) never.0 step in
             let rest_served : AreServed (calls_of moves) (served_to worker journal) =
             subst (AreServed (calls_of moves))
-            (cond-false (e.worker == worker) (served_in e ∷ served_to worker journal) (served_to worker journal) other) served in
+            (cond-false (e.worker == worker) (served_in e ∷ served_to worker journal) (served_to worker journal) other)
+            served in
             whole_run worker all end final journal mid moves arrived s are history run rest_served sole.1 never.1
             (taking_after_other s v mid arrived grows k)
       ]
 
   pub is_taken_in_order : (journal : List Entry) (worker : ℕ) (end : View) (moves : List Move) (final : State)
       → IsHistory opening_view journal end → IsConsumerRun t start moves final
-      → AreServed (calls_of moves) (served_to worker journal) → IsSoleCommitter worker t.group q.topic journal → IsNeverDeleted q.topic journal
+      → AreServed (calls_of moves) (served_to worker journal) → IsSoleCommitter worker t.group q.topic journal
+      → IsNeverDeleted q.topic journal
       → IsTakenInOrder q (records_of (end.log q)) (taken_of moves)
   is_taken_in_order journal worker end moves final history run served sole never =
-      let k = whole_run worker (taken_of moves) end final journal opening_view moves [] start refl history run served sole never
+      let k = whole_run worker (taken_of moves) end final journal opening_view moves [] start refl history run served
+      sole never
       (taking_first q) in
       record { bound = k.bound; offsets = k.offsets; contents = k.contents }

@@ -39,7 +39,12 @@ IsDueAs t place o _ = ⊥
 
 due_standing : (t : Subscription) (place : Place) (c : Standing) (b : Bool)
     → IsDueAs t place (Some c) (if b
-    then OffsetCommit (record { group = t.group; topic = place.topic; partition = place.partition; offset = c.position })
+    then OffsetCommit (record {
+      group = t.group;
+      topic = place.topic;
+      partition = place.partition;
+      offset = c.position;
+    })
     else Fetch (record { topic = place.topic; partition = place.partition; offset = c.position; max = t.max }))
 due_standing t place c true = (refl, refl, c, refl, refl)
 due_standing t place c false = (refl, c, refl, refl)
@@ -55,7 +60,8 @@ is_due_as t s request d =
     (due_as t d.place (standing (cursor_of s.cursors d.place)))
 
 -- a position is within the bound
-standing_within : (o : Option Cursor) (c : Standing) (bound : ℕ) → standing o ≡ Some c → WithinCursor bound o → c.position ≤ bound
+standing_within : (o : Option Cursor) (c : Standing) (bound : ℕ) → standing o ≡ Some c → WithinCursor bound o
+    → c.position ≤ bound
 standing_within None c bound at w = cc
 standing_within (Some x) c bound at w =
     let e : x.position ≡ c.position = ap position_in at in
@@ -77,7 +83,8 @@ offset_within (Some n) bound w = w
 none_taken : {A : Type 0} (count : ℕ) (xs : List A) → count ≡ 0 → take count xs ≡ []
 none_taken count xs e = ap (λ n. take n xs) e
 
-commit_or_not : (b : Bool) (n bound : ℕ) (o : Option ℕ) → (b ≡ true → n ≤ bound) → WithinOffset bound o → WithinOffset bound (cond b (Some n) o)
+commit_or_not : (b : Bool) (n bound : ℕ) (o : Option ℕ) → (b ≡ true → n ≤ bound) → WithinOffset bound o
+    → WithinOffset bound (cond b (Some n) o)
 commit_or_not true n bound o h w = h refl
 commit_or_not false n bound o h w = w
 
@@ -89,7 +96,8 @@ answered_unheard t s request (Some (Denied code verdicts)) count n = refl
 answered_unheard t s request (Some (Refused code reason)) count n = refl
 answered_unheard t s request (Some (Done body)) count n = absurd n
 
-taken_unheard : (request : Request) (heard : Option Reply) (count : ℕ) → NotDone heard → taken_by request heard count ≡ []
+taken_unheard : (request : Request) (heard : Option Reply) (count : ℕ) → NotDone heard
+    → taken_by request heard count ≡ []
 taken_unheard request None count n = refl
 taken_unheard request (Some (Denied code verdicts)) count n = refl
 taken_unheard request (Some (Refused code reason)) count n = refl
@@ -100,24 +108,30 @@ module _ (t : Subscription) (q : Place) where
   TakingIn s v arrived = Taking q (records_of (v.log q)) (v.committed t.group q) s.cursors arrived
 
   -- the same in each view that shows the same
-  pub taking_shown : (s : State) (v w : View) (arrived : List Arrival) → IsSameView w v → TakingIn s v arrived → TakingIn s w arrived
+  pub taking_shown : (s : State) (v w : View) (arrived : List Arrival) → IsSameView w v → TakingIn s v arrived
+      → TakingIn s w arrived
   taking_shown s v w arrived same k =
       subst (λ (o : Option ℕ). Taking q (records_of (w.log q)) o s.cursors arrived) (sym (same.committed t.group q))
-      (subst (λ (rs : List Record). Taking q rs (v.committed t.group q) s.cursors arrived) (sym (ap records_of (same.log q))) k)
+      (subst (λ (rs : List Record). Taking q rs (v.committed t.group q) s.cursors arrived)
+      (sym (ap records_of (same.log q))) k)
 
   -- after a call
   abbrev After : State → View → List Arrival → Request → Option Reply → ℕ → Type 0
-  After s v arrived request heard count = TakingIn (answered t s request heard count) v (arrived ++ taken_by request heard count)
+  After s v arrived request heard count = TakingIn (answered t s request heard count) v
+      (arrived ++ taken_by request heard count)
 
-  pub taking_silent : (s : State) (v : View) (arrived : List Arrival) (request : Request) (heard : Option Reply) (count : ℕ) → NotDone heard
+  pub taking_silent : (s : State) (v : View) (arrived : List Arrival) (request : Request) (heard : Option Reply)
+      (count : ℕ) → NotDone heard
       → TakingIn s v arrived → After s v arrived request heard count
   taking_silent s v arrived request heard count n k =
-      subst (λ (x : State). TakingIn x v (arrived ++ taken_by request heard count)) (sym (answered_unheard t s request heard count n))
+      subst (λ (x : State). TakingIn x v (arrived ++ taken_by request heard count))
+      (sym (answered_unheard t s request heard count n))
       (subst (λ (ys : List Arrival). TakingIn s v (arrived ++ ys)) (sym (taken_unheard request heard count n))
       (taking_nothing q (records_of (v.log q)) (v.committed t.group q) s.cursors arrived k))
 
   -- OFFSET_FETCH that was heard
-  placed : (s : State) (v : View) (arrived : List Arrival) (asked : PositionRequest) (body : Body) (heard : Option Reply) (count : ℕ)
+  placed : (s : State) (v : View) (arrived : List Arrival) (asked : PositionRequest) (body : Body)
+      (heard : Option Reply) (count : ℕ)
       → asked.group ≡ t.group → body ≡ bodies.Commit (v.committed asked.group (place_at asked.topic asked.partition))
       → heard ≡ Some (Done body) → TakingIn s v arrived → After s v arrived (OffsetFetch asked) heard count
   placed s v arrived asked body heard count own is e k =
@@ -128,21 +142,25 @@ module _ (t : Subscription) (q : Place) where
       let commit : WithinOffset k.bound (v.committed asked.group q) =
       subst (λ (g : List ℕ). WithinOffset k.bound (v.committed g q)) (sym own) k.commit in
       let within : p ≡ q → unwrap_or o 0 ≤ k.bound =
-      λ e'. offset_within o k.bound (subst (λ (y : Place). WithinOffset k.bound (v.committed asked.group y)) (sym e') commit) in
+      λ e'. offset_within o k.bound (subst (λ (y : Place). WithinOffset k.bound (v.committed asked.group y)) (sym e')
+      commit) in
       subst (λ (h : Option Reply). After s v arrived (OffsetFetch asked) h count) (sym known)
       (taking_nothing q (records_of (v.log q)) (v.committed t.group q) (moved s.cursors c) arrived
       (taking_after_move q (records_of (v.log q)) (v.committed t.group q) s.cursors arrived c k within))
 
   -- FETCH that was heard
-  fetched_in : (s : State) (v : View) (arrived : List Arrival) (asked : FetchRequest) (body : Body) (heard : Option Reply) (count : ℕ) (c : Standing)
+  fetched_in : (s : State) (v : View) (arrived : List Arrival) (asked : FetchRequest) (body : Body)
+      (heard : Option Reply) (count : ℕ) (c : Standing)
       → standing (cursor_of s.cursors (place_at asked.topic asked.partition)) ≡ Some c → asked.offset ≡ c.position
-      → body ≡ bodies.Records (read_from (records_of (v.log (place_at asked.topic asked.partition))) asked.offset asked.max)
+      → body ≡ bodies.Records (read_from (records_of (v.log (place_at asked.topic asked.partition))) asked.offset
+      asked.max)
       → heard ≡ Some (Done body) → TakingIn s v arrived → After s v arrived (Fetch asked) heard count
   fetched_in s v arrived asked body heard count c at here is e k =
       let p : Place = place_at asked.topic asked.partition in
       let records : List Record = records_of (v.log p) in
       let xs : List (ℕ × Record) = take count (read_from records asked.offset asked.max) in
-      let known : heard ≡ Some (Done (bodies.Records (read_from records asked.offset asked.max))) = e ∙ ap (λ (b : Body). Some (Done b)) is in
+      let known : heard ≡ Some (Done (bodies.Records (read_from records asked.offset asked.max))) = e
+      ∙ ap (λ (b : Body). Some (Done b)) is in
       let fits : p ≡ q → Fits q (records_of (v.log q)) k.bound asked.offset xs =
       λ e'. (
         subst (λ (m : ℕ). m ≤ k.bound) (sym here) (position_within s.cursors p q c k.bound at k.cursor e'),
@@ -155,10 +173,12 @@ module _ (t : Subscription) (q : Place) where
       (none_taken count (read_from records asked.offset asked.max)) fits)
 
   -- OFFSET_COMMIT that was served
-  committed_in : (s : State) (v : View) (arrived : List Arrival) (asked : CommitRequest) (body : Body) (heard : Option Reply) (count : ℕ) (c : Standing)
+  committed_in : (s : State) (v : View) (arrived : List Arrival) (asked : CommitRequest) (body : Body)
+      (heard : Option Reply) (count : ℕ) (c : Standing)
       → standing (cursor_of s.cursors (place_at asked.topic asked.partition)) ≡ Some c → asked.offset ≡ c.position
       → Hears heard (Done body) → TakingIn s v arrived
-      → After s (with_commit v asked.group (place_at asked.topic asked.partition) asked.offset) arrived (OffsetCommit asked) heard count
+      → After s (with_commit v asked.group (place_at asked.topic asked.partition) asked.offset) arrived
+      (OffsetCommit asked) heard count
   committed_in s v arrived asked body heard count c at here hears k = go hears
     where
       p : Place
@@ -175,7 +195,8 @@ module _ (t : Subscription) (q : Place) where
       is_it : Bool
       is_it = bytes_eq asked.group t.group && same_place (place_at asked.topic asked.partition) q
 
-      commits : bytes_eq asked.group t.group && same_place (place_at asked.topic asked.partition) q ≡ true → asked.offset ≤ k.bound
+      commits : bytes_eq asked.group t.group && same_place (place_at asked.topic asked.partition) q ≡ true
+          → asked.offset ≤ k.bound
       commits h =
           within (places_are (place_at asked.topic asked.partition) q
           (and_parts (bytes_eq asked.group t.group) (same_place (place_at asked.topic asked.partition) q) h).1)
@@ -183,45 +204,63 @@ module _ (t : Subscription) (q : Place) where
       committed : TakingIn s (with_commit v asked.group (place_at asked.topic asked.partition) asked.offset) arrived
       committed =
           taking_with_commit q (records_of (v.log q)) (v.committed t.group q)
-          (cond (bytes_eq asked.group t.group && same_place (place_at asked.topic asked.partition) q) (Some asked.offset) (v.committed t.group q))
+          (cond (bytes_eq asked.group t.group && same_place (place_at asked.topic asked.partition) q)
+          (Some asked.offset) (v.committed t.group q))
           s.cursors arrived k
-          (commit_or_not (bytes_eq asked.group t.group && same_place (place_at asked.topic asked.partition) q) asked.offset k.bound
+          (commit_or_not (bytes_eq asked.group t.group && same_place (place_at asked.topic asked.partition) q)
+          asked.offset k.bound
           (v.committed t.group q) commits k.commit)
 
       go : Hears heard (Done body)
-          → After s (with_commit v asked.group (place_at asked.topic asked.partition) asked.offset) arrived (OffsetCommit asked) heard count
+          → After s (with_commit v asked.group (place_at asked.topic asked.partition) asked.offset) arrived
+          (OffsetCommit asked) heard count
       go (inl e) =
-          taking_silent s (with_commit v asked.group (place_at asked.topic asked.partition) asked.offset) arrived (OffsetCommit asked) heard count
+          taking_silent s (with_commit v asked.group (place_at asked.topic asked.partition) asked.offset) arrived
+          (OffsetCommit asked) heard count
           (heard_none heard e) committed
       go (inr e) =
-          let o : Option ℕ = (with_commit v asked.group (place_at asked.topic asked.partition) asked.offset).committed t.group q in
-          let cursor : Cursor = record { place = place_at asked.topic asked.partition; position = asked.offset; uncommitted = false } in
-          subst (λ (h : Option Reply). After s (with_commit v asked.group (place_at asked.topic asked.partition) asked.offset) arrived (OffsetCommit asked) h count) (sym e)
+          let o : Option ℕ = (with_commit v asked.group (place_at asked.topic asked.partition) asked.offset).committed
+          t.group q in
+          let cursor : Cursor = record {
+            place = place_at asked.topic asked.partition;
+            position = asked.offset;
+            uncommitted = false;
+          } in
+          subst (λ (h : Option Reply). After s (with_commit v asked.group (place_at asked.topic asked.partition)
+          asked.offset) arrived (OffsetCommit asked) h count) (sym e)
           (taking_nothing q (records_of (v.log q)) o (moved s.cursors cursor) arrived
           (taking_after_move q (records_of (v.log q)) o s.cursors arrived cursor committed within))
 
   -- a call that was served, whatever was heard
-  pub taking_served : (s : State) (v w : View) (arrived : List Arrival) (place : Place) (request : Request) (reply : Reply) (heard : Option Reply) (count : ℕ)
-      → IsDueAs t place (standing (cursor_of s.cursors place)) request → Hears heard reply → Step v request reply w → TakingIn s v arrived
+  pub taking_served : (s : State) (v w : View) (arrived : List Arrival) (place : Place) (request : Request)
+      (reply : Reply) (heard : Option Reply) (count : ℕ)
+      → IsDueAs t place (standing (cursor_of s.cursors place)) request → Hears heard reply → Step v request reply w
+      → TakingIn s v arrived
       → After s w arrived request heard count
   taking_served s v w arrived place request (Denied code verdicts) heard count d hears step k =
-      taking_silent s w arrived request heard count (heard_no_done heard (Denied code verdicts) tt hears) (taking_shown s v w arrived step k)
+      taking_silent s w arrived request heard count (heard_no_done heard (Denied code verdicts) tt hears)
+      (taking_shown s v w arrived step k)
   taking_served s v w arrived place request (Refused code reason) heard count d hears step k =
-      taking_silent s w arrived request heard count (heard_no_done heard (Refused code reason) tt hears) (taking_shown s v w arrived step k)
+      taking_silent s w arrived request heard count (heard_no_done heard (Refused code reason) tt hears)
+      (taking_shown s v w arrived step k)
   taking_served s v w arrived place (OffsetFetch asked) (Done body) heard count d hears step k =
-      taking_shown (answered t s (OffsetFetch asked) heard count) v w (arrived ++ taken_by (OffsetFetch asked) heard count) step.1
+      taking_shown (answered t s (OffsetFetch asked) heard count) v w
+      (arrived ++ taken_by (OffsetFetch asked) heard count) step.1
       (elim hears [
         | inl e ↦ taking_silent s v arrived (OffsetFetch asked) heard count (heard_none heard e) k
         | inr e ↦ placed s v arrived asked body heard count d.0 step.0 e k
       ])
   taking_served s v w arrived place (OffsetCommit asked) (Done body) heard count d hears step k =
       taking_shown (answered t s (OffsetCommit asked) heard count)
-      (with_commit v asked.group (place_at asked.topic asked.partition) asked.offset) w (arrived ++ taken_by (OffsetCommit asked) heard count) step
-      (committed_in s v arrived asked body heard count d.2 (ap (λ (y : Place). standing (cursor_of s.cursors y)) d.1 ∙ d.3) d.4 hears k)
+      (with_commit v asked.group (place_at asked.topic asked.partition) asked.offset) w
+      (arrived ++ taken_by (OffsetCommit asked) heard count) step
+      (committed_in s v arrived asked body heard count d.2
+      (ap (λ (y : Place). standing (cursor_of s.cursors y)) d.1 ∙ d.3) d.4 hears k)
   taking_served s v w arrived place (Fetch asked) (Done body) heard count d hears step k =
       taking_shown (answered t s (Fetch asked) heard count) v w (arrived ++ taken_by (Fetch asked) heard count) step.1
       (elim hears [
         | inl e ↦ taking_silent s v arrived (Fetch asked) heard count (heard_none heard e) k
-        | inr e ↦ fetched_in s v arrived asked body heard count d.1 (ap (λ (y : Place). standing (cursor_of s.cursors y)) d.0 ∙ d.2) d.3 step.0 e k
+        | inr e ↦ fetched_in s v arrived asked body heard count d.1
+            (ap (λ (y : Place). standing (cursor_of s.cursors y)) d.0 ∙ d.2) d.3 step.0 e k
       ])
   taking_served s v w arrived place _ (Done body) heard count d hears step k = absurd d

@@ -29,7 +29,8 @@ pub record IsKept (rows : List Event) (c : Contents) (sent wait : List Event) : 
   pub order : InOrder (length sent) (ids_of sent) wait
 
 order_last : (n : ℕ) (seen : List (List ℕ)) (rs : List Event) (row : Event) → InOrder n seen rs
-    → row.seq ≡ n + length rs + 1 → list_any (bytes_eq row.id) (seen ++ ids_of rs) ≡ false → InOrder n seen (rs ++ row ∷ [])
+    → row.seq ≡ n + length rs + 1 → list_any (bytes_eq row.id) (seen ++ ids_of rs) ≡ false
+    → InOrder n seen (rs ++ row ∷ [])
 order_last n seen [] row h e new = (omega (arith, e), rw append-nil at new, tt)
 order_last n seen (r ∷ rs) row h e new =
     (h.0, h.1, order_last (n + 1) (seen ++ r.id ∷ []) rs row h.2 (omega (arith, e)) (rw append_assoc new))
@@ -47,12 +48,14 @@ kept_at_start = record { rows_are = refl; ids = refl; mark = refl; waits = refl;
 pub is_fresh : (c : Contents) (change : Change) (event : OutboxEvent) → IsRecordable c change event
     → list_any (bytes_eq (id_text event.id)) c.ids ≡ false
 is_fresh c change event may =
-    any_same (bytes_eq (id_text event.id)) (λ x. bytes_eq x (id_text event.id)) (λ x. bytes_turned (id_text event.id) x) c.ids
+    any_same (bytes_eq (id_text event.id)) (λ x. bytes_eq x (id_text event.id)) (λ x. bytes_turned (id_text event.id) x)
+    c.ids
     ∙ may.fresh
 
 pub kept_recorded : (rows : List Event) (c : Contents) (sent wait : List Event) (change : Change) (event : OutboxEvent)
     → IsKept rows c sent wait → IsRecordable c change event
-    → IsKept (rows ++ stored_event (next_seq c) event ∷ []) (recorded c change event) sent (wait ++ stored_event (next_seq c) event ∷ [])
+    → IsKept (rows ++ stored_event (next_seq c) event ∷ []) (recorded c change event) sent
+    (wait ++ stored_event (next_seq c) event ∷ [])
 kept_recorded rows c sent wait change event k may =
     let row : Event = stored_event (next_seq c) event in
     let count : length c.ids ≡ length sent + length wait =
@@ -68,7 +71,8 @@ kept_recorded rows c sent wait change event k may =
           filter_last (λ r. nat_lt c.mark r.seq) c.events row (lt-ltb c.mark row.seq past)
           ∙ ap (λ rs. rs ++ row ∷ []) k.waits;
       order = order_last (length sent) (ids_of sent) wait row k.order (omega (arith, count))
-          (subst (λ (xs : List (List ℕ)). list_any (bytes_eq row.id) xs ≡ false) (sym seen) (is_fresh c change event may));
+          (subst (λ (xs : List (List ℕ)). list_any (bytes_eq row.id) xs ≡ false) (sym seen)
+          (is_fresh c change event may));
     }
 
 pub kept_swept : (rows : List Event) (c : Contents) (sent wait : List Event) → IsKept rows c sent wait
@@ -83,7 +87,8 @@ kept_swept rows c sent wait k =
       order = k.order;
     }
 
-pub kept_marked : (rows : List Event) (c : Contents) (sent rest : List Event) (r : Event) → IsKept rows c sent (r ∷ rest)
+pub kept_marked : (rows : List Event) (c : Contents) (sent rest : List Event) (r : Event)
+    → IsKept rows c sent (r ∷ rest)
     → IsKept rows (record c { mark = r.seq }) (sent ++ r ∷ []) rest
 kept_marked rows c sent rest r k =
     let seq : r.seq ≡ length sent + 1 = k.order.0 in
@@ -102,10 +107,12 @@ kept_marked rows c sent rest r k =
           ∙ tail;
       order =
           subst (λ (n : ℕ). InOrder n (ids_of (sent ++ r ∷ [])) rest) (sym (length_push sent r))
-          (subst (λ (seen : List (List ℕ)). InOrder (length sent + 1) seen rest) (sym (map_push (λ row. row.id) sent r)) k.order.2);
+          (subst (λ (seen : List (List ℕ)). InOrder (length sent + 1) seen rest) (sym (map_push (λ row. row.id) sent r))
+          k.order.2);
     }
 
 -- the first row that waits has an id that no sent row has
-pub first_is_new : (rows : List Event) (c : Contents) (sent rest : List Event) (r : Event) → IsKept rows c sent (r ∷ rest)
+pub first_is_new : (rows : List Event) (c : Contents) (sent rest : List Event) (r : Event)
+    → IsKept rows c sent (r ∷ rest)
     → list_any (bytes_eq r.id) (ids_of sent) ≡ false
 first_is_new rows c sent rest r k = k.order.1

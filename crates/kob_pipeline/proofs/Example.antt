@@ -27,7 +27,7 @@ use Rattle.kob_shared.specs.declared.journal.Entry.{Entry}
 use Rattle.kob_pipeline.specs.Delivery.{rows_of}
 use Rattle.kob_pipeline.specs.Parts.{IsConsumerPart, IsServicePart}
 use Rattle.kob_pipeline.specs.Premises.{ArePrivate, IsPrivate}
-use Rattle.kob_pipeline.specs.Reaching.{ReachesInOrder, aggregate, taken_ids}
+use Rattle.kob_pipeline.specs.Reaching.{ReachesInOrder, rows_of_aggregate, taken_ids}
 use Rattle.kob_pipeline.specs.View.{IsHistory, IsSameView, View, opening_view, with_batch, with_commit, with_producer}
 use Rattle.kob_pipeline.proofs.DeliveryLaws.{holds_a_prefix}
 use Rattle.kob_pipeline.proofs.Samples.{batch, change, event, goes_here, held, here, id_of, message, producer, row, second_is_new, target}
@@ -100,7 +100,8 @@ placed n = ap place_of (goes_here n)
 
 -- what is in hand is sent
 is_sent : (s : router.State) (id base n : ℕ) → s.producer ≡ Some (producer id) → s.hand ≡ Some (held n)
-    → Rattle.kob_router.specs.Places.sequence_of s.sequences here ≡ base → router.IsSending (dispatch_of target) s (sends id base n)
+    → Rattle.kob_router.specs.Places.sequence_of s.sequences here ≡ base
+    → router.IsSending (dispatch_of target) s (sends id base n)
 is_sent s id base n has_producer has_hand next = record {
   producer = producer id;
   hand = held n;
@@ -117,12 +118,42 @@ no_mark : {A : Type 0} → false ≡ true → A
 no_mark e = absurd (true≢false (sym e))
 
 runs : router.IsRouterRun (dispatch_of target) router.start moves (after_all router.start moves)
-runs = (record { fits = refl; fresh = refl; room = omega arith }, (record { fits = refl; fresh = ap (λ (b : Bool). b || false) second_is_new; room = omega arith }, ((refl, refl), ((refl, refl, placed 1), ((is_sent _ 0 0 1 refl refl refl, λ _. tt), ((refl, refl, placed 2), ((is_sent _ 0 1 2 refl refl refl, no_mark), (tt, ((refl, refl), ((refl, refl, placed 2), ((is_sent _ 1 0 2 refl refl refl, λ _. tt), refl)))))))))))
+runs = (
+  record { fits = refl; fresh = refl; room = omega arith },
+  (
+    record { fits = refl; fresh = ap (λ (b : Bool). b || false) second_is_new; room = omega arith },
+    (
+      (refl, refl),
+      (
+        (refl, refl, placed 1),
+        (
+          (is_sent _ 0 0 1 refl refl refl, λ _. tt),
+          (
+            (refl, refl, placed 2),
+            (
+              (is_sent _ 0 1 2 refl refl refl, no_mark),
+              (tt, ((refl, refl), ((refl, refl, placed 2), ((is_sent _ 1 0 2 refl refl refl, λ _. tt), refl)))),
+            ),
+          ),
+        ),
+      ),
+    ),
+  ),
+)
 
 service_part : IsServicePart target 1 journal moves (after_all router.start moves)
 service_part = record {
   run = runs;
-  served = inr (refl, inr refl, inr (refl, inr refl, inr (refl, inl refl, inr (refl, inr refl, inr (refl, inr refl, tt)))));
+  served = inr (
+    refl,
+    inr refl,
+    inr (
+      refl,
+      inr refl,
+      inr
+          (refl, inl refl, inr (refl, inr refl, inr (refl, inr refl, tt))),
+    ),
+  );
 }
 
 -- what the consumer does
@@ -143,7 +174,13 @@ taken_all s (m ∷ ms) = taken_all (consumer.after subscription s m) ms
 
 consumer_part : IsConsumerPart subscription 2 journal takes (taken_all consumer.start takes)
 consumer_part = record {
-  run = ((record { place = here; its_turn = refl; is_due = refl }, omega arith), ((record { place = here; its_turn = refl; is_due = refl }, omega arith), ((record { place = here; its_turn = refl; is_due = refl }, omega arith), refl)));
+  run = (
+    (record { place = here; its_turn = refl; is_due = refl }, omega arith),
+    (
+      (record { place = here; its_turn = refl; is_due = refl }, omega arith),
+      ((record { place = here; its_turn = refl; is_due = refl }, omega arith), refl),
+    ),
+  );
   served = inr (refl, inr refl, inr (refl, inr refl, inr (refl, inr refl, tt)));
 }
 
@@ -171,14 +208,56 @@ abbrev at_end : View
 at_end = with_commit view_4 (codes "g") here 3
 
 history : IsHistory opening_view journal at_end
-history = (view_0, (refl, same view_0), (view_1, (omega arith, same view_1), (view_1, (refl, same view_1), (view_2, (omega arith, same view_2), (view_3, (refl, same view_3), (view_3, same view_3, (view_4, (omega arith, same view_4), (view_4, (refl, same view_4), (at_end, same at_end, same at_end)))))))))
+history = (
+  view_0,
+  (refl, same view_0),
+  (
+    view_1,
+    (omega arith, same view_1),
+    (
+      view_1,
+      (refl, same view_1),
+      (
+        view_2,
+        (omega arith, same view_2),
+        (
+          view_3,
+          (refl, same view_3),
+          (
+            view_3,
+            same view_3,
+            (view_4, (omega arith, same view_4), (view_4, (refl, same view_4), (at_end, same at_end, same at_end))),
+          ),
+        ),
+      ),
+    ),
+  ),
+)
 
 -- nobody else sends, commits or deletes
 
 private_topic : IsPrivate 1 2 (codes "g") (codes "t") journal
 private_topic = record {
-  producer = (λ p. absurd p, (λ p. refl, (λ p. absurd p, (λ p. refl, (λ p. absurd p, (λ p. absurd p, (λ p. refl, (λ p. absurd p, (λ p. absurd p, tt)))))))));
-  committer = (λ p. absurd p, (λ p. absurd p, (λ p. absurd p, (λ p. absurd p, (λ p. absurd p, (λ p. absurd p, (λ p. absurd p, (λ p. absurd p, (λ p. refl, tt)))))))));
+  producer = (
+    λ p. absurd p,
+    (
+      λ p. refl,
+      (
+        λ p. absurd p,
+        (λ p. refl, (λ p. absurd p, (λ p. absurd p, (λ p. refl, (λ p. absurd p, (λ p. absurd p, tt)))))),
+      ),
+    ),
+  );
+  committer = (
+    λ p. absurd p,
+    (
+      λ p. absurd p,
+      (
+        λ p. absurd p,
+        (λ p. absurd p, (λ p. absurd p, (λ p. absurd p, (λ p. absurd p, (λ p. absurd p, (λ p. refl, tt)))))),
+      ),
+    ),
+  );
   kept = (λ p. p, (λ p. p, (λ p. p, (λ p. p, (λ p. p, (λ p. p, (λ p. p, (λ p. p, (λ p. p, tt)))))))));
 }
 
@@ -189,7 +268,7 @@ all_private place (suc k, within, at) = absurd (omega arith)
 
 -- so the law says of this history
 
-reached : ReachesInOrder (aggregate (rows_of moves) (codes "a") (codes "b")) (taken_all consumer.start takes).inbox
+reached : ReachesInOrder (rows_of moves) (taken_all consumer.start takes).inbox (codes "a") (codes "b")
 reached =
     holds_a_prefix target subscription 1 2 journal at_end moves (after_all router.start moves) takes
     (taken_all consumer.start takes) (codes "a") (codes "b") history service_part consumer_part all_private
@@ -202,7 +281,7 @@ records_at_end = refl
 mark_at_end : (after_all router.start moves).outbox.mark ≡ 2
 mark_at_end = refl
 
-rows_at_end : aggregate (rows_of moves) (codes "a") (codes "b") ≡ row 1 ∷ row 2 ∷ []
+rows_at_end : rows_of_aggregate (rows_of moves) (codes "a") (codes "b") ≡ row 1 ∷ row 2 ∷ []
 rows_at_end = refl
 
 inbox_at_end : taken_ids (taken_all consumer.start takes).inbox ≡ id_text (id_of 1) ∷ id_text (id_of 2) ∷ []

@@ -54,19 +54,24 @@ digit_within k h = grind (arith, nat_tests)
 text_same : (id : List ℕ) → id_text (bytes_of id) ≡ id_text id
 text_same id =
     by_index_cong 36 _ _
-    (λ k h. ap (λ (n : ℕ). cond (is_hyphen_place k) hyphen (hex_digit lower n)) (nibble_same id (digit_place k) (digit_within k h)))
+    (λ k h. ap (λ (n : ℕ). cond (is_hyphen_place k) hyphen (hex_digit lower n))
+    (nibble_same id (digit_place k) (digit_within k h)))
 
 -- whatever an id is, its text reads back as an id with the same text
 pub text_back : (id : List ℕ) → option_map id_text (parsed (id_text id)) ≡ Some (id_text id)
 text_back id =
     let reads : Some (bytes_of id) ≡ parsed (id_text (bytes_of id)) =
-    parses_hyphenated lower (bytes_of id) (inl refl) (by_index_length 16 (λ i. slice_index id i % 256)) (bytes_small id) in
+    parses_hyphenated lower (bytes_of id) (inl refl) (by_index_length 16 (λ i. slice_index id i % 256)) (bytes_small id)
+    in
     ap (λ (t : List ℕ). option_map id_text (parsed t)) (sym (text_same id))
     ∙ ap (option_map id_text) (sym reads)
     ∙ ap (λ (t : List ℕ). Some t) (text_same id)
 
 message_is : (bad : Bool) (topic key : List ℕ) (partitions : ℕ) (message : Record) (d : Dispatch)
-    → option_map (λ (r : Routed). record { place = record { topic = r.topic; partition = partition_of key partitions }; message = r.message })
+    → option_map (λ (r : Routed). record {
+      place = record { topic = r.topic; partition = partition_of key partitions };
+      message = r.message;
+    })
     (if bad then None else Some (record { topic = topic; message = message })) ≡ Some d
     → message ≡ d.message
 message_is true topic key partitions message d h = cc
@@ -79,9 +84,11 @@ message_is false topic key partitions message d h = go h
         message_in None = message
         message_in (Some y) = y.message
 
-pub sent_message : (target : Target) (row : Event) (d : Dispatch) → dispatch_of target row ≡ Some d → message_of target.route row ≡ d.message
+pub sent_message : (target : Target) (row : Event) (d : Dispatch) → dispatch_of target row ≡ Some d
+    → message_of target.route row ≡ d.message
 sent_message target row d h =
-    message_is (is_some (topic_fault (topic_of target.route row))) (topic_of target.route row) (key_of row) target.partitions
+    message_is (is_some (topic_fault (topic_of target.route row))) (topic_of target.route row) (key_of row)
+    target.partitions
     (message_of target.route row) d h
 
 pub target_tells : (target : Target) → TellsIds (dispatch_of target)

@@ -24,7 +24,11 @@ pub bytes_turned : (xs ys : List ℕ) → bytes_eq xs ys ≡ bytes_eq ys xs
 bytes_turned xs ys =
     elim (cases_Bool (bytes_eq xs ys)) [
       | inl on ↦ on ∙ sym (both_ways ys xs on)
-      | inr off ↦ elim (cases_Bool (bytes_eq ys xs)) [ inl on ↦ both_ways xs ys on ∙ sym on | inr miss ↦ off ∙ sym miss ]
+      | inr off ↦ elim (cases_Bool (bytes_eq ys xs)) [
+        | inl on ↦ both_ways xs ys on ∙ sym on
+        | inr miss ↦ off
+            ∙ sym miss
+      ]
     ]
 
 pub same_here : (q : Place) → same_place q q ≡ true
@@ -65,42 +69,53 @@ first_or_behind xs y x (zero, l, at) = inl at
 first_or_behind xs y x (suc k, l, at) = inr (k, omega arith, at)
 
 -- a filter after a weaker one
-pub filter_twice : {A : Type 0} (p r : A → Bool) → ((x : A) → p x ≡ true → r x ≡ true) → (xs : List A) → filter p (filter r xs) ≡ filter p xs
+pub filter_twice : {A : Type 0} (p r : A → Bool) → ((x : A) → p x ≡ true → r x ≡ true) → (xs : List A)
+    → filter p (filter r xs) ≡ filter p xs
 filter_twice p r h [] = refl
 filter_twice {A} p r h (x ∷ xs) =
     elim (cases_Bool (p x)) [
       | inl hit ↦ rw (h x hit, hit) (ap (λ ys. x ∷ ys) (filter_twice p r h xs))
       | inr miss ↦
-          rw miss (elim (cases_Bool (r x)) [ inl y ↦ rw (y, miss) (filter_twice p r h xs) | inr n ↦ rw n (filter_twice p r h xs) ])
+          rw miss (elim (cases_Bool (r x)) [
+            | inl y ↦ rw (y, miss) (filter_twice p r h xs)
+            | inr n ↦ rw n
+                (filter_twice p r h xs)
+          ])
     ]
 
 pub filter_all : {A : Type 0} (p : A → Bool) (xs : List A) → AllByRecursion (λ x. p x ≡ true) xs → filter p xs ≡ xs
 filter_all p [] h = refl
 filter_all p (x ∷ xs) h = rw h.0 (ap (λ ys. x ∷ ys) (filter_all p xs h.1))
 
-pub filter_last : {A : Type 0} (p : A → Bool) (xs : List A) (x : A) → p x ≡ true → filter p (xs ++ x ∷ []) ≡ filter p xs ++ x ∷ []
+pub filter_last : {A : Type 0} (p : A → Bool) (xs : List A) (x : A) → p x ≡ true
+    → filter p (xs ++ x ∷ []) ≡ filter p xs ++ x ∷ []
 filter_last p xs x h = filter-append p xs (x ∷ []) ∙ rw h refl
 
-pub filter_not_last : {A : Type 0} (p : A → Bool) (xs : List A) (x : A) → p x ≡ false → filter p (xs ++ x ∷ []) ≡ filter p xs
+pub filter_not_last : {A : Type 0} (p : A → Bool) (xs : List A) (x : A) → p x ≡ false
+    → filter p (xs ++ x ∷ []) ≡ filter p xs
 filter_not_last p xs x h = filter-append p xs (x ∷ []) ∙ rw h (append-nil (filter p xs))
 
 -- what a filter keeps passes, and stood in the list
-pub kept_by : {A : Type 0} (test : A → Bool) (xs : List A) (x : A) → Contains (filter test xs) x → Contains xs x × (test x ≡ true)
+pub kept_by : {A : Type 0} (test : A → Bool) (xs : List A) (x : A) → Contains (filter test xs) x → Contains xs x
+    × (test x ≡ true)
 kept_by test [] x (k, l, at) = absurd (omega arith)
 kept_by {A} test (y ∷ xs) x c =
     elim (cases_Bool (test y)) [
       | inl on ↦
-          elim (first_or_behind (filter test xs) y x (subst (λ (ys : List A). Contains ys x) (cond-true (test y) (y ∷ filter test xs) (filter test xs) on) c)) [
+          elim (first_or_behind (filter test xs) y x (subst (λ (ys : List A). Contains ys x)
+          (cond-true (test y) (y ∷ filter test xs) (filter test xs) on) c)) [
             | inl e ↦ ((0, omega arith, e), ap test (sym e) ∙ on)
             | inr behind ↦ let k = kept_by test xs x behind in (contains_more xs y x k.0, k.1)
           ]
       | inr off ↦
-          let k = kept_by test xs x (subst (λ (ys : List A). Contains ys x) (cond-false (test y) (y ∷ filter test xs) (filter test xs) off) c) in
+          let k = kept_by test xs x (subst (λ (ys : List A). Contains ys x)
+          (cond-false (test y) (y ∷ filter test xs) (filter test xs) off) c) in
           (contains_more xs y x k.0, k.1)
     ]
 
 -- what passes is kept
-pub keeps : {A : Type 0} (test : A → Bool) (xs : List A) (x : A) → Contains xs x → test x ≡ true → Contains (filter test xs) x
+pub keeps : {A : Type 0} (test : A → Bool) (xs : List A) (x : A) → Contains xs x → test x ≡ true
+    → Contains (filter test xs) x
 keeps test [] x (k, l, at) h = absurd (omega arith)
 keeps {A} test (y ∷ xs) x c h =
     elim (cases_Bool (test y)) [
@@ -119,7 +134,8 @@ keeps {A} test (y ∷ xs) x c h =
     ]
 
 -- a test that fails on all fails on what a filter keeps
-pub none_in_filter : {A B : Type 0} (t : B → Bool) (f : A → B) (p : A → Bool) (xs : List A) → list_any t (map f xs) ≡ false → list_any t (map f (filter p xs)) ≡ false
+pub none_in_filter : {A B : Type 0} (t : B → Bool) (f : A → B) (p : A → Bool) (xs : List A)
+    → list_any t (map f xs) ≡ false → list_any t (map f (filter p xs)) ≡ false
 none_in_filter t f p [] h = refl
 none_in_filter t f p (x ∷ xs) h =
     let parts = or_parts (t (f x)) (list_any t (map f xs)) h in
@@ -137,15 +153,18 @@ pub any_same : {A : Type 0} (s t : A → Bool) → ((x : A) → s x ≡ t x) →
 any_same s t h [] = refl
 any_same s t h (x ∷ xs) = ap (λ (b : Bool). b || list_any s xs) (h x) ∙ ap (λ (b : Bool). t x || b) (any_same s t h xs)
 
-pub all_last : {A : Type 0} (P : A → Type 0) (xs : List A) (x : A) → AllByRecursion P xs → P x → AllByRecursion P (xs ++ x ∷ [])
+pub all_last : {A : Type 0} (P : A → Type 0) (xs : List A) (x : A) → AllByRecursion P xs → P x
+    → AllByRecursion P (xs ++ x ∷ [])
 all_last P [] x h p = (p, tt)
 all_last P (y ∷ xs) x h p = (h.0, all_last P xs x h.1 p)
 
-pub all_append : {A : Type 0} (P : A → Type 0) (xs ys : List A) → AllByRecursion P xs → AllByRecursion P ys → AllByRecursion P (xs ++ ys)
+pub all_append : {A : Type 0} (P : A → Type 0) (xs ys : List A) → AllByRecursion P xs → AllByRecursion P ys
+    → AllByRecursion P (xs ++ ys)
 all_append P [] ys h k = k
 all_append P (x ∷ xs) ys h k = (h.0, all_append P xs ys h.1 k)
 
-pub all_weaker : {A : Type 0} (P R : A → Type 0) → ((x : A) → P x → R x) → (xs : List A) → AllByRecursion P xs → AllByRecursion R xs
+pub all_weaker : {A : Type 0} (P R : A → Type 0) → ((x : A) → P x → R x) → (xs : List A) → AllByRecursion P xs
+    → AllByRecursion R xs
 all_weaker P R f [] h = tt
 all_weaker P R f (x ∷ xs) h = (f x h.0, all_weaker P R f xs h.1)
 
@@ -156,14 +175,17 @@ all_passing P test [] h = tt
 all_passing {A} P test (x ∷ xs) h =
     elim (cases_Bool (test x)) [
       | inl on ↦
-          subst (AllByRecursion (λ y. P y × (test y ≡ true))) (sym (cond-true (test x) (x ∷ filter test xs) (filter test xs) on))
+          subst (AllByRecursion (λ y. P y × (test y ≡ true)))
+          (sym (cond-true (test x) (x ∷ filter test xs) (filter test xs) on))
           ((h.0, on), all_passing P test xs h.1)
       | inr off ↦
-          subst (AllByRecursion (λ y. P y × (test y ≡ true))) (sym (cond-false (test x) (x ∷ filter test xs) (filter test xs) off))
+          subst (AllByRecursion (λ y. P y × (test y ≡ true)))
+          (sym (cond-false (test x) (x ∷ filter test xs) (filter test xs) off))
           (all_passing P test xs h.1)
     ]
 
-pub all_both : {A : Type 0} (P R : A → Type 0) (xs : List A) → AllByRecursion P xs → AllByRecursion R xs → AllByRecursion (λ x. P x × R x) xs
+pub all_both : {A : Type 0} (P R : A → Type 0) (xs : List A) → AllByRecursion P xs → AllByRecursion R xs
+    → AllByRecursion (λ x. P x × R x) xs
 all_both P R [] h k = tt
 all_both P R (x ∷ xs) h k = ((h.0, k.0), all_both P R xs h.1 k.1)
 
@@ -172,7 +194,8 @@ pub all_contained : {A : Type 0} (P : A → Type 0) (xs : List A) → ((x : A) �
 all_contained P [] f = tt
 all_contained P (x ∷ xs) f = (f x (0, omega arith, refl), all_contained P xs (λ y c. f y (contains_more xs x y c)))
 
-pub all_at : {A : Type 0} (P : A → Type 0) (xs : List A) (i : ℕ) (x : A) → slice_get xs i ≡ Some x → AllByRecursion P xs → P x
+pub all_at : {A : Type 0} (P : A → Type 0) (xs : List A) (i : ℕ) (x : A) → slice_get xs i ≡ Some x → AllByRecursion P xs
+    → P x
 all_at P [] i x e h = cc
 all_at {A} P (y ∷ xs) zero x e h = let same : y ≡ x = cc in subst P same h.0
 all_at P (y ∷ xs) (suc i) x e h = all_at P xs i x e h.1

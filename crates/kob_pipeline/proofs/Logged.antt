@@ -21,7 +21,8 @@ pub new_put : {A : Type 0} (same : A → A → Bool) (xs : List A) (x : A) → l
     → with_new same xs x ≡ xs ++ x ∷ []
 new_put same xs x h = cond-false (list_any (same x) xs) xs (xs ++ x ∷ []) h
 
-pub old_left : {A : Type 0} (same : A → A → Bool) (xs : List A) (x : A) → list_any (same x) xs ≡ true → with_new same xs x ≡ xs
+pub old_left : {A : Type 0} (same : A → A → Bool) (xs : List A) (x : A) → list_any (same x) xs ≡ true
+    → with_new same xs x ≡ xs
 old_left same xs x h = cond-true (list_any (same x) xs) xs (xs ++ x ∷ []) h
 
 -- one after another
@@ -36,11 +37,13 @@ records_more (b ∷ log) more =
     ap (λ (rs : List Record). b.records ++ rs) (records_more log more)
     ∙ sym (append_assoc b.records (records_of log) (records_of more))
 
-records_last : (log : List Batch) (b : Batch) (x : Record) → b.records ≡ x ∷ [] → records_of (log ++ b ∷ []) ≡ records_of log ++ x ∷ []
+records_last : (log : List Batch) (b : Batch) (x : Record) → b.records ≡ x ∷ []
+    → records_of (log ++ b ∷ []) ≡ records_of log ++ x ∷ []
 records_last log b x e =
     records_more log (b ∷ []) ∙ ap (λ xs. records_of log ++ xs) (append-nil b.records ∙ e)
 
-ids_last : (xs : List Record) (x : Record) (id : List ℕ) → told_id x ≡ Some id → filter_map told_id (xs ++ x ∷ []) ≡ filter_map told_id xs ++ id ∷ []
+ids_last : (xs : List Record) (x : Record) (id : List ℕ) → told_id x ≡ Some id
+    → filter_map told_id (xs ++ x ∷ []) ≡ filter_map told_id xs ++ id ∷ []
 ids_last xs x id e = filter_map-append told_id xs (x ∷ []) ∙ rw e refl
 
 given_more : (m n : ℕ) → m ≤ n → (o : Option Idem) → IsGiven m o → IsGiven n o
@@ -48,11 +51,12 @@ given_more m n l None h = tt
 given_more m n l (Some idem) h = omega (arith, l, h)
 
 -- a batch of one record, which is what the route makes of a row for the place
-pub record IsBatchOf (route : Dispatching) (q : Place) (row : Event) (message : Record) (next : ℕ) (b : Batch) : Type 0 where
-  pub tells : told_id message ≡ Some row.id
-  pub routed : route row ≡ Some (record { place = q; message = message })
-  pub single : b.records ≡ message ∷ []
-  pub given : IsGiven next b.idem
+pub record IsBatchOf (route : Dispatching) (q : Place) (row : Event) (message : Record) (next : ℕ) (b : Batch) : Type 0
+  where
+    pub tells : told_id message ≡ Some row.id
+    pub routed : route row ≡ Some (record { place = q; message = message })
+    pub single : b.records ≡ message ∷ []
+    pub given : IsGiven next b.idem
 
 module _ (route : Dispatching) (q : Place) where
   -- of the rows the log holds those up to some, and each batch is of a producer that was given its id
@@ -92,7 +96,8 @@ module _ (route : Dispatching) (q : Place) where
       }
 
   -- what a log holds with one more batch
-  appended : (rows : List Event) (log : List Batch) (next : ℕ) (upto done : List Event) (row : Event) (b : Batch) (x : Record)
+  appended : (rows : List Event) (log : List Batch) (next : ℕ) (upto done : List Event) (row : Event) (b : Batch)
+      (x : Record)
       → IsLogged rows log next upto → Contains rows row → IsBatchOf route q row x next b
       → with_new bytes_eq (ids_of (routed_to route q upto)) row.id ≡ ids_of (routed_to route q done)
       → IsLogged rows (log ++ b ∷ []) next done
@@ -110,7 +115,8 @@ module _ (route : Dispatching) (q : Place) where
         given = all_last (λ (c : Batch). IsGiven next c.idem) log b k.given is.given;
       }
 
-  goes_there : (row : Event) (x : Record) → route row ≡ Some (record { place = q; message = x }) → goes_to q (route row) ≡ true
+  goes_there : (row : Event) (x : Record) → route row ≡ Some (record { place = q; message = x })
+      → goes_to q (route row) ≡ true
   goes_there row x r = ap (goes_to q) r ∙ same_here q
 
   routed_last : (sent : List Event) (row : Event) (x : Record) → route row ≡ Some (record { place = q; message = x })
@@ -120,7 +126,8 @@ module _ (route : Dispatching) (q : Place) where
       ∙ map_push (λ y. y.id) (routed_to route q sent) row
 
   -- the first batch of a row
-  pub logged_first : (rows : List Event) (log : List Batch) (next : ℕ) (sent : List Event) (row : Event) (b : Batch) (x : Record)
+  pub logged_first : (rows : List Event) (log : List Batch) (next : ℕ) (sent : List Event) (row : Event) (b : Batch)
+      (x : Record)
       → IsLogged rows log next sent → Contains rows row → IsBatchOf route q row x next b
       → list_any (bytes_eq row.id) (ids_of sent) ≡ false
       → IsLogged rows (log ++ b ∷ []) next (sent ++ row ∷ [])
@@ -131,7 +138,8 @@ module _ (route : Dispatching) (q : Place) where
       ∙ sym (routed_last sent row x is.routed))
 
   -- a further batch of the last row
-  pub logged_again : (rows : List Event) (log : List Batch) (next : ℕ) (sent : List Event) (row : Event) (b : Batch) (x : Record)
+  pub logged_again : (rows : List Event) (log : List Batch) (next : ℕ) (sent : List Event) (row : Event) (b : Batch)
+      (x : Record)
       → IsLogged rows log next (sent ++ row ∷ []) → Contains rows row → IsBatchOf route q row x next b
       → IsLogged rows (log ++ b ∷ []) next (sent ++ row ∷ [])
   logged_again rows log next sent row b x k at is =

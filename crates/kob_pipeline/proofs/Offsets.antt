@@ -20,7 +20,8 @@ below_is_in (suc n) k h =
       | inl e ↦ any_last (nat_eq k) (numbers_below n) n (eq-eqb k n e)
       | inr ne ↦
           list_any-append (nat_eq k) (numbers_below n) (n ∷ [])
-          ∙ or_left (list_any (nat_eq k) (numbers_below n)) (list_any (nat_eq k) (n ∷ [])) (below_is_in n k (omega arith))
+          ∙ or_left (list_any (nat_eq k) (numbers_below n)) (list_any (nat_eq k) (n ∷ []))
+          (below_is_in n k (omega arith))
     ]
 
 beyond_is_out : (n k : ℕ) → n ≤ k → list_any (nat_eq k) (numbers_below n) ≡ false
@@ -48,7 +49,8 @@ pub record Reached (bound position : ℕ) (xs : List (ℕ × Record)) : Type 0 w
   pub within : behind position xs ≤ reach
   pub no_less : bound ≤ reach
 
-pub reached : (bound position : ℕ) (xs : List (ℕ × Record)) → position ≤ bound → AreConsecutive position xs → Reached bound position xs
+pub reached : (bound position : ℕ) (xs : List (ℕ × Record)) → position ≤ bound → AreConsecutive position xs
+    → Reached bound position xs
 reached bound position [] l c = record { reach = bound; offsets = refl; within = l; no_less = omega arith }
 reached bound position (x ∷ xs) l c =
     let offsets : List ℕ = map (λ (y : ℕ × Record). y.0) xs in
@@ -114,7 +116,8 @@ get_behind (x ∷ xs) ys i =
 abbrev pub Stands : List Record → ℕ × Record → Type 0
 Stands records x = slice_get records x.0 ≡ Some x.1
 
-stand_from : (records front rest : List Record) → records ≡ front ++ rest → AllByRecursion (Stands records) (enumerate_from (length front) rest)
+stand_from : (records front rest : List Record) → records ≡ front ++ rest
+    → AllByRecursion (Stands records) (enumerate_from (length front) rest)
 stand_from records front [] e = tt
 stand_from records front (x ∷ rest) e =
     let at : slice_get records (length front) ≡ Some x =
@@ -124,7 +127,8 @@ stand_from records front (x ∷ rest) e =
     let all = stand_from records (front ++ x ∷ []) rest (e ∙ sym (append_assoc front (x ∷ []) rest)) in
     (at, subst (λ (n : ℕ). AllByRecursion (Stands records) (enumerate_from n rest)) (length_push front x) all)
 
-all_stand : (records : List Record) (offset : ℕ) → AllByRecursion (Stands records) (enumerate_from offset (drop offset records))
+all_stand : (records : List Record) (offset : ℕ) → AllByRecursion (Stands records)
+    (enumerate_from offset (drop offset records))
 all_stand records offset =
     elim (cases_lt offset (length records)) [
       | inl lt ↦
@@ -137,12 +141,14 @@ all_stand records offset =
     ]
 
 -- the first of what a FETCH reads: consecutive from its offset on, and each stands at its offset
-pub read_in_order : (records : List Record) (offset max count : ℕ) → AreConsecutive offset (take count (read_from records offset max))
+pub read_in_order : (records : List Record) (offset max count : ℕ)
+    → AreConsecutive offset (take count (read_from records offset max))
 read_in_order records offset max count =
     consecutive_take count offset (read_from records offset max)
     (consecutive_from offset (take (min max fetch_limit) (drop offset records)))
 
-pub read_stands : (records : List Record) (offset max count : ℕ) → AllByRecursion (Stands records) (take count (read_from records offset max))
+pub read_stands : (records : List Record) (offset max count : ℕ)
+    → AllByRecursion (Stands records) (take count (read_from records offset max))
 read_stands records offset max count =
     all_take (Stands records) count (read_from records offset max)
     (all_numbered_take (Stands records) (min max fetch_limit) offset (drop offset records) (all_stand records offset))

@@ -12,7 +12,8 @@ use Rattle.kob_pipeline.proofs.Lists.{all_last, any_last, bytes_are, bytes_turne
 use Rattle.kob_pipeline.proofs.Logged.{each_new_append, new_put, old_left}
 
 -- only new elements are put behind
-pub each_new_more : {A : Type 0} (same : A → A → Bool) (xs ys : List A) → (rest : List A) × (with_each_new same xs ys ≡ xs ++ rest)
+pub each_new_more : {A : Type 0} (same : A → A → Bool) (xs ys : List A) → (rest : List A)
+    × (with_each_new same xs ys ≡ xs ++ rest)
 each_new_more same xs [] = ([], sym (append-nil xs))
 each_new_more same xs (y ∷ ys) =
     elim (cases_Bool (list_any (same y) xs)) [
@@ -22,13 +23,15 @@ each_new_more same xs (y ∷ ys) =
 
 -- no element is there twice
 
-all_apart : (xs : List (List ℕ)) (x : List ℕ) → list_any (bytes_eq x) xs ≡ false → AllByRecursion (λ y. bytes_eq y x ≡ false) xs
+all_apart : (xs : List (List ℕ)) (x : List ℕ) → list_any (bytes_eq x) xs ≡ false
+    → AllByRecursion (λ y. bytes_eq y x ≡ false) xs
 all_apart [] x h = tt
 all_apart (y ∷ xs) x h =
     let parts = or_parts (bytes_eq x y) (list_any (bytes_eq x) xs) h in
     (bytes_turned y x ∙ parts.0, all_apart xs x parts.1)
 
-distinct_last : (xs : List (List ℕ)) (x : List ℕ) → AllByRecursion (λ y. bytes_eq y x ≡ false) xs → IsDistinct bytes_eq xs
+distinct_last : (xs : List (List ℕ)) (x : List ℕ) → AllByRecursion (λ y. bytes_eq y x ≡ false) xs
+    → IsDistinct bytes_eq xs
     → IsDistinct bytes_eq (xs ++ x ∷ [])
 unfolding IsDistinct
 distinct_last [] x apart d = (tt, tt)
@@ -39,7 +42,8 @@ distinct_new : (xs : List (List ℕ)) (x : List ℕ) → IsDistinct bytes_eq xs 
 distinct_new xs x d =
     elim (cases_Bool (list_any (bytes_eq x) xs)) [
       | inl old ↦ subst (IsDistinct bytes_eq) (sym (old_left bytes_eq xs x old)) d
-      | inr new ↦ subst (IsDistinct bytes_eq) (sym (new_put bytes_eq xs x new)) (distinct_last xs x (all_apart xs x new) d)
+      | inr new ↦ subst (IsDistinct bytes_eq) (sym (new_put bytes_eq xs x new))
+          (distinct_last xs x (all_apart xs x new) d)
     ]
 
 distinct_each : (xs ys : List (List ℕ)) → IsDistinct bytes_eq xs → IsDistinct bytes_eq (with_each_new bytes_eq xs ys)
@@ -97,17 +101,21 @@ filter_each_new test xs (y ∷ ys) =
       | inl on ↦
           filter_each_new test (with_new bytes_eq xs y) ys
           ∙ ap (λ (zs : List (List ℕ)). with_each_new bytes_eq zs (filter test ys)) (filter_new test xs y on)
-          ∙ sym (ap (with_each_new bytes_eq (filter test xs)) (cond-true (test y) (y ∷ filter test ys) (filter test ys) on))
+          ∙ sym (ap (with_each_new bytes_eq (filter test xs))
+          (cond-true (test y) (y ∷ filter test ys) (filter test ys) on))
       | inr off ↦
           filter_each_new test (with_new bytes_eq xs y) ys
           ∙ ap (λ (zs : List (List ℕ)). with_each_new bytes_eq zs (filter test ys)) (filter_not_new test xs y off)
-          ∙ sym (ap (with_each_new bytes_eq (filter test xs)) (cond-false (test y) (y ∷ filter test ys) (filter test ys) off))
+          ∙ sym (ap (with_each_new bytes_eq (filter test xs))
+          (cond-false (test y) (y ∷ filter test ys) (filter test ys) off))
     ]
 
-pub filter_firsts : (test : List ℕ → Bool) (xs : List (List ℕ)) → filter test (firsts bytes_eq xs) ≡ firsts bytes_eq (filter test xs)
+pub filter_firsts : (test : List ℕ → Bool) (xs : List (List ℕ))
+    → filter test (firsts bytes_eq xs) ≡ firsts bytes_eq (filter test xs)
 filter_firsts test xs = filter_each_new test [] xs
 
-pub filter_map_turned : {A B : Type 0} (f : A → B) (test : B → Bool) (xs : List A) → filter test (map f xs) ≡ map f (filter (λ x. test (f x)) xs)
+pub filter_map_turned : {A B : Type 0} (f : A → B) (test : B → Bool) (xs : List A)
+    → filter test (map f xs) ≡ map f (filter (λ x. test (f x)) xs)
 filter_map_turned f test [] = refl
 filter_map_turned {A} {B} f test (x ∷ xs) =
     elim (cases_Bool (test (f x))) [
@@ -117,14 +125,16 @@ filter_map_turned {A} {B} f test (x ∷ xs) =
 
 -- beginnings
 
-pub prefix_filter : {A : Type 0} (test : A → Bool) (xs ys : List A) → IsPrefixOf xs ys → IsPrefixOf (filter test xs) (filter test ys)
+pub prefix_filter : {A : Type 0} (test : A → Bool) (xs ys : List A) → IsPrefixOf xs ys
+    → IsPrefixOf (filter test xs) (filter test ys)
 prefix_filter test xs ys p = (filter test p.0, sym (filter-append test xs p.0) ∙ ap (filter test) p.1)
 
 pub prefix_on : {A : Type 0} (xs ys zs : List A) → IsPrefixOf xs ys → IsPrefixOf ys zs → IsPrefixOf xs zs
 prefix_on xs ys zs p q = (p.0 ++ q.0, sym (append_assoc xs p.0 q.0) ∙ ap (λ ws. ws ++ q.0) p.1 ∙ q.1)
 
 -- the firsts of a front begin the firsts of all
-pub prefix_firsts : {A : Type 0} (same : A → A → Bool) (xs ys : List A) → IsPrefixOf (firsts same xs) (firsts same (xs ++ ys))
+pub prefix_firsts : {A : Type 0} (same : A → A → Bool) (xs ys : List A)
+    → IsPrefixOf (firsts same xs) (firsts same (xs ++ ys))
 prefix_firsts same xs ys =
     let m = each_new_more same (firsts same xs) ys in
     (m.0, sym (each_new_append same [] xs ys ∙ m.1))
@@ -142,7 +152,8 @@ get_number (suc m) i h =
     elim (cases_eq i m) [
       | inl e ↦ get_or_push (numbers_below m) m 0 i (length_numbers m ∙ sym e) ∙ sym e
       | inr ne ↦
-          get_or_append_left (numbers_below m) (m ∷ []) 0 i (omega (arith, length_numbers m)) ∙ get_number m i (omega arith)
+          get_or_append_left (numbers_below m) (m ∷ []) 0 i (omega (arith, length_numbers m))
+          ∙ get_number m i (omega arith)
     ]
 
 -- the number after n numbers
@@ -157,14 +168,16 @@ next_number n m k rest e =
     ∙ ap (λ (xs : List ℕ). get_or xs n 0) e
     ∙ get_number m n (omega arith)
 
-pub take_one_more : (records : List Record) (n : ℕ) (x : Record) → slice_get records n ≡ Some x → take (suc n) records ≡ take n records ++ x ∷ []
+pub take_one_more : (records : List Record) (n : ℕ) (x : Record) → slice_get records n ≡ Some x
+    → take (suc n) records ≡ take n records ++ x ∷ []
 take_one_more [] n x h = cc
 take_one_more (r ∷ rs) zero x h = let e : r ≡ x = cc in ap (λ (y : Record). y ∷ []) e
 take_one_more (r ∷ rs) (suc n) x h = ap (λ (ys : List Record). r ∷ ys) (take_one_more rs n x h)
 
 -- what is among the firsts
 
-any_behind : (id : List ℕ) (o : Option (List ℕ)) (xs : List (List ℕ)) → list_any (bytes_eq id) xs ≡ true → list_any (bytes_eq id) (cons_option o xs) ≡ true
+any_behind : (id : List ℕ) (o : Option (List ℕ)) (xs : List (List ℕ)) → list_any (bytes_eq id) xs ≡ true
+    → list_any (bytes_eq id) (cons_option o xs) ≡ true
 any_behind id None xs h = h
 any_behind id (Some y) xs h = or_right (bytes_eq id y) (list_any (bytes_eq id) xs) h
 
@@ -180,7 +193,8 @@ front_has told (r ∷ rs) (suc n) zero x id l at e =
 front_has told (r ∷ rs) (suc n) (suc k) x id l at e =
     any_behind id (told r) (filter_map told (take n rs)) (front_has told rs n k x id (omega arith) at e)
 
-any_new : (x : List ℕ) (xs : List (List ℕ)) (y : List ℕ) → list_any (bytes_eq x) xs ≡ true → list_any (bytes_eq x) (with_new bytes_eq xs y) ≡ true
+any_new : (x : List ℕ) (xs : List (List ℕ)) (y : List ℕ) → list_any (bytes_eq x) xs ≡ true
+    → list_any (bytes_eq x) (with_new bytes_eq xs y) ≡ true
 any_new x xs y h =
     elim (cases_Bool (list_any (bytes_eq y) xs)) [
       | inl old ↦ ap (list_any (bytes_eq x)) (old_left bytes_eq xs y old) ∙ h
@@ -197,17 +211,20 @@ is_there_then x xs =
       | inr new ↦ ap (list_any (bytes_eq x)) (new_put bytes_eq xs x new) ∙ any_last (bytes_eq x) xs x (same_bytes x)
     ]
 
-any_stays : (x : List ℕ) (xs ys : List (List ℕ)) → list_any (bytes_eq x) xs ≡ true → list_any (bytes_eq x) (with_each_new bytes_eq xs ys) ≡ true
+any_stays : (x : List ℕ) (xs ys : List (List ℕ)) → list_any (bytes_eq x) xs ≡ true
+    → list_any (bytes_eq x) (with_each_new bytes_eq xs ys) ≡ true
 any_stays x xs [] h = h
 any_stays x xs (y ∷ ys) h = any_stays x (with_new bytes_eq xs y) ys (any_new x xs y h)
 
 -- what is in a list is among its firsts
-pub any_first : (x : List ℕ) (xs ys : List (List ℕ)) → list_any (bytes_eq x) ys ≡ true → list_any (bytes_eq x) (with_each_new bytes_eq xs ys) ≡ true
+pub any_first : (x : List ℕ) (xs ys : List (List ℕ)) → list_any (bytes_eq x) ys ≡ true
+    → list_any (bytes_eq x) (with_each_new bytes_eq xs ys) ≡ true
 any_first x xs [] h = absurd (true≢false (sym h))
 any_first x xs (y ∷ ys) h =
     elim (or_cases (bytes_eq x y) (list_any (bytes_eq x) ys) h) [
       | inl e ↦
           any_stays x (with_new bytes_eq xs y) ys
-          (subst (λ (z : List ℕ). list_any (bytes_eq x) (with_new bytes_eq xs z) ≡ true) (bytes_are x y e) (is_there_then x xs))
+          (subst (λ (z : List ℕ). list_any (bytes_eq x) (with_new bytes_eq xs z) ≡ true) (bytes_are x y e)
+          (is_there_then x xs))
       | inr rest ↦ any_first x (with_new bytes_eq xs y) ys rest
     ]

@@ -47,14 +47,15 @@ in_hand_more route None wait row h = tt
 in_hand_more route (Some x) wait row h = (first_stays wait row x.event h.0, h.1)
 
 -- the batch in hand is in the log, and was not acknowledged yet
-pub record IsPending (ss : List Sequence) (hand : Option Hand) (q : Place) (count : ℕ) (ahead : Option Event) : Type 0 where
-  pub before : ℕ
-  pub one_more : count ≡ before + 1
-  pub base : sequence_of ss q ≡ wrapped before
-  pub held : Hand
-  pub in_hand : hand ≡ Some held
-  pub here_it_goes : held.place ≡ q
-  pub is_ahead : ahead ≡ Some held.event
+pub record IsPending (ss : List Sequence) (hand : Option Hand) (q : Place) (count : ℕ) (ahead : Option Event) : Type 0
+  where
+    pub before : ℕ
+    pub one_more : count ≡ before + 1
+    pub base : sequence_of ss q ≡ wrapped before
+    pub held : Hand
+    pub in_hand : hand ≡ Some held
+    pub here_it_goes : held.place ≡ q
+    pub is_ahead : ahead ≡ Some held.event
 
 -- the next sequence is the number of batches, or one is pending
 abbrev pub InStep : List Sequence → Option Hand → Place → ℕ → Option Event → Type 0
@@ -70,14 +71,16 @@ abbrev pub Known : Option Producer → List Sequence → Option Hand → Place �
 Known None ss hand q log next ahead = sequence_of ss q ≡ 0
 Known (Some p) ss hand q log next ahead = IsKnown p ss hand q log next ahead
 
-known_later : (o : Option Producer) (ss : List Sequence) (hand : Option Hand) (q : Place) (log : List Batch) (next later : ℕ)
+known_later : (o : Option Producer) (ss : List Sequence) (hand : Option Hand) (q : Place) (log : List Batch)
+    (next later : ℕ)
     (ahead : Option Event) → next ≤ later → Known o ss hand q log next ahead → Known o ss hand q log later ahead
 known_later None ss hand q log next later ahead l k = k
 known_later (Some p) ss hand q log next later ahead l k =
     record { below = omega (arith, k.below); counted = k.counted; in_step = k.in_step }
 
 -- with nothing in hand, nothing is pending
-in_step_taken : (ss : List Sequence) (old : Option Hand) (hand : Hand) (q : Place) (n : ℕ) (ahead : Option Event) → old ≡ None
+in_step_taken : (ss : List Sequence) (old : Option Hand) (hand : Hand) (q : Place) (n : ℕ) (ahead : Option Event)
+    → old ≡ None
     → InStep ss old q n ahead → InStep (prepared ss hand.place) (Some hand) q n ahead
 in_step_taken ss old hand q n ahead none h =
     elim h [
@@ -85,7 +88,8 @@ in_step_taken ss old hand q n ahead none h =
       | inr w ↦ let bad : Some w.held ≡ None = sym w.in_hand ∙ none in absurd cc
     ]
 
-known_taken : (o : Option Producer) (ss : List Sequence) (old : Option Hand) (hand : Hand) (q : Place) (log : List Batch)
+known_taken : (o : Option Producer) (ss : List Sequence) (old : Option Hand) (hand : Hand) (q : Place)
+    (log : List Batch)
     (next : ℕ) (ahead : Option Event) → old ≡ None → Known o ss old q log next ahead
     → Known o (prepared ss hand.place) (Some hand) q log next ahead
 known_taken None ss old hand q log next ahead none k = sequence_prepared ss hand.place q ∙ k
@@ -122,7 +126,8 @@ module _ (route : Dispatching) (q : Place) where
       }
 
   -- somebody was given a producer id
-  pub kept_later : (rows : List Event) (s : State) (log : List Batch) (next later : ℕ) → next ≤ later → Kept rows s log next
+  pub kept_later : (rows : List Event) (s : State) (log : List Batch) (next later : ℕ) → next ≤ later
+      → Kept rows s log next
       → Kept rows s log later
   kept_later rows s log next later l k =
       record {
@@ -136,13 +141,15 @@ module _ (route : Dispatching) (q : Place) where
         known = known_later s.producer s.sequences s.hand q log next later k.ahead l k.known;
       }
 
-  pub kept_after_record : (rows : List Event) (s : State) (log : List Batch) (next : ℕ) (change : Change) (event : OutboxEvent)
+  pub kept_after_record : (rows : List Event) (s : State) (log : List Batch) (next : ℕ) (change : Change)
+      (event : OutboxEvent)
       → TellsIds route → IsRecordable s.outbox change event → Kept rows s log next
       → Kept (rows ++ stored_event (next_seq s.outbox) event ∷ []) (after s (Recorded change event)) log next
   kept_after_record rows s log next change event tells may k =
       let row : Event = stored_event (next_seq s.outbox) event in
       let wait : List Event = here k.ahead ++ k.rest in
-      let e : here k.ahead ++ (k.rest ++ row ∷ []) ≡ wait ++ row ∷ [] = sym (append_assoc (here k.ahead) k.rest (row ∷ [])) in
+      let e : here k.ahead ++ (k.rest ++ row ∷ []) ≡ wait ++ row ∷ [] = sym
+      (append_assoc (here k.ahead) k.rest (row ∷ [])) in
       record {
         sent = k.sent;
         ahead = k.ahead;
@@ -183,7 +190,8 @@ module _ (route : Dispatching) (q : Place) where
         known = refl;
       }
 
-  pub kept_after_take : (rows : List Event) (s : State) (log : List Batch) (next : ℕ) (hand : Hand) → May route s (Took hand)
+  pub kept_after_take : (rows : List Event) (s : State) (log : List Batch) (next : ℕ) (hand : Hand)
+      → May route s (Took hand)
       → Kept rows s log next → Kept rows (after s (Took hand)) log next
   kept_after_take rows s log next hand may k =
       record {
@@ -198,9 +206,15 @@ module _ (route : Dispatching) (q : Place) where
       }
 
   -- the producer is given an id
-  pub kept_after_id : (rows : List Event) (c : Contents) (ss : List Sequence) (hand : Option Hand) (log : List Batch) (next : ℕ)
+  pub kept_after_id : (rows : List Event) (c : Contents) (ss : List Sequence) (hand : Option Hand) (log : List Batch)
+      (next : ℕ)
       → Kept rows (record { outbox = c; producer = None; sequences = ss; hand = hand }) log next
-      → Kept rows (record { outbox = c; producer = Some (record { id = next; epoch = 0 }); sequences = ss; hand = hand }) log (next + 1)
+      → Kept rows (record {
+        outbox = c;
+        producer = Some (record { id = next; epoch = 0 });
+        sequences = ss;
+        hand = hand;
+      }) log (next + 1)
   kept_after_id rows c ss hand log next k =
       let p : Producer = record { id = next; epoch = 0 } in
       let none : history next log ≡ [] = no_history next next (omega arith) log k.logged.given in

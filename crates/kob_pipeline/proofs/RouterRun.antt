@@ -37,7 +37,8 @@ same_events [] c d e = refl
 same_events (Recorded change event ∷ moves) c d e =
     ap (λ (ids : List (List ℕ)). stored_event (suc (length ids)) event ∷ events_of (recorded c change event) moves) e
     ∙ ap (λ (es : List Event). stored_event (next_seq d) event ∷ es)
-    (same_events moves (recorded c change event) (recorded d change event) (ap (λ (ids : List (List ℕ)). ids ++ id_text event.id ∷ []) e))
+    (same_events moves (recorded c change event) (recorded d change event)
+    (ap (λ (ids : List (List ℕ)). ids ++ id_text event.id ∷ []) e))
 same_events (_ ∷ moves) c d e = same_events moves c d e
 
 advanced_ids : (s : State) (o : Option Hand) → (advanced s o).outbox.ids ≡ s.outbox.ids
@@ -49,12 +50,14 @@ called_ids s call true = advanced_ids s s.hand
 called_ids s call false = refl
 
 -- all rows, where a move records none
-pub none_recorded : (all rows : List Event) (moves : List Move) (c d : Contents) → c.ids ≡ d.ids → rows ++ events_of d moves ≡ all
+pub none_recorded : (all rows : List Event) (moves : List Move) (c d : Contents) → c.ids ≡ d.ids
+    → rows ++ events_of d moves ≡ all
     → rows ++ events_of c moves ≡ all
 none_recorded all rows moves c d same e = ap (λ (es : List Event). rows ++ es) (same_events moves c d same) ∙ e
 
 -- all rows, where a move records one
-pub one_recorded : (all rows more : List Event) (row : Event) → rows ++ row ∷ more ≡ all → (rows ++ row ∷ []) ++ more ≡ all
+pub one_recorded : (all rows more : List Event) (row : Event) → rows ++ row ∷ more ≡ all
+    → (rows ++ row ∷ []) ++ more ≡ all
 one_recorded all rows more row e = append_assoc rows (row ∷ []) more ∙ e
 
 -- what a step of somebody else leaves of a partition
@@ -62,7 +65,8 @@ pub record Leaves (q : Place) (v w : View) : Type 0 where
   pub log : w.log q ≡ v.log q
   pub later : v.next_producer ≤ w.next_producer
 
-leaves_as : (q : Place) (v x w : View) → IsSameView w x → x.log q ≡ v.log q → v.next_producer ≤ x.next_producer → Leaves q v w
+leaves_as : (q : Place) (v x w : View) → IsSameView w x → x.log q ≡ v.log q → v.next_producer ≤ x.next_producer
+    → Leaves q v w
 leaves_as q v x w same log later =
     record { log = same.log q ∙ log; later = let n = same.next_producer in omega arith }
 
@@ -77,7 +81,8 @@ leaves_accepted q v w place b Next other a =
       | inl e ↦ absurd (other (ap (λ (x : Place). x.topic) (places_are place q e)))
       | inr e ↦ e
     ] in
-    leaves_as q v (with_batch v place b) w a (cond-false (same_place place q) (v.log q ++ b ∷ []) (v.log q) apart) (omega arith)
+    leaves_as q v (with_batch v place b) w a (cond-false (same_place place q) (v.log q ++ b ∷ []) (v.log q) apart)
+    (omega arith)
 leaves_accepted q v w place b (Repeat offset) other a = leaves_all q v w a
 leaves_accepted q v w place b OutOfOrder other a = absurd a
 leaves_accepted q v w place b OldEpoch other a = absurd a
@@ -120,7 +125,8 @@ module _ (route : Dispatching) (q : Place) (tells : TellsIds route) where
     rows_are : now ++ events_of state.outbox left ≡ all
     keeps : (w : View) → Step v e.request e.reply w → KeptIn route q now state w
 
-  led : (all : List Event) (v : View) (final : State) (e : Served) (es : List Served) (moves : List Move) (rows : List Event) (s : State)
+  led : (all : List Event) (v : View) (final : State) (e : Served) (es : List Served) (moves : List Move)
+      (rows : List Event) (s : State)
       → rows ++ events_of s.outbox moves ≡ all → IsRouterRun route s moves final → AreServed (calls_of moves) (e ∷ es)
       → KeptIn route q rows s v → Led all v final e es
   led all v final e es [] rows s are run served k = absurd served
@@ -130,10 +136,12 @@ module _ (route : Dispatching) (q : Place) (tells : TellsIds route) where
       (one_recorded all rows (events_of (recorded s.outbox change event) ms) row are) run.1 served
       (kept_after_record route q rows s (v.log q) v.next_producer change event tells run.0 k)
   led all v final e es (Swept ∷ ms) rows s are run served k =
-      led all v final e es ms rows (after s Swept) (none_recorded all rows ms (after s Swept).outbox s.outbox refl are) run.1 served
+      led all v final e es ms rows (after s Swept) (none_recorded all rows ms (after s Swept).outbox s.outbox refl are)
+      run.1 served
       (kept_after_sweep route q rows s (v.log q) v.next_producer k)
   led all v final e es (Restarted ∷ ms) rows s are run served k =
-      led all v final e es ms rows (after s Restarted) are run.1 served (kept_after_restart route q rows s (v.log q) v.next_producer k)
+      led all v final e es ms rows (after s Restarted) are run.1 served
+      (kept_after_restart route q rows s (v.log q) v.next_producer k)
   led all v final e es (Took hand ∷ ms) rows s are run served k =
       led all v final e es ms rows (after s (Took hand)) are run.1 served
       (kept_after_take route q rows s (v.log q) v.next_producer hand run.0 k)
@@ -167,10 +175,12 @@ module _ (route : Dispatching) (q : Place) (tells : TellsIds route) where
       (one_recorded all rows (events_of (recorded s.outbox change event) ms) row are) run.1 served
       (kept_after_record route q rows s (v.log q) v.next_producer change event tells run.0 k)
   to_the_end all v final (Swept ∷ ms) rows s are run served k =
-      to_the_end all v final ms rows (after s Swept) (none_recorded all rows ms (after s Swept).outbox s.outbox refl are) run.1 served
+      to_the_end all v final ms rows (after s Swept) (none_recorded all rows ms (after s Swept).outbox s.outbox refl
+      are) run.1 served
       (kept_after_sweep route q rows s (v.log q) v.next_producer k)
   to_the_end all v final (Restarted ∷ ms) rows s are run served k =
-      to_the_end all v final ms rows (after s Restarted) are run.1 served (kept_after_restart route q rows s (v.log q) v.next_producer k)
+      to_the_end all v final ms rows (after s Restarted) are run.1 served
+      (kept_after_restart route q rows s (v.log q) v.next_producer k)
   to_the_end all v final (Took hand ∷ ms) rows s are run served k =
       to_the_end all v final ms rows (after s (Took hand)) are run.1 served
       (kept_after_take route q rows s (v.log q) v.next_producer hand run.0 k)
@@ -179,39 +189,48 @@ module _ (route : Dispatching) (q : Place) (tells : TellsIds route) where
       (none_recorded all rows ms (after s (Called c marks)).outbox s.outbox (called_ids s c marks) are) run.1 served
       (kept_after_no_answer route q rows s v c.request c.heard marks run.0 (heard_none c.heard none) k)
 
-  kept_after_other : (rows : List Event) (s : State) (v w : View) → Leaves q v w → KeptIn route q rows s v → KeptIn route q rows s w
+  kept_after_other : (rows : List Event) (s : State) (v w : View) → Leaves q v w → KeptIn route q rows s v
+      → KeptIn route q rows s w
   kept_after_other rows s v w l k =
       subst (λ (log : List Batch). Kept route q rows s log w.next_producer) (sym l.log)
       (kept_later route q rows s (v.log q) v.next_producer w.next_producer l.later k)
 
-  whole_run : (worker : ℕ) (all : List Event) (end : View) (final : State) (journal : List Entry) (v : View) (moves : List Move)
+  whole_run : (worker : ℕ) (all : List Event) (end : View) (final : State) (journal : List Entry) (v : View)
+      (moves : List Move)
       (rows : List Event) (s : State)
       → rows ++ events_of s.outbox moves ≡ all → IsHistory v journal end → IsRouterRun route s moves final
-      → AreServed (calls_of moves) (served_to worker journal) → IsSoleProducer worker q.topic journal → IsNeverDeleted q.topic journal
+      → AreServed (calls_of moves) (served_to worker journal) → IsSoleProducer worker q.topic journal
+      → IsNeverDeleted q.topic journal
       → KeptIn route q rows s v → KeptIn route q all final end
   whole_run worker all end final [] v moves rows s are history run served sole never k =
-      to_the_end all end final moves rows s are run served (shown (λ log next. Kept route q rows s log next) q v end history k)
+      to_the_end all end final moves rows s are run served
+      (shown (λ log next. Kept route q rows s log next) q v end history k)
   whole_run worker all end final (e ∷ journal) v moves rows s are (mid, step, history) run served sole never k =
       elim (cases_Bool (e.worker == worker)) [
         | inl own ↦
             let own_served : AreServed (calls_of moves) (served_in e ∷ served_to worker journal) =
             subst (AreServed (calls_of moves))
-            (cond-true (e.worker == worker) (served_in e ∷ served_to worker journal) (served_to worker journal) own) served in
+            (cond-true (e.worker == worker) (served_in e ∷ served_to worker journal) (served_to worker journal) own)
+            served in
             let l = led all v final (served_in e) (served_to worker journal) moves rows s are run own_served k in
-            whole_run worker all end final journal mid l.left l.now l.state l.rows_are history l.run l.rest_served sole.1 never.1
+            whole_run worker all end final journal mid l.left l.now l.state l.rows_are history l.run l.rest_served
+            sole.1 never.1
             (l.keeps mid step)
         | inr other ↦
             let differs = eqb-false e.worker worker other in
-            let leaves : Leaves q v mid = other_step q v mid e.event.request e.reply (λ p. differs (sole.0 p)) never.0 step in
+            let leaves : Leaves q v mid = other_step q v mid e.event.request e.reply (λ p. differs (sole.0 p)) never.0
+            step in
             let rest_served : AreServed (calls_of moves) (served_to worker journal) =
             subst (AreServed (calls_of moves))
-            (cond-false (e.worker == worker) (served_in e ∷ served_to worker journal) (served_to worker journal) other) served in
+            (cond-false (e.worker == worker) (served_in e ∷ served_to worker journal) (served_to worker journal) other)
+            served in
             whole_run worker all end final journal mid moves rows s are history run rest_served sole.1 never.1
             (kept_after_other rows s v mid leaves k)
       ]
 
   -- what is kept says what was delivered
-  delivered : (rows : List Event) (s : State) (v : View) → KeptIn route q rows s v → IsDelivered route q rows (records_of (v.log q))
+  delivered : (rows : List Event) (s : State) (v : View) → KeptIn route q rows s v
+      → IsDelivered route q rows (records_of (v.log q))
   delivered rows s v k =
       let front : List Event = k.sent ++ here k.ahead in
       let all : front ++ k.rest ≡ rows = append_assoc k.sent (here k.ahead) k.rest ∙ sym k.kept.rows_are in
@@ -228,9 +247,11 @@ module _ (route : Dispatching) (q : Place) (tells : TellsIds route) where
 
   pub is_delivered : (journal : List Entry) (worker : ℕ) (end : View) (moves : List Move) (final : State)
       → IsHistory opening_view journal end → IsRouterRun route start moves final
-      → AreServed (calls_of moves) (served_to worker journal) → IsSoleProducer worker q.topic journal → IsNeverDeleted q.topic journal
+      → AreServed (calls_of moves) (served_to worker journal) → IsSoleProducer worker q.topic journal
+      → IsNeverDeleted q.topic journal
       → IsDelivered route q (events_of start.outbox moves) (records_of (end.log q))
   is_delivered journal worker end moves final history run served sole never =
       delivered (events_of start.outbox moves) final end
-      (whole_run worker (events_of start.outbox moves) end final journal opening_view moves [] start refl history run served sole never
+      (whole_run worker (events_of start.outbox moves) end final journal opening_view moves [] start refl history run
+      served sole never
       (kept_first route q))

@@ -65,7 +65,8 @@ not_both (Some (Denied code verdicts)) n d = d
 not_both (Some (Refused code reason)) n d = d
 not_both (Some (Done body)) n d = n
 
-given_by_produce : (old : Option Producer) (asked : ProduceRequest) (heard : Option Reply) → given old (Produce asked) heard ≡ old
+given_by_produce : (old : Option Producer) (asked : ProduceRequest) (heard : Option Reply)
+    → given old (Produce asked) heard ≡ old
 given_by_produce old asked None = refl
 given_by_produce old asked (Some (Denied code verdicts)) = refl
 given_by_produce old asked (Some (Refused code reason)) = refl
@@ -81,7 +82,8 @@ given_unheard old (Some (Done body)) n = absurd n
 abbrev holding_id : State → Option Producer → State
 holding_id s o = record { outbox = s.outbox; producer = o; sequences = s.sequences; hand = s.hand }
 
-is_holding : (s : State) (p : Producer) (h : Hand) → s.producer ≡ Some p → s.hand ≡ Some h → s ≡ holding s.outbox p s.sequences h
+is_holding : (s : State) (p : Producer) (h : Hand) → s.producer ≡ Some p → s.hand ≡ Some h
+    → s ≡ holding s.outbox p s.sequences h
 is_holding s p h e f =
     ap (λ (o : Option Producer). holding_id s o) e
     ∙ ap (λ (o : Option Hand). record { outbox = s.outbox; producer = Some p; sequences = s.sequences; hand = o }) f
@@ -98,7 +100,8 @@ module _ (route : Dispatching) where
   abbrev ServedIn : Place → List Event → Contents → Producer → List Sequence → Hand → View → Type 0
   ServedIn q rows c p ss h v = IsServed route q rows c p ss h (v.log q) v.next_producer
 
-  accepted_there : (rows : List Event) (c : Contents) (p : Producer) (ss : List Sequence) (h : Hand) (v w : View) (x : Record)
+  accepted_there : (rows : List Event) (c : Contents) (p : Producer) (ss : List Sequence) (h : Hand) (v w : View)
+      (x : Record)
       (j : Judgement) → KeptIn h.place rows (holding c p ss h) v
       → route h.event ≡ Some (record { place = h.place; message = x })
       → judge (history p.id (v.log h.place)) (idem_of p (sequence_of ss h.place)) 1 ≡ j
@@ -117,7 +120,8 @@ module _ (route : Dispatching) where
   accepted_there rows c p ss h v w x OutOfOrder k to judged a = absurd a
   accepted_there rows c p ss h v w x OldEpoch k to judged a = absurd a
 
-  accepted_elsewhere : (q : Place) (rows : List Event) (c : Contents) (p : Producer) (ss : List Sequence) (h : Hand) (v w : View)
+  accepted_elsewhere : (q : Place) (rows : List Event) (c : Contents) (p : Producer) (ss : List Sequence) (h : Hand)
+      (v w : View)
       (b : Batch) (j : Judgement) → KeptIn q rows (holding c p ss h) v → same_place h.place q ≡ false
       → Accepts j v h.place b w → ServedIn q rows c p ss h w
   accepted_elsewhere q rows c p ss h v w b Next k apart a =
@@ -130,30 +134,36 @@ module _ (route : Dispatching) where
   accepted_elsewhere q rows c p ss h v w b OutOfOrder k apart a = absurd a
   accepted_elsewhere q rows c p ss h v w b OldEpoch k apart a = absurd a
 
-  accepted : (q : Place) (rows : List Event) (c : Contents) (p : Producer) (ss : List Sequence) (h : Hand) (v w : View) (x : Record)
+  accepted : (q : Place) (rows : List Event) (c : Contents) (p : Producer) (ss : List Sequence) (h : Hand) (v w : View)
+      (x : Record)
       → KeptIn q rows (holding c p ss h) v → route h.event ≡ Some (record { place = h.place; message = x })
-      → Accepts (judge (history p.id (v.log h.place)) (idem_of p (sequence_of ss h.place)) 1) v h.place (batch_in_hand p ss h x) w
+      → Accepts (judge (history p.id (v.log h.place)) (idem_of p (sequence_of ss h.place)) 1) v h.place
+      (batch_in_hand p ss h x) w
       → ServedIn q rows c p ss h w
   accepted q rows c p ss h v w x k to a =
       let j : Judgement = judge (history p.id (v.log h.place)) (idem_of p (sequence_of ss h.place)) 1 in
       elim (place_cases h.place q) [
         | inl e ↦
             subst (λ (y : Place). ServedIn y rows c p ss h w) e
-            (accepted_there rows c p ss h v w x j (subst (λ (y : Place). KeptIn y rows (holding c p ss h) v) (sym e) k) to refl a)
+            (accepted_there rows c p ss h v w x j (subst (λ (y : Place). KeptIn y rows (holding c p ss h) v) (sym e) k)
+            to refl a)
         | inr apart ↦ accepted_elsewhere q rows c p ss h v w (batch_in_hand p ss h x) j k apart a
       ]
 
 module _ (route : Dispatching) (q : Place) where
-  same_producer : (rows : List Event) (s : State) (v : View) (o : Option Producer) → o ≡ s.producer → KeptIn route q rows s v
+  same_producer : (rows : List Event) (s : State) (v : View) (o : Option Producer) → o ≡ s.producer
+      → KeptIn route q rows s v
       → KeptIn route q rows (holding_id s o) v
   same_producer rows s v o e k = subst (λ (y : Option Producer). KeptIn route q rows (holding_id s y) v) (sym e) k
 
   -- what is in hand was sent, and that this is done was heard, or was not
-  produced : (rows : List Event) (s : State) (v w : View) (asked : ProduceRequest) (body : Body) (heard : Option Reply) (marks : Bool)
+  produced : (rows : List Event) (s : State) (v w : View) (asked : ProduceRequest) (body : Body) (heard : Option Reply)
+      (marks : Bool)
       → KeptIn route q rows s v → IsSending route s asked → Does v (Produce asked) body w
       → KeptIn route q rows (after s (Called (record { request = Produce asked; heard = heard }) marks)) w
   produced rows s v w asked body heard marks k i d =
-      subst (λ (y : State). KeptIn route q rows (after y (Called (record { request = Produce asked; heard = heard }) marks)) w) (sym same)
+      subst (λ (y : State). KeptIn route q rows (after y
+      (Called (record { request = Produce asked; heard = heard }) marks)) w) (sym same)
       (marked_or_not marks done)
     where
       same : s ≡ holding s.outbox i.producer s.sequences i.hand
@@ -164,28 +174,38 @@ module _ (route : Dispatching) (q : Place) where
           ap (λ (t : List ℕ). place_at t asked.partition) i.same_topic
           ∙ ap (λ (n : ℕ). place_at i.hand.place.topic n) i.same_partition
 
-      at_place : Accepts (judged_in (v.log i.hand.place) asked.batch.idem (length asked.batch.records)) v i.hand.place asked.batch w
+      at_place : Accepts (judged_in (v.log i.hand.place) asked.batch.idem (length asked.batch.records)) v i.hand.place
+          asked.batch w
       at_place =
-          subst (λ (y : Place). Accepts (judged_in (v.log y) asked.batch.idem (length asked.batch.records)) v y asked.batch w) to d.1
+          subst (λ (y : Place). Accepts (judged_in (v.log y) asked.batch.idem (length asked.batch.records)) v y
+          asked.batch w) to d.1
 
-      accepts : Accepts (judge (history i.producer.id (v.log i.hand.place)) (idem_of i.producer (sequence_of s.sequences i.hand.place)) 1) v i.hand.place (batch_in_hand i.producer s.sequences i.hand i.message) w
+      accepts : Accepts (judge (history i.producer.id (v.log i.hand.place))
+          (idem_of i.producer (sequence_of s.sequences i.hand.place)) 1) v i.hand.place
+          (batch_in_hand i.producer s.sequences i.hand i.message) w
       accepts =
-          subst (λ (b : Batch). Accepts (judged_in (v.log i.hand.place) b.idem (length b.records)) v i.hand.place b w) i.same_batch at_place
+          subst (λ (b : Batch). Accepts (judged_in (v.log i.hand.place) b.idem (length b.records)) v i.hand.place b w)
+          i.same_batch at_place
 
       done : IsServed route q rows s.outbox i.producer s.sequences i.hand (w.log q) w.next_producer
       done =
           accepted route q rows s.outbox i.producer s.sequences i.hand v w i.message
           (subst (λ (y : State). KeptIn route q rows y v) same k) i.routed accepts
 
-      marked_or_not : (m : Bool) → IsServed route q rows s.outbox i.producer s.sequences i.hand (w.log q) w.next_producer
-          → KeptIn route q rows (after (holding s.outbox i.producer s.sequences i.hand) (Called (record { request = Produce asked; heard = heard }) m)) w
-      marked_or_not true x = kept_after_mark route q rows s.outbox i.producer s.sequences i.hand (w.log q) w.next_producer x.0 x.1
+      marked_or_not : (m : Bool) → IsServed route q rows s.outbox i.producer s.sequences i.hand (w.log q)
+          w.next_producer
+          → KeptIn route q rows (after (holding s.outbox i.producer s.sequences i.hand)
+          (Called (record { request = Produce asked; heard = heard }) m)) w
+      marked_or_not true x = kept_after_mark route q rows s.outbox i.producer s.sequences i.hand (w.log q)
+          w.next_producer x.0 x.1
       marked_or_not false x =
-          same_producer rows (holding s.outbox i.producer s.sequences i.hand) w (given (Some i.producer) (Produce asked) heard)
+          same_producer rows (holding s.outbox i.producer s.sequences i.hand) w
+          (given (Some i.producer) (Produce asked) heard)
           (given_by_produce (Some i.producer) asked heard) x.0
 
   -- a call that was not answered with Done changes nothing
-  pub kept_after_no_answer : (rows : List Event) (s : State) (v : View) (request : Request) (heard : Option Reply) (marks : Bool)
+  pub kept_after_no_answer : (rows : List Event) (s : State) (v : View) (request : Request) (heard : Option Reply)
+      (marks : Bool)
       → MayCall route s request heard marks → NotDone heard → KeptIn route q rows s v
       → KeptIn route q rows (after s (Called (record { request = request; heard = heard }) marks)) v
   kept_after_no_answer rows s v InitProducerId heard true may n k = absurd (true≢false may.1)
@@ -201,29 +221,35 @@ module _ (route : Dispatching) (q : Place) where
       → s.producer ≡ None → body ≡ bodies.Producer v.next_producer 0 → Hears heard (Done body) → KeptIn route q rows s v
       → KeptIn route q rows (holding_id s (given s.producer InitProducerId heard)) (with_producer v)
   given_id rows s v body heard none is (inl e) k =
-      same_producer rows s (with_producer v) (given s.producer InitProducerId heard) (given_unheard s.producer heard (heard_none heard e))
+      same_producer rows s (with_producer v) (given s.producer InitProducerId heard)
+      (given_unheard s.producer heard (heard_none heard e))
       (kept_later route q rows s (v.log q) v.next_producer (v.next_producer + 1) (omega arith) k)
   given_id rows s v body heard none is (inr e) k =
       let p : Producer = record { id = v.next_producer; epoch = 0 } in
       let known : given s.producer InitProducerId heard ≡ Some p =
       ap (given s.producer InitProducerId) e ∙ ap (λ (b : Body). given s.producer InitProducerId (Some (Done b))) is in
-      let k' : KeptIn route q rows (holding_id s None) v = subst (λ (o : Option Producer). KeptIn route q rows (holding_id s o) v) none k in
+      let k' : KeptIn route q rows (holding_id s None) v = subst
+      (λ (o : Option Producer). KeptIn route q rows (holding_id s o) v) none k in
       subst (λ (o : Option Producer). KeptIn route q rows (holding_id s o) (with_producer v)) (sym known)
       (kept_after_id route q rows s.outbox s.sequences s.hand (v.log q) v.next_producer k')
 
   -- a call that was served, whatever was heard
-  pub kept_after_served : (rows : List Event) (s : State) (v w : View) (request : Request) (reply : Reply) (heard : Option Reply) (marks : Bool)
+  pub kept_after_served : (rows : List Event) (s : State) (v w : View) (request : Request) (reply : Reply)
+      (heard : Option Reply) (marks : Bool)
       → MayCall route s request heard marks → Hears heard reply → Step v request reply w → KeptIn route q rows s v
       → KeptIn route q rows (after s (Called (record { request = request; heard = heard }) marks)) w
   kept_after_served rows s v w request (Denied code verdicts) heard marks may hears step k =
-      shown (λ log next. Kept route q rows (after s (Called (record { request = request; heard = heard }) marks)) log next) q v w step
+      shown (λ log next. Kept route q rows (after s (Called (record { request = request; heard = heard }) marks)) log
+      next) q v w step
       (kept_after_no_answer rows s v request heard marks may (heard_no_done heard (Denied code verdicts) tt hears) k)
   kept_after_served rows s v w request (Refused code reason) heard marks may hears step k =
-      shown (λ log next. Kept route q rows (after s (Called (record { request = request; heard = heard }) marks)) log next) q v w step
+      shown (λ log next. Kept route q rows (after s (Called (record { request = request; heard = heard }) marks)) log
+      next) q v w step
       (kept_after_no_answer rows s v request heard marks may (heard_no_done heard (Refused code reason) tt hears) k)
   kept_after_served rows s v w InitProducerId (Done body) heard true may hears step k = absurd (true≢false may.1)
   kept_after_served rows s v w InitProducerId (Done body) heard false may hears step k =
-      shown (λ log next. Kept route q rows (holding_id s (given s.producer InitProducerId heard)) log next) q (with_producer v) w step.1
+      shown (λ log next. Kept route q rows (holding_id s (given s.producer InitProducerId heard)) log next) q
+      (with_producer v) w step.1
       (given_id rows s v body heard may.0 step.0 hears k)
   kept_after_served rows s v w (Produce asked) (Done body) heard marks may hears step k =
       produced rows s v w asked body heard marks k may.0 step

@@ -38,11 +38,13 @@ IsReady ss h q count ahead = (same_place h.place q ≡ false) ⊎ IsPending ss (
 apart_back : (p q : Place) → same_place p q ≡ false → same_place q p ≡ false
 apart_back p q h =
     elim (cases_Bool (same_place q p)) [
-      | inl e ↦ absurd (both_ways (same_place p q) h (ap (λ (x : Place). same_place p x) (places_are q p e) ∙ same_here p))
+      | inl e ↦ absurd (both_ways (same_place p q) h (ap (λ (x : Place). same_place p x) (places_are q p e)
+          ∙ same_here p))
       | inr e ↦ e
     ]
 
-goes_elsewhere : (o : Option Dispatch) (p q : Place) → place_of o ≡ Some p → same_place p q ≡ false → goes_to q o ≡ false
+goes_elsewhere : (o : Option Dispatch) (p q : Place) → place_of o ≡ Some p → same_place p q ≡ false
+    → goes_to q o ≡ false
 goes_elsewhere None p q e h = cc
 goes_elsewhere (Some d) p q e h =
     let same : d.place ≡ p = cc in
@@ -79,7 +81,8 @@ module _ (route : Dispatching) (q : Place) where
       (ahead : Option Event) (rest : List Event)
       → IsKept rows c sent (here ahead ++ rest) → slice_get (here ahead ++ rest) 0 ≡ Some r
       → IsLogged route q rows log next (sent ++ here ahead) → (goes_to q (route r) ≡ false) ⊎ (ahead ≡ Some r)
-      → (tail : List Event) × IsKept rows (record c { mark = r.seq }) (sent ++ r ∷ []) tail × IsLogged route q rows log next (sent ++ r ∷ [])
+      → (tail : List Event) × IsKept rows (record c { mark = r.seq }) (sent ++ r ∷ []) tail
+      × IsLogged route q rows log next (sent ++ r ∷ [])
   sent_one rows c log next r sent None rest k f l w =
       let at = first_is rest r f in
       let logged : IsLogged route q rows log next sent = subst (IsLogged route q rows log next) (append-nil sent) l in (
@@ -90,14 +93,22 @@ module _ (route : Dispatching) (q : Place) where
   sent_one rows c log next r sent (Some x) rest k f l w =
       let e : x ≡ r = same_some x r f in (
         rest,
-        subst (λ (y : Event). IsKept rows (record c { mark = y.seq }) (sent ++ y ∷ []) rest) e (kept_marked rows c sent rest x k),
+        subst (λ (y : Event). IsKept rows (record c { mark = y.seq }) (sent ++ y ∷ []) rest) e
+            (kept_marked rows c sent rest x k),
         subst (λ (y : Event). IsLogged route q rows log next (sent ++ y ∷ [])) e l,
       )
 
   -- the mark moves to the row in hand
-  pub kept_after_mark : (rows : List Event) (c : Contents) (p : Producer) (ss : List Sequence) (h : Hand) (log : List Batch) (next : ℕ)
+  pub kept_after_mark : (rows : List Event) (c : Contents) (p : Producer) (ss : List Sequence) (h : Hand)
+      (log : List Batch) (next : ℕ)
       (k : Kept route q rows (holding c p ss h) log next) → IsReady ss h q (length (history p.id log)) k.ahead
-      → Kept route q rows (record { outbox = record c { mark = h.event.seq }; producer = Some p; sequences = used ss h.place; hand = None }) log next
+      → Kept route q rows (record {
+        outbox = record c { mark = h.event.seq };
+        producer = Some p;
+        sequences = used ss
+            h.place;
+        hand = None;
+      }) log next
   kept_after_mark rows c p ss h log next k ready =
       let why : (goes_to q (route h.event) ≡ false) ⊎ (k.ahead ≡ Some h.event) =
       sent_why route ss h q (length (history p.id log)) k.ahead k.holds.1 ready in
@@ -125,7 +136,8 @@ module _ (route : Dispatching) (q : Place) where
   log_more rows c log next r x b sent None rest tail k w l at is =
       let new : list_any (bytes_eq r.id) (ids_of sent) ≡ false =
       first_is_new rows c sent tail r (subst (IsKept rows c sent) w k) in
-      logged_first route q rows log next sent r b x (subst (IsLogged route q rows log next) (append-nil sent) l) at is new
+      logged_first route q rows log next sent r b x (subst (IsLogged route q rows log next) (append-nil sent) l) at is
+      new
   log_more rows c log next r x b sent (Some y) rest tail k w l at is =
       let e : y ≡ r = cc in
       logged_again route q rows log next sent r b x
@@ -137,7 +149,8 @@ module _ (route : Dispatching) (q : Place) where
       (k : Kept route q rows (holding c p ss h) log next) × IsReady ss h q (length (history p.id log)) k.ahead
 
 -- a new batch of the row in hand
-pub kept_after_batch : (route : Dispatching) (rows : List Event) (c : Contents) (p : Producer) (ss : List Sequence) (h : Hand)
+pub kept_after_batch : (route : Dispatching) (rows : List Event) (c : Contents) (p : Producer) (ss : List Sequence)
+    (h : Hand)
     (log : List Batch) (next : ℕ) (x : Record)
     → Kept route h.place rows (holding c p ss h) log next
     → route h.event ≡ Some (record { place = h.place; message = x })
@@ -160,9 +173,11 @@ kept_after_batch route rows c p ss h log next x k to comes =
     let tells : TellsItsId route h.event =
     All-contains (TellsItsId route) rows h.event (All-from_recursion (TellsItsId route) rows k.tells) has in
     let is : IsBatchOf route q h.event x next b =
-    record { tells = tells (record { place = q; message = x }) to; routed = to; single = refl; given = k.known.below } in
+    record { tells = tells (record { place = q; message = x }) to; routed = to; single = refl; given = k.known.below }
+    in
     let pending : IsPending ss (Some h) q (length (history p.id (log ++ b ∷ []))) (Some h.event) =
-    record { before = n; one_more = count; base = base; held = h; in_hand = refl; here_it_goes = refl; is_ahead = refl } in (
+    record { before = n; one_more = count; base = base; held = h; in_hand = refl; here_it_goes = refl; is_ahead = refl }
+    in (
       record {
         sent = k.sent;
         ahead = Some h.event;
@@ -181,7 +196,8 @@ kept_after_batch route rows c p ss h log next x k to comes =
     )
 
 -- a repeat stands in the log
-pub repeat_is_pending : (route : Dispatching) (rows : List Event) (c : Contents) (p : Producer) (ss : List Sequence) (h : Hand)
+pub repeat_is_pending : (route : Dispatching) (rows : List Event) (c : Contents) (p : Producer) (ss : List Sequence)
+    (h : Hand)
     (log : List Batch) (next offset : ℕ) (k : Kept route h.place rows (holding c p ss h) log next)
     → judge (history p.id log) (idem_of p (sequence_of ss h.place)) 1 ≡ Repeat offset
     → IsReady ss h h.place (length (history p.id log)) k.ahead

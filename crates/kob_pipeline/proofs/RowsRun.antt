@@ -27,11 +27,13 @@ use Rattle.kob_pipeline.proofs.RouterKept.{InHand, in_hand_more}
 use Rattle.kob_pipeline.proofs.RouterRun.{called_ids, none_recorded, one_recorded}
 
 -- a heard Done was served
-heard_served : (c : Call) (body : Body) (es : List Served) (cs : List Call) → c.heard ≡ Some (Done body) → AreServed (c ∷ cs) es
+heard_served : (c : Call) (body : Body) (es : List Served) (cs : List Call) → c.heard ≡ Some (Done body)
+    → AreServed (c ∷ cs) es
     → (x : Served) × Contains es x × (x.request ≡ c.request) × (x.reply ≡ Done body)
 heard_served c body [] cs h a = let bad : Some (Done body) ≡ None = sym h ∙ a.0 in absurd cc
 heard_served c body (e ∷ es) cs h (inl a) = let bad : Some (Done body) ≡ None = sym h ∙ a.0 in absurd cc
-heard_served c body (e ∷ es) cs h (inr (same, inl none, a)) = let bad : Some (Done body) ≡ None = sym h ∙ none in absurd cc
+heard_served c body (e ∷ es) cs h (inr (same, inl none, a)) = let bad : Some (Done body) ≡ None = sym h
+    ∙ none in absurd cc
 heard_served c body (e ∷ es) cs h (inr (same, inr some, a)) =
     (e, (0, omega arith, refl), same, same_some e.reply (Done body) (sym some ∙ h))
 
@@ -52,7 +54,8 @@ done_body (Some (Done b)) d = (b, refl)
 abbrev IsEntryOf : ℕ → List Entry → Served → Type 0
 IsEntryOf worker journal x = (e : Entry) × Contains journal e × (e.worker ≡ worker) × (served_in e ≡ x)
 
-own_entry : (worker : ℕ) (journal : List Entry) (x : Served) → Contains (served_to worker journal) x → IsEntryOf worker journal x
+own_entry : (worker : ℕ) (journal : List Entry) (x : Served) → Contains (served_to worker journal) x
+    → IsEntryOf worker journal x
 own_entry worker [] x (k, l, at) = absurd (omega arith)
 own_entry worker (e ∷ journal) x c =
     elim (cases_Bool (e.worker == worker)) [
@@ -65,7 +68,8 @@ own_entry worker (e ∷ journal) x c =
           ]
       | inr other ↦
           let r = own_entry worker journal x (subst (λ (xs : List Served). Contains xs x)
-          (cond-false (e.worker == worker) (served_in e ∷ served_to worker journal) (served_to worker journal) other) c) in
+          (cond-false (e.worker == worker) (served_in e ∷ served_to worker journal) (served_to worker journal) other) c)
+          in
           (r.0, contains_more journal e r.0 r.1, r.2, r.3)
     ]
 
@@ -78,7 +82,8 @@ module _ (route : Dispatching) (worker : ℕ) (journal : List Entry) where
     holds : InHand route s.hand wait
     each : AllByRecursion (IsSent route worker journal) sent
 
-  kept_mark : (rows : List Event) (s : State) (hand : Hand) → s.hand ≡ Some hand → IsSent route worker journal hand.event
+  kept_mark : (rows : List Event) (s : State) (hand : Hand) → s.hand ≡ Some hand
+      → IsSent route worker journal hand.event
       → Kept rows s → Kept rows (advanced s (Some hand))
   kept_mark rows s hand e entry k =
       let holds : InHand route (Some hand) k.wait = subst (λ (o : Option Hand). InHand route o k.wait) e k.holds in
@@ -92,7 +97,8 @@ module _ (route : Dispatching) (worker : ℕ) (journal : List Entry) where
       }
 
   -- the entry that acknowledges what is in hand
-  acknowledged : (s : State) (asked : ProduceRequest) (heard : Option Reply) (es : List Served) (cs : List Call) (i : IsSending route s asked)
+  acknowledged : (s : State) (asked : ProduceRequest) (heard : Option Reply) (es : List Served) (cs : List Call)
+      (i : IsSending route s asked)
       → IsDone heard → AreServed (record { request = Produce asked; heard = heard } ∷ cs) es
       → ((x : Served) → Contains es x → IsEntryOf worker journal x) → IsSent route worker journal i.hand.event
   acknowledged s asked heard es cs i done a own =
@@ -116,7 +122,8 @@ module _ (route : Dispatching) (worker : ℕ) (journal : List Entry) where
         };
       }
 
-  kept_call : (rows : List Event) (s : State) (request : Request) (heard : Option Reply) (marks : Bool) (es : List Served) (cs : List Call)
+  kept_call : (rows : List Event) (s : State) (request : Request) (heard : Option Reply) (marks : Bool)
+      (es : List Served) (cs : List Call)
       → MayCall route s request heard marks → AreServed (record { request = request; heard = heard } ∷ cs) es
       → ((x : Served) → Contains es x → IsEntryOf worker journal x) → Kept rows s
       → Kept rows (after s (Called (record { request = request; heard = heard }) marks))
@@ -146,8 +153,15 @@ module _ (route : Dispatching) (worker : ℕ) (journal : List Entry) where
         each = k.each;
       })
   kept_all all final (Swept ∷ ms) s rows es are run a own k =
-      kept_all all final ms (after s Swept) rows es (none_recorded all rows ms (after s Swept).outbox s.outbox refl are) run.1 a own
-      (record { sent = k.sent; wait = k.wait; kept = kept_swept rows s.outbox k.sent k.wait k.kept; holds = k.holds; each = k.each })
+      kept_all all final ms (after s Swept) rows es (none_recorded all rows ms (after s Swept).outbox s.outbox refl are)
+      run.1 a own
+      (record {
+        sent = k.sent;
+        wait = k.wait;
+        kept = kept_swept rows s.outbox k.sent k.wait k.kept;
+        holds = k.holds;
+        each = k.each;
+      })
   kept_all all final (Restarted ∷ ms) s rows es are run a own k =
       kept_all all final ms (after s Restarted) rows es are run.1 a own
       (record { sent = k.sent; wait = k.wait; kept = k.kept; holds = tt; each = k.each })
@@ -163,7 +177,8 @@ module _ (route : Dispatching) (worker : ℕ) (journal : List Entry) where
   kept_all all final (Called c marks ∷ ms) s rows es are run a own k =
       let l = later_served c (calls_of ms) es a in
       kept_all all final ms (after s (Called c marks)) rows l.0
-      (none_recorded all rows ms (after s (Called c marks)).outbox s.outbox (called_ids s c marks) are) run.1 l.1 (λ x y. own x (l.2 x y))
+      (none_recorded all rows ms (after s (Called c marks)).outbox s.outbox (called_ids s c marks) are) run.1 l.1
+      (λ x y. own x (l.2 x y))
       (kept_call rows s c.request c.heard marks es (calls_of ms) run.0 a own k)
 
   pub all_wait_or_sent : (moves : List Move) (final : State) → IsRouterRun route start moves final
@@ -171,7 +186,8 @@ module _ (route : Dispatching) (worker : ℕ) (journal : List Entry) where
       → AllByRecursion (IsWaitingOrSent route worker journal final.outbox) (events_of start.outbox moves)
   all_wait_or_sent moves final run served =
       let k : Kept (events_of start.outbox moves) final =
-      kept_all (events_of start.outbox moves) final moves start [] (served_to worker journal) refl run served (own_entry worker journal)
+      kept_all (events_of start.outbox moves) final moves start [] (served_to worker journal) refl run served
+      (own_entry worker journal)
       (record { sent = []; wait = []; kept = kept_at_start; holds = tt; each = tt }) in
       let waits : AllByRecursion (IsWaitingOrSent route worker journal final.outbox) k.wait =
       all_contained (IsWaitingOrSent route worker journal final.outbox) k.wait
@@ -180,6 +196,7 @@ module _ (route : Dispatching) (worker : ℕ) (journal : List Entry) where
       (subst (λ (rs : List Event). Contains rs row) (sym k.kept.waits) c) in
       inl (record { past = ltb-true final.outbox.mark row.seq f.1; there = f.0 })) in
       let done : AllByRecursion (IsWaitingOrSent route worker journal final.outbox) k.sent =
-      all_weaker (IsSent route worker journal) (IsWaitingOrSent route worker journal final.outbox) (λ row e. inr e) k.sent k.each in
+      all_weaker (IsSent route worker journal) (IsWaitingOrSent route worker journal final.outbox) (λ row e. inr e)
+      k.sent k.each in
       subst (AllByRecursion (IsWaitingOrSent route worker journal final.outbox)) (sym k.kept.rows_are)
       (all_append (IsWaitingOrSent route worker journal final.outbox) k.sent k.wait done waits)

@@ -79,7 +79,8 @@ later_base : (n : ℕ) (base : ℕ) (l : Sent) (p : Producer) (b : Bool) → IsN
 later_base n base l p true num is h =
     let e : base ≡ next_sequence (last_of l.base l.count) = eqb-true base (next_sequence (last_of l.base l.count)) is in
     let m : next_sequence (last_of l.base l.count) ≡ next_sequence (last_of (wrapped n) 1) =
-    ap (λ (k : ℕ). next_sequence (last_of k l.count)) num.base ∙ ap (λ (k : ℕ). next_sequence (last_of (wrapped n) k)) num.single in
+    ap (λ (k : ℕ). next_sequence (last_of k l.count)) num.base
+    ∙ ap (λ (k : ℕ). next_sequence (last_of (wrapped n) k)) num.single in
     let w : next_sequence (last_of (wrapped n) 1) ≡ wrapped (n + 1) = omega arith in
     e ∙ m ∙ w
 later_base n base l p false num is h = cc
@@ -91,9 +92,11 @@ same_base n base l p None num h =
     later_base n base l p (base == next_sequence (last_of l.base l.count)) num refl h
 
 -- the judgement where the last batch has the producer's epoch
-judged_same : (p : Producer) (base : ℕ) (x : Sent) (xs : List Sent) (n : ℕ) (l : Sent) → slice_get (x ∷ xs) (length xs) ≡ Some l
+judged_same : (p : Producer) (base : ℕ) (x : Sent) (xs : List Sent) (n : ℕ) (l : Sent)
+    → slice_get (x ∷ xs) (length xs) ≡ Some l
     → l.epoch ≡ p.epoch
-    → judge (x ∷ xs) (idem_of p base) 1 ≡ judge_same (find (is_same (idem_of p base) 1) (keep_last remembered (x ∷ xs))) base l
+    → judge (x ∷ xs) (idem_of p base) 1 ≡ judge_same (find (is_same (idem_of p base) 1) (keep_last remembered (x ∷ xs)))
+    base l
 judged_same p base x xs n l at same =
     let here : length (x ∷ xs) - 1 ≡ length xs = omega arith in
     let last : last_item (x ∷ xs) ≡ Some l = ap (slice_get (x ∷ xs)) here ∙ at in
@@ -102,14 +105,16 @@ judged_same p base x xs n l at same =
     rw (last, low, high) refl
 
 -- a batch that comes next has the number of the batches as its sequence
-pub next_base : (p : Producer) (sents : List Sent) (base : ℕ) → AreCounted p sents → judge sents (idem_of p base) 1 ≡ Next
+pub next_base : (p : Producer) (sents : List Sent) (base : ℕ) → AreCounted p sents
+    → judge sents (idem_of p base) 1 ≡ Next
     → base ≡ wrapped (length sents)
 next_base p [] base h next = first_base base (base == 0) refl next ∙ refl
 next_base p (x ∷ xs) base h next =
     let l : Sent = get_or (x ∷ xs) (length xs) x in
     let num : IsNumber p (length xs) l = h (length xs) x (omega arith) in
     let e = judged_same p base x xs (length xs) l (last_is x xs) num.epoch in
-    same_base (length xs) base l p (find (is_same (idem_of p base) 1) (keep_last remembered (x ∷ xs))) num (sym e ∙ next)
+    same_base (length xs) base l p (find (is_same (idem_of p base) 1) (keep_last remembered (x ∷ xs))) num
+    (sym e ∙ next)
     ∙ ap wrapped (omega arith)
 
 -- what is found passes, and stands somewhere
@@ -127,7 +132,8 @@ found_at {A} test (x ∷ xs) y h =
           (suc r.0, omega (arith, r.1), r.2, r.3)
     ]
 
-repeat_found : (o : Option Sent) (base offset : ℕ) (l : Sent) → judge_same o base l ≡ Repeat offset → (s : Sent) × (o ≡ Some s)
+repeat_found : (o : Option Sent) (base offset : ℕ) (l : Sent) → judge_same o base l ≡ Repeat offset → (s : Sent)
+    × (o ≡ Some s)
 repeat_found (Some s) base offset l h = (s, refl)
 repeat_found None base offset l h = not_repeat (base == next_sequence (last_of l.base l.count)) h
   where
@@ -148,29 +154,34 @@ repeat_base p (x ∷ xs) base offset h again =
     let l : Sent = get_or (x ∷ xs) (length xs) x in
     let num : IsNumber p (length xs) l = h (length xs) x (omega arith) in
     let same = judged_same p base x xs (length xs) l (last_is x xs) num.epoch in
-    let f = repeat_found (find (is_same (idem_of p base) 1) (keep_last remembered (x ∷ xs))) base offset l (sym same ∙ again) in
+    let f = repeat_found (find (is_same (idem_of p base) 1) (keep_last remembered (x ∷ xs))) base offset l
+    (sym same ∙ again) in
     let m : ℕ = length (x ∷ xs) - 5 in
     let r = found_at (is_same (idem_of p base) 1) (drop m (x ∷ xs)) f.0 f.1 in
     let within : m + r.0 < length (x ∷ xs) = omega (arith, r.1, length-drop m (x ∷ xs)) in
     let read : get_or (x ∷ xs) (m + r.0) f.0 ≡ f.0 = sym (get_or-drop m (x ∷ xs) r.0 f.0) ∙ r.2 in
-    let number : IsNumber p (m + r.0) f.0 = subst (λ (s : Sent). IsNumber p (m + r.0) s) read (h (m + r.0) f.0 within) in
+    let number : IsNumber p (m + r.0) f.0 = subst (λ (s : Sent). IsNumber p (m + r.0) s) read (h (m + r.0) f.0 within)
+    in
     let parts = and_parts (f.0.epoch == p.epoch) (f.0.base == base && f.0.count == 1) r.3 in
     let bases : f.0.base ≡ base = eqb-true f.0.base base (and_parts (f.0.base == base) (f.0.count == 1) parts.1).0 in
     (m + r.0, within, omega arith, sym bases ∙ number.base)
 
 -- the history with one more batch of the producer
 history_last_from : (id start : ℕ) (log : List Batch) (b : Batch)
-    → (offset : ℕ) × (history_from id start (log ++ b ∷ []) ≡ history_from id start log ++ sent_in id offset (length b.records) b.idem)
+    → (offset : ℕ) × (history_from id start (log ++ b ∷ []) ≡ history_from id start log ++ sent_in id offset
+    (length b.records) b.idem)
 history_last_from id start [] b = (start, append-nil (sent_in id start (length b.records) b.idem))
 history_last_from id start (c ∷ log) b =
     let r = history_last_from id (start + length c.records) log b in (
       r.0,
       ap (λ (xs : List Sent). sent_in id start (length c.records) c.idem ++ xs) r.1
-          ∙ sym (append_assoc (sent_in id start (length c.records) c.idem) (history_from id (start + length c.records) log) (sent_in id r.0 (length b.records) b.idem)),
+          ∙ sym (append_assoc (sent_in id start (length c.records) c.idem)
+          (history_from id (start + length c.records) log) (sent_in id r.0 (length b.records) b.idem)),
     )
 
 pub history_last : (p : Producer) (log : List Batch) (base : ℕ) (message : Record)
-    → (offset : ℕ) × (history p.id (log ++ batch_of p base message ∷ []) ≡ history p.id log ++ sent (idem_of p base) 1 offset ∷ [])
+    → (offset : ℕ) × (history p.id (log ++ batch_of p base message ∷ []) ≡ history p.id log ++ sent (idem_of p base) 1
+    offset ∷ [])
 history_last p log base message =
     let r = history_last_from p.id 0 log (batch_of p base message) in
     let own : (p.id == p.id) ≡ true = eq_self p.id in
@@ -188,11 +199,13 @@ not_its id next offset count l (Some idem) h =
     ]
 
 -- a producer whose id was not given yet has sent nothing
-pub no_history : (id next : ℕ) → next ≤ id → (log : List Batch) → AllByRecursion (λ (b : Batch). IsGiven next b.idem) log
+pub no_history : (id next : ℕ) → next ≤ id → (log : List Batch)
+    → AllByRecursion (λ (b : Batch). IsGiven next b.idem) log
     → history id log ≡ []
 no_history id next l log h = go 0 log h
   where
-    go : (start : ℕ) (log : List Batch) → AllByRecursion (λ (b : Batch). IsGiven next b.idem) log → history_from id start log ≡ []
+    go : (start : ℕ) (log : List Batch) → AllByRecursion (λ (b : Batch). IsGiven next b.idem) log
+        → history_from id start log ≡ []
     go start [] h = refl
     go start (b ∷ log) h =
         ap (λ (xs : List Sent). xs ++ history_from id (start + length b.records) log)

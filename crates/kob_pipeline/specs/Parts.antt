@@ -1,4 +1,4 @@
--- The parts that workers have in a journal: their runs, whose calls are those that it served to them.
+-- The parts that workers have in a journal: runs whose calls are those that it served to them.
 use Rattle.std.specs.Prelude.{ℕ, List}
 use Rattle.kob_router.specs.Dispatches.{dispatch_of}
 use Rattle.kob_router.specs.Run as router

@@ -11,15 +11,16 @@ abbrev pub is_of_aggregate : List ℕ → List ℕ → Event → Bool
 is_of_aggregate kind id row = bytes_eq row.aggregate_type kind && bytes_eq row.aggregate_id id
 
 -- the rows of an aggregate, in the order in which they were recorded
-abbrev pub aggregate : List Event → List ℕ → List ℕ → List Event
-aggregate rows kind id = filter (is_of_aggregate kind id) rows
+abbrev pub rows_of_aggregate : List Event → List ℕ → List ℕ → List Event
+rows_of_aggregate rows kind id = filter (is_of_aggregate kind id) rows
 
--- what an inbox has of some rows, in the order in which it was taken in
-abbrev pub intakes_of : Contents → List Event → List Intake
-intakes_of inbox rows = filter (λ i. list_any (bytes_eq i.id) (ids_of rows)) inbox
+-- what an inbox has of the rows of an aggregate, in the order in which it was taken in
+abbrev pub taken_of_aggregate : Contents → List Event → List ℕ → List ℕ → Contents
+taken_of_aggregate inbox rows kind id =
+    filter (λ i. list_any (bytes_eq i.id) (ids_of (rows_of_aggregate rows kind id))) inbox
 
-abbrev pub taken_ids : List Intake → List (List ℕ)
-taken_ids intakes = map (λ (i : Intake). i.id) intakes
+abbrev pub taken_ids : Contents → List (List ℕ)
+taken_ids inbox = map (λ (i : Intake). i.id) inbox
 
 -- what was taken in has the key and the value of one of the rows, that with its id
 pub record IsCopy (rows : List Event) (i : Intake) : Type 0 where
@@ -29,9 +30,13 @@ pub record IsCopy (rows : List Event) (i : Intake) : Type 0 where
   pub key : i.key ≡ Some row.aggregate_id
   pub value : i.value ≡ row.payload
 
--- what an inbox has of the aggregate's rows: their ids in the order in which they were recorded, from
--- the first row on and none left out, each once, and with its row's key and value
-pub record ReachesInOrder (rows : List Event) (inbox : Contents) : Type 0 where
-  pub begins : IsPrefixOf (taken_ids (intakes_of inbox rows)) (ids_of rows)
-  pub once : IsDistinct bytes_eq (taken_ids (intakes_of inbox rows))
-  pub copies : AllByRecursion (IsCopy rows) (intakes_of inbox rows)
+-- what an inbox has of an aggregate: the ids of its rows in the order in which they were recorded,
+-- from the first row on and none left out, each once, and with its row's key and value
+pub record ReachesInOrder (rows : List Event) (inbox : Contents) (kind id : List ℕ) : Type 0 where
+  pub begins :
+      IsPrefixOf (taken_ids (taken_of_aggregate inbox rows kind id))
+      (ids_of (rows_of_aggregate rows kind id))
+  pub once : IsDistinct bytes_eq (taken_ids (taken_of_aggregate inbox rows kind id))
+  pub copies :
+      AllByRecursion (IsCopy (rows_of_aggregate rows kind id))
+      (taken_of_aggregate inbox rows kind id)

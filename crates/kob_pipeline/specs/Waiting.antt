@@ -9,8 +9,8 @@ use Rattle.kob_router.specs.Dispatches.{Dispatching}
 use Rattle.kob_router.specs.declared.dispatch.Dispatch.{Dispatch}
 use Rattle.kob_shared.specs.declared.journal.Entry.{Entry}
 
--- the entry is a PRODUCE of the worker that was done: of the record that the route makes of the row,
--- to the place where the row is routed
+-- the entry is a PRODUCE of the worker that was done: of the record that the route makes of the
+-- row, to the place where the row is routed
 pub record Sends (route : Dispatching) (worker : ℕ) (row : Event) (e : Entry) : Type 0 where
   pub dispatch : Dispatch
   pub asked : ProduceRequest

@@ -10,11 +10,11 @@ ghost use Rattle.kob_router.specs.Run.{Move as RouterMove, State as RouterState}
 ghost use Rattle.kob_router.specs.declared.dispatch.Target.{Target};
 ghost use Rattle.kob_router.specs.declared.place.Place.{Place};
 ghost use Rattle.kob_shared.specs.declared.journal.Entry.{Entry};
-ghost use Rattle.kob_pipeline.specs.Consuming.{IsTakenInOrder};
+ghost use Rattle.kob_pipeline.specs.Taking.{IsTakenInOrder};
 ghost use Rattle.kob_pipeline.specs.Delivery.{IsDelivered, rows_of};
 ghost use Rattle.kob_pipeline.specs.Parts.{IsConsumerPart, IsServicePart};
 ghost use Rattle.kob_pipeline.specs.Premises.{ArePrivate, IsNeverDeleted, IsSoleCommitter, IsSoleProducer};
-ghost use Rattle.kob_pipeline.specs.Reaching.{ReachesInOrder, aggregate};
+ghost use Rattle.kob_pipeline.specs.Reaching.{ReachesInOrder};
 ghost use Rattle.kob_pipeline.specs.View.{IsHistory, View, opening_view};
 ghost use Rattle.kob_pipeline.specs.Waiting.{IsWaitingOrSent};
 
@@ -60,7 +60,7 @@ pub fn an_inbox_holds_a_prefix_of_each_aggregate()
         → IsServicePart target sender journal sends service
         → IsConsumerPart t taker journal takes consumer
         → ArePrivate sender taker t.group t.assignment journal
-        → ReachesInOrder (aggregate (rows_of sends) kind id) consumer.inbox }
+        → ReachesInOrder (rows_of sends) consumer.inbox kind id }
 {
     // By the definitions.
 }
