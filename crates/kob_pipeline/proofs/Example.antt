@@ -37,7 +37,7 @@ use Rattle.kob_pipeline.proofs.Samples.{batch, change, event, goes_here, held, h
 abbrev sends : ℕ → ℕ → ℕ → ProduceRequest
 sends id base n = record { topic = here.topic; partition = here.partition; batch = batch id base n }
 
-abbrev position : PositionRequest
+abbrev pub position : PositionRequest
 position = record { group = codes "g"; topic = here.topic; partition = here.partition }
 
 abbrev fetch : FetchRequest
@@ -51,7 +51,7 @@ found = (0, message 1) ∷ (1, message 2) ∷ (2, message 2) ∷ []
 
 -- the journal: the service is worker 1, the consumer worker 2, and a stranger worker 3
 
-abbrev entry : ℕ → Request → Reply → Entry
+abbrev pub entry : ℕ → Request → Reply → Entry
 entry worker request reply = record {
   worker = worker;
   event = record { principal = codes "User:a"; host = codes "h"; request = request };
@@ -73,7 +73,7 @@ journal =
 
 -- what the service does: the second reply is lost, and the router begins anew
 
-abbrev call : Request → Option Reply → Call
+abbrev pub call : Request → Option Reply → Call
 call request heard = record { request = request; heard = heard }
 
 abbrev moves : List router.Move
@@ -158,7 +158,7 @@ service_part = record {
 
 -- what the consumer does
 
-abbrev subscription : Subscription
+abbrev pub subscription : Subscription
 subscription = record { group = codes "g"; assignment = here ∷ []; max = 10 }
 
 abbrev takes : List consumer.Move
@@ -168,7 +168,7 @@ takes =
     ∷ consumer.Move.Called (call (OffsetCommit commit) (Some (Done bodies.Committed))) 0
     ∷ []
 
-abbrev taken_all : consumer.State → List consumer.Move → consumer.State
+abbrev pub taken_all : consumer.State → List consumer.Move → consumer.State
 taken_all s [] = s
 taken_all s (m ∷ ms) = taken_all (consumer.after subscription s m) ms
 
@@ -186,7 +186,7 @@ consumer_part = record {
 
 -- what the laws see of the broker
 
-same : (v : View) → IsSameView v v
+pub same : (v : View) → IsSameView v v
 same v = record { log = λ place. refl; committed = λ group place. refl; next_producer = refl }
 
 abbrev view_0 : View

@@ -19,3 +19,4 @@ mod Reaching
 mod DeliveryLaws
 mod Samples
 mod Example
+mod Needed
