@@ -1,0 +1,222 @@
+-- What a run of a consumer keeps, of one partition.
+use Rattle.std.proofs.Common.{◌≡◌, ℕ, zero, suc, ◌≤◌, List, [], ◌∷◌, ◌++◌, true, false, cond, refl, sym, ap, ◌∙◌, inl, inr, subst, arith}
+use Rattle.std.specs.Prelude.{Option, Some, None, map, nat_eq, slice_get}
+use Rattle.std.specs.List.{AllByRecursion}
+use Rattle.std.proofs.lemmas.Bool.{cases_Bool}
+use Rattle.std.proofs.lemmas.List.{append-nil, map-append}
+use Rattle.std.proofs.lemmas.List.Elements.{filter-append}
+use Rattle.kob_names.specs.declared.record.Record.{Record}
+use Rattle.kob_router.specs.Places.{same_place}
+use Rattle.kob_router.specs.declared.place.Place.{Place}
+use Rattle.kob_inbox.specs.Cursors.{advanced, cursor_of, moved}
+use Rattle.kob_inbox.specs.Intake.{Arrival, arrivals}
+use Rattle.kob_inbox.specs.Run.{behind}
+use Rattle.kob_inbox.specs.declared.cursors.Cursor.{Cursor}
+use Rattle.kob_pipeline.specs.Taking.{from_place}
+use Rattle.kob_pipeline.specs.Firsts.{firsts, numbers_below, with_each_new}
+use Rattle.kob_pipeline.proofs.Lists.{all_append, all_weaker, place_cases, places_are, same_here}
+use Rattle.kob_pipeline.proofs.Logged.{each_new_append}
+use Rattle.kob_pipeline.proofs.Offsets.{AreConsecutive, Reached, Stands, get_more, reached}
+
+abbrev pub WithinCursor : ℕ → Option Cursor → Type 0
+WithinCursor bound None = Unit {0}
+WithinCursor bound (Some c) = c.position ≤ bound
+
+abbrev pub WithinOffset : ℕ → Option ℕ → Type 0
+WithinOffset bound None = Unit {0}
+WithinOffset bound (Some n) = n ≤ bound
+
+-- the record arrived from its offset
+abbrev pub IsContent : List Record → Arrival → Type 0
+IsContent records a = slice_get records a.offset ≡ Some a.message
+
+abbrev pub offset_of : Arrival → ℕ
+offset_of a = a.offset
+
+cursor_moved : (cs : List Cursor) (c : Cursor) → cursor_of (moved cs c) c.place ≡ Some c
+cursor_moved [] c = rw (same_here c.place) refl
+cursor_moved (x ∷ cs) c =
+    elim (cases_Bool (same_place x.place c.place)) [
+      | inl hit ↦ rw (hit, same_here c.place) refl
+      | inr miss ↦ rw (miss, miss) (cursor_moved cs c)
+    ]
+
+cursor_elsewhere : (cs : List Cursor) (c : Cursor) (q : Place) → same_place c.place q ≡ false
+    → cursor_of (moved cs c) q ≡ cursor_of cs q
+cursor_elsewhere [] c q h = rw h refl
+cursor_elsewhere (x ∷ cs) c q h =
+    elim (cases_Bool (same_place x.place c.place)) [
+      | inl hit ↦
+          let miss : same_place x.place q ≡ false = ap (λ (y : Place). same_place y q) (places_are x.place c.place hit)
+          ∙ h in
+          rw (hit, h, miss) refl
+      | inr other ↦ rw other (ap (λ (o : Option Cursor). cond (same_place x.place q) (Some x) o)
+          (cursor_elsewhere cs c q h))
+    ]
+
+-- a cursor that moves within the bound
+within_moved : (cs : List Cursor) (c : Cursor) (q : Place) (bound : ℕ) → WithinCursor bound (cursor_of cs q)
+    → (c.place ≡ q → c.position ≤ bound) → WithinCursor bound (cursor_of (moved cs c) q)
+within_moved cs c q bound w new =
+    elim (place_cases c.place q) [
+      | inl e ↦ subst (WithinCursor bound) (sym (ap (cursor_of (moved cs c)) (sym e) ∙ cursor_moved cs c)) (new e)
+      | inr apart ↦ subst (WithinCursor bound) (sym (cursor_elsewhere cs c q apart)) w
+    ]
+
+within_more : (o : Option ℕ) (m n : ℕ) → m ≤ n → WithinOffset m o → WithinOffset n o
+within_more None m n l w = tt
+within_more (Some x) m n l w = omega arith
+
+here_all : (q : Place) (xs : List (ℕ × Record)) → from_place q (arrivals q xs) ≡ arrivals q xs
+here_all q [] = refl
+here_all q (x ∷ xs) =
+    rw (same_here q) (ap (λ (ys : List Arrival). record { place = q; offset = x.0; message = x.1 } ∷ ys)
+    (here_all q xs))
+
+here_none : (p q : Place) → same_place p q ≡ false → (xs : List (ℕ × Record)) → from_place q (arrivals p xs) ≡ []
+here_none p q h [] = refl
+here_none p q h (x ∷ xs) = rw h (here_none p q h xs)
+
+offsets_arrived : (q : Place) (xs : List (ℕ × Record)) → map offset_of (arrivals q xs) ≡ map (λ (x : ℕ × Record). x.0)
+    xs
+offsets_arrived q [] = refl
+offsets_arrived q (x ∷ xs) = ap (λ (ns : List ℕ). x.0 ∷ ns) (offsets_arrived q xs)
+
+contents_arrived : (records : List Record) (p : Place) (xs : List (ℕ × Record)) → AllByRecursion (Stands records) xs
+    → AllByRecursion (IsContent records) (arrivals p xs)
+contents_arrived records p [] h = tt
+contents_arrived records p (x ∷ xs) h = (h.0, contents_arrived records p xs h.1)
+
+-- the cursor behind records that were taken in
+abbrev cursor_behind : Place → ℕ → List (ℕ × Record) → Cursor
+cursor_behind place position xs = record { place = place; position = behind position xs; uncommitted = true }
+
+module _ (q : Place) where
+  -- what arrived has the offsets below a bound; neither the position nor the commit is beyond it
+  pub record Taking (records : List Record) (committed : Option ℕ) (cursors : List Cursor) (arrived : List Arrival) :
+      Type 0 where
+    pub bound : ℕ
+    pub offsets : firsts nat_eq (map offset_of (from_place q arrived)) ≡ numbers_below bound
+    pub contents : AllByRecursion (IsContent records) (from_place q arrived)
+    pub cursor : WithinCursor bound (cursor_of cursors q)
+    pub commit : WithinOffset bound committed
+
+  pub taking_first : Taking [] None [] []
+  taking_first = record { bound = 0; offsets = refl; contents = tt; cursor = tt; commit = tt }
+
+  -- the log grew
+  pub taking_later : (records more : List Record) (committed : Option ℕ) (cursors : List Cursor)
+      (arrived : List Arrival)
+      → Taking records committed cursors arrived → Taking (records ++ more) committed cursors arrived
+  taking_later records more committed cursors arrived k =
+      record {
+        bound = k.bound;
+        offsets = k.offsets;
+        contents = all_weaker (IsContent records) (IsContent (records ++ more))
+            (λ a h. get_more records more a.offset a.message h) (from_place q arrived) k.contents;
+        cursor = k.cursor;
+        commit = k.commit;
+      }
+
+  pub taking_after_restart : (records : List Record) (committed : Option ℕ) (cursors : List Cursor)
+      (arrived : List Arrival)
+      → Taking records committed cursors arrived → Taking records committed [] arrived
+  taking_after_restart records committed cursors arrived k =
+      record { bound = k.bound; offsets = k.offsets; contents = k.contents; cursor = tt; commit = k.commit }
+
+  -- the cursor of some place moves
+  pub taking_after_move : (records : List Record) (committed : Option ℕ) (cursors : List Cursor)
+      (arrived : List Arrival) (c : Cursor)
+      (k : Taking records committed cursors arrived) → (c.place ≡ q → c.position ≤ k.bound)
+      → Taking records committed (moved cursors c) arrived
+  taking_after_move records committed cursors arrived c k new =
+      record {
+        bound = k.bound;
+        offsets = k.offsets;
+        contents = k.contents;
+        cursor = within_moved cursors c q k.bound k.cursor new;
+        commit = k.commit;
+      }
+
+  -- what is committed changes, within the bound
+  abbrev pub taking_with_commit : (records : List Record) (old new : Option ℕ) (cursors : List Cursor)
+      (arrived : List Arrival)
+      (k : Taking records old cursors arrived) → WithinOffset k.bound new → Taking records new cursors arrived
+  taking_with_commit records old new cursors arrived k w =
+      record { bound = k.bound; offsets = k.offsets; contents = k.contents; cursor = k.cursor; commit = w }
+
+  pub taking_nothing : (records : List Record) (committed : Option ℕ) (cursors : List Cursor) (arrived : List Arrival)
+      → Taking records committed cursors arrived → Taking records committed cursors (arrived ++ [])
+  taking_nothing records committed cursors arrived k = subst (Taking records committed cursors)
+      (sym (append-nil arrived)) k
+
+  -- records are taken in from the position on
+  taking_here : (records : List Record) (committed : Option ℕ) (cursors : List Cursor) (arrived : List Arrival)
+      (position : ℕ)
+      (xs : List (ℕ × Record)) (k : Taking records committed cursors arrived) → position ≤ k.bound
+      → AreConsecutive position xs
+      → AllByRecursion (Stands records) xs
+      → Taking records committed (moved cursors (cursor_behind q position xs)) (arrived ++ arrivals q xs)
+  taking_here records committed cursors arrived position xs k l c all =
+      let r : Reached k.bound position xs = reached k.bound position xs l c in
+      let more : from_place q (arrived ++ arrivals q xs) ≡ from_place q arrived ++ arrivals q xs =
+      filter-append (λ (a : Arrival). same_place a.place q) arrived (arrivals q xs)
+      ∙ ap (λ (ys : List Arrival). from_place q arrived ++ ys) (here_all q xs) in
+      record {
+        bound = r.reach;
+        offsets =
+            ap (λ (ys : List Arrival). firsts nat_eq (map offset_of ys)) more
+            ∙ ap (firsts nat_eq) (map-append offset_of (from_place q arrived) (arrivals q xs))
+            ∙ each_new_append nat_eq [] (map offset_of (from_place q arrived)) (map offset_of (arrivals q xs))
+            ∙ ap (λ (ns : List ℕ). with_each_new nat_eq ns (map offset_of (arrivals q xs))) k.offsets
+            ∙ ap (with_each_new nat_eq (numbers_below k.bound)) (offsets_arrived q xs)
+            ∙ r.offsets;
+        contents =
+            subst (AllByRecursion (IsContent records)) (sym more)
+            (all_append (IsContent records) (from_place q arrived) (arrivals q xs) k.contents
+            (contents_arrived records q xs all));
+        cursor = subst (WithinCursor r.reach) (sym (cursor_moved cursors (cursor_behind q position xs))) r.within;
+        commit = within_more committed k.bound r.reach r.no_less k.commit;
+      }
+
+  -- records of another place
+  taking_elsewhere : (p : Place) (records : List Record) (committed : Option ℕ) (cursors : List Cursor)
+      (arrived : List Arrival)
+      (position : ℕ) (xs : List (ℕ × Record)) → same_place p q ≡ false → Taking records committed cursors arrived
+      → Taking records committed (moved cursors (cursor_behind p position xs)) (arrived ++ arrivals p xs)
+  taking_elsewhere p records committed cursors arrived position xs apart k =
+      let more : from_place q (arrived ++ arrivals p xs) ≡ from_place q arrived =
+      filter-append (λ (a : Arrival). same_place a.place q) arrived (arrivals p xs)
+      ∙ ap (λ (ys : List Arrival). from_place q arrived ++ ys) (here_none p q apart xs)
+      ∙ append-nil (from_place q arrived) in
+      record {
+        bound = k.bound;
+        offsets = ap (λ (ys : List Arrival). firsts nat_eq (map offset_of ys)) more ∙ k.offsets;
+        contents = subst (AllByRecursion (IsContent records)) (sym more) k.contents;
+        cursor = subst (WithinCursor k.bound) (sym (cursor_elsewhere cursors (cursor_behind p position xs) q apart))
+            k.cursor;
+        commit = k.commit;
+      }
+
+  -- what records have to be that are taken in from the position on
+  abbrev pub Fits : List Record → ℕ → ℕ → List (ℕ × Record) → Type 0
+  Fits records bound position xs = (position ≤ bound) × AreConsecutive position xs × AllByRecursion (Stands records) xs
+
+  -- so many of the records that were heard are taken in
+  pub taking_after_fetch : (p : Place) (records : List Record) (committed : Option ℕ) (cursors : List Cursor)
+      (arrived : List Arrival)
+      (position count : ℕ) (xs : List (ℕ × Record)) (k : Taking records committed cursors arrived)
+      → (count ≡ 0 → xs ≡ []) → (p ≡ q → Fits records k.bound position xs)
+      → Taking records committed (advanced cursors p count (behind position xs)) (arrived ++ arrivals p xs)
+  taking_after_fetch p records committed cursors arrived position zero xs k none fits =
+      subst (λ (ys : List (ℕ × Record)). Taking records committed cursors (arrived ++ arrivals p ys)) (sym (none refl))
+      (taking_nothing records committed cursors arrived k)
+  taking_after_fetch p records committed cursors arrived position (suc count) xs k none fits =
+      elim (place_cases p q) [
+        | inl e ↦
+            let f = fits e in
+            let there = taking_here records committed cursors arrived position xs k f.0 f.1 f.2 in
+            subst (λ (y : Place). Taking records committed (moved cursors (cursor_behind y position xs))
+            (arrived ++ arrivals y xs)) (sym e) there
+        | inr apart ↦ taking_elsewhere p records committed cursors arrived position xs apart k
+      ]

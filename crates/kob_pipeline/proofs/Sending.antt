@@ -1,0 +1,240 @@
+-- The sequences of one producer on one partition, and how the broker judges its batches of one record.
+use Rattle.std.proofs.Common.{◌≡◌, ℕ, suc, ◌+◌, ◌-◌, ◌%◌, ◌<◌, ◌≤◌, ◌==◌, ◌&&◌, List, [], ◌∷◌, ◌++◌, Bool, true, false, cond, refl, sym, ap, ◌∙◌, inl, inr, subst, length, get_or, drop, find, arith, append_assoc, eqb-true, nat_lt}
+use Rattle.std.specs.Prelude.{Option, Some, None, slice_get}
+use Rattle.std.specs.List.{AllByRecursion}
+use Rattle.std.proofs.lemmas.Bool.{cases_Bool, cond-true, cond-false, and_parts, cases_eq, le-ltb, eqb-false}
+use Rattle.std.proofs.lemmas.List.{append-nil, get_or_append_left, get_or_push, get_or-drop, length-drop, length_push}
+use Rattle.circular_buffer.specs.Buffer.{keep_last, last_item}
+use Rattle.kob_names.specs.declared.batch.Batch.{Batch}
+use Rattle.kob_names.specs.declared.batch.Idem.{Idem}
+use Rattle.kob_names.specs.declared.record.Record.{Record}
+use Rattle.kob_producers.specs.Judge.{is_same, judge, judge_same, remembered}
+use Rattle.kob_producers.specs.Recent.{sent}
+use Rattle.kob_producers.specs.Sequence.{last_of, next_sequence}
+use Rattle.kob_producers.specs.declared.judge.Judgement.TheVariants.{Next, Repeat, OutOfOrder}
+use Rattle.kob_producers.specs.declared.sent.Sent.{Sent}
+use Rattle.kob_partition.specs.Batches.{history, history_from, sent_in}
+use Rattle.kob_router.specs.Places.{prepared, same_place, sequence_of, used}
+use Rattle.kob_router.specs.Run.{batch_of}
+use Rattle.kob_router.specs.declared.place.Place.{Place}
+use Rattle.kob_router.specs.declared.sender.Producer.{Producer}
+use Rattle.kob_router.specs.declared.sequences.Sequence.{Sequence}
+use Rattle.kob_pipeline.specs.View.{IsGiven}
+use Rattle.kob_pipeline.proofs.Lists.{same_here, places_are}
+
+-- the sequence of a producer's n-th record on a partition
+abbrev pub wrapped : ℕ → ℕ
+wrapped n = n % 2147483648
+
+pub next_wrapped : (n : ℕ) → next_sequence (wrapped n) ≡ wrapped (n + 1)
+next_wrapped n = omega arith
+
+-- at most five apart, they differ
+pub apart_wrapped : (j n : ℕ) → j < n → n ≤ j + 5 → wrapped j ≡ wrapped n → ⊥
+apart_wrapped j n l h e = omega arith
+
+-- the i-th batch of a producer, of one record
+pub record IsNumber (p : Producer) (i : ℕ) (s : Sent) : Type 0 where
+  pub epoch : s.epoch ≡ p.epoch
+  pub base : s.base ≡ wrapped i
+  pub single : s.count ≡ 1
+
+-- all batches of the producer are of one record, and have the sequences from 0 on
+abbrev pub AreCounted : Producer → List Sent → Type 0
+AreCounted p sents = (i : ℕ) (d : Sent) → i < length sents → IsNumber p i (get_or sents i d)
+
+pub counted_none : (p : Producer) → AreCounted p []
+counted_none p i d h = absurd (omega arith)
+
+pub counted_last : (p : Producer) (sents : List Sent) (s : Sent) → AreCounted p sents → IsNumber p (length sents) s
+    → AreCounted p (sents ++ s ∷ [])
+counted_last p sents s h n i d l =
+    elim (cases_eq i (length sents)) [
+      | inl e ↦
+          let at : get_or (sents ++ s ∷ []) i d ≡ s = get_or_push sents s d i (sym e) in
+          subst (λ (c : Sent). IsNumber p i c) (sym at) (subst (λ (k : ℕ). IsNumber p k s) (sym e) n)
+      | inr ne ↦
+          let below : i < length sents = omega (arith, length_push sents s) in
+          subst (λ (c : Sent). IsNumber p i c) (sym (get_or_append_left sents (s ∷ []) d i below)) (h i d below)
+    ]
+
+-- the last of some batches is the one before their number
+last_is : (x : Sent) (xs : List Sent) → slice_get (x ∷ xs) (length xs) ≡ Some (get_or (x ∷ xs) (length xs) x)
+last_is x xs = go x xs x
+  where
+    go : (y : Sent) (ys : List Sent) (d : Sent) → slice_get (y ∷ ys) (length ys) ≡ Some (get_or (y ∷ ys) (length ys) d)
+    go y [] d = refl
+    go y (z ∷ zs) d = go z zs d
+
+-- a batch with the producer's epoch and this base
+abbrev pub idem_of : Producer → ℕ → Idem
+idem_of p base = record { id = p.id; epoch = p.epoch; base = base }
+
+first_base : (base : ℕ) (b : Bool) → (base == 0) ≡ b → cond b Next OutOfOrder ≡ Next → base ≡ 0
+first_base base true is h = eqb-true base 0 is
+first_base base false is h = cc
+
+later_base : (n : ℕ) (base : ℕ) (l : Sent) (p : Producer) (b : Bool) → IsNumber p n l
+    → (base == next_sequence (last_of l.base l.count)) ≡ b → cond b Next OutOfOrder ≡ Next → base ≡ wrapped (n + 1)
+later_base n base l p true num is h =
+    let e : base ≡ next_sequence (last_of l.base l.count) = eqb-true base (next_sequence (last_of l.base l.count)) is in
+    let m : next_sequence (last_of l.base l.count) ≡ next_sequence (last_of (wrapped n) 1) =
+    ap (λ (k : ℕ). next_sequence (last_of k l.count)) num.base
+    ∙ ap (λ (k : ℕ). next_sequence (last_of (wrapped n) k)) num.single in
+    let w : next_sequence (last_of (wrapped n) 1) ≡ wrapped (n + 1) = omega arith in
+    e ∙ m ∙ w
+later_base n base l p false num is h = cc
+
+same_base : (n : ℕ) (base : ℕ) (l : Sent) (p : Producer) (o : Option Sent) → IsNumber p n l → judge_same o base l ≡ Next
+    → base ≡ wrapped (n + 1)
+same_base n base l p (Some s) num h = cc
+same_base n base l p None num h =
+    later_base n base l p (base == next_sequence (last_of l.base l.count)) num refl h
+
+-- the judgement where the last batch has the producer's epoch
+judged_same : (p : Producer) (base : ℕ) (x : Sent) (xs : List Sent) (n : ℕ) (l : Sent)
+    → slice_get (x ∷ xs) (length xs) ≡ Some l
+    → l.epoch ≡ p.epoch
+    → judge (x ∷ xs) (idem_of p base) 1 ≡ judge_same (find (is_same (idem_of p base) 1) (keep_last remembered (x ∷ xs)))
+    base l
+judged_same p base x xs n l at same =
+    let here : length (x ∷ xs) - 1 ≡ length xs = omega arith in
+    let last : last_item (x ∷ xs) ≡ Some l = ap (slice_get (x ∷ xs)) here ∙ at in
+    let low : nat_lt p.epoch l.epoch ≡ false = le-ltb p.epoch l.epoch (omega (arith, same)) in
+    let high : nat_lt l.epoch p.epoch ≡ false = le-ltb l.epoch p.epoch (omega (arith, same)) in
+    rw (last, low, high) refl
+
+-- a batch that comes next has the number of the batches as its sequence
+pub next_base : (p : Producer) (sents : List Sent) (base : ℕ) → AreCounted p sents
+    → judge sents (idem_of p base) 1 ≡ Next
+    → base ≡ wrapped (length sents)
+next_base p [] base h next = first_base base (base == 0) refl next ∙ refl
+next_base p (x ∷ xs) base h next =
+    let l : Sent = get_or (x ∷ xs) (length xs) x in
+    let num : IsNumber p (length xs) l = h (length xs) x (omega arith) in
+    let e = judged_same p base x xs (length xs) l (last_is x xs) num.epoch in
+    same_base (length xs) base l p (find (is_same (idem_of p base) 1) (keep_last remembered (x ∷ xs))) num
+    (sym e ∙ next)
+    ∙ ap wrapped (omega arith)
+
+-- what is found passes, and stands somewhere
+found_at : {A : Type 0} (test : A → Bool) (xs : List A) (y : A) → find test xs ≡ Some y
+    → (k : ℕ) × (k < length xs) × (get_or xs k y ≡ y) × (test y ≡ true)
+found_at test [] y h = cc
+found_at {A} test (x ∷ xs) y h =
+    elim (cases_Bool (test x)) [
+      | inl on ↦
+          let some : Some x ≡ Some y = sym (cond-true (test x) (Some x) (find test xs) on) ∙ h in
+          let e : x ≡ y = cc in
+          (0, omega arith, e, ap test (sym e) ∙ on)
+      | inr off ↦
+          let r = found_at test xs y (sym (cond-false (test x) (Some x) (find test xs) off) ∙ h) in
+          (suc r.0, omega (arith, r.1), r.2, r.3)
+    ]
+
+repeat_found : (o : Option Sent) (base offset : ℕ) (l : Sent) → judge_same o base l ≡ Repeat offset → (s : Sent)
+    × (o ≡ Some s)
+repeat_found (Some s) base offset l h = (s, refl)
+repeat_found None base offset l h = not_repeat (base == next_sequence (last_of l.base l.count)) h
+  where
+    not_repeat : (b : Bool) → cond b Next OutOfOrder ≡ Repeat offset → (s : Sent) × (None ≡ Some s)
+    not_repeat true e = cc
+    not_repeat false e = cc
+
+not_first : (b : Bool) (offset : ℕ) → cond b Next OutOfOrder ≡ Repeat offset → ⊥
+not_first true offset e = cc
+not_first false offset e = cc
+
+-- a repeat has the sequence of one of the last five
+pub repeat_base : (p : Producer) (sents : List Sent) (base offset : ℕ) → AreCounted p sents
+    → judge sents (idem_of p base) 1 ≡ Repeat offset
+    → (j : ℕ) × (j < length sents) × (length sents ≤ j + 5) × (base ≡ wrapped j)
+repeat_base p [] base offset h again = absurd (not_first (base == 0) offset again)
+repeat_base p (x ∷ xs) base offset h again =
+    let l : Sent = get_or (x ∷ xs) (length xs) x in
+    let num : IsNumber p (length xs) l = h (length xs) x (omega arith) in
+    let same = judged_same p base x xs (length xs) l (last_is x xs) num.epoch in
+    let f = repeat_found (find (is_same (idem_of p base) 1) (keep_last remembered (x ∷ xs))) base offset l
+    (sym same ∙ again) in
+    let m : ℕ = length (x ∷ xs) - 5 in
+    let r = found_at (is_same (idem_of p base) 1) (drop m (x ∷ xs)) f.0 f.1 in
+    let within : m + r.0 < length (x ∷ xs) = omega (arith, r.1, length-drop m (x ∷ xs)) in
+    let read : get_or (x ∷ xs) (m + r.0) f.0 ≡ f.0 = sym (get_or-drop m (x ∷ xs) r.0 f.0) ∙ r.2 in
+    let number : IsNumber p (m + r.0) f.0 = subst (λ (s : Sent). IsNumber p (m + r.0) s) read (h (m + r.0) f.0 within)
+    in
+    let parts = and_parts (f.0.epoch == p.epoch) (f.0.base == base && f.0.count == 1) r.3 in
+    let bases : f.0.base ≡ base = eqb-true f.0.base base (and_parts (f.0.base == base) (f.0.count == 1) parts.1).0 in
+    (m + r.0, within, omega arith, sym bases ∙ number.base)
+
+-- the history with one more batch of the producer
+history_last_from : (id start : ℕ) (log : List Batch) (b : Batch)
+    → (offset : ℕ) × (history_from id start (log ++ b ∷ []) ≡ history_from id start log ++ sent_in id offset
+    (length b.records) b.idem)
+history_last_from id start [] b = (start, append-nil (sent_in id start (length b.records) b.idem))
+history_last_from id start (c ∷ log) b =
+    let r = history_last_from id (start + length c.records) log b in (
+      r.0,
+      ap (λ (xs : List Sent). sent_in id start (length c.records) c.idem ++ xs) r.1
+          ∙ sym (append_assoc (sent_in id start (length c.records) c.idem)
+          (history_from id (start + length c.records) log) (sent_in id r.0 (length b.records) b.idem)),
+    )
+
+pub history_last : (p : Producer) (log : List Batch) (base : ℕ) (message : Record)
+    → (offset : ℕ) × (history p.id (log ++ batch_of p base message ∷ []) ≡ history p.id log ++ sent (idem_of p base) 1
+    offset ∷ [])
+history_last p log base message =
+    let r = history_last_from p.id 0 log (batch_of p base message) in
+    let own : (p.id == p.id) ≡ true = eq_self p.id in
+    (r.0, r.1 ∙ ap (λ (b : Bool). history p.id log ++ cond b (sent (idem_of p base) 1 r.0 ∷ []) []) own)
+  where
+    eq_self : (n : ℕ) → (n == n) ≡ true
+    eq_self n = Rattle.std.proofs.lemmas.Bool.eq-eqb n n refl
+
+not_its : (id next offset count : ℕ) → next ≤ id → (o : Option Idem) → IsGiven next o → sent_in id offset count o ≡ []
+not_its id next offset count l None h = refl
+not_its id next offset count l (Some idem) h =
+    elim (cases_Bool (id == idem.id)) [
+      | inl e ↦ let same : id ≡ idem.id = eqb-true id idem.id e in absurd (omega (arith, same, h))
+      | inr e ↦ cond-false (id == idem.id) (sent idem count offset ∷ []) [] e
+    ]
+
+-- a producer whose id was not given yet has sent nothing
+pub no_history : (id next : ℕ) → next ≤ id → (log : List Batch)
+    → AllByRecursion (λ (b : Batch). IsGiven next b.idem) log
+    → history id log ≡ []
+no_history id next l log h = go 0 log h
+  where
+    go : (start : ℕ) (log : List Batch) → AllByRecursion (λ (b : Batch). IsGiven next b.idem) log
+        → history_from id start log ≡ []
+    go start [] h = refl
+    go start (b ∷ log) h =
+        ap (λ (xs : List Sent). xs ++ history_from id (start + length b.records) log)
+        (not_its id next start (length b.records) l b.idem h.0)
+        ∙ go (start + length b.records) log h.1
+
+pub sequence_used_here : (ss : List Sequence) (q : Place) → sequence_of (used ss q) q ≡ next_sequence (sequence_of ss q)
+sequence_used_here [] q = rw (same_here q) refl
+sequence_used_here (s ∷ ss) q =
+    elim (cases_Bool (same_place s.place q)) [
+      | inl hit ↦ rw (hit, hit) refl
+      | inr miss ↦ rw (miss, miss) (sequence_used_here ss q)
+    ]
+
+pub sequence_used_elsewhere : (ss : List Sequence) (p q : Place) → same_place p q ≡ false
+    → sequence_of (used ss p) q ≡ sequence_of ss q
+sequence_used_elsewhere [] p q h = rw h refl
+sequence_used_elsewhere (s ∷ ss) p q h =
+    elim (cases_Bool (same_place s.place p)) [
+      | inl hit ↦
+          let miss : same_place s.place q ≡ false = ap (λ (x : Place). same_place x q) (places_are s.place p hit) ∙ h in
+          rw (hit, miss) refl
+      | inr other ↦ rw other (ap (λ (k : ℕ). cond (same_place s.place q) s.next k) (sequence_used_elsewhere ss p q h))
+    ]
+
+pub sequence_prepared : (ss : List Sequence) (p q : Place) → sequence_of (prepared ss p) q ≡ sequence_of ss q
+sequence_prepared [] p q = elim (cases_Bool (same_place p q)) [ inl on ↦ rw on refl | inr off ↦ rw off refl ]
+sequence_prepared (s ∷ ss) p q =
+    elim (cases_Bool (same_place s.place p)) [
+      | inl hit ↦ rw hit refl
+      | inr other ↦ rw other (ap (λ (k : ℕ). cond (same_place s.place q) s.next k) (sequence_prepared ss p q))
+    ]

@@ -1,0 +1,9 @@
+pub mod Delivery
+pub mod Firsts
+pub mod Parts
+pub mod Premises
+pub mod Reaching
+pub mod Served
+pub mod Taking
+pub mod View
+pub mod Waiting

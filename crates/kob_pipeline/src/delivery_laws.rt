@@ -1,0 +1,79 @@
+//! The laws of delivery: what a journal says of a service's outbox, of topics and of inboxes.
+
+ghost use Rattle.std.specs.Prelude.{List, ℕ};
+ghost use Rattle.std.specs.List.{AllByRecursion};
+ghost use Rattle.kob_inbox.specs.Run.{taken_of, Move as ConsumerMove, State as ConsumerState};
+ghost use Rattle.kob_inbox.specs.declared.fetcher.Subscription.{Subscription};
+ghost use Rattle.kob_partition.specs.Batches.{records_of};
+ghost use Rattle.kob_router.specs.Dispatches.{dispatch_of};
+ghost use Rattle.kob_router.specs.Run.{Move as RouterMove, State as RouterState};
+ghost use Rattle.kob_router.specs.declared.dispatch.Target.{Target};
+ghost use Rattle.kob_router.specs.declared.place.Place.{Place};
+ghost use Rattle.kob_shared.specs.declared.journal.Entry.{Entry};
+ghost use Rattle.kob_pipeline.specs.Taking.{IsTakenInOrder};
+ghost use Rattle.kob_pipeline.specs.Delivery.{IsDelivered, rows_of};
+ghost use Rattle.kob_pipeline.specs.Parts.{IsConsumerPart, IsServicePart};
+ghost use Rattle.kob_pipeline.specs.Premises.{ArePrivate, IsNeverDeleted, IsSoleCommitter, IsSoleProducer};
+ghost use Rattle.kob_pipeline.specs.Reaching.{ReachesInOrder};
+ghost use Rattle.kob_pipeline.specs.View.{IsHistory, View, opening_view};
+ghost use Rattle.kob_pipeline.specs.Waiting.{IsWaitingOrSent};
+
+/// On each partition of a topic to which the service alone sends, and that nobody deletes, the
+/// event ids, each at its first offset, begin those of the recorded rows that are routed there, and
+/// each record is what the route makes of a row. So replies that are lost, repeats and restarts put
+/// no row before an earlier one, and leave none out.
+pub fn a_partition_holds_what_was_routed()
+    ensures { (target : Target) (worker : ℕ) (journal : List Entry) (view : View)
+        (moves : List RouterMove) (now : RouterState) (place : Place)
+        → IsHistory opening_view journal view
+        → IsServicePart target worker journal moves now
+        → IsSoleProducer worker place.topic journal
+        → IsNeverDeleted place.topic journal
+        → IsDelivered (dispatch_of target) place (rows_of moves) (records_of (view.log place)) }
+{
+    // By the definitions.
+}
+
+/// Of each partition of a topic on which the consumer alone commits for its group, and that nobody
+/// deletes, it takes in the offsets up to some bound, each for the first time after all lower ones,
+/// with the records that stand there.
+pub fn a_consumer_takes_each_offset_in_order()
+    ensures { (t : Subscription) (worker : ℕ) (journal : List Entry) (view : View)
+        (moves : List ConsumerMove) (now : ConsumerState) (place : Place)
+        → IsHistory opening_view journal view
+        → IsConsumerPart t worker journal moves now
+        → IsSoleCommitter worker t.group place.topic journal
+        → IsNeverDeleted place.topic journal
+        → IsTakenInOrder place (records_of (view.log place)) (taken_of moves) }
+{
+    // By the definitions.
+}
+
+/// Where only the service sends to the topics of the consumer's assignment, only the consumer
+/// commits for its group on them, and nobody deletes them, the inbox holds of each aggregate a
+/// beginning of its recorded events, in their order, each once, with its row's key and value.
+pub fn an_inbox_holds_a_prefix_of_each_aggregate()
+    ensures { (target : Target) (t : Subscription) (sender taker : ℕ) (journal : List Entry)
+        (view : View) (sends : List RouterMove) (service : RouterState)
+        (takes : List ConsumerMove) (consumer : ConsumerState) (kind id : List ℕ)
+        → IsHistory opening_view journal view
+        → IsServicePart target sender journal sends service
+        → IsConsumerPart t taker journal takes consumer
+        → ArePrivate sender taker t.group t.assignment journal
+        → ReachesInOrder (rows_of sends) consumer.inbox kind id }
+{
+    // By the definitions.
+}
+
+/// Each recorded row stands in the outbox past the mark, or the journal has a PRODUCE of the
+/// service that is done, of this row's record to the place where the row is routed. Whatever others
+/// do: nothing is asked of the journal.
+pub fn a_row_waits_or_was_sent()
+    ensures { (target : Target) (worker : ℕ) (journal : List Entry)
+        (moves : List RouterMove) (now : RouterState)
+        → IsServicePart target worker journal moves now
+        → AllByRecursion (IsWaitingOrSent (dispatch_of target) worker journal now.outbox)
+        (rows_of moves) }
+{
+    // By the definitions.
+}
