@@ -1,1 +1,3 @@
 pub mod Served
+pub mod View
+pub mod BrokerView
