@@ -57,7 +57,8 @@ module _ {K V : Type 0} (same : K → K → Bool) (decides : (a b : K) → Decid
 
 -- the test of commit places decides
 both_parts : (a b : CommitPlace) (groups topics partitions : Bool)
-    → same_text a.group b.group ≡ groups → same_text a.topic b.topic ≡ topics → nat_eq a.partition b.partition ≡ partitions
+    → same_text a.group b.group ≡ groups → same_text a.topic b.topic ≡ topics → nat_eq a.partition b.partition
+    ≡ partitions
     → groups && (topics && partitions) ≡ true → a ≡ b
 both_parts a b true true true g t p is =
     ap (λ group. place_of group a.topic a.partition) (as_told a.group b.group g)
@@ -75,7 +76,8 @@ of_itself a =
 
 decided : (a b : CommitPlace) → Decides (same_place a b) (a ≡ b)
 decided a b = (
-  both_parts a b (same_text a.group b.group) (same_text a.topic b.topic) (nat_eq a.partition b.partition) refl refl refl,
+  both_parts a b (same_text a.group b.group) (same_text a.topic b.topic) (nat_eq a.partition b.partition) refl refl
+      refl,
   (λ is. ap (same_place a) (sym is) ∙ of_itself a),
 )
 

@@ -57,19 +57,23 @@ any_removed name [] (suc place) none = refl
 any_removed name (topic ∷ topics) zero none = (neither (is_named name topic) (list_any (is_named name) topics) none).1
 any_removed name (topic ∷ topics) (suc place) none =
     let parts = neither (is_named name topic) (list_any (is_named name) topics) none in
-    nor (is_named name topic) (list_any (is_named name) (remove topics place)) parts.0 (any_removed name topics place parts.1)
+    nor (is_named name topic) (list_any (is_named name) (remove topics place)) parts.0
+    (any_removed name topics place parts.1)
 
 once_removed : (topics : List (Topic Plain)) (place : ℕ) → IsOnceNamed topics → IsOnceNamed (remove topics place)
 once_removed [] zero once = tt
 once_removed [] (suc place) once = tt
 once_removed (topic ∷ topics) zero once = once.1
-once_removed (topic ∷ topics) (suc place) once = (any_removed topic.name topics place once.0, once_removed topics place once.1)
+once_removed (topic ∷ topics) (suc place) once =
+    (any_removed topic.name topics place once.0, once_removed topics place once.1)
 
-found_removed : (place : Option ℕ) (topics : List (Topic Plain)) → IsOnceNamed topics → IsOnceNamed (without_topic_found place topics)
+found_removed : (place : Option ℕ) (topics : List (Topic Plain)) → IsOnceNamed topics
+    → IsOnceNamed (without_topic_found place topics)
 found_removed None topics once = once
 found_removed (Some place) topics once = once_removed topics place once
 
-pub once_without : (name : List ℕ) (topics : List (Topic Plain)) → IsOnceNamed topics → IsOnceNamed (without_topic name topics)
+pub once_without : (name : List ℕ) (topics : List (Topic Plain)) → IsOnceNamed topics
+    → IsOnceNamed (without_topic name topics)
 once_without name topics once = found_removed _ topics once
 
 -- a topic of a new name is put last
@@ -89,10 +93,12 @@ abbrev passed_by : List ℕ → List (Topic Plain) → ℕ
 passed_by name [] = 0
 passed_by name (topic ∷ topics) = cond (is_named name topic) 0 (1 + passed_by name topics)
 
-as_counted : (name : List ℕ) (topics : List (Topic Plain)) → passed_by name topics ≡ position_or_len (is_named name) topics
+as_counted : (name : List ℕ) (topics : List (Topic Plain)) → passed_by name topics
+    ≡ position_or_len (is_named name) topics
 as_counted name topics = is_position_or_len (passed_by name) (is_named name) refl (λ topic rest. refl) topics
 
-none_found : (name : List ℕ) (topics : List (Topic Plain)) → list_any (is_named name) topics ≡ false → find (is_named name) topics ≡ None
+none_found : (name : List ℕ) (topics : List (Topic Plain)) → list_any (is_named name) topics ≡ false
+    → find (is_named name) topics ≡ None
 none_found name [] none = refl
 none_found name (topic ∷ topics) none =
     let parts = neither (is_named name topic) (list_any (is_named name) topics) none in
@@ -103,12 +109,14 @@ one_further n m true is = lt-ltb (1 + n) (suc m) (omega (arith, ltb-true n m is)
 one_further n m false is = le-ltb (1 + n) (suc m) (omega (arith, ltb-false n m is))
 
 -- a name is had exactly where a place is found
-within_if : (name : List ℕ) (topics : List (Topic Plain)) → nat_lt (passed_by name topics) (length topics) ≡ list_any (is_named name) topics
+within_if : (name : List ℕ) (topics : List (Topic Plain)) → nat_lt (passed_by name topics) (length topics)
+    ≡ list_any (is_named name) topics
 within_if name [] = refl
 within_if name (topic ∷ topics) = by (within_if name topics) (is_named name topic)
   where
     by : nat_lt (passed_by name topics) (length topics) ≡ list_any (is_named name) topics
-        → (hit : Bool) → nat_lt (cond hit 0 (1 + passed_by name topics)) (suc (length topics)) ≡ hit || list_any (is_named name) topics
+        → (hit : Bool) → nat_lt (cond hit 0 (1 + passed_by name topics)) (suc (length topics))
+        ≡ hit || list_any (is_named name) topics
     by rest true = lt-ltb 0 (suc (length topics)) (omega arith)
     by rest false = one_further (passed_by name topics) (length topics) (list_any (is_named name) topics) rest
 
@@ -116,11 +124,13 @@ some_if : (b : Bool) (n : ℕ) → is_some (cond b (Some n) None) ≡ b
 some_if true n = refl
 some_if false n = refl
 
-pub is_new : (name : List ℕ) (topics : List (Topic Plain)) → has_topic name topics ≡ false → list_any (is_named name) topics ≡ false
+pub is_new : (name : List ℕ) (topics : List (Topic Plain)) → has_topic name topics ≡ false
+    → list_any (is_named name) topics ≡ false
 is_new name topics has =
     sym (within_if name topics)
     ∙ ap (λ n. nat_lt n (length topics)) (as_counted name topics)
-    ∙ sym (some_if (nat_lt (position_or_len (is_named name) topics) (length topics)) (position_or_len (is_named name) topics))
+    ∙ sym (some_if (nat_lt (position_or_len (is_named name) topics) (length topics))
+    (position_or_len (is_named name) topics))
     ∙ has
 
 add_one : (n : ℕ) → 1 + n ≡ suc n
@@ -144,12 +154,14 @@ none_left name (topic ∷ topics) once = by (none_left name topics once.1) (is_n
 
 left_found : (name : List ℕ) (topics : List (Topic Plain)) (within : Bool)
     → nat_lt (position_or_len (is_named name) topics) (length topics) ≡ within → IsOnceNamed topics
-    → find (is_named name) (without_topic_found (cond within (Some (position_or_len (is_named name) topics)) None) topics) ≡ None
+    → find (is_named name)
+    (without_topic_found (cond within (Some (position_or_len (is_named name) topics)) None) topics) ≡ None
 left_found name topics true is once =
     ap (λ place. find (is_named name) (remove topics place)) (sym (as_counted name topics)) ∙ none_left name topics once
 left_found name topics false is once =
     find_at (is_named name) topics
-    ∙ slice_get_past topics (position_or_len (is_named name) topics) (ltb-false (position_or_len (is_named name) topics) (length topics) is)
+    ∙ slice_get_past topics (position_or_len (is_named name) topics)
+    (ltb-false (position_or_len (is_named name) topics) (length topics) is)
 
 pub read_of_removed : (name : List ℕ) (j : ℕ) (topics : List (Topic Plain)) → IsOnceNamed topics
     → partition_of name j (without_topic name topics) ≡ None

@@ -1,5 +1,5 @@
 -- What is read of a partition after its topic was written, made or taken away.
-use Rattle.std.proofs.Common.{◌≡◌, ℕ, zero, suc, ◌<◌, Bool, true, false, cond, ◌&&◌, nat_lt, nat_eq, List, [], ◌∷◌, ◌++◌, Option, Some, None, length, set, get_or, slice_get, slice_set, replicate, refl, ap, sym, ◌∙◌, arith, true≢false}
+use Rattle.std.proofs.Common.{◌≡◌, ℕ, zero, suc, ◌<◌, Bool, true, false, cond, ◌&&◌, nat_lt, nat_eq, List, [], ◌∷◌, ◌++◌, Option, Some, None, length, set, get_or, slice_get, slice_set, replicate, refl, ap, sym, ◌∙◌, arith}
 use Rattle.std.proofs.lemmas.List.Folds.{find-append, find-set, find_at}
 use Rattle.std.proofs.lemmas.List.Sums.{passes_at_first}
 use Rattle.std.proofs.lemmas.Bool.{eqb-false, eqb-true, ltb-false, ltb-true}
@@ -12,6 +12,7 @@ use Rattle.kob_partition.specs.Batches.{Plain}
 use Rattle.kob_partition.specs.Retained.{plain_meaning}
 use Rattle.kob_catalog.specs.Creation.{new_topic}
 use Rattle.kob_catalog.specs.Topics.{Topic, no_topic, partition_at, partition_of, topic_at, with_partition, with_partition_found, without_topic, without_topic_found}
+use Rattle.kob_pipeline.proofs.Texts.{either_way}
 use Rattle.kob_pipeline.specs.BrokerView.{batches_of}
 
 -- a partition of a topic, if both are there
@@ -25,7 +26,8 @@ is_named name topic = same_text name topic.name
 read_at : (topics : List (Topic Plain)) (place number : ℕ) (within : Bool) → nat_lt place (length topics) ≡ within
     → partition_at topics (cond within (Some place) None) number ≡ found_of (slice_get topics place) number
 read_at topics place number true is =
-    ap (λ topic. found_of topic number) (sym (slice_get-get_or topics place no_topic (ltb-true place (length topics) is)))
+    ap (λ topic. found_of topic number)
+    (sym (slice_get-get_or topics place no_topic (ltb-true place (length topics) is)))
 read_at topics place number false is =
     ap (λ topic. found_of topic number) (sym (slice_get_past topics place (ltb-false place (length topics) is)))
 
@@ -33,11 +35,13 @@ read_at topics place number false is =
 pub is_first : (name : List ℕ) (number : ℕ) (topics : List (Topic Plain))
     → partition_of name number topics ≡ found_of (find (is_named name) topics) number
 is_first name number topics =
-    read_at topics (position_or_len (is_named name) topics) number (nat_lt (position_or_len (is_named name) topics) (length topics)) refl
+    read_at topics (position_or_len (is_named name) topics) number
+    (nat_lt (position_or_len (is_named name) topics) (length topics)) refl
     ∙ ap (λ topic. found_of topic number) (sym (find_at (is_named name) topics))
 
 -- one that does not pass takes the place of one that does not pass
-find_past_written : {X : Type 0} (p : X → Bool) (xs : List X) (i : ℕ) (y d : X) → p y ≡ false → p (get_or xs i d) ≡ false
+find_past_written : {X : Type 0} (p : X → Bool) (xs : List X) (i : ℕ) (y d : X) → p y ≡ false → p (get_or xs i d)
+    ≡ false
     → find p (set xs i y) ≡ find p xs
 find_past_written p [] i y d new old = refl
 find_past_written p (x ∷ xs) zero y d new old =
@@ -93,11 +97,6 @@ same_test : (name other : List ℕ) (topic : Topic Plain) → same_text name top
     → same_text other topic.name ≡ same_text other name
 same_test name other topic is = ap (same_text other) (sym ((bytes_eq-Decides name topic.name).0 is))
 
-turned : (one two : List ℕ) (same : Bool) → same_text two one ≡ false → same_text one two ≡ same → same_text one two ≡ false
-turned one two true differs is =
-    absurd (true≢false (sym ((bytes_eq-Decides two one).1 (sym ((bytes_eq-Decides one two).0 is))) ∙ differs))
-turned one two false differs is = is
-
 module _ (name : List ℕ) (number : ℕ) (written : Plain) (topics : List (Topic Plain)) (place : ℕ)
     (is : place ≡ position_or_len (is_named name) topics) (within : place < length topics) where
   abbrev the_topic : Topic Plain
@@ -115,7 +114,8 @@ module _ (name : List ℕ) (number : ℕ) (written : Plain) (topics : List (Topi
   of_name = find-set (is_named name) topics place rewritten is within its_name
 
   found_first : find (is_named name) topics ≡ Some the_topic
-  found_first = find_at (is_named name) topics ∙ ap (slice_get topics) (sym is) ∙ slice_get-get_or topics place no_topic within
+  found_first = find_at (is_named name) topics ∙ ap (slice_get topics) (sym is)
+      ∙ slice_get-get_or topics place no_topic within
 
   of_another : (other : List ℕ) → same_text other name ≡ false
       → find (is_named other) (slice_set topics place rewritten) ≡ find (is_named other) topics
@@ -146,7 +146,8 @@ module _ (name : List ℕ) (number : ℕ) (written : Plain) (topics : List (Topi
       ∙ ap (λ topic. found_of topic j) (of_another other differs)
       ∙ sym (is_first other j topics)
 
-  by_name : (p : Plain) (other : List ℕ) (j : ℕ) (same : Bool) → same_text name other ≡ same → partition_of name number topics ≡ Some p
+  by_name : (p : Plain) (other : List ℕ) (j : ℕ) (same : Bool) → same_text name other ≡ same
+      → partition_of name number topics ≡ Some p
       → partition_of other j (slice_set topics place rewritten)
       ≡ cond (same && nat_eq number j) (Some written) (partition_of other j topics)
   by_name p other j true one there =
@@ -154,34 +155,41 @@ module _ (name : List ℕ) (number : ℕ) (written : Plain) (topics : List (Topi
       ap (λ of. partition_of of j (slice_set topics place rewritten)) (sym is_name)
       ∙ same_name p j there
       ∙ ap (λ of. cond (nat_eq number j) (Some written) (partition_of of j topics)) is_name
-  by_name p other j false one there = other_name other j (turned other name (same_text other name) one refl)
+  by_name p other j false one there = other_name other j (either_way other name ∙ one)
 
-written_at : (name : List ℕ) (number : ℕ) (p written : Plain) (topics : List (Topic Plain)) (other : List ℕ) (j : ℕ) (within : Bool)
+written_at : (name : List ℕ) (number : ℕ) (p written : Plain) (topics : List (Topic Plain)) (other : List ℕ) (j : ℕ)
+    (within : Bool)
     → nat_lt (position_or_len (is_named name) topics) (length topics) ≡ within
     → partition_of name number topics ≡ Some p
-    → partition_of other j (with_partition_found (cond within (Some (position_or_len (is_named name) topics)) None) number written topics)
+    → partition_of other j
+    (with_partition_found (cond within (Some (position_or_len (is_named name) topics)) None) number written topics)
     ≡ cond (same_text name other && nat_eq number j) (Some written) (partition_of other j topics)
 written_at name number p written topics other j true is there =
     by_name name number written topics (position_or_len (is_named name) topics) refl
     (ltb-true (position_or_len (is_named name) topics) (length topics) is) p other j (same_text name other) refl there
 written_at name number p written topics other j false is there =
     absurd (none-some p
-    (sym (ap (λ place. partition_at topics place number) (ap (λ b. cond b (Some (position_or_len (is_named name) topics)) None) is))
+    (sym (ap (λ place. partition_at topics place number)
+    (ap (λ b. cond b (Some (position_or_len (is_named name) topics)) None) is))
     ∙ there))
 
 -- after a partition was written that is there, it is read as written, and all others as they were
-pub read_written : (name : List ℕ) (number : ℕ) (p written : Plain) (topics : List (Topic Plain)) (other : List ℕ) (j : ℕ)
+pub read_written : (name : List ℕ) (number : ℕ) (p written : Plain) (topics : List (Topic Plain)) (other : List ℕ)
+    (j : ℕ)
     → partition_of name number topics ≡ Some p
     → partition_of other j (with_partition name number written topics)
     ≡ cond (same_text name other && nat_eq number j) (Some written) (partition_of other j topics)
 read_written name number p written topics other j there =
-    written_at name number p written topics other j (nat_lt (position_or_len (is_named name) topics) (length topics)) refl there
+    written_at name number p written topics other j (nat_lt (position_or_len (is_named name) topics) (length topics))
+    refl there
 
 -- the partitions of a topic that was taken away
 module _ (name : List ℕ) (topics : List (Topic Plain)) where
-  others_stay : (other : List ℕ) (j : ℕ) (within : Bool) → nat_lt (position_or_len (is_named name) topics) (length topics) ≡ within
+  others_stay : (other : List ℕ) (j : ℕ) (within : Bool)
+      → nat_lt (position_or_len (is_named name) topics) (length topics) ≡ within
       → same_text other name ≡ false
-      → partition_of other j (without_topic_found (cond within (Some (position_or_len (is_named name) topics)) None) topics)
+      → partition_of other j
+      (without_topic_found (cond within (Some (position_or_len (is_named name) topics)) None) topics)
       ≡ partition_of other j topics
   others_stay other j true is differs =
       is_first other j (remove topics (position_or_len (is_named name) topics))
@@ -205,8 +213,10 @@ of_empty zero j = refl
 of_empty (suc count) zero = refl
 of_empty (suc count) (suc j) = of_empty count j
 
-put_last : (name : List ℕ) (made : Topic Plain) (j : ℕ) (found : Option (Topic Plain)) → ((i : ℕ) → batches_of (slice_get made.partitions i) ≡ [])
-    → batches_of (found_of (option_or found (cond (same_text name made.name) (Some made) None)) j) ≡ batches_of (found_of found j)
+put_last : (name : List ℕ) (made : Topic Plain) (j : ℕ) (found : Option (Topic Plain))
+    → ((i : ℕ) → batches_of (slice_get made.partitions i) ≡ [])
+    → batches_of (found_of (option_or found (cond (same_text name made.name) (Some made) None)) j)
+    ≡ batches_of (found_of found j)
 put_last name made j (Some topic) empty = refl
 put_last name made j None empty = by (same_text name made.name)
   where
@@ -216,7 +226,8 @@ put_last name made j None empty = by (same_text name made.name)
 
 -- a topic that is made has no batches
 pub read_added : (name : List ℕ) (j : ℕ) (topics : List (Topic Plain)) (made : List ℕ) (count : ℕ)
-    → batches_of (partition_of name j (topics ++ new_topic plain_meaning made count ∷ [])) ≡ batches_of (partition_of name j topics)
+    → batches_of (partition_of name j (topics ++ new_topic plain_meaning made count ∷ []))
+    ≡ batches_of (partition_of name j topics)
 read_added name j topics made count =
     ap batches_of
     (is_first name j (topics ++ new_topic plain_meaning made count ∷ [])
