@@ -20,3 +20,9 @@ mod DeliveryLaws
 mod Samples
 mod Example
 mod Needed
+pub mod Texts
+pub mod TopicReads
+pub mod TopicNames
+pub mod CommitReads
+pub mod BrokerSteps
+pub mod BrokerHistory

@@ -7,3 +7,4 @@ pub mod Served
 pub mod Taking
 pub mod View
 pub mod Waiting
+pub mod BrokerView
