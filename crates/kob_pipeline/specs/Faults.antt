@@ -6,7 +6,7 @@ use Rattle.kob_shared.specs.declared.fleet_stop.FleetStop.TheVariants as stops
 use Rattle.kob_shared.specs.Fleets.{DifferAt, claims_of}
 use Rattle.kob_shared.specs.Runs.{events_in, told_in}
 use Rattle.kob_pipeline.specs.declared.fault.PipelineFault.{PipelineFault}
-use Rattle.kob_pipeline.specs.declared.fault.PipelineFault.TheVariants.{TooManyWorkers, JournalFull, NotBegun, Memory, Stale, Full, Torn}
+use Rattle.kob_pipeline.specs.declared.fault.PipelineFault.TheVariants.{TooManyWorkers, JournalFull, NotBegun, Memory, Stale, Full, Store, Torn}
 
 -- what stops a fleet is a fault of the pipeline
 abbrev pub as_fault : FleetStop → PipelineFault
@@ -19,7 +19,7 @@ abbrev pub IsAsFault : FleetStop → PipelineFault → Type 0
 IsAsFault stop fault = fault ≡ as_fault stop
 
 -- the journal that is given back differs at the place from the worker's transcript; or, for worker
--- 0, it was not opened with these settings and what is in force of their bindings
+-- 0, other settings were stored as those that it was opened with
 abbrev pub IsTornOnlyWhere : Settings → PipelineFault → Type 0
 IsTornOnlyWhere opening (Torn worker place found transcripts) =
     DifferAt worker found.journal
@@ -38,3 +38,9 @@ abbrev pub NamesWorkerWithin : ℕ → PipelineFault → Type 0
 NamesWorkerWithin count (Stale worker length) = (1 ≤ worker) × (worker ≤ count)
 NamesWorkerWithin count (Full worker) = worker ≤ count
 NamesWorkerWithin count fault = Unit {0}
+
+-- a fault of putting together what was left: want of memory, or a database that refused
+abbrev pub IsOther : PipelineFault → Type 0
+IsOther Memory = Unit {0}
+IsOther Store = Unit {0}
+IsOther fault = ⊥

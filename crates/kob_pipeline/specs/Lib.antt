@@ -1,8 +1,11 @@
 pub mod Consumers
 pub mod Counts
+pub mod Ends
 pub mod Faults
+pub mod Leavings
 pub mod Losses
 pub mod Pipelines
 pub mod Served
 pub mod Services
 pub mod Steps
+pub mod Workers

@@ -1,5 +1,6 @@
 -- Which calls of a worker are lost, and what that leaves of them.
-use Rattle.std.specs.Prelude.{◌≡◌, List, [], ◌∷◌, None, Some}
+use Rattle.std.specs.Prelude.{◌≡◌, List, [], ◌∷◌, Option, None, Some}
+use Rattle.kob_rights.specs.declared.reply.Reply.{Reply}
 use Rattle.kob_router.specs.declared.line.Call.{Call}
 use Rattle.kob_pipeline.specs.declared.plan.Loss.{Loss}
 use Rattle.kob_pipeline.specs.declared.plan.Loss.TheVariants as losses
@@ -9,6 +10,12 @@ use Rattle.kob_pipeline.specs.Served.{Served}
 abbrev pub losses_of : Loss → List Call → List Loss
 losses_of loss [] = []
 losses_of loss (call ∷ calls) = loss ∷ losses_of losses.None calls
+
+-- what was heard of a call that was served with this reply
+abbrev pub IsHeardByLoss : Loss → Option Reply → Reply → Type 0
+IsHeardByLoss losses.None heard reply = heard ≡ Some reply
+IsHeardByLoss losses.AfterServe heard reply = heard ≡ None
+IsHeardByLoss losses.BeforeServe heard reply = ⊥
 
 -- Which calls were served, by their losses. Without a loss a call was served, and its reply was
 -- heard; lost before it was served, it was neither; lost after, it was served and not heard.

@@ -6,7 +6,7 @@ use kob_outbox::Row;
 use kob_shared::{Journal, Notes};
 
 /// What a service's outbox holds at its end.
-#[derive(Debug, Drop)]
+#[derive(Drop)]
 pub struct OutboxEnd {
     /// The rows that were not swept, by rising numbers.
     pub rows: Vec<Row>,
@@ -15,7 +15,7 @@ pub struct OutboxEnd {
 }
 
 /// What a consumer's inbox holds at its end.
-#[derive(Debug, Drop)]
+#[derive(Drop)]
 pub struct InboxEnd {
     /// In the order of their intake.
     pub rows: Vec<InboxRow>,
@@ -30,4 +30,14 @@ pub struct PipelineEnd {
     pub transcripts: Vec<Notes>,
     pub outboxes: Vec<OutboxEnd>,
     pub inboxes: Vec<InboxEnd>,
+}
+
+/// What a worker leaves beside its notes.
+#[derive(Drop)]
+pub(crate) enum WorkerEnd {
+    Outbox(OutboxEnd),
+    Inbox(InboxEnd),
+    Nothing,
+    /// Its database refused for another cause than want of memory.
+    StoreRefused,
 }

@@ -1,7 +1,7 @@
 //! Why pipelines do not run to their end.
 
 use kob_shared::{FleetStop, Notes, Recorded};
-use std::alloc::AllocError;
+use std::alloc::{AllocError, AllocFailed};
 
 /// Why a pipeline did not run to its end.
 #[derive(Drop)]
@@ -38,6 +38,17 @@ impl From<AllocError> for PipelineFault {
     ghost from_gives = { λ _ fault. fault ≡ Memory };
 
     fn from(_refused: AllocError) -> PipelineFault {
+        PipelineFault::Memory
+    }
+}
+
+impl<T: Drop> From<AllocFailed<T>> for PipelineFault {
+    ghost use Rattle.std.specs.Prelude.{◌≡◌};
+    ghost use Rattle.kob_pipeline.specs.declared.fault.PipelineFault.TheVariants.{Memory};
+
+    ghost from_gives = { λ _ fault. fault ≡ Memory };
+
+    fn from(_refused: AllocFailed<T>) -> PipelineFault {
         PipelineFault::Memory
     }
 }

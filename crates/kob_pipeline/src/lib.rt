@@ -1,10 +1,25 @@
 //! Services, consumers and administrators that run at once over one broker, and what then reaches an inbox.
 #![tactic(auto)]
 
+mod consumer_worker;
+mod consuming;
+mod desk;
 mod end;
 mod fault;
+mod leavings;
+mod line;
+mod losses;
+mod noted;
+mod pipelines;
 mod plan;
+mod posting;
+mod room;
+mod service_worker;
+mod step_fault;
+mod worker;
+mod workers;
 
 pub use end::{InboxEnd, OutboxEnd, PipelineEnd};
 pub use fault::PipelineFault;
+pub use pipelines::pipeline;
 pub use plan::{ConsumerPlan, ConsumerStep, Loss, Plan, Service, ServiceStep};

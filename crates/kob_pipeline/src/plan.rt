@@ -20,7 +20,7 @@ pub enum Loss {
 }
 
 /// What a service does next.
-#[derive(Debug, Drop)]
+#[derive(Drop)]
 pub enum ServiceStep {
     /// Records an event together with the change that it tells of.
     Record(Change, OutboxEvent),
@@ -33,7 +33,7 @@ pub enum ServiceStep {
 }
 
 /// A service with its outbox and its router.
-#[derive(Debug, Drop)]
+#[derive(Drop)]
 pub struct Service {
     pub principal: Principal,
     pub host: Host,
@@ -43,7 +43,7 @@ pub struct Service {
 }
 
 /// What a consumer does next.
-#[derive(Clone, Copy, Debug, PartialEq, Eq)]
+#[derive(Clone, Copy)]
 pub enum ConsumerStep {
     /// Makes one step.
     Tick(Loss),
@@ -52,7 +52,7 @@ pub enum ConsumerStep {
 }
 
 /// A consumer with its inbox.
-#[derive(Debug, Drop)]
+#[derive(Drop)]
 pub struct ConsumerPlan {
     pub principal: Principal,
     pub host: Host,

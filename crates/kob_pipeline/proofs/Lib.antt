@@ -1,0 +1,12 @@
+pub mod ConsumerRuns
+pub mod Ended
+pub mod Finals
+pub mod Gathered
+pub mod LossNotes
+pub mod Numbers
+pub mod Opened
+pub mod Outboxes
+pub mod PipelineFaults
+pub mod Stepping
+pub mod Ticked
+pub mod Worked
