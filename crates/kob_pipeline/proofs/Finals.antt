@@ -26,11 +26,13 @@ use Rattle.kob_pipeline.specs.declared.plan.ConsumerPlan.{ConsumerPlan}
 use Rattle.kob_pipeline.specs.declared.plan.Plan.{Plan}
 use Rattle.kob_pipeline.specs.declared.plan.Service.{Service}
 use Rattle.kob_pipeline.specs.Consumers.{IsConsumption}
+use Rattle.kob_pipeline.specs.declared.worker.Worker.{Worker}
+use Rattle.kob_pipeline.specs.Counts.{workers_planned}
 use Rattle.kob_pipeline.specs.Ends.{IsEnd}
 use Rattle.kob_pipeline.specs.Leavings.{HasNoRefusal, IsKeptByStore, inbox_of, inboxes_of, outbox_of, outboxes_of}
 use Rattle.kob_pipeline.specs.Pipelines.{IsAdministered, IsConsumedBy, IsPipeline, IsServedBy}
 use Rattle.kob_pipeline.specs.Services.{IsServiceRun}
-use Rattle.kob_pipeline.specs.Workers.{IsAdministratorLeft, IsConsumptionLeft, IsLeft, IsServiceLeft, Planned, planned_workers}
+use Rattle.kob_pipeline.specs.Workers.{IsAdministratorLeft, IsConsumptionLeft, IsLeft, IsServiceLeft, Planned, planned_as, planned_workers}
 use Rattle.kob_pipeline.specs.Workers.Planned.{Serving, Consuming, Administering}
 
 abbrev Left : Planned → Done WorkerEnd → Type 0
@@ -236,6 +238,19 @@ note_at first done k one is = slice_get-map (λ (d : Done WorkerEnd). d.notes) d
 transcript_at : (notes : List Noted) (first : Noted) (done : List (Done WorkerEnd)) (worker k : ℕ) (one : Done WorkerEnd) → notes ≡ notes_of first done → worker ≡ suc k → slice_get done k ≡ Some one → slice_get notes worker ≡ Some one.notes
 transcript_at notes first done worker k one same number is = ap (λ (ns : List Noted). slice_get ns worker) same ∙ ap (slice_get (notes_of first done)) number ∙ note_at first done k one is
 
+planned_count : (ss : List Service) (cs : List ConsumerPlan) (ads : List Script) → length (map Serving ss ++ (map Consuming cs ++ map Administering ads)) ≡ length ss + length cs + length ads
+planned_count ss cs ads =
+    let a = length-map ss Serving in
+    let b = length-map cs Consuming in
+    let c = length-map ads Administering in
+    let d = length-append (map Serving ss) (map Consuming cs ++ map Administering ads) in
+    let e = length-append (map Consuming cs) (map Administering ads) in omega (arith, a, b, c, d, e)
+
+-- how many workers there are
+pub workers_counted : (plan : Plan) (workers : List Worker) → map planned_as workers ≡ planned_workers plan → length workers ≡ workers_planned plan
+workers_counted plan workers same =
+    sym (length-map workers planned_as) ∙ ap length same ∙ planned_count plan.services.items plan.consumers.items plan.administrators.items
+
 -- what each worker left by its number, from what all left
 pub pipeline_left : (opening : Settings) (plan : Plan) (end : PipelineEnd) → opened_by opening ≡ opened_by plan.settings → IsEnd opening plan.first (planned_workers plan) end → IsPipeline plan end
 pipeline_left opening plan end same left =
@@ -296,12 +311,6 @@ pipeline_left opening plan end same left =
             events = at.events;
           };
     }
-  where
-    planned_count : (ss : List Service) (cs : List ConsumerPlan) (ads : List Script) → length (map Serving ss ++ (map Consuming cs ++ map Administering ads)) ≡ length ss + length cs + length ads
-    planned_count ss cs ads =
-        let a = length-map ss Serving in let b = length-map cs Consuming in let c = length-map ads Administering in
-        let d = length-append (map Serving ss) (map Consuming cs ++ map Administering ads) in
-        let e = length-append (map Consuming cs) (map Administering ads) in omega (arith, a, b, c, d, e)
 
 -- the same, from what the parts of the call say
 pub pipeline_ended : (opening : Settings) (plan : Plan) (events : List Event) (planned : List Planned) (end : PipelineEnd) → opening ≡ settings_of (opened_by plan.settings) → events ≡ plan.first → planned ≡ planned_workers plan

@@ -33,15 +33,15 @@ answered_push [] one each here = (here, tt)
 answered_push (n ∷ notes) one each here = (each.0, answered_push notes one each.1 here)
 
 -- what was gathered of the workers so far
-pub record Gathers (first : Noted) (done : List (Done WorkerEnd)) (notes : List Noted) (outboxes : List OutboxEnd) (inboxes : List InboxEnd) : Type 0 where
+pub record Gathers (first : Noted) (done : List (Done WorkerEnd)) (notes : List Noted) (os : List OutboxEnd) (is : List InboxEnd) : Type 0 where
   pub transcripts : notes ≡ notes_of first done
   pub answered : EachIsAnswered (events_in notes) (told_in notes)
-  pub outboxes : outboxes ≡ outboxes_of done
-  pub inboxes : inboxes ≡ inboxes_of done
+  pub outboxes : os ≡ outboxes_of done
+  pub inboxes : is ≡ inboxes_of done
   pub unrefused : HasNoRefusal done
 
 -- one worker more
-gathers_more : (first : Noted) (done : List (Done WorkerEnd)) (one : Done WorkerEnd) (notes : List Noted) (os ps : List OutboxEnd) (is js : List InboxEnd) → Gathers first done notes os is
+pub gathers_more : (first : Noted) (done : List (Done WorkerEnd)) (one : Done WorkerEnd) (notes : List Noted) (os ps : List OutboxEnd) (is js : List InboxEnd) → Gathers first done notes os is
     → IsAnswered (length one.notes.events) one.notes.told → IsKeptByStore one.end → ps ≡ os ++ outbox_of one.end → js ≡ is ++ inbox_of one.end
     → Gathers first (done ++ one ∷ []) (notes ++ one.notes ∷ []) ps js
 gathers_more first done one notes os ps is js was answered kept outbox inbox = record {

@@ -4,6 +4,7 @@ use Rattle.kob_names.specs.declared.settings.Settings.{Settings}
 use Rattle.kob_shared.specs.declared.fleet_stop.FleetStop.{FleetStop}
 use Rattle.kob_shared.specs.declared.fleet_stop.FleetStop.TheVariants.{NotBegun, Memory, Stale, Full}
 use Rattle.kob_shared.specs.Runs.{IsNamedWithin}
+use Rattle.kob_shared.proofs.NamedWorkers as fleets
 use Rattle.kob_pipeline.specs.declared.fault.PipelineFault.{PipelineFault}
 use Rattle.kob_pipeline.specs.declared.fault.PipelineFault.TheVariants as faults
 use Rattle.kob_pipeline.specs.Faults.{IsLater, IsOther, IsTornOnlyWhere, NamesWorkerWithin, as_fault}
@@ -25,6 +26,10 @@ named_stopped count NotBegun named = tt
 named_stopped count Memory named = tt
 named_stopped count (Stale worker length) named = named
 named_stopped count (Full worker) named = named
+
+-- a fleet of no more workers names one of them
+pub named_fleet : (low high : ℕ) (s : FleetStop) → low ≤ high → IsNamedWithin low s → NamesWorkerWithin high (as_fault s)
+named_fleet low high s less named = named_stopped high s (fleets.named_more low high s less named)
 
 -- memory and the store name no worker, and are no tear
 pub other_later : (f : PipelineFault) → IsOther f → IsLater f

@@ -119,3 +119,8 @@ inbox_left c begun new before now ls ms fs left start none unlost same leads row
 pub if_ok_three : {V E : Type 0} (P Q R S : V → Type 0) (r : Result V E) → ((v : V) → P v → Q v → R v → S v) → IfOk r P → IfOk r Q → IfOk r R → IfOk r S
 if_ok_three P Q R S (Ok v) all p q r = all v p q r
 if_ok_three P Q R S (Err e) all p q r = tt
+
+-- the same of two
+pub if_ok_two : {V E : Type 0} (P Q S : V → Type 0) (r : Result V E) → ((v : V) → P v → Q v → S v) → IfOk r P → IfOk r Q → IfOk r S
+if_ok_two P Q S (Ok v) all p q = all v p q
+if_ok_two P Q S (Err e) all p q = tt

@@ -20,6 +20,31 @@ pub(crate) struct Leavings {
     pub(crate) inboxes: Vec<InboxEnd>,
 }
 
+impl Leavings {
+    ghost use Rattle.std.specs.Prelude.{◌++◌, OnOk};
+    ghost use Rattle.kob_pipeline.specs.Leavings.{IsKeptByStore, inbox_of, outbox_of};
+
+    /// Keeps what a worker left of its database. The error is want of memory, or `Store` where the
+    /// database refused.
+    fn keep(&mut self, end: WorkerEnd) -> Result<(), PipelineFault>
+        ensures transcripts { self.new.transcripts ≡ self.old.transcripts }
+        ensures outboxes { OnOk result
+            (self.new.outboxes.items ≡ self.old.outboxes.items ++ outbox_of end) }
+        ensures inboxes { OnOk result
+            (self.new.inboxes.items ≡ self.old.inboxes.items ++ inbox_of end) }
+        ensures stores { OnOk result (IsKeptByStore end) }
+        ensures other { IfErr result IsOther }
+    {
+        match end {
+            WorkerEnd::Outbox(left) => self.outboxes.push(left)?,
+            WorkerEnd::Inbox(left) => self.inboxes.push(left)?,
+            WorkerEnd::Nothing => {}
+            WorkerEnd::StoreRefused => return Err(PipelineFault::Store),
+        }
+        Ok(())
+    }
+}
+
 /// Takes apart what the workers left. The error is want of memory, or `Store` where a worker's
 /// database refused.
 pub(crate) fn leavings_of(
@@ -43,14 +68,10 @@ pub(crate) fn leavings_of(
     let _answered = first.receipts();
     left.transcripts.push(first)?;
     for one in done {
-        let _answered = one.notes.receipts();
-        left.transcripts.push(one.notes)?;
-        match one.end {
-            WorkerEnd::Outbox(end) => left.outboxes.push(end)?,
-            WorkerEnd::Inbox(end) => left.inboxes.push(end)?,
-            WorkerEnd::Nothing => {}
-            WorkerEnd::StoreRefused => return Err(PipelineFault::Store),
-        }
+        let Done { notes, end } = one;
+        let _answered = notes.receipts();
+        left.transcripts.push(notes)?;
+        left.keep(end)?;
     }
     Ok(left)
 }
