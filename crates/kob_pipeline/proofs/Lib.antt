@@ -26,3 +26,15 @@ pub mod TopicNames
 pub mod CommitReads
 pub mod BrokerSteps
 pub mod BrokerHistory
+pub mod ConsumerRuns
+pub mod Ended
+pub mod Finals
+pub mod Gathered
+pub mod LossNotes
+pub mod Numbers
+pub mod Opened
+pub mod Outboxes
+pub mod PipelineFaults
+pub mod Stepping
+pub mod Ticked
+pub mod Worked

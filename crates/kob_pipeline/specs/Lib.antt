@@ -8,3 +8,13 @@ pub mod Taking
 pub mod View
 pub mod Waiting
 pub mod BrokerView
+pub mod Consumers
+pub mod Counts
+pub mod Ends
+pub mod Faults
+pub mod Leavings
+pub mod Losses
+pub mod Pipelines
+pub mod Services
+pub mod Steps
+pub mod Workers

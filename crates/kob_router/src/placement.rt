@@ -7,7 +7,7 @@ ghost use Rattle.kob_router.specs.Placement.{column_named, each_entry, entries_o
 ghost use Rattle.kob_router.specs.Placement.{entry_of_parts, is_alias, placed_as};
 
 use crate::fault::RouteFault;
-use kob_names::{Items, Text};
+use kob_names::{Items, PlainValue, Text};
 use std::alloc::{AllocError, Global};
 
 /// The most entries that a placement may have.
@@ -32,6 +32,20 @@ pub enum PlacedColumn {
 pub struct Placed {
     pub column: PlacedColumn,
     pub header: Text,
+}
+
+impl PlainValue for Placed {
+    fn copy(&self, alloc: Global) -> Result<Self, AllocError> {
+        let header = self.header.copy(alloc)?;
+        Ok(Placed {
+            column: self.column,
+            header,
+        })
+    }
+
+    fn same(&self, other: &Self) -> bool {
+        self.column == other.column && self.header.same(&other.header)
+    }
 }
 
 /// The entries of a placement, in order.

@@ -9,7 +9,7 @@ use crate::placement::entries_of;
 use crate::settings::{RouteSettings, Routing};
 use crate::template::is_template;
 use kob_names::PlainValue;
-use std::alloc::Global;
+use std::alloc::{AllocError, Global};
 use std::marker::Model;
 
 /// Where a row goes, and as what: by which column, under which name of a topic, and with which
@@ -49,6 +49,21 @@ impl Route {
         Ok(Route {
             routing: Routing {
                 by: settings.by,
+                template,
+                placement,
+            },
+        })
+    }
+
+    /// An equal route. The error is want of memory.
+    pub fn copy(&self, alloc: Global) -> Result<Route, AllocError>
+        ensures { IfOk result (λ made. made ≡ self.now) }
+    {
+        let template = self.routing.template.copy(alloc)?;
+        let placement = self.routing.placement.copy(alloc)?;
+        Ok(Route {
+            routing: Routing {
+                by: self.routing.by,
                 template,
                 placement,
             },

@@ -119,3 +119,68 @@ impl Gate for Between {
         }
     }
 }
+
+/// A worker waits before its request of this number until another has come to one of its own.
+#[derive(Clone, Copy)]
+pub(crate) struct Hold {
+    pub(crate) worker: usize,
+    pub(crate) number: usize,
+    pub(crate) other: usize,
+    pub(crate) comes_to: u64,
+}
+
+/// Holds three workers where it is told to, and notes how far each has come.
+#[derive(Drop)]
+pub(crate) struct Holding<'t> {
+    holds: &'t [Hold],
+    first: AtomicU64,
+    second: AtomicU64,
+    third: AtomicU64,
+    gave_up: AtomicBool,
+}
+
+impl<'t> Holding<'t> {
+    pub(crate) fn at(holds: &'t [Hold]) -> Holding<'t> {
+        Holding {
+            holds,
+            first: AtomicU64::new(0),
+            second: AtomicU64::new(0),
+            third: AtomicU64::new(0),
+            gave_up: AtomicBool::new(false),
+        }
+    }
+
+    pub(crate) fn gave_up(&self) -> bool {
+        self.gave_up.load(Ordering::SeqCst)
+    }
+
+    /// The number of the request that a worker has come to.
+    fn number_of(&self, worker: usize) -> &AtomicU64 {
+        match worker {
+            1 => &self.first,
+            2 => &self.second,
+            _ => &self.third,
+        }
+    }
+
+    fn wait_for(&self, other: usize, comes_to: u64) {
+        for _ in 0..TURNS {
+            if self.number_of(other).load(Ordering::SeqCst) >= comes_to {
+                return;
+            }
+            thread::yield_now();
+        }
+        self.gave_up.store(true, Ordering::SeqCst);
+    }
+}
+
+impl<'t> Gate for Holding<'t> {
+    fn before(&self, worker: usize, k: usize) {
+        self.number_of(worker).fetch_add(1, Ordering::SeqCst);
+        for hold in self.holds {
+            if hold.worker == worker && hold.number == k {
+                self.wait_for(hold.other, hold.comes_to);
+            }
+        }
+    }
+}

@@ -13,6 +13,10 @@ mod gates;
 #[cfg(test)]
 mod making;
 #[cfg(test)]
+mod pipelines;
+#[cfg(test)]
+mod plans;
+#[cfg(test)]
 mod revoked;
 #[cfg(test)]
 mod sessions;

@@ -1,0 +1,15 @@
+use Rattle.std.proofs.Common.{◌≡◌, take}
+use Rattle.kob_inbox.specs.Run.{calls_of}
+use Rattle.kob_inbox.specs.Tick.{state_of}
+use Rattle.kob_pipeline.specs.Consumers.{IsConsumerStep}
+use Rattle.kob_pipeline.specs.Steps.{Leads, Steps, standing}
+use Rattle.kob_pipeline.proofs.consuming.Consuming.run.Given as goal
+
+abbrev pub invariant-loop-step : goal.invariant-loop-step
+invariant-loop-step g l =
+    (l.line.unmade ≡ 0)
+    × (l.self.consumer.subscription ≡ l.fn.self.consumer.subscription)
+    × Leads (Steps (IsConsumerStep l.fn.self.consumer.subscription)) calls_of
+    (standing (state_of l.fn.self.consumer l.fn.self.inbox) l.fn.line.calls.items l.fn.self.losses.items)
+    (take l.step-index l.steps)
+    (standing (state_of l.self.consumer l.self.inbox) l.line.calls.items l.self.losses.items)

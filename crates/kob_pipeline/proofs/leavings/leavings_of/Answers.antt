@@ -1,0 +1,25 @@
+use Rattle.std.proofs.Common.{◌++◌, [], ◌∷◌, sym, ap, ◌∙◌, append_assoc, Vec}
+use Rattle.std.specs.Vec.Iter.{into_iter_items}
+use Rattle.kob_pipeline.proofs.Gathered.{Gathers, gathers_more}
+use Rattle.kob_pipeline.proofs.leavings.leavings_of.Goals as goal
+
+pub loop-one-preserved : goal.loop-one-preserved
+loop-one-preserved c =
+    let was = c.loop-one.invariant in
+    let yielded = c.loop-one.yielded in
+    let one = c.in-Some.one in
+    let left = c.loop-one.left in
+    let kept = c.in_ok-keep.ensures in
+    let told = ap (λ (v : Vec _ _). v.items) kept.transcripts ∙ c.in_ok-push-2.ensures.items in
+    let k = gathers_more c.args.first yielded one left.transcripts.items left.outboxes.items c.keep.new.self.outboxes.items
+        left.inboxes.items c.keep.new.self.inboxes.items
+        (record { transcripts = was.transcripts; answered = was.answered; outboxes = was.outboxes; inboxes = was.inboxes; unrefused = was.unrefused })
+        c.receipts-answered-in-loop-one.ensures.answered kept.stores kept.outboxes kept.inboxes in
+    record {
+      whole = was.whole ∙ ap (λ xs. yielded ++ xs) c.in-Some.ensures.steps.0 ∙ sym (append_assoc yielded (one ∷ []) (into_iter_items c.next.new.self));
+      transcripts = told ∙ k.transcripts;
+      answered = rw told k.answered;
+      outboxes = k.outboxes;
+      inboxes = k.inboxes;
+      unrefused = k.unrefused;
+    }

@@ -1,0 +1,8 @@
+use Rattle.std.proofs.Common.{Err, ap, ◌∙◌, sym, subst, length, ◌≤◌}
+use Rattle.kob_pipeline.proofs.Opened.{few_open}
+use Rattle.kob_pipeline.proofs.pipelines.broker_of.Goals as goal
+
+pub unreachable-requires : goal.unreachable-requires
+unreachable-requires c =
+    few_open c.in_ok-copy.field-0.opening (subst (λ s. length s.opening ≤ 100000) (sym c.in_ok-copy.ensures) c.requires)
+    (c.in-Err-TooMany.ensures.many (ap Err c.in-Err-TooMany.field-0-is))

@@ -1,0 +1,29 @@
+use Rattle.std.proofs.Common.{arith, length, map, ap, ◌∙◌}
+use Rattle.std.proofs.lemmas.Result.{IfOk-weaker, err_from_is_err_and}
+use Rattle.kob_pipeline.specs.Counts.{workers_planned}
+use Rattle.kob_pipeline.specs.Ends.{IsEnd}
+use Rattle.kob_pipeline.specs.Pipelines.{IsPipeline}
+use Rattle.kob_pipeline.specs.Workers.{planned_as}
+use Rattle.kob_pipeline.proofs.Finals.{pipeline_ended, workers_counted}
+use Rattle.kob_pipeline.proofs.PipelineFaults.{named_fleet}
+use Rattle.kob_pipeline.proofs.pipelines.run_plan.Goals as goal
+
+pub returns-in_err-ran-clause-named : goal.returns-in_err-ran-clause-named
+returns-in_err-ran-clause-named g c =
+    let given = err_from_is_err_and c.from_residual-in_err-ran.result c.from_residual-in_err-ran.ensures.1 in
+    let plan = c.args.plan.now in
+    let count = workers_counted plan c.in_ok-workers.workers.items c.in_ok-workers.ensures in
+    let same = ap length c.deref.ensures.value in
+    rw (given.1, given.2) (named_fleet (length c.deref.result.now) (workers_planned plan) _ (omega (arith, count, same)) c.in_err-ran.ensures.named)
+
+pub returns-clause-ok : goal.returns-clause-ok
+returns-clause-ok g c =
+    let plan = c.args.plan.now in
+    let opening = c.in_ok-broker.opening in
+    let events = c.in_ok-ran.ran.first.events in
+    let planned = map planned_as c.deref-2.result.now in
+    IfOk-weaker c.end_of.result (IsEnd opening events planned) (IsPipeline plan)
+    (λ end is.
+    pipeline_ended opening plan events planned end c.in_ok-broker.ensures.opening (c.in_ok-ran.ensures.first.0 ∙ c.in_ok-broker.ensures.first)
+    (ap (map planned_as) c.deref-2.ensures.value ∙ c.in_ok-workers.ensures) is)
+    c.end_of.ensures.ok

@@ -1,0 +1,18 @@
+use Rattle.std.proofs.Common.{◌≡◌, take}
+use Rattle.std.specs.Prelude.{option_map}
+use Rattle.kob_router.specs.Dispatches.{dispatch_of}
+use Rattle.kob_router.specs.Run.{calls_of}
+use Rattle.kob_router.specs.Tick.{IsFirst, hand_of, state_of}
+use Rattle.kob_pipeline.specs.Services.{IsServiceStep}
+use Rattle.kob_pipeline.specs.Steps.{Leads, Steps, standing}
+use Rattle.kob_pipeline.proofs.posting.Posting.run.Given as goal
+
+abbrev pub invariant-loop-step : goal.invariant-loop-step
+invariant-loop-step g l =
+    (l.line.unmade ≡ 0)
+    × IsFirst (option_map hand_of l.self.router.hand) l.self.outbox
+    × (l.self.router.target ≡ l.fn.self.router.target)
+    × Leads (Steps (IsServiceStep (dispatch_of l.fn.self.router.target))) calls_of
+    (standing (state_of l.fn.self.router l.fn.self.outbox) l.fn.line.calls.items l.fn.self.losses.items)
+    (take l.step-index l.steps)
+    (standing (state_of l.self.router l.self.outbox) l.line.calls.items l.self.losses.items)

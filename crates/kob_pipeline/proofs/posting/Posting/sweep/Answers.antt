@@ -1,0 +1,11 @@
+use Rattle.std.proofs.Common.{sym, subst}
+use Rattle.std.specs.Prelude.{option_map}
+use Rattle.kob_router.specs.Tick.{IsFirst, hand_of}
+use Rattle.kob_pipeline.proofs.Outboxes.{first_swept}
+use Rattle.kob_pipeline.proofs.posting.Posting.sweep.Goals as goal
+
+pub returns-clause-first : goal.returns-clause-first
+returns-clause-first c =
+    let was = c.args.self.now in
+    let hand = option_map hand_of was.router.hand in
+    subst (IsFirst hand) (sym c.in_ok-sweep.ensures.ok) (first_swept hand was.outbox c.requires)

@@ -1,0 +1,6 @@
+use Rattle.std.proofs.Common.{◌≡◌, ◌+◌, ◌*◌, take, vec_len}
+use Rattle.std.specs.List.{sum_by}
+use Rattle.kob_pipeline.proofs.room.room_after_consumers.Given as goal
+
+abbrev pub invariant-loop-consumer : goal.invariant-loop-consumer
+invariant-loop-consumer l = l.left + 2 * sum_by (λ s. vec_len s.steps) (take l.consumer-index l.consumers) ≡ l.room

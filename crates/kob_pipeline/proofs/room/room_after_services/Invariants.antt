@@ -1,0 +1,6 @@
+use Rattle.std.proofs.Common.{◌≡◌, ◌+◌, ◌*◌, take, vec_len}
+use Rattle.std.specs.List.{sum_by}
+use Rattle.kob_pipeline.proofs.room.room_after_services.Given as goal
+
+abbrev pub invariant-loop-service : goal.invariant-loop-service
+invariant-loop-service l = l.left + 2 * sum_by (λ s. vec_len s.steps) (take l.service-index l.services) ≡ l.room

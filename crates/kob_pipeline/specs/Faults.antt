@@ -1,0 +1,46 @@
+-- How a pipeline may fail.
+use Rattle.std.specs.Prelude.{◌≡◌, ◌≢◌, ◌⊎◌, ℕ, ◌≤◌}
+use Rattle.kob_names.specs.declared.settings.Settings.{Settings}
+use Rattle.kob_shared.specs.declared.fleet_stop.FleetStop.{FleetStop}
+use Rattle.kob_shared.specs.declared.fleet_stop.FleetStop.TheVariants as stops
+use Rattle.kob_shared.specs.Fleets.{DifferAt, claims_of}
+use Rattle.kob_shared.specs.Runs.{events_in, told_in}
+use Rattle.kob_pipeline.specs.declared.fault.PipelineFault.{PipelineFault}
+use Rattle.kob_pipeline.specs.declared.fault.PipelineFault.TheVariants.{TooManyWorkers, JournalFull, NotBegun, Memory, Stale, Full, Store, Torn}
+
+-- what stops a fleet is a fault of the pipeline
+abbrev pub as_fault : FleetStop → PipelineFault
+as_fault stops.NotBegun = NotBegun
+as_fault stops.Memory = Memory
+as_fault (stops.Stale worker length) = Stale worker length
+as_fault (stops.Full worker) = Full worker
+
+abbrev pub IsAsFault : FleetStop → PipelineFault → Type 0
+IsAsFault stop fault = fault ≡ as_fault stop
+
+-- the journal that is given back differs at the place from the worker's transcript; or, for worker
+-- 0, other settings were stored as those that it was opened with
+abbrev pub IsTornOnlyWhere : Settings → PipelineFault → Type 0
+IsTornOnlyWhere opening (Torn worker place found transcripts) =
+    DifferAt worker found.journal
+    (claims_of (events_in transcripts.items) (told_in transcripts.items) worker) place
+    ⊎ ((worker ≡ 0) × (found.opening ≢ opening))
+IsTornOnlyWhere opening fault = Unit {0}
+
+-- a fault that comes after the counts were found to fit
+abbrev pub IsLater : PipelineFault → Type 0
+IsLater TooManyWorkers = ⊥
+IsLater JournalFull = ⊥
+IsLater fault = Unit {0}
+
+-- the worker is one of worker 0 and so many more, and worker 0 is not stale
+abbrev pub NamesWorkerWithin : ℕ → PipelineFault → Type 0
+NamesWorkerWithin count (Stale worker length) = (1 ≤ worker) × (worker ≤ count)
+NamesWorkerWithin count (Full worker) = worker ≤ count
+NamesWorkerWithin count fault = Unit {0}
+
+-- a fault of putting together what was left: want of memory, or a database that refused
+abbrev pub IsOther : PipelineFault → Type 0
+IsOther Memory = Unit {0}
+IsOther Store = Unit {0}
+IsOther fault = ⊥

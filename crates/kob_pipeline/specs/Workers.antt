@@ -1,0 +1,87 @@
+-- What the workers of a pipeline leave.
+use Rattle.std.specs.Prelude.{◌≡◌, List, ◌++◌, map}
+use Rattle.std.specs.List.{enumerate_from}
+use Rattle.kob_inbox.specs.Rows.{placed_intake}
+use Rattle.kob_inbox.specs.Run as consumers
+use Rattle.kob_outbox.specs.Events.{stored_row}
+use Rattle.kob_router.specs.Dispatches.{dispatch_of}
+use Rattle.kob_router.specs.Run as routers
+use Rattle.kob_router.specs.declared.line.Call.{Call}
+use Rattle.kob_rights.specs.declared.event.Event.{Event}
+use Rattle.kob_shared.specs.Fleets.{events_of_script}
+use Rattle.kob_shared.specs.Noted.{Noted}
+use Rattle.kob_shared.specs.declared.script.Script.{Script}
+use Rattle.kob_pipeline.specs.declared.end.InboxEnd.{InboxEnd}
+use Rattle.kob_pipeline.specs.declared.end.OutboxEnd.{OutboxEnd}
+use Rattle.kob_pipeline.specs.declared.end.WorkerEnd.{WorkerEnd}
+use Rattle.kob_pipeline.specs.declared.end.WorkerEnd.TheVariants as ends
+use Rattle.kob_pipeline.specs.declared.plan.ConsumerPlan.{ConsumerPlan}
+use Rattle.kob_pipeline.specs.declared.plan.Loss.{Loss}
+use Rattle.kob_pipeline.specs.declared.plan.Plan.{Plan}
+use Rattle.kob_pipeline.specs.declared.plan.Service.{Service}
+use Rattle.kob_pipeline.specs.declared.worker.Worker.{Worker}
+use Rattle.kob_pipeline.specs.declared.worker.Worker.TheVariants as workers
+use Rattle.kob_pipeline.specs.Consumers.{IsConsumerStep, IsConsumption}
+use Rattle.kob_pipeline.specs.Services.{IsServiceRun, IsServiceStep}
+use Rattle.kob_pipeline.specs.Steps.{Steps}
+
+-- the steps of a service made these calls, lost so, and this is left of its outbox
+pub record IsOutboxLeft (service : Service) (calls : List Call) (losses : List Loss)
+    (left : OutboxEnd) : Type 0 where
+  pub moves : List routers.Move
+  pub state : routers.State
+  pub steps : Steps (IsServiceStep (dispatch_of service.target)) routers.start
+      service.steps.items moves losses state
+  pub made : calls ≡ routers.calls_of moves
+  pub rows : map stored_row left.rows.items ≡ state.outbox.events
+  pub mark : left.mark ≡ state.outbox.mark
+
+-- the steps of a consumer made these calls, lost so, and this is left of its inbox
+pub record IsInboxLeft (consumer : ConsumerPlan) (calls : List Call) (losses : List Loss)
+    (left : InboxEnd) : Type 0 where
+  pub moves : List consumers.Move
+  pub state : consumers.State
+  pub steps : Steps (IsConsumerStep consumer.subscription) consumers.start
+      consumer.steps.items moves losses state
+  pub made : calls ≡ consumers.calls_of moves
+  pub rows : map placed_intake left.rows.items ≡ enumerate_from 1 state.inbox
+
+-- what a service leaves, unless its database refused
+abbrev pub IsServiceLeft : Service → Noted → WorkerEnd → Type 0
+IsServiceLeft service noted (ends.Outbox left) = IsServiceRun service noted left
+IsServiceLeft service noted ends.StoreRefused = Unit {0}
+IsServiceLeft service noted end = ⊥
+
+-- what a consumer leaves, unless its database refused
+abbrev pub IsConsumptionLeft : ConsumerPlan → Noted → WorkerEnd → Type 0
+IsConsumptionLeft consumer noted (ends.Inbox left) = IsConsumption consumer noted left
+IsConsumptionLeft consumer noted ends.StoreRefused = Unit {0}
+IsConsumptionLeft consumer noted end = ⊥
+
+-- an administrator leaves its notes alone
+abbrev pub IsAdministratorLeft : List Event → Noted → WorkerEnd → Type 0
+IsAdministratorLeft events noted ends.Nothing = noted.events ≡ events
+IsAdministratorLeft events noted end = ⊥
+
+-- a worker, as it was planned
+pub data Planned : Type 0 where
+  Serving : (service : Service) → Planned
+  Consuming : (consumer : ConsumerPlan) → Planned
+  Administering : (script : Script) → Planned
+
+abbrev pub planned_as : Worker → Planned
+planned_as (workers.Service service) = Serving service
+planned_as (workers.Consumer consumer) = Consuming consumer.now
+planned_as (workers.Administrator script) = Administering script.now
+
+-- the workers of a plan, in the order of their numbers
+abbrev pub planned_workers : Plan → List Planned
+planned_workers plan =
+    map Serving plan.services.items
+    ++ (map Consuming plan.consumers.items ++ map Administering plan.administrators.items)
+
+-- what each kind of worker leaves
+abbrev pub IsLeft : Planned → Noted → WorkerEnd → Type 0
+IsLeft (Serving service) noted end = IsServiceLeft service noted end
+IsLeft (Consuming consumer) noted end = IsConsumptionLeft consumer noted end
+IsLeft (Administering script) noted end = IsAdministratorLeft (events_of_script script) noted end

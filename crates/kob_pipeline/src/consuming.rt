@@ -1,0 +1,155 @@
+//! A consumer at work: its inbox and how far it has come, step by step.
+
+ghost use Rattle.std.specs.Prelude.{◌≡◌, [], map, IfOk, OnOk};
+ghost use Rattle.std.specs.List.{enumerate_from};
+ghost use Rattle.kob_inbox.specs.Rows.{placed_intake};
+ghost use Rattle.kob_inbox.specs.Run.{calls_of, start};
+ghost use Rattle.kob_inbox.specs.Tick.{state_of};
+ghost use Rattle.kob_pipeline.specs.declared.plan.ConsumerStep.TheVariants as steps;
+ghost use Rattle.kob_pipeline.specs.Consumers.{GoesOn, IsConsumerStep};
+ghost use Rattle.kob_pipeline.specs.Steps.{Leads, Steps, standing};
+
+use crate::end::InboxEnd;
+use crate::line::DeskLine;
+use crate::losses::note_losses;
+use crate::plan::{ConsumerPlan, ConsumerStep, Loss};
+use crate::step_fault::StepFault;
+use kob_inbox::{Consumer, Inbox, StopReason, Tick};
+use kob_names::PlainValue;
+use kob_router::Line;
+use kob_shared::{CallFault, Gate};
+use std::alloc::Global;
+use std::sync::Wait;
+
+/// A consumer with its inbox, and how the calls of its line are lost.
+#[derive(Drop)]
+pub(crate) struct Consuming {
+    consumer: Consumer,
+    inbox: Inbox,
+    losses: Vec<Loss>,
+}
+
+impl Consuming {
+    /// A consumer and its inbox, before its first step.
+    pub(crate) fn open(alloc: Global, plan: &ConsumerPlan) -> Result<Consuming, StepFault>
+        ensures subscription { IfOk result (λ at_work.
+            at_work.consumer.subscription ≡ plan.now.subscription) }
+        ensures state { IfOk result (λ at_work.
+            state_of at_work.consumer at_work.inbox ≡ start) }
+        ensures losses { IfOk result (λ at_work. at_work.losses.items ≡ []) }
+    {
+        let group = plan.subscription.group.copy(alloc)?;
+        let assignment = plan.subscription.assignment.copy(alloc)?;
+        let inbox = Inbox::open_in_memory(alloc)?;
+        Ok(Consuming {
+            consumer: Consumer::new(alloc, group, assignment, plan.subscription.max),
+            inbox,
+            losses: Vec::new(alloc),
+        })
+    }
+
+    /// Makes the steps, one after another.
+    pub(crate) fn run<R: Wait, G: Gate>(
+        &mut self,
+        alloc: Global,
+        line: &mut DeskLine<'_, R, G>,
+        steps: &[ConsumerStep],
+    ) -> Result<(), StepFault>
+        requires { line.old.unmade ≡ 0 }
+        ensures { OnOk result (Leads (Steps (IsConsumerStep self.old.consumer.subscription))
+            calls_of
+            (standing (state_of self.old.consumer self.old.inbox) line.old.calls.items
+            self.old.losses.items)
+            steps.now
+            (standing (state_of self.new.consumer self.new.inbox) line.new.calls.items
+            self.new.losses.items)) }
+    {
+        for step in steps {
+            self.step(alloc, line, step)?;
+        }
+        Ok(())
+    }
+
+    /// Makes one step. Want of memory and a refusal of the database end it, and so does a call that
+    /// was not served though it was not to be lost.
+    fn step<R: Wait, G: Gate>(
+        &mut self,
+        alloc: Global,
+        line: &mut DeskLine<'_, R, G>,
+        step: &ConsumerStep,
+    ) -> Result<(), StepFault>
+        requires { line.old.unmade ≡ 0 }
+        ensures made { OnOk result (line.new.unmade ≡ 0) }
+        ensures same { OnOk result
+            (self.new.consumer.subscription ≡ self.old.consumer.subscription) }
+        ensures done { OnOk result (Leads (IsConsumerStep self.old.consumer.subscription)
+            calls_of
+            (standing (state_of self.old.consumer self.old.inbox) line.old.calls.items
+            self.old.losses.items)
+            step.now
+            (standing (state_of self.new.consumer self.new.inbox) line.new.calls.items
+            self.new.losses.items)) }
+    {
+        match step {
+            ConsumerStep::Tick(loss) => self.tick(alloc, line, *loss),
+            ConsumerStep::Restart => {
+                self.consumer.restart();
+                Ok(())
+            }
+        }
+    }
+
+    /// One step of the consumer, whose first call is lost so.
+    fn tick<R: Wait, G: Gate>(
+        &mut self,
+        alloc: Global,
+        line: &mut DeskLine<'_, R, G>,
+        loss: Loss,
+    ) -> Result<(), StepFault>
+        requires { line.old.unmade ≡ 0 }
+        ensures made { OnOk result (line.new.unmade ≡ 0) }
+        ensures same { OnOk result
+            (self.new.consumer.subscription ≡ self.old.consumer.subscription) }
+        ensures done { OnOk result (Leads (IsConsumerStep self.old.consumer.subscription)
+            calls_of
+            (standing (state_of self.old.consumer self.old.inbox) line.old.calls.items
+            self.old.losses.items)
+            (steps.Tick loss)
+            (standing (state_of self.new.consumer self.new.inbox) line.new.calls.items
+            self.new.losses.items)) }
+    {
+        let made = line.made_calls().len();
+        line.lose(loss);
+        let tick = self.consumer.tick(alloc, &mut self.inbox, line);
+        goes_on(tick)?;
+        line.goes_on()?;
+        note_losses(&mut self.losses, loss, &line.made_calls()[made..])?;
+        Ok(())
+    }
+
+    /// What is left, and how the calls were lost.
+    pub(crate) fn close(self) -> Result<(InboxEnd, Vec<Loss>), StepFault>
+        ensures rows { IfOk result (λ left.
+            map placed_intake left.0.rows.items ≡ enumerate_from 1 self.inbox) }
+        ensures losses { IfOk result (λ left. left.1.items ≡ self.losses.items) }
+    {
+        let Consuming {
+            consumer: _,
+            mut inbox,
+            losses,
+        } = self;
+        let rows = inbox.taken()?;
+        Ok((InboxEnd { rows }, losses))
+    }
+}
+
+/// Whether neither memory nor the database stopped a tick.
+fn goes_on(tick: Tick) -> Result<(), StepFault>
+    ensures { OnOk result (GoesOn tick) }
+{
+    match tick {
+        Tick::Stopped(StopReason::Memory) => Err(StepFault::Call(CallFault::Memory)),
+        Tick::Stopped(StopReason::Store) => Err(StepFault::Store),
+        _ => Ok(()),
+    }
+}

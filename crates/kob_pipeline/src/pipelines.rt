@@ -1,0 +1,153 @@
+//! Pipelines.
+
+ghost use Rattle.std.specs.Prelude.{◌≡◌, ◌+◌, ◌<◌, ◌≤◌, ◌↔◌, ◌++◌, length, map, IfErr, IfOk, IsErrOf};
+ghost use Rattle.std.specs.List.{All, AllZip};
+ghost use Rattle.kob_broker.specs.Change.{state_of};
+ghost use Rattle.kob_broker.specs.State.{settings_of};
+ghost use Rattle.kob_shared.specs.Fleets.{Follows};
+ghost use Rattle.kob_shared.specs.Journals.{IsSound};
+ghost use Rattle.kob_shared.specs.Openings.{opened_by};
+ghost use Rattle.kob_pipeline.specs.Counts.{entries_planned, workers_planned};
+ghost use Rattle.kob_pipeline.specs.Faults.{IsLater, IsTornOnlyWhere, NamesWorkerWithin};
+ghost use Rattle.kob_pipeline.specs.Pipelines.{IsPipeline};
+ghost use Rattle.kob_pipeline.specs.Ends.{IsEnd};
+ghost use Rattle.kob_pipeline.specs.Workers.{IsLeft, planned_as};
+
+use crate::end::{PipelineEnd, WorkerEnd};
+use crate::fault::PipelineFault;
+use crate::leavings::{Leavings, leavings_of};
+use crate::plan::Plan;
+use crate::room::{has_few_workers, has_room};
+use crate::worker::Worker;
+use crate::workers::workers_of;
+use kob_broker::{Broker, OpenFault, Settings};
+use kob_names::PlainValue;
+use kob_rights::Event;
+use kob_shared::{Gate, Ran, find_tear, run_fleet};
+use std::alloc::{AllocError, Global};
+use std::sync::Wait;
+use std::thread::Threads;
+
+/// Opens a broker with the plan's settings, serves the first events as worker 0, and then lets each
+/// service, consumer and administrator make its steps in a thread of its own, with a database of
+/// its own. The gate is asked before each request, also one that is lost, and once after the last.
+///
+/// `TooManyWorkers` comes first, then `JournalFull`, both before anything begins. After any fault
+/// nothing is given back but what `Torn` holds.
+pub fn pipeline<R: Threads + Wait + Sync, G: Gate + Sync>(
+    rt: &R,
+    alloc: Global,
+    plan: &Plan,
+    gate: &G,
+) -> Result<PipelineEnd, PipelineFault>
+    requires partitions { All (λ s. (1 ≤ s.target.partitions) × (s.target.partitions ≤ 1000))
+        plan.now.services.items }
+    requires few { length plan.now.settings.opening ≤ 100000 }
+    ensures ok { IfOk result (IsPipeline plan.now) }
+    ensures workers { IsErrOf result PipelineFault.TooManyWorkers ↔ (64 < workers_planned plan.now) }
+    ensures full { IsErrOf result PipelineFault.JournalFull
+        ↔ ((workers_planned plan.now ≤ 64) × (1000000 < entries_planned plan.now)) }
+    ensures torn { IfErr result (IsTornOnlyWhere (settings_of (opened_by plan.now.settings))) }
+    ensures named { IfErr result (NamesWorkerWithin (workers_planned plan.now)) }
+{
+    if !has_few_workers(plan) {
+        return Err(PipelineFault::TooManyWorkers);
+    }
+    if !has_room(plan) {
+        return Err(PipelineFault::JournalFull);
+    }
+    run_plan(rt, alloc, plan, gate)
+}
+
+#[tactic(auto, using(crate::proofs::PipelineFaults::later_stopped))]
+fn run_plan<R: Threads + Wait + Sync, G: Gate + Sync>(
+    rt: &R,
+    alloc: Global,
+    plan: &Plan,
+    gate: &G,
+) -> Result<PipelineEnd, PipelineFault>
+    requires partitions { All (λ s. (1 ≤ s.target.partitions) × (s.target.partitions ≤ 1000))
+        plan.now.services.items }
+    requires few { length plan.now.settings.opening ≤ 100000 }
+    requires workers { workers_planned plan.now ≤ 64 }
+    ensures ok { IfOk result (IsPipeline plan.now) }
+    ensures torn { IfErr result (IsTornOnlyWhere (settings_of (opened_by plan.now.settings))) }
+    ensures later { IfErr result IsLater }
+    ensures named { IfErr result (NamesWorkerWithin (workers_planned plan.now)) }
+{
+    let workers = workers_of(alloc, plan)?;
+    let (broker, opening, first) = opened(alloc, plan)?;
+    let ran = run_fleet(rt, alloc, broker, first, &workers, gate)?;
+    end_of(alloc, &opening, ran, &workers)
+}
+
+/// A broker as the plan opens it, what it stores of its opening, and the first events. The error is
+/// want of memory.
+fn opened(alloc: Global, plan: &Plan) -> Result<(Broker, Settings, Vec<Event>), AllocError>
+    requires { length plan.now.settings.opening ≤ 100000 }
+    ensures broker { IfOk result (λ o. state_of o.0 ≡ opened_by plan.now.settings) }
+    ensures opening { IfOk result (λ o. o.1 ≡ settings_of (opened_by plan.now.settings)) }
+    ensures first { IfOk result (λ o. o.2.items ≡ plan.now.first) }
+{
+    let first = plan.first.copy(alloc)?;
+    let broker = broker_of(alloc, &plan.settings)?;
+    match broker.opening(alloc) {
+        Ok(opening) => Ok((broker, opening, first.into_vec())),
+        Err(refused) => {
+            drop(broker);
+            Err(refused)
+        }
+    }
+}
+
+/// A broker with these settings. The error is want of memory.
+fn broker_of(alloc: Global, settings: &Settings) -> Result<Broker, AllocError>
+    requires { length settings.now.opening ≤ 100000 }
+    ensures { IfOk result (λ broker. state_of broker ≡ opened_by settings.now) }
+{
+    match Broker::open(alloc, settings.copy(alloc)?) {
+        Ok(broker) => Ok(broker),
+        Err(OpenFault::Memory) => Err(AllocError),
+        Err(OpenFault::TooMany) => unreachable!(),
+    }
+}
+
+/// Holds the journal to what the workers noted, and gives what they left.
+fn end_of(
+    alloc: Global,
+    opening: &Settings,
+    ran: Ran<WorkerEnd>,
+    workers: &[Worker<'_>],
+) -> Result<PipelineEnd, PipelineFault>
+    requires sound { IsSound ran.found }
+    requires first { Follows 0 ran.first.told }
+    requires each { AllZip (λ w d. IsLeft (planned_as w) d.notes d.end) workers.now ran.done.items }
+    ensures ok { IfOk result (IsEnd opening.now ran.first.events (map planned_as workers.now)) }
+    ensures torn { IfErr result (IsTornOnlyWhere opening.now) }
+    ensures later { IfErr result IsLater }
+    ensures named { IfErr result (NamesWorkerWithin 0) }
+{
+    let difference = find_tear(opening, &ran);
+    let Ran { found, first, done } = ran;
+    let Leavings {
+        transcripts,
+        outboxes,
+        inboxes,
+    } = leavings_of(alloc, first, done)?;
+    if let Some(difference) = difference {
+        return Err(PipelineFault::Torn {
+            worker: difference.worker,
+            place: difference.place,
+            found,
+            transcripts,
+        });
+    }
+    let (broker, journal) = found.into_parts();
+    Ok(PipelineEnd {
+        broker,
+        journal,
+        transcripts,
+        outboxes,
+        inboxes,
+    })
+}

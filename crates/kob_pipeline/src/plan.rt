@@ -1,0 +1,75 @@
+//! Plans: who takes part in a pipeline, and what each does.
+
+use kob_broker::Settings;
+use kob_inbox::Subscription;
+use kob_names::{Host, Items, Principal};
+use kob_outbox::{Change, OutboxEvent};
+use kob_rights::Event;
+use kob_router::Target;
+use kob_shared::Script;
+
+/// What becomes of the first call that a tick makes.
+#[derive(Clone, Copy, Debug, PartialEq, Eq)]
+pub enum Loss {
+    /// It is served, and its reply is heard.
+    None,
+    /// It never reaches the broker.
+    BeforeServe,
+    /// It is served, and its reply is lost.
+    AfterServe,
+}
+
+/// What a service does next.
+#[derive(Drop)]
+pub enum ServiceStep {
+    /// Records an event together with the change that it tells of.
+    Record(Change, OutboxEvent),
+    /// Its router makes one step.
+    Tick(Loss),
+    /// Its router starts again; the database stays.
+    Restart,
+    /// Drops the rows up to the mark.
+    Sweep,
+}
+
+/// A service with its outbox and its router.
+#[derive(Drop)]
+pub struct Service {
+    pub principal: Principal,
+    pub host: Host,
+    /// Its route, and how many partitions each routed topic has: 1 to 1,000.
+    pub target: Target,
+    pub steps: Vec<ServiceStep>,
+}
+
+/// What a consumer does next.
+#[derive(Clone, Copy)]
+pub enum ConsumerStep {
+    /// Makes one step.
+    Tick(Loss),
+    /// Starts again; the inbox stays.
+    Restart,
+}
+
+/// A consumer with its inbox.
+#[derive(Drop)]
+pub struct ConsumerPlan {
+    pub principal: Principal,
+    pub host: Host,
+    /// Its group, the partitions that it reads, and how many records it asks for at once.
+    pub subscription: Subscription,
+    pub steps: Vec<ConsumerStep>,
+}
+
+/// Who takes part. Workers have numbers from 1 on: services first, then consumers, then
+/// administrators, each in the order of its list.
+#[derive(Drop)]
+pub struct Plan {
+    /// What the broker is opened with, at most 100,000 opening bindings among it.
+    pub settings: Settings,
+    /// What is served before any worker begins, as worker 0's.
+    pub first: Items<Event>,
+    pub services: Vec<Service>,
+    pub consumers: Vec<ConsumerPlan>,
+    pub administrators: Vec<Script>,
+}

@@ -1,0 +1,218 @@
+//! A service at work: its router and its outbox, step by step.
+
+ghost use Rattle.std.specs.Prelude.{◌≡◌, ◌≤◌, [], map, IfOk, None, OnOk, option_map};
+ghost use Rattle.kob_outbox.specs.Events.{stored_row};
+ghost use Rattle.kob_outbox.specs.Reading.{later_than};
+ghost use Rattle.kob_router.specs.Dispatches.{dispatch_of};
+ghost use Rattle.kob_router.specs.Run.{calls_of, start};
+ghost use Rattle.kob_router.specs.Tick.{IsFirst, hand_of, state_of};
+ghost use Rattle.kob_pipeline.specs.declared.plan.ServiceStep.TheVariants as steps;
+ghost use Rattle.kob_pipeline.specs.Services.{GoesOn, IsServiceStep};
+ghost use Rattle.kob_pipeline.specs.Steps.{Leads, Steps, standing};
+
+use crate::end::OutboxEnd;
+use crate::line::DeskLine;
+use crate::losses::note_losses;
+use crate::plan::{Loss, Service, ServiceStep};
+use crate::step_fault::StepFault;
+use kob_outbox::{Change, Outbox, OutboxEvent, OutboxFault, RecordFault, Row};
+use kob_router::{Line, Router, StopReason, Tick};
+use kob_shared::{CallFault, Gate};
+use std::alloc::Global;
+use std::sync::Wait;
+
+/// A service's router and outbox, and how the calls of its line are lost.
+#[derive(Drop)]
+pub(crate) struct Posting {
+    router: Router,
+    outbox: Outbox,
+    losses: Vec<Loss>,
+}
+
+impl Posting {
+    ghost use Rattle.std.specs.Prelude.{List};
+    ghost use Rattle.kob_router.specs.declared.line.Call.{Call};
+
+    /// A service's database and router, before its first step.
+    pub(crate) fn open(alloc: Global, service: &Service) -> Result<Posting, StepFault>
+        requires some { 1 ≤ service.now.target.partitions }
+        requires most { service.now.target.partitions ≤ 1000 }
+        ensures target { IfOk result (λ posting. posting.router.target ≡ service.now.target) }
+        ensures hand { IfOk result (λ posting. posting.router.hand ≡ None) }
+        ensures state { IfOk result (λ posting. state_of posting.router posting.outbox ≡ start) }
+        ensures losses { IfOk result (λ posting. posting.losses.items ≡ []) }
+    {
+        let route = service.target.route.copy(alloc)?;
+        let outbox = Outbox::open_in_memory(alloc)?;
+        Ok(Posting {
+            router: Router::new(alloc, route, service.target.partitions),
+            outbox,
+            losses: Vec::new(alloc),
+        })
+    }
+
+    /// Makes the steps, one after another.
+    pub(crate) fn run<R: Wait, G: Gate>(
+        &mut self,
+        alloc: Global,
+        line: &mut DeskLine<'_, R, G>,
+        steps: &[ServiceStep],
+    ) -> Result<(), StepFault>
+        requires first { IsFirst (option_map hand_of self.old.router.hand) self.old.outbox }
+        requires made { line.old.unmade ≡ 0 }
+        ensures { OnOk result (Leads (Steps (IsServiceStep (dispatch_of self.old.router.target)))
+            calls_of
+            (standing (state_of self.old.router self.old.outbox) line.old.calls.items
+            self.old.losses.items)
+            steps.now
+            (standing (state_of self.new.router self.new.outbox) line.new.calls.items
+            self.new.losses.items)) }
+    {
+        for step in steps {
+            self.step(alloc, line, step)?;
+        }
+        Ok(())
+    }
+
+    /// Makes one step. Want of memory and a refusal of the database end it, and so does a call that
+    /// was not served though it was not to be lost.
+    fn step<R: Wait, G: Gate>(
+        &mut self,
+        alloc: Global,
+        line: &mut DeskLine<'_, R, G>,
+        step: &ServiceStep,
+    ) -> Result<(), StepFault>
+        requires first { IsFirst (option_map hand_of self.old.router.hand) self.old.outbox }
+        requires made { line.old.unmade ≡ 0 }
+        ensures first { OnOk result (IsFirst (option_map hand_of self.new.router.hand)
+            self.new.outbox) }
+        ensures made { OnOk result (line.new.unmade ≡ 0) }
+        ensures same { OnOk result (self.new.router.target ≡ self.old.router.target) }
+        ensures done { OnOk result (Leads (IsServiceStep (dispatch_of self.old.router.target))
+            calls_of
+            (standing (state_of self.old.router self.old.outbox) line.old.calls.items
+            self.old.losses.items)
+            step.now
+            (standing (state_of self.new.router self.new.outbox) line.new.calls.items
+            self.new.losses.items)) }
+    {
+        match step {
+            ServiceStep::Record(change, event) => self.note(change, event),
+            ServiceStep::Tick(loss) => self.tick(alloc, line, *loss),
+            ServiceStep::Restart => {
+                self.router.restart();
+                Ok(())
+            }
+            ServiceStep::Sweep => self.sweep(),
+        }
+    }
+
+    /// Records an event. A text that does not fit and an id that is spent leave all as it is.
+    fn note(&mut self, change: &Change, event: &OutboxEvent) -> Result<(), StepFault>
+        requires { IsFirst (option_map hand_of self.old.router.hand) self.old.outbox }
+        ensures first { OnOk result (IsFirst (option_map hand_of self.new.router.hand)
+            self.new.outbox) }
+        ensures same { OnOk result (self.new.router ≡ self.old.router) }
+        ensures done { OnOk result ((calls : List Call)
+            → Leads (IsServiceStep (dispatch_of self.old.router.target)) calls_of
+            (standing (state_of self.old.router self.old.outbox) calls self.old.losses.items)
+            (steps.Record change.now event.now)
+            (standing (state_of self.new.router self.new.outbox) calls self.new.losses.items)) }
+    {
+        match self.outbox.record(change, event) {
+            Ok(_) => Ok(()),
+            Err(RecordFault::BadField(_)) => Ok(()),
+            Err(RecordFault::DuplicateId) => Ok(()),
+            Err(RecordFault::Memory) => Err(StepFault::Call(CallFault::Memory)),
+            Err(RecordFault::Store) => Err(StepFault::Store),
+        }
+    }
+
+    /// Drops the rows up to the mark.
+    fn sweep(&mut self) -> Result<(), StepFault>
+        requires { IsFirst (option_map hand_of self.old.router.hand) self.old.outbox }
+        ensures first { OnOk result (IsFirst (option_map hand_of self.new.router.hand)
+            self.new.outbox) }
+        ensures same { OnOk result (self.new.router ≡ self.old.router) }
+        ensures done { OnOk result ((calls : List Call)
+            → Leads (IsServiceStep (dispatch_of self.old.router.target)) calls_of
+            (standing (state_of self.old.router self.old.outbox) calls self.old.losses.items)
+            steps.Sweep
+            (standing (state_of self.new.router self.new.outbox) calls self.new.losses.items)) }
+    {
+        self.outbox.sweep()?;
+        Ok(())
+    }
+
+    /// One step of the router, whose first call is lost so.
+    fn tick<R: Wait, G: Gate>(
+        &mut self,
+        alloc: Global,
+        line: &mut DeskLine<'_, R, G>,
+        loss: Loss,
+    ) -> Result<(), StepFault>
+        requires first { IsFirst (option_map hand_of self.old.router.hand) self.old.outbox }
+        requires made { line.old.unmade ≡ 0 }
+        ensures first { OnOk result (IsFirst (option_map hand_of self.new.router.hand)
+            self.new.outbox) }
+        ensures made { OnOk result (line.new.unmade ≡ 0) }
+        ensures same { OnOk result (self.new.router.target ≡ self.old.router.target) }
+        ensures done { OnOk result (Leads (IsServiceStep (dispatch_of self.old.router.target))
+            calls_of
+            (standing (state_of self.old.router self.old.outbox) line.old.calls.items
+            self.old.losses.items)
+            (steps.Tick loss)
+            (standing (state_of self.new.router self.new.outbox) line.new.calls.items
+            self.new.losses.items)) }
+    {
+        let made = line.made_calls().len();
+        line.lose(loss);
+        let tick = self.router.tick(alloc, &mut self.outbox, line);
+        goes_on(tick)?;
+        line.goes_on()?;
+        note_losses(&mut self.losses, loss, &line.made_calls()[made..])?;
+        Ok(())
+    }
+
+    /// What is left, and how the calls were lost.
+    pub(crate) fn close(self) -> Result<(OutboxEnd, Vec<Loss>), StepFault>
+        ensures rows { IfOk result (λ left.
+            map stored_row left.0.rows.items ≡ later_than 0 self.outbox.events) }
+        ensures mark { IfOk result (λ left. left.0.mark ≡ self.outbox.mark) }
+        ensures losses { IfOk result (λ left. left.1.items ≡ self.losses.items) }
+    {
+        let Posting {
+            router: _,
+            mut outbox,
+            losses,
+        } = self;
+        let mark = outbox.mark()?;
+        let rows = rows_of(&mut outbox)?;
+        Ok((OutboxEnd { rows, mark }, losses))
+    }
+}
+
+/// Whether neither memory nor the database stopped a tick.
+fn goes_on(tick: Tick) -> Result<(), StepFault>
+    ensures { OnOk result (GoesOn tick) }
+{
+    match tick {
+        Tick::Stopped(StopReason::Memory) => Err(StepFault::Call(CallFault::Memory)),
+        Tick::Stopped(StopReason::Store) => Err(StepFault::Store),
+        _ => Ok(()),
+    }
+}
+
+/// All rows that were not swept. One read gives up to 4,294,967,295; as many are refused as want of
+/// memory, since there may be more.
+fn rows_of(outbox: &mut Outbox) -> Result<Vec<Row>, OutboxFault>
+    ensures rows { IfOk result (λ rows.
+        map stored_row rows.items ≡ later_than 0 outbox.old.events) }
+    ensures same { outbox.new ≡ outbox.old }
+{
+    let rows = outbox.after(0, u32::MAX)?;
+    if rows.len() >= u32::MAX as usize {
+        return Err(OutboxFault::Memory);
+    }
+    Ok(rows)
+}

@@ -1,0 +1,50 @@
+//! Why a step of a worker ends it.
+
+use kob_inbox::InboxFault;
+use kob_outbox::{OutboxFault, RecordFault};
+use kob_shared::CallFault;
+use std::alloc::AllocError;
+
+/// Why a worker ends before its last step.
+#[derive(Clone, Copy)]
+pub(crate) enum StepFault {
+    /// A call was not served, or memory was refused.
+    Call(CallFault),
+    /// The database refused for another cause than want of memory.
+    Store,
+}
+
+impl From<AllocError> for StepFault {
+    fn from(_refused: AllocError) -> StepFault {
+        StepFault::Call(CallFault::Memory)
+    }
+}
+
+impl From<CallFault> for StepFault {
+    ghost use Rattle.std.specs.Prelude.{◌≡◌};
+    ghost use Rattle.kob_pipeline.specs.declared.step_fault.StepFault.TheVariants.{Call};
+
+    ghost from_gives = { λ fault step. step ≡ Call fault };
+
+    fn from(fault: CallFault) -> StepFault {
+        StepFault::Call(fault)
+    }
+}
+
+impl From<OutboxFault> for StepFault {
+    fn from(fault: OutboxFault) -> StepFault {
+        match fault {
+            OutboxFault::Memory => StepFault::Call(CallFault::Memory),
+            OutboxFault::Store => StepFault::Store,
+        }
+    }
+}
+
+impl From<InboxFault> for StepFault {
+    fn from(fault: InboxFault) -> StepFault {
+        match fault {
+            InboxFault::Memory => StepFault::Call(CallFault::Memory),
+            InboxFault::Store => StepFault::Store,
+        }
+    }
+}

@@ -1,0 +1,321 @@
+//! Plans of pipelines that the tests share.
+
+use crate::making::{at_host, event, script};
+use kob_broker::Settings;
+use kob_names::{
+    BindingFilter, Draft, FilterPattern, Host, Items, Operation, Pattern, PatternKind, Permission,
+    Principal, ResourceKind, Text,
+};
+use kob_outbox::{Change, OutboxEvent};
+use kob_pipeline::{ConsumerPlan, ConsumerStep, Loss, Plan, Service, ServiceStep};
+use kob_rights::{CreateAcls, CreateTopics, DeleteAcls, Event, Request};
+use kob_inbox::Subscription;
+use kob_router::{Place, Route, RouteSettings, Target};
+use kob_shared::Script;
+use std::alloc::{AllocError, Global};
+use std::test::Fail;
+use uuid::Uuid;
+
+/// The topic of all events.
+const TOPIC: &str = "outbox.event.orders";
+
+/// What a service is to do.
+#[derive(Clone, Copy)]
+pub(crate) enum Act {
+    /// Records the event with this id.
+    Note(u128),
+    Tick(Loss),
+    Restart,
+    Sweep,
+}
+
+/// A right that a plan gives from the beginning.
+struct Grant {
+    who: &'static str,
+    operation: Operation,
+    resource: ResourceKind,
+    kind: PatternKind,
+    name: &'static str,
+}
+
+/// What the service and the consumers of the groups `g` and `g2` may do.
+const GRANTS: [Grant; 5] = [
+    Grant {
+        who: "User:svc",
+        operation: Operation::Write,
+        resource: ResourceKind::Topic,
+        kind: PatternKind::Prefixed,
+        name: "outbox.event.",
+    },
+    Grant {
+        who: "User:svc",
+        operation: Operation::IdempotentWrite,
+        resource: ResourceKind::Cluster,
+        kind: PatternKind::Literal,
+        name: "kafka-cluster",
+    },
+    Grant {
+        who: "User:con",
+        operation: Operation::Read,
+        resource: ResourceKind::Topic,
+        kind: PatternKind::Prefixed,
+        name: "outbox.event.",
+    },
+    Grant {
+        who: "User:con",
+        operation: Operation::Read,
+        resource: ResourceKind::Group,
+        kind: PatternKind::Literal,
+        name: "g",
+    },
+    Grant {
+        who: "User:con",
+        operation: Operation::Read,
+        resource: ResourceKind::Group,
+        kind: PatternKind::Literal,
+        name: "g2",
+    },
+];
+
+fn draft(alloc: Global, grant: &Grant) -> Result<Draft, Fail> {
+    Ok(Draft {
+        permission: Permission::Allow,
+        principal: Principal::parse(alloc, grant.who)?,
+        host: Host::parse(alloc, "*")?,
+        operation: grant.operation,
+        resource: grant.resource,
+        pattern: Pattern {
+            kind: grant.kind,
+            name: Text::copied(alloc, grant.name)?,
+        },
+    })
+}
+
+fn drafts(alloc: Global) -> Result<Items<Draft>, Fail> {
+    let mut drafts = Vec::new(alloc);
+    for grant in &GRANTS {
+        drafts.push(draft(alloc, grant)?)?;
+    }
+    Ok(Items::from_vec(drafts))
+}
+
+fn grants(alloc: Global) -> Result<Event, Fail> {
+    let drafts = drafts(alloc)?;
+    event(
+        alloc,
+        "User:root",
+        Request::CreateAcls(CreateAcls { drafts }),
+    )
+}
+
+fn creation(alloc: Global) -> Result<Event, Fail> {
+    let name = Text::copied(alloc, TOPIC)?;
+    let request = Request::CreateTopics(CreateTopics {
+        name,
+        partitions: 1,
+    });
+    event(alloc, "User:root", request)
+}
+
+/// The topic is created, and the grants are given.
+fn first(alloc: Global) -> Result<Items<Event>, Fail> {
+    let mut first = Vec::new(alloc);
+    first.push(creation(alloc)?)?;
+    first.push(grants(alloc)?)?;
+    Ok(Items::from_vec(first))
+}
+
+fn root_alone(alloc: Global) -> Result<Settings, Fail> {
+    let mut supers = Vec::new(alloc);
+    supers.push(Principal::parse(alloc, "User:root")?)?;
+    Ok(Settings {
+        supers: Items::from_vec(supers),
+        opening: Items::from_vec(Vec::new(alloc)),
+    })
+}
+
+fn change(alloc: Global) -> Result<Change, AllocError> {
+    Ok(Change {
+        kind: String::from_str(alloc, "order")?,
+        id: String::from_str(alloc, "42")?,
+        state: String::from_str(alloc, "paid")?,
+    })
+}
+
+fn order(alloc: Global, id: u128) -> Result<OutboxEvent, AllocError> {
+    Ok(OutboxEvent {
+        id: Uuid::from_u128(id),
+        aggregate_type: String::from_str(alloc, "orders")?,
+        aggregate_id: String::from_str(alloc, "42")?,
+        event_type: String::from_str(alloc, "OrderPaid")?,
+        payload: String::from_str(alloc, "{}")?,
+    })
+}
+
+fn step(alloc: Global, act: Act) -> Result<ServiceStep, AllocError> {
+    match act {
+        Act::Note(id) => Ok(ServiceStep::Record(change(alloc)?, order(alloc, id)?)),
+        Act::Tick(loss) => Ok(ServiceStep::Tick(loss)),
+        Act::Restart => Ok(ServiceStep::Restart),
+        Act::Sweep => Ok(ServiceStep::Sweep),
+    }
+}
+
+fn steps(alloc: Global, acts: &[Act]) -> Result<Vec<ServiceStep>, AllocError> {
+    let mut steps = Vec::new(alloc);
+    for act in acts {
+        steps.push(step(alloc, *act)?)?;
+    }
+    Ok(steps)
+}
+
+fn target(alloc: Global) -> Result<Target, Fail> {
+    let settings = RouteSettings::by_default(alloc)?;
+    let route = Route::new(alloc, &settings)?;
+    Ok(Target {
+        route,
+        partitions: 1,
+    })
+}
+
+fn service(alloc: Global, steps: Vec<ServiceStep>) -> Result<Service, Fail> {
+    let (principal, host) = at_host(alloc, "User:svc")?;
+    let target = target(alloc)?;
+    Ok(Service {
+        principal,
+        host,
+        target,
+        steps,
+    })
+}
+
+fn subscription(alloc: Global, group: &str) -> Result<Subscription, Fail> {
+    let group = Text::copied(alloc, group)?;
+    let mut assignment = Vec::new(alloc);
+    assignment.push(Place {
+        topic: Text::copied(alloc, TOPIC)?,
+        partition: 0,
+    })?;
+    Ok(Subscription {
+        group,
+        assignment: Items::from_vec(assignment),
+        max: 10,
+    })
+}
+
+fn consumer(alloc: Global, group: &str, acts: &[ConsumerStep]) -> Result<ConsumerPlan, Fail> {
+    let (principal, host) = at_host(alloc, "User:con")?;
+    let subscription = subscription(alloc, group)?;
+    let mut steps = Vec::new(alloc);
+    for act in acts {
+        steps.push(*act)?;
+    }
+    Ok(ConsumerPlan {
+        principal,
+        host,
+        subscription,
+        steps,
+    })
+}
+
+fn revocation(alloc: Global) -> Result<Request, Fail> {
+    let filter = BindingFilter {
+        resource: Some(ResourceKind::Group),
+        name: Some(Text::copied(alloc, "g")?),
+        pattern: FilterPattern::Any,
+        principal: Some(Principal::parse(alloc, "User:con")?),
+        host: None,
+        operation: Some(Operation::Read),
+        permission: None,
+    };
+    Ok(Request::DeleteAcls(DeleteAcls { filter }))
+}
+
+fn revoker(alloc: Global) -> Result<Script, Fail> {
+    let mut requests = Vec::new(alloc);
+    requests.push(revocation(alloc)?)?;
+    script(alloc, "User:root", requests)
+}
+
+/// A plan with one service and, for each group, one consumer.
+#[derive(Clone, Copy)]
+pub(crate) struct Cast<'t> {
+    pub(crate) service: &'t [Act],
+    pub(crate) groups: &'t [&'t str],
+    pub(crate) consumer: &'t [ConsumerStep],
+    /// Whether `User:root` takes the consumer's right to the group `g` away.
+    pub(crate) revoked: bool,
+}
+
+fn services(alloc: Global, acts: &[Act]) -> Result<Vec<Service>, Fail> {
+    let steps = steps(alloc, acts)?;
+    let mut services = Vec::new(alloc);
+    services.push(service(alloc, steps)?)?;
+    Ok(services)
+}
+
+fn consumers(alloc: Global, cast: Cast<'_>) -> Result<Vec<ConsumerPlan>, Fail> {
+    let mut consumers = Vec::new(alloc);
+    for group in cast.groups {
+        consumers.push(consumer(alloc, group, cast.consumer)?)?;
+    }
+    Ok(consumers)
+}
+
+fn administrators(alloc: Global, revoked: bool) -> Result<Vec<Script>, Fail> {
+    let mut scripts = Vec::new(alloc);
+    if revoked {
+        scripts.push(revoker(alloc)?)?;
+    }
+    Ok(scripts)
+}
+
+/// The plan of a cast.
+pub(crate) fn plan(alloc: Global, cast: Cast<'_>) -> Result<Plan, Fail> {
+    let settings = root_alone(alloc)?;
+    let first = first(alloc)?;
+    let services = services(alloc, cast.service)?;
+    let consumers = consumers(alloc, cast)?;
+    let administrators = administrators(alloc, cast.revoked)?;
+    Ok(Plan {
+        settings,
+        first,
+        services,
+        consumers,
+        administrators,
+    })
+}
+
+fn sweeps(alloc: Global, count: usize) -> Result<Vec<ServiceStep>, AllocError> {
+    let mut steps = Vec::new(alloc);
+    for _ in 0..count {
+        steps.push(ServiceStep::Sweep)?;
+    }
+    Ok(steps)
+}
+
+fn idle_consumers(alloc: Global, count: usize) -> Result<Vec<ConsumerPlan>, Fail> {
+    let mut consumers = Vec::new(alloc);
+    for _ in 0..count {
+        consumers.push(consumer(alloc, "g", &[])?)?;
+    }
+    Ok(consumers)
+}
+
+/// A plan with one first event, a service that sweeps 500,000 times, and so many consumers.
+pub(crate) fn sweeping(alloc: Global, count: usize) -> Result<Plan, Fail> {
+    let settings = root_alone(alloc)?;
+    let mut first = Vec::new(alloc);
+    first.push(creation(alloc)?)?;
+    let steps = sweeps(alloc, 500_000)?;
+    let mut services = Vec::new(alloc);
+    services.push(service(alloc, steps)?)?;
+    let consumers = idle_consumers(alloc, count)?;
+    Ok(Plan {
+        settings,
+        first: Items::from_vec(first),
+        services,
+        consumers,
+        administrators: Vec::new(alloc),
+    })
+}
