@@ -38,3 +38,6 @@ pub mod PipelineFaults
 pub mod Stepping
 pub mod Ticked
 pub mod Worked
+pub mod PlanRows
+pub mod PlanServed
+pub mod PlanLaws

@@ -18,3 +18,5 @@ pub mod Pipelines
 pub mod Services
 pub mod Steps
 pub mod Workers
+pub mod PlanRows
+pub mod PlanEnds

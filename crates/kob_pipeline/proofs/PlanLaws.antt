@@ -1,0 +1,163 @@
+-- The laws of delivery, of a pipeline's plan and what it leaves.
+use Rattle.std.proofs.Common.{◌≡◌, ◌<◌, ℕ, ◌+◌, List, [], ◌∷◌, Some, map, slice_get, refl, ap, sym, subst, ◌∙◌, inl, inr}
+use Rattle.std.proofs.lemmas.Simd.{map-map}
+use Rattle.std.specs.List.{AllByRecursion, enumerate_from}
+use Rattle.std.specs.Prelude.{Contains}
+use Rattle.kob_broker.specs.Change.{state_of}
+use Rattle.kob_outbox.specs.Contents.{Event}
+use Rattle.kob_outbox.specs.Contents as outboxes
+use Rattle.kob_router.specs.Dispatches.{dispatch_of}
+use Rattle.kob_router.specs.Run as routers
+use Rattle.kob_router.specs.declared.dispatch.Target.{Target}
+use Rattle.kob_router.specs.declared.place.Place.{Place}
+use Rattle.kob_inbox.proofs.Running.{run_takes_in}
+use Rattle.kob_inbox.specs.Contents.{Intake}
+use Rattle.kob_inbox.specs.Rows.{placed_intake}
+use Rattle.kob_inbox.specs.Run as consumers
+use Rattle.kob_shared.specs.declared.journal.Entry.{Entry}
+use Rattle.kob_pipeline.specs.BrokerView.{view_after}
+use Rattle.kob_pipeline.specs.Delivery.{IsDelivered}
+use Rattle.kob_pipeline.specs.Parts.{IsConsumerPart, IsServicePart}
+use Rattle.kob_pipeline.specs.Pipelines.{IsConsumedBy, IsPipeline, IsServedBy, consumer_number, service_number}
+use Rattle.kob_pipeline.specs.PlanEnds.{TakesInOrder, inbox_in, outbox_in, records_at}
+use Rattle.kob_pipeline.specs.PlanRows.{rows_of_service}
+use Rattle.kob_pipeline.specs.Premises.{ArePrivate, IsNeverDeleted, IsSoleCommitter, IsSoleProducer}
+use Rattle.kob_pipeline.specs.Reaching.{ReachesInOrder, rows_of_aggregate}
+use Rattle.kob_pipeline.specs.Served.{Served, AreServed}
+use Rattle.kob_pipeline.specs.View.{IsHistory, opening_view}
+use Rattle.kob_pipeline.specs.Waiting.{IsWaitingOrSent}
+use Rattle.kob_pipeline.specs.declared.end.InboxEnd.{InboxEnd}
+use Rattle.kob_pipeline.specs.declared.end.OutboxEnd.{OutboxEnd}
+use Rattle.kob_pipeline.specs.declared.end.PipelineEnd.{PipelineEnd}
+use Rattle.kob_pipeline.specs.declared.plan.ConsumerPlan.{ConsumerPlan}
+use Rattle.kob_pipeline.specs.declared.plan.Plan.{Plan}
+use Rattle.kob_pipeline.specs.declared.plan.Service.{Service}
+use Rattle.kob_pipeline.proofs.BrokerHistory.{legal_is_history}
+use Rattle.kob_pipeline.proofs.DeliveryLaws.{holds_a_prefix, holds_what_was_routed, takes_in_order, waits_or_was_sent}
+use Rattle.kob_pipeline.proofs.PlanRows.{rows_of_steps}
+use Rattle.kob_pipeline.proofs.PlanServed.{served_alike}
+
+some_alike : {X : Type 0} (x y : X) → Some x ≡ Some y → x ≡ y
+some_alike x y same = cc
+
+without_places : (n : ℕ) (inbox : List Intake) → map (λ (x : ℕ × Intake). x.1) (enumerate_from n inbox) ≡ inbox
+without_places n [] = refl
+without_places n (i ∷ inbox) = ap (λ rest. i ∷ rest) (without_places (n + 1) inbox)
+
+module _ (plan : Plan) (end : PipelineEnd) (of : IsPipeline plan end) where
+  history : IsHistory opening_view end.journal (view_after plan.settings end.journal)
+  history = legal_is_history plan.settings end.journal (state_of end.broker) of.legal
+
+  of_service : (k : ℕ) (service : Service) (by : IsServedBy end (service_number plan k) k service)
+      → IsServicePart service.target (service_number plan k) end.journal by.run.moves by.run.state
+  of_service k service by = record {
+    run = by.run.run;
+    served = subst (λ (served : List Served). AreServed (routers.calls_of by.run.moves) served)
+        (served_alike end.transcripts.items end.journal (service_number plan k) by.noted of.kept by.transcript)
+        by.run.served;
+  }
+
+  of_consumer : (k : ℕ) (consumer : ConsumerPlan) (by : IsConsumedBy end (consumer_number plan k) k consumer)
+      → IsConsumerPart consumer.subscription (consumer_number plan k) end.journal by.run.moves by.run.state
+  of_consumer k consumer by = record {
+    run = by.run.run;
+    served = subst (λ (served : List Served). AreServed (consumers.calls_of by.run.moves) served)
+        (served_alike end.transcripts.items end.journal (consumer_number plan k) by.noted of.kept by.transcript)
+        by.run.served;
+  }
+
+  its_rows : (k : ℕ) (service : Service) (by : IsServedBy end (service_number plan k) k service)
+      → routers.events_of outboxes.empty by.run.moves ≡ rows_of_service service
+  its_rows k service by =
+      rows_of_steps (dispatch_of service.target) routers.start by.run.state service.steps.items by.run.moves
+          by.run.losses by.run.steps
+
+  pub is_delivered : (k : ℕ) (service : Service) (place : Place) → slice_get plan.services.items k ≡ Some service
+      → IsSoleProducer (service_number plan k) place.topic end.journal → IsNeverDeleted place.topic end.journal
+      → IsDelivered (dispatch_of service.target) place (rows_of_service service) (records_at plan end place)
+  is_delivered k service place there sole never =
+      let by : IsServedBy end (service_number plan k) k service = of.services k service there in
+      subst (λ (rows : List Event). IsDelivered (dispatch_of service.target) place rows (records_at plan end place))
+          (its_rows k service by)
+      (holds_what_was_routed service.target (service_number plan k) end.journal (view_after plan.settings end.journal)
+      by.run.moves by.run.state place history (of_service k service by) sole never)
+
+  still_waits : (left : OutboxEnd) (outbox : outboxes.Contents) (target : Target) (worker : ℕ) (journal : List Entry)
+      (rows : List Event)
+      → outbox.mark ≡ left.mark → outbox.events ≡ (outbox_in left).events
+      → AllByRecursion (IsWaitingOrSent (dispatch_of target) worker journal outbox) rows
+      → AllByRecursion (IsWaitingOrSent (dispatch_of target) worker journal (outbox_in left)) rows
+  still_waits left outbox target worker journal [] mark events all = tt
+  still_waits left outbox target worker journal (row ∷ rows) mark events all =
+      (by all.0, still_waits left outbox target worker journal rows mark events all.1)
+    where
+      by : IsWaitingOrSent (dispatch_of target) worker journal outbox row
+          → IsWaitingOrSent (dispatch_of target) worker journal (outbox_in left) row
+      by (inl waits) = inl (record {
+        past = subst (λ (mark : ℕ). mark < row.seq) mark waits.past;
+        there = subst (λ (events : List Event). Contains events row) events waits.there;
+      })
+      by (inr sent) = inr sent
+
+  pub is_none_lost : (k : ℕ) (service : Service) (left : OutboxEnd) → slice_get plan.services.items k ≡ Some service
+      → slice_get end.outboxes.items k ≡ Some left
+      → AllByRecursion
+          (IsWaitingOrSent (dispatch_of service.target) (service_number plan k) end.journal (outbox_in left))
+      (rows_of_service service)
+  is_none_lost k service left there kept =
+      let by : IsServedBy end (service_number plan k) k service = of.services k service there in
+      let same : by.left ≡ left = some_alike by.left left (sym by.outbox ∙ kept) in
+      subst (λ (rows : List Event).
+      AllByRecursion
+          (IsWaitingOrSent (dispatch_of service.target) (service_number plan k) end.journal (outbox_in left)) rows)
+      (its_rows k service by)
+      (still_waits left by.run.state.outbox service.target (service_number plan k) end.journal
+          (routers.events_of outboxes.empty by.run.moves)
+      (sym by.run.mark ∙ ap (λ (l : OutboxEnd). l.mark) same)
+      (sym by.run.rows ∙ ap (λ (l : OutboxEnd). (outbox_in l).events) same)
+      (waits_or_was_sent service.target (service_number plan k) end.journal by.run.moves by.run.state
+          (of_service k service by)))
+
+  -- the inbox that is left is what the run leaves
+  its_inbox : (k : ℕ) (consumer : ConsumerPlan) (by : IsConsumedBy end (consumer_number plan k) k consumer)
+      → inbox_in by.left ≡ by.run.state.inbox
+  its_inbox k consumer by =
+      sym (map-map (λ (x : ℕ × Intake). x.1) placed_intake by.left.rows.items)
+      ∙ ap (map (λ (x : ℕ × Intake). x.1)) by.run.rows
+      ∙ without_places 1 by.run.state.inbox
+
+  pub takes_its_records : (k : ℕ) (consumer : ConsumerPlan) (place : Place) → slice_get plan.consumers.items k
+      ≡ Some consumer
+      → IsSoleCommitter (consumer_number plan k) consumer.subscription.group place.topic end.journal
+      → IsNeverDeleted place.topic end.journal
+      → TakesInOrder plan end (consumer_number plan k) k consumer place
+  takes_its_records k consumer place there sole never =
+      let by : IsConsumedBy end (consumer_number plan k) k consumer = of.consumers k consumer there in
+      record {
+        by = by;
+        order =
+            takes_in_order consumer.subscription (consumer_number plan k) end.journal
+                (view_after plan.settings end.journal)
+            by.run.moves by.run.state place history (of_consumer k consumer by) sole never;
+        inbox =
+            its_inbox k consumer by
+            ∙ run_takes_in consumer.subscription by.run.moves consumers.start by.run.state by.run.run;
+      }
+
+  pub reaches_its_inbox : (i k : ℕ) (service : Service) (consumer : ConsumerPlan) (left : InboxEnd)
+      → slice_get plan.services.items i ≡ Some service → slice_get plan.consumers.items k ≡ Some consumer
+      → slice_get end.inboxes.items k ≡ Some left
+      → ArePrivate (service_number plan i) (consumer_number plan k) consumer.subscription.group
+          consumer.subscription.assignment end.journal
+      → (kind id : List ℕ) → ReachesInOrder (rows_of_aggregate (rows_of_service service) kind id) (inbox_in left)
+  reaches_its_inbox i k service consumer left sends takes kept private kind id =
+      let sent : IsServedBy end (service_number plan i) i service = of.services i service sends in
+      let took : IsConsumedBy end (consumer_number plan k) k consumer = of.consumers k consumer takes in
+      let same : took.left ≡ left = some_alike took.left left (sym took.inbox ∙ kept) in
+      subst (λ (rows : List Event). ReachesInOrder (rows_of_aggregate rows kind id) (inbox_in left)) (its_rows i service sent)
+      (subst (λ (inbox : List Intake). ReachesInOrder
+          (rows_of_aggregate (routers.events_of outboxes.empty sent.run.moves) kind id) inbox)
+      (sym (its_inbox k consumer took) ∙ ap inbox_in same)
+      (holds_a_prefix service.target consumer.subscription (service_number plan i) (consumer_number plan k) end.journal
+      (view_after plan.settings end.journal) sent.run.moves sent.run.state took.run.moves took.run.state kind id history
+      (of_service i service sent) (of_consumer k consumer took) private))

@@ -1,0 +1,5 @@
+use Rattle.kob_pipeline.proofs.PlanLaws.{reaches_its_inbox}
+use Rattle.kob_pipeline.proofs.laws.pipeline_law.Goals as goal
+
+pub returns : goal.returns
+returns c = reaches_its_inbox c.args.plan.now c.args.end.now c.requires

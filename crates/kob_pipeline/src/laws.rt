@@ -1,0 +1,83 @@
+//! The laws of a pipeline: what its journal says of its outboxes, topics and inboxes.
+
+ghost use Rattle.std.specs.Prelude.{◌≡◌, List, ℕ, Some, slice_get};
+ghost use Rattle.std.specs.List.{AllByRecursion};
+ghost use Rattle.kob_router.specs.Dispatches.{dispatch_of};
+ghost use Rattle.kob_router.specs.declared.place.Place.{Place as PlaceValue};
+ghost use Rattle.kob_pipeline.specs.Delivery.{IsDelivered};
+ghost use Rattle.kob_pipeline.specs.Pipelines.{IsPipeline, consumer_number, service_number};
+ghost use Rattle.kob_pipeline.specs.PlanEnds.{TakesInOrder, inbox_in, outbox_in, records_at};
+ghost use Rattle.kob_pipeline.specs.PlanRows.{rows_of_service};
+ghost use Rattle.kob_pipeline.specs.Premises.{ArePrivate, IsNeverDeleted, IsSoleCommitter, IsSoleProducer};
+ghost use Rattle.kob_pipeline.specs.Reaching.{ReachesInOrder, rows_of_aggregate};
+ghost use Rattle.kob_pipeline.specs.Waiting.{IsWaitingOrSent};
+ghost use Rattle.kob_pipeline.specs.declared.end.InboxEnd.{InboxEnd as InboxLeft};
+ghost use Rattle.kob_pipeline.specs.declared.end.OutboxEnd.{OutboxEnd as OutboxLeft};
+ghost use Rattle.kob_pipeline.specs.declared.plan.ConsumerPlan.{ConsumerPlan as Consumer};
+ghost use Rattle.kob_pipeline.specs.declared.plan.Service.{Service as ServicePlan};
+
+use crate::end::PipelineEnd;
+use crate::plan::Plan;
+
+/// What each service's router leaves. On each partition of a topic to which this service alone
+/// sends, and that nobody deletes, the event ids of the records, each at its first offset, begin
+/// those of the rows that the service recorded and that are routed there; and each record is what
+/// the route makes of a row.
+///
+/// No recorded row is lost, whatever others do: it stands in the outbox past the mark, or the
+/// broker said of its record that it is done.
+///
+/// It makes no call and takes no memory. The condition is what `pipeline` answers.
+pub fn router_law(plan: &Plan, end: &PipelineEnd)
+    requires { IsPipeline plan.now end.now }
+    ensures delivered { (k : ℕ) (service : ServicePlan) (place : PlaceValue)
+        → slice_get plan.now.services.items k ≡ Some service
+        → IsSoleProducer (service_number plan.now k) place.topic end.now.journal
+        → IsNeverDeleted place.topic end.now.journal
+        → IsDelivered (dispatch_of service.target) place (rows_of_service service)
+        (records_at plan.now end.now place) }
+    ensures none_lost { (k : ℕ) (service : ServicePlan) (left : OutboxLeft)
+        → slice_get plan.now.services.items k ≡ Some service
+        → slice_get end.now.outboxes.items k ≡ Some left
+        → AllByRecursion (IsWaitingOrSent (dispatch_of service.target)
+        (service_number plan.now k) end.now.journal (outbox_in left)) (rows_of_service service) }
+{
+    // By the definitions.
+}
+
+/// What each consumer takes in. Of each partition of a topic on which this consumer alone commits
+/// for its group, and that nobody deletes, it takes in the offsets below some bound, each for the
+/// first time after all lower ones, with the records that stand there.
+///
+/// It makes no call and takes no memory. The condition is what `pipeline` answers.
+pub fn consumer_law(plan: &Plan, end: &PipelineEnd)
+    requires { IsPipeline plan.now end.now }
+    ensures { (k : ℕ) (consumer : Consumer) (place : PlaceValue)
+        → slice_get plan.now.consumers.items k ≡ Some consumer
+        → IsSoleCommitter (consumer_number plan.now k) consumer.subscription.group place.topic
+        end.now.journal
+        → IsNeverDeleted place.topic end.now.journal
+        → TakesInOrder plan.now end.now (consumer_number plan.now k) k consumer place }
+{
+    // By the definitions.
+}
+
+/// What reaches an inbox. Where only this service sends to the topics of the consumer's assignment,
+/// only this consumer commits for its group on them, and nobody deletes them, the inbox holds of
+/// each aggregate the events that the service recorded, from the first on and none left out, in
+/// their order, each once, with its row's key and value.
+///
+/// It makes no call and takes no memory. The condition is what `pipeline` answers.
+pub fn pipeline_law(plan: &Plan, end: &PipelineEnd)
+    requires { IsPipeline plan.now end.now }
+    ensures { (i k : ℕ) (service : ServicePlan) (consumer : Consumer) (left : InboxLeft)
+        → slice_get plan.now.services.items i ≡ Some service
+        → slice_get plan.now.consumers.items k ≡ Some consumer
+        → slice_get end.now.inboxes.items k ≡ Some left
+        → ArePrivate (service_number plan.now i) (consumer_number plan.now k)
+        consumer.subscription.group consumer.subscription.assignment end.now.journal
+        → (kind id : List ℕ)
+        → ReachesInOrder (rows_of_aggregate (rows_of_service service) kind id) (inbox_in left) }
+{
+    // By the definitions.
+}
