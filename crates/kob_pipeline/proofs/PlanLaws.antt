@@ -70,7 +70,7 @@ module _ (plan : Plan) (end : PipelineEnd) (of : IsPipeline plan end) where
       → routers.events_of outboxes.empty by.run.moves ≡ rows_of_service service
   its_rows k service by =
       rows_of_steps (dispatch_of service.target) routers.start by.run.state service.steps.items by.run.moves
-          by.run.losses by.run.steps
+      by.run.losses by.run.steps
 
   pub is_delivered : (k : ℕ) (service : Service) (place : Place) → slice_get plan.services.items k ≡ Some service
       → IsSoleProducer (service_number plan k) place.topic end.journal → IsNeverDeleted place.topic end.journal
@@ -78,7 +78,7 @@ module _ (plan : Plan) (end : PipelineEnd) (of : IsPipeline plan end) where
   is_delivered k service place there sole never =
       let by : IsServedBy end (service_number plan k) k service = of.services k service there in
       subst (λ (rows : List Event). IsDelivered (dispatch_of service.target) place rows (records_at plan end place))
-          (its_rows k service by)
+      (its_rows k service by)
       (holds_what_was_routed service.target (service_number plan k) end.journal (view_after plan.settings end.journal)
       by.run.moves by.run.state place history (of_service k service by) sole never)
 
@@ -102,21 +102,21 @@ module _ (plan : Plan) (end : PipelineEnd) (of : IsPipeline plan end) where
   pub is_none_lost : (k : ℕ) (service : Service) (left : OutboxEnd) → slice_get plan.services.items k ≡ Some service
       → slice_get end.outboxes.items k ≡ Some left
       → AllByRecursion
-          (IsWaitingOrSent (dispatch_of service.target) (service_number plan k) end.journal (outbox_in left))
+      (IsWaitingOrSent (dispatch_of service.target) (service_number plan k) end.journal (outbox_in left))
       (rows_of_service service)
   is_none_lost k service left there kept =
       let by : IsServedBy end (service_number plan k) k service = of.services k service there in
       let same : by.left ≡ left = some_alike by.left left (sym by.outbox ∙ kept) in
       subst (λ (rows : List Event).
       AllByRecursion
-          (IsWaitingOrSent (dispatch_of service.target) (service_number plan k) end.journal (outbox_in left)) rows)
+      (IsWaitingOrSent (dispatch_of service.target) (service_number plan k) end.journal (outbox_in left)) rows)
       (its_rows k service by)
       (still_waits left by.run.state.outbox service.target (service_number plan k) end.journal
-          (routers.events_of outboxes.empty by.run.moves)
+      (routers.events_of outboxes.empty by.run.moves)
       (sym by.run.mark ∙ ap (λ (l : OutboxEnd). l.mark) same)
       (sym by.run.rows ∙ ap (λ (l : OutboxEnd). (outbox_in l).events) same)
       (waits_or_was_sent service.target (service_number plan k) end.journal by.run.moves by.run.state
-          (of_service k service by)))
+      (of_service k service by)))
 
   -- the inbox that is left is what the run leaves
   its_inbox : (k : ℕ) (consumer : ConsumerPlan) (by : IsConsumedBy end (consumer_number plan k) k consumer)
@@ -137,7 +137,7 @@ module _ (plan : Plan) (end : PipelineEnd) (of : IsPipeline plan end) where
         by = by;
         order =
             takes_in_order consumer.subscription (consumer_number plan k) end.journal
-                (view_after plan.settings end.journal)
+            (view_after plan.settings end.journal)
             by.run.moves by.run.state place history (of_consumer k consumer by) sole never;
         inbox =
             its_inbox k consumer by
@@ -148,7 +148,7 @@ module _ (plan : Plan) (end : PipelineEnd) (of : IsPipeline plan end) where
       → slice_get plan.services.items i ≡ Some service → slice_get plan.consumers.items k ≡ Some consumer
       → slice_get end.inboxes.items k ≡ Some left
       → ArePrivate (service_number plan i) (consumer_number plan k) consumer.subscription.group
-          consumer.subscription.assignment end.journal
+      consumer.subscription.assignment end.journal
       → (kind id : List ℕ) → ReachesInOrder (rows_of_aggregate (rows_of_service service) kind id) (inbox_in left)
   reaches_its_inbox i k service consumer left sends takes kept private kind id =
       let sent : IsServedBy end (service_number plan i) i service = of.services i service sends in
@@ -156,7 +156,7 @@ module _ (plan : Plan) (end : PipelineEnd) (of : IsPipeline plan end) where
       let same : took.left ≡ left = some_alike took.left left (sym took.inbox ∙ kept) in
       subst (λ (rows : List Event). ReachesInOrder (rows_of_aggregate rows kind id) (inbox_in left)) (its_rows i service sent)
       (subst (λ (inbox : List Intake). ReachesInOrder
-          (rows_of_aggregate (routers.events_of outboxes.empty sent.run.moves) kind id) inbox)
+      (rows_of_aggregate (routers.events_of outboxes.empty sent.run.moves) kind id) inbox)
       (sym (its_inbox k consumer took) ∙ ap inbox_in same)
       (holds_a_prefix service.target consumer.subscription (service_number plan i) (consumer_number plan k) end.journal
       (view_after plan.settings end.journal) sent.run.moves sent.run.state took.run.moves took.run.state kind id history

@@ -29,7 +29,7 @@ same_rows c d (Recorded change event ∷ moves) same =
     ap (λ ids. stored_event (suc (length ids)) event ∷ events_of (recorded c change event) moves) same
     ∙ ap (λ rows. stored_event (suc (length d.ids)) event ∷ rows)
     (same_rows (recorded c change event) (recorded d change event) moves
-        (ap (λ ids. ids ++ id_text event.id ∷ []) same))
+    (ap (λ ids. ids ++ id_text event.id ∷ []) same))
 same_rows c d (Swept ∷ moves) same = same_rows c d moves same
 same_rows c d (Restarted ∷ moves) same = same_rows c d moves same
 same_rows c d (Took hand ∷ moves) same = same_rows c d moves same
@@ -54,7 +54,7 @@ rows_split route s mid (Swept ∷ these) those run =
     same_rows s.outbox (without_sent s.outbox.mark s.outbox) (these ++ those) refl
     ∙ rows_split route (after s Swept) mid these those run.1
     ∙ ap (λ rows. rows ++ events_of mid.outbox those)
-        (same_rows (without_sent s.outbox.mark s.outbox) s.outbox these refl)
+    (same_rows (without_sent s.outbox.mark s.outbox) s.outbox these refl)
 rows_split route s mid (Restarted ∷ these) those run = rows_split route (after s Restarted) mid these those run.1
 rows_split route s mid (Took hand ∷ these) those run = rows_split route (after s (Took hand)) mid these those run.1
 rows_split route s mid (Called call marks ∷ these) those run =
@@ -87,7 +87,7 @@ accepted : (c : Contents) (change : Change) (event : OutboxEvent) → IsRecordab
     → is_accepted c.ids change event ≡ true
 accepted c change event may =
     ap (λ bad. is_none bad && (not (is_recorded c.ids (id_text event.id)) && nat_lt (suc (length c.ids)) (2 ^ 63)))
-        may.fits
+    may.fits
     ∙ ap (λ spent. not spent && nat_lt (suc (length c.ids)) (2 ^ 63)) may.fresh
     ∙ lt-ltb (suc (length c.ids)) (2 ^ 63) may.room
 
@@ -99,7 +99,7 @@ may_record c change event is = by (first_bad change event) (is_recorded c.ids (i
     by : (bad : Option Column) (spent room : Bool) → first_bad change event ≡ bad
         → is_recorded c.ids (id_text event.id) ≡ spent
         → nat_lt (suc (length c.ids)) (2 ^ 63) ≡ room → is_none bad && (not spent && room) ≡ true
-            → IsRecordable c change event
+        → IsRecordable c change event
     by None false true fits fresh room all =
         record { fits = fits; fresh = fresh; room = ltb-true (suc (length c.ids)) (2 ^ 63) room }
     by None false false fits fresh room all = absurd (true≢false (sym all))
@@ -122,24 +122,24 @@ module _ (route : Dispatching) where
     where
       by : (these ≡ Recorded change event ∷ []) ⊎ ((these ≡ []) × (IsRecordable s.outbox change event → ⊥))
           → events_of s.outbox these ++ rows_from mid.outbox.ids more
-              ≡ rows_from s.outbox.ids (steps.Record change event ∷ more)
+          ≡ rows_from s.outbox.ids (steps.Record change event ∷ more)
       by (inl is) =
           let run : IsRouterRun route s (Recorded change event ∷ []) mid = subst
-              (λ (moves : List Move). IsRouterRun route s moves mid) is does.run in
+          (λ (moves : List Move). IsRouterRun route s moves mid) is does.run in
           ap (λ (moves : List Move). events_of s.outbox moves ++ rows_from mid.outbox.ids more) is
           ∙ ap (λ (t : State). stored_event (next_seq s.outbox) event ∷ rows_from t.outbox.ids more) run.1
           ∙ sym (ap
-              (λ b. cond b
-              (stored_event (suc (length s.outbox.ids)) event ∷ rows_from (s.outbox.ids ++ id_text event.id ∷ []) more)
+          (λ b. cond b
+          (stored_event (suc (length s.outbox.ids)) event ∷ rows_from (s.outbox.ids ++ id_text event.id ∷ []) more)
           (rows_from s.outbox.ids more)) (accepted s.outbox change event run.0))
       by (inr is) =
           let run : IsRouterRun route s [] mid = subst (λ (moves : List Move). IsRouterRun route s moves mid) is.0
-              does.run in
+          does.run in
           ap (λ (moves : List Move). events_of s.outbox moves ++ rows_from mid.outbox.ids more) is.0
           ∙ ap (λ (t : State). rows_from t.outbox.ids more) run
           ∙ sym (ap
-              (λ b. cond b
-              (stored_event (suc (length s.outbox.ids)) event ∷ rows_from (s.outbox.ids ++ id_text event.id ∷ []) more)
+          (λ b. cond b
+          (stored_event (suc (length s.outbox.ids)) event ∷ rows_from (s.outbox.ids ++ id_text event.id ∷ []) more)
           (rows_from s.outbox.ids more))
           (not_accepted s.outbox change event (is_accepted s.outbox.ids change event) refl is.1))
   of_step s mid (steps.Tick loss) more these losses does =
@@ -147,12 +147,12 @@ module _ (route : Dispatching) where
       ∙ ap (λ ids. rows_from ids more) (ids_by_tick route s mid these does.own.own does.run)
   of_step s mid steps.Restart more these losses does =
       let run : IsRouterRun route s (Restarted ∷ []) mid = subst (λ (moves : List Move). IsRouterRun route s moves mid)
-          does.own.0 does.run in
+      does.own.0 does.run in
       ap (λ (moves : List Move). events_of s.outbox moves ++ rows_from mid.outbox.ids more) does.own.0
       ∙ ap (λ (t : State). rows_from t.outbox.ids more) run.1
   of_step s mid steps.Sweep more these losses does =
       let run : IsRouterRun route s (Swept ∷ []) mid = subst (λ (moves : List Move). IsRouterRun route s moves mid)
-          does.own.0 does.run in
+      does.own.0 does.run in
       ap (λ (moves : List Move). events_of s.outbox moves ++ rows_from mid.outbox.ids more) does.own.0
       ∙ ap (λ (t : State). rows_from t.outbox.ids more) run.1
 

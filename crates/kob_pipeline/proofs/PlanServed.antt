@@ -22,7 +22,7 @@ of_journal worker place (e ∷ journal) = by (of_journal worker (place + 1) jour
     by : served_of (mine_from (place + 1) worker journal) ≡ served_to worker journal
         → (own : Bool)
         → served_of
-            (cond own ((place, e) ∷ mine_from (place + 1) worker journal) (mine_from (place + 1) worker journal))
+        (cond own ((place, e) ∷ mine_from (place + 1) worker journal) (mine_from (place + 1) worker journal))
         ≡ cond own (served_in e ∷ served_to worker journal) (served_to worker journal)
     by rest true = ap (λ served. served_in e ∷ served) rest
     by rest false = rest
@@ -54,8 +54,8 @@ pub served_alike : (notes : List Noted) (journal : List Entry) (worker : ℕ) (n
 served_alike notes journal worker noted kept there =
     sym (of_claims worker noted.events noted.told)
     ∙ ap (λ events. served_of (claims worker events noted.told))
-        (sym (read_notes (λ (n : Noted). n.events) notes worker noted there))
+    (sym (read_notes (λ (n : Noted). n.events) notes worker noted there))
     ∙ ap (λ told. served_of (claims worker (slice_index_or (events_in notes) worker []) told))
-        (sym (read_notes (λ (n : Noted). n.told) notes worker noted there))
+    (sym (read_notes (λ (n : Noted). n.told) notes worker noted there))
     ∙ ap served_of (sym (kept.mine worker (among notes worker noted there)))
     ∙ of_journal worker 0 journal

@@ -14,11 +14,16 @@ steps_push does old mid new [] step front last ls ms all here =
     subst-start : does mid step last ms new → does old step last ms new
     subst-start d = subst (λ s. does s step last ms new) all.2 d
 steps_push does old mid new (s ∷ steps) step front last ls ms all here = (
-      all.0, all.1, all.2 ++ last, all.3, all.4 ++ ms, all.5,
-      steps_push does all.0 mid new steps step all.2 last all.4 ms all.6 here,
-      ap (λ xs. xs ++ last) all.7 ∙ append_assoc all.1 all.2 last,
-      ap (λ xs. xs ++ ms) all.8 ∙ append_assoc all.3 all.4 ms,
-    )
+  all.0,
+  all.1,
+  all.2 ++ last,
+  all.3,
+  all.4 ++ ms,
+  all.5,
+  steps_push does all.0 mid new steps step all.2 last all.4 ms all.6 here,
+  ap (λ xs. xs ++ last) all.7 ∙ append_assoc all.1 all.2 last,
+  ap (λ xs. xs ++ ms) all.8 ∙ append_assoc all.3 all.4 ms,
+)
 
 -- no step at all
 pub leads_none : {S T M : Type 0} (does : S → T → List M → List Loss → S → Type 0) (calls_of : List M → List Call) (at : Standing S) → calls_of [] ≡ [] → Leads (Steps does) calls_of at [] at

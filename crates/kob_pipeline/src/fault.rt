@@ -17,9 +17,14 @@ pub enum PipelineFault {
     /// notes.
     Memory,
     /// A session met a journal with fewer entries than it had seen.
-    Stale { worker: usize, length: usize },
+    Stale {
+        worker: usize,
+        length: usize,
+    },
     /// A session found the journal full although the counts fit.
-    Full { worker: usize },
+    Full {
+        worker: usize,
+    },
     /// A worker's database refused for another cause than want of memory.
     Store,
     /// The journal and what the worker was told differ at the place.

@@ -9,7 +9,7 @@ use crate::plans::{Act, Cast, plan, sweeping};
 use kob_broker::Broker;
 use kob_inbox::InboxRow;
 use kob_names::{Text, Verdict};
-use kob_pipeline::{ConsumerStep, Loss, Plan, PipelineEnd, PipelineFault, pipeline};
+use kob_pipeline::{ConsumerStep, Loss, PipelineEnd, PipelineFault, Plan, pipeline};
 use kob_rights::{Body, Code, Fetch, OffsetFetch, Reply, Request};
 use kob_router::event_id;
 use kob_shared::Gate;

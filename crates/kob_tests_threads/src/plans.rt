@@ -2,6 +2,7 @@
 
 use crate::making::{at_host, event, script};
 use kob_broker::Settings;
+use kob_inbox::Subscription;
 use kob_names::{
     BindingFilter, Draft, FilterPattern, Host, Items, Operation, Pattern, PatternKind, Permission,
     Principal, ResourceKind, Text,
@@ -9,7 +10,6 @@ use kob_names::{
 use kob_outbox::{Change, OutboxEvent};
 use kob_pipeline::{ConsumerPlan, ConsumerStep, Loss, Plan, Service, ServiceStep};
 use kob_rights::{CreateAcls, CreateTopics, DeleteAcls, Event, Request};
-use kob_inbox::Subscription;
 use kob_router::{Place, Route, RouteSettings, Target};
 use kob_shared::Script;
 use std::alloc::{AllocError, Global};
