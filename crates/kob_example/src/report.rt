@@ -27,7 +27,7 @@ pub(crate) fn report<W: Write + Drop>(mut out: W, end: &PipelineEnd) -> io::Resu
 }
 
 fn report_outbox<W: Write>(out: &mut W, name: &str, outbox: &OutboxEnd) -> io::Result<()> {
-    writeln!(out, "outbox of {name}: sent up to row {}", outbox.mark)?;
+    writeln!(out, "outbox of {name}: mark {}", outbox.mark)?;
     for row in outbox.rows.iter() {
         if row.seq > outbox.mark {
             report_waiting(out, row)?;
@@ -39,7 +39,7 @@ fn report_outbox<W: Write>(out: &mut W, name: &str, outbox: &OutboxEnd) -> io::R
 fn report_waiting<W: Write>(out: &mut W, row: &Row) -> io::Result<()> {
     let id = row.event.aggregate_id.as_str();
     let kind = row.event.event_type.as_str();
-    writeln!(out, "  row {} waits: {id} {kind}", row.seq)
+    writeln!(out, "  waiting {}: {id} {kind}", row.seq)
 }
 
 fn report_inbox<W: Write>(out: &mut W, name: &str, inbox: &InboxEnd) -> io::Result<()> {
