@@ -22,7 +22,7 @@ use Rattle.kob_pipeline.specs.Pipelines.{IsConsumedBy, IsPipeline, IsServedBy, c
 use Rattle.kob_pipeline.specs.PlanEnds.{TakesInOrder, inbox_in, outbox_in, records_at}
 use Rattle.kob_pipeline.specs.PlanRows.{rows_of_service}
 use Rattle.kob_pipeline.specs.Premises.{ArePrivate, IsNeverDeleted, IsSoleCommitter, IsSoleProducer}
-use Rattle.kob_pipeline.specs.Reaching.{ReachesInOrder, rows_of_aggregate}
+use Rattle.kob_pipeline.specs.Reaching.{ReachesInOrder}
 use Rattle.kob_pipeline.specs.Served.{Served, AreServed}
 use Rattle.kob_pipeline.specs.View.{IsHistory, opening_view}
 use Rattle.kob_pipeline.specs.Waiting.{IsWaitingOrSent}
@@ -149,14 +149,13 @@ module _ (plan : Plan) (end : PipelineEnd) (of : IsPipeline plan end) where
       → slice_get end.inboxes.items k ≡ Some left
       → ArePrivate (service_number plan i) (consumer_number plan k) consumer.subscription.group
       consumer.subscription.assignment end.journal
-      → (kind id : List ℕ) → ReachesInOrder (rows_of_aggregate (rows_of_service service) kind id) (inbox_in left)
+      → (kind id : List ℕ) → ReachesInOrder (rows_of_service service) (inbox_in left) kind id
   reaches_its_inbox i k service consumer left sends takes kept private kind id =
       let sent : IsServedBy end (service_number plan i) i service = of.services i service sends in
       let took : IsConsumedBy end (consumer_number plan k) k consumer = of.consumers k consumer takes in
       let same : took.left ≡ left = some_alike took.left left (sym took.inbox ∙ kept) in
-      subst (λ (rows : List Event). ReachesInOrder (rows_of_aggregate rows kind id) (inbox_in left)) (its_rows i service sent)
-      (subst (λ (inbox : List Intake). ReachesInOrder
-      (rows_of_aggregate (routers.events_of outboxes.empty sent.run.moves) kind id) inbox)
+      subst (λ (rows : List Event). ReachesInOrder rows (inbox_in left) kind id) (its_rows i service sent)
+      (subst (λ (inbox : List Intake). ReachesInOrder (routers.events_of outboxes.empty sent.run.moves) inbox kind id)
       (sym (its_inbox k consumer took) ∙ ap inbox_in same)
       (holds_a_prefix service.target consumer.subscription (service_number plan i) (consumer_number plan k) end.journal
       (view_after plan.settings end.journal) sent.run.moves sent.run.state took.run.moves took.run.state kind id history

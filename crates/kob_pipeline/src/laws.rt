@@ -9,7 +9,7 @@ ghost use Rattle.kob_pipeline.specs.Pipelines.{IsPipeline, consumer_number, serv
 ghost use Rattle.kob_pipeline.specs.PlanEnds.{TakesInOrder, inbox_in, outbox_in, records_at};
 ghost use Rattle.kob_pipeline.specs.PlanRows.{rows_of_service};
 ghost use Rattle.kob_pipeline.specs.Premises.{ArePrivate, IsNeverDeleted, IsSoleCommitter, IsSoleProducer};
-ghost use Rattle.kob_pipeline.specs.Reaching.{ReachesInOrder, rows_of_aggregate};
+ghost use Rattle.kob_pipeline.specs.Reaching.{ReachesInOrder};
 ghost use Rattle.kob_pipeline.specs.Waiting.{IsWaitingOrSent};
 ghost use Rattle.kob_pipeline.specs.declared.end.InboxEnd.{InboxEnd as InboxLeft};
 ghost use Rattle.kob_pipeline.specs.declared.end.OutboxEnd.{OutboxEnd as OutboxLeft};
@@ -77,7 +77,7 @@ pub fn pipeline_law(plan: &Plan, end: &PipelineEnd)
         → ArePrivate (service_number plan.now i) (consumer_number plan.now k)
         consumer.subscription.group consumer.subscription.assignment end.now.journal
         → (kind id : List ℕ)
-        → ReachesInOrder (rows_of_aggregate (rows_of_service service) kind id) (inbox_in left) }
+        → ReachesInOrder (rows_of_service service) (inbox_in left) kind id }
 {
     // By the definitions.
 }
