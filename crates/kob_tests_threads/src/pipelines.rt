@@ -4,13 +4,12 @@ ghost use Rattle.std.specs.Prelude.{◌≤◌, IsTrue, length};
 ghost use Rattle.std.specs.List.{All};
 
 use crate::gates::{Hold, Holding, Open};
-use crate::making::event;
 use crate::plans::{Act, Cast, plan, sweeping};
 use kob_broker::Broker;
 use kob_inbox::InboxRow;
-use kob_names::{Text, Verdict};
+use kob_names::{Host, Principal, Text, Verdict};
 use kob_pipeline::{ConsumerStep, Loss, PipelineEnd, PipelineFault, Plan, pipeline};
-use kob_rights::{Body, Code, Fetch, OffsetFetch, Reply, Request};
+use kob_rights::{Body, Code, Event, Fetch, OffsetFetch, Reply, Request};
 use kob_router::event_id;
 use kob_shared::Gate;
 use std::alloc::Global;
@@ -87,10 +86,14 @@ fn have_ids(end: &PipelineEnd, ids: &[u128]) -> bool {
 
 /// What `User:root` is answered.
 fn answer(alloc: Global, broker: &mut Broker, request: Request) -> Option<Reply> {
-    let event = event(alloc, "User:root", request).ok()?;
-    let reply = broker.serve(alloc, &event).ok();
-    drop(event);
-    reply
+    let principal = Principal::parse(alloc, "User:root").ok()?;
+    let host = Host::parse(alloc, "h").ok()?;
+    let event = Event {
+        principal,
+        host,
+        request,
+    };
+    broker.serve(alloc, &event).ok()
 }
 
 /// What the group `g` has committed.
