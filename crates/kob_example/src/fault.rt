@@ -16,6 +16,8 @@ pub enum ExampleFault {
     BadName,
     #[error("a route is none")]
     BadRoute,
+    #[error("the plan is none that may be run")]
+    BadPlan,
     #[error("the pipeline did not come to its end")]
     Pipeline,
     #[error("the output could not be written")]

@@ -12,12 +12,15 @@ mod steps;
 
 use crate::fault::ExampleFault;
 use crate::order::Order;
-use crate::plan::plan_of;
+use crate::plan::{is_runnable, plan_of};
 use crate::report::report;
 use kob_pipeline::pipeline;
 
 fn main(rt: HostRuntime) -> Result<(), ExampleFault> {
     let plan = plan_of(rt.alloc())?;
+    if !is_runnable(&plan) {
+        return Err(ExampleFault::BadPlan);
+    }
     let order = Order::new();
     let end = pipeline(&rt, rt.alloc(), &plan, &order)?;
     report(rt.stdout(), &end)?;
