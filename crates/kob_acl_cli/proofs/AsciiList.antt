@@ -12,5 +12,10 @@ pub list-ascii-more : (bindings : List (ℕ × Binding)) (i : ℕ) (item : ℕ �
     → item ≡ get_or bindings i item → IsAscii (list_text (take i bindings))
     → IsAscii (binding_line item) → IsAscii (list_text (take (i + 1) bindings))
 list-ascii-more bindings i item below is before more =
-    rw (take_more bindings i item below, flat_map-append binding_line (take i bindings) (get_or bindings i item ∷ []), append-nil (binding_line (get_or bindings i item)), sym is)
+    rw (
+      take_more bindings i item below,
+      flat_map-append binding_line (take i bindings) (get_or bindings i item ∷ []),
+      append-nil (binding_line (get_or bindings i item)),
+      sym is,
+    )
     (IsAscii-append (list_text (take i bindings)) (binding_line item) before more)

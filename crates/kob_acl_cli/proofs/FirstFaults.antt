@@ -32,14 +32,25 @@ pub first_at : (test : List ℕ → Bool) (words : List (List ℕ)) (i : ℕ) (d
     → IsFirstFault (bad_names (filter test (get_or words i d ∷ []))) fault
     → IsFirstFault (bad_names (filter test words)) fault
 first_at test words i d fault before below first_is =
-    rw (sym (take-append-drop i words), filter-append test (take i words) (drop i words), before, drop_more words i d below, filter-append test (get_or words i d ∷ []) (drop (i + 1) words))
+    rw (
+      sym (take-append-drop i words),
+      filter-append test (take i words) (drop i words),
+      before,
+      drop_more words i d below,
+      filter-append test (get_or words i d ∷ []) (drop (i + 1) words),
+    )
     (first_before_words (filter test (get_or words i d ∷ [])) (filter test (drop (i + 1) words)) fault first_is)
 
 -- with one action, the words are looked at first
 pub first_of_words : (args : CliArgs) (fault : CommandFault) → has_one_action args ≡ true
     → IsFirstFault (bad_names (misread_words args)) fault → IsFirstFault (faults args) fault
 first_of_words args fault one first_is =
-    let mixed = first_before (bad_names (misread_words args)) (only_if (is_bad_mix args) (BadMix ∷ [])) fault first_is in
-    let unresourced = first_before (bad_names (misread_words args) ++ only_if (is_bad_mix args) (BadMix ∷ [])) (only_if (lacks_resource args) (NoResource ∷ [])) fault mixed in
+    let mixed =
+    first_before (bad_names (misread_words args)) (only_if (is_bad_mix args) (BadMix ∷ [])) fault first_is in
+    let unresourced =
+    first_before (bad_names (misread_words args) ++ only_if (is_bad_mix args) (BadMix ∷ []))
+    (only_if (lacks_resource args) (NoResource ∷ [])) fault mixed in
     rw one
-    (first_before (bad_names (misread_words args) ++ only_if (is_bad_mix args) (BadMix ∷ []) ++ only_if (lacks_resource args) (NoResource ∷ [])) (only_if (lacks_principal args) (NoPrincipal ∷ [])) fault unresourced)
+    (first_before (bad_names (misread_words args) ++ only_if (is_bad_mix args) (BadMix ∷ [])
+    ++ only_if (lacks_resource args) (NoResource ∷ []))
+    (only_if (lacks_principal args) (NoPrincipal ∷ [])) fault unresourced)

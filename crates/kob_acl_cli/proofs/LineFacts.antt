@@ -42,7 +42,8 @@ pub refused_by : (app : App) (words : List (List ℕ)) (e : Error) → app ≡ l
     → (kind_of e ≡ OutOfMemory → ⊥) → refusals words ≡ [] → ⊥
 unfolding refusals
 refused_by app words e is kinds other none =
-    other_kind (fault_of app words) e (kinds (ap is_simple_and_free is ∙ line_is_free)) other (ap (λ a. fault_of a words) is ∙ none)
+    other_kind (fault_of app words) e (kinds (ap is_simple_and_free is ∙ line_is_free)) other
+    (ap (λ a. fault_of a words) is ∙ none)
 
 -- a line that clap takes is one that this command takes
 pub taken_by : (app : App) (words : List (List ℕ)) → app ≡ line_app → is_taken words ≡ true → takes app words ≡ true
@@ -55,17 +56,20 @@ folded action app [] name = refl
 folded action app (first ∷ others) name = folded action (with_rule app (option action first)) others name
 
 -- one option more
-pub options_more : (action : ArgAction) (app : App) (names : List (Bor (List ℕ))) (i : ℕ) (d : Bor (List ℕ)) (grown next : App) (rule : Rule) → i < length names
+pub options_more : (action : ArgAction) (app : App) (names : List (Bor (List ℕ))) (i : ℕ) (d : Bor (List ℕ))
+    (grown next : App) (rule : Rule) → i < length names
     → grown ≡ with_options action app (texts (take i names)) → next ≡ with_rule grown rule
     → rule ≡ option action (get_or names i d).now
     → next ≡ with_options action app (texts (take (i + 1) names))
 options_more action app names i d grown next rule below before added is =
     added ∙ ap₂ with_rule before is
-    ∙ sym (ap (with_options action app) (map_more (λ (name : Bor (List ℕ)). name.now) names i d below) ∙ folded action app (texts (take i names)) (get_or names i d).now)
+    ∙ sym (ap (with_options action app) (map_more (λ (name : Bor (List ℕ)). name.now) names i d below)
+    ∙ folded action app (texts (take i names)) (get_or names i d).now)
 
 -- a flag by the text that clap has of it
 pub flag_by : (text found : Option (List ℕ)) (flag : Bool) → found ≡ text → (found ≡ None → flag ≡ false)
     → (found ≡ Some (codes "true") → flag ≡ true)
     → (found ≡ Some (codes "false") → flag ≡ false) → IsFlagBy text flag
 flag_by None found flag same none given other = none same
-flag_by (Some text) found flag same none given other = (λ is. given (same ∙ ap Some is), λ is. other (same ∙ ap Some is))
+flag_by (Some text) found flag same none given other =
+    (λ is. given (same ∙ ap Some is), λ is. other (same ∙ ap Some is))

@@ -23,9 +23,11 @@ plain_accesses pattern operations args = accesses_to operations (targets pattern
 -- --producer writes, describes and creates each topic, --consumer reads and describes it
 abbrev pub topic_operations : CliArgs → List Operation
 topic_operations args =
-    only_if args.producer (Write ∷ Describe ∷ Create ∷ []) ++ only_if args.consumer (Read ∷ Describe ∷ [])
+    only_if args.producer (Write ∷ Describe ∷ Create ∷ [])
+    ++ only_if args.consumer (Read ∷ Describe ∷ [])
 
--- --consumer also reads each group, and --idempotent comes last, with IdempotentWrite on the cluster
+-- --consumer also reads each group, and --idempotent comes last, with IdempotentWrite on the
+-- cluster
 abbrev pub convenience_accesses : FilterPattern → CliArgs → List Access
 convenience_accesses pattern args =
     accesses_to (topic_operations args) (targets_named Topic pattern args.topics)
@@ -34,4 +36,5 @@ convenience_accesses pattern args =
 
 abbrev pub accesses : FilterPattern → List Operation → CliArgs → List Access
 accesses pattern operations args =
-    if has_convenience args then convenience_accesses pattern args else plain_accesses pattern operations args
+    if has_convenience args then convenience_accesses pattern args else plain_accesses pattern
+    operations args

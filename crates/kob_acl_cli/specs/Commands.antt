@@ -71,18 +71,21 @@ creation parts args = Create (map draft_of (rules parts args)) ∷ []
 -- one request for each rule, or for each resource where no principal is given
 abbrev pub removals : Parts → CliArgs → List AclCommand
 removals parts args =
-    if has_holder args then map removal (rules parts args) else map removal_on (targets parts.pattern args)
+    if has_holder args then map removal (rules parts args) else map removal_on
+    (targets parts.pattern args)
 
 -- one request for each resource and each principal
 abbrev pub listings_by : List (Option (List ℕ)) → List (Option Target) → List AclCommand
 listings_by principals targets = flat_map (λ target. map (listing target) principals) targets
 
 abbrev pub listings : Parts → CliArgs → List AclCommand
-listings parts args = listings_by (each_or_any parts.principals) (each_or_any (targets parts.pattern args))
+listings parts args =
+    listings_by (each_or_any parts.principals) (each_or_any (targets parts.pattern args))
 
 abbrev pub commands_by : Parts → CliArgs → List AclCommand
 commands_by parts args =
-    if args.add then creation parts args else (if args.remove then removals parts args else listings parts args)
+    if args.add then creation parts args else
+    (if args.remove then removals parts args else listings parts args)
 
 -- what the line asks for, where no fault stands
 abbrev pub commands : CliArgs → List AclCommand

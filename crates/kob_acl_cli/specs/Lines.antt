@@ -20,26 +20,35 @@ with_options action app names = fold (λ grown name. with_rule grown (option act
 -- no word is the program's name, and --help is no option
 abbrev pub bare_app : App
 bare_app = record {
-  top = record (new_app (codes "kafka-acls")).top { no_binary_name = true; disable_help_flag = true };
+  top = record (new_app (codes "kafka-acls")).top {
+    no_binary_name = true;
+    disable_help_flag = true;
+  };
   subs = [];
 }
 
 -- options with values that may be repeated
 abbrev pub repeatable_options : List (List ℕ)
-repeatable_options = codes "allow-principal" ∷ codes "deny-principal" ∷ codes "allow-host" ∷ codes "deny-host" ∷ codes "operation"
+repeatable_options =
+    codes "allow-principal" ∷ codes "deny-principal" ∷ codes "allow-host" ∷ codes "deny-host"
+    ∷ codes "operation"
     ∷ codes "topic" ∷ codes "group" ∷ codes "transactional-id" ∷ codes "principal" ∷ []
 
 -- options with a value that stand once
 abbrev pub single_options : List (List ℕ)
-single_options = codes "resource-pattern-type" ∷ codes "bootstrap-server" ∷ codes "command-config" ∷ []
+single_options =
+    codes "resource-pattern-type" ∷ codes "bootstrap-server" ∷ codes "command-config" ∷ []
 
 abbrev pub flags : List (List ℕ)
-flags = codes "add" ∷ codes "remove" ∷ codes "list" ∷ codes "cluster" ∷ codes "producer" ∷ codes "consumer"
+flags = codes "add" ∷ codes "remove" ∷ codes "list" ∷ codes "cluster" ∷ codes "producer"
+    ∷ codes "consumer"
     ∷ codes "idempotent" ∷ codes "force" ∷ []
 
 -- the command whose words are read
 abbrev pub line_app : App
-line_app = with_options SetTrue (with_options Set (with_options Append bare_app repeatable_options) single_options) flags
+line_app =
+    with_options SetTrue (with_options Set
+    (with_options Append bare_app repeatable_options) single_options) flags
 
 -- what clap reads of a line for each option
 unfoldable pub rows_of_line : List (List ℕ) → List Row
@@ -60,7 +69,8 @@ values_of rows name = unwrap_or (all_of name rows) []
 -- a flag is clap's `true` or `false`, and false where clap has nothing of it
 abbrev pub IsFlagBy : Option (List ℕ) → Bool → Type 0
 IsFlagBy None flag = flag ≡ false
-IsFlagBy (Some text) flag = (text ≡ codes "true" → flag ≡ true) × (text ≡ codes "false" → flag ≡ false)
+IsFlagBy (Some text) flag =
+    (text ≡ codes "true" → flag ≡ true) × (text ≡ codes "false" → flag ≡ false)
 
 abbrev pub IsFlag : List Row → List ℕ → Bool → Type 0
 IsFlag rows name flag = IsFlagBy (one_of name rows) flag

@@ -24,7 +24,9 @@ has_convenience args = args.producer || args.consumer
 
 -- --topic, --group, --cluster or --transactional-id
 abbrev pub has_resource : CliArgs → Bool
-has_resource args = is_given args.topics || (is_given args.groups || (args.cluster || is_given args.transactional_ids))
+has_resource args =
+    is_given args.topics || (is_given args.groups
+    || (args.cluster || is_given args.transactional_ids))
 
 -- --allow-host without --allow-principal
 abbrev pub allows_host_alone : CliArgs → Bool
@@ -36,12 +38,14 @@ denies_host_alone args = is_given args.deny_hosts && not (is_given args.deny_pri
 
 -- --operation with --remove and no principal
 abbrev pub removes_operation_of_nobody : CliArgs → Bool
-removes_operation_of_nobody args = is_given args.operations && (args.remove && not (has_holder args))
+removes_operation_of_nobody args =
+    is_given args.operations && (args.remove && not (has_holder args))
 
 -- the pattern types any and match
 abbrev pub is_for_filters : Option (List ℕ) → Bool
 is_for_filters None = false
-is_for_filters (Some word) = str_eq_ignore_ascii_case word (codes "any") || str_eq_ignore_ascii_case word (codes "match")
+is_for_filters (Some word) =
+    str_eq_ignore_ascii_case word (codes "any") || str_eq_ignore_ascii_case word (codes "match")
 
 -- any or match with --add
 abbrev pub adds_for_filters : CliArgs → Bool
@@ -54,7 +58,8 @@ names_principal_unlisted args = is_given args.principals && not args.list
 -- options that say what a binding holds
 abbrev pub speaks_of_bindings : CliArgs → Bool
 speaks_of_bindings args =
-    has_holder args || (has_host args || (is_given args.operations || (has_convenience args || args.idempotent)))
+    has_holder args || (has_host args
+    || (is_given args.operations || (has_convenience args || args.idempotent)))
 
 -- --list with any of these
 abbrev pub lists_with_binding : CliArgs → Bool
@@ -79,23 +84,28 @@ abbrev pub group_of_producer : CliArgs → Bool
 group_of_producer args = is_given args.groups && (args.producer && not args.consumer)
 
 abbrev pub is_bad_mix_of_holders : CliArgs → Bool
-is_bad_mix_of_holders args = allows_host_alone args || (denies_host_alone args || removes_operation_of_nobody args)
+is_bad_mix_of_holders args =
+    allows_host_alone args || (denies_host_alone args || removes_operation_of_nobody args)
 
 abbrev pub is_bad_mix_of_action : CliArgs → Bool
-is_bad_mix_of_action args = adds_for_filters args || (names_principal_unlisted args || lists_with_binding args)
+is_bad_mix_of_action args =
+    adds_for_filters args || (names_principal_unlisted args || lists_with_binding args)
 
 abbrev pub is_bad_mix_of_convenience : CliArgs → Bool
-is_bad_mix_of_convenience args = convenience_with_others args || (idempotent_without_producer args || group_of_producer args)
+is_bad_mix_of_convenience args =
+    convenience_with_others args || (idempotent_without_producer args || group_of_producer args)
 
 -- options that may not stand together
 abbrev pub is_bad_mix : CliArgs → Bool
-is_bad_mix args = is_bad_mix_of_holders args || (is_bad_mix_of_action args || is_bad_mix_of_convenience args)
+is_bad_mix args =
+    is_bad_mix_of_holders args || (is_bad_mix_of_action args || is_bad_mix_of_convenience args)
 
 -- --consumer without a topic or without a group
 abbrev pub consumes_nothing : CliArgs → Bool
 consumes_nothing args = args.consumer && not (is_given args.topics && is_given args.groups)
 
--- --add or --remove without a resource, --producer without a topic, --consumer without a topic or a group
+-- --add or --remove without a resource, --producer without a topic, --consumer without a topic or a
+-- group
 abbrev pub lacks_resource : CliArgs → Bool
 lacks_resource args =
     ((args.add || args.remove) && not (has_resource args))

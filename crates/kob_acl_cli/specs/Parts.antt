@@ -27,11 +27,19 @@ pattern_type (Some word) = unwrap_or (filter_pattern_named word) Literal
 -- without a host every host is meant
 abbrev pub allowed_holders : CliArgs → Holders
 allowed_holders args =
-    record { permission = Allow; principals = args.allow_principals; hosts = or_default (codes "*") args.allow_hosts }
+    record {
+      permission = Allow;
+      principals = args.allow_principals;
+      hosts = or_default (codes "*") args.allow_hosts;
+    }
 
 abbrev pub denied_holders : CliArgs → Holders
 denied_holders args =
-    record { permission = Deny; principals = args.deny_principals; hosts = or_default (codes "*") args.deny_hosts }
+    record {
+      permission = Deny;
+      principals = args.deny_principals;
+      hosts = or_default (codes "*") args.deny_hosts;
+    }
 
 -- without an operation every operation is meant
 abbrev pub parts : CliArgs → Parts

@@ -24,19 +24,24 @@ rule permission principal host target operation = record {
 
 -- for each operation
 abbrev pub rules_on_host : Permission → List ℕ → Access → List ℕ → List Rule
-rules_on_host permission principal access host = map (λ operation. rule permission principal host access.target operation) access.operations
+rules_on_host permission principal access host =
+    map (λ operation. rule permission principal host access.target operation) access.operations
 
 -- for each host
 abbrev pub rules_of_principal : Permission → List (List ℕ) → Access → List ℕ → List Rule
-rules_of_principal permission hosts access principal = flat_map (λ host. rules_on_host permission principal access host) hosts
+rules_of_principal permission hosts access principal =
+    flat_map (λ host. rules_on_host permission principal access host) hosts
 
 -- for each principal
 abbrev pub rules_of : Holders → Access → List Rule
-rules_of holders access = flat_map (λ principal. rules_of_principal holders.permission holders.hosts access principal) holders.principals
+rules_of holders access =
+    flat_map (λ principal. rules_of_principal holders.permission holders.hosts access principal)
+    holders.principals
 
 -- for each resource: allow, then deny
 abbrev pub product : Holders → Holders → List Access → List Rule
-product allowed denied accesses = flat_map (λ access. rules_of allowed access ++ rules_of denied access) accesses
+product allowed denied accesses =
+    flat_map (λ access. rules_of allowed access ++ rules_of denied access) accesses
 
 -- the kind of a binding's pattern; the other pattern types are for filters alone
 abbrev pub pattern_kind : FilterPattern → PatternKind

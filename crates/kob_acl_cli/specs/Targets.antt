@@ -26,4 +26,5 @@ targets_named kind pattern names = map (λ name. target kind pattern name) names
 abbrev pub targets : FilterPattern → CliArgs → List Target
 targets pattern args =
     targets_named Topic pattern args.topics ++ targets_named Group pattern args.groups
-    ++ only_if args.cluster (cluster ∷ []) ++ targets_named TransactionalId pattern args.transactional_ids
+    ++ only_if args.cluster (cluster ∷ [])
+    ++ targets_named TransactionalId pattern args.transactional_ids

@@ -17,7 +17,8 @@ pub enum LineFault {
     Memory,
 }
 
-/// Why options are no command. The first fault that stands is answered, in the order of the variants.
+/// Why options are no command. The first fault that stands is answered, in the order of the
+/// variants.
 #[derive(Debug, PartialEq, Eq, Error, Drop)]
 pub enum CommandFault {
     #[error("exactly one of --add, --remove and --list is wanted")]

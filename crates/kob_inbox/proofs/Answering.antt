@@ -12,7 +12,8 @@ use Rattle.kob_inbox.specs.declared.fault.InboxFault.{InboxFault}
 use Rattle.kob_inbox.specs.declared.fault.InboxFault.TheVariants.{Memory, Store}
 use Rattle.kob_inbox.specs.declared.inbox.TakeIn.TheVariants.{Taken, Seen}
 
-module _ (events : Contents) (found : Option (List ℕ)) (uuid id : List ℕ) (is : Some uuid ≡ found) (text : id ≡ id_text uuid) where
+module _ (events : Contents) (found : Option (List ℕ)) (uuid id : List ℕ) (is : Some uuid ≡ found)
+    (text : id ≡ id_text uuid) where
   answered : answer_to events found ≡ (if is_there events id then Seen else Taken)
   answered = ap (answer_to events) (sym is) ∙ ap (λ t. if is_there events t then Seen else Taken) (sym text)
 
@@ -22,14 +23,16 @@ module _ (events : Contents) (found : Option (List ℕ)) (uuid id : List ℕ) (i
     | inr absent ↦ absurd (let one : count ≡ 1 = counts ∙ rw absent refl in let no = sym none ∙ one in cc)
   ]
 
-  pub taken : (count : ℕ) → count ≡ (if is_there events id then 0 else 1) → ¬ (count ≡ 0) → Taken ≡ answer_to events found
+  pub taken : (count : ℕ) → count ≡ (if is_there events id then 0 else 1) → ¬ (count ≡ 0)
+      → Taken ≡ answer_to events found
   taken count counts some = elim (cases_Bool (is_there events id)) [
     | inl there ↦ absurd (some (counts ∙ rw there refl))
     | inr absent ↦ sym (answered ∙ rw absent refl)
   ]
 
   -- where the id is there, only want of memory stops it
-  pub stored : {A : Type 0} (r : Result A InboxFault) (e : Error) → IsErrAnd r (λ f. f ≡ fault_of e) → (IsTrue (is_there events id) → IsMemory e) → IsErrOf r Store → answer_to events found ≡ Taken
+  pub stored : {A : Type 0} (r : Result A InboxFault) (e : Error) → IsErrAnd r (λ f. f ≡ fault_of e)
+      → (IsTrue (is_there events id) → IsMemory e) → IsErrOf r Store → answer_to events found ≡ Taken
   stored (Ok a) e gives again h = absurd cc
   stored (Err f) e gives again h = elim (cases_Bool (is_there events id)) [
     | inl there ↦ absurd (let memory : f ≡ Memory = gives ∙ ap fault_of (again there) in cc)

@@ -17,7 +17,8 @@ pub holds_in : (events : Contents) (trees : Trees) → Holds events trees → Ho
 holds_in events trees h = subst (λ d. Holds d trees) (sym (read_back events trees h)) h
 
 -- the database is still the inbox, with the same events
-pub inbox_stays : (old new : State) → IsInbox old → new.step_limit ≡ old.step_limit → Stays old new → IsInbox new × (contents_in new.now.trees ≡ contents_in old.now.trees)
+pub inbox_stays : (old new : State) → IsInbox old → new.step_limit ≡ old.step_limit → Stays old new
+    → IsInbox new × (contents_in new.now.trees ≡ contents_in old.now.trees)
 inbox_stays old new h limit stays = (
   record {
     schema = ap (λ (d : Database). d.schema) stays.now ∙ h.schema;
@@ -30,7 +31,17 @@ inbox_stays old new h limit stays = (
 )
 
 -- the database is the inbox, with these events
-pub inbox_holds : (events : Contents) (old new : State) → IsInbox old → new.step_limit ≡ old.step_limit → new.now.schema ≡ inbox_schema → new.committed ≡ new.now
+pub inbox_holds : (events : Contents) (old new : State) → IsInbox old → new.step_limit ≡ old.step_limit
+    → new.now.schema ≡ inbox_schema → new.committed ≡ new.now
     → new.in_transaction ≡ false → Holds events new.now.trees → IsInbox new × (contents_in new.now.trees ≡ events)
-inbox_holds events old new h limit schema settled idle holds =
-    (record { schema = schema; settled = settled; idle = idle; unlimited = limit ∙ h.unlimited; holds = holds_in events new.now.trees holds }, read_back events new.now.trees holds)
+inbox_holds events old new h limit schema settled idle holds = (
+  record {
+    schema = schema;
+    settled = settled;
+    idle = idle;
+    unlimited = limit
+        ∙ h.unlimited;
+    holds = holds_in events new.now.trees holds;
+  },
+  read_back events new.now.trees holds,
+)

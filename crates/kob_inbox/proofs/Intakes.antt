@@ -44,20 +44,38 @@ use Rattle.kob_inbox.proofs.Places.{event_at, put_last, there_at}
 use Rattle.kob_inbox.proofs.Texts.{put_text, put_is, put_plain, put_whole, new_row}
 
 abbrev pub intake_params : ℕ → Intake → Row
-intake_params n e = Int (pos n) ∷ Text e.id ∷ Text e.topic ∷ Int (pos e.partition) ∷ Int (pos e.offset) ∷ key_value e.key ∷ Blob e.value ∷ []
+intake_params n e =
+    Int (pos n) ∷ Text e.id ∷ Text e.topic ∷ Int (pos e.partition) ∷ Int (pos e.offset) ∷ key_value e.key
+    ∷ Blob e.value ∷ []
 
 alone : IsAlone inbox_schema Enforced inbox_tree
 alone olds news = refl
 
 -- the columns of such a row take its values as they are
 cast_placed : (n : ℕ) (id topic : List ℕ) (partition offset : ℕ) (key : Option (List ℕ)) (value : List ℕ)
-    → let row = placed_row (n, record { id = id; topic = topic; partition = partition; offset = offset; key = key; value = value }) in cast_row (uncounted inbox_table) row ≡ row
-cast_placed n id topic partition offset None value = rw (cast_int (pos n), cast_null, cast_int (pos partition), cast_int (pos offset)) refl
-cast_placed n id topic partition offset (Some key) value = rw (cast_int (pos n), cast_null, cast_int (pos partition), cast_int (pos offset)) refl
+    → let row =
+    placed_row (
+      n,
+      record {
+        id = id;
+        topic = topic;
+        partition = partition;
+        offset = offset;
+        key = key;
+        value = value;
+      },
+    ) in cast_row (uncounted inbox_table) row ≡ row
+cast_placed n id topic partition offset None value =
+    rw (cast_int (pos n), cast_null, cast_int (pos partition), cast_int (pos offset)) refl
+cast_placed n id topic partition offset (Some key) value =
+    rw (cast_int (pos n), cast_null, cast_int (pos partition), cast_int (pos offset)) refl
 
 -- nothing in a row of this table alone speaks against it
 suits_with : (n : ℕ) (id topic : List ℕ) (partition offset : ℕ) (key : Option (List ℕ)) (value : List ℕ)
-    → IsSuited inbox_table (placed_row (n, record { id = id; topic = topic; partition = partition; offset = offset; key = key; value = value }))
+    → IsSuited inbox_table (placed_row (
+      n,
+      record { id = id; topic = topic; partition = partition; offset = offset; key = key; value = value },
+    ))
 suits_with n id topic partition offset None value (Violates NotNull) judged = let e : true ≡ false = judged in cc
 suits_with n id topic partition offset (Some key) value (Violates NotNull) judged = let e : true ≡ false = judged in cc
 suits_with n id topic partition offset None value (Violates Check) judged = let e : true ≡ false = judged in cc
@@ -76,7 +94,8 @@ settled : (b : Bool) → ((b && true) || false) ≡ b
 settled true = refl
 settled false = refl
 
-conflict_is : (p q : ℕ × Intake) → p.0 < q.0 → conflicts None inbox_schema.indexes inbox_table (placed_row q) (placed_row p) ≡ bytes_eq p.1.id q.1.id
+conflict_is : (p q : ℕ × Intake) → p.0 < q.0
+    → conflicts None inbox_schema.indexes inbox_table (placed_row q) (placed_row p) ≡ bytes_eq p.1.id q.1.id
 unfolding first_key
 conflict_is p q low = rw (unequal_numbers p.0 q.0 low, equal_texts p.1.id q.1.id) (settled (bytes_eq p.1.id q.1.id))
 
@@ -84,17 +103,20 @@ refer_to_none : ReferToNone inbox_schema
 refer_to_none among db = (all_fine _, tt)
 
 accepted_with : (n : ℕ) (id topic : List ℕ) (partition offset : ℕ) (key : Option (List ℕ)) (value : List ℕ)
-    → accepts_terms new_row (intake_params n (record { id = id; topic = topic; partition = partition; offset = offset; key = key; value = value })) ≡ true
+    → accepts_terms new_row (intake_params n
+    (record { id = id; topic = topic; partition = partition; offset = offset; key = key; value = value })) ≡ true
 unfolding everything
 accepted_with n id topic partition offset None value = refl
 accepted_with n id topic partition offset (Some key) value = refl
 
 -- The id is new and its row is last, or it is there and nothing is written.
 pub record Goes (events : Contents) (e : Intake) (after : Trees) (count : ℕ) : Type 0 where
-  pub fresh : is_there events e.id ≡ false → (count ≡ 1) × (after inbox_tree ≡ map placed_row (enumerate_from 1 (events ++ e ∷ [])))
+  pub fresh : is_there events e.id ≡ false
+      → (count ≡ 1) × (after inbox_tree ≡ map placed_row (enumerate_from 1 (events ++ e ∷ [])))
   pub again : is_there events e.id ≡ true → (count ≡ 0) × (after inbox_tree ≡ map placed_row (enumerate_from 1 events))
 
-module _ (limit : Option ℕ) (events : Contents) (e : Intake) (n : ℕ) (db : Trees) (holds : db inbox_tree ≡ map placed_row (enumerate_from 1 events)) (is : n ≡ suc (length events)) where
+module _ (limit : Option ℕ) (events : Contents) (e : Intake) (n : ℕ) (db : Trees)
+    (holds : db inbox_tree ≡ map placed_row (enumerate_from 1 events)) (is : n ≡ suc (length events)) where
   abbrev params : Row
   params = intake_params n e
 
@@ -119,24 +141,29 @@ module _ (limit : Option ℕ) (events : Contents) (e : Intake) (n : ℕ) (db : T
   none_found : Found [] → is_there events e.id ≡ false
   none_found h = not_true _ (λ there.
       let at = there_at 1 events e.id there in
-      h.complete (placed_row at.0) (subst (λ rows. Has rows (placed_row at.0)) (sym holds) at.2) (conflict_is at.0 (n, e) (omega (arith, at.1, is)) ∙ at.3))
+      h.complete (placed_row at.0) (subst (λ rows. Has rows (placed_row at.0)) (sym holds) at.2)
+      (conflict_is at.0 (n, e) (omega (arith, at.1, is)) ∙ at.3))
 
   some_found : (x : Row) (more : List Row) → Found (x ∷ more) → is_there events e.id ≡ true
   some_found x more h =
       let got = h.sound x (inl refl) in
       let at = event_at 1 events e.id got.0 (subst (λ rows. Has rows got.0) holds got.1) in
-      at.3 (sym (conflict_is at.0 (n, e) (omega (arith, at.1, is))) ∙ subst (λ r. conflicts None inbox_schema.indexes inbox_table row r ≡ true) at.2 got.2)
+      at.3 (sym (conflict_is at.0 (n, e) (omega (arith, at.1, is)))
+      ∙ subst (λ r. conflicts None inbox_schema.indexes inbox_table row r ≡ true) at.2 got.2)
 
   abbrev Task-here : Task
   Task-here = task_on limit Enforced inbox_schema inbox_table params
 
-  cleared : (one : Written) (found : List Row) → Found found → Clears Task-here Ignore row db found (Ok one) → Goes events e one.trees (length one.rows)
+  cleared : (one : Written) (found : List Row) → Found found → Clears Task-here Ignore row db found (Ok one)
+      → Goes events e one.trees (length one.rows)
   cleared one [] conf h =
       let fresh = none_found conf in
       let done = put limit Enforced inbox_schema inbox_table params alone row db one h in
-      let news : (edit_of db (uncounted inbox_table) [] Given 0 (row ∷ [])).news ≡ row ∷ [] = ap (λ r. r ∷ []) cast_it in
+      let news : (edit_of db (uncounted inbox_table) [] Given 0 (row ∷ [])).news ≡ row ∷ [] =
+      ap (λ r. r ∷ []) cast_it in
       let rows : one.trees inbox_tree ≡ map placed_row (enumerate_from 1 (events ++ e ∷ [])) =
-      done.0.rows ∙ ap (λ news. edited db (record { table = uncounted inbox_table; gone = []; news = news })) news ∙ ap (put_row row) holds ∙ put_last n events e is in
+      done.0.rows ∙ ap (λ news. edited db (record { table = uncounted inbox_table; gone = []; news = news })) news
+      ∙ ap (put_row row) holds ∙ put_last n events e is in
       record {
         fresh = λ _. (ap length (done.1 ∙ news), rows);
         again = λ there. absurd (let no = sym fresh ∙ there in cc);
@@ -149,45 +176,64 @@ module _ (limit : Option ℕ) (events : Contents) (e : Intake) (n : ℕ) (db : T
         again = λ _. (ap (λ (w : Written). length w.rows) same, ap (λ (w : Written). w.trees inbox_tree) same ∙ holds);
       }
 
-  decided : (one : Written) (verdict : Option Refusal) → IsJudged (uncounted inbox_table) row verdict → Judged Task-here Ignore [] row db verdict (Ok one) → Goes events e one.trees (length one.rows)
+  decided : (one : Written) (verdict : Option Refusal) → IsJudged (uncounted inbox_table) row verdict
+      → Judged Task-here Ignore [] row db verdict (Ok one) → Goes events e one.trees (length one.rows)
   decided one verdict judged h =
-      let it = judged_clears limit Enforced inbox_schema inbox_table params row suits db (Ok one) verdict judged h in cleared one it.0 it.1 it.2
+      let it = judged_clears limit Enforced inbox_schema inbox_table params row suits db (Ok one) verdict judged h in
+      cleared one it.0 it.1 it.2
 
   -- the statement took the event in, or found its id
-  pub goes : (old new : State) (count : ℕ) → old.step_limit ≡ limit → old.now ≡ record { schema = inbox_schema; trees = db } → old.in_transaction ≡ false → Executes put_text params old new (Ok count)
-      → Goes events e new.now.trees count × (new.now.schema ≡ inbox_schema) × (new.committed ≡ new.now) × (new.in_transaction ≡ false)
+  pub goes : (old new : State) (count : ℕ) → old.step_limit ≡ limit
+      → old.now ≡ record { schema = inbox_schema; trees = db } → old.in_transaction ≡ false
+      → Executes put_text params old new (Ok count)
+      → Goes events e new.now.trees count × (new.now.schema ≡ inbox_schema) × (new.committed ≡ new.now)
+      × (new.in_transaction ≡ false)
   goes old new count unlimited now idle h =
       let schema : old.now.schema ≡ inbox_schema = ap (λ (d : Database). d.schema) now in
-      let it = wrote put_text params old new inbox_schema schema _ put_is put_plain 0 inbox_table refl (λ limit mode params db text p does. does) (λ text count ran. ran) count h in
+      let it =
+      wrote put_text params old new inbox_schema schema _ put_is put_plain 0 inbox_table refl
+      (λ limit mode params db text p does. does) (λ text count ran. ran) count h in
       let does : InsertsOr Task-here Ignore [] (Values new_row 8) db (Ok it.written) =
-      subst (λ l. InsertsOr (task_on l Enforced inbox_schema inbox_table params) Ignore [] (Values new_row 8) db (Ok it.written)) unlimited
-      (subst (λ (d : Database). InsertsOr (task_on old.step_limit Enforced inbox_schema inbox_table params) Ignore [] (Values new_row 8) d.trees (Ok it.written)) now it.does) in
+      subst (λ l. InsertsOr (task_on l Enforced inbox_schema inbox_table params) Ignore [] (Values new_row 8) db
+      (Ok it.written)) unlimited
+      (subst (λ (d : Database). InsertsOr (task_on old.step_limit Enforced inbox_schema inbox_table params) Ignore []
+      (Values new_row 8) d.trees (Ok it.written)) now it.does) in
       let t = tried limit Enforced inbox_schema inbox_table params alone Ignore new_row 8 row db it.written refl does in
       let u = subst (Tried limit Enforced inbox_schema inbox_table params alone Ignore db it.written) tried_row t in
       let gone = decided u.one u.verdict u.judged u.does in
       let after : new.now.trees ≡ u.one.trees = ap (λ (d : Database). d.trees) it.now ∙ u.trees in
-      let counted : count ≡ length u.one.rows = it.counted ∙ ap length u.rows in
-      (subst (λ t. Goes events e t count) (sym after) (subst (λ n. Goes events e u.one.trees n) (sym counted) gone), ap (λ (d : Database). d.schema) it.now, rw idle at it.committed, it.mode ∙ idle)
+      let counted : count ≡ length u.one.rows = it.counted ∙ ap length u.rows in (
+        subst (λ t. Goes events e t count) (sym after) (subst (λ n. Goes events e u.one.trees n) (sym counted) gone),
+        ap (λ (d : Database). d.schema) it.now,
+        rw idle at it.committed,
+        it.mode ∙ idle,
+      )
 
   -- where the id is there, nothing but want of memory stops the statement
-  pub goes_again : (old new : State) (why : Error) → NeverFails old new → limit ≡ None → old.step_limit ≡ limit → old.now ≡ record { schema = inbox_schema; trees = db } → n < 2 ^ 63 → is_there events e.id ≡ true
+  pub goes_again : (old new : State) (why : Error) → NeverFails old new → limit ≡ None → old.step_limit ≡ limit
+      → old.now ≡ record { schema = inbox_schema; trees = db } → n < 2 ^ 63 → is_there events e.id ≡ true
       → Executes put_text params old new (Err why) → IsMemory why
   goes_again old new why never none unlimited now low there h =
       let schema : old.now.schema ≡ inbox_schema = ap (λ (d : Database). d.schema) now in
       let putting : Command = InsertOr 0 Ignore (Values new_row 8) [] in
-      elim (for_memory_or old new never put_text params inbox_schema schema put_plain put_whole putting put_is refl (not_misplaced 0 (Values new_row 8) old) why h) [
+      elim (for_memory_or old new never put_text params inbox_schema schema put_plain put_whole putting put_is refl
+      (not_misplaced 0 (Values new_row 8) old) why h) [
         | inl memory ↦ memory
         | inr stopped ↦ absurd (
-            never_stops limit Enforced inbox_schema inbox_table params refer_to_none alone 0 new_row 8 row row db (mode_of old) refl none accepted tried_row (fits n low)
+            never_stops limit Enforced inbox_schema inbox_table params refer_to_none alone 0 new_row 8 row row db
+            (mode_of old) refl none accepted tried_row (fits n low)
             suits (λ found. let no = sym there ∙ none_found found in cc) stopped.1
-            (subst (λ l. OnTable l (mode_of old) params (record { schema = inbox_schema; trees = db }) 0 (λ task. OnRows task (mode_of old) None putting db) (Err stopped.1)) unlimited
-            (subst (λ (d : Database). OnTable old.step_limit (mode_of old) params d 0 (λ task. OnRows task (mode_of old) None putting d.trees) (Err stopped.1)) now stopped.2))
+            (subst (λ l. OnTable l (mode_of old) params (record { schema = inbox_schema; trees = db }) 0
+            (λ task. OnRows task (mode_of old) None putting db) (Err stopped.1)) unlimited
+            (subst (λ (d : Database). OnTable old.step_limit (mode_of old) params d 0
+            (λ task. OnRows task (mode_of old) None putting d.trees) (Err stopped.1)) now stopped.2))
             )
       ]
 
 -- ---- the events afterwards
 
-all_with : (P : Intake → Type 0) (e : Intake) (events : Contents) → AllByRecursion P events → P e → AllByRecursion P (events ++ e ∷ [])
+all_with : (P : Intake → Type 0) (e : Intake) (events : Contents) → AllByRecursion P events → P e
+    → AllByRecursion P (events ++ e ∷ [])
 all_with P e [] all last = (last, tt)
 all_with P e (x ∷ events) all last = (all.0, all_with P e events all.1 last)
 
@@ -197,23 +243,36 @@ differs true more h = absurd cc
 differs false more h = (refl, h)
 
 bytes_eq-sym : (s t : List ℕ) → bytes_eq s t ≡ false → bytes_eq t s ≡ false
-bytes_eq-sym s t other = not_true _ (λ same. let no = sym other ∙ (bytes_eq-Decides s t).1 (sym ((bytes_eq-Decides t s).0 same)) in cc)
+bytes_eq-sym s t other =
+    not_true _ (λ same. let no = sym other ∙ (bytes_eq-Decides s t).1 (sym ((bytes_eq-Decides t s).0 same)) in cc)
 
 once_with : (e : Intake) (events : Contents) → is_there events e.id ≡ false → IsOnce events → IsOnce (events ++ e ∷ [])
 once_with e [] absent once = (tt, tt)
 once_with e (x ∷ events) absent once =
-    let apart = differs _ _ absent in
-    (all_with (λ b. bytes_eq b.id x.id ≡ false) e events once.0 (bytes_eq-sym x.id e.id apart.0), once_with e events apart.1 once.1)
+    let apart = differs _ _ absent in (
+      all_with (λ b. bytes_eq b.id x.id ≡ false) e events once.0 (bytes_eq-sym x.id e.id apart.0),
+      once_with e events apart.1 once.1,
+    )
 
-pub takes_in : (old new : State) (e : Intake) (n count : ℕ) → IsInbox old → IsReadable e → n ≡ suc (length (contents_in old.now.trees)) → n < 2 ^ 63 → new.step_limit ≡ old.step_limit
+pub takes_in : (old new : State) (e : Intake) (n count : ℕ) → IsInbox old → IsReadable e
+    → n ≡ suc (length (contents_in old.now.trees)) → n < 2 ^ 63 → new.step_limit ≡ old.step_limit
     → Executes put_text (intake_params n e) old new (Ok count)
-    → IsInbox new × (contents_in new.now.trees ≡ with_intake (contents_in old.now.trees) e) × (count ≡ (if is_there (contents_in old.now.trees) e.id then 0 else 1))
+    → IsInbox new × (contents_in new.now.trees ≡ with_intake (contents_in old.now.trees) e)
+    × (count ≡ (if is_there (contents_in old.now.trees) e.id then 0 else 1))
 takes_in old new e n count was fine is low limit h =
     let events = contents_in old.now.trees in
-    let it = goes None events e n old.now.trees was.holds.rows is old new count was.unlimited (ap (λ s. record { schema = s; trees = old.now.trees }) was.schema) was.idle h in
+    let it =
+    goes None events e n old.now.trees was.holds.rows is old new count was.unlimited
+    (ap (λ s. record { schema = s; trees = old.now.trees }) was.schema) was.idle h in
     elim (cases_Bool (is_there events e.id)) [
       | inl there ↦
-          let same : Holds events new.now.trees = record { rows = (it.0.again there).1; room = was.holds.room; once = was.holds.once; readable = was.holds.readable } in
+          let same : Holds events new.now.trees =
+          record {
+            rows = (it.0.again there).1;
+            room = was.holds.room;
+            once = was.holds.once;
+            readable = was.holds.readable;
+          } in
           let all = inbox_holds events old new was limit it.1 it.2 it.3 same in
           (all.0, all.1 ∙ rw there refl, (it.0.again there).0 ∙ rw there refl)
       | inr absent ↦
@@ -229,17 +288,25 @@ takes_in old new e n count was fine is low limit h =
     ]
 
 -- what the statement leaves, whatever it answers
-pub takes : (old new : State) (e : Intake) (n : ℕ) (r : Result ℕ Error) → IsInbox old → IsReadable e → n ≡ suc (length (contents_in old.now.trees)) → n < 2 ^ 63 → new.step_limit ≡ old.step_limit → IsTrue new.is_open
+pub takes : (old new : State) (e : Intake) (n : ℕ) (r : Result ℕ Error) → IsInbox old → IsReadable e
+    → n ≡ suc (length (contents_in old.now.trees)) → n < 2 ^ 63 → new.step_limit ≡ old.step_limit → IsTrue new.is_open
     → Executes put_text (intake_params n e) old new r
-    → IsInbox new × OnOk r (contents_in new.now.trees ≡ with_intake (contents_in old.now.trees) e) × IfOk r (λ count. count ≡ (if is_there (contents_in old.now.trees) e.id then 0 else 1))
+    → IsInbox new × OnOk r (contents_in new.now.trees ≡ with_intake (contents_in old.now.trees) e)
+    × IfOk r (λ count. count ≡ (if is_there (contents_in old.now.trees) e.id then 0 else 1))
     × OnErr r (contents_in new.now.trees ≡ contents_in old.now.trees)
-takes old new e n (Ok count) was fine is low limit opened h = let it = takes_in old new e n count was fine is low limit h in (it.0, it.1, it.2, tt)
+takes old new e n (Ok count) was fine is low limit opened h =
+    let it = takes_in old new e n count was fine is low limit h in (it.0, it.1, it.2, tt)
 takes old new e n (Err why) was fine is low limit opened h =
-    let stays = inbox_stays old new was limit (execute_stays put_text (intake_params n e) old new was.settled was.idle opened why h) in (stays.0, tt, tt, stays.1)
+    let stays =
+    inbox_stays old new was limit (execute_stays put_text
+    (intake_params n e) old new was.settled was.idle opened why h) in (stays.0, tt, tt, stays.1)
 
 -- an id that is there is refused for want of memory alone
-pub takes_again : (old new : State) (e : Intake) (n : ℕ) (r : Result ℕ Error) → IsInbox old → NeverFails old new → n ≡ suc (length (contents_in old.now.trees)) → n < 2 ^ 63
-    → Executes put_text (intake_params n e) old new r → IfErr r (λ why. IsTrue (is_there (contents_in old.now.trees) e.id) → IsMemory why)
+pub takes_again : (old new : State) (e : Intake) (n : ℕ) (r : Result ℕ Error) → IsInbox old → NeverFails old new
+    → n ≡ suc (length (contents_in old.now.trees)) → n < 2 ^ 63
+    → Executes put_text (intake_params n e) old new r
+    → IfErr r (λ why. IsTrue (is_there (contents_in old.now.trees) e.id) → IsMemory why)
 takes_again old new e n (Ok count) was never is low h = tt
 takes_again old new e n (Err why) was never is low h = λ there.
-    goes_again None (contents_in old.now.trees) e n old.now.trees was.holds.rows is old new why never refl was.unlimited (ap (λ s. record { schema = s; trees = old.now.trees }) was.schema) low there h
+    goes_again None (contents_in old.now.trees) e n old.now.trees was.holds.rows is old new why never refl
+    was.unlimited (ap (λ s. record { schema = s; trees = old.now.trees }) was.schema) low there h

@@ -6,7 +6,8 @@ use Rattle.sqlite.specs.declared.types.Value.TheVariants.{Blob}
 use Rattle.sqlite.specs.Values.{bound_value, or_null}
 use Rattle.kob_inbox.specs.Layout.{key_value}
 
-pub lent_key : (key : Option (Bor (List ℕ))) → or_null (λ (b : Bor (List ℕ)). Blob b.now) key ≡ key_value (option_copied key)
+pub lent_key : (key : Option (Bor (List ℕ)))
+    → or_null (λ (b : Bor (List ℕ)). Blob b.now) key ≡ key_value (option_copied key)
 lent_key None = refl
 lent_key (Some key) = refl
 

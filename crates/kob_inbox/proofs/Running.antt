@@ -14,13 +14,15 @@ taken_more : (events : Contents) (xs ys : List Arrival) → taken_in events (xs 
 taken_more events [] ys = refl
 taken_more events (x ∷ xs) ys = taken_more (with_record events (event_id x.message) x) xs ys
 
-one_call : (t : Subscription) (s : State) (request : Request) (heard : Option Reply) (count : ℕ) → (answered t s request heard count).inbox ≡ taken_in s.inbox (taken_by request heard count)
+one_call : (t : Subscription) (s : State) (request : Request) (heard : Option Reply) (count : ℕ)
+    → (answered t s request heard count).inbox ≡ taken_in s.inbox (taken_by request heard count)
 one_call t s request None count = refl
 one_call t s request (Some (Denied code verdicts)) count = refl
 one_call t s request (Some (Refused code reason)) count = refl
 one_call t s request (Some (Done body)) count = refl
 
-pub run_takes_in : (t : Subscription) (moves : List Move) (old new : State) → IsConsumerRun t old moves new → new.inbox ≡ taken_in old.inbox (taken_of moves)
+pub run_takes_in : (t : Subscription) (moves : List Move) (old new : State) → IsConsumerRun t old moves new
+    → new.inbox ≡ taken_in old.inbox (taken_of moves)
 run_takes_in t [] old new is = ap (λ (s : State). s.inbox) is
 run_takes_in t (Restarted ∷ moves) old new run = run_takes_in t moves (after t old Restarted) new run.1
 run_takes_in t (Called call count ∷ moves) old new run =

@@ -25,11 +25,15 @@ intake_shown row = (
 
 shown_back : (events : List (ℕ × Intake)) → map intake_shown (map shown_intake events) ≡ events
 shown_back [] = refl
-shown_back (p ∷ events) = ap (λ key. (p.0, record p.1 { key = key }) ∷ map intake_shown (map shown_intake events)) (key_back p.1.key) ∙ ap (λ more. p ∷ more) (shown_back events)
+shown_back (p ∷ events) =
+    ap (λ key. (p.0, record p.1 { key = key }) ∷ map intake_shown (map shown_intake events)) (key_back p.1.key)
+    ∙ ap (λ more. p ∷ more) (shown_back events)
 
 pub same_events : (xs ys : List (ℕ × Intake)) → map shown_intake xs ≡ map shown_intake ys → xs ≡ ys
 same_events xs ys h = sym (shown_back xs) ∙ ap (map intake_shown) h ∙ shown_back ys
 
-pub all_shown : (k : ℕ) (events : Contents) → AllByRecursion IsReadable events → AllByRecursion IsShown (map shown_intake (enumerate_from k events))
+pub all_shown : (k : ℕ) (events : Contents) → AllByRecursion IsReadable events
+    → AllByRecursion IsShown (map shown_intake (enumerate_from k events))
 all_shown k [] all = tt
-all_shown k (e ∷ events) all = (record { place = k; event = e; is = refl; readable = all.0 }, all_shown (k + 1) events all.1)
+all_shown k (e ∷ events) all =
+    (record { place = k; event = e; is = refl; readable = all.0 }, all_shown (k + 1) events all.1)

@@ -19,9 +19,12 @@ use Rattle.kob_inbox.specs.Tables.{inbox, inbox_schema}
 -- ---- the table
 
 abbrev pub create_text : List ℕ
-create_text = codes "CREATE TABLE inbox (place INTEGER PRIMARY KEY NOT NULL, id TEXT UNIQUE NOT NULL, topic TEXT NOT NULL, part INTEGER NOT NULL, off INTEGER NOT NULL, rkey BLOB, rvalue BLOB NOT NULL)"
+create_text =
+    codes "CREATE TABLE inbox (place INTEGER PRIMARY KEY NOT NULL, id TEXT UNIQUE NOT NULL, topic TEXT NOT NULL, part INTEGER NOT NULL, off INTEGER NOT NULL, rkey BLOB, rvalue BLOB NOT NULL)"
 
-pub create_is : (command_of (understood no_schema create_text) ≡ CreateTable) × (statement_of create_text (understood no_schema create_text) ≡ create_text) × (table_defined_by create_text ≡ Ok inbox)
+pub create_is : (command_of (understood no_schema create_text) ≡ CreateTable)
+    × (statement_of create_text (understood no_schema create_text) ≡ create_text)
+    × (table_defined_by create_text ≡ Ok inbox)
 unfolding understood everything
 create_is = (refl, refl, refl)
 
@@ -32,7 +35,8 @@ create_plain = (refl, refl)
 -- ---- an event goes in
 
 abbrev pub put_text : List ℕ
-put_text = codes "INSERT OR IGNORE INTO inbox (place, id, topic, part, off, rkey, rvalue) VALUES (?1, ?2, ?3, ?4, ?5, ?6, ?7)"
+put_text =
+    codes "INSERT OR IGNORE INTO inbox (place, id, topic, part, off, rkey, rvalue) VALUES (?1, ?2, ?3, ?4, ?5, ?6, ?7)"
 
 abbrev pub new_row : List Term
 new_row = col 0 0 ∷ lit Null ∷ col 0 1 ∷ col 0 2 ∷ col 0 3 ∷ col 0 4 ∷ col 0 5 ∷ col 0 6 ∷ []
@@ -67,7 +71,10 @@ all_taken = record {
   offset = lit (Int (pos 0));
 }
 
-pub taken_is : (command_of (understood inbox_schema taken_text) ≡ Select (record { lets = []; body = all_taken }) (codes "place" ∷ codes "id" ∷ codes "topic" ∷ codes "part" ∷ codes "off" ∷ codes "rkey" ∷ codes "rvalue" ∷ [])) × (reads_listing inbox_schema taken_text ≡ false)
+pub taken_is : (command_of (understood inbox_schema taken_text)
+    ≡ Select (record { lets = []; body = all_taken })
+    (codes "place" ∷ codes "id" ∷ codes "topic" ∷ codes "part" ∷ codes "off" ∷ codes "rkey" ∷ codes "rvalue" ∷ []))
+    × (reads_listing inbox_schema taken_text ≡ false)
 unfolding understood everything
 taken_is = (refl, refl)
 
@@ -101,7 +108,9 @@ last_place = record {
   offset = lit (Int (pos 0));
 }
 
-pub last_is : (command_of (understood inbox_schema last_text) ≡ Select (record { lets = []; body = last_place }) (codes "place" ∷ [])) × (reads_listing inbox_schema last_text ≡ false)
+pub last_is : (command_of (understood inbox_schema last_text)
+    ≡ Select (record { lets = []; body = last_place }) (codes "place" ∷ []))
+    × (reads_listing inbox_schema last_text ≡ false)
 unfolding understood everything
 last_is = (refl, refl)
 

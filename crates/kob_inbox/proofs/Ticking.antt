@@ -34,34 +34,43 @@ use Rattle.kob_inbox.specs.Tick.{Hears, IsAnswer, Scene, Ticks}
 -- ---- records, one more at a time
 
 pub taken_last : (events : Contents) (p : Place) (xs : List (ℕ × Record)) (x : ℕ × Record)
-    → taken_in events (arrivals p (xs ++ x ∷ [])) ≡ with_record (taken_in events (arrivals p xs)) (event_id x.1) (record { place = p; offset = x.0; message = x.1 })
+    → taken_in events (arrivals p (xs ++ x ∷ []))
+    ≡ with_record (taken_in events (arrivals p xs)) (event_id x.1)
+    (record { place = p; offset = x.0; message = x.1 })
 taken_last events p [] x = refl
-taken_last events p (y ∷ ys) x = taken_last (with_record events (event_id y.1) (record { place = p; offset = y.0; message = y.1 })) p ys x
+taken_last events p (y ∷ ys) x =
+    taken_last (with_record events (event_id y.1) (record { place = p; offset = y.0; message = y.1 })) p ys x
 
 pub behind_last : (n : ℕ) (xs : List (ℕ × Record)) (x : ℕ × Record) → behind n (xs ++ x ∷ []) ≡ x.0 + 1
 behind_last n [] x = refl
 behind_last n (y ∷ ys) x = behind_last (y.0 + 1) ys x
 
 -- the turn stays where there are records
-pub turn_stays : (t : Subscription) (turn : ℕ) (asked : FetchRequest) (rs : List (ℕ × Record)) → 0 < length rs → turn ≡ turn_after t turn (Fetch asked) (bodies.Records rs)
+pub turn_stays : (t : Subscription) (turn : ℕ) (asked : FetchRequest) (rs : List (ℕ × Record)) → 0 < length rs
+    → turn ≡ turn_after t turn (Fetch asked) (bodies.Records rs)
 turn_stays t turn asked [] h = absurd (omega arith)
 turn_stays t turn asked (r ∷ rs) h = refl
 
 -- ---- the request that is due
 
-pub is_due : (t : Subscription) (s : State) (p : Place) (stood : Option Standing) (request : Request) → slice_get t.assignment s.turn ≡ Some p → stood ≡ standing (cursor_of s.cursors p) → request ≡ due t p stood
+pub is_due : (t : Subscription) (s : State) (p : Place) (stood : Option Standing) (request : Request)
+    → slice_get t.assignment s.turn ≡ Some p → stood ≡ standing (cursor_of s.cursors p) → request ≡ due t p stood
     → IsDue t s request
 is_due t s p stood request turn stands asked =
     record { place = p; its_turn = turn; is_due = asked ∙ ap (λ (x : Option Standing). due t p x) stands }
 
 abbrev pub commit_at : Subscription → Place → ℕ → Request
-commit_at t p position = OffsetCommit (record { group = t.group; topic = p.topic; partition = p.partition; offset = position })
+commit_at t p position =
+    OffsetCommit (record { group = t.group; topic = p.topic; partition = p.partition; offset = position })
 
 abbrev pub fetch_at : Subscription → Place → ℕ → Request
 fetch_at t p position = Fetch (record { topic = p.topic; partition = p.partition; offset = position; max = t.max })
 
-due_commit : (t : Subscription) (p : Place) (stood : Option Standing) (st : Standing) → stood ≡ Some st → st.uncommitted ≡ true → due t p stood ≡ commit_at t p st.position
-due_commit t p stood st is on = ap (λ (x : Option Standing). due t p x) is ∙ cond-true st.uncommitted (commit_at t p st.position) (fetch_at t p st.position) on
+due_commit : (t : Subscription) (p : Place) (stood : Option Standing) (st : Standing) → stood ≡ Some st
+    → st.uncommitted ≡ true → due t p stood ≡ commit_at t p st.position
+due_commit t p stood st is on =
+    ap (λ (x : Option Standing). due t p x) is
+    ∙ cond-true st.uncommitted (commit_at t p st.position) (fetch_at t p st.position) on
 
 -- ---- a tick by what came of its call
 
@@ -70,8 +79,11 @@ abbrev pub scene : State → List Call → ℕ → Scene
 scene s calls unmade = record { state = s; calls = calls; unmade = unmade }
 
 -- a call after which all stands as it did
-ticks_still : (t : Subscription) (s : State) (request : Request) (heard : Option Reply) (before now : List Call) (u v : ℕ) (tick : Tick) → IsDue t s request → answered t s request heard 0 ≡ s
-    → now ≡ before ++ record { request = request; heard = heard } ∷ [] → v ≡ u → IsAnswer t tick (Called (record { request = request; heard = heard }) 0 ∷ []) → Ticks t (scene s before u) (scene s now v) tick
+ticks_still : (t : Subscription) (s : State) (request : Request) (heard : Option Reply) (before now : List Call)
+    (u v : ℕ) (tick : Tick) → IsDue t s request → answered t s request heard 0 ≡ s
+    → now ≡ before ++ record { request = request; heard = heard } ∷ [] → v ≡ u
+    → IsAnswer t tick (Called (record { request = request; heard = heard }) 0 ∷ [])
+    → Ticks t (scene s before u) (scene s now v) tick
 ticks_still t s request heard before now u v tick due same made noted answer = record {
   moves = Called (record { request = request; heard = heard }) 0 ∷ [];
   run = ((due, omega arith), sym same);
@@ -80,58 +92,90 @@ ticks_still t s request heard before now u v tick due same made noted answer = r
   counted = noted;
 }
 
-pub ticks_lost : (t : Subscription) (s : State) (request : Request) (before now : List Call) (u v : ℕ) → IsDue t s request → Adds before now u v request Lost → Ticks t (scene s before u) (scene s now v) Repeat
-ticks_lost t s request before now u v due (inl made) = ticks_still t s request None before now u v Repeat due refl made.0 made.1 (inr (request, refl))
-ticks_lost t s request before now u v due (inr unmade) = record { moves = []; run = refl; calls = unmade.0 ∙ sym (append-nil before); answer = inl refl; counted = unmade.1 }
+pub ticks_lost : (t : Subscription) (s : State) (request : Request) (before now : List Call) (u v : ℕ)
+    → IsDue t s request → Adds before now u v request Lost → Ticks t (scene s before u) (scene s now v) Repeat
+ticks_lost t s request before now u v due (inl made) =
+    ticks_still t s request None before now u v Repeat due refl made.0 made.1 (inr (request, refl))
+ticks_lost t s request before now u v due (inr unmade) =
+    record { moves = []; run = refl; calls = unmade.0 ∙ sym (append-nil before); answer = inl refl; counted = unmade.1 }
 
-heard_as : (before now : List Call) (request : Request) (a b : Reply) → now ≡ before ++ record { request = request; heard = Some a } ∷ [] → a ≡ b → now ≡ before ++ record { request = request; heard = Some b } ∷ []
-heard_as before now request a b made same = made ∙ ap (λ (r : Reply). before ++ record { request = request; heard = Some r } ∷ []) same
+heard_as : (before now : List Call) (request : Request) (a b : Reply)
+    → now ≡ before ++ record { request = request; heard = Some a } ∷ [] → a ≡ b
+    → now ≡ before ++ record { request = request; heard = Some b } ∷ []
+heard_as before now request a b made same =
+    made ∙ ap (λ (r : Reply). before ++ record { request = request; heard = Some r } ∷ []) same
 
-pub ticks_denied : (t : Subscription) (s : State) (request : Request) (reply : Reply) (code : _) (verdicts : _) (before now : List Call) (u v : ℕ) → IsDue t s request
-    → (now ≡ before ++ record { request = request; heard = Some reply } ∷ []) × (v ≡ u) → reply ≡ Denied code verdicts → Ticks t (scene s before u) (scene s now v) (Stopped (stop.Denied code verdicts))
+pub ticks_denied : (t : Subscription) (s : State) (request : Request) (reply : Reply) (code : _) (verdicts : _)
+    (before now : List Call) (u v : ℕ) → IsDue t s request
+    → (now ≡ before ++ record { request = request; heard = Some reply } ∷ []) × (v ≡ u) → reply ≡ Denied code verdicts
+    → Ticks t (scene s before u) (scene s now v) (Stopped (stop.Denied code verdicts))
 ticks_denied t s request reply code verdicts before now u v due made is =
-    ticks_still t s request (Some (Denied code verdicts)) before now u v (Stopped (stop.Denied code verdicts)) due refl (heard_as before now request reply (Denied code verdicts) made.0 is) made.1 (request, refl)
+    ticks_still t s request (Some (Denied code verdicts)) before now u v (Stopped (stop.Denied code verdicts)) due refl
+    (heard_as before now request reply (Denied code verdicts) made.0 is) made.1 (request, refl)
 
-pub ticks_refused : (t : Subscription) (s : State) (request : Request) (reply : Reply) (code : _) (reason : _) (before now : List Call) (u v : ℕ) → IsDue t s request
-    → (now ≡ before ++ record { request = request; heard = Some reply } ∷ []) × (v ≡ u) → reply ≡ Refused code reason → Ticks t (scene s before u) (scene s now v) (Stopped (stop.Refused code reason))
+pub ticks_refused : (t : Subscription) (s : State) (request : Request) (reply : Reply) (code : _) (reason : _)
+    (before now : List Call) (u v : ℕ) → IsDue t s request
+    → (now ≡ before ++ record { request = request; heard = Some reply } ∷ []) × (v ≡ u) → reply ≡ Refused code reason
+    → Ticks t (scene s before u) (scene s now v) (Stopped (stop.Refused code reason))
 ticks_refused t s request reply code reason before now u v due made is =
-    ticks_still t s request (Some (Refused code reason)) before now u v (Stopped (stop.Refused code reason)) due refl (heard_as before now request reply (Refused code reason) made.0 is) made.1 (request, refl)
+    ticks_still t s request (Some (Refused code reason)) before now u v (Stopped (stop.Refused code reason)) due refl
+    (heard_as before now request reply (Refused code reason) made.0 is) made.1 (request, refl)
 
 -- a body was heard
-pub ticks_heard : (t : Subscription) (s new : State) (asked request : Request) (reply : Reply) (body : Body) (before now : List Call) (u v : ℕ) (tick : Tick) → IsDue t s asked → asked ≡ request
-    → (now ≡ before ++ record { request = asked; heard = Some reply } ∷ []) × (v ≡ u) → reply ≡ Done body → Hears t s new request body tick → Ticks t (scene s before u) (scene new now v) tick
+pub ticks_heard : (t : Subscription) (s new : State) (asked request : Request) (reply : Reply) (body : Body)
+    (before now : List Call) (u v : ℕ) (tick : Tick) → IsDue t s asked → asked ≡ request
+    → (now ≡ before ++ record { request = asked; heard = Some reply } ∷ []) × (v ≡ u) → reply ≡ Done body
+    → Hears t s new request body tick → Ticks t (scene s before u) (scene new now v) tick
 ticks_heard t s new asked request reply body before now u v tick due same made is k =
     let due_too : IsDue t s request = subst (λ (r : Request). IsDue t s r) same due in
     record {
       moves = Called (record { request = request; heard = Some (Done body) }) k.count ∷ [];
       run = ((due_too, k.within), k.changed);
-      calls = heard_as before now asked reply (Done body) made.0 is ∙ ap (λ (r : Request). before ++ record { request = r; heard = Some (Done body) } ∷ []) same;
+      calls = heard_as before now asked reply (Done body) made.0 is
+          ∙ ap (λ (r : Request). before ++ record { request = r; heard = Some (Done body) } ∷ []) same;
       answer = k.answer;
       counted = made.1;
     }
 
 -- ---- what becomes of a body
 
-pub hears_committed : (t : Subscription) (s new : State) (p : Place) (stood : Option Standing) (st : Standing) (body : Body) → stood ≡ Some st → st.uncommitted ≡ true → body ≡ bodies.Committed
-    → new ≡ answered t s (commit_at t p st.position) (Some (Done bodies.Committed)) 0 → Hears t s new (due t p stood) body Committed
+pub hears_committed : (t : Subscription) (s new : State) (p : Place) (stood : Option Standing) (st : Standing)
+    (body : Body) → stood ≡ Some st → st.uncommitted ≡ true → body ≡ bodies.Committed
+    → new ≡ answered t s (commit_at t p st.position) (Some (Done bodies.Committed)) 0
+    → Hears t s new (due t p stood) body Committed
 hears_committed t s new p stood st body is on heard changed =
     let r : Request = commit_at t p st.position in
-    let k : Hears t s new r bodies.Committed Committed = record { count = 0; within = omega arith; changed = changed; answer = (record { group = t.group; topic = p.topic; partition = p.partition; offset = st.position }, refl) } in
-    subst (λ (q : Request). Hears t s new q body Committed) (sym (due_commit t p stood st is on)) (subst (λ (b : Body). Hears t s new r b Committed) (sym heard) k)
+    let k : Hears t s new r bodies.Committed Committed =
+    record {
+      count = 0;
+      within = omega arith;
+      changed = changed;
+      answer = (record { group = t.group; topic = p.topic; partition = p.partition; offset = st.position }, refl);
+    } in
+    subst (λ (q : Request). Hears t s new q body Committed) (sym (due_commit t p stood st is on))
+    (subst (λ (b : Body). Hears t s new r b Committed) (sym heard) k)
 
-pub records_within : (body : Body) (rs : List (ℕ × Record)) → body ≡ bodies.Records rs → BodyWithin body → All (λ (entry : ℕ × Record). entry.0 < greatest_offset) rs
+pub records_within : (body : Body) (rs : List (ℕ × Record)) → body ≡ bodies.Records rs → BodyWithin body
+    → All (λ (entry : ℕ × Record). entry.0 < greatest_offset) rs
 records_within body rs heard within = subst BodyWithin heard within
 
 abbrev pub state_with : Contents → List Cursor → ℕ → State
 state_with inbox cursors turn = record { inbox = inbox; cursors = cursors; turn = turn }
 
-pub same_state : (i j : Contents) (cs ds : List Cursor) (a b : ℕ) → i ≡ j → cs ≡ ds → a ≡ b → state_with i cs a ≡ state_with j ds b
-same_state i j cs ds a b e f g = ap (λ (x : Contents). state_with x cs a) e ∙ ap (λ (x : List Cursor). state_with j x a) f ∙ ap (λ (x : ℕ). state_with j ds x) g
+pub same_state : (i j : Contents) (cs ds : List Cursor) (a b : ℕ) → i ≡ j → cs ≡ ds → a ≡ b
+    → state_with i cs a ≡ state_with j ds b
+same_state i j cs ds a b e f g =
+    ap (λ (x : Contents). state_with x cs a) e ∙ ap (λ (x : List Cursor). state_with j x a) f
+    ∙ ap (λ (x : ℕ). state_with j ds x) g
 
 -- the same over cursors that a growth left as they were
-pub regrown : (t : Subscription) (inbox : Contents) (cs ds : List Cursor) (turn : ℕ) (before now : List Call) (u v : ℕ) (tick : Tick) → cs ≡ ds
-    → Ticks t (scene (state_with inbox ds turn) before u) (scene (state_with inbox ds turn) now v) tick → Ticks t (scene (state_with inbox ds turn) before u) (scene (state_with inbox cs turn) now v) tick
-regrown t inbox cs ds turn before now u v tick e k = subst (λ (xs : List Cursor). Ticks t (scene (state_with inbox ds turn) before u) (scene (state_with inbox xs turn) now v) tick) (sym e) k
+pub regrown : (t : Subscription) (inbox : Contents) (cs ds : List Cursor) (turn : ℕ) (before now : List Call) (u v : ℕ)
+    (tick : Tick) → cs ≡ ds
+    → Ticks t (scene (state_with inbox ds turn) before u) (scene (state_with inbox ds turn) now v) tick
+    → Ticks t (scene (state_with inbox ds turn) before u) (scene (state_with inbox cs turn) now v) tick
+regrown t inbox cs ds turn before now u v tick e k =
+    subst (λ (xs : List Cursor). Ticks t (scene (state_with inbox ds turn) before u)
+    (scene (state_with inbox xs turn) now v) tick) (sym e) k
 
 -- nothing kept a record out
 pub all_passed : (fault : Option InboxFault) (P : Type 0) → IfNone fault P → fault ≡ None → P

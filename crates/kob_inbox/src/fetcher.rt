@@ -30,7 +30,8 @@ pub struct Fetcher {
 }
 
 impl Fetcher {
-    ghost use Rattle.std.specs.Prelude.{ℕ, ◌<◌, ◌+◌, ◌%◌, List, None, IfOk, vec_len, vec_capacity, true, false};
+    ghost use Rattle.std.specs.Prelude.{ℕ, ◌<◌, ◌+◌, ◌%◌, List, None, IfOk, vec_len, vec_capacity};
+    ghost use Rattle.std.specs.Prelude.{true, false};
     ghost use Rattle.std.specs.List.{All};
     ghost use Rattle.kob_names.specs.declared.record.Record.{Record};
     ghost use Rattle.kob_rights.specs.Bodies.{IsBodyOf};

@@ -1,6 +1,7 @@
 //! The inbox.
 
-ghost use Rattle.std.specs.Prelude.{◌≡◌, ◌⊎◌, ◌<◌, ◌≤◌, ◌^◌, None, Ok, [], map, IfErr, IfOk, OnErr, OnOk, IsErrOf};
+ghost use Rattle.std.specs.Prelude.{◌≡◌, ◌⊎◌, ◌<◌, ◌≤◌, ◌^◌, None, Ok, [], map, IfErr, IfOk, OnErr};
+ghost use Rattle.std.specs.Prelude.{OnOk, IsErrOf};
 ghost use Rattle.std.specs.List.{enumerate_from};
 ghost use Rattle.kob_router.specs.HeaderId.{event_id};
 ghost use Rattle.kob_inbox.specs.Contents.{IsOnce, next_place};

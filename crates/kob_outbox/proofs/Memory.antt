@@ -26,11 +26,13 @@ mark_whole : IsWhole 0 read_mark_text (understood service_schema read_mark_text)
 unfolding understood everything
 mark_whole = (omega arith, refl)
 
-after_accepted : (seq limit : ℕ) → accepts_program service_schema [] events_after (Int (pos seq) ∷ Int (pos limit) ∷ []) ≡ true
+after_accepted : (seq limit : ℕ) → accepts_program service_schema [] events_after
+    (Int (pos seq) ∷ Int (pos limit) ∷ []) ≡ true
 unfolding everything
 after_accepted seq limit = refl
 
-business_accepted : (kind id : List ℕ) → accepts_program service_schema [] business_found (Text kind ∷ Text id ∷ []) ≡ true
+business_accepted : (kind id : List ℕ) → accepts_program service_schema [] business_found (Text kind ∷ Text id ∷ [])
+    ≡ true
 unfolding everything
 business_accepted kind id = refl
 
@@ -43,19 +45,27 @@ unfolding everything
 mark_accepted = refl
 
 module _ (old new : State) (has : old.now.schema ≡ service_schema) (never : NeverFails old new) where
-  pub after_fails : (seq limit : ℕ) (e : Error) → FailsToQuery after_text (Int (pos seq) ∷ Int (pos limit) ∷ []) old new e → IsMemory e
+  pub after_fails : (seq limit : ℕ) (e : Error)
+      → FailsToQuery after_text (Int (pos seq) ∷ Int (pos limit) ∷ []) old new e → IsMemory e
   after_fails seq limit =
       let params = Int (pos seq) ∷ Int (pos limit) ∷ [] in
-      for_memory old new never after_text params service_schema has after_plain after_whole events_after _ after_is.0 after_is.1 (after_accepted seq limit) (no_sum events_after 2 (refl, refl) params)
+      for_memory old new never after_text params service_schema has after_plain after_whole events_after _ after_is.0
+      after_is.1 (after_accepted seq limit) (no_sum events_after 2 (refl, refl) params)
 
-  pub business_fails : (kind id : List ℕ) (e : Error) → FailsToQuery find_business_text (Text kind ∷ Text id ∷ []) old new e → IsMemory e
+  pub business_fails : (kind id : List ℕ) (e : Error)
+      → FailsToQuery find_business_text (Text kind ∷ Text id ∷ []) old new e → IsMemory e
   business_fails kind id =
       let params = Text kind ∷ Text id ∷ [] in
-      for_memory old new never find_business_text params service_schema has find_business_plain business_whole business_found _ find_business_is.0 find_business_is.1 (business_accepted kind id)
+      for_memory old new never find_business_text params service_schema has find_business_plain business_whole
+      business_found _ find_business_is.0 find_business_is.1 (business_accepted kind id)
       (no_sum business_found 0 (refl, refl) params)
 
   pub last_fails : (e : Error) → FailsToQuery last_text [] old new e → IsMemory e
-  last_fails = for_memory old new never last_text [] service_schema has last_plain last_whole last_spent _ last_is.0 last_is.1 last_accepted (no_sum last_spent 4 (refl, refl) [])
+  last_fails =
+      for_memory old new never last_text [] service_schema has last_plain last_whole last_spent _ last_is.0 last_is.1
+      last_accepted (no_sum last_spent 4 (refl, refl) [])
 
   pub mark_fails : (e : Error) → FailsToQuery read_mark_text [] old new e → IsMemory e
-  mark_fails = for_memory old new never read_mark_text [] service_schema has read_mark_plain mark_whole all_marks _ read_mark_is.0 read_mark_is.1 mark_accepted (no_sum all_marks 6 (refl, refl) [])
+  mark_fails =
+      for_memory old new never read_mark_text [] service_schema has read_mark_plain mark_whole all_marks _
+      read_mark_is.0 read_mark_is.1 mark_accepted (no_sum all_marks 6 (refl, refl) [])

@@ -39,7 +39,8 @@ record Replaced (db after : Trees) (rows : List Row) : Type 0 where
   pub spent : after spent_tree ≡ db spent_tree
   pub mark : after mark_tree ≡ db mark_tree
 
-module _ (limit : Option ℕ) (ps : List (ℕ × Business)) (rising : IsRisingFrom 1 ps) (b : Business) (db : Trees) (holds : db business_tree ≡ map placed_row ps) where
+module _ (limit : Option ℕ) (ps : List (ℕ × Business)) (rising : IsRisingFrom 1 ps) (b : Business) (db : Trees)
+    (holds : db business_tree ≡ map placed_row ps) where
   abbrev params : Row
   params = Text b.kind ∷ Text b.id ∷ Text b.state ∷ []
 
@@ -52,20 +53,31 @@ module _ (limit : Option ℕ) (ps : List (ℕ × Business)) (rising : IsRisingFr
   abbrev kept : List (ℕ × Business)
   kept = left ps rising b (db business_tree) holds
 
-  put_one : (base : Trees) (one : Written) → base business_tree ≡ map placed_row kept → Puts task (placed_row row) base (Ok one) → Replaced base one.trees (map placed_row (kept ++ row ∷ []))
+  put_one : (base : Trees) (one : Written) → base business_tree ≡ map placed_row kept
+      → Puts task (placed_row row) base (Ok one) → Replaced base one.trees (map placed_row (kept ++ row ∷ []))
   put_one base one is h =
       let done = put limit Enforced service_schema business_table params alone (placed_row row) base one h in
-      let news : (edit_of base (uncounted business_table) [] Given 0 (placed_row row ∷ [])).news ≡ placed_row row ∷ [] = rw (cast_int (pos row.0)) in
+      let news : (edit_of base (uncounted business_table) [] Given 0 (placed_row row ∷ [])).news
+      ≡ placed_row row ∷ [] = rw (cast_int (pos row.0)) in
       let rows : one.trees business_tree ≡ map placed_row (kept ++ row ∷ []) =
-      done.0.rows ∙ ap (λ news. edited base (record { table = uncounted business_table; gone = []; news = news })) news ∙ ap (put_row (placed_row row)) is ∙ put_rows ps rising b (db business_tree) holds in
-      record { business = rows; events = done.0.tables.1.0 (λ e. cc); spent = done.0.tables.1.1.0 (λ e. cc); mark = done.0.tables.1.1.1.0 (λ e. cc) }
+      done.0.rows ∙ ap (λ news. edited base (record { table = uncounted business_table; gone = []; news = news })) news
+      ∙ ap (put_row (placed_row row)) is ∙ put_rows ps rising b (db business_tree) holds in
+      record {
+        business = rows;
+        events = done.0.tables.1.0 (λ e. cc);
+        spent = done.0.tables.1.1.0 (λ e. cc);
+        mark = done.0.tables.1.1.1.0 (λ e. cc);
+      }
 
-  cleared : (one : Written) (found : List Row) → AreConflicts None service_schema.indexes business_table (db business_tree) (placed_row row) found → Clears task Replace (placed_row row) db found (Ok one)
+  cleared : (one : Written) (found : List Row)
+      → AreConflicts None service_schema.indexes business_table (db business_tree) (placed_row row) found
+      → Clears task Replace (placed_row row) db found (Ok one)
       → Replaced db one.trees (map placed_row (kept ++ row ∷ []))
   cleared one [] conf h = put_one db one (left_rows ps rising b (db business_tree) holds [] conf) h
   cleared one (x ∷ more) conf h =
       let gone = went h in
-      let out = applies limit Enforced service_schema business_table params alone db gone.0 (ids_of (x ∷ more)) [] gone.1 in
+      let out =
+      applies limit Enforced service_schema business_table params alone db gone.0 (ids_of (x ∷ more)) [] gone.1 in
       let end = put_one gone.0 one (out.rows ∙ left_rows ps rising b (db business_tree) holds (x ∷ more) conf) gone.2 in
       record {
         business = end.business;
@@ -74,21 +86,28 @@ module _ (limit : Option ℕ) (ps : List (ℕ × Business)) (rising : IsRisingFr
         mark = end.mark ∙ out.tables.1.1.1.0 (λ e. cc);
       }
 
-  decided : (one : Written) (verdict : Option Refusal) → IsJudged (uncounted business_table) (placed_row row) verdict → Judged task Replace [] (placed_row row) db verdict (Ok one)
+  decided : (one : Written) (verdict : Option Refusal) → IsJudged (uncounted business_table) (placed_row row) verdict
+      → Judged task Replace [] (placed_row row) db verdict (Ok one)
       → Replaced db one.trees (map placed_row (kept ++ row ∷ []))
   decided one None judged h = cleared one h.0 h.1 h.2
   decided one (Some why) judged h = absurd (let e : Ok one ≡ Err _ = h in cc)
 
-  tried_row : candidate limit Enforced service_schema business_table params alone Replace db (Null ∷ params) ≡ placed_row row
+  tried_row : candidate limit Enforced service_schema business_table params alone Replace db (Null ∷ params)
+      ≡ placed_row row
   tried_row = rw (cast_null, holds, next_placed 1 ps)
 
-  written : (w : Written) → InsertsOr task Replace [] (Values new_business 4) db (Ok w) → Replaced db w.trees (map placed_row (kept ++ row ∷ []))
+  written : (w : Written) → InsertsOr task Replace [] (Values new_business 4) db (Ok w)
+      → Replaced db w.trees (map placed_row (kept ++ row ∷ []))
   written w does =
-      let t = tried limit Enforced service_schema business_table params alone Replace new_business 4 (Null ∷ params) db w refl does in
+      let t = tried limit Enforced service_schema business_table params alone Replace new_business 4
+      (Null ∷ params) db w refl does in
       let u = subst (Tried limit Enforced service_schema business_table params alone Replace db w) tried_row t in
-      subst (λ trees. Replaced db trees (map placed_row (kept ++ row ∷ []))) (sym u.trees) (decided u.one u.verdict u.judged u.does)
+      subst (λ trees. Replaced db trees (map placed_row (kept ++ row ∷ []))) (sym u.trees)
+      (decided u.one u.verdict u.judged u.does)
 
-pub replaces : (old new : State) (b : Business) (r : Result ℕ Error) → IsUtf8 b.state → IsChanging old → new.step_limit ≡ old.step_limit → ExecutesInside 0 put_business_text (Text b.kind ∷ Text b.id ∷ Text b.state ∷ []) old new r
+pub replaces : (old new : State) (b : Business) (r : Result ℕ Error) → IsUtf8 b.state → IsChanging old
+    → new.step_limit ≡ old.step_limit → ExecutesInside 0 put_business_text
+    (Text b.kind ∷ Text b.id ∷ Text b.state ∷ []) old new r
     → OnOk r (IsChanging new) × OnOk r (contents_of new ≡ with_state (contents_of old) (key b) b.state)
 replaces old new b (Err e) state was limit h = (tt, tt)
 replaces old new b (Ok count) state was limit h =
@@ -96,11 +115,16 @@ replaces old new b (Ok count) state was limit h =
     let db = old.now.trees in
     let holds = was.holds in
     let has = holds.business in
-    let it = wrote put_business_text (Text b.kind ∷ Text b.id ∷ Text b.state ∷ []) old new service_schema was.schema _ put_business_is put_business_plain 0 business_table refl (λ limit mode params db text p does. does) (λ text count ran. ran) count h.0 in
+    let it =
+    wrote put_business_text (Text b.kind ∷ Text b.id ∷ Text b.state ∷ []) old new service_schema was.schema _
+    put_business_is put_business_plain 0 business_table refl (λ limit mode params db text p does. does)
+    (λ text count ran. ran) count h.0 in
     let done = written old.step_limit has.placed has.rising b db has.rows_are it.written it.does in
     let trees = it.written.trees in
     let more : Holds (with_state c (key b) b.state) trees = record {
-      business = replaced has.placed has.rising b (db business_tree) has.rows_are (trees business_tree) c.business has.apart has.readable state has.states_are done.business;
+      business =
+          replaced has.placed has.rising b (db business_tree) has.rows_are
+          (trees business_tree) c.business has.apart has.readable state has.states_are done.business;
       events = done.events ∙ holds.events;
       spent = done.spent ∙ holds.spent;
       mark = done.mark ∙ holds.mark;
@@ -111,4 +135,5 @@ replaces old new b (Ok count) state was limit h =
       readable = holds.readable;
     } in
     let begun : IsTrue new.in_transaction = it.mode ∙ was.begun in
-    changing_holds (with_state c (key b) b.state) old new limit was (ap (λ (d : Database). d.schema) it.now) begun (subst (λ (d : Database). Holds (with_state c (key b) b.state) d.trees) (sym it.now) more)
+    changing_holds (with_state c (key b) b.state) old new limit was (ap (λ (d : Database). d.schema) it.now) begun
+    (subst (λ (d : Database). Holds (with_state c (key b) b.state) d.trees) (sym it.now) more)

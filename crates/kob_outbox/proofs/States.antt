@@ -25,7 +25,9 @@ abbrev AreApart : List Placed → Type 0
 AreApart = IsAscending (λ (a b : Placed). has_key b.1.kind b.1.id a.1 ≡ false)
 
 bytes_eq-sym : (s t : List ℕ) → bytes_eq s t ≡ bytes_eq t s
-bytes_eq-sym s t = both_ways _ _ (λ e. (bytes_eq-Decides t s).1 (sym ((bytes_eq-Decides s t).0 e))) (λ e. (bytes_eq-Decides s t).1 (sym ((bytes_eq-Decides t s).0 e)))
+bytes_eq-sym s t =
+    both_ways _ _ (λ e. (bytes_eq-Decides t s).1 (sym ((bytes_eq-Decides s t).0 e)))
+    (λ e. (bytes_eq-Decides s t).1 (sym ((bytes_eq-Decides t s).0 e)))
 
 pub key_total : IsTotalOrder key_cmp
 key_total = then_total (on_texts (λ k. k.0)) (on_texts (λ k. k.1))
@@ -37,7 +39,9 @@ both_equal Greater b = refl
 
 -- keys tie where both texts are equal
 pub ties : (q k : Key) → eq_by_cmp key_cmp q k ≡ (bytes_eq q.0 k.0 && bytes_eq q.1 k.1)
-ties q k = both_equal (slice_cmp nat_cmp q.0 k.0) (slice_cmp nat_cmp q.1 k.1) ∙ rw (is_eq-slice_cmp q.0 k.0, is_eq-slice_cmp q.1 k.1) refl
+ties q k =
+    both_equal (slice_cmp nat_cmp q.0 k.0) (slice_cmp nat_cmp q.1 k.1)
+    ∙ rw (is_eq-slice_cmp q.0 k.0, is_eq-slice_cmp q.1 k.1) refl
 
 both : (a b : Bool) → (a && b) ≡ true → (a ≡ true) × (b ≡ true)
 both true true h = (refl, refl)
@@ -61,15 +65,21 @@ abbrev pub key : Business → Key
 key b = (b.kind, b.id)
 
 -- one key does not tie with two that differ
-tied_once : (b : Business) (q : Key) (x : Business) → has_key_of b x ≡ false → eq_by_cmp key_cmp q (key x) ≡ true → ¬ (eq_by_cmp key_cmp q (key b) ≡ true)
+tied_once : (b : Business) (q : Key) (x : Business) → has_key_of b x ≡ false → eq_by_cmp key_cmp q (key x) ≡ true
+    → ¬ (eq_by_cmp key_cmp q (key b) ≡ true)
 tied_once b q x other here there =
     let one : q ≡ key x = same_key q (key x) (sym (ties q (key x)) ∙ here) in
     let two : q ≡ key b = same_key q (key b) (sym (ties q (key b)) ∙ there) in
     let same : key x ≡ key b = sym one ∙ two in
-    let is : has_key_of b x ≡ true = rw ((bytes_eq-Decides x.kind b.kind).1 (ap (λ k. k.0) same), (bytes_eq-Decides x.id b.id).1 (ap (λ k. k.1) same)) refl in
+    let is : has_key_of b x ≡ true =
+    rw (
+      (bytes_eq-Decides x.kind b.kind).1 (ap (λ k. k.0) same),
+      (bytes_eq-Decides x.id b.id).1 (ap (λ k. k.1) same),
+    ) refl in
     let no = sym is ∙ other in cc
 
-exchange : {X : Type 0} (s t : Bool) (x y z : X) → (s ≡ true → ¬ (t ≡ true)) → cond s x (cond t y z) ≡ cond t y (cond s x z)
+exchange : {X : Type 0} (s t : Bool) (x y z : X) → (s ≡ true → ¬ (t ≡ true))
+    → cond s x (cond t y z) ≡ cond t y (cond s x z)
 exchange true true x y z once = absurd (once refl refl)
 exchange true false x y z once = refl
 exchange false t x y z once = refl
@@ -81,36 +91,49 @@ covered false false x y z e = refl
 
 -- the look-up where the row with a key is taken out and one with that key put last
 set_last : (b : Business) (n : ℕ) (q : Key) (ps : List Placed)
-    → find key_cmp q (map entry_of (filter (λ p. not (has_key_of b p.1)) ps ++ (n, b) ∷ [])) ≡ cond (eq_by_cmp key_cmp q (key b)) (Some b.state) (find key_cmp q (map entry_of ps))
+    → find key_cmp q (map entry_of (filter (λ p. not (has_key_of b p.1)) ps ++ (n, b) ∷ []))
+    ≡ cond (eq_by_cmp key_cmp q (key b)) (Some b.state) (find key_cmp q (map entry_of ps))
 set_last b n q [] = refl
 set_last b n q (p ∷ ps) = elim (cases_Bool (has_key_of b p.1)) [
   | inl gone ↦
       let same : key p.1 ≡ key b = same_key (key p.1) (key b) gone in
-      rw gone (set_last b n q ps ∙ covered (eq_by_cmp key_cmp q (key b)) (eq_by_cmp key_cmp q (key p.1)) (Some b.state) (Some p.1.state) (find key_cmp q (map entry_of ps)) (ap (eq_by_cmp key_cmp q) same))
+      rw gone (set_last b n q ps ∙ covered (eq_by_cmp key_cmp q (key b)) (eq_by_cmp key_cmp q (key p.1)) (Some b.state)
+      (Some p.1.state) (find key_cmp q (map entry_of ps)) (ap (eq_by_cmp key_cmp q) same))
   | inr kept ↦
       rw kept (
       ap (cond (eq_by_cmp key_cmp q (key p.1)) (Some p.1.state)) (set_last b n q ps)
-      ∙ exchange (eq_by_cmp key_cmp q (key p.1)) (eq_by_cmp key_cmp q (key b)) (Some p.1.state) (Some b.state) (find key_cmp q (map entry_of ps)) (tied_once b q p.1 kept))
+      ∙ exchange (eq_by_cmp key_cmp q (key p.1)) (eq_by_cmp key_cmp q (key b)) (Some p.1.state) (Some b.state)
+      (find key_cmp q (map entry_of ps)) (tied_once b q p.1 kept))
 ]
 
-pub states_with : (b : Business) (n : ℕ) (ps : List Placed) → from_entries {R = key_cmp} (map entry_of (filter (λ p. not (has_key_of b p.1)) ps ++ (n, b) ∷ [])) ≡ insert (from_entries (map entry_of ps)) (key b) b.state
+pub states_with : (b : Business) (n : ℕ) (ps : List Placed)
+    → from_entries {R = key_cmp} (map entry_of (filter (λ p. not (has_key_of b p.1)) ps ++ (n, b) ∷ []))
+    ≡ insert (from_entries (map entry_of ps)) (key b) b.state
 states_with b n ps = same_map key_total key_same _ _ (λ q.
     get-from_entries key_total _ q ∙ set_last b n q ps
-    ∙ sym (get-insert key_total (from_entries (map entry_of ps)) (key b) b.state q ∙ ap (cond (eq_by_cmp key_cmp q (key b)) (Some b.state)) (get-from_entries key_total (map entry_of ps) q)))
+    ∙ sym (get-insert key_total (from_entries (map entry_of ps)) (key b) b.state q
+    ∙ ap (cond (eq_by_cmp key_cmp q (key b)) (Some b.state)) (get-from_entries key_total (map entry_of ps) q)))
 
 -- a row with this key has no other with its key after it
-no_more : (kind id : List ℕ) (p : Placed) (ps : List Placed) → has_key kind id p.1 ≡ true → AllByRecursion (λ (x : Placed). has_key x.1.kind x.1.id p.1 ≡ false) ps → filter (λ (x : Placed). has_key kind id x.1) ps ≡ []
+no_more : (kind id : List ℕ) (p : Placed) (ps : List Placed) → has_key kind id p.1 ≡ true
+    → AllByRecursion (λ (x : Placed). has_key x.1.kind x.1.id p.1 ≡ false) ps
+    → filter (λ (x : Placed). has_key kind id x.1) ps ≡ []
 no_more kind id p [] is apart = refl
 no_more kind id p (x ∷ ps) is apart = elim (cases_Bool (has_key kind id x.1)) [
   | inl too ↦ absurd (
       let same : key p.1 ≡ key x.1 = same_key (key p.1) (kind, id) is ∙ sym (same_key (key x.1) (kind, id) too) in
-      let again : has_key x.1.kind x.1.id p.1 ≡ true = rw ((bytes_eq-Decides p.1.kind x.1.kind).1 (ap (λ k. k.0) same), (bytes_eq-Decides p.1.id x.1.id).1 (ap (λ k. k.1) same)) refl in
+      let again : has_key x.1.kind x.1.id p.1 ≡ true =
+      rw (
+        (bytes_eq-Decides p.1.kind x.1.kind).1 (ap (λ k. k.0) same),
+        (bytes_eq-Decides p.1.id x.1.id).1 (ap (λ k. k.1) same),
+      ) refl in
       let no = sym again ∙ apart.0 in cc
       )
   | inr other ↦ rw other (no_more kind id p ps is apart.1)
 ]
 
-pub one_at_most : (kind id : List ℕ) (ps : List Placed) → AreApart ps → length (filter (λ (p : Placed). has_key kind id p.1) ps) ≤ 1
+pub one_at_most : (kind id : List ℕ) (ps : List Placed) → AreApart ps
+    → length (filter (λ (p : Placed). has_key kind id p.1) ps) ≤ 1
 one_at_most kind id [] apart = omega arith
 one_at_most kind id (p ∷ ps) apart = elim (cases_Bool (has_key kind id p.1)) [
   | inl is ↦ rw (is, no_more kind id p ps is apart.0) (omega arith)
@@ -122,7 +145,8 @@ tied_as kind id x = ties (kind, id) (key x) ∙ rw (bytes_eq-sym kind x.kind, by
 
 -- the row with a key shows the state that the map has there
 shown_in : (kind id : List ℕ) (ps : List Placed) → AreApart ps
-    → map (λ (p : Placed). Text p.1.state ∷ []) (filter (λ (p : Placed). has_key kind id p.1) ps) ≡ shown_state (find key_cmp (kind, id) (map entry_of ps))
+    → map (λ (p : Placed). Text p.1.state ∷ []) (filter (λ (p : Placed). has_key kind id p.1) ps)
+    ≡ shown_state (find key_cmp (kind, id) (map entry_of ps))
 shown_in kind id [] apart = refl
 shown_in kind id (p ∷ ps) apart = elim (cases_Bool (has_key kind id p.1)) [
   | inl is ↦ rw (tied_as kind id p.1, is, no_more kind id p ps is apart.0) refl
@@ -130,17 +154,23 @@ shown_in kind id (p ∷ ps) apart = elim (cases_Bool (has_key kind id p.1)) [
 ]
 
 pub shown_at : (kind id : List ℕ) (ps : List Placed) → AreApart ps
-    → map (λ (p : Placed). Text p.1.state ∷ []) (filter (λ (p : Placed). has_key kind id p.1) ps) ≡ shown_state (get (from_entries {R = key_cmp} (map entry_of ps)) (kind, id))
-shown_at kind id ps apart = shown_in kind id ps apart ∙ ap shown_state (sym (get-from_entries key_total (map entry_of ps) (kind, id)))
+    → map (λ (p : Placed). Text p.1.state ∷ []) (filter (λ (p : Placed). has_key kind id p.1) ps)
+    ≡ shown_state (get (from_entries {R = key_cmp} (map entry_of ps)) (kind, id))
+shown_at kind id ps apart =
+    shown_in kind id ps apart ∙ ap shown_state (sym (get-from_entries key_total (map entry_of ps) (kind, id)))
 
 -- each state in the map is text
-text_in_rows : (q : Key) (ps : List Placed) (s : List ℕ) → AllByRecursion (λ (p : Placed). IsUtf8 p.1.state) ps → find key_cmp q (map entry_of ps) ≡ Some s → IsUtf8 s
+text_in_rows : (q : Key) (ps : List Placed) (s : List ℕ) → AllByRecursion (λ (p : Placed). IsUtf8 p.1.state) ps
+    → find key_cmp q (map entry_of ps) ≡ Some s → IsUtf8 s
 text_in_rows q [] s all is = absurd cc
 text_in_rows q (p ∷ ps) s all is = elim (cases_Bool (eq_by_cmp key_cmp q (key p.1))) [
   | inl here ↦ let same : p.1.state ≡ s = let e = rw here at is in cc in subst IsUtf8 same all.0
   | inr other ↦ text_in_rows q ps s all.1 (rw other at is)
 ]
 
-pub text_at : (kind id : List ℕ) (rows : List Row) (states : States) (s : List ℕ) → AreBusiness rows states → state_at kind id states ≡ Some s → IsUtf8 s
+pub text_at : (kind id : List ℕ) (rows : List Row) (states : States) (s : List ℕ) → AreBusiness rows states
+    → state_at kind id states ≡ Some s → IsUtf8 s
 text_at kind id rows states s are is =
-    text_in_rows (kind, id) are.placed s are.readable (sym (get-from_entries key_total (map entry_of are.placed) (kind, id)) ∙ ap (λ m. get m (kind, id)) are.states_are ∙ is)
+    text_in_rows (kind, id) are.placed s are.readable
+    (sym (get-from_entries key_total (map entry_of are.placed) (kind, id))
+    ∙ ap (λ m. get m (kind, id)) are.states_are ∙ is)

@@ -16,9 +16,12 @@ use Rattle.sqlite.proofs.Callers.{IsPlain, command_of, statement_of}
 use Rattle.kob_outbox.specs.Tables.{business, mark, no_schema, one_table, outbox, service_schema, spent, three_tables, two_tables}
 
 abbrev pub business_text : List ℕ
-business_text = codes "CREATE TABLE business (kind TEXT NOT NULL, id TEXT NOT NULL, state TEXT NOT NULL, PRIMARY KEY (kind, id))"
+business_text =
+    codes "CREATE TABLE business (kind TEXT NOT NULL, id TEXT NOT NULL, state TEXT NOT NULL, PRIMARY KEY (kind, id))"
 
-pub business_is : (command_of (understood no_schema business_text) ≡ CreateTable) × (statement_of business_text (understood no_schema business_text) ≡ business_text) × (table_defined_by business_text ≡ Ok business)
+pub business_is : (command_of (understood no_schema business_text) ≡ CreateTable)
+    × (statement_of business_text (understood no_schema business_text) ≡ business_text)
+    × (table_defined_by business_text ≡ Ok business)
 unfolding understood everything
 business_is = (refl, refl, refl)
 
@@ -27,9 +30,12 @@ unfolding understood everything
 business_plain = (refl, refl)
 
 abbrev pub outbox_text : List ℕ
-outbox_text = codes "CREATE TABLE outbox (seq INTEGER PRIMARY KEY NOT NULL, id TEXT UNIQUE NOT NULL, aggregatetype TEXT NOT NULL, aggregateid TEXT NOT NULL, type TEXT NOT NULL, payload BLOB NOT NULL)"
+outbox_text =
+    codes "CREATE TABLE outbox (seq INTEGER PRIMARY KEY NOT NULL, id TEXT UNIQUE NOT NULL, aggregatetype TEXT NOT NULL, aggregateid TEXT NOT NULL, type TEXT NOT NULL, payload BLOB NOT NULL)"
 
-pub outbox_is : (command_of (understood one_table outbox_text) ≡ CreateTable) × (statement_of outbox_text (understood one_table outbox_text) ≡ outbox_text) × (table_defined_by outbox_text ≡ Ok outbox)
+pub outbox_is : (command_of (understood one_table outbox_text) ≡ CreateTable)
+    × (statement_of outbox_text (understood one_table outbox_text) ≡ outbox_text)
+    × (table_defined_by outbox_text ≡ Ok outbox)
 unfolding understood everything
 outbox_is = (refl, refl, refl)
 
@@ -40,7 +46,9 @@ outbox_plain = (refl, refl)
 abbrev pub spent_text : List ℕ
 spent_text = codes "CREATE TABLE spent (id TEXT PRIMARY KEY NOT NULL, seq INTEGER NOT NULL)"
 
-pub spent_is : (command_of (understood two_tables spent_text) ≡ CreateTable) × (statement_of spent_text (understood two_tables spent_text) ≡ spent_text) × (table_defined_by spent_text ≡ Ok spent)
+pub spent_is : (command_of (understood two_tables spent_text) ≡ CreateTable)
+    × (statement_of spent_text (understood two_tables spent_text) ≡ spent_text)
+    × (table_defined_by spent_text ≡ Ok spent)
 unfolding understood everything
 spent_is = (refl, refl, refl)
 
@@ -51,7 +59,8 @@ spent_plain = (refl, refl)
 abbrev pub mark_text : List ℕ
 mark_text = codes "CREATE TABLE mark (one INTEGER PRIMARY KEY NOT NULL, upto INTEGER NOT NULL)"
 
-pub mark_is : (command_of (understood three_tables mark_text) ≡ CreateTable) × (statement_of mark_text (understood three_tables mark_text) ≡ mark_text) × (table_defined_by mark_text ≡ Ok mark)
+pub mark_is : (command_of (understood three_tables mark_text) ≡ CreateTable)
+    × (statement_of mark_text (understood three_tables mark_text) ≡ mark_text) × (table_defined_by mark_text ≡ Ok mark)
 unfolding understood everything
 mark_is = (refl, refl, refl)
 
@@ -77,7 +86,9 @@ all_marks = record {
   offset = lit (Int (pos 0));
 }
 
-pub read_mark_is : (command_of (understood service_schema read_mark_text) ≡ Select (record { lets = []; body = all_marks }) (codes "upto" ∷ [])) × (reads_listing service_schema read_mark_text ≡ false)
+pub read_mark_is : (command_of (understood service_schema read_mark_text)
+    ≡ Select (record { lets = []; body = all_marks }) (codes "upto" ∷ []))
+    × (reads_listing service_schema read_mark_text ≡ false)
 unfolding understood everything
 read_mark_is = (refl, refl)
 
@@ -115,7 +126,8 @@ moved_marks = record {
   offset = lit (Int (pos 0));
 }
 
-pub move_mark_is : command_of (understood service_schema move_mark_text) ≡ Update 3 (record { lets = []; body = moved_marks })
+pub move_mark_is : command_of (understood service_schema move_mark_text)
+    ≡ Update 3 (record { lets = []; body = moved_marks })
 unfolding understood everything
 move_mark_is = refl
 
@@ -147,7 +159,8 @@ put_business_text = codes "INSERT OR REPLACE INTO business (kind, id, state) VAL
 abbrev pub new_business : List Term
 new_business = lit Null ∷ col 0 0 ∷ col 0 1 ∷ col 0 2 ∷ []
 
-pub put_business_is : command_of (understood service_schema put_business_text) ≡ InsertOr 0 Replace (Values new_business 4) []
+pub put_business_is : command_of (understood service_schema put_business_text)
+    ≡ InsertOr 0 Replace (Values new_business 4) []
 unfolding understood everything
 put_business_is = refl
 
@@ -171,7 +184,9 @@ business_found = record {
   offset = lit (Int (pos 0));
 }
 
-pub find_business_is : (command_of (understood service_schema find_business_text) ≡ Select (record { lets = []; body = business_found }) (codes "state" ∷ [])) × (reads_listing service_schema find_business_text ≡ false)
+pub find_business_is : (command_of (understood service_schema find_business_text)
+    ≡ Select (record { lets = []; body = business_found }) (codes "state" ∷ []))
+    × (reads_listing service_schema find_business_text ≡ false)
 unfolding understood everything
 find_business_is = (refl, refl)
 
@@ -182,7 +197,8 @@ find_business_plain = (refl, refl)
 -- ---- the events
 
 abbrev pub put_event_text : List ℕ
-put_event_text = codes "INSERT INTO outbox (seq, id, aggregatetype, aggregateid, type, payload) VALUES (?1, ?2, ?3, ?4, ?5, ?6)"
+put_event_text =
+    codes "INSERT INTO outbox (seq, id, aggregatetype, aggregateid, type, payload) VALUES (?1, ?2, ?3, ?4, ?5, ?6)"
 
 abbrev pub new_event : List Term
 new_event = col 0 0 ∷ lit Null ∷ col 0 1 ∷ col 0 2 ∷ col 0 3 ∷ col 0 4 ∷ col 0 5 ∷ []
@@ -196,7 +212,8 @@ unfolding understood everything
 put_event_plain = (refl, refl)
 
 abbrev pub after_text : List ℕ
-after_text = codes "SELECT seq, id, aggregatetype, aggregateid, type, payload FROM outbox WHERE seq > ?1 ORDER BY seq LIMIT ?2"
+after_text =
+    codes "SELECT seq, id, aggregatetype, aggregateid, type, payload FROM outbox WHERE seq > ?1 ORDER BY seq LIMIT ?2"
 
 abbrev pub events_after : Query
 events_after = record {
@@ -211,7 +228,10 @@ events_after = record {
   offset = lit (Int (pos 0));
 }
 
-pub after_is : (command_of (understood service_schema after_text) ≡ Select (record { lets = []; body = events_after }) (codes "seq" ∷ codes "id" ∷ codes "aggregatetype" ∷ codes "aggregateid" ∷ codes "type" ∷ codes "payload" ∷ [])) × (reads_listing service_schema after_text ≡ false)
+pub after_is : (command_of (understood service_schema after_text)
+    ≡ Select (record { lets = []; body = events_after })
+    (codes "seq" ∷ codes "id" ∷ codes "aggregatetype" ∷ codes "aggregateid" ∷ codes "type" ∷ codes "payload" ∷ []))
+    × (reads_listing service_schema after_text ≡ false)
 unfolding understood everything
 after_is = (refl, refl)
 
@@ -261,7 +281,9 @@ last_spent = record {
   offset = lit (Int (pos 0));
 }
 
-pub last_is : (command_of (understood service_schema last_text) ≡ Select (record { lets = []; body = last_spent }) (codes "seq" ∷ [])) × (reads_listing service_schema last_text ≡ false)
+pub last_is : (command_of (understood service_schema last_text)
+    ≡ Select (record { lets = []; body = last_spent }) (codes "seq" ∷ []))
+    × (reads_listing service_schema last_text ≡ false)
 unfolding understood everything
 last_is = (refl, refl)
 

@@ -28,4 +28,5 @@ fields change event =
 
 -- the first column whose text does not fit
 abbrev pub first_bad : Change → OutboxEvent → Option Column
-first_bad change event = option_map (λ f. f.0) (find (λ f. not (fits f.1 f.2)) (fields change event))
+first_bad change event =
+    option_map (λ f. f.0) (find (λ f. not (fits f.1 f.2)) (fields change event))

@@ -39,5 +39,6 @@ pub record IsChanging (s : State) : Type 0 where
 -- what the statement that spends an id did, by the number of rows that it wrote
 pub record Spends (id : List ℕ) (old new : State) (count : ℕ) : Type 0 where
   pub changing : IsChanging new
-  pub fresh : is_recorded (contents_of old).ids id ≡ false → (count ≡ 1) × (contents_of new ≡ with_id (contents_of old) id)
+  pub fresh : is_recorded (contents_of old).ids id ≡ false
+      → (count ≡ 1) × (contents_of new ≡ with_id (contents_of old) id)
   pub again : is_recorded (contents_of old).ids id ≡ true → count ≡ 0

@@ -12,11 +12,27 @@ use Rattle.sqlite_catalog.specs.Change.{created}
 
 -- a column that takes no NULL
 abbrev pub required : List ℕ → Kind → Column
-required name kind = record { name = name; kind = kind; is_strict = false; not_null = true; default = Null; collation = Binary }
+required name kind =
+    record {
+      name = name;
+      kind = kind;
+      is_strict = false;
+      not_null = true;
+      default = Null;
+      collation = Binary;
+    }
 
 -- a column that is the number of its row
 abbrev pub numbering : List ℕ → Column
-numbering name = record { name = name; kind = Integer; is_strict = false; not_null = true; default = Null; collation = Binary }
+numbering name =
+    record {
+      name = name;
+      kind = Integer;
+      is_strict = false;
+      not_null = true;
+      default = Null;
+      collation = Binary;
+    }
 
 -- a table that is not in a schema yet
 abbrev pub table_of : List ℕ → List Column → Option ℕ → List ℕ → List (List ℕ) → List Order → Table
@@ -41,22 +57,28 @@ by_bytes = record { digits = 0 }
 
 -- business (kind, id, state), with the key (kind, id)
 abbrev pub business : Table
-business = table_of (codes "business") (required (codes "kind") Text ∷ required (codes "id") Text ∷ required (codes "state") Text ∷ []) None (1 ∷ 2 ∷ []) ((1 ∷ 2 ∷ []) ∷ []) (by_bytes ∷ [])
+business =
+    table_of (codes "business") (required (codes "kind") Text ∷ required (codes "id") Text
+    ∷ required (codes "state") Text ∷ []) None (1 ∷ 2 ∷ []) ((1 ∷ 2 ∷ []) ∷ []) (by_bytes ∷ [])
 
 -- outbox (seq, id, aggregatetype, aggregateid, type, payload), numbered by seq
 abbrev pub outbox : Table
 outbox =
     table_of (codes "outbox")
-    (numbering (codes "seq") ∷ required (codes "id") Text ∷ required (codes "aggregatetype") Text ∷ required (codes "aggregateid") Text ∷ required (codes "type") Text ∷ required (codes "payload") Any ∷ [])
+    (numbering (codes "seq") ∷ required (codes "id") Text ∷ required (codes "aggregatetype") Text
+    ∷ required (codes "aggregateid") Text ∷ required (codes "type") Text
+    ∷ required (codes "payload") Any ∷ [])
     (Some 0) (0 ∷ []) ((2 ∷ []) ∷ []) (by_bytes ∷ [])
 
 -- spent (id, seq), with the key id
 abbrev pub spent : Table
-spent = table_of (codes "spent") (required (codes "id") Text ∷ required (codes "seq") Integer ∷ []) None (1 ∷ []) ((1 ∷ []) ∷ []) (by_bytes ∷ [])
+spent = table_of (codes "spent") (required (codes "id") Text ∷ required (codes "seq") Integer ∷ [])
+    None (1 ∷ []) ((1 ∷ []) ∷ []) (by_bytes ∷ [])
 
 -- mark (one, upto), of one row
 abbrev pub mark : Table
-mark = table_of (codes "mark") (numbering (codes "one") ∷ required (codes "upto") Integer ∷ []) (Some 0) (0 ∷ []) [] []
+mark = table_of (codes "mark") (numbering (codes "one") ∷ required (codes "upto") Integer ∷ [])
+    (Some 0) (0 ∷ []) [] []
 
 -- before the first table is made
 abbrev pub no_schema : Schema

@@ -19,7 +19,8 @@ impl Change {
     pub fn copy(&self, alloc: Global) -> Result<Change, AllocError>
         ensures kind { IfOk result (λ made. string_bytes made.kind ≡ string_bytes self.now.kind) }
         ensures id { IfOk result (λ made. string_bytes made.id ≡ string_bytes self.now.id) }
-        ensures state { IfOk result (λ made. string_bytes made.state ≡ string_bytes self.now.state) }
+        ensures state { IfOk result
+            (λ made. string_bytes made.state ≡ string_bytes self.now.state) }
     {
         let kind = String::from_str(alloc, self.kind.as_str())?;
         let id = String::from_str(alloc, self.id.as_str())?;

@@ -52,7 +52,8 @@ impl Row {
     pub fn copy(&self, alloc: Global) -> Result<Row, AllocError>
         ensures seq { IfOk result (λ made. made.seq ≡ self.now.seq) }
         ensures id { IfOk result (λ made. made.event.id ≡ self.now.event.id) }
-        ensures event { IfOk result (λ made. stored_event 0 made.event ≡ stored_event 0 self.now.event) }
+        ensures event { IfOk result
+            (λ made. stored_event 0 made.event ≡ stored_event 0 self.now.event) }
     {
         let event = self.event.copy(alloc)?;
         Ok(Row {

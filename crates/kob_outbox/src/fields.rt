@@ -6,7 +6,8 @@ ghost use Rattle.kob_outbox.specs.Fields.{first_bad, fits as fits_in};
 use crate::change::Change;
 use crate::event::OutboxEvent;
 
-/// A column whose text a service chooses: the first three are of the business row, the others of the outbox.
+/// A column whose text a service chooses: the first three are of the business row, the others of
+/// the outbox.
 #[derive(Clone, Copy, Debug, PartialEq, Eq)]
 pub enum Column {
     Kind,

@@ -12,16 +12,19 @@ ghost use Rattle.kob_outbox.specs.declared.event.OutboxEvent.{OutboxEvent};
 #[tactic(auto, using(crate::proofs::Lawful::swept_waits))]
 pub fn a_sweep_keeps_what_waits()
     ensures { (c : Contents) (limit : ℕ)
-        → first_after c.mark limit (without_sent c.mark c).events ≡ first_after c.mark limit c.events }
+        → first_after c.mark limit (without_sent c.mark c).events
+        ≡ first_after c.mark limit c.events }
 {
     // By the definitions.
 }
 
-/// After a record the business row has the state that was written, and the rows of other keys have theirs.
+/// After a record the business row has the state that was written, and the rows of other keys have
+/// theirs.
 #[tactic(auto, using(crate::proofs::Lawful::recorded_here, crate::proofs::Lawful::recorded_elsewhere))]
 pub fn a_record_writes_one_business_row()
     ensures here { (c : Contents) (change : Change) (event : OutboxEvent)
-        → state_at (string_bytes change.kind) (string_bytes change.id) (recorded c change event).business
+        → state_at (string_bytes change.kind) (string_bytes change.id)
+        (recorded c change event).business
         ≡ Some (string_bytes change.state) }
     ensures elsewhere { (c : Contents) (change : Change) (event : OutboxEvent) (kind id : List ℕ)
         → (kind, id) ≢ key_of change

@@ -1,4 +1,5 @@
-//! A service's tables in memory: its business rows, its outbox, the ids that it spent and the mark of what was sent.
+//! A service's tables in memory: its business rows, its outbox, the ids that it spent and the mark
+//! of what was sent.
 #![tactic(auto)]
 
 mod business_table;

@@ -1,3 +1,5 @@
+//! Numbers as `sqlite` takes them.
+
 ghost use Rattle.std.specs.Prelude.{◌≡◌, ◌<◌, ◌^◌, pos};
 ghost use Rattle.sqlite.specs.declared.types.Value.TheVariants.{Int};
 

@@ -1,6 +1,7 @@
 //! What is read of the tables. Over memory only want of memory can stop a read.
 
-ghost use Rattle.std.specs.Prelude.{◌≡◌, option_map, string_bytes, ◌<◌, ◌^◌, length, map, IfErr, IfOk};
+ghost use Rattle.std.specs.Prelude.{◌≡◌, option_map, string_bytes, ◌<◌, ◌^◌, length, map, IfErr};
+ghost use Rattle.std.specs.Prelude.{IfOk};
 ghost use Rattle.kob_outbox.specs.Events.{stored_row};
 ghost use Rattle.kob_outbox.specs.Reading.{first_after, state_at};
 ghost use Rattle.kob_outbox.specs.Service.{IsService, contents, database};

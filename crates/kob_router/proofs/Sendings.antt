@@ -57,7 +57,16 @@ pub ticks_none : (route : Dispatching) (s : State) (before now : List Call) (u t
     → now ≡ before → IsAnswer route tick [] s u t → IsHeld route s
     → Ticks IsAtMostOne route (scene s before u) (scene s now t) tick
 ticks_none route s before now u t tick same answer held =
-    record { moves = []; own = tt; run = refl; calls = same ∙ sym (append-nil before); few = tt; answer = answer; held = held }
+    record {
+      moves = [];
+      own = tt;
+      run = refl;
+      calls = same
+          ∙ sym (append-nil before);
+      few = tt;
+      answer = answer;
+      held = held;
+    }
 
 -- a call after which all stands as it did
 pub ticks_call : (route : Dispatching) (s : Sender) (outbox : Contents) (asked : Request) (heard : Option Reply)

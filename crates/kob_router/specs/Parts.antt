@@ -41,7 +41,8 @@ Introduces old new before now unmade then_unmade (Ok p) =
     ⊎ ((old ≡ None) × (now ≡ before ++ given_call p ∷ []) × (then_unmade ≡ unmade)))
 Introduces old new before now unmade then_unmade (Err Repeat) =
     (old ≡ None) × (new ≡ None)
-    × (((now ≡ before ++ record { request = InitProducerId; heard = None } ∷ []) × (then_unmade ≡ unmade))
+    × (((now ≡ before ++ record { request = InitProducerId; heard = None } ∷ [])
+    × (then_unmade ≡ unmade))
     ⊎ ((now ≡ before) × (then_unmade ≡ one_more unmade)))
 Introduces old new before now unmade then_unmade (Err (Stopped (stop.Denied code verdicts))) =
     IsAsked old new before now unmade then_unmade

@@ -25,8 +25,8 @@ placed_as column word alias =
     then option_map (λ named. record { column = named; header = alias }) (column_named column)
     else None
 
--- an entry's parts: a column, the word `header`, and the header's name, which is the column's where it
--- is not given
+-- an entry's parts: a column, the word `header`, and the header's name, which is the column's where
+-- it is not given
 abbrev pub entry_of_parts : List (List ℕ) → Option Placed
 entry_of_parts (column ∷ word ∷ []) = placed_as column word column
 entry_of_parts (column ∷ word ∷ alias ∷ []) = placed_as column word alias

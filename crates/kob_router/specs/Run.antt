@@ -87,8 +87,8 @@ abbrev pub IsDone : Option Reply → Type 0
 IsDone (Some (Done body)) = Unit {0}
 IsDone _ = ⊥
 
--- a producer id is asked for where there is none; only what is in hand is sent, and it is acknowledged
--- only once the reply was heard that it is done
+-- a producer id is asked for where there is none; only what is in hand is sent, and it is
+-- acknowledged only once the reply was heard that it is done
 abbrev pub MayCall : Dispatching → State → Request → Option Reply → Bool → Type 0
 MayCall route s InitProducerId heard marks = (s.producer ≡ None) × (marks ≡ false)
 MayCall route s (Produce produce) heard marks =

@@ -68,7 +68,8 @@ IsFirst (Some hand) outbox = next_row outbox ≡ Some hand.event
 abbrev pub IsHeld : Dispatching → State → Type 0
 IsHeld route s = IsFirst s.hand s.outbox × IsPlaced route s.hand s.sequences
 
--- a tick takes a row in hand and makes calls; it records nothing, drops nothing and does not restart
+-- a tick takes a row in hand and makes calls; it records nothing, drops nothing and does not
+-- restart
 abbrev pub IsOfTick : Move → Type 0
 IsOfTick (Took hand) = Unit {0}
 IsOfTick (Called call marks) = Unit {0}
@@ -138,8 +139,8 @@ IsAtMostOne [] = Unit {0}
 IsAtMostOne (c ∷ []) = Unit {0}
 IsAtMostOne (c ∷ d ∷ cs) = ⊥
 
--- the moves of a tick, or of a part of one: they are a run, their calls are what the line notes, and
--- the answer tells of them
+-- the moves of a tick, or of a part of one: they are a run, their calls are what the line notes,
+-- and the answer tells of them
 pub record Ticks (shape : List Call → Type 0) (route : Dispatching) (old new : Scene) (tick : Tick)
     : Type 0 where
   pub moves : List Move

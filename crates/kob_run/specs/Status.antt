@@ -1,4 +1,5 @@
--- The program's status: 0 for a script that was served, 2 for want of memory, 1 for every other end.
+-- The program's status: 0 for a script that was served, 2 for want of memory, 1 for every other
+-- end.
 use Rattle.std.specs.Prelude.{ℕ, Result, Ok, Err}
 use Rattle.kob_text.specs.declared.fault.RunFault.{RunFault}
 use Rattle.kob_text.specs.declared.fault.RunFault.TheVariants.{ReadFailed, WriteFailed, TooLong, Memory}

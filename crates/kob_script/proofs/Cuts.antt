@@ -27,7 +27,8 @@ unfolding has_whole_escapes
 after_cut byte [] other whole = refl
 after_cut byte (high ∷ []) other whole = (both_true (not (byte == 37)) (not (high == 37)) whole).1
 after_cut byte (high ∷ low ∷ rest) other whole =
-    after_other (byte == 37) (are_hexadecimal high low && has_whole_escapes rest) (has_whole_escapes (high ∷ low ∷ rest)) other whole
+    after_other (byte == 37) (are_hexadecimal high low && has_whole_escapes rest)
+    (has_whole_escapes (high ∷ low ∷ rest)) other whole
 
 -- a byte before the cut, and what comes after it: an escape would reach over the cut
 before_cut : {P : Type 0} (b escape rest : Bool) → (escape ≡ true → ⊥) → (rest ≡ true → P)
@@ -61,17 +62,21 @@ unfolding has_whole_escapes
 cut_leaves_whole byte [] back other none whole = (refl, after_cut byte back other whole)
 cut_leaves_whole byte (a ∷ []) [] other none whole = ((both_true (not (a == 37)) (not (byte == 37)) whole).0, refl)
 cut_leaves_whole byte (a ∷ []) (low ∷ rest) other none whole =
-    let (plain, after) = before_cut (a == 37) (are_hexadecimal byte low && has_whole_escapes rest) (has_whole_escapes (byte ∷ low ∷ rest))
+    let (plain, after) =
+    before_cut (a == 37) (are_hexadecimal byte low && has_whole_escapes rest)
+    (has_whole_escapes (byte ∷ low ∷ rest))
     (no_first_digit (nat_lt (digit_value byte) 16) (nat_lt (digit_value low) 16) (has_whole_escapes rest) none)
     (after_cut byte (low ∷ rest) other) whole in
     (not_true (a == 37) plain, after)
 cut_leaves_whole byte (a ∷ b ∷ []) back other none whole =
-    let (plain, (front, after)) = before_cut (a == 37) (are_hexadecimal b byte && has_whole_escapes back) (has_whole_escapes (b ∷ byte ∷ back))
+    let (plain, (front, after)) =
+    before_cut (a == 37) (are_hexadecimal b byte && has_whole_escapes back) (has_whole_escapes (b ∷ byte ∷ back))
     (no_second_digit (nat_lt (digit_value b) 16) (nat_lt (digit_value byte) 16) (has_whole_escapes back) none)
     (cut_leaves_whole byte (b ∷ []) back other none) whole in
     (not_both (a == 37) (not (b == 37)) plain front, after)
 cut_leaves_whole byte (a ∷ b ∷ c ∷ rest) back other none whole =
-    front_of_three (a == 37) (are_hexadecimal b c) (has_whole_escapes (rest ++ byte ∷ back)) (has_whole_escapes (b ∷ c ∷ rest ++ byte ∷ back))
+    front_of_three (a == 37) (are_hexadecimal b c) (has_whole_escapes (rest ++ byte ∷ back))
+    (has_whole_escapes (b ∷ c ∷ rest ++ byte ∷ back))
     (has_whole_escapes rest) (has_whole_escapes (b ∷ c ∷ rest))
     (cut_leaves_whole byte rest back other none) (cut_leaves_whole byte (b ∷ c ∷ rest) back other none) whole
 

@@ -13,7 +13,8 @@ with_front-more front x (Ok xs) = ap Ok (append_assoc front (x ∷ []) xs)
 with_front-more front x (Err kind) = refl
 
 -- one value more, and then the rest
-abbrev pub one_more : {A B : Type 0} → (A → Result B FaultKind) → List A → Result B FaultKind → Result (List B) FaultKind
+abbrev pub one_more : {A B : Type 0} → (A → Result B FaultKind) → List A → Result B FaultKind
+    → Result (List B) FaultKind
 one_more read rest r = r >>= λ first. each read rest >>= λ others. Ok (first ∷ others)
 
 steps : {A B : Type 0} (read : A → Result B FaultKind) (xs : List A) (i : ℕ) (d : A) → i < length xs
@@ -27,7 +28,8 @@ steps_at : {A B : Type 0} (read : A → Result B FaultKind) (xs : List A) (i : �
     → each read (drop i xs) ≡ one_more read (drop (i + 1) xs) (read x)
 steps_at read xs i d x below is = steps read xs i d below ∙ ap (λ y. one_more read (drop (i + 1) xs) (read y)) (sym is)
 
-pub each_fails : {A B : Type 0} (read : A → Result B FaultKind) (xs : List A) (i : ℕ) (d x : A) (front : List B) (e : LineError)
+pub each_fails : {A B : Type 0} (read : A → Result B FaultKind) (xs : List A) (i : ℕ) (d x : A) (front : List B)
+    (e : LineError)
     → with_front front (each read (drop i xs)) ≡ each read xs → i < length xs → x ≡ get_or xs i d → Fails e (read x)
     → Fails e (each read xs)
 each_fails read xs i d x front Memory kept below is fails = tt
@@ -52,7 +54,8 @@ pub each-map : {X A B : Type 0} (read : A → Result B FaultKind) (view : X → 
     → each read (map view xs) ≡ each (λ x. read (view x)) xs
 unfolding each
 each-map read view [] = refl
-each-map read view (x ∷ xs) = ap (λ r. read (view x) >>= λ first. r >>= λ others. Ok (first ∷ others)) (each-map read view xs)
+each-map read view (x ∷ xs) =
+    ap (λ r. read (view x) >>= λ first. r >>= λ others. Ok (first ∷ others)) (each-map read view xs)
 
 pub each_fails-map : {X A B : Type 0} (read : A → Result B FaultKind) (view : X → A) (xs : List X) (e : LineError)
     → Fails e (each (λ x. read (view x)) xs) → Fails e (each read (map view xs))

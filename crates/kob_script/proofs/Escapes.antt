@@ -63,8 +63,10 @@ escape_bytes true byte first others rest = refl
 escape_bytes false byte first others rest = refl
 
 more_bytes : (b : Bool) (byte high low : ℕ) (rest : List ℕ)
-    → (if b && are_hexadecimal high low then hexadecimal high low ∷ bytes_of rest else byte ∷ bytes_of (high ∷ low ∷ rest))
-    ≡ bytes_after byte (high ∷ low ∷ rest) (if b then escaped_at (high ∷ low ∷ rest) else Some (byte, high ∷ low ∷ rest))
+    → (if b && are_hexadecimal high low then hexadecimal high low ∷ bytes_of rest else byte
+    ∷ bytes_of (high ∷ low ∷ rest))
+    ≡ bytes_after byte (high ∷ low ∷ rest)
+    (if b then escaped_at (high ∷ low ∷ rest) else Some (byte, high ∷ low ∷ rest))
 more_bytes true byte high low rest =
     escape_bytes (are_hexadecimal high low) byte (hexadecimal high low) (high ∷ low ∷ rest) rest
 more_bytes false byte high low rest = refl
@@ -102,7 +104,8 @@ unfolding bytes_of
 bytes-plain [] none = refl
 bytes-plain (byte ∷ rest) none =
     let here = both_false (byte == 37) (list_any (λ y. y == 37) rest) none in
-    bytes-step byte rest ∙ bytes_after_plain (byte == 37) byte rest rest here.0 ∙ ap (λ r. byte ∷ r) (bytes-plain rest here.1)
+    bytes-step byte rest ∙ bytes_after_plain (byte == 37) byte rest rest here.0
+    ∙ ap (λ r. byte ∷ r) (bytes-plain rest here.1)
 
 pub word_of-plain : (word : List ℕ) → list_any (λ y. y == 37) word ≡ false
     → word_of word ≡ Ok (record { raw = word; decoded = word })
@@ -128,7 +131,8 @@ found_or_first : (first : ℕ) (others : Bor (List ℕ)) (found : Option (ℕ ×
 found_or_first first others (Some f) = refl
 found_or_first first others None = refl
 
-pub bytes_keep : (out more word rest : List ℕ) (first : ℕ) (others : Bor (List ℕ)) (found : Option (ℕ × Bor (List ℕ))) (next : ℕ × Bor (List ℕ))
+pub bytes_keep : (out more word rest : List ℕ) (first : ℕ) (others : Bor (List ℕ)) (found : Option (ℕ × Bor (List ℕ)))
+    (next : ℕ × Bor (List ℕ))
     → out ++ bytes_of rest ≡ bytes_of word → rest ≡ first ∷ others.now
     → option_map (λ f. (f.0, f.1.now)) found ≡ byte_at first others.now
     → next ≡ unwrap_or found (first, others) → more ≡ out ++ next.0 ∷ [] → more ++ bytes_of next.1.now ≡ bytes_of word
@@ -136,7 +140,8 @@ bytes_keep out more word rest first others found next kept split read is grown =
     ap (λ o. o ++ bytes_of next.1.now) grown
     ∙ append_assoc out (next.0 ∷ []) (bytes_of next.1.now)
     ∙ ap (λ (n : ℕ × Bor (List ℕ)). out ++ n.0 ∷ bytes_of n.1.now) is
-    ∙ sym (ap (λ o. out ++ o) (ap bytes_of split ∙ bytes-step first others.now ∙ sym (ap (bytes_after first others.now) read) ∙ found_or_first first others found))
+    ∙ sym (ap (λ o. out ++ o) (ap bytes_of split ∙ bytes-step first others.now
+    ∙ sym (ap (bytes_after first others.now) read) ∙ found_or_first first others found))
     ∙ kept
 
 pub bytes_end : (out word rest : List ℕ) → out ++ bytes_of rest ≡ bytes_of word → rest ≡ [] → out ≡ bytes_of word

@@ -21,7 +21,8 @@ ByWords old read words =
     (answer : Option CliArgs) × IsAnswerToLine words answer × ((words >>= with_words answer old) ≡ read)
 
 -- a line that was read by clap's answer to its words
-pub line_gives : (old : Script) (line : List ℕ) (words : List Word) (answer : Option CliArgs) (new : Growing) (result : Result (Unit {0}) LineError)
+pub line_gives : (old : Script) (line : List ℕ) (words : List Word) (answer : Option CliArgs) (new : Growing)
+    (result : Result (Unit {0}) LineError)
     → words_of line ≡ Ok words → IsAnswerTo words answer → GivesNext new result (with_words answer old words)
     → MayGiveNext (LineReadsAs old line) new result
 unfolding with_line
@@ -45,16 +46,20 @@ Leads text s number rest = (read : Result Script fault.Fault) → LinesFrom s nu
 pub lines_begin : (text : List ℕ) (growing : Growing) → growing.supers.items ≡ [] → growing.events.items ≡ []
     → Leads text (grown growing) 1 (lines_in text)
 lines_begin text growing nobody nothing =
-    let same : grown growing ≡ empty_script = λ i. record { settings = record { supers = nobody i; opening = [] }; events = nothing i } in
+    let same : grown growing ≡ empty_script =
+    λ i. record { settings = record { supers = nobody i; opening = [] }; events = nothing i } in
     λ read may. subst (λ (s : Script). LinesFrom s 1 (lines_in text) read) same may
 
-pub line_keeps : (text : List ℕ) (s next : Script) (number : ℕ) (rest : List (List ℕ)) (line : List ℕ) (more : List (List ℕ))
+pub line_keeps : (text : List ℕ) (s next : Script) (number : ℕ) (rest : List (List ℕ)) (line : List ℕ)
+    (more : List (List ℕ))
     → Leads text s number rest → rest ≡ line ∷ more → LineReadsAs s line (Ok next) → Leads text next (number + 1) more
 unfolding LinesFrom
 line_keeps text s next number rest line more leads split reads =
-    λ read others. leads read (subst (λ (lines : List (List ℕ)). LinesFrom s number lines read) (sym split) (Ok next, reads, others))
+    λ read others. leads read (subst (λ (lines : List (List ℕ)). LinesFrom s number lines read) (sym split)
+    (Ok next, reads, others))
 
-pub line_stops : (text : List ℕ) (s : Script) (growing : Growing) (number : ℕ) (rest : List (List ℕ)) (line : List ℕ) (more : List (List ℕ)) (e : LineError)
+pub line_stops : (text : List ℕ) (s : Script) (growing : Growing) (number : ℕ) (rest : List (List ℕ)) (line : List ℕ)
+    (more : List (List ℕ)) (e : LineError)
     → Leads text s number rest → rest ≡ line ∷ more → MayGiveNext (LineReadsAs s line) growing (Err e)
     → MayRead text (Err (fault_at number e))
 unfolding LinesFrom

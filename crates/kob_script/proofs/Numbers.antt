@@ -20,12 +20,15 @@ WritesNumber ds = (all_ascii_digits ds ≡ true) × (0 < length ds) × (digits_v
 
 to_number : (ds : List ℕ) → is_number ds ≡ true → WritesNumber ds
 to_number ds e =
-    let (some, others) = (Decides-and _ _ (Decides-ltb 0 (length ds)) (Decides-and _ _ (λ h. h, λ h. h) (Decides-ltb (digits_value 10 ds) (2 ^ 64)))).0 e in
+    let (some, others) =
+    (Decides-and _ _ (Decides-ltb 0 (length ds))
+    (Decides-and _ _ (λ h. h, λ h. h) (Decides-ltb (digits_value 10 ds) (2 ^ 64)))).0 e in
     (others.0, some, others.1)
 
 from_number : (ds : List ℕ) → WritesNumber ds → is_number ds ≡ true
 from_number ds w =
-    (Decides-and _ _ (Decides-ltb 0 (length ds)) (Decides-and _ _ (λ h. h, λ h. h) (Decides-ltb (digits_value 10 ds) (2 ^ 64)))).1 (w.1, (w.0, w.2))
+    (Decides-and _ _ (Decides-ltb 0 (length ds))
+    (Decides-and _ _ (λ h. h, λ h. h) (Decides-ltb (digits_value 10 ds) (2 ^ 64)))).1 (w.1, (w.0, w.2))
 
 pub number_refused : (ds : List ℕ) → (WritesNumber ds → ⊥) → number_in ds ≡ Err BadNumber
 number_refused ds refuted = chosen_false (is_number ds) _ _ (false_from (is_number ds) (to_number ds) refuted)
@@ -35,17 +38,20 @@ number_taken ds w = chosen_true (is_number ds) _ _ (from_number ds w)
 
 -- what is not text writes no number
 pub number-not_text : (ds : List ℕ) → (IsUtf8 ds → ⊥) → number_in ds ≡ Err BadNumber
-number-not_text ds refuted = number_refused ds (λ w. refuted (IsUtf8-from_ascii ds (IsAscii-from_digits ds (own.to ds w.0))))
+number-not_text ds refuted =
+    number_refused ds (λ w. refuted (IsUtf8-from_ascii ds (IsAscii-from_digits ds (own.to ds w.0))))
 
 -- what `parse` answers, where no sign stands in front
 pub number-parsed : {E : Type 0} (ds : List ℕ) (r : Result ℕ E) → ParsesUnsigned 64 10 ds r → get_or ds 0 0 ≢ 43
     → MatchResult r (λ n. number_in ds ≡ Ok n) (λ _. number_in ds ≡ Err BadNumber)
 number-parsed ds r h plain = parsed r (parse_plain own 64 ds r h plain)
   where
-    parsed : {E : Type 0} (r : Result ℕ E) → OkIff r (WritesNumber ds) (digits_value 10 ds) → MatchResult r (λ n. number_in ds ≡ Ok n) (λ _. number_in ds ≡ Err BadNumber)
+    parsed : {E : Type 0} (r : Result ℕ E) → OkIff r (WritesNumber ds) (digits_value 10 ds)
+        → MatchResult r (λ n. number_in ds ≡ Ok n) (λ _. number_in ds ≡ Err BadNumber)
     parsed (Ok n) h = number_taken ds h.0 ∙ ap Ok (sym h.1)
     parsed (Err e) h = number_refused ds h
 
 pub no_sign : (ds : List ℕ) → starts_with nat_eq ds (43 ∷ []) ≡ false → get_or ds 0 0 ≢ 43
 no_sign [] e = λ h. absurd (omega (arith, h))
-no_sign (c ∷ cs) e = λ h. let found : true ≡ false = subst (λ (x : ℕ). starts_with nat_eq (x ∷ cs) (43 ∷ []) ≡ false) h e in cc
+no_sign (c ∷ cs) e =
+    λ h. let found : true ≡ false = subst (λ (x : ℕ). starts_with nat_eq (x ∷ cs) (43 ∷ []) ≡ false) h e in cc

@@ -25,7 +25,8 @@ both false b e = absurd cc
 -- a choice that is no other where it isn't `acl`
 others_alike : {A B C : Type 0} (setting acl : Bool) (x : B) (one two other : A) (next : A → B) (arguments : C)
     → is_none (if not setting && acl then Some arguments else None) ≡ true
-    → (if setting then x else next (if acl then one else other)) ≡ (if setting then x else next (if acl then two else other))
+    → (if setting then x else next (if acl then one else other))
+    ≡ (if setting then x else next (if acl then two else other))
 others_alike true acl x one two other next arguments plain = refl
 others_alike false true x one two other next arguments plain = absurd cc
 others_alike false false x one two other next arguments plain = refl
@@ -56,7 +57,8 @@ unfolding LinesFrom lines_from with_line
 lines_alike s number [] read plain may = may
 lines_alike s number (line ∷ lines) read plain (first, (answer, is, gives), others) =
     let here = both (is_plain (words_of line)) (list_all (λ l. is_plain (words_of l)) lines) plain in
-    then_alike number lines (with_line None s line) read (λ next may. lines_alike next (number + 1) lines read here.1 may)
+    then_alike number lines (with_line None s line) read
+    (λ next may. lines_alike next (number + 1) lines read here.1 may)
     (subst (λ (r : Result Script FaultKind). ThenLines number r (λ next. LinesFrom next (number + 1) lines read) read)
     (sym gives ∙ line_alike answer s (words_of line) here.0) others)
 

@@ -21,7 +21,8 @@ pub verdict_keeps : (out more last : List ℕ) (rest : List Verdict) (v : Verdic
     → out ++ verdicts_text rest ≡ all → rest ≡ v ∷ others → 0 < length others → more ≡ out ++ verdict_text v
     → last ≡ more ++ codes "," → last ++ verdicts_text others ≡ all
 verdict_keeps out more last rest v others all kept split some grown ended =
-    ap (λ o. o ++ verdicts_text others) (ended ∙ ap (λ o. o ++ codes ",") grown ∙ append_assoc out (verdict_text v) (codes ","))
+    ap (λ o. o ++ verdicts_text others) (ended ∙ ap (λ o. o ++ codes ",") grown
+    ∙ append_assoc out (verdict_text v) (codes ","))
     ∙ append_assoc out (verdict_text v ++ codes ",") (verdicts_text others)
     ∙ sym (ap (λ t. out ++ t) (ap verdicts_text split ∙ verdicts-more v others some))
     ∙ kept
@@ -35,7 +36,8 @@ pub verdict_ends : (out last : List ℕ) (rest : List Verdict) (v : Verdict) (ot
     → out ++ verdicts_text rest ≡ all → rest ≡ v ∷ others → length others ≡ 0 → last ≡ out ++ verdict_text v
     → last ++ verdicts_text others ≡ all
 verdict_ends out last rest v others all kept split none grown =
-    ap (λ o. last ++ o) (nothing others none) ∙ append-nil last ∙ grown ∙ sym (ap (λ t. out ++ t) (ap verdicts_text split ∙ verdicts-last v others none)) ∙ kept
+    ap (λ o. last ++ o) (nothing others none) ∙ append-nil last ∙ grown
+    ∙ sym (ap (λ t. out ++ t) (ap verdicts_text split ∙ verdicts-last v others none)) ∙ kept
 
 pub verdicts_done : (out : List ℕ) (rest : List Verdict) (all : List ℕ) → out ++ verdicts_text rest ≡ all
     → length rest ≡ 0 → out ≡ all
@@ -49,7 +51,8 @@ pub reply_keeps : (out more : List ℕ) (replies : List Reply) (i : ℕ) (r : Re
     → more ++ replies_text (i + 1 + 1) (drop (i + 1) replies) ≡ all
 unfolding replies_text
 reply_keeps out more replies i r all kept below is grown =
-    ap (λ o. o ++ replies_text (i + 1 + 1) (drop (i + 1) replies)) (grown ∙ ap (λ (q : Reply). out ++ reply_text (i + 1) q) is)
+    ap (λ o. o ++ replies_text (i + 1 + 1) (drop (i + 1) replies))
+    (grown ∙ ap (λ (q : Reply). out ++ reply_text (i + 1) q) is)
     ∙ append_assoc out (reply_text (i + 1) (get_or replies i r)) (replies_text (i + 1 + 1) (drop (i + 1) replies))
     ∙ sym (ap (λ rest. out ++ replies_text (i + 1) rest) (drop_more replies i r below))
     ∙ kept
@@ -57,4 +60,5 @@ reply_keeps out more replies i r all kept below is grown =
 pub replies_done : (out : List ℕ) (replies : List Reply) (i : ℕ) (all : List ℕ)
     → out ++ replies_text (i + 1) (drop i replies) ≡ all → length replies ≤ i → out ≡ all
 unfolding replies_text
-replies_done out replies i all kept past = sym (append-nil out) ∙ sym (ap (λ rest. out ++ replies_text (i + 1) rest) (drop_of_length-le replies past)) ∙ kept
+replies_done out replies i all kept past =
+    sym (append-nil out) ∙ sym (ap (λ rest. out ++ replies_text (i + 1) rest) (drop_of_length-le replies past)) ∙ kept

@@ -45,8 +45,10 @@ filter_line asker _ = Err BadLine
 
 abbrev pub describe_acls_line : AskerWords → List Word → Result Event FaultKind
 describe_acls_line asker words =
-    filter_line asker words >>= λ written. Ok (asks written.asker (DescribeAcls (record { filter = written.filter })))
+    filter_line asker words >>= λ written. Ok
+    (asks written.asker (DescribeAcls (record { filter = written.filter })))
 
 abbrev pub delete_acls_line : AskerWords → List Word → Result Event FaultKind
 delete_acls_line asker words =
-    filter_line asker words >>= λ written. Ok (asks written.asker (DeleteAcls (record { filter = written.filter })))
+    filter_line asker words >>= λ written. Ok
+    (asks written.asker (DeleteAcls (record { filter = written.filter })))

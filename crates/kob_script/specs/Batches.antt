@@ -24,7 +24,8 @@ three_of _ = Err BadLine
 -- `-` for no producer, or three parts with colons between them
 unfoldable pub idem_parts : Word → Result (Option IdemParts) FaultKind
 idem_parts word =
-    if bytes_eq word.raw (codes "-") then Ok None else three_of (slice_split (λ byte. byte == 58) word.raw)
+    if bytes_eq word.raw (codes "-") then Ok None else three_of
+    (slice_split (λ byte. byte == 58) word.raw)
 
 -- the numbers that the parts write
 unfoldable pub idem_of : Option IdemParts → Result (Option Idem) FaultKind
@@ -38,12 +39,14 @@ idem_of (Some parts) = do
 -- what stands before and after the first `=`
 unfoldable pub key_and_value : List ℕ → Option (List ℕ × List ℕ)
 key_and_value word =
-    option_map (λ place. (take place word, drop (place + 1) word)) (first_of (matches word (codes "=") 0))
+    option_map (λ place. (take place word, drop (place + 1) word))
+    (first_of (matches word (codes "=") 0))
 
 -- a key and a value, or a value alone; escapes are replaced after the cut, which leaves each whole
 abbrev pub record_in : Option (List ℕ × List ℕ) → Word → Record
 record_in None word = record { key = None; value = word.decoded; headers = [] }
-record_in (Some parts) word = record { key = Some (bytes_of parts.0); value = bytes_of parts.1; headers = [] }
+record_in (Some parts) word =
+    record { key = Some (bytes_of parts.0); value = bytes_of parts.1; headers = [] }
 
 -- a record without headers
 unfoldable pub record_of : Word → Record

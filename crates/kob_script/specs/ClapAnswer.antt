@@ -1,5 +1,6 @@
--- What clap answers to the words of an `acl` line. By what its port states, that isn't a function of the words, so that
--- a line is read by what clap may have answered: options, or nothing where it refused the words.
+-- What clap answers to the words of an `acl` line. By what its port states, that isn't a function
+-- of the words, so that a line is read by what clap may have answered: options, or nothing where it
+-- refused the words.
 use Rattle.std.specs.Prelude.{◌≡◌, ◌&&◌, not, ℕ, true, List, [], ◌∷◌, Option, Some, None, Result, Ok, Err, codes, if◌then◌else◌}
 use Rattle.std.specs.Str.{bytes_eq}
 use Rattle.kob_acl_cli.specs.declared.args.CliArgs.{CliArgs}
@@ -10,7 +11,8 @@ use Rattle.kob_script.specs.Settings.{is_setting}
 use Rattle.kob_script.specs.Texts.{text_of}
 use Rattle.kob_script.specs.Word.{Word}
 
--- clap may answer options only where they are what it reads of the texts, and refuse only texts that it doesn't take
+-- clap may answer options only where they are what it reads of the texts, and refuse only texts
+-- that it doesn't take
 abbrev pub MayAnswer : List (List ℕ) → Option CliArgs → Type 0
 MayAnswer texts (Some args) = IsReadOf (rows_of_line texts) args × (refusals texts ≡ [])
 MayAnswer texts None = is_taken texts ≡ true → ⊥
@@ -23,7 +25,8 @@ MayAnswerTexts (Err kind) answer = Unit {0}
 -- the words after `acl`, where a line asks by it
 abbrev pub after_acl : List Word → Option (List Word)
 after_acl (first ∷ host ∷ command ∷ arguments) =
-    if not (is_setting first) && bytes_eq command.decoded (codes "acl") then Some arguments else None
+    if not (is_setting first) && bytes_eq command.decoded
+    (codes "acl") then Some arguments else None
 after_acl _ = None
 
 -- of other lines clap isn't asked

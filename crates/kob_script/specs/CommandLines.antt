@@ -43,7 +43,8 @@ abbrev pub line_named : List ℕ → AskerWords → List Word → Result Event F
 line_named name asker arguments = line_by (command_named name) asker arguments
 
 -- the events of a line with the command, in order; only `acl` may ask for more or fewer than one
-abbrev pub events_named : Option CliArgs → List ℕ → AskerWords → List Word → Result (List Event) FaultKind
+abbrev pub events_named : Option CliArgs → List ℕ → AskerWords → List Word
+    → Result (List Event) FaultKind
 events_named answer name asker arguments =
     if bytes_eq name (codes "acl") then acl_line answer asker arguments
     else (line_named name asker arguments >>= λ event. Ok (event ∷ []))

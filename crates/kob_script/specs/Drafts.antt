@@ -48,7 +48,12 @@ draft_kinds words = do
   operation ← operation_of words.operation
   resource ← resource_of words.resource
   pattern ← pattern_of words.pattern
-  Ok (record { permission = permission; operation = operation; resource = resource; pattern = pattern })
+  Ok (record {
+    permission = permission;
+    operation = operation;
+    resource = resource;
+    pattern = pattern;
+  })
 
 abbrev pub asker_with_draft : DraftTexts → DraftNames → DraftKinds → AskerWithDraft
 asker_with_draft texts names kinds = record {

@@ -10,12 +10,15 @@ are_hexadecimal high low = nat_lt (digit_value high) 16 && nat_lt (digit_value l
 abbrev pub hexadecimal : ℕ → ℕ → ℕ
 hexadecimal high low = 16 * digit_value high + digit_value low
 
--- the byte that stands after a percent sign, and what comes after it; nothing where no two digits follow
+-- the byte that stands after a percent sign, and what comes after it; nothing where no two digits
+-- follow
 abbrev pub escaped_at : List ℕ → Option (ℕ × List ℕ)
-escaped_at (high ∷ low ∷ others) = if are_hexadecimal high low then Some (hexadecimal high low, others) else None
+escaped_at (high ∷ low ∷ others) =
+    if are_hexadecimal high low then Some (hexadecimal high low, others) else None
 escaped_at _ = None
 
--- the byte at the front of a word, and what comes after it; nothing for a percent sign that begins no escape
+-- the byte at the front of a word, and what comes after it; nothing for a percent sign that begins
+-- no escape
 abbrev pub byte_at : ℕ → List ℕ → Option (ℕ × List ℕ)
 byte_at first others = if first == 37 then escaped_at others else Some (first, others)
 
@@ -37,7 +40,8 @@ bytes_of (byte ∷ high ∷ low ∷ rest) =
     if byte == 37 && are_hexadecimal high low then hexadecimal high low ∷ bytes_of rest
     else byte ∷ bytes_of (high ∷ low ∷ rest)
 
--- the parts around this byte have whole escapes where the bytes have, so that each part is read as it stands
+-- the parts around this byte have whole escapes where the bytes have, so that each part is read as
+-- it stands
 abbrev pub LeavesWhole : ℕ → Type 0
 LeavesWhole byte = (front back : List ℕ) → has_whole_escapes (front ++ byte ∷ back) ≡ true
     → (has_whole_escapes front ≡ true) × (has_whole_escapes back ≡ true)

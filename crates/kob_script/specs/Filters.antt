@@ -50,7 +50,12 @@ filter_kinds words = do
   pattern ← filter_pattern_of words.pattern
   operation ← unless_dash operation_of words.operation
   permission ← unless_dash permission_of words.permission
-  Ok (record { resource = resource; pattern = pattern; operation = operation; permission = permission })
+  Ok (record {
+    resource = resource;
+    pattern = pattern;
+    operation = operation;
+    permission = permission;
+  })
 
 abbrev pub asker_with_filter : FilterTexts → FilterNames → FilterKinds → AskerWithFilter
 asker_with_filter texts names kinds = record {

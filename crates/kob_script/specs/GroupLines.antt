@@ -26,14 +26,23 @@ commit asker group topic partition offset = do
   by ← asker_with_group asker group topic
   number ← number_of partition
   upto ← number_of offset
-  Ok (asks by.asker (OffsetCommit (record { group = by.group; topic = by.topic; partition = number; offset = upto })))
+  Ok (asks by.asker (OffsetCommit (record {
+    group = by.group;
+    topic = by.topic;
+    partition = number;
+    offset = upto;
+  })))
 
 -- committed GROUP TOPIC PARTITION
 unfoldable pub committed_offset : AskerWords → Word → Word → Word → Result Event FaultKind
 committed_offset asker group topic partition = do
   by ← asker_with_group asker group topic
   number ← number_of partition
-  Ok (asks by.asker (OffsetFetch (record { group = by.group; topic = by.topic; partition = number })))
+  Ok (asks by.asker (OffsetFetch (record {
+    group = by.group;
+    topic = by.topic;
+    partition = number;
+  })))
 
 -- groups
 unfoldable pub groups : AskerWords → Result Event FaultKind
@@ -50,7 +59,8 @@ delete_group asker group = do
 
 -- the words after a command, where their number fits it
 abbrev pub commit_line : AskerWords → List Word → Result Event FaultKind
-commit_line asker (group ∷ topic ∷ partition ∷ offset ∷ []) = commit asker group topic partition offset
+commit_line asker (group ∷ topic ∷ partition ∷ offset ∷ []) =
+    commit asker group topic partition offset
 commit_line asker _ = Err BadLine
 
 abbrev pub committed_line : AskerWords → List Word → Result Event FaultKind

@@ -32,4 +32,5 @@ operation_of word = found_or BadWord (operation_named word.decoded)
 -- a filter takes any pattern by `-` too, which has to stand without escapes
 abbrev pub filter_pattern_of : Word → Result FilterPattern FaultKind
 filter_pattern_of word =
-    if bytes_eq word.raw (codes "-") then Ok Any else found_or BadWord (filter_pattern_named word.decoded)
+    if bytes_eq word.raw (codes "-") then Ok Any else found_or BadWord
+    (filter_pattern_named word.decoded)

@@ -8,7 +8,9 @@ use Rattle.kob_script.specs.Word.{Word}
 
 -- one or more decimal digits that write a number of 64 bits
 abbrev pub is_number : List ℕ → Bool
-is_number digits = nat_lt 0 (length digits) && (all_ascii_digits digits && nat_lt (digits_value 10 digits) (2 ^ 64))
+is_number digits =
+    nat_lt 0 (length digits) && (all_ascii_digits digits
+    && nat_lt (digits_value 10 digits) (2 ^ 64))
 
 abbrev pub number_in : List ℕ → Result ℕ FaultKind
 number_in digits = if is_number digits then Ok (digits_value 10 digits) else Err BadNumber

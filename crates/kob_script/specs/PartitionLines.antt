@@ -29,7 +29,12 @@ fetch asker topic partition offset max = do
   number ← number_of partition
   first ← number_of offset
   most ← number_of max
-  Ok (asks by.asker (Fetch (record { topic = by.name; partition = number; offset = first; max = most })))
+  Ok (asks by.asker (Fetch (record {
+    topic = by.name;
+    partition = number;
+    offset = first;
+    max = most;
+  })))
 
 -- `-2` asks for the start, `-1` for the end
 abbrev pub which_in : List ℕ → Result Which FaultKind

@@ -25,7 +25,8 @@ key_text (Some key) = bytes_text key ++ codes "="
 
 -- OFFSET:KEY=VALUE or OFFSET:VALUE; headers aren't printed
 abbrev pub record_item : ℕ × Record → List ℕ
-record_item (offset, message) = codes " " ++ decimal offset ++ codes ":" ++ key_text message.key ++ bytes_text message.value
+record_item (offset, message) =
+    codes " " ++ decimal offset ++ codes ":" ++ key_text message.key ++ bytes_text message.value
 
 -- a line of its own
 abbrev pub binding_item : ℕ × Binding → List ℕ
@@ -40,7 +41,8 @@ body_text Created = codes "created"
 body_text Deleted = codes "deleted"
 body_text Committed = codes "committed"
 body_text (Serials serials) = codes "serials" ++ flat_map serial_item serials
-body_text (Bindings bindings) = codes "bindings " ++ decimal (length bindings) ++ flat_map binding_item bindings
+body_text (Bindings bindings) =
+    codes "bindings " ++ decimal (length bindings) ++ flat_map binding_item bindings
 body_text (Offset offset) = codes "offset " ++ decimal offset
 body_text (Commit commit) = codes "commit " ++ commit_text commit
 body_text (Records records) = codes "records" ++ flat_map record_item records

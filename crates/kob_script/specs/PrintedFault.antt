@@ -23,4 +23,5 @@ kind_text NoPrincipal = codes "NoPrincipal"
 
 -- the whole output for a script with a fault
 abbrev pub fault_text : Fault → List ℕ
-fault_text fault = codes "fault line " ++ decimal fault.line ++ codes " " ++ kind_text fault.kind ++ codes "\n"
+fault_text fault =
+    codes "fault line " ++ decimal fault.line ++ codes " " ++ kind_text fault.kind ++ codes "\n"

@@ -29,8 +29,10 @@ code_text code = decimal (code_number code) ++ codes " " ++ code_name code
 
 abbrev pub outcome_text : Reply → List ℕ
 outcome_text (Done body) = codes " ok " ++ body_text body
-outcome_text (Denied code verdicts) = codes " denied " ++ code_text code ++ codes " " ++ verdicts_text verdicts
-outcome_text (Refused code reason) = codes " refused " ++ code_text code ++ codes " " ++ reason_name reason
+outcome_text (Denied code verdicts) =
+    codes " denied " ++ code_text code ++ codes " " ++ verdicts_text verdicts
+outcome_text (Refused code reason) =
+    codes " refused " ++ code_text code ++ codes " " ++ reason_name reason
 
 -- a reply with its number
 abbrev pub reply_text : ℕ → Reply → List ℕ

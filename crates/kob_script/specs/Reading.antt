@@ -8,7 +8,8 @@ use Rattle.kob_script.specs.Word.{Word}
 
 -- a step of reading, and those after it unless it failed
 infixl 10 ◌>>=◌
-abbrev pub ◌>>=◌ : {A B : Type 0} → Result A FaultKind → (A → Result B FaultKind) → Result B FaultKind
+abbrev pub ◌>>=◌ : {A B : Type 0} → Result A FaultKind → (A → Result B FaultKind)
+    → Result B FaultKind
 (Ok x) >>= f = f x
 (Err kind) >>= f = Err kind
 
@@ -33,7 +34,8 @@ each read [] = Ok []
 each read (x ∷ xs) = read x >>= λ first. each read xs >>= λ others. Ok (first ∷ others)
 
 -- values that stand before what is read
-abbrev pub with_front : {A : Type 0} → List A → Result (List A) FaultKind → Result (List A) FaultKind
+abbrev pub with_front : {A : Type 0} → List A → Result (List A) FaultKind
+    → Result (List A) FaultKind
 with_front front read = read >>= λ others. Ok (front ++ others)
 
 -- a value in which no fault was found
@@ -47,10 +49,13 @@ found_or kind None = Err kind
 found_or kind (Some x) = Ok x
 
 -- nothing where there is nothing
-abbrev pub optionally : {A B : Type 0} → (A → Result B FaultKind) → Option A → Result (Option B) FaultKind
+abbrev pub optionally : {A B : Type 0} → (A → Result B FaultKind) → Option A
+    → Result (Option B) FaultKind
 optionally read None = Ok None
 optionally read (Some x) = read x >>= λ y. Ok (Some y)
 
 -- nothing for the word `-`, which has to stand without escapes
-abbrev pub unless_dash : {A : Type 0} → (Word → Result A FaultKind) → Word → Result (Option A) FaultKind
-unless_dash read word = if bytes_eq word.raw (codes "-") then Ok None else (read word >>= λ x. Ok (Some x))
+abbrev pub unless_dash : {A : Type 0} → (Word → Result A FaultKind) → Word
+    → Result (Option A) FaultKind
+unless_dash read word =
+    if bytes_eq word.raw (codes "-") then Ok None else (read word >>= λ x. Ok (Some x))

@@ -16,14 +16,17 @@ use Rattle.kob_script.specs.Words.{words_of}
 abbrev pub with_setting : Script → List Word → Result Script FaultKind
 with_setting s arguments =
     if nat_lt 0 (length s.events) then Err LateSetting
-    else (settings_with s.settings arguments >>= λ settings. Ok (record { settings = settings; events = s.events }))
+    else (settings_with s.settings arguments
+    >>= λ settings. Ok (record { settings = settings; events = s.events }))
 
 -- the script with what a line asks for, by clap's answer to it
 abbrev pub with_events : Option CliArgs → Script → List Word → Result Script FaultKind
 with_events answer s words =
-    events_of answer words >>= λ events. Ok (record { settings = s.settings; events = s.events ++ events })
+    events_of answer words >>= λ events. Ok
+    (record { settings = s.settings; events = s.events ++ events })
 
--- the script with a line more, which is a setting or asks for something; a skipped line has no words
+-- the script with a line more, which is a setting or asks for something; a skipped line has no
+-- words
 abbrev pub with_words : Option CliArgs → Script → List Word → Result Script FaultKind
 with_words answer s [] = Ok s
 with_words answer s (first ∷ arguments) =
@@ -42,7 +45,8 @@ abbrev pub then_lines : Result Script Fault → (Script → Result Script Fault)
 then_lines (Ok s) f = f s
 then_lines (Err fault) f = Err fault
 
--- the lines from one on, whose number is given, up to the first fault; clap is not asked, and so no `acl` line is read
+-- the lines from one on, whose number is given, up to the first fault; clap is not asked, and so no
+-- `acl` line is read
 unfoldable pub lines_from : Script → ℕ → List (List ℕ) → Result Script Fault
 lines_from s number [] = Ok s
 lines_from s number (line ∷ lines) =

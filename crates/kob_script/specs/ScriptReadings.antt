@@ -24,10 +24,12 @@ IsAnswerToLine (Err kind) answer = Unit {0}
 -- with a line more, the script may be this
 abbrev pub LineReadsAs : Script → List ℕ → Result Script FaultKind → Type 0
 LineReadsAs s line read =
-    (answer : Option CliArgs) × IsAnswerToLine (words_of line) answer × (with_line answer s line ≡ read)
+    (answer : Option CliArgs) × IsAnswerToLine (words_of line) answer
+    × (with_line answer s line ≡ read)
 
 -- the lines after one may be read as this, unless that one has a fault
-abbrev pub ThenLines : ℕ → Result Script FaultKind → (Script → Type 0) → Result Script Fault → Type 0
+abbrev pub ThenLines : ℕ → Result Script FaultKind → (Script → Type 0) → Result Script Fault
+    → Type 0
 ThenLines number (Ok s) Others read = Others s
 ThenLines number (Err kind) Others read = read ≡ Err (record { line = number; kind = kind })
 
@@ -52,7 +54,8 @@ abbrev pub HasNoAclLine : List ℕ → Type 0
 HasNoAclLine text = list_all (λ line. is_plain (words_of line)) (lines_in text) ≡ true
 
 -- A line was read as it may be, unless memory ran out.
-abbrev pub MayGiveNext : (Result Script FaultKind → Type 0) → Growing → Result (Unit {0}) LineError → Type 0
+abbrev pub MayGiveNext : (Result Script FaultKind → Type 0) → Growing → Result (Unit {0}) LineError
+    → Type 0
 MayGiveNext MayBe growing (Ok done) = MayBe (Ok (grown growing))
 MayGiveNext MayBe growing (Err line_error.Memory) = Unit {0}
 MayGiveNext MayBe growing (Err (line_error.Fault kind)) = MayBe (Err kind)

@@ -24,4 +24,5 @@ super_of _ = Err BadLine
 -- the settings with what the words after `super` say
 abbrev pub settings_with : Settings → List Word → Result Settings FaultKind
 settings_with settings arguments =
-    super_of arguments >>= λ name. Ok (record { supers = settings.supers ++ name ∷ []; opening = settings.opening })
+    super_of arguments >>= λ name. Ok
+    (record { supers = settings.supers ++ name ∷ []; opening = settings.opening })

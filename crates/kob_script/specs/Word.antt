@@ -16,4 +16,6 @@ decoded_or None raw = raw
 
 -- a word, unless a percent sign in it begins no escape
 abbrev pub word_of : List ℕ → Result Word FaultKind
-word_of raw = if has_whole_escapes raw then Ok (record { raw = raw; decoded = bytes_of raw }) else Err BadEscape
+word_of raw =
+    if has_whole_escapes raw then Ok
+    (record { raw = raw; decoded = bytes_of raw }) else Err BadEscape

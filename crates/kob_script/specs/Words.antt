@@ -18,6 +18,7 @@ abbrev pub is_skipped : List (List ℕ) → Bool
 is_skipped [] = true
 is_skipped (first ∷ others) = slice_index first 0 == 35
 
--- the words of a line, none where it is skipped; an escape that is not whole is the first fault to be looked for
+-- the words of a line, none where it is skipped; an escape that is not whole is the first fault to
+-- be looked for
 abbrev pub words_of : List ℕ → Result (List Word) FaultKind
 words_of line = if is_skipped (raw_words line) then Ok [] else each word_of (raw_words line)

@@ -16,8 +16,8 @@ pub fn plain_scripts_have_one_reading()
     // By the definitions.
 }
 
-/// A cut at `=` or at `:` leaves each escape whole, so that the parts of a record and the numbers of
-/// an idempotent producer are read as they stand in their word.
+/// A cut at `=` or at `:` leaves each escape whole, so that the parts of a record and the numbers
+/// of an idempotent producer are read as they stand in their word.
 pub fn cuts_leave_whole_escapes()
     ensures equals { LeavesWhole 61 }
     ensures colon { LeavesWhole 58 }

@@ -28,8 +28,11 @@ entry_is_just opening journal now legal k x at =
     slice_get-map event journal k ∙ ap (option_map event) at in
     let at_reply : slice_get (replies_of m (events_of journal) s) k ≡ Some x.reply =
     ap (λ rs. slice_get rs k) legal.replies ∙ slice_get-map reply journal k ∙ ap (option_map reply) at in
-    let just = run_just m (events_of journal) s (added_rises [] 1 opening.opening (omega arith)) k x.event x.reply at_event at_reply in
+    let just =
+    run_just m (events_of journal) s (added_rises [] 1 opening.opening (omega arith)) k x.event x.reply at_event
+    at_reply in
     let events = take-map event k journal in
     let replies = ap (take k) legal.replies ∙ take-map reply k journal in
     subst (λ rs. IsJust (in_force (events_of (take k journal)) rs s.access) x.event x.reply) replies
-    (subst (λ es. IsJust (in_force es (take k (replies_of m (events_of journal) s)) s.access) x.event x.reply) events just)
+    (subst (λ es. IsJust (in_force es (take k (replies_of m (events_of journal) s)) s.access) x.event x.reply) events
+    just)

@@ -13,13 +13,15 @@ later_stopped Memory = tt
 later_stopped (Stale worker length) = tt
 later_stopped (Full worker) = tt
 
-pub torn_stopped : (opening : Settings) (asked : List (List Event)) (s : FleetStop) → IsTornOnlyWhere opening asked (as_fault s)
+pub torn_stopped : (opening : Settings) (asked : List (List Event)) (s : FleetStop)
+    → IsTornOnlyWhere opening asked (as_fault s)
 torn_stopped opening asked NotBegun = tt
 torn_stopped opening asked Memory = tt
 torn_stopped opening asked (Stale worker length) = tt
 torn_stopped opening asked (Full worker) = tt
 
-pub named_stopped : (count limit events : ℕ) (s : FleetStop) → events ≤ limit → IsNamedWithin count s → IsFullOnlyPast limit events s → NamesWorkerWithin count (as_fault s)
+pub named_stopped : (count limit events : ℕ) (s : FleetStop) → events ≤ limit → IsNamedWithin count s
+    → IsFullOnlyPast limit events s → NamesWorkerWithin count (as_fault s)
 named_stopped count limit events NotBegun fits named full = tt
 named_stopped count limit events Memory fits named full = tt
 named_stopped count limit events (Stale worker length) fits named full = named

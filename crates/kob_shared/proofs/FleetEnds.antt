@@ -20,8 +20,10 @@ use Rattle.kob_shared.specs.Fleets.{IsFleet, IsKept, EachIsAnswered, Follows, as
 use Rattle.kob_shared.proofs.Beginnings.{begins-with}
 use Rattle.kob_shared.proofs.Counted.{length-kept}
 
-pub fleet_of : (opening : State Retained) (first : List Event) (scripts : List Script) (journal : List Entry) (now : State Retained) (told : List (List Receipt)) → IsLegal opening journal now
-    → EachIsAnswered (asked_of_all first scripts) told → IfSome (slice_get told 0) (Follows 0) → IsKept (asked_of_all first scripts) told journal → IsFleet opening first scripts journal now told
+pub fleet_of : (opening : State Retained) (first : List Event) (scripts : List Script) (journal : List Entry)
+    (now : State Retained) (told : List (List Receipt)) → IsLegal opening journal now
+    → EachIsAnswered (asked_of_all first scripts) told → IfSome (slice_get told 0) (Follows 0)
+    → IsKept (asked_of_all first scripts) told journal → IsFleet opening first scripts journal now told
 fleet_of opening first scripts journal now [] legal each begun kept = absurd each
 fleet_of opening first scripts journal now (t ∷ ts) legal each begun kept =
     record {
@@ -33,9 +35,12 @@ fleet_of opening first scripts journal now (t ∷ ts) legal each begun kept =
     }
 
 -- what a fleet of scripts leaves, where its journal is what was noted
-pub scripts_end : {E : Type 0} (opening : Settings) (first : Noted) (scripts : List Script) (done : List (Done E)) (found : Record) (told : List (List Receipt))
-    → IsLegal (opened_by found.opening) found.journal found.broker → (found.opening ≡ opening) × IsAsNoted (notes_of first done) found → Follows 0 first.told
-    → AllZip (λ (s : Script) (d : Done E). d.notes.events ≡ events_of_script s) scripts done → AllZip IsTaken (notes_of first done) told
+pub scripts_end : {E : Type 0} (opening : Settings) (first : Noted) (scripts : List Script) (done : List (Done E))
+    (found : Record) (told : List (List Receipt))
+    → IsLegal (opened_by found.opening) found.journal found.broker
+    → (found.opening ≡ opening) × IsAsNoted (notes_of first done) found → Follows 0 first.told
+    → AllZip (λ (s : Script) (d : Done E). d.notes.events ≡ events_of_script s) scripts done
+    → AllZip IsTaken (notes_of first done) told
     → IsFleet (opened_by opening) first.events scripts found.journal found.broker told
 scripts_end {E} opening first scripts done found told legal kept follows each taken =
     let same = told-taken (notes_of first done) told taken in
@@ -44,15 +49,21 @@ scripts_end {E} opening first scripts done found told legal kept follows each ta
     (subst (λ o. IsLegal (opened_by o) found.journal found.broker) kept.0 legal)
     (subst (λ es. EachIsAnswered es told) asked same.1)
     (subst (λ ts. IfSome (slice_get ts 0) (Follows 0)) (sym same.0) follows)
-    (subst (λ es. IsKept es told found.journal) asked (subst (λ ts. IsKept (events_in (notes_of first done)) ts found.journal) (sym same.0) kept.1))
+    (subst (λ es. IsKept es told found.journal) asked
+    (subst (λ ts. IsKept (events_in (notes_of first done)) ts found.journal) (sym same.0) kept.1))
 
 -- where it is torn
-pub scripts_torn : {E : Type 0} (opening : Settings) (first : Noted) (scripts : List Script) (done : List (Done E)) (found : Record) (told : List (List Receipt)) (d : Difference)
+pub scripts_torn : {E : Type 0} (opening : Settings) (first : Noted) (scripts : List Script) (done : List (Done E))
+    (found : Record) (told : List (List Receipt)) (d : Difference)
     → IsTear opening (notes_of first done) found d
-    → AllZip (λ (s : Script) (d : Done E). d.notes.events ≡ events_of_script s) scripts done → AllZip IsTaken (notes_of first done) told
-    → DifferAt d.worker found.journal (claims_of (asked_of_all first.events scripts) told d.worker) d.place ⊎ ((d.worker ≡ 0) × (found.opening ≢ opening))
+    → AllZip (λ (s : Script) (d : Done E). d.notes.events ≡ events_of_script s) scripts done
+    → AllZip IsTaken (notes_of first done) told
+    → DifferAt d.worker found.journal (claims_of (asked_of_all first.events scripts) told d.worker) d.place
+    ⊎ ((d.worker ≡ 0) × (found.opening ≢ opening))
 scripts_torn {E} opening first scripts done found told d tear each taken =
     let same = told-taken (notes_of first done) told taken in
     let asked = asked-scripts first scripts done each in
-    subst (λ es. DifferAt d.worker found.journal (claims_of es told d.worker) d.place ⊎ ((d.worker ≡ 0) × (found.opening ≢ opening))) asked
-    (subst (λ ts. DifferAt d.worker found.journal (claims_of (events_in (notes_of first done)) ts d.worker) d.place ⊎ ((d.worker ≡ 0) × (found.opening ≢ opening))) (sym same.0) tear)
+    subst (λ es. DifferAt d.worker found.journal (claims_of es told d.worker) d.place
+    ⊎ ((d.worker ≡ 0) × (found.opening ≢ opening))) asked
+    (subst (λ ts. DifferAt d.worker found.journal (claims_of (events_in (notes_of first done)) ts d.worker) d.place
+    ⊎ ((d.worker ≡ 0) × (found.opening ≢ opening))) (sym same.0) tear)

@@ -30,10 +30,12 @@ told_in notes = map (λ (n : Noted). n.told) notes
 abbrev pub IsAsNoted : List Noted → Record → Type 0
 IsAsNoted notes found = IsKept (events_in notes) (told_in notes) found.journal
 
--- the journal differs at the place from what the worker noted; or, for worker 0, another opening was stored
+-- the journal differs at the place from what the worker noted; or, for worker 0, another opening
+-- was stored
 abbrev pub IsTear : Settings → List Noted → Record → Difference → Type 0
 IsTear opening notes found d =
-    DifferAt d.worker found.journal (claims_of (events_in notes) (told_in notes) d.worker) d.place ⊎ ((d.worker ≡ 0) × (found.opening ≢ opening))
+    DifferAt d.worker found.journal (claims_of (events_in notes) (told_in notes) d.worker) d.place
+    ⊎ ((d.worker ≡ 0) × (found.opening ≢ opening))
 
 -- the transcript has the receipts of the notes, one for each event, at rising places
 abbrev pub IsTaken : Noted → List Receipt → Type 0
@@ -62,22 +64,27 @@ abbrev pub IsFullOnlyPast : ℕ → ℕ → FleetStop → Type 0
 IsFullOnlyPast limit count (Full worker) = worker ≡ 0 → limit < count
 IsFullOnlyPast limit count stop = Unit {0}
 
--- the journal has what worker 0 noted and no more, from this opening on, and takes as many entries as a journal may
+-- the journal has what worker 0 noted and no more, from this opening on, and takes as many entries
+-- as a journal may
 pub record HasBegun (settings : Settings) (first : Noted) (found : Record) : Type 0 where
   pub opening : found.opening ≡ settings
   pub limit : found.limit ≡ entry_limit
   pub journal : found.journal ≡ entries_told 0 first.events first.told
 
 -- the result at this place is this fault, and all before it are no faults
-pub record IsFirstFault {T : Type 0} (results : List (Result T CallFault)) (k : ℕ) (fault : CallFault) : Type 0 where
+pub record IsFirstFault {T : Type 0} (results : List (Result T CallFault)) (k : ℕ)
+    (fault : CallFault) : Type 0 where
   pub told : List T
   pub before : take k results ≡ map Ok told
   pub here : slice_get results k ≡ Some (Err fault)
 
--- the first result that is a fault is this one, and its worker is named. Workers count from 1, and want of memory names none
+-- the first result that is a fault is this one, and its worker is named. Workers count from 1, and
+-- want of memory names none
 abbrev pub NamesFirstFault : {T : Type 0} → List (Result T CallFault) → FleetStop → Type 0
-NamesFirstFault results (Stale worker length) = (k : ℕ) × (worker ≡ k + 1) × IsFirstFault results k (calls.Stale length)
-NamesFirstFault results (Full worker) = (k : ℕ) × (worker ≡ k + 1) × IsFirstFault results k calls.JournalFull
+NamesFirstFault results (Stale worker length) =
+    (k : ℕ) × (worker ≡ k + 1) × IsFirstFault results k (calls.Stale length)
+NamesFirstFault results (Full worker) =
+    (k : ℕ) × (worker ≡ k + 1) × IsFirstFault results k calls.JournalFull
 NamesFirstFault results Memory = (k : ℕ) × IsFirstFault results k calls.Memory
 NamesFirstFault results NotBegun = ⊥
 

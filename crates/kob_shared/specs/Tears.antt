@@ -6,10 +6,12 @@ use Rattle.kob_shared.specs.declared.fleet_fault.FleetFault.{FleetFault}
 use Rattle.kob_shared.specs.declared.fleet_fault.FleetFault.TheVariants.{TooManyWorkers, JournalFull, Stale, Full, Torn}
 use Rattle.kob_shared.specs.Fleets.{claims_of, DifferAt}
 
--- the journal that is given back differs at the place from what the worker was told; or, for worker 0, another opening was stored
+-- the journal that is given back differs at the place from what the worker was told; or, for worker
+-- 0, another opening was stored
 abbrev pub IsTornOnlyWhere : Settings → List (List Event) → FleetFault → Type 0
 IsTornOnlyWhere opening asked (Torn worker place found told) =
-    DifferAt worker found.journal (claims_of asked told.items worker) place ⊎ ((worker ≡ 0) × (found.opening ≢ opening))
+    DifferAt worker found.journal (claims_of asked told.items worker) place
+    ⊎ ((worker ≡ 0) × (found.opening ≢ opening))
 IsTornOnlyWhere opening asked fault = Unit {0}
 
 -- a fault that comes after the counts were found to fit

@@ -1,6 +1,7 @@
 //! Holding a journal to what the workers of a fleet were told.
 
-ghost use Rattle.std.specs.Prelude.{◌≡◌, ◌<◌, ◌≤◌, ◌↔◌, IfSome, IsTrue, length, slice_get, MatchOption, Some};
+ghost use Rattle.std.specs.Prelude.{◌≡◌, ◌<◌, ◌≤◌, ◌↔◌, IfSome, IsTrue, length, slice_get};
+ghost use Rattle.std.specs.Prelude.{MatchOption, Some};
 ghost use Rattle.std.specs.List.{All};
 ghost use Rattle.kob_shared.specs.Fleets.{IsRising, mine, claims, DifferAt, claims_of, IsKept};
 ghost use Rattle.kob_shared.specs.Runs.{events_in, notes_of, told_in};

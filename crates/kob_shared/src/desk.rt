@@ -1,6 +1,7 @@
 //! Sessions that note what they are told.
 
-ghost use Rattle.std.specs.Prelude.{◌≡◌, ◌<◌, ◌^◌, length, vec_len, vec_capacity, IfErr, OnOk, OnErr};
+ghost use Rattle.std.specs.Prelude.{◌≡◌, ◌<◌, ◌^◌, length, vec_len, vec_capacity, IfErr, OnOk};
+ghost use Rattle.std.specs.Prelude.{OnErr};
 ghost use Rattle.kob_shared.specs.Noted.{IsHeard, nothing};
 ghost use Rattle.kob_shared.specs.Sessions.{IsStaleOnlyBelow};
 

@@ -1,6 +1,7 @@
 //! Fleets: workers that run at once over one broker.
 
-ghost use Rattle.std.specs.Prelude.{◌≡◌, ◌≤◌, [], length, map, vec_capacity, vec_len, IfOk, IfErr, MatchOption, Ok};
+ghost use Rattle.std.specs.Prelude.{◌≡◌, ◌≤◌, [], length, map, vec_capacity, vec_len, IfOk, IfErr};
+ghost use Rattle.std.specs.Prelude.{MatchOption, Ok};
 ghost use Rattle.std.specs.List.{AllZip};
 ghost use Rattle.kob_broker.specs.Change.{state_of};
 ghost use Rattle.kob_broker.specs.State.{settings_of};
@@ -8,7 +9,8 @@ ghost use Rattle.kob_shared.specs.Limits.{entry_limit, worker_limit};
 ghost use Rattle.kob_shared.specs.Openings.{IsFresh};
 ghost use Rattle.kob_shared.specs.Journals.{IsSound};
 ghost use Rattle.kob_shared.specs.Fleets.{Follows, entries_told};
-ghost use Rattle.kob_shared.specs.Runs.{HasBegun, IsAsNoted, IsFullOnlyPast, IsNamedWithin, IsTear, NamesFirstFault, NamesNoWorker, as_of_worker, notes_of};
+ghost use Rattle.kob_shared.specs.Runs.{HasBegun, IsAsNoted, IsFullOnlyPast, IsNamedWithin, IsTear};
+ghost use Rattle.kob_shared.specs.Runs.{NamesFirstFault, NamesNoWorker, as_of_worker, notes_of};
 
 use crate::compare::{Difference, compare};
 use crate::faults::{CallFault, ServeFault};

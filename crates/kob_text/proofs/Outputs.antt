@@ -33,11 +33,13 @@ pub stopped : {E : Type 0} (s : Script) (done : ℕ) (replies : List Reply) (mad
     → IfOk made (λ output. output.ended ≡ Stopped)
     → IfOk made (λ output. output.text.items ≡ text_of_replies replies ++ stopped_text done)
     → IfOk made (λ output. IsOutput (Ok s) output.ended output.text.items)
-stopped s done replies (Ok output) few first ended text = rw ended (done, few, text ∙ ap (λ (xs : List Reply). text_of_replies xs ++ stopped_text done) first)
+stopped s done replies (Ok output) few first ended text =
+    rw ended (done, few, text ∙ ap (λ (xs : List Reply). text_of_replies xs ++ stopped_text done) first)
 stopped s done replies (Err e) few first ended text = tt
 
 -- the first replies of a broker that gives those of a new one
-pub first_replies : {T E : Type 0} (r : Result T E) (done : E → ℕ) (replies : E → List Reply) (settings : Settings) (events : List Event) (given : List Event → List Reply)
+pub first_replies : {T E : Type 0} (r : Result T E) (done : E → ℕ) (replies : E → List Reply) (settings : Settings)
+    (events : List Event) (given : List Event → List Reply)
     → ((some : List Event) → given some ≡ replies_to settings some)
     → IfErr r (λ e. replies e ≡ given (take (done e) events))
     → IfErr r (λ e. replies e ≡ replies_to settings (take (done e) events))

@@ -19,8 +19,8 @@ use Rattle.kob_script.specs.ScriptReadings.{ReadsAs}
 abbrev pub replies_to : Settings → List Event → List Reply
 replies_to settings events = replies_of plain_meaning events (open_state settings)
 
--- The text is the output for what was read, by how the run ended: all replies, or those to the first requests where
--- memory stopped it, or the fault of the script.
+-- The text is the output for what was read, by how the run ended: all replies, or those to the
+-- first requests where memory stopped it, or the fault of the script.
 abbrev pub IsOutput : Result Script fault.Fault → Ended → List ℕ → Type 0
 IsOutput (Ok s) Clean text = text ≡ text_of_replies (replies_to s.settings s.events)
 IsOutput (Ok s) Stopped text =
@@ -35,7 +35,8 @@ IsOutput (Err fault) Stopped text = ⊥
 abbrev pub HasOutput : Result Script fault.Fault → (List ℕ → Type 0) → Type 0
 HasOutput read P = (ended : Ended) × (text : List ℕ) × IsOutput read ended text × P text
 
--- Something that the bytes may be read as has the property. Bytes without `acl` lines may be read in one way alone.
+-- Something that the bytes may be read as has the property. Bytes without `acl` lines may be read
+-- in one way alone.
 abbrev pub HasReading : List ℕ → (Result Script fault.Fault → Type 0) → Type 0
 HasReading bytes P = (read : Result Script fault.Fault) × ReadsAs bytes read × P read
 

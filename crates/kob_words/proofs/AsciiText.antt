@@ -59,11 +59,14 @@ pattern-ascii Prefixed = literal (codes "PREFIXED") refl
 
 -- a text, and another one after a space
 spaced : (one two : List ℕ) → IsAscii one → IsAscii two → IsAscii (one ++ codes " " ++ two)
-spaced one two first second = IsAscii-append (one ++ codes " ") two (IsAscii-append one (codes " ") first (literal (codes " ") refl)) second
+spaced one two first second =
+    IsAscii-append (one ++ codes " ") two (IsAscii-append one (codes " ") first (literal (codes " ") refl)) second
 
-pub grant-ascii : (b : Binding) → IsAscii (bytes_text b.principal) → IsAscii (bytes_text b.host) → IsAscii (grant_text b)
+pub grant-ascii : (b : Binding) → IsAscii (bytes_text b.principal) → IsAscii (bytes_text b.host)
+    → IsAscii (grant_text b)
 grant-ascii b principal host =
-    spaced (permission_name b.permission ++ codes " " ++ bytes_text b.principal ++ codes " " ++ bytes_text b.host) (operation_name b.operation)
+    spaced (permission_name b.permission ++ codes " " ++ bytes_text b.principal ++ codes " " ++ bytes_text b.host)
+    (operation_name b.operation)
     (spaced (permission_name b.permission ++ codes " " ++ bytes_text b.principal) (bytes_text b.host)
     (spaced (permission_name b.permission) (bytes_text b.principal) (permission-ascii b.permission) principal) host)
     (operation-ascii b.operation)
@@ -71,18 +74,26 @@ grant-ascii b principal host =
 pub target-ascii : (b : Binding) → IsAscii (bytes_text b.pattern.name) → IsAscii (target_text b)
 target-ascii b name =
     spaced (resource_name b.resource ++ codes " " ++ pattern_name b.pattern.kind) (bytes_text b.pattern.name)
-    (spaced (resource_name b.resource) (pattern_name b.pattern.kind) (resource-ascii b.resource) (pattern-ascii b.pattern.kind)) name
+    (spaced (resource_name b.resource) (pattern_name b.pattern.kind) (resource-ascii b.resource)
+    (pattern-ascii b.pattern.kind)) name
 
-pub binding-ascii : (serial : ℕ) (b : Binding) → IsAscii (decimal serial) → IsAscii (grant_text b) → IsAscii (target_text b) → IsAscii (binding_text serial b)
+pub binding-ascii : (serial : ℕ) (b : Binding) → IsAscii (decimal serial) → IsAscii (grant_text b)
+    → IsAscii (target_text b) → IsAscii (binding_text serial b)
 binding-ascii serial b number grant target =
     spaced (codes "binding " ++ decimal serial ++ codes " " ++ grant_text b) (target_text b)
-    (spaced (codes "binding " ++ decimal serial) (grant_text b) (IsAscii-append (codes "binding ") (decimal serial) (literal (codes "binding ") refl) number) grant)
+    (spaced (codes "binding " ++ decimal serial) (grant_text b)
+    (IsAscii-append (codes "binding ") (decimal serial) (literal (codes "binding ") refl) number) grant)
     target
 
 -- one byte more
-pub bytes-ascii-more : (bytes : List ℕ) (i d : ℕ) → i < length bytes → IsAscii (bytes_text (take i bytes)) → IsAscii (byte_text (get_or bytes i d)) → IsAscii (bytes_text (take (i + 1) bytes))
+pub bytes-ascii-more : (bytes : List ℕ) (i d : ℕ) → i < length bytes → IsAscii (bytes_text (take i bytes))
+    → IsAscii (byte_text (get_or bytes i d)) → IsAscii (bytes_text (take (i + 1) bytes))
 bytes-ascii-more bytes i d below before more =
-    rw (take_more bytes i d below, flat_map-append byte_text (take i bytes) (get_or bytes i d ∷ []), append-nil (byte_text (get_or bytes i d)))
+    rw (
+      take_more bytes i d below,
+      flat_map-append byte_text (take i bytes) (get_or bytes i d ∷ []),
+      append-nil (byte_text (get_or bytes i d)),
+    )
     (IsAscii-append (bytes_text (take i bytes)) (byte_text (get_or bytes i d)) before more)
 
 -- a line

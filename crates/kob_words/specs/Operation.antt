@@ -26,7 +26,8 @@ operations =
 
 -- the first of these with a name, in any ASCII case
 abbrev pub operation_among : List Operation → List ℕ → Option Operation
-operation_among among name = find (λ operation. str_eq_ignore_ascii_case name (operation_name operation)) among
+operation_among among name =
+    find (λ operation. str_eq_ignore_ascii_case name (operation_name operation)) among
 
 -- the operation of a name
 abbrev pub operation_named : List ℕ → Option Operation

@@ -14,7 +14,8 @@ pattern_name Prefixed = codes "PREFIXED"
 
 -- the kind of pattern of a name, in any ASCII case
 abbrev pub pattern_named : List ℕ → Option PatternKind
-pattern_named name = find (λ kind. str_eq_ignore_ascii_case name (pattern_name kind)) (Literal ∷ Prefixed ∷ [])
+pattern_named name =
+    find (λ kind. str_eq_ignore_ascii_case name (pattern_name kind)) (Literal ∷ Prefixed ∷ [])
 
 -- a filter for one kind of pattern
 abbrev pub filter_of_kind : PatternKind → FilterPattern

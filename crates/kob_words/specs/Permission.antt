@@ -11,4 +11,6 @@ permission_name Deny = codes "DENY"
 
 -- the permission of a name, in any ASCII case
 abbrev pub permission_named : List ℕ → Option Permission
-permission_named name = find (λ permission. str_eq_ignore_ascii_case name (permission_name permission)) (Allow ∷ Deny ∷ [])
+permission_named name =
+    find (λ permission. str_eq_ignore_ascii_case name (permission_name permission))
+    (Allow ∷ Deny ∷ [])

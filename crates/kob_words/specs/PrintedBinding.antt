@@ -23,4 +23,5 @@ target_text binding =
 -- binding SERIAL PERMISSION PRINCIPAL HOST OPERATION RESOURCE PATTERN NAME
 abbrev pub binding_text : ℕ → Binding → List ℕ
 binding_text serial binding =
-    codes "binding " ++ decimal serial ++ codes " " ++ grant_text binding ++ codes " " ++ target_text binding
+    codes "binding " ++ decimal serial ++ codes " " ++ grant_text binding ++ codes " "
+    ++ target_text binding

@@ -8,7 +8,8 @@ is_plain byte = nat_le 0x21 byte && (nat_le byte 0x7e && (not (byte == 37) && no
 
 -- any other byte is `%` and two hexadecimal digits
 abbrev pub byte_text : ℕ → List ℕ
-byte_text byte = if is_plain byte then byte ∷ [] else 37 ∷ digit_char (byte / 16) ∷ digit_char (byte % 16) ∷ []
+byte_text byte =
+    if is_plain byte then byte ∷ [] else 37 ∷ digit_char (byte / 16) ∷ digit_char (byte % 16) ∷ []
 
 abbrev pub bytes_text : List ℕ → List ℕ
 bytes_text bytes = flat_map byte_text bytes

@@ -16,7 +16,8 @@ resources = Topic ∷ Group ∷ Cluster ∷ TransactionalId ∷ []
 
 -- the first of these with a name, in any ASCII case
 abbrev pub resource_among : List ResourceKind → List ℕ → Option ResourceKind
-resource_among among name = find (λ resource. str_eq_ignore_ascii_case name (resource_name resource)) among
+resource_among among name =
+    find (λ resource. str_eq_ignore_ascii_case name (resource_name resource)) among
 
 -- the kind of resource of a name
 abbrev pub resource_named : List ℕ → Option ResourceKind

@@ -18,33 +18,53 @@ use Rattle.kob_outbox.specs.Blank.{IsBlank}
 use Rattle.kob_outbox.proofs.statements.Plain.{went, same_value, write_settles}
 
 abbrev pub IsCreation : Schema → List ℕ → Table → Type 0
-IsCreation schema text table = (command_of (understood schema text) ≡ CreateTable) × (statement_of text (understood schema text) ≡ text) × (table_defined_by text ≡ Ok table)
+IsCreation schema text table =
+    (command_of (understood schema text) ≡ CreateTable) × (statement_of text (understood schema text) ≡ text)
+    × (table_defined_by text ≡ Ok table)
 
-still_empty : (tables : List Table) (old new : Trees) → AllByRecursion (λ t. old t.tree ≡ []) tables → KeepsRows tables old new → AllByRecursion (λ t. new t.tree ≡ []) tables
+still_empty : (tables : List Table) (old new : Trees) → AllByRecursion (λ t. old t.tree ≡ []) tables
+    → KeepsRows tables old new → AllByRecursion (λ t. new t.tree ≡ []) tables
 still_empty [] old new none keeps = tt
 still_empty (t ∷ tables) old new none keeps = (keeps.0 ∙ none.0, still_empty tables old new none.1 keeps.1)
 
-and_last : (tables : List Table) (last : Table) (db : Trees) → AllByRecursion (λ t. db t.tree ≡ []) tables → db last.tree ≡ [] → AllByRecursion (λ t. db t.tree ≡ []) (tables ++ last ∷ [])
+and_last : (tables : List Table) (last : Table) (db : Trees) → AllByRecursion (λ t. db t.tree ≡ []) tables
+    → db last.tree ≡ [] → AllByRecursion (λ t. db t.tree ≡ []) (tables ++ last ∷ [])
 and_last [] last db none empty = (empty, tt)
 and_last (t ∷ tables) last db none empty = (none.0, and_last tables last db none.1 empty)
 
-module _ (text : List ℕ) (schema : Schema) (table : Table) (is : IsCreation schema text table) (plain : IsPlain (understood schema text)) (uncounted : lacks_sequence (created schema table) ≡ false) where
-  pub creates : (old new : State) (r : Result ℕ Error) → IsBlank schema old → new.step_limit ≡ old.step_limit → Executes text [] old new r → OnOk r (IsBlank (created schema table) new)
+module _ (text : List ℕ) (schema : Schema) (table : Table) (is : IsCreation schema text table)
+    (plain : IsPlain (understood schema text)) (uncounted : lacks_sequence (created schema table) ≡ false) where
+  pub creates : (old new : State) (r : Result ℕ Error) → IsBlank schema old → new.step_limit ≡ old.step_limit
+      → Executes text [] old new r → OnOk r (IsBlank (created schema table) new)
   creates old new (Err e) has limit h = tt
   creates old new (Ok count) has limit h =
-      let ran = subst (λ t. Writes old new None CreateTable t [] count) is.1 (runs_as text [] old new schema has.schema_is CreateTable is.0 plain count h) in
+      let ran =
+      subst (λ t. Writes old new None CreateTable t [] count) is.1
+      (runs_as text [] old new schema has.schema_is CreateTable is.0 plain count h) in
       let all = went ran.changed in
       let first = went all.1 in
       let made = first.1 in
       let both : Ok made.table ≡ Ok table = sym made.defined ∙ is.2 in
       let same : made.table ≡ table = cc in
-      let now_schema : first.0.schema ≡ created schema table = made.is ∙ ap (λ s. created s made.table) has.schema_is ∙ ap (created schema) same in
+      let now_schema : first.0.schema ≡ created schema table =
+      made.is ∙ ap (λ s. created s made.table) has.schema_is ∙ ap (created schema) same in
       let skips : lacks_sequence first.0.schema ≡ false = ap lacks_sequence now_schema ∙ uncounted in
-      let now : new.now ≡ first.0 = ap (λ (p : Tally × Database). p.1) (same_value all.2) ∙ same_value (rw skips at first.2) in
+      let now : new.now ≡ first.0 =
+      ap (λ (p : Tally × Database). p.1) (same_value all.2) ∙ same_value (rw skips at first.2) in
       let settled = write_settles old new CreateTable text [] count has.idle ran in
-      let kept : KeepsRows schema.tables old.now.trees first.0.trees = subst (λ (s : Schema). KeepsRows s.tables old.now.trees first.0.trees) has.schema_is made.others in
-      let fresh : first.0.trees (next_tree schema) ≡ [] = subst (λ s. first.0.trees (next_tree s) ≡ []) has.schema_is made.empty in
+      let kept : KeepsRows schema.tables old.now.trees first.0.trees =
+      subst (λ (s : Schema). KeepsRows s.tables old.now.trees first.0.trees) has.schema_is made.others in
+      let fresh : first.0.trees (next_tree schema) ≡ [] =
+      subst (λ s. first.0.trees (next_tree s) ≡ []) has.schema_is made.empty in
       let none : AllByRecursion (λ t. new.now.trees t.tree ≡ []) (created schema table).tables =
       subst (λ (d : Database). AllByRecursion (λ t. d.trees t.tree ≡ []) (created schema table).tables) (sym now)
-      (and_last schema.tables (record table { tree = next_tree schema }) first.0.trees (still_empty schema.tables old.now.trees first.0.trees has.empty kept) fresh) in
-      record { schema_is = ap (λ (d : Database). d.schema) now ∙ now_schema; settled = settled.0; idle = settled.1; unlimited = limit ∙ has.unlimited; empty = none }
+      (and_last schema.tables (record table { tree = next_tree schema }) first.0.trees
+      (still_empty schema.tables old.now.trees first.0.trees has.empty kept) fresh) in
+      record {
+        schema_is = ap (λ (d : Database). d.schema) now
+            ∙ now_schema;
+        settled = settled.0;
+        idle = settled.1;
+        unlimited = limit ∙ has.unlimited;
+        empty = none;
+      }

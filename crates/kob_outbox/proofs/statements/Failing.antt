@@ -45,10 +45,13 @@ quietly false true h = absurd cc
 quietly false false h = h
 
 -- a statement that does not end the transaction in which it runs
-pub stays_inside : (sql : List ℕ) (params : Row) (old : State) (schema : Schema) (command : Command) → old.now.schema ≡ schema → command_of (understood schema sql) ≡ command → ¬ (Escapes 0 old command) → ¬ (EndsScope 0 sql params old)
+pub stays_inside : (sql : List ℕ) (params : Row) (old : State) (schema : Schema) (command : Command)
+    → old.now.schema ≡ schema → command_of (understood schema sql) ≡ command → ¬ (Escapes 0 old command)
+    → ¬ (EndsScope 0 sql params old)
 unfolding EndsScope
 stays_inside sql params old schema command has is not_out (c, it, out) =
-    let same : c.command ≡ command = ap command_of (sym it.is ∙ ap (λ s. understood s sql) has) ∙ is in not_out (subst (Escapes 0 old) same out)
+    let same : c.command ≡ command = ap command_of (sym it.is ∙ ap (λ s. understood s sql) has) ∙ is in
+    not_out (subst (Escapes 0 old) same out)
 
 module _ (old new : State) (never : NeverFails old new) where
   fails_or : (TooBig : Type 0) (e : Error) → Fails old new TooBig e → IsMemory e ⊎ TooBig
@@ -62,7 +65,8 @@ module _ (old new : State) (never : NeverFails old new) where
   fails_so : (e : Error) → Fails old new ⊥ e → IsMemory e
   fails_so e h = elim (fails_or ⊥ e h) [ inl is ↦ is | inr never ↦ absurd never ]
 
-  module _ (sql : List ℕ) (params : Row) (schema : Schema) (has : old.now.schema ≡ schema) (plain : IsPlain (understood schema sql)) (whole : IsWhole (length params) sql (understood schema sql)) where
+  module _ (sql : List ℕ) (params : Row) (schema : Schema) (has : old.now.schema ≡ schema)
+      (plain : IsPlain (understood schema sql)) (whole : IsWhole (length params) sql (understood schema sql)) where
     is_statement : (e : Error) → ¬ (IsNoStatement old sql params e)
     is_statement e (inl h) = subst IsPlain (sym (ap (λ s. understood s sql) has) ∙ h.1) plain
     is_statement e (inr h) =
@@ -74,9 +78,13 @@ module _ (old new : State) (never : NeverFails old new) where
           | inr (inr timed) ↦ timed.0 (subst IsPlain known plain).1
         ]
 
-    module _ (q : Query) (names : List (List ℕ)) (is : command_of (understood schema sql) ≡ Select (record { lets = []; body = q }) names) (unlisted : reads_listing schema sql ≡ false)
-        (accepted : accepts_program schema [] q params ≡ true) (sure : (db : Trees) → ¬ (ProgramOverflows db params [] [] q)) where
-      refused_so : (e : Error) → ¬ (RefusesToRead old.step_limit (Select (record { lets = []; body = q }) names) old.now params e)
+    module _ (q : Query) (names : List (List ℕ))
+        (is : command_of (understood schema sql) ≡ Select (record { lets = []; body = q }) names)
+        (unlisted : reads_listing schema sql ≡ false)
+        (accepted : accepts_program schema [] q params ≡ true)
+        (sure : (db : Trees) → ¬ (ProgramOverflows db params [] [] q)) where
+      refused_so : (e : Error) → ¬ (RefusesToRead old.step_limit
+          (Select (record { lets = []; body = q }) names) old.now params e)
       refused_so e (inl h) = let no = sym (ap (λ s. accepts_program s [] q params) has ∙ accepted) ∙ h.1 in cc
       refused_so e (inr (inl h)) = sure old.now.trees h.1
       refused_so e (inr (inr h)) = let some = rw never.unlimited at h.1 in cc
@@ -90,14 +98,20 @@ module _ (old new : State) (never : NeverFails old new) where
           let known = sym h.1.is ∙ ap (λ s. understood s sql) has in
           let bare = subst IsPlain (sym known) plain in
           let it = rw (bare.0, bare.1, append-nil params) at h.2 in
-          let db : it.0 ≡ old.now = subst (λ b. IsSourceOf b old.now it.0) (ap (λ s. reads_listing s sql) has ∙ unlisted) it.1 in
-          absurd (refused_so e (subst₂ (λ k d. RefusesToRead old.step_limit k d params e) (ap command_of known ∙ is) db it.2))
+          let db : it.0 ≡ old.now =
+          subst (λ b. IsSourceOf b old.now it.0) (ap (λ s. reads_listing s sql) has ∙ unlisted) it.1 in
+          absurd (refused_so e (subst₂ (λ k d. RefusesToRead old.step_limit k d params e)
+          (ap command_of known ∙ is) db it.2))
 
     -- what a command that writes rows makes of the database, or why it stops
     abbrev Writing : Command → Type 0
-    Writing command = (text : List ℕ) × (stop : Option Error) × Does old.step_limit (mode_of old) params old.now text None command (Err stop)
+    Writing command =
+        (text : List ℕ) × (stop : Option Error)
+        × Does old.step_limit (mode_of old) params old.now text None command (Err stop)
 
-    module _ (command : Command) (is : command_of (understood schema sql) ≡ command) (quiet : (is_query command || is_pragma command) ≡ false) (placed : (e : Error) → ¬ (IsMisplaced old command e)) where
+    module _ (command : Command) (is : command_of (understood schema sql) ≡ command)
+        (quiet : (is_query command || is_pragma command) ≡ false)
+        (placed : (e : Error) → ¬ (IsMisplaced old command e)) where
       -- a write fails for want of memory, or the database refuses what it asks
       pub for_memory_or : (e : Error) → Executes sql params old new (Err e) → IsMemory e ⊎ Writing command
       unfolding ExecutesIn IsNotRun
@@ -107,7 +121,8 @@ module _ (old new : State) (never : NeverFails old new) where
           let known = sym h.1.is ∙ ap (λ s. understood s sql) has in
           let bare = subst IsPlain (sym known) plain in
           let same : h.0.command ≡ command = ap command_of known ∙ is in
-          let silent : shows_rows false h.0 ≡ false = rw (same, bare.0) (quietly (is_query command) (is_pragma command) quiet) in
+          let silent : shows_rows false h.0 ≡ false =
+          rw (same, bare.0) (quietly (is_query command) (is_pragma command) quiet) in
           elim (rw (silent, bare.0, bare.1, append-nil params, same) at h.2) [
             | inl refused ↦ elim refused.0 [
               | inl misplaced ↦ absurd (placed e misplaced)
@@ -128,9 +143,13 @@ no_sum q t over params db (inl h) = rw over.0 at h
 no_sum q t over params db (inr h) = let it = rw over.1 at h in it.4
 
 -- a column that can be read is not read for want of memory alone
-pub readable_fails : (at : ℕ) (v : Value) (e : Error) (Readable : Type 0) → IsReadError at v e → (e ≢ SqliteFailure code.OutOfMemory → ¬ Readable) → Readable → e ≡ SqliteFailure code.OutOfMemory
+pub readable_fails : (at : ℕ) (v : Value) (e : Error) (Readable : Type 0) → IsReadError at v e
+    → (e ≢ SqliteFailure code.OutOfMemory → ¬ Readable) → Readable → e ≡ SqliteFailure code.OutOfMemory
 readable_fails at v e Readable (inl is) none readable = absurd (none (λ other. let no = sym is ∙ other in cc) readable)
-readable_fails at v e Readable (inr (inl is)) none readable = absurd (none (λ other. let no = sym is ∙ other in cc) readable)
-readable_fails at v e Readable (inr (inr (inl is))) none readable = absurd (none (λ other. let no = sym is ∙ other in cc) readable)
-readable_fails at v e Readable (inr (inr (inr (inl is)))) none readable = absurd (none (λ other. let no = sym is ∙ other in cc) readable)
+readable_fails at v e Readable (inr (inl is)) none readable =
+    absurd (none (λ other. let no = sym is ∙ other in cc) readable)
+readable_fails at v e Readable (inr (inr (inl is))) none readable =
+    absurd (none (λ other. let no = sym is ∙ other in cc) readable)
+readable_fails at v e Readable (inr (inr (inr (inl is)))) none readable =
+    absurd (none (λ other. let no = sym is ∙ other in cc) readable)
 readable_fails at v e Readable (inr (inr (inr (inr is)))) none readable = is

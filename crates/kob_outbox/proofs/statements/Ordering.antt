@@ -19,13 +19,18 @@ backwards (x ∷ xs) = backwards xs ++ x ∷ []
 
 pub turned : {A : Type 0} (xs : List A) → IsPermutation xs (backwards xs)
 turned [] = IsPermutation-refl []
-turned (x ∷ xs) = IsPermutation-trans _ _ _ (IsPermutation-cons x xs (backwards xs) (turned xs)) (IsPermutation-sym _ _ (IsPermutation-to_front (backwards xs) x))
+turned (x ∷ xs) =
+    IsPermutation-trans _ _ _ (IsPermutation-cons x xs (backwards xs) (turned xs))
+    (IsPermutation-sym _ _ (IsPermutation-to_front (backwards xs) x))
 
 -- a list that falls rises backwards
-pub ascending_back : {A : Type 0} (R : A → A → Type 0) (xs : List A) → IsAscending (λ a b. R b a) xs → IsAscending R (backwards xs)
+pub ascending_back : {A : Type 0} (R : A → A → Type 0) (xs : List A) → IsAscending (λ a b. R b a) xs
+    → IsAscending R (backwards xs)
 ascending_back R [] up = tt
 ascending_back R (x ∷ xs) up =
-    ascending-append R (backwards xs) (x ∷ []) (ascending_back R xs up.1) (tt, tt) (all-permutation _ xs (backwards xs) (turned xs) (all_weaker (λ y. R y x) (λ y. R y x × Unit {0}) (λ y h. (h, tt)) xs up.0))
+    ascending-append R (backwards xs) (x ∷ []) (ascending_back R xs up.1) (tt, tt)
+    (all-permutation _ xs (backwards xs) (turned xs)
+    (all_weaker (λ y. R y x) (λ y. R y x × Unit {0}) (λ y h. (h, tt)) xs up.0))
 
 -- a query without a condition takes each row
 pub each_row : {A B : Type 0} (f : A → B) (rows : List A) → flat_map (λ r. f r ∷ []) rows ≡ map f rows

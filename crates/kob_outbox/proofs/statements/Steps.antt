@@ -48,62 +48,93 @@ abbrev pub uncounted : Table → Table
 uncounted table = record table { is_counted = false; stamps = record { places = []; terms = []; formats = [] } }
 
 abbrev pub task_on : Option ℕ → Keys → Schema → Table → Row → Task
-task_on limit keys schema table params = record { limit = limit; keys = keys; schema = schema; table = uncounted table; params = params }
+task_on limit keys schema table params =
+    record { limit = limit; keys = keys; schema = schema; table = uncounted table; params = params }
 
 abbrev pub IsAlone : Schema → Keys → ℕ → Type 0
 IsAlone schema keys tree = (olds news : List Row) → works schema keys 0 tree olds news ≡ []
 
-module _ (limit : Option ℕ) (keys : Keys) (schema : Schema) (table : Table) (params : Row) (alone : IsAlone schema keys table.tree) where
+module _ (limit : Option ℕ) (keys : Keys) (schema : Schema) (table : Table) (params : Row)
+    (alone : IsAlone schema keys table.tree) where
   pub applies : (db next : Trees) (gone : List ℤ) (news : List Row)
       → Edited schema keys db (record { table = uncounted table; gone = gone; news = news }) (Ok next)
       → Applies schema keys db (record { table = uncounted table; gone = gone; news = news }) next
   applies db next gone news h =
-      let edit : Edit = record { table = uncounted table; gone = gone; news = news } in one_step schema keys db next edit (alone (taken_by db edit) news) h
+      let edit : Edit = record { table = uncounted table; gone = gone; news = news } in
+      one_step schema keys db next edit (alone (taken_by db edit) news) h
 
-  pub inserted : (from : Source) (db : Trees) (w : Written) → Inserts (task_on limit keys schema table params) from db (Ok w)
+  pub inserted : (from : Source) (db : Trees) (w : Written)
+      → Inserts (task_on limit keys schema table params) from db (Ok w)
       → (rows : List Row) × IsSource (record { schema = schema; trees = db }) (params ++ []) from rows
-      × Applies schema keys db (edit_of db (uncounted table) [] Chosen 0 rows) w.trees × (w.rows ≡ (edit_of db (uncounted table) [] Chosen 0 rows).news)
+      × Applies schema keys db (edit_of db (uncounted table) [] Chosen 0 rows) w.trees
+      × (w.rows ≡ (edit_of db (uncounted table) [] Chosen 0 rows).news)
   inserted from db w h =
       let given = went h in
       let counted = went given.2 in
       let written = went counted.2 in
       let late = went written.2 in
-      let is : w ≡ record { trees = late.0; rows = (edit_of db (uncounted table) [] Chosen 0 given.0).news; last = last_id (edit_of db (uncounted table) [] Chosen 0 given.0).news } = same_value late.2 in
+      let is : w ≡ record {
+        trees = late.0;
+        rows = (edit_of db (uncounted table) [] Chosen 0 given.0).news;
+        last = last_id (edit_of db (uncounted table) [] Chosen 0 given.0).news;
+      } = same_value late.2 in
       let trees : w.trees ≡ written.0 = ap (λ (it : Written). it.trees) is ∙ same_value late.1 in
-      let edit = edit_of db (uncounted table) [] Chosen 0 given.0 in
-      (given.0, given.1, subst (Applies schema keys db edit) (sym trees) (applies db written.0 [] edit.news written.1), ap (λ (it : Written). it.rows) is)
+      let edit = edit_of db (uncounted table) [] Chosen 0 given.0 in (
+        given.0,
+        given.1,
+        subst (Applies schema keys db edit) (sym trees) (applies db written.0 [] edit.news written.1),
+        ap (λ (it : Written). it.rows) is,
+      )
 
   pub deleted : (q : Program) (db : Trees) (w : Written) → Deletes (task_on limit keys schema table params) q db (Ok w)
       → (rows : List Row) × Answers (record { schema = schema; trees = db }) q params rows
-      × Applies schema keys db (edit_of db (uncounted table) (ids_of rows) Given 0 []) w.trees × (w.rows ≡ taken_by db (edit_of db (uncounted table) (ids_of rows) Given 0 []))
+      × Applies schema keys db (edit_of db (uncounted table) (ids_of rows) Given 0 []) w.trees
+      × (w.rows ≡ taken_by db (edit_of db (uncounted table) (ids_of rows) Given 0 []))
   deleted q db w h =
       let given = went h in
       let written = went given.2 in
       let edit = edit_of db (uncounted table) (ids_of given.0) Given 0 [] in
-      let is : w ≡ record { trees = written.0; rows = taken_by db edit; last = None } = same_value written.2 in
-      (given.0, given.1, subst (Applies schema keys db edit) (sym (ap (λ (it : Written). it.trees) is)) (applies db written.0 (ids_of given.0) [] written.1), ap (λ (it : Written). it.rows) is)
+      let is : w ≡ record { trees = written.0; rows = taken_by db edit; last = None } = same_value written.2 in (
+        given.0,
+        given.1,
+        subst (Applies schema keys db edit) (sym (ap (λ (it : Written). it.trees) is))
+            (applies db written.0 (ids_of given.0) [] written.1),
+        ap (λ (it : Written). it.rows) is,
+      )
 
-  pub updated : (q : Program) (db : Trees) (w : Written) → Updates (task_on limit keys schema table params) q params db (Ok w)
+  pub updated : (q : Program) (db : Trees) (w : Written)
+      → Updates (task_on limit keys schema table params) q params db (Ok w)
       → (rows : List Row) × Answers (record { schema = schema; trees = db }) q params rows
-      × Applies schema keys db (edit_of db (uncounted table) (ids_of rows) Given 1 rows) w.trees × (w.rows ≡ (edit_of db (uncounted table) (ids_of rows) Given 1 rows).news)
+      × Applies schema keys db (edit_of db (uncounted table) (ids_of rows) Given 1 rows) w.trees
+      × (w.rows ≡ (edit_of db (uncounted table) (ids_of rows) Given 1 rows).news)
   updated q db w h =
       let given = went h in
       let written = went given.2 in
       let edit = edit_of db (uncounted table) (ids_of given.0) Given 1 given.0 in
-      let is : w ≡ record { trees = written.0; rows = edit.news; last = None } = same_value written.2 in
-      (given.0, given.1, subst (Applies schema keys db edit) (sym (ap (λ (it : Written). it.trees) is)) (applies db written.0 (ids_of given.0) edit.news written.1), ap (λ (it : Written). it.rows) is)
+      let is : w ≡ record { trees = written.0; rows = edit.news; last = None } = same_value written.2 in (
+        given.0,
+        given.1,
+        subst (Applies schema keys db edit) (sym (ap (λ (it : Written). it.trees) is))
+            (applies db written.0 (ids_of given.0) edit.news written.1),
+        ap (λ (it : Written). it.rows) is,
+      )
 
   pub put : (new : Row) (db : Trees) (w : Written) → Puts (task_on limit keys schema table params) new db (Ok w)
-      → Applies schema keys db (edit_of db (uncounted table) [] Given 0 (new ∷ [])) w.trees × (w.rows ≡ (edit_of db (uncounted table) [] Given 0 (new ∷ [])).news)
+      → Applies schema keys db (edit_of db (uncounted table) [] Given 0 (new ∷ [])) w.trees
+      × (w.rows ≡ (edit_of db (uncounted table) [] Given 0 (new ∷ [])).news)
   put new db w h =
       let written = went h in
       let edit = edit_of db (uncounted table) [] Given 0 (new ∷ []) in
-      let is : w ≡ record { trees = written.0; rows = edit.news; last = last_id edit.news } = same_value written.2 in
-      (subst (Applies schema keys db edit) (sym (ap (λ (it : Written). it.trees) is)) (applies db written.0 [] edit.news written.1), ap (λ (it : Written). it.rows) is)
+      let is : w ≡ record { trees = written.0; rows = edit.news; last = last_id edit.news } = same_value written.2 in (
+        subst (Applies schema keys db edit) (sym (ap (λ (it : Written). it.trees) is))
+            (applies db written.0 [] edit.news written.1),
+        ap (λ (it : Written). it.rows) is,
+      )
 
   -- the row that is tried
   abbrev pub candidate : Conflict → Trees → Row → Row
-  candidate way db source = with_rowid Chosen (db table.tree) (cast_row (uncounted table) (mended way (uncounted table) source))
+  candidate way db source =
+      with_rowid Chosen (db table.tree) (cast_row (uncounted table) (mended way (uncounted table) source))
 
   -- what was tried with one row
   pub record Tried (way : Conflict) (db : Trees) (w : Written) (new : Row) : Type 0 where
@@ -117,20 +148,25 @@ module _ (limit : Option ℕ) (keys : Keys) (schema : Schema) (table : Table) (p
   abbrev After : Conflict → Trees → Written → List Row → Type 0
   After way db w rows =
       let task = task_on limit keys schema table params in
-      Then (Counter task db) (λ counter. Then (TriesEach task way [] rows (count_of counter) (nothing db)) (λ done. Then (Counts task done.0.trees counter done.1) (λ next. Gives (record done.0 { trees = next })))) (Ok w)
+      Then (Counter task db) (λ counter. Then (TriesEach task way [] rows (count_of counter) (nothing db))
+      (λ done. Then (Counts task done.0.trees counter done.1) (λ next. Gives (record done.0 { trees = next }))))
+      (Ok w)
 
-  one_tried : (way : Conflict) (source : Row) (db : Trees) (w : Written) → After way db w (source ∷ []) → Tried way db w (candidate way db source)
+  one_tried : (way : Conflict) (source : Row) (db : Trees) (w : Written) → After way db w (source ∷ [])
+      → Tried way db w (candidate way db source)
   one_tried way source db w h =
       let counted = went h in
       let each = went counted.2 in
       let late = went each.2 in
       let one = went each.1 in
-      let judged : (verdict : Option Refusal) × IsJudged (uncounted table) (candidate way db source) verdict × Judged (task_on limit keys schema table params) way [] (candidate way db source) db verdict (Ok one.0) =
+      let judged : (verdict : Option Refusal) × IsJudged (uncounted table) (candidate way db source) verdict
+      × Judged (task_on limit keys schema table params) way [] (candidate way db source) db verdict (Ok one.0) =
       elim one.1 [
         | inl refused ↦ absurd (let e = refused.1 in cc)
         | inr judged ↦ judged
       ] in
-      let done : each.0.0 ≡ record { trees = one.0.trees; rows = one.0.rows; last = option_or one.0.last None } = ap (λ (p : Written × ℤ). p.0) (same_value one.2) in
+      let done : each.0.0 ≡ record { trees = one.0.trees; rows = one.0.rows; last = option_or one.0.last None } =
+      ap (λ (p : Written × ℤ). p.0) (same_value one.2) in
       let is : w ≡ record each.0.0 { trees = late.0 } = same_value late.2 in
       record {
         one = one.0;
@@ -141,8 +177,10 @@ module _ (limit : Option ℕ) (keys : Keys) (schema : Schema) (table : Table) (p
         does = judged.2;
       }
 
-  pub tried : (way : Conflict) (terms : List Term) (width : ℕ) (source : Row) (db : Trees) (w : Written) → value_rows (params ++ []) width (length terms / width) terms ≡ source ∷ []
-      → InsertsOr (task_on limit keys schema table params) way [] (Values terms width) db (Ok w) → Tried way db w (candidate way db source)
+  pub tried : (way : Conflict) (terms : List Term) (width : ℕ) (source : Row) (db : Trees) (w : Written)
+      → value_rows (params ++ []) width (length terms / width) terms ≡ source ∷ []
+      → InsertsOr (task_on limit keys schema table params) way [] (Values terms width) db (Ok w)
+      → Tried way db w (candidate way db source)
   tried way terms width source db w is h =
       let given = went h in
       one_tried way source db w (subst (After way db w) (given.1.1 ∙ is) given.2)

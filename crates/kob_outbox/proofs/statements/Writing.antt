@@ -17,7 +17,8 @@ use Rattle.kob_outbox.proofs.statements.Plain.{went, same_value}
 use Rattle.kob_outbox.proofs.statements.Steps.{uncounted, task_on}
 
 -- what a statement on the rows of a table did
-pub record Wrote (schema : Schema) (table : Table) (params : Row) (command : Command) (old new : State) (count : ℕ) : Type 0 where
+pub record Wrote (schema : Schema) (table : Table) (params : Row) (command : Command) (old new : State)
+    (count : ℕ) : Type 0 where
   pub written : Written
   pub does : WritesRows (task_on old.step_limit Enforced schema table params) old.now.trees command (Ok written)
   pub now : new.now ≡ record { schema = schema; trees = written.trees }
@@ -28,25 +29,47 @@ pub record Wrote (schema : Schema) (table : Table) (params : Row) (command : Com
 -- the command is one on the rows of the table at this place
 abbrev pub IsOnRows : Command → ℕ → Type 0
 IsOnRows command at =
-    (limit : Option ℕ) (mode : Mode) (params : Row) (db : Database) (text : List ℕ) (p : Tally × Database) → Does limit mode params db text None command (Ok p)
+    (limit : Option ℕ) (mode : Mode) (params : Row) (db : Database) (text : List ℕ) (p : Tally × Database)
+    → Does limit mode params db text None command (Ok p)
     → OnTable limit mode params db at (λ task. OnRows task mode None command db.trees) (Ok p)
 
-module _ (sql : List ℕ) (params : Row) (old new : State) (schema : Schema) (has : old.now.schema ≡ schema) (command : Command) (is : command_of (understood schema sql) ≡ command)
-    (plain : IsPlain (understood schema sql)) (at : ℕ) (table : Table) (found : slice_get schema.tables at ≡ Some (uncounted table)) (on : IsOnRows command at)
-    (runs : (text : List ℕ) (count : ℕ) → Runs old new None command text params count → Writes old new None command text params count) where
+module _ (sql : List ℕ) (params : Row) (old new : State) (schema : Schema) (has : old.now.schema ≡ schema)
+    (command : Command) (is : command_of (understood schema sql) ≡ command)
+    (plain : IsPlain (understood schema sql)) (at : ℕ) (table : Table)
+    (found : slice_get schema.tables at ≡ Some (uncounted table)) (on : IsOnRows command at)
+    (runs : (text : List ℕ) (count : ℕ) → Runs old new None command text params count
+    → Writes old new None command text params count) where
   pub wrote : (count : ℕ) → Executes sql params old new (Ok count) → Wrote schema table params command old new count
   wrote count h =
-      let w = runs (statement_of sql (understood schema sql)) count (runs_as sql params old new schema has command is plain count h) in
+      let w = runs (statement_of sql (understood schema sql)) count
+      (runs_as sql params old new schema has command is plain count h) in
       let text = statement_of sql (understood schema sql) in
       let mode = mode_of old in
-      let done = on old.step_limit mode params (record { schema = schema; trees = old.now.trees }) text (w.tally, new.now)
-      (subst (λ s. Does old.step_limit mode params (record old.now { schema = s }) text None command (Ok (w.tally, new.now))) has w.changed) in
-      let placed : OnRows (task_on old.step_limit Enforced schema table params) mode None command old.now.trees (Ok (w.tally, new.now)) =
-      subst (λ o. AtPlace (λ t. OnRows (record { limit = old.step_limit; keys = Enforced; schema = schema; table = t; params = params }) mode None command old.now.trees) o (Ok (w.tally, new.now))) found done in
+      let done =
+      on old.step_limit mode params (record { schema = schema; trees = old.now.trees }) text (w.tally, new.now)
+      (subst (λ s. Does old.step_limit mode params (record old.now { schema = s }) text None command
+      (Ok (w.tally, new.now))) has w.changed) in
+      let placed : OnRows (task_on old.step_limit Enforced schema table params) mode None command old.now.trees
+      (Ok (w.tally, new.now)) =
+      subst (λ o. AtPlace (λ t. OnRows (record {
+        limit = old.step_limit;
+        keys = Enforced;
+        schema = schema;
+        table = t;
+        params = params;
+      }) mode None command old.now.trees) o (Ok (w.tally, new.now))) found done in
       let rows = went placed in
       let tested = went rows.2 in
       let shown = went tested.2 in
-      let same : (w.tally, new.now) ≡ (record { rows = Some (length rows.0.rows); last = rows.0.last; shown = shown.0; in_doubt = tested.0 }, record { schema = schema; trees = rows.0.trees }) = same_value shown.2 in
+      let same : (w.tally, new.now) ≡ (
+        record {
+          rows = Some (length rows.0.rows);
+          last = rows.0.last;
+          shown = shown.0;
+          in_doubt = tested.0;
+        },
+        record { schema = schema; trees = rows.0.trees },
+      ) = same_value shown.2 in
       record {
         written = rows.0;
         does = rows.1;

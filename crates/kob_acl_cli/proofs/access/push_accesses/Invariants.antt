@@ -3,4 +3,5 @@ use Rattle.kob_acl_cli.specs.Accesses.{accesses_to}
 use Rattle.kob_acl_cli.proofs.access.push_accesses.Given as goal
 
 abbrev pub invariant-loop-target : goal.invariant-loop-target
-invariant-loop-target l = l.made.items ≡ l.initial.made.items ++ accesses_to l.operations (take l.target-index l.targets)
+invariant-loop-target l =
+    l.made.items ≡ l.initial.made.items ++ accesses_to l.operations (take l.target-index l.targets)

@@ -4,4 +4,6 @@ use Rattle.kob_acl_cli.specs.Rules.{draft_of}
 use Rattle.kob_acl_cli.proofs.commands.creation.Given as goal
 
 abbrev pub invariant-loop-rule : goal.invariant-loop-rule
-invariant-loop-rule l = (l.yielded ++ into_iter_items l.rule-iterator ≡ into_iter_items l.initial.rule-iterator) × (l.drafts.items ≡ map draft_of l.yielded)
+invariant-loop-rule l =
+    (l.yielded ++ into_iter_items l.rule-iterator ≡ into_iter_items l.initial.rule-iterator)
+    × (l.drafts.items ≡ map draft_of l.yielded)

@@ -4,4 +4,6 @@ use Rattle.kob_acl_cli.specs.Commands.{removal}
 use Rattle.kob_acl_cli.proofs.commands.removals_of_rules.Given as goal
 
 abbrev pub invariant-loop-rule : goal.invariant-loop-rule
-invariant-loop-rule l = (l.yielded ++ into_iter_items l.rule-iterator ≡ into_iter_items l.initial.rule-iterator) × (l.made.items ≡ map removal l.yielded)
+invariant-loop-rule l =
+    (l.yielded ++ into_iter_items l.rule-iterator ≡ into_iter_items l.initial.rule-iterator)
+    × (l.made.items ≡ map removal l.yielded)

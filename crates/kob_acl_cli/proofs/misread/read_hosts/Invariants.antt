@@ -4,4 +4,5 @@ use Rattle.kob_acl_cli.specs.Misread.{is_no_host}
 use Rattle.kob_acl_cli.proofs.misread.read_hosts.Given as goal
 
 abbrev pub invariant-loop-word : goal.invariant-loop-word
-invariant-loop-word l = (filter is_no_host (take l.word-index l.words) ≡ []) × (l.hosts.items ≡ take l.word-index l.words)
+invariant-loop-word l =
+    (filter is_no_host (take l.word-index l.words) ≡ []) × (l.hosts.items ≡ take l.word-index l.words)

@@ -5,4 +5,6 @@ use Rattle.kob_acl_cli.specs.Parts.{operations_named}
 use Rattle.kob_acl_cli.proofs.misread.read_operations.Given as goal
 
 abbrev pub invariant-loop-word : goal.invariant-loop-word
-invariant-loop-word l = (filter is_no_operation (take l.word-index l.words) ≡ []) × (l.operations.items ≡ operations_named (take l.word-index l.words))
+invariant-loop-word l =
+    (filter is_no_operation (take l.word-index l.words) ≡ [])
+    × (l.operations.items ≡ operations_named (take l.word-index l.words))

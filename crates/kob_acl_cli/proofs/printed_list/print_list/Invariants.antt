@@ -4,4 +4,5 @@ use Rattle.kob_acl_cli.specs.PrintedList.{list_text}
 use Rattle.kob_acl_cli.proofs.printed_list.print_list.Given as goal
 
 abbrev pub invariant-loop-serial : goal.invariant-loop-serial
-invariant-loop-serial l = (l.out.items ≡ list_text (take l.serial-index l.bindings)) × IsAscii (list_text (take l.serial-index l.bindings))
+invariant-loop-serial l =
+    (l.out.items ≡ list_text (take l.serial-index l.bindings)) × IsAscii (list_text (take l.serial-index l.bindings))

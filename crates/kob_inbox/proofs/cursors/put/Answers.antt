@@ -4,4 +4,5 @@ use Rattle.kob_inbox.proofs.cursors.put.Goals as goal
 
 pub returns : goal.returns
 returns c =
-    c.push_reserved.ensures.items ∙ sym (moved_new c.args.cursors.now.items (record { place = c.args.place; position = c.args.position; uncommitted = false }) c.requires.unknown)
+    c.push_reserved.ensures.items ∙ sym (moved_new c.args.cursors.now.items
+    (record { place = c.args.place; position = c.args.position; uncommitted = false }) c.requires.unknown)

@@ -10,10 +10,12 @@ use Rattle.kob_inbox.proofs.reads.all_rows.Goals as goal
 
 pub rows_of-requires : goal.rows_of-requires
 rows_of-requires c =
-    subst (AllByRecursion IsShown) (sym (c.deref.ensures.value ∙ c.in_ok-select_taken.ensures.rows)) (all_shown 1 (contents c.args.conn.now) c.requires.holds.readable)
+    subst (AllByRecursion IsShown) (sym (c.deref.ensures.value ∙ c.in_ok-select_taken.ensures.rows))
+    (all_shown 1 (contents c.args.conn.now) c.requires.holds.readable)
 
 pub returns-clause-rows : goal.returns-clause-rows
 returns-clause-rows c =
     if_ok c.rows_of.result
-    (λ rows h. same_events (map placed_intake rows.items) (enumerate_from 1 (contents c.args.conn.now)) (map-map shown_intake placed_intake rows.items ∙ h ∙ c.deref.ensures.value ∙ c.in_ok-select_taken.ensures.rows))
+    (λ rows h. same_events (map placed_intake rows.items) (enumerate_from 1 (contents c.args.conn.now))
+    (map-map shown_intake placed_intake rows.items ∙ h ∙ c.deref.ensures.value ∙ c.in_ok-select_taken.ensures.rows))
     c.rows_of.ensures.rows

@@ -8,5 +8,6 @@ use Rattle.kob_outbox.proofs.business_table.create_business.Goals as goal
 
 pub returns : goal.returns
 returns c =
-    creates business_text no_schema business business_is business_plain refl (database c.args.conn.now) (database c.execute.new.self) c.execute.result c.requires c.execute.ensures.survives.limit
+    creates business_text no_schema business business_is business_plain refl (database c.args.conn.now)
+    (database c.execute.new.self) c.execute.result c.requires c.execute.ensures.survives.limit
     (c.execute.ensures.runs (memory_is_clean c.execute.new.self))

@@ -14,8 +14,10 @@ use Rattle.kob_outbox.proofs.business_table.select_business.Goals as goal
 pub returns-clause-rows : goal.returns-clause-rows
 returns-clause-rows c =
     if_ok c.query_all.result
-    (λ rows h. reads_business (database c.args.conn.now) (database c.query_all.new.self) c.requires c.args.kind.now c.args.id.now rows.items h)
-    (rw (c.params-to_sql.ensures, c.params-to_sql-2.ensures) at (c.query_all.ensures.ok (memory_is_clean c.query_all.new.self)))
+    (λ rows h. reads_business (database c.args.conn.now)
+    (database c.query_all.new.self) c.requires c.args.kind.now c.args.id.now rows.items h)
+    (rw (c.params-to_sql.ensures, c.params-to_sql-2.ensures) at
+    (c.query_all.ensures.ok (memory_is_clean c.query_all.new.self)))
 
 pub returns-clause-service : goal.returns-clause-service
 returns-clause-service c =
@@ -23,9 +25,12 @@ returns-clause-service c =
     let new = database c.query_all.new.self in
     let params : Row = Text c.args.kind.now ∷ Text c.args.id.now ∷ [] in
     (service_stays old new c.requires c.query_all.ensures.survives.limit
-    (all_stays find_business_text params old new service_schema c.requires.schema find_business_plain c.requires.settled c.requires.idle refl c.query_all.result
-    (rw (c.params-to_sql.ensures, c.params-to_sql-2.ensures) at (c.query_all.ensures.ok (memory_is_clean c.query_all.new.self)))
-    (rw (c.params-to_sql.ensures, c.params-to_sql-2.ensures) at (c.query_all.ensures.err (memory_is_clean c.query_all.new.self))))).0
+    (all_stays find_business_text params old new service_schema c.requires.schema
+    find_business_plain c.requires.settled c.requires.idle refl c.query_all.result
+    (rw (c.params-to_sql.ensures, c.params-to_sql-2.ensures) at
+    (c.query_all.ensures.ok (memory_is_clean c.query_all.new.self)))
+    (rw (c.params-to_sql.ensures, c.params-to_sql-2.ensures) at
+    (c.query_all.ensures.err (memory_is_clean c.query_all.new.self))))).0
 
 pub returns-clause-same : goal.returns-clause-same
 returns-clause-same c =
@@ -33,14 +38,20 @@ returns-clause-same c =
     let new = database c.query_all.new.self in
     let params : Row = Text c.args.kind.now ∷ Text c.args.id.now ∷ [] in
     (service_stays old new c.requires c.query_all.ensures.survives.limit
-    (all_stays find_business_text params old new service_schema c.requires.schema find_business_plain c.requires.settled c.requires.idle refl c.query_all.result
-    (rw (c.params-to_sql.ensures, c.params-to_sql-2.ensures) at (c.query_all.ensures.ok (memory_is_clean c.query_all.new.self)))
-    (rw (c.params-to_sql.ensures, c.params-to_sql-2.ensures) at (c.query_all.ensures.err (memory_is_clean c.query_all.new.self))))).1
+    (all_stays find_business_text params old new service_schema c.requires.schema
+    find_business_plain c.requires.settled c.requires.idle refl c.query_all.result
+    (rw (c.params-to_sql.ensures, c.params-to_sql-2.ensures) at
+    (c.query_all.ensures.ok (memory_is_clean c.query_all.new.self)))
+    (rw (c.params-to_sql.ensures, c.params-to_sql-2.ensures) at
+    (c.query_all.ensures.err (memory_is_clean c.query_all.new.self))))).1
 
 pub returns-clause-memory : goal.returns-clause-memory
 returns-clause-memory c =
     let old = database c.args.conn.now in
     let new = database c.query_all.new.self in
     if_err c.query_all.result
-    (business_fails old new c.requires.schema (record { unlimited = c.requires.unlimited; is_open = refl; faults = (refl, refl) }) c.args.kind.now c.args.id.now)
-    (rw (c.params-to_sql.ensures, c.params-to_sql-2.ensures) at (c.query_all.ensures.err (memory_is_clean c.query_all.new.self)))
+    (business_fails old new c.requires.schema
+    (record { unlimited = c.requires.unlimited; is_open = refl; faults = (refl, refl) }) c.args.kind.now
+    c.args.id.now)
+    (rw (c.params-to_sql.ensures, c.params-to_sql-2.ensures) at
+    (c.query_all.ensures.err (memory_is_clean c.query_all.new.self)))

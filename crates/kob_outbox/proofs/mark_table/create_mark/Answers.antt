@@ -8,5 +8,6 @@ use Rattle.kob_outbox.proofs.mark_table.create_mark.Goals as goal
 
 pub returns : goal.returns
 returns c =
-    creates mark_text three_tables mark mark_is mark_plain refl (database c.args.conn.now) (database c.execute.new.self) c.execute.result c.requires c.execute.ensures.survives.limit
+    creates mark_text three_tables mark mark_is mark_plain refl (database c.args.conn.now)
+    (database c.execute.new.self) c.execute.result c.requires c.execute.ensures.survives.limit
     (c.execute.ensures.runs (memory_is_clean c.execute.new.self))

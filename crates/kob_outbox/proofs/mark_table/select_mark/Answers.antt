@@ -22,7 +22,8 @@ returns-clause-service c =
     let new = database c.query_all.new.self in
     let params : Row = [] in
     (service_stays old new c.requires c.query_all.ensures.survives.limit
-    (all_stays read_mark_text params old new service_schema c.requires.schema read_mark_plain c.requires.settled c.requires.idle refl c.query_all.result
+    (all_stays read_mark_text params old new service_schema c.requires.schema read_mark_plain c.requires.settled
+    c.requires.idle refl c.query_all.result
     (c.query_all.ensures.ok (memory_is_clean c.query_all.new.self))
     (c.query_all.ensures.err (memory_is_clean c.query_all.new.self)))).0
 
@@ -32,7 +33,8 @@ returns-clause-same c =
     let new = database c.query_all.new.self in
     let params : Row = [] in
     (service_stays old new c.requires c.query_all.ensures.survives.limit
-    (all_stays read_mark_text params old new service_schema c.requires.schema read_mark_plain c.requires.settled c.requires.idle refl c.query_all.result
+    (all_stays read_mark_text params old new service_schema c.requires.schema read_mark_plain c.requires.settled
+    c.requires.idle refl c.query_all.result
     (c.query_all.ensures.ok (memory_is_clean c.query_all.new.self))
     (c.query_all.ensures.err (memory_is_clean c.query_all.new.self)))).1
 
@@ -41,5 +43,9 @@ returns-clause-memory c =
     let old = database c.args.conn.now in
     let new = database c.query_all.new.self in
     if_err c.query_all.result
-    (mark_fails old new c.requires.schema (record { unlimited = c.requires.unlimited; is_open = refl; faults = (refl, refl) }))
+    (mark_fails old new c.requires.schema (record {
+      unlimited = c.requires.unlimited;
+      is_open = refl;
+      faults = (refl, refl);
+    }))
     (c.query_all.ensures.err (memory_is_clean c.query_all.new.self))

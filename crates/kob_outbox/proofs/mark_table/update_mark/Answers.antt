@@ -7,15 +7,24 @@ use Rattle.kob_outbox.proofs.mark_table.update_mark.Goals as goal
 
 pub returns-clause-service : goal.returns-clause-service
 returns-clause-service c =
-    (moves (database c.args.conn.now) (database c.execute.new.self) (number_in c.args.upto.now) c.execute.result c.requires.service c.requires.within c.execute.ensures.survives.limit refl
-    (rw (c.params-to_sql.ensures, c.requires.number) at (c.execute.ensures.runs (memory_is_clean c.execute.new.self)))).0
+    (moves (database c.args.conn.now) (database c.execute.new.self)
+    (number_in c.args.upto.now) c.execute.result c.requires.service
+    c.requires.within c.execute.ensures.survives.limit refl
+    (rw (c.params-to_sql.ensures, c.requires.number) at
+    (c.execute.ensures.runs (memory_is_clean c.execute.new.self)))).0
 
 pub returns-clause-ok : goal.returns-clause-ok
 returns-clause-ok c =
-    (moves (database c.args.conn.now) (database c.execute.new.self) (number_in c.args.upto.now) c.execute.result c.requires.service c.requires.within c.execute.ensures.survives.limit refl
-    (rw (c.params-to_sql.ensures, c.requires.number) at (c.execute.ensures.runs (memory_is_clean c.execute.new.self)))).1
+    (moves (database c.args.conn.now) (database c.execute.new.self)
+    (number_in c.args.upto.now) c.execute.result c.requires.service
+    c.requires.within c.execute.ensures.survives.limit refl
+    (rw (c.params-to_sql.ensures, c.requires.number) at
+    (c.execute.ensures.runs (memory_is_clean c.execute.new.self)))).1
 
 pub returns-clause-err : goal.returns-clause-err
 returns-clause-err c =
-    (moves (database c.args.conn.now) (database c.execute.new.self) (number_in c.args.upto.now) c.execute.result c.requires.service c.requires.within c.execute.ensures.survives.limit refl
-    (rw (c.params-to_sql.ensures, c.requires.number) at (c.execute.ensures.runs (memory_is_clean c.execute.new.self)))).2
+    (moves (database c.args.conn.now) (database c.execute.new.self)
+    (number_in c.args.upto.now) c.execute.result c.requires.service
+    c.requires.within c.execute.ensures.survives.limit refl
+    (rw (c.params-to_sql.ensures, c.requires.number) at
+    (c.execute.ensures.runs (memory_is_clean c.execute.new.self)))).2

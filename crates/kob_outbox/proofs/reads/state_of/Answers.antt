@@ -13,12 +13,17 @@ pub returns-in_err-get-in-Some-clause-memory : goal.returns-in_err-get-in-Some-c
 returns-in_err-get-in-Some-clause-memory c =
     let all = (contents c.args.conn.now).business in
     let row = c.in-Some.row.now in
-    let text = state_readable (state_at c.args.kind.now c.args.id.now all) _ row (λ s. text_at c.args.kind.now c.args.id.now _ all s c.requires.holds.business) c.in_ok-select_business.ensures.rows (search rules) in
+    let text =
+    state_readable (state_at c.args.kind.now c.args.id.now all) _ row
+    (λ s. text_at c.args.kind.now c.args.id.now _ all s c.requires.holds.business)
+    c.in_ok-select_business.ensures.rows (search rules) in
     let is : c.in_err-get-in-Some.field-0.0 ≡ SqliteFailure OutOfMemory =
-    readable_fails 0 (column row 0) c.in_err-get-in-Some.field-0.0 _ c.in_err-get-in-Some.ensures.named (λ other. c.in_err-get-in-Some.ensures.kind other text.0) text.1 in
+    readable_fails 0 (column row 0) c.in_err-get-in-Some.field-0.0 _ c.in_err-get-in-Some.ensures.named
+    (λ other. c.in_err-get-in-Some.ensures.kind other text.0) text.1 in
     grind (rules, is)
 
 pub returns-in-Some-clause-value : goal.returns-in-Some-clause-value
 returns-in-Some-clause-value c =
     let all = (contents c.args.conn.now).business in
-    first_state (state_at c.args.kind.now c.args.id.now all) _ c.in-Some.row.now _ c.in_ok-select_business.ensures.rows (search rules) c.in_ok-get-in-Some.ensures.ok.1
+    first_state (state_at c.args.kind.now c.args.id.now all) _ c.in-Some.row.now _ c.in_ok-select_business.ensures.rows
+    (search rules) c.in_ok-get-in-Some.ensures.ok.1

@@ -8,5 +8,6 @@ use Rattle.kob_outbox.proofs.spent_table.create_spent.Goals as goal
 
 pub returns : goal.returns
 returns c =
-    creates spent_text two_tables spent spent_is spent_plain refl (database c.args.conn.now) (database c.execute.new.self) c.execute.result c.requires c.execute.ensures.survives.limit
+    creates spent_text two_tables spent spent_is spent_plain refl (database c.args.conn.now)
+    (database c.execute.new.self) c.execute.result c.requires c.execute.ensures.survives.limit
     (c.execute.ensures.runs (memory_is_clean c.execute.new.self))

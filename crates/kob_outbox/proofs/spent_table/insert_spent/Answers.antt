@@ -12,10 +12,16 @@ returns-clause-committed c =
 
 pub returns-clause-ok : goal.returns-clause-ok
 returns-clause-ok c =
-    adds_if (database c.args.tx.now.conn.now) (database c.execute.new.self.conn.now) c.args.id.now c.execute.result c.requires.changing c.requires.room c.execute.ensures.survives.limit
-    (rw (c.params-to_sql.ensures, c.params-to_sql-2.ensures, c.requires.seq) at (c.execute.ensures.runs (memory_is_clean c.execute.new.self.conn.now) c.requires.changing.begun))
+    adds_if (database c.args.tx.now.conn.now)
+    (database c.execute.new.self.conn.now) c.args.id.now c.execute.result c.requires.changing c.requires.room
+    c.execute.ensures.survives.limit
+    (rw (c.params-to_sql.ensures, c.params-to_sql-2.ensures, c.requires.seq) at
+    (c.execute.ensures.runs (memory_is_clean c.execute.new.self.conn.now) c.requires.changing.begun))
 
 pub returns-clause-again : goal.returns-clause-again
 returns-clause-again c =
-    adds_again (database c.args.tx.now.conn.now) (database c.execute.new.self.conn.now) c.args.id.now c.execute.result c.requires.changing (record { unlimited = c.requires.changing.unlimited; is_open = refl; faults = (refl, refl) }) c.requires.room
-    (rw (c.params-to_sql.ensures, c.params-to_sql-2.ensures, c.requires.seq) at (c.execute.ensures.runs (memory_is_clean c.execute.new.self.conn.now) c.requires.changing.begun))
+    adds_again (database c.args.tx.now.conn.now)
+    (database c.execute.new.self.conn.now) c.args.id.now c.execute.result c.requires.changing
+    (record { unlimited = c.requires.changing.unlimited; is_open = refl; faults = (refl, refl) }) c.requires.room
+    (rw (c.params-to_sql.ensures, c.params-to_sql-2.ensures, c.requires.seq) at
+    (c.execute.ensures.runs (memory_is_clean c.execute.new.self.conn.now) c.requires.changing.begun))

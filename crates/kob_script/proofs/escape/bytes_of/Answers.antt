@@ -4,7 +4,8 @@ use Rattle.kob_script.proofs.escape.bytes_of.Goals as goal
 
 pub loop-first-preserved : goal.loop-first-preserved
 loop-first-preserved c =
-    bytes_keep _ _ _ _ _ _ _ _ c.loop-first.invariant c.in-Some.ensures.cases.0 c.byte_at.ensures.read c.unwrap_or-byte.ensures c.in_ok-push.ensures.items
+    bytes_keep _ _ _ _ _ _ _ _ c.loop-first.invariant c.in-Some.ensures.cases.0 c.byte_at.ensures.read
+    c.unwrap_or-byte.ensures c.in_ok-push.ensures.items
 
 pub returns : goal.returns
 returns c =

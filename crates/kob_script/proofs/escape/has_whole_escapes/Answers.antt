@@ -4,7 +4,8 @@ use Rattle.kob_script.proofs.escape.has_whole_escapes.Goals as goal
 
 pub loop-first-preserved : goal.loop-first-preserved
 loop-first-preserved c =
-    whole_keeps _ _ _ _ (Some (c.in-Some-byte_at.field-0-0, c.in-Some-byte_at.after.now)) c.loop-first.invariant c.in-Some.ensures.cases.0 c.in-Some-byte_at.ensures.read
+    whole_keeps _ _ _ _ (Some (c.in-Some-byte_at.field-0-0, c.in-Some-byte_at.after.now)) c.loop-first.invariant
+    c.in-Some.ensures.cases.0 c.in-Some-byte_at.ensures.read
 
 pub returns-in-None : goal.returns-in-None
 returns-in-None c = whole_keeps _ _ _ _ None c.loop-first.invariant c.in-Some.ensures.cases.0 c.in-None.ensures.read

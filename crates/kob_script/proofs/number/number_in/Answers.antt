@@ -7,13 +7,15 @@ pub returns-in-Ok-parse : goal.returns-in-Ok-parse
 returns-in-Ok-parse c =
     let plain = no_sign c.args.digits.now (sym c.starts_with.ensures.value ∙ c.if-starts_with.false) in
     rw (← c.in-Ok.ensures.cases.0)
-    (MatchResult-at_ok _ _ _ c.in-Ok-parse.is (number-parsed c.in-Ok.text.now c.parse.result c.parse.ensures.value.0 (rw c.in-Ok.ensures.cases.0 plain)))
+    (MatchResult-at_ok _ _ _ c.in-Ok-parse.is
+    (number-parsed c.in-Ok.text.now c.parse.result c.parse.ensures.value.0 (rw c.in-Ok.ensures.cases.0 plain)))
 
 pub returns-in-Err-parse : goal.returns-in-Err-parse
 returns-in-Err-parse c =
     let plain = no_sign c.args.digits.now (sym c.starts_with.ensures.value ∙ c.if-starts_with.false) in
     rw (← c.in-Ok.ensures.cases.0)
-    (MatchResult-at_err _ _ _ c.in-Err-parse.is (number-parsed c.in-Ok.text.now c.parse.result c.parse.ensures.value.0 (rw c.in-Ok.ensures.cases.0 plain)))
+    (MatchResult-at_err _ _ _ c.in-Err-parse.is
+    (number-parsed c.in-Ok.text.now c.parse.result c.parse.ensures.value.0 (rw c.in-Ok.ensures.cases.0 plain)))
 
 pub returns-in-Err : goal.returns-in-Err
 returns-in-Err c = number-not_text _ c.in-Err.ensures.cases.0

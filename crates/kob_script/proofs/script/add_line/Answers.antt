@@ -5,7 +5,8 @@ use Rattle.kob_script.proofs.script.add_line.Goals as goal
 
 pub returns : goal.returns
 returns c =
-    line_gives (grown c.args.script.now) c.args.line.now c.in_ok-words.words.items c.in_ok-answer.answer c.add_words.new.script c.add_words.result
+    line_gives (grown c.args.script.now) c.args.line.now c.in_ok-words.words.items c.in_ok-answer.answer
+    c.add_words.new.script c.add_words.result
     c.in_ok-words.ensures
     (rw c.deref.ensures.value at c.in_ok-answer.ensures)
     (rw c.deref-2.ensures.value at c.add_words.ensures)

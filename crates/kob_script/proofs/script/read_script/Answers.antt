@@ -10,7 +10,8 @@ loop-line-init c =
     record {
       few = rw same (omega (arith, c.lines-line-items.ensures.len));
       leads = rw (same, c.lines-line-items.ensures.value)
-          (lines_begin c.args.text.now (record { supers = c.new.result; events = c.new-2.result }) c.new.ensures.items c.new-2.ensures.items);
+          (lines_begin c.args.text.now (record { supers = c.new.result; events = c.new-2.result }) c.new.ensures.items
+          c.new-2.ensures.items);
     }
 
 pub loop-line-preserved : goal.loop-line-preserved
@@ -25,17 +26,23 @@ loop-line-preserved c =
 pub returns-in-Err-clause-any : goal.returns-in-Err-clause-any
 returns-in-Err-clause-any c =
     rw c.fault_at.ensures
-    (line_stops _ _ c.add_line.new.script (c.loop-line.number + 1) _ _ _ _ c.loop-line.invariant.leads c.in-Some.ensures.steps c.in-Err.ensures)
+    (line_stops _ _ c.add_line.new.script (c.loop-line.number + 1) _ _ _ _ c.loop-line.invariant.leads
+    c.in-Some.ensures.steps c.in-Err.ensures)
 
 pub returns-in-Err-clause-plain : goal.returns-in-Err-clause-plain
 returns-in-Err-clause-plain c =
     rw c.fault_at.ensures
-    (reads_plain _ (Err (fault_at (c.loop-line.number + 1) c.in-Err.error)) (line_stops _ _ c.add_line.new.script (c.loop-line.number + 1) _ _ _ _ c.loop-line.invariant.leads c.in-Some.ensures.steps c.in-Err.ensures))
+    (reads_plain _ (Err (fault_at (c.loop-line.number + 1) c.in-Err.error))
+    (line_stops _ _ c.add_line.new.script
+    (c.loop-line.number + 1) _ _ _ _ c.loop-line.invariant.leads c.in-Some.ensures.steps c.in-Err.ensures))
 
 pub returns-clause-any : goal.returns-clause-any
-returns-clause-any c = rw c.finished.ensures (lines_end _ _ (c.loop-line.number + 1) _ c.loop-line.invariant.leads c.in-None.ensures.steps.0)
+returns-clause-any c =
+    rw c.finished.ensures (lines_end _ _ (c.loop-line.number + 1) _ c.loop-line.invariant.leads
+    c.in-None.ensures.steps.0)
 
 pub returns-clause-plain : goal.returns-clause-plain
 returns-clause-plain c =
     rw c.finished.ensures
-    (reads_plain _ (Ok (grown c.loop-line.script)) (lines_end _ _ (c.loop-line.number + 1) _ c.loop-line.invariant.leads c.in-None.ensures.steps.0))
+    (reads_plain _ (Ok (grown c.loop-line.script))
+    (lines_end _ _ (c.loop-line.number + 1) _ c.loop-line.invariant.leads c.in-None.ensures.steps.0))

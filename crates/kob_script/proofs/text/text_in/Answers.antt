@@ -8,4 +8,5 @@ pub returns-in_ok-copied-in-Ok : goal.returns-in_ok-copied-in-Ok
 returns-in_ok-copied-in-Ok c = chosen_true _ _ _ (is_utf8-from_IsUtf8 _ c.in-Ok.ensures.cases.1) ∙ search rules
 
 pub returns-in-Err : goal.returns-in-Err
-returns-in-Err c = chosen_false _ _ _ (false_from (is_utf8 c.args.bytes.now) (IsUtf8-from_is_utf8 _) c.in-Err.ensures.cases.0)
+returns-in-Err c =
+    chosen_false _ _ _ (false_from (is_utf8 c.args.bytes.now) (IsUtf8-from_is_utf8 _) c.in-Err.ensures.cases.0)

@@ -6,4 +6,5 @@ use Rattle.kob_script.proofs.words.each_read.Given as goal
 
 abbrev pub invariant-loop-word : goal.invariant-loop-word
 invariant-loop-word l =
-    with_front l.words.items (each (λ word. word_of word.now) (drop l.word-index l.raw)) ≡ each (λ word. word_of word.now) l.raw
+    with_front l.words.items (each (λ word. word_of word.now) (drop l.word-index l.raw))
+    ≡ each (λ word. word_of word.now) l.raw

@@ -13,7 +13,9 @@ run_workers-requires-sync-W-Shared g c = search (shared_sync, sendable) depth 20
 pub gather-requires : goal.gather-requires
 gather-requires g c =
     let results = c.in_ok-results.results in
-    let same = length-all_zip (λ w r. IfOk r (λ d. g.W.Work.keeps w d.notes d.end)) c.args.works.now results.items c.in_ok-results.ensures.each in
+    let same =
+    length-all_zip (λ w r. IfOk r (λ d. g.W.Work.keeps w d.notes d.end)) c.args.works.now results.items
+    c.in_ok-results.ensures.each in
     let room = c.in_ok-room.ensures in
     record { empty = room.items; room = omega (arith, same, results.ok.0, room.capacity) }
 
@@ -21,14 +23,18 @@ pub returns-in_err-done-clause-named : goal.returns-in_err-done-clause-named
 returns-in_err-done-clause-named g c =
     let works = c.args.works.now in
     let results = c.in_ok-results.results.items in
-    let same = length-all_zip (λ w r. IfOk r (λ d. g.W.Work.keeps w d.notes d.end)) works results c.in_ok-results.ensures.each in
+    let same =
+    length-all_zip (λ w r. IfOk r (λ d. g.W.Work.keeps w d.notes d.end)) works results
+    c.in_ok-results.ensures.each in
     let given = err_from_is_err_and c.from_residual-in_err-done.result c.from_residual-in_err-done.ensures.1 in
     rw (given.1, given.2)
-    (named_more (length results) (length works) _ (omega (arith, same)) (within_first results _ c.in_err-done.ensures.named))
+    (named_more (length results) (length works) _ (omega (arith, same))
+    (within_first results _ c.in_err-done.ensures.named))
 
 pub returns-clause-each : goal.returns-clause-each
 returns-clause-each g c =
-    kept-done (λ w d. g.W.Work.keeps w d.notes d.end) c.args.works.now c.in_ok-results.results.items c.in_ok-done.done.items c.in_ok-results.ensures.each c.in_ok-done.ensures.all
+    kept-done (λ w d. g.W.Work.keeps w d.notes d.end) c.args.works.now c.in_ok-results.results.items
+    c.in_ok-done.done.items c.in_ok-results.ensures.each c.in_ok-done.ensures.all
 
 pub returns-in_err-done-clause-full : goal.returns-in_err-done-clause-full
 returns-in_err-done-clause-full g c =

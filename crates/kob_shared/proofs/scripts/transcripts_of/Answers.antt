@@ -10,8 +10,12 @@ loop-one-preserved c =
     let yielded = c.loop-one.yielded in
     let one = c.in-Some.one in
     let taken = c.into_transcript-in-loop-one in (
-      was.0 ∙ ap (λ xs. yielded ++ xs) c.in-Some.ensures.steps.0 ∙ sym (append_assoc yielded (one ∷ []) (into_iter_items c.next.new.self)),
+      was.0 ∙ ap (λ xs. yielded ++ xs) c.in-Some.ensures.steps.0
+          ∙ sym (append_assoc yielded (one ∷ []) (into_iter_items c.next.new.self)),
       rw c.in_ok-push-2.ensures.items
-          (taken-more c.args.first yielded one c.loop-one.transcripts.items taken.result was.1
-          (taken.ensures.value, subst (λ ts. IsAnswered (length one.notes.events) ts) (sym taken.ensures.value) taken.ensures.answered)),
+          (taken-more c.args.first yielded one c.loop-one.transcripts.items taken.result was.1 (
+            taken.ensures.value,
+            subst (λ ts. IsAnswered (length one.notes.events) ts)
+                (sym taken.ensures.value) taken.ensures.answered,
+          )),
     )

@@ -6,4 +6,5 @@ returns-clause-output c =
     let few = rw c.in-Err.is at c.in_ok-replies.ensures.few in
     let first = rw c.in-Err.is at c.in_ok-replies.ensures.first in
     stopped c.args.script c.in-Err.stopped.done c.in-Err.stopped.replies.items _
-    (rw (← c.as_slice.ensures) few) (rw (← c.as_slice.ensures) first) c.stopped_output.ensures.ended c.stopped_output.ensures.text
+    (rw (← c.as_slice.ensures) few) (rw (← c.as_slice.ensures) first) c.stopped_output.ensures.ended
+    c.stopped_output.ensures.text

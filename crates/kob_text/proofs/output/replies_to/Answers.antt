@@ -10,5 +10,7 @@ returns-clause-all c = rw (← c.in_ok-broker.ensures.answers c.args.events.now)
 
 pub returns-clause-first : goal.returns-clause-first
 returns-clause-first c =
-    first_replies c.run.result (λ (stopped : Stopped). stopped.done) (λ (stopped : Stopped). stopped.replies.items) c.args.settings c.args.events.now
-    (λ events. replies_of retained_meaning events (state_of c.in_ok-broker.broker)) c.in_ok-broker.ensures.answers c.run.ensures.stopped_replies
+    first_replies c.run.result (λ (stopped : Stopped). stopped.done)
+    (λ (stopped : Stopped). stopped.replies.items) c.args.settings c.args.events.now
+    (λ events. replies_of retained_meaning events (state_of c.in_ok-broker.broker)) c.in_ok-broker.ensures.answers
+    c.run.ensures.stopped_replies

@@ -8,7 +8,8 @@ abbrev pub invariant-loop-text : goal.invariant-loop-text
 invariant-loop-text g l = record {
   within : vec_len l.text ≤ script_limit;
   sound : l.source.failed ≡ l.initial.source.failed;
-  read : Consumes (g.R.Read.remaining l.initial.source.reader.now) (g.R.Read.remaining l.source.reader.now) l.text.items;
+  read : Consumes (g.R.Read.remaining l.initial.source.reader.now)
+      (g.R.Read.remaining l.source.reader.now) l.text.items;
 }
 
 abbrev pub decreases-loop-text : goal.decreases-loop-text

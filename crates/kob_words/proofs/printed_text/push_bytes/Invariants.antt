@@ -4,4 +4,6 @@ use Rattle.kob_words.specs.PrintedText.{bytes_text}
 use Rattle.kob_words.proofs.printed_text.push_bytes.Given as goal
 
 abbrev pub invariant-loop-byte : goal.invariant-loop-byte
-invariant-loop-byte l = (l.out.items ≡ l.initial.out.items ++ bytes_text (take l.byte-index l.bytes)) × IsAscii (bytes_text (take l.byte-index l.bytes))
+invariant-loop-byte l =
+    (l.out.items ≡ l.initial.out.items ++ bytes_text (take l.byte-index l.bytes))
+    × IsAscii (bytes_text (take l.byte-index l.bytes))

@@ -18,11 +18,17 @@ returns-in-None-clause-done c =
     let n = c.take_all-passed.result.count in
     let asked : Fetch = record { topic = p.topic; partition = p.partition; offset = c.args.position; max = t.max } in
     let some : 0 < length rs = omega arith in
-    let left : state_of c.advance.new.self c.take_all-passed.new.inbox ≡ done t s (Request.Fetch asked) (Body.Records rs) n =
-    same_state c.take_all-passed.new.inbox (taken_in c.args.inbox.now (arrivals p (take n rs))) c.advance.new.self.cursors.items (advanced c.args.self.now.cursors.items p n (behind c.args.position (take n rs))) c.advance.new.self.turn
-    (turn_after t c.args.self.now.turn (Request.Fetch asked) (Body.Records rs)) c.take_all-passed.ensures.taken (c.advance.ensures.moved ∙ ap (λ (k : ℕ). advanced c.args.self.now.cursors.items p n k) c.take_all-passed.ensures.behind)
+    let left : state_of c.advance.new.self c.take_all-passed.new.inbox
+    ≡ done t s (Request.Fetch asked) (Body.Records rs) n =
+    same_state c.take_all-passed.new.inbox
+    (taken_in c.args.inbox.now (arrivals p (take n rs))) c.advance.new.self.cursors.items
+    (advanced c.args.self.now.cursors.items p n (behind c.args.position (take n rs))) c.advance.new.self.turn
+    (turn_after t c.args.self.now.turn (Request.Fetch asked) (Body.Records rs)) c.take_all-passed.ensures.taken
+    (c.advance.ensures.moved ∙ ap (λ (k : ℕ). advanced c.args.self.now.cursors.items p n k)
+    c.take_all-passed.ensures.behind)
     (c.advance.ensures.turn ∙ turn_stays t c.args.self.now.turn asked rs some) in
-    let all : n ≡ length rs = all_passed c.take_all-passed.result.fault (n ≡ length rs) c.take_all-passed.ensures.whole c.in-None.is in
+    let all : n ≡ length rs =
+    all_passed c.take_all-passed.result.fault (n ≡ length rs) c.take_all-passed.ensures.whole c.in-None.is in
     record { count = n; within = omega arith; changed = left; answer = (asked, rs, refl, all, omega arith) }
 
 pub returns-in-Some-Memory-clause-done : goal.returns-in-Some-Memory-clause-done
@@ -34,11 +40,18 @@ returns-in-Some-Memory-clause-done c =
     let n = c.take_all-passed.result.count in
     let asked : Fetch = record { topic = p.topic; partition = p.partition; offset = c.args.position; max = t.max } in
     let some : 0 < length rs = omega arith in
-    let left : state_of c.advance.new.self c.take_all-passed.new.inbox ≡ done t s (Request.Fetch asked) (Body.Records rs) n =
-    same_state c.take_all-passed.new.inbox (taken_in c.args.inbox.now (arrivals p (take n rs))) c.advance.new.self.cursors.items (advanced c.args.self.now.cursors.items p n (behind c.args.position (take n rs))) c.advance.new.self.turn
-    (turn_after t c.args.self.now.turn (Request.Fetch asked) (Body.Records rs)) c.take_all-passed.ensures.taken (c.advance.ensures.moved ∙ ap (λ (k : ℕ). advanced c.args.self.now.cursors.items p n k) c.take_all-passed.ensures.behind)
+    let left : state_of c.advance.new.self c.take_all-passed.new.inbox
+    ≡ done t s (Request.Fetch asked) (Body.Records rs) n =
+    same_state c.take_all-passed.new.inbox
+    (taken_in c.args.inbox.now (arrivals p (take n rs))) c.advance.new.self.cursors.items
+    (advanced c.args.self.now.cursors.items p n (behind c.args.position (take n rs))) c.advance.new.self.turn
+    (turn_after t c.args.self.now.turn (Request.Fetch asked) (Body.Records rs)) c.take_all-passed.ensures.taken
+    (c.advance.ensures.moved ∙ ap (λ (k : ℕ). advanced c.args.self.now.cursors.items p n k)
+    c.take_all-passed.ensures.behind)
     (c.advance.ensures.turn ∙ turn_stays t c.args.self.now.turn asked rs some) in
-    let cut : n < length rs = cut_short c.take_all-passed.result.fault c.in-Some-Memory.field-0 (n < length rs) c.take_all-passed.ensures.cut c.in-Some-Memory.is in
+    let cut : n < length rs =
+    cut_short c.take_all-passed.result.fault c.in-Some-Memory.field-0
+    (n < length rs) c.take_all-passed.ensures.cut c.in-Some-Memory.is in
     record { count = n; within = omega arith; changed = left; answer = inr (asked, rs, n, refl, cut) }
 
 pub returns-in-Some-Store-clause-done : goal.returns-in-Some-Store-clause-done
@@ -50,9 +63,16 @@ returns-in-Some-Store-clause-done c =
     let n = c.take_all-passed.result.count in
     let asked : Fetch = record { topic = p.topic; partition = p.partition; offset = c.args.position; max = t.max } in
     let some : 0 < length rs = omega arith in
-    let left : state_of c.advance.new.self c.take_all-passed.new.inbox ≡ done t s (Request.Fetch asked) (Body.Records rs) n =
-    same_state c.take_all-passed.new.inbox (taken_in c.args.inbox.now (arrivals p (take n rs))) c.advance.new.self.cursors.items (advanced c.args.self.now.cursors.items p n (behind c.args.position (take n rs))) c.advance.new.self.turn
-    (turn_after t c.args.self.now.turn (Request.Fetch asked) (Body.Records rs)) c.take_all-passed.ensures.taken (c.advance.ensures.moved ∙ ap (λ (k : ℕ). advanced c.args.self.now.cursors.items p n k) c.take_all-passed.ensures.behind)
+    let left : state_of c.advance.new.self c.take_all-passed.new.inbox
+    ≡ done t s (Request.Fetch asked) (Body.Records rs) n =
+    same_state c.take_all-passed.new.inbox
+    (taken_in c.args.inbox.now (arrivals p (take n rs))) c.advance.new.self.cursors.items
+    (advanced c.args.self.now.cursors.items p n (behind c.args.position (take n rs))) c.advance.new.self.turn
+    (turn_after t c.args.self.now.turn (Request.Fetch asked) (Body.Records rs)) c.take_all-passed.ensures.taken
+    (c.advance.ensures.moved ∙ ap (λ (k : ℕ). advanced c.args.self.now.cursors.items p n k)
+    c.take_all-passed.ensures.behind)
     (c.advance.ensures.turn ∙ turn_stays t c.args.self.now.turn asked rs some) in
-    let cut : n < length rs = cut_short c.take_all-passed.result.fault c.in-Some-Store.field-0 (n < length rs) c.take_all-passed.ensures.cut c.in-Some-Store.is in
+    let cut : n < length rs =
+    cut_short c.take_all-passed.result.fault c.in-Some-Store.field-0
+    (n < length rs) c.take_all-passed.ensures.cut c.in-Some-Store.is in
     record { count = n; within = omega arith; changed = left; answer = (asked, rs, n, refl, cut) }

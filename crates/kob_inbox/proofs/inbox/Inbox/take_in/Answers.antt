@@ -12,7 +12,8 @@ returns-then-branch-eq0-clause-answer c =
     let found = event_id c.args.message.now in
     let text = c.encode_lower-id.ensures.text ∙ ap id_text c.hyphenated.ensures in
     let same : contents c.last_place.new.conn ≡ c.args.self.now = c.in_ok-last.ensures.same ∙ c.self.view_is in
-    seen (contents c.last_place.new.conn) found c.in-Some.id c.encode_lower-id.result.now c.in-Some.ensures text c.in_ok-insert_intake.field-0 c.in_ok-insert_intake.ensures.count c.if-branch-eq0.true
+    seen (contents c.last_place.new.conn) found c.in-Some.id c.encode_lower-id.result.now c.in-Some.ensures text
+    c.in_ok-insert_intake.field-0 c.in_ok-insert_intake.ensures.count c.if-branch-eq0.true
     ∙ ap (λ (events : Contents). answer_to events found) same
 
 pub returns-clause-answer : goal.returns-clause-answer
@@ -20,7 +21,8 @@ returns-clause-answer c =
     let found = event_id c.args.message.now in
     let text = c.encode_lower-id.ensures.text ∙ ap id_text c.hyphenated.ensures in
     let same : contents c.last_place.new.conn ≡ c.args.self.now = c.in_ok-last.ensures.same ∙ c.self.view_is in
-    taken (contents c.last_place.new.conn) found c.in-Some.id c.encode_lower-id.result.now c.in-Some.ensures text c.in_ok-insert_intake.field-0 c.in_ok-insert_intake.ensures.count c.if-branch-eq0.false
+    taken (contents c.last_place.new.conn) found c.in-Some.id c.encode_lower-id.result.now c.in-Some.ensures text
+    c.in_ok-insert_intake.field-0 c.in_ok-insert_intake.ensures.count c.if-branch-eq0.false
     ∙ ap (λ (events : Contents). answer_to events found) same
 
 pub returns-in_err-insert_intake-clause-store : goal.returns-in_err-insert_intake-clause-store
@@ -30,6 +32,7 @@ returns-in_err-insert_intake-clause-store c = λ h.
     let same : contents c.last_place.new.conn ≡ c.args.self.now = c.in_ok-last.ensures.same ∙ c.self.view_is in
     inl (
     ap (λ (events : Contents). answer_to events found) (sym same)
-    ∙ stored (contents c.last_place.new.conn) found c.in-Some.id c.encode_lower-id.result.now c.in-Some.ensures text c.from_residual-in_err-insert_intake.result c.in_err-insert_intake.field-0.0
+    ∙ stored (contents c.last_place.new.conn) found c.in-Some.id c.encode_lower-id.result.now c.in-Some.ensures text
+    c.from_residual-in_err-insert_intake.result c.in_err-insert_intake.field-0.0
     c.from_residual-in_err-insert_intake.ensures.1 c.in_err-insert_intake.ensures.again h
     )

@@ -13,6 +13,11 @@ invariant_of-self-2 g c =
     c.push_reserved.ensures.items ∙ ap (λ es. es ++ event ∷ []) c.make_room.ensures.events in
     let told : c.push_reserved-2.new.self.items ≡ old.receipts.items ++ receipt ∷ [] =
     c.push_reserved-2.ensures.items ∙ ap (λ rs. rs ++ receipt ∷ []) c.make_room.ensures.receipts in (
-      rw (events, told) (omega (arith, length-append old.events.items (event ∷ []), length-append old.receipts.items (receipt ∷ []), was.0)),
+      rw (events, told) (omega (
+        arith,
+        length-append old.events.items (event ∷ []),
+        length-append old.receipts.items (receipt ∷ []),
+        was.0,
+      )),
       rw (told, ap (λ s. s.seen) served.1) (rises-push 0 old.receipts.items old.session.seen receipt was.1 served.0),
     )
