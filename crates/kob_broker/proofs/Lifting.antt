@@ -16,7 +16,7 @@ use Rattle.kob_partition.proofs.Keeping.{retaining_carries}
 use Rattle.kob_partition.specs.Append.{judged, unless_repeat}
 use Rattle.kob_partition.specs.Batches.{Plain}
 use Rattle.kob_partition.specs.Meaning.{Meaning, Carries}
-use Rattle.kob_partition.specs.Retained.{Retained, plain_meaning, retained, retained_meaning}
+use Rattle.kob_partition.specs.Retained.{Retained, plain_meaning, retained_of, retained_meaning}
 use Rattle.kob_producers.specs.declared.judge.Judgement.{Judgement}
 use Rattle.kob_producers.specs.declared.judge.Judgement.TheVariants.{Next, Repeat, OutOfOrder, OldEpoch}
 use Rattle.kob_rights.specs.Partitions.{partition_named}
@@ -239,12 +239,12 @@ module _ {P Q : Type 0} (m : Meaning P) (n : Meaning Q) (f : P → Q) (c : Carri
 
 pub steps_alike : (s : State Plain) (event : Event) → StepsAlike s event
 steps_alike s event = record {
-  reply = ap (λ (o : Outcome Retained). o.reply) (step_alike plain_meaning retained_meaning retained retaining_carries s event);
-  state = ap (λ (o : Outcome Retained). o.state) (step_alike plain_meaning retained_meaning retained retaining_carries s event);
+  reply = ap (λ (o : Outcome Retained). o.reply) (step_alike plain_meaning retained_meaning retained_of retaining_carries s event);
+  state = ap (λ (o : Outcome Retained). o.state) (step_alike plain_meaning retained_meaning retained_of retaining_carries s event);
 }
 
 pub runs_alike : (s : State Plain) (events : List Event) → RunsAlike s events
 runs_alike s events = record {
-  replies = replies_alike plain_meaning retained_meaning retained retaining_carries events s;
-  state = states_alike plain_meaning retained_meaning retained retaining_carries events s;
+  replies = replies_alike plain_meaning retained_meaning retained_of retaining_carries events s;
+  state = states_alike plain_meaning retained_meaning retained_of retaining_carries events s;
 }

@@ -7,9 +7,10 @@ use Rattle.std.proofs.lemmas.Slice.Eq.{bytes_eq-Decides}
 use Rattle.kob_router.specs.Places.{same_place}
 use Rattle.kob_router.specs.declared.place.Place.{Place}
 use Rattle.kob_inbox.specs.declared.cursors.Cursor.{Cursor}
-use Rattle.kob_inbox.specs.Cursors.{cursor_of, moved, standing}
+use Rattle.kob_inbox.specs.Cursors.{cursor_of, with_cursor, standing}
 
-pub moved_new : (cs : List Cursor) (c : Cursor) → standing (cursor_of cs c.place) ≡ None → moved cs c ≡ cs ++ c ∷ []
+pub moved_new : (cs : List Cursor) (c : Cursor) → standing (cursor_of cs c.place) ≡ None
+    → with_cursor cs c ≡ cs ++ c ∷ []
 moved_new [] c h = refl
 moved_new (x ∷ cs) c h = elim (cases_Bool (same_place x.place c.place)) [
   | inl on ↦
@@ -17,7 +18,7 @@ moved_new (x ∷ cs) c h = elim (cases_Bool (same_place x.place c.place)) [
       sym (ap standing (cond-true (same_place x.place c.place) (Some x) (cursor_of cs c.place) on)) ∙ h in
       absurd cc
   | inr off ↦
-      cond-false (same_place x.place c.place) (c ∷ cs) (x ∷ moved cs c) off
+      cond-false (same_place x.place c.place) (c ∷ cs) (x ∷ with_cursor cs c) off
       ∙ ap (λ (xs : List Cursor). x ∷ xs) (moved_new cs c
       (sym (ap standing (cond-false (same_place x.place c.place) (Some x) (cursor_of cs c.place) off)) ∙ h))
 ]
@@ -34,15 +35,15 @@ same_place_is p q h =
 pub changed : (cs : List Cursor) (i : ℕ) (d : Cursor) (place : Place) (position : ℕ) (uncommitted : Bool)
     → i < length cs → same_place (get_or cs i d).place place ≡ true
     → set cs i (record { place = (get_or cs i d).place; position = position; uncommitted = uncommitted })
-    ≡ take i cs ++ moved (drop i cs) (record { place = place; position = position; uncommitted = uncommitted })
+    ≡ take i cs ++ with_cursor (drop i cs) (record { place = place; position = position; uncommitted = uncommitted })
 changed cs i d place position uncommitted l same =
     let x : Cursor = get_or cs i d in
     let y : Cursor = record { place = place; position = position; uncommitted = uncommitted } in
     let one_more : suc i ≡ i + 1 = omega arith in
     let at : drop i cs ≡ x ∷ drop (i + 1) cs = drop_more cs i d l in
-    let one : moved (drop i cs) y ≡ y ∷ drop (i + 1) cs =
-    ap (λ (xs : List Cursor). moved xs y) at
-    ∙ cond-true (same_place x.place place) (y ∷ drop (i + 1) cs) (x ∷ moved (drop (i + 1) cs) y) same in
+    let one : with_cursor (drop i cs) y ≡ y ∷ drop (i + 1) cs =
+    ap (λ (xs : List Cursor). with_cursor xs y) at
+    ∙ cond-true (same_place x.place place) (y ∷ drop (i + 1) cs) (x ∷ with_cursor (drop (i + 1) cs) y) same in
     ap (λ (p : Place). set cs i (record { place = p; position = position; uncommitted = uncommitted }))
     (same_place_is x.place place same)
     ∙ set_split cs i y l ∙ ap (λ (k : ℕ). take i cs ++ y ∷ drop k cs) one_more

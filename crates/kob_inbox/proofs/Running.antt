@@ -7,7 +7,7 @@ use Rattle.kob_router.specs.HeaderId.{event_id}
 use Rattle.kob_inbox.specs.declared.fetcher.Subscription.{Subscription}
 use Rattle.kob_inbox.specs.Contents.{Contents}
 use Rattle.kob_inbox.specs.Intake.{Arrival, taken_in, with_record}
-use Rattle.kob_inbox.specs.Run.{State, Move, IsConsumerRun, after, answered, taken_by, taken_of}
+use Rattle.kob_inbox.specs.Run.{State, Move, IsConsumerRun, after, after_answer, taken_by, taken_of}
 use Rattle.kob_inbox.specs.Run.Move.{Called, Restarted}
 
 taken_more : (events : Contents) (xs ys : List Arrival) → taken_in events (xs ++ ys) ≡ taken_in (taken_in events xs) ys
@@ -15,7 +15,7 @@ taken_more events [] ys = refl
 taken_more events (x ∷ xs) ys = taken_more (with_record events (event_id x.message) x) xs ys
 
 one_call : (t : Subscription) (s : State) (request : Request) (heard : Option Reply) (count : ℕ)
-    → (answered t s request heard count).inbox ≡ taken_in s.inbox (taken_by request heard count)
+    → (after_answer t s request heard count).inbox ≡ taken_in s.inbox (taken_by request heard count)
 one_call t s request None count = refl
 one_call t s request (Some (Denied code verdicts)) count = refl
 one_call t s request (Some (Refused code reason)) count = refl

@@ -27,7 +27,7 @@ use Rattle.kob_inbox.specs.declared.tick.StopReason.TheVariants as stop
 use Rattle.kob_inbox.specs.Contents.{Contents}
 use Rattle.kob_inbox.specs.Cursors.{cursor_of, standing}
 use Rattle.kob_inbox.specs.Intake.{arrivals, taken_in, with_record}
-use Rattle.kob_inbox.specs.Run.{State, IsDue, answered, behind, due, turn_after}
+use Rattle.kob_inbox.specs.Run.{State, IsDue, after_answer, behind, due, turn_after}
 use Rattle.kob_inbox.specs.Run.Move.{Called}
 use Rattle.kob_inbox.specs.Tick.{Hears, IsAnswer, Scene, Ticks}
 
@@ -80,7 +80,7 @@ scene s calls unmade = record { state = s; calls = calls; unmade = unmade }
 
 -- a call after which all stands as it did
 ticks_still : (t : Subscription) (s : State) (request : Request) (heard : Option Reply) (before now : List Call)
-    (u v : ℕ) (tick : Tick) → IsDue t s request → answered t s request heard 0 ≡ s
+    (u v : ℕ) (tick : Tick) → IsDue t s request → after_answer t s request heard 0 ≡ s
     → now ≡ before ++ record { request = request; heard = heard } ∷ [] → v ≡ u
     → IsAnswer t tick (Called (record { request = request; heard = heard }) 0 ∷ [])
     → Ticks t (scene s before u) (scene s now v) tick
@@ -141,7 +141,7 @@ ticks_heard t s new asked request reply body before now u v tick due same made i
 
 pub hears_committed : (t : Subscription) (s new : State) (p : Place) (stood : Option Standing) (st : Standing)
     (body : Body) → stood ≡ Some st → st.uncommitted ≡ true → body ≡ bodies.Committed
-    → new ≡ answered t s (commit_at t p st.position) (Some (Done bodies.Committed)) 0
+    → new ≡ after_answer t s (commit_at t p st.position) (Some (Done bodies.Committed)) 0
     → Hears t s new (due t p stood) body Committed
 hears_committed t s new p stood st body is on heard changed =
     let r : Request = commit_at t p st.position in

@@ -11,10 +11,10 @@ cursor_of [] place = None
 cursor_of (c ∷ cursors) place = if same_place c.place place then Some c else cursor_of cursors place
 
 -- the cursors with this one in place of that of its partition
-abbrev pub moved : List Cursor → Cursor → List Cursor
-moved [] new = new ∷ []
-moved (c ∷ cursors) new =
-    if same_place c.place new.place then new ∷ cursors else c ∷ moved cursors new
+abbrev pub with_cursor : List Cursor → Cursor → List Cursor
+with_cursor [] new = new ∷ []
+with_cursor (c ∷ cursors) new =
+    if same_place c.place new.place then new ∷ cursors else c ∷ with_cursor cursors new
 
 -- a cursor without its partition
 abbrev pub standing : Option Cursor → Option Standing
@@ -27,7 +27,7 @@ IsKnown None = ⊥
 IsKnown (Some c) = Unit {0}
 
 -- the cursors once so many records were taken in
-abbrev pub advanced : List Cursor → Place → ℕ → ℕ → List Cursor
-advanced cursors place zero position = cursors
-advanced cursors place (suc count) position =
-    moved cursors (record { place = place; position = position; uncommitted = true })
+abbrev pub with_progress : List Cursor → Place → ℕ → ℕ → List Cursor
+with_progress cursors place zero position = cursors
+with_progress cursors place (suc count) position =
+    with_cursor cursors (record { place = place; position = position; uncommitted = true })

@@ -13,7 +13,7 @@ use Rattle.kob_inbox.specs.declared.cursors.Cursor.{Cursor}
 use Rattle.kob_inbox.specs.declared.cursors.Standing.{Standing}
 use Rattle.kob_inbox.specs.declared.fetcher.Subscription.{Subscription}
 use Rattle.kob_inbox.specs.Contents.{Contents}
-use Rattle.kob_inbox.specs.Cursors.{advanced, cursor_of, moved, standing}
+use Rattle.kob_inbox.specs.Cursors.{with_progress, cursor_of, with_cursor, standing}
 use Rattle.kob_inbox.specs.Intake.{Arrival, arrivals, taken_in}
 
 -- an inbox, how far its consumer has come on each partition, and the place in the assignment of the
@@ -93,18 +93,19 @@ taken_from request body count = []
 -- the cursors then: a position is what is committed, or 0 where nothing is; records that are taken
 -- in move it behind them; and what was committed is no longer due
 abbrev pub cursors_after : List Cursor → Request → Body → ℕ → List Cursor
-cursors_after cursors (OffsetFetch asked) (bodies.Commit committed) count = moved cursors (record {
-  place = place_at asked.topic asked.partition;
-  position = unwrap_or committed 0;
-  uncommitted = false;
-})
-cursors_after cursors (OffsetCommit asked) body count = moved cursors (record {
+cursors_after cursors (OffsetFetch asked) (bodies.Commit committed) count =
+    with_cursor cursors (record {
+      place = place_at asked.topic asked.partition;
+      position = unwrap_or committed 0;
+      uncommitted = false;
+    })
+cursors_after cursors (OffsetCommit asked) body count = with_cursor cursors (record {
   place = place_at asked.topic asked.partition;
   position = asked.offset;
   uncommitted = false;
 })
 cursors_after cursors (Fetch asked) (bodies.Records records) count =
-    advanced cursors (place_at asked.topic asked.partition) count
+    with_progress cursors (place_at asked.topic asked.partition) count
     (behind asked.offset (take count records))
 cursors_after cursors request body count = cursors
 
@@ -115,8 +116,8 @@ turn_after t turn (Fetch asked) (bodies.Records []) = next_turn t turn
 turn_after t turn request body = turn
 
 -- after a request that was done, and that takes in so many records
-abbrev pub done : Subscription → State → Request → Body → ℕ → State
-done t s request body count = record {
+abbrev pub after_done : Subscription → State → Request → Body → ℕ → State
+after_done t s request body count = record {
   inbox = taken_in s.inbox (taken_from request body count);
   cursors = cursors_after s.cursors request body count;
   turn = turn_after t s.turn request body;
@@ -124,16 +125,16 @@ done t s request body count = record {
 
 -- after a call, of whose records so many are taken in: a call that was lost, denied or refused
 -- leaves all
-abbrev pub answered : Subscription → State → Request → Option Reply → ℕ → State
-answered t s request None count = s
-answered t s request (Some (Denied code verdicts)) count = s
-answered t s request (Some (Refused code reason)) count = s
-answered t s request (Some (Done body)) count = done t s request body count
+abbrev pub after_answer : Subscription → State → Request → Option Reply → ℕ → State
+after_answer t s request None count = s
+after_answer t s request (Some (Denied code verdicts)) count = s
+after_answer t s request (Some (Refused code reason)) count = s
+after_answer t s request (Some (Done body)) count = after_done t s request body count
 
 -- what is done leaves
 abbrev pub after : Subscription → State → Move → State
 after t s Restarted = record { inbox = s.inbox; cursors = []; turn = 0 }
-after t s (Called call count) = answered t s call.request call.heard count
+after t s (Called call count) = after_answer t s call.request call.heard count
 
 -- these moves may be made one after another, and lead from one state to the other
 abbrev pub IsConsumerRun : Subscription → State → List Move → State → Type 0

@@ -6,18 +6,19 @@ use Rattle.sqlite_schema.specs.declared.schema.Column.{Column}
 use Rattle.sqlite.specs.Table.{Table}
 use Rattle.sqlite.specs.Schema.{Schema}
 use Rattle.sqlite_catalog.specs.Change.{created}
-use Rattle.kob_outbox.specs.Tables.{by_bytes, no_schema, numbering, required, table_of}
+use Rattle.kob_outbox.specs.Tables.{by_bytes, no_schema, numbering, required_column, table_of}
 
 -- a column that may be NULL
 abbrev pub optional : List ℕ → Kind → Column
-optional name kind = record (required name kind) { not_null = false }
+optional name kind = record (required_column name kind) { not_null = false }
 
 -- its columns
 abbrev pub columns : List Column
 columns =
-    numbering (codes "place") ∷ required (codes "id") Text ∷ required (codes "topic") Text
-    ∷ required (codes "part") Integer ∷ required (codes "off") Integer
-    ∷ optional (codes "rkey") Any ∷ required (codes "rvalue") Any ∷ []
+    numbering (codes "place") ∷ required_column (codes "id") Text
+    ∷ required_column (codes "topic") Text
+    ∷ required_column (codes "part") Integer ∷ required_column (codes "off") Integer
+    ∷ optional (codes "rkey") Any ∷ required_column (codes "rvalue") Any ∷ []
 
 -- inbox (place, id, topic, part, off, rkey, rvalue), numbered by place
 abbrev pub inbox : Table

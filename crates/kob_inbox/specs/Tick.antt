@@ -19,7 +19,7 @@ use Rattle.kob_inbox.specs.declared.tick.StopReason.TheVariants as stop
 use Rattle.kob_inbox.specs.declared.tick.Tick.{Tick}
 use Rattle.kob_inbox.specs.declared.tick.Tick.TheVariants.{Placed, Took, Committed, Idle, Repeat, Stopped}
 use Rattle.kob_inbox.specs.Contents.{Contents}
-use Rattle.kob_inbox.specs.Run.{State, Move, IsConsumerRun, calls_of, answered, records_heard}
+use Rattle.kob_inbox.specs.Run.{State, Move, IsConsumerRun, calls_of, after_answer, records_heard}
 use Rattle.kob_inbox.specs.Run.Move.{Called}
 
 -- a consumer with its inbox
@@ -104,6 +104,6 @@ pub record Hears (t : Subscription) (old new : State) (request : Request) (body 
     (tick : Tick) : Type 0 where
   pub count : ℕ
   pub within : count ≤ length (records_heard (Some (Done body)))
-  pub changed : new ≡ answered t old request (Some (Done body)) count
+  pub changed : new ≡ after_answer t old request (Some (Done body)) count
   pub answer : IsAnswer t tick
       (Called (record { request = request; heard = Some (Done body) }) count ∷ [])

@@ -1,7 +1,7 @@
 //! How far a consumer has come on each partition.
 
 ghost use Rattle.std.specs.Prelude.{◌≡◌, ◌<◌, None, false, vec_len, vec_capacity};
-ghost use Rattle.kob_inbox.specs.Cursors.{IsKnown, cursor_of, moved, standing};
+ghost use Rattle.kob_inbox.specs.Cursors.{IsKnown, cursor_of, with_cursor, standing};
 
 use kob_router::{Place, is_same_place};
 
@@ -41,7 +41,7 @@ pub(crate) fn standing_of(cursors: &[Cursor], place: &Place) -> Option<Standing>
 pub(crate) fn put(cursors: &mut Vec<Cursor>, place: Place, position: u64)
     requires room { vec_len cursors.old < vec_capacity cursors.old }
     requires unknown { standing (cursor_of cursors.old.items place) ≡ None }
-    ensures { cursors.new.items ≡ moved cursors.old.items
+    ensures { cursors.new.items ≡ with_cursor cursors.old.items
         (record { place = place; position = position; uncommitted = false }) }
 {
     cursors.push_reserved(Cursor {
@@ -54,7 +54,7 @@ pub(crate) fn put(cursors: &mut Vec<Cursor>, place: Place, position: u64)
 /// Moves the cursor of a partition.
 pub(crate) fn set(cursors: &mut [Cursor], place: &Place, position: u64, uncommitted: bool)
     requires { IsKnown (cursor_of cursors.old place.now) }
-    ensures { cursors.new ≡ moved cursors.old
+    ensures { cursors.new ≡ with_cursor cursors.old
         (record { place = place.now; position = position; uncommitted = uncommitted }) }
 {
     for i in 0..cursors.len() {

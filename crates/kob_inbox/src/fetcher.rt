@@ -37,8 +37,8 @@ impl Fetcher {
     ghost use Rattle.kob_rights.specs.Bodies.{IsBodyOf};
     ghost use Rattle.kob_rights.specs.Offsets.{BodyWithin, greatest_offset};
     ghost use Rattle.kob_inbox.specs.Contents.{Contents};
-    ghost use Rattle.kob_inbox.specs.Cursors.{IsKnown, advanced, cursor_of, standing};
-    ghost use Rattle.kob_inbox.specs.Run.{answered, due};
+    ghost use Rattle.kob_inbox.specs.Cursors.{IsKnown, with_progress, cursor_of, standing};
+    ghost use Rattle.kob_inbox.specs.Run.{after_answer, due};
     ghost use Rattle.kob_inbox.specs.Tick.{Hears, IsOnTurn, Ticks, scene_of, state_of};
 
     /// One step: one request on the partition that has the turn. Room for its cursor is made before
@@ -161,7 +161,7 @@ impl Fetcher {
         ensures same { self.new.subscription ≡ self.old.subscription }
         ensures turn { self.new.turn < length self.new.subscription.assignment }
         ensures done { (inbox : Contents) → state_of self.new inbox
-            ≡ answered self.old.subscription (state_of self.old inbox)
+            ≡ after_answer self.old.subscription (state_of self.old inbox)
             (Request.OffsetCommit (record {
               group = self.old.subscription.group;
               topic = place.now.topic;
@@ -216,7 +216,7 @@ impl Fetcher {
         ensures same { self.new.subscription ≡ self.old.subscription }
         ensures turn { self.new.turn ≡ self.old.turn }
         ensures moved { self.new.cursors.items
-            ≡ advanced self.old.cursors.items place.now passed.count passed.position }
+            ≡ with_progress self.old.cursors.items place.now passed.count passed.position }
     {
         if passed.count == 0 {
             return;

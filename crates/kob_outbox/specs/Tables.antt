@@ -11,8 +11,8 @@ use Rattle.sqlite.specs.Schema.{Schema}
 use Rattle.sqlite_catalog.specs.Change.{created}
 
 -- a column that takes no NULL
-abbrev pub required : List ℕ → Kind → Column
-required name kind =
+abbrev pub required_column : List ℕ → Kind → Column
+required_column name kind =
     record {
       name = name;
       kind = kind;
@@ -58,26 +58,31 @@ by_bytes = record { digits = 0 }
 -- business (kind, id, state), with the key (kind, id)
 abbrev pub business : Table
 business =
-    table_of (codes "business") (required (codes "kind") Text ∷ required (codes "id") Text
-    ∷ required (codes "state") Text ∷ []) None (1 ∷ 2 ∷ []) ((1 ∷ 2 ∷ []) ∷ []) (by_bytes ∷ [])
+    table_of (codes "business") (required_column (codes "kind") Text
+    ∷ required_column (codes "id") Text
+    ∷ required_column (codes "state") Text ∷ []) None (1 ∷ 2 ∷ []) ((1 ∷ 2 ∷ []) ∷ [])
+    (by_bytes ∷ [])
 
 -- outbox (seq, id, aggregatetype, aggregateid, type, payload), numbered by seq
 abbrev pub outbox : Table
 outbox =
     table_of (codes "outbox")
-    (numbering (codes "seq") ∷ required (codes "id") Text ∷ required (codes "aggregatetype") Text
-    ∷ required (codes "aggregateid") Text ∷ required (codes "type") Text
-    ∷ required (codes "payload") Any ∷ [])
+    (numbering (codes "seq") ∷ required_column (codes "id") Text
+    ∷ required_column (codes "aggregatetype") Text
+    ∷ required_column (codes "aggregateid") Text ∷ required_column (codes "type") Text
+    ∷ required_column (codes "payload") Any ∷ [])
     (Some 0) (0 ∷ []) ((2 ∷ []) ∷ []) (by_bytes ∷ [])
 
 -- spent (id, seq), with the key id
 abbrev pub spent : Table
-spent = table_of (codes "spent") (required (codes "id") Text ∷ required (codes "seq") Integer ∷ [])
+spent = table_of (codes "spent") (required_column (codes "id") Text
+    ∷ required_column (codes "seq") Integer ∷ [])
     None (1 ∷ []) ((1 ∷ []) ∷ []) (by_bytes ∷ [])
 
 -- mark (one, upto), of one row
 abbrev pub mark : Table
-mark = table_of (codes "mark") (numbering (codes "one") ∷ required (codes "upto") Integer ∷ [])
+mark = table_of (codes "mark") (numbering (codes "one") ∷ required_column (codes "upto") Integer
+    ∷ [])
     (Some 0) (0 ∷ []) [] []
 
 -- before the first table is made

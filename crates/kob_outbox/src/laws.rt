@@ -4,7 +4,7 @@ ghost use Rattle.std.specs.Prelude.{◌≡◌, ◌≢◌, ℕ, List, string_byte
 ghost use Rattle.kob_outbox.specs.Contents.{Contents};
 ghost use Rattle.kob_outbox.specs.Events.{key_of};
 ghost use Rattle.kob_outbox.specs.Reading.{first_after, state_at, without_sent};
-ghost use Rattle.kob_outbox.specs.Recording.{recorded};
+ghost use Rattle.kob_outbox.specs.Recording.{after_record};
 ghost use Rattle.kob_outbox.specs.declared.change.Change.{Change};
 ghost use Rattle.kob_outbox.specs.declared.event.OutboxEvent.{OutboxEvent};
 
@@ -24,11 +24,11 @@ pub fn a_sweep_keeps_what_waits()
 pub fn a_record_writes_one_business_row()
     ensures here { (c : Contents) (change : Change) (event : OutboxEvent)
         → state_at (string_bytes change.kind) (string_bytes change.id)
-        (recorded c change event).business
+        (after_record c change event).business
         ≡ Some (string_bytes change.state) }
     ensures elsewhere { (c : Contents) (change : Change) (event : OutboxEvent) (kind id : List ℕ)
         → (kind, id) ≢ key_of change
-        → state_at kind id (recorded c change event).business ≡ state_at kind id c.business }
+        → state_at kind id (after_record c change event).business ≡ state_at kind id c.business }
 {
     // By the definitions.
 }

@@ -7,7 +7,7 @@ use Rattle.std.proofs.lemmas.List.{append-nil, map_push}
 use Rattle.std.proofs.lemmas.List.Folds.{list_any-append}
 use Rattle.kob_outbox.specs.Contents.{Contents, Event}
 use Rattle.kob_outbox.specs.Events.{stored_event}
-use Rattle.kob_outbox.specs.Recording.{next_seq, recorded}
+use Rattle.kob_outbox.specs.Recording.{next_seq, after_record}
 use Rattle.kob_router.specs.Dispatches.{Dispatching, dispatch_of, place_of}
 use Rattle.kob_router.specs.Places.{same_place}
 use Rattle.kob_router.specs.Run.{IsRouterRun, Move, State, after, events_of}
@@ -29,7 +29,7 @@ pub rows_tell : (target : Target) (c : Contents) (moves : List Move)
     → AllByRecursion (TellsItsId (dispatch_of target)) (events_of c moves)
 rows_tell target c [] = tt
 rows_tell target c (Recorded change event ∷ moves) =
-    (target_tells target (next_seq c) event, rows_tell target (recorded c change event) moves)
+    (target_tells target (next_seq c) event, rows_tell target (after_record c change event) moves)
 rows_tell target c (_ ∷ moves) = rows_tell target c moves
 
 -- the row's id is one of those of the rows that pass exactly where the row passes
@@ -89,7 +89,7 @@ module _ (test : Event → Bool) where
   told_all route all (Recorded change event ∷ ms) s final rows are run ids h =
       let row : Event = stored_event (next_seq s.outbox) event in
       told_all route all ms (after s (Recorded change event)) final (rows ++ row ∷ [])
-      (one_recorded all rows (events_of (recorded s.outbox change event) ms) row are) run.1
+      (one_recorded all rows (events_of (after_record s.outbox change event) ms) row are) run.1
       (ap (λ (xs : List (List ℕ)). xs ++ row.id ∷ []) ids ∙ sym (map_push (λ (r : Event). r.id) rows row))
       (told_more rows row
       (subst (λ (xs : List (List ℕ)). list_any (bytes_eq row.id) xs ≡ false) ids (is_fresh s.outbox change event run.0))

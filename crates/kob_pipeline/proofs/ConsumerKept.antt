@@ -8,7 +8,7 @@ use Rattle.std.proofs.lemmas.List.Elements.{filter-append}
 use Rattle.kob_names.specs.declared.record.Record.{Record}
 use Rattle.kob_router.specs.Places.{same_place}
 use Rattle.kob_router.specs.declared.place.Place.{Place}
-use Rattle.kob_inbox.specs.Cursors.{advanced, cursor_of, moved}
+use Rattle.kob_inbox.specs.Cursors.{with_progress, cursor_of, with_cursor}
 use Rattle.kob_inbox.specs.Intake.{Arrival, arrivals}
 use Rattle.kob_inbox.specs.Run.{behind}
 use Rattle.kob_inbox.specs.declared.cursors.Cursor.{Cursor}
@@ -33,7 +33,7 @@ IsContent records a = slice_get records a.offset ≡ Some a.message
 abbrev pub offset_of : Arrival → ℕ
 offset_of a = a.offset
 
-cursor_moved : (cs : List Cursor) (c : Cursor) → cursor_of (moved cs c) c.place ≡ Some c
+cursor_moved : (cs : List Cursor) (c : Cursor) → cursor_of (with_cursor cs c) c.place ≡ Some c
 cursor_moved [] c = rw (same_here c.place) refl
 cursor_moved (x ∷ cs) c =
     elim (cases_Bool (same_place x.place c.place)) [
@@ -42,7 +42,7 @@ cursor_moved (x ∷ cs) c =
     ]
 
 cursor_elsewhere : (cs : List Cursor) (c : Cursor) (q : Place) → same_place c.place q ≡ false
-    → cursor_of (moved cs c) q ≡ cursor_of cs q
+    → cursor_of (with_cursor cs c) q ≡ cursor_of cs q
 cursor_elsewhere [] c q h = rw h refl
 cursor_elsewhere (x ∷ cs) c q h =
     elim (cases_Bool (same_place x.place c.place)) [
@@ -56,10 +56,10 @@ cursor_elsewhere (x ∷ cs) c q h =
 
 -- a cursor that moves within the bound
 within_moved : (cs : List Cursor) (c : Cursor) (q : Place) (bound : ℕ) → WithinCursor bound (cursor_of cs q)
-    → (c.place ≡ q → c.position ≤ bound) → WithinCursor bound (cursor_of (moved cs c) q)
+    → (c.place ≡ q → c.position ≤ bound) → WithinCursor bound (cursor_of (with_cursor cs c) q)
 within_moved cs c q bound w new =
     elim (place_cases c.place q) [
-      | inl e ↦ subst (WithinCursor bound) (sym (ap (cursor_of (moved cs c)) (sym e) ∙ cursor_moved cs c)) (new e)
+      | inl e ↦ subst (WithinCursor bound) (sym (ap (cursor_of (with_cursor cs c)) (sym e) ∙ cursor_moved cs c)) (new e)
       | inr apart ↦ subst (WithinCursor bound) (sym (cursor_elsewhere cs c q apart)) w
     ]
 
@@ -128,7 +128,7 @@ module _ (q : Place) where
   pub taking_after_move : (records : List Record) (committed : Option ℕ) (cursors : List Cursor)
       (arrived : List Arrival) (c : Cursor)
       (k : Taking records committed cursors arrived) → (c.place ≡ q → c.position ≤ k.bound)
-      → Taking records committed (moved cursors c) arrived
+      → Taking records committed (with_cursor cursors c) arrived
   taking_after_move records committed cursors arrived c k new =
       record {
         bound = k.bound;
@@ -156,7 +156,7 @@ module _ (q : Place) where
       (xs : List (ℕ × Record)) (k : Taking records committed cursors arrived) → position ≤ k.bound
       → AreConsecutive position xs
       → AllByRecursion (Stands records) xs
-      → Taking records committed (moved cursors (cursor_behind q position xs)) (arrived ++ arrivals q xs)
+      → Taking records committed (with_cursor cursors (cursor_behind q position xs)) (arrived ++ arrivals q xs)
   taking_here records committed cursors arrived position xs k l c all =
       let r : Reached k.bound position xs = reached k.bound position xs l c in
       let more : from_place q (arrived ++ arrivals q xs) ≡ from_place q arrived ++ arrivals q xs =
@@ -183,7 +183,7 @@ module _ (q : Place) where
   taking_elsewhere : (p : Place) (records : List Record) (committed : Option ℕ) (cursors : List Cursor)
       (arrived : List Arrival)
       (position : ℕ) (xs : List (ℕ × Record)) → same_place p q ≡ false → Taking records committed cursors arrived
-      → Taking records committed (moved cursors (cursor_behind p position xs)) (arrived ++ arrivals p xs)
+      → Taking records committed (with_cursor cursors (cursor_behind p position xs)) (arrived ++ arrivals p xs)
   taking_elsewhere p records committed cursors arrived position xs apart k =
       let more : from_place q (arrived ++ arrivals p xs) ≡ from_place q arrived =
       filter-append (λ (a : Arrival). same_place a.place q) arrived (arrivals p xs)
@@ -207,7 +207,7 @@ module _ (q : Place) where
       (arrived : List Arrival)
       (position count : ℕ) (xs : List (ℕ × Record)) (k : Taking records committed cursors arrived)
       → (count ≡ 0 → xs ≡ []) → (p ≡ q → Fits records k.bound position xs)
-      → Taking records committed (advanced cursors p count (behind position xs)) (arrived ++ arrivals p xs)
+      → Taking records committed (with_progress cursors p count (behind position xs)) (arrived ++ arrivals p xs)
   taking_after_fetch p records committed cursors arrived position zero xs k none fits =
       subst (λ (ys : List (ℕ × Record)). Taking records committed cursors (arrived ++ arrivals p ys)) (sym (none refl))
       (taking_nothing records committed cursors arrived k)
@@ -216,7 +216,7 @@ module _ (q : Place) where
         | inl e ↦
             let f = fits e in
             let there = taking_here records committed cursors arrived position xs k f.0 f.1 f.2 in
-            subst (λ (y : Place). Taking records committed (moved cursors (cursor_behind y position xs))
+            subst (λ (y : Place). Taking records committed (with_cursor cursors (cursor_behind y position xs))
             (arrived ++ arrivals y xs)) (sym e) there
         | inr apart ↦ taking_elsewhere p records committed cursors arrived position xs apart k
       ]

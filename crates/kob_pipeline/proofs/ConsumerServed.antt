@@ -15,9 +15,9 @@ use Rattle.kob_rights.specs.declared.request.Request.{Request}
 use Rattle.kob_rights.specs.declared.request.Request.TheVariants.{Fetch, OffsetCommit, OffsetFetch}
 use Rattle.kob_router.specs.Places.{same_place}
 use Rattle.kob_router.specs.declared.place.Place.{Place}
-use Rattle.kob_inbox.specs.Cursors.{cursor_of, moved, standing}
+use Rattle.kob_inbox.specs.Cursors.{cursor_of, with_cursor, standing}
 use Rattle.kob_inbox.specs.Intake.{Arrival}
-use Rattle.kob_inbox.specs.Run.{IsDue, State, answered, due, place_at, taken_by}
+use Rattle.kob_inbox.specs.Run.{IsDue, State, after_answer, due, place_at, taken_by}
 use Rattle.kob_inbox.specs.declared.cursors.Cursor.{Cursor}
 use Rattle.kob_inbox.specs.declared.cursors.Standing.{Standing}
 use Rattle.kob_inbox.specs.declared.fetcher.Subscription.{Subscription}
@@ -90,7 +90,7 @@ commit_or_not false n bound o h w = w
 
 -- with no Done heard nothing changes
 answered_unheard : (t : Subscription) (s : State) (request : Request) (heard : Option Reply) (count : ℕ) → NotDone heard
-    → answered t s request heard count ≡ s
+    → after_answer t s request heard count ≡ s
 answered_unheard t s request None count n = refl
 answered_unheard t s request (Some (Denied code verdicts)) count n = refl
 answered_unheard t s request (Some (Refused code reason)) count n = refl
@@ -117,7 +117,7 @@ module _ (t : Subscription) (q : Place) where
 
   -- after a call
   abbrev After : State → View → List Arrival → Request → Option Reply → ℕ → Type 0
-  After s v arrived request heard count = TakingIn (answered t s request heard count) v
+  After s v arrived request heard count = TakingIn (after_answer t s request heard count) v
       (arrived ++ taken_by request heard count)
 
   pub taking_silent : (s : State) (v : View) (arrived : List Arrival) (request : Request) (heard : Option Reply)
@@ -145,7 +145,7 @@ module _ (t : Subscription) (q : Place) where
       λ e'. offset_within o k.bound (subst (λ (y : Place). WithinOffset k.bound (v.committed asked.group y)) (sym e')
       commit) in
       subst (λ (h : Option Reply). After s v arrived (OffsetFetch asked) h count) (sym known)
-      (taking_nothing q (records_of (v.log q)) (v.committed t.group q) (moved s.cursors c) arrived
+      (taking_nothing q (records_of (v.log q)) (v.committed t.group q) (with_cursor s.cursors c) arrived
       (taking_after_move q (records_of (v.log q)) (v.committed t.group q) s.cursors arrived c k within))
 
   -- FETCH that was heard
@@ -228,7 +228,7 @@ module _ (t : Subscription) (q : Place) where
           } in
           subst (λ (h : Option Reply). After s (with_commit v asked.group (place_at asked.topic asked.partition)
           asked.offset) arrived (OffsetCommit asked) h count) (sym e)
-          (taking_nothing q (records_of (v.log q)) o (moved s.cursors cursor) arrived
+          (taking_nothing q (records_of (v.log q)) o (with_cursor s.cursors cursor) arrived
           (taking_after_move q (records_of (v.log q)) o s.cursors arrived cursor committed within))
 
   -- a call that was served, whatever was heard
@@ -244,20 +244,20 @@ module _ (t : Subscription) (q : Place) where
       taking_silent s w arrived request heard count (heard_no_done heard (Refused code reason) tt hears)
       (taking_shown s v w arrived step k)
   taking_served s v w arrived place (OffsetFetch asked) (Done body) heard count d hears step k =
-      taking_shown (answered t s (OffsetFetch asked) heard count) v w
+      taking_shown (after_answer t s (OffsetFetch asked) heard count) v w
       (arrived ++ taken_by (OffsetFetch asked) heard count) step.1
       (elim hears [
         | inl e ↦ taking_silent s v arrived (OffsetFetch asked) heard count (heard_none heard e) k
         | inr e ↦ placed s v arrived asked body heard count d.0 step.0 e k
       ])
   taking_served s v w arrived place (OffsetCommit asked) (Done body) heard count d hears step k =
-      taking_shown (answered t s (OffsetCommit asked) heard count)
+      taking_shown (after_answer t s (OffsetCommit asked) heard count)
       (with_commit v asked.group (place_at asked.topic asked.partition) asked.offset) w
       (arrived ++ taken_by (OffsetCommit asked) heard count) step
       (committed_in s v arrived asked body heard count d.2
       (ap (λ (y : Place). standing (cursor_of s.cursors y)) d.1 ∙ d.3) d.4 hears k)
   taking_served s v w arrived place (Fetch asked) (Done body) heard count d hears step k =
-      taking_shown (answered t s (Fetch asked) heard count) v w (arrived ++ taken_by (Fetch asked) heard count) step.1
+      taking_shown (after_answer t s (Fetch asked) heard count) v w (arrived ++ taken_by (Fetch asked) heard count) step.1
       (elim hears [
         | inl e ↦ taking_silent s v arrived (Fetch asked) heard count (heard_none heard e) k
         | inr e ↦ fetched_in s v arrived asked body heard count d.1

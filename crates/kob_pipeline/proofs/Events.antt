@@ -7,7 +7,7 @@ use Rattle.std.proofs.lemmas.List.{append-nil, map_push, map-append, length_push
 use Rattle.kob_outbox.specs.Contents.{Contents, Event, empty}
 use Rattle.kob_outbox.specs.Events.{id_text, stored_event}
 use Rattle.kob_outbox.specs.Reading.{later_than, without_sent}
-use Rattle.kob_outbox.specs.Recording.{next_seq, recorded}
+use Rattle.kob_outbox.specs.Recording.{next_seq, after_record}
 use Rattle.kob_outbox.specs.declared.change.Change.{Change}
 use Rattle.kob_outbox.specs.declared.event.OutboxEvent.{OutboxEvent}
 use Rattle.kob_router.specs.Run.{IsRecordable}
@@ -54,7 +54,7 @@ is_fresh c change event may =
 
 pub kept_recorded : (rows : List Event) (c : Contents) (sent wait : List Event) (change : Change) (event : OutboxEvent)
     → IsKept rows c sent wait → IsRecordable c change event
-    → IsKept (rows ++ stored_event (next_seq c) event ∷ []) (recorded c change event) sent
+    → IsKept (rows ++ stored_event (next_seq c) event ∷ []) (after_record c change event) sent
     (wait ++ stored_event (next_seq c) event ∷ [])
 kept_recorded rows c sent wait change event k may =
     let row : Event = stored_event (next_seq c) event in

@@ -8,7 +8,7 @@ use Rattle.kob_outbox.specs.Reading.{later_than}
 use Rattle.kob_outbox.specs.Recording.{next_seq}
 use Rattle.kob_outbox.specs.Events.{stored_event}
 use Rattle.kob_router.specs.Dispatches.{Dispatching}
-use Rattle.kob_router.specs.Run.{Hand, IsRouterRun, Move, State, after, advanced}
+use Rattle.kob_router.specs.Run.{Hand, IsRouterRun, Move, State, after, after_acknowledgement}
 use Rattle.kob_router.specs.Run.Move.{Called, Recorded, Restarted, Swept, Took}
 
 -- each row has a positive number
@@ -27,7 +27,7 @@ numbered_filter : (test : Event → Bool) (events : List Event) → IsNumbered e
 numbered_filter test [] is = tt
 numbered_filter test (e ∷ events) is = kept_or_not (test e) e (filter test events) is.0 (numbered_filter test events is.1)
 
-advanced_numbered : (s : State) (hand : Option Hand) → IsNumbered s.outbox.events → IsNumbered (advanced s hand).outbox.events
+advanced_numbered : (s : State) (hand : Option Hand) → IsNumbered s.outbox.events → IsNumbered (after_acknowledgement s hand).outbox.events
 advanced_numbered s None is = is
 advanced_numbered s (Some hand) is = is
 

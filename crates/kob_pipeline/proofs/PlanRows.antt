@@ -7,11 +7,11 @@ use Rattle.kob_outbox.specs.Events.{id_text, stored_event}
 use Rattle.kob_outbox.specs.Fields.{first_bad}
 use Rattle.kob_outbox.specs.declared.fields.Column.{Column}
 use Rattle.kob_outbox.specs.Reading.{without_sent}
-use Rattle.kob_outbox.specs.Recording.{is_recorded, next_seq, recorded}
+use Rattle.kob_outbox.specs.Recording.{is_recorded, next_seq, after_record}
 use Rattle.kob_outbox.specs.declared.change.Change.{Change}
 use Rattle.kob_outbox.specs.declared.event.OutboxEvent.{OutboxEvent}
 use Rattle.kob_router.specs.Dispatches.{Dispatching}
-use Rattle.kob_router.specs.Run.{Hand, IsRecordable, IsRouterRun, Move, State, advanced, after, events_of}
+use Rattle.kob_router.specs.Run.{Hand, IsRecordable, IsRouterRun, Move, State, after_acknowledgement, after, events_of}
 use Rattle.kob_router.specs.Run.Move.{Called, Recorded, Restarted, Swept, Took}
 use Rattle.kob_router.specs.Tick.{IsOfTick}
 use Rattle.kob_router.specs.declared.line.Call.{Call}
@@ -26,16 +26,16 @@ use Rattle.kob_pipeline.specs.declared.plan.ServiceStep.TheVariants as steps
 same_rows : (c d : Contents) (moves : List Move) → c.ids ≡ d.ids → events_of c moves ≡ events_of d moves
 same_rows c d [] same = refl
 same_rows c d (Recorded change event ∷ moves) same =
-    ap (λ ids. stored_event (suc (length ids)) event ∷ events_of (recorded c change event) moves) same
+    ap (λ ids. stored_event (suc (length ids)) event ∷ events_of (after_record c change event) moves) same
     ∙ ap (λ rows. stored_event (suc (length d.ids)) event ∷ rows)
-    (same_rows (recorded c change event) (recorded d change event) moves
+    (same_rows (after_record c change event) (after_record d change event) moves
     (ap (λ ids. ids ++ id_text event.id ∷ []) same))
 same_rows c d (Swept ∷ moves) same = same_rows c d moves same
 same_rows c d (Restarted ∷ moves) same = same_rows c d moves same
 same_rows c d (Took hand ∷ moves) same = same_rows c d moves same
 same_rows c d (Called call marks ∷ moves) same = same_rows c d moves same
 
-ids_advanced : (s : State) (hand : Option Hand) → (advanced s hand).outbox.ids ≡ s.outbox.ids
+ids_advanced : (s : State) (hand : Option Hand) → (after_acknowledgement s hand).outbox.ids ≡ s.outbox.ids
 ids_advanced s None = refl
 ids_advanced s (Some hand) = refl
 

@@ -5,13 +5,13 @@ use Rattle.std.specs.List.{AllByRecursion}
 use Rattle.kob_names.specs.declared.batch.Batch.{Batch}
 use Rattle.kob_outbox.specs.Contents.{Contents, Event}
 use Rattle.kob_outbox.specs.Events.{stored_event}
-use Rattle.kob_outbox.specs.Recording.{next_seq, recorded}
+use Rattle.kob_outbox.specs.Recording.{next_seq, after_record}
 use Rattle.kob_outbox.specs.declared.change.Change.{Change}
 use Rattle.kob_outbox.specs.declared.event.OutboxEvent.{OutboxEvent}
 use Rattle.kob_partition.specs.Batches.{history}
 use Rattle.kob_producers.specs.declared.sent.Sent.{Sent}
 use Rattle.kob_router.specs.Dispatches.{Dispatching, place_of}
-use Rattle.kob_router.specs.Places.{prepared, sequence_of}
+use Rattle.kob_router.specs.Places.{with_sequence_for, sequence_of}
 use Rattle.kob_router.specs.Run.{Hand, IsRecordable, May, State, after, start}
 use Rattle.kob_router.specs.Run.Move.{Recorded, Restarted, Swept, Took}
 use Rattle.kob_router.specs.declared.dispatch.Dispatch.{Dispatch}
@@ -81,7 +81,7 @@ known_later (Some p) ss hand q log next later ahead l k =
 -- with nothing in hand, nothing is pending
 in_step_taken : (ss : List Sequence) (old : Option Hand) (hand : Hand) (q : Place) (n : ℕ) (ahead : Option Event)
     → old ≡ None
-    → InStep ss old q n ahead → InStep (prepared ss hand.place) (Some hand) q n ahead
+    → InStep ss old q n ahead → InStep (with_sequence_for ss hand.place) (Some hand) q n ahead
 in_step_taken ss old hand q n ahead none h =
     elim h [
       | inl e ↦ inl (sequence_prepared ss hand.place q ∙ e)
@@ -91,7 +91,7 @@ in_step_taken ss old hand q n ahead none h =
 known_taken : (o : Option Producer) (ss : List Sequence) (old : Option Hand) (hand : Hand) (q : Place)
     (log : List Batch)
     (next : ℕ) (ahead : Option Event) → old ≡ None → Known o ss old q log next ahead
-    → Known o (prepared ss hand.place) (Some hand) q log next ahead
+    → Known o (with_sequence_for ss hand.place) (Some hand) q log next ahead
 known_taken None ss old hand q log next ahead none k = sequence_prepared ss hand.place q ∙ k
 known_taken (Some p) ss old hand q log next ahead none k =
     record {
@@ -154,7 +154,7 @@ module _ (route : Dispatching) (q : Place) where
         sent = k.sent;
         ahead = k.ahead;
         rest = k.rest ++ row ∷ [];
-        kept = subst (λ (w : List Event). IsKept (rows ++ row ∷ []) (recorded s.outbox change event) k.sent w) (sym e)
+        kept = subst (λ (w : List Event). IsKept (rows ++ row ∷ []) (after_record s.outbox change event) k.sent w) (sym e)
             (kept_recorded rows s.outbox k.sent wait change event k.kept may);
         tells = all_last (TellsItsId route) rows row k.tells (tells (next_seq s.outbox) event);
         holds = subst (λ (w : List Event). InHand route s.hand w) (sym e) (in_hand_more route s.hand wait row k.holds);

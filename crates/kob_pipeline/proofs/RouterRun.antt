@@ -7,7 +7,7 @@ use Rattle.std.proofs.lemmas.List.Elements.{filter-append}
 use Rattle.kob_names.specs.declared.batch.Batch.{Batch}
 use Rattle.kob_outbox.specs.Contents.{Contents, Event}
 use Rattle.kob_outbox.specs.Events.{id_text, stored_event}
-use Rattle.kob_outbox.specs.Recording.{next_seq, recorded}
+use Rattle.kob_outbox.specs.Recording.{next_seq, after_record}
 use Rattle.kob_partition.specs.Batches.{records_of}
 use Rattle.kob_producers.specs.declared.judge.Judgement.{Judgement}
 use Rattle.kob_producers.specs.declared.judge.Judgement.TheVariants.{Next, Repeat, OutOfOrder, OldEpoch}
@@ -17,7 +17,7 @@ use Rattle.kob_rights.specs.declared.request.Request.{Request}
 use Rattle.kob_rights.specs.declared.request.Request.TheVariants.{DeleteGroups, DeleteTopics, Fetch, InitProducerId, OffsetCommit, OffsetFetch, Produce}
 use Rattle.kob_router.specs.Dispatches.{Dispatching}
 use Rattle.kob_router.specs.Places.{same_place}
-use Rattle.kob_router.specs.Run.{Hand, IsRouterRun, Move, State, advanced, after, calls_of, events_of, start}
+use Rattle.kob_router.specs.Run.{Hand, IsRouterRun, Move, State, after_acknowledgement, after, calls_of, events_of, start}
 use Rattle.kob_router.specs.Run.Move.{Called, Recorded, Restarted, Swept, Took}
 use Rattle.kob_router.specs.declared.line.Call.{Call}
 use Rattle.kob_router.specs.declared.place.Place.{Place}
@@ -35,13 +35,13 @@ use Rattle.kob_pipeline.proofs.RouterServed.{KeptIn, heard_none, kept_after_no_a
 pub same_events : (moves : List Move) (c d : Contents) → c.ids ≡ d.ids → events_of c moves ≡ events_of d moves
 same_events [] c d e = refl
 same_events (Recorded change event ∷ moves) c d e =
-    ap (λ (ids : List (List ℕ)). stored_event (suc (length ids)) event ∷ events_of (recorded c change event) moves) e
+    ap (λ (ids : List (List ℕ)). stored_event (suc (length ids)) event ∷ events_of (after_record c change event) moves) e
     ∙ ap (λ (es : List Event). stored_event (next_seq d) event ∷ es)
-    (same_events moves (recorded c change event) (recorded d change event)
+    (same_events moves (after_record c change event) (after_record d change event)
     (ap (λ (ids : List (List ℕ)). ids ++ id_text event.id ∷ []) e))
 same_events (_ ∷ moves) c d e = same_events moves c d e
 
-advanced_ids : (s : State) (o : Option Hand) → (advanced s o).outbox.ids ≡ s.outbox.ids
+advanced_ids : (s : State) (o : Option Hand) → (after_acknowledgement s o).outbox.ids ≡ s.outbox.ids
 advanced_ids s None = refl
 advanced_ids s (Some h) = refl
 
@@ -133,7 +133,7 @@ module _ (route : Dispatching) (q : Place) (tells : TellsIds route) where
   led all v final e es (Recorded change event ∷ ms) rows s are run served k =
       let row : Event = stored_event (next_seq s.outbox) event in
       led all v final e es ms (rows ++ row ∷ []) (after s (Recorded change event))
-      (one_recorded all rows (events_of (recorded s.outbox change event) ms) row are) run.1 served
+      (one_recorded all rows (events_of (after_record s.outbox change event) ms) row are) run.1 served
       (kept_after_record route q rows s (v.log q) v.next_producer change event tells run.0 k)
   led all v final e es (Swept ∷ ms) rows s are run served k =
       led all v final e es ms rows (after s Swept) (none_recorded all rows ms (after s Swept).outbox s.outbox refl are)
@@ -172,7 +172,7 @@ module _ (route : Dispatching) (q : Place) (tells : TellsIds route) where
   to_the_end all v final (Recorded change event ∷ ms) rows s are run served k =
       let row : Event = stored_event (next_seq s.outbox) event in
       to_the_end all v final ms (rows ++ row ∷ []) (after s (Recorded change event))
-      (one_recorded all rows (events_of (recorded s.outbox change event) ms) row are) run.1 served
+      (one_recorded all rows (events_of (after_record s.outbox change event) ms) row are) run.1 served
       (kept_after_record route q rows s (v.log q) v.next_producer change event tells run.0 k)
   to_the_end all v final (Swept ∷ ms) rows s are run served k =
       to_the_end all v final ms rows (after s Swept) (none_recorded all rows ms (after s Swept).outbox s.outbox refl

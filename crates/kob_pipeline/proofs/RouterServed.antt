@@ -18,7 +18,7 @@ use Rattle.kob_rights.specs.declared.request.Request.{Request}
 use Rattle.kob_rights.specs.declared.request.Request.TheVariants.{InitProducerId, Produce}
 use Rattle.kob_router.specs.Dispatches.{Dispatching}
 use Rattle.kob_router.specs.Places.{same_place, sequence_of}
-use Rattle.kob_router.specs.Run.{Hand, IsDone, IsSending, MayCall, State, after, batch_of, given}
+use Rattle.kob_router.specs.Run.{Hand, IsDone, IsSending, MayCall, State, after, batch_of, producer_after}
 use Rattle.kob_router.specs.Run.Move.{Called}
 use Rattle.kob_router.specs.declared.place.Place.{Place}
 use Rattle.kob_router.specs.declared.sender.Producer.{Producer}
@@ -66,13 +66,13 @@ not_both (Some (Refused code reason)) n d = d
 not_both (Some (Done body)) n d = n
 
 given_by_produce : (old : Option Producer) (asked : ProduceRequest) (heard : Option Reply)
-    → given old (Produce asked) heard ≡ old
+    → producer_after old (Produce asked) heard ≡ old
 given_by_produce old asked None = refl
 given_by_produce old asked (Some (Denied code verdicts)) = refl
 given_by_produce old asked (Some (Refused code reason)) = refl
 given_by_produce old asked (Some (Done body)) = refl
 
-given_unheard : (old : Option Producer) (heard : Option Reply) → NotDone heard → given old InitProducerId heard ≡ old
+given_unheard : (old : Option Producer) (heard : Option Reply) → NotDone heard → producer_after old InitProducerId heard ≡ old
 given_unheard old None n = refl
 given_unheard old (Some (Denied code verdicts)) n = refl
 given_unheard old (Some (Refused code reason)) n = refl
@@ -200,7 +200,7 @@ module _ (route : Dispatching) (q : Place) where
           w.next_producer x.0 x.1
       marked_or_not false x =
           same_producer rows (holding s.outbox i.producer s.sequences i.hand) w
-          (given (Some i.producer) (Produce asked) heard)
+          (producer_after (Some i.producer) (Produce asked) heard)
           (given_by_produce (Some i.producer) asked heard) x.0
 
   -- a call that was not answered with Done changes nothing
@@ -210,24 +210,24 @@ module _ (route : Dispatching) (q : Place) where
       → KeptIn route q rows (after s (Called (record { request = request; heard = heard }) marks)) v
   kept_after_no_answer rows s v InitProducerId heard true may n k = absurd (true≢false may.1)
   kept_after_no_answer rows s v InitProducerId heard false may n k =
-      same_producer rows s v (given s.producer InitProducerId heard) (given_unheard s.producer heard n) k
+      same_producer rows s v (producer_after s.producer InitProducerId heard) (given_unheard s.producer heard n) k
   kept_after_no_answer rows s v (Produce asked) heard true may n k = absurd (not_both heard n (may.1 refl))
   kept_after_no_answer rows s v (Produce asked) heard false may n k =
-      same_producer rows s v (given s.producer (Produce asked) heard) (given_by_produce s.producer asked heard) k
+      same_producer rows s v (producer_after s.producer (Produce asked) heard) (given_by_produce s.producer asked heard) k
   kept_after_no_answer rows s v _ heard marks may n k = absurd may
 
   -- an INIT_PRODUCER_ID that was answered
   given_id : (rows : List Event) (s : State) (v : View) (body : Body) (heard : Option Reply)
       → s.producer ≡ None → body ≡ bodies.Producer v.next_producer 0 → Hears heard (Done body) → KeptIn route q rows s v
-      → KeptIn route q rows (holding_id s (given s.producer InitProducerId heard)) (with_producer v)
+      → KeptIn route q rows (holding_id s (producer_after s.producer InitProducerId heard)) (with_producer v)
   given_id rows s v body heard none is (inl e) k =
-      same_producer rows s (with_producer v) (given s.producer InitProducerId heard)
+      same_producer rows s (with_producer v) (producer_after s.producer InitProducerId heard)
       (given_unheard s.producer heard (heard_none heard e))
       (kept_later route q rows s (v.log q) v.next_producer (v.next_producer + 1) (omega arith) k)
   given_id rows s v body heard none is (inr e) k =
       let p : Producer = record { id = v.next_producer; epoch = 0 } in
-      let known : given s.producer InitProducerId heard ≡ Some p =
-      ap (given s.producer InitProducerId) e ∙ ap (λ (b : Body). given s.producer InitProducerId (Some (Done b))) is in
+      let known : producer_after s.producer InitProducerId heard ≡ Some p =
+      ap (producer_after s.producer InitProducerId) e ∙ ap (λ (b : Body). producer_after s.producer InitProducerId (Some (Done b))) is in
       let k' : KeptIn route q rows (holding_id s None) v = subst
       (λ (o : Option Producer). KeptIn route q rows (holding_id s o) v) none k in
       subst (λ (o : Option Producer). KeptIn route q rows (holding_id s o) (with_producer v)) (sym known)
@@ -248,7 +248,7 @@ module _ (route : Dispatching) (q : Place) where
       (kept_after_no_answer rows s v request heard marks may (heard_no_done heard (Refused code reason) tt hears) k)
   kept_after_served rows s v w InitProducerId (Done body) heard true may hears step k = absurd (true≢false may.1)
   kept_after_served rows s v w InitProducerId (Done body) heard false may hears step k =
-      shown (λ log next. Kept route q rows (holding_id s (given s.producer InitProducerId heard)) log next) q
+      shown (λ log next. Kept route q rows (holding_id s (producer_after s.producer InitProducerId heard)) log next) q
       (with_producer v) w step.1
       (given_id rows s v body heard may.0 step.0 hears k)
   kept_after_served rows s v w (Produce asked) (Done body) heard marks may hears step k =

@@ -14,7 +14,7 @@ use Rattle.kob_producers.specs.Recent.{sent}
 use Rattle.kob_producers.specs.declared.judge.Judgement.TheVariants.{Next, Repeat}
 use Rattle.kob_producers.specs.declared.sent.Sent.{Sent}
 use Rattle.kob_router.specs.Dispatches.{Dispatching, place_of}
-use Rattle.kob_router.specs.Places.{same_place, sequence_of, used}
+use Rattle.kob_router.specs.Places.{same_place, sequence_of, after_use}
 use Rattle.kob_router.specs.Run.{Hand, State, batch_of}
 use Rattle.kob_router.specs.declared.dispatch.Dispatch.{Dispatch}
 use Rattle.kob_router.specs.declared.place.Place.{Place}
@@ -51,7 +51,7 @@ goes_elsewhere (Some d) p q e h =
     ap (λ (x : Place). same_place q x) same ∙ apart_back p q h
 
 step_on : (ss : List Sequence) (h : Hand) (q : Place) (n : ℕ) (ahead : Option Event) → InStep ss (Some h) q n ahead
-    → IsReady ss h q n ahead → sequence_of (used ss h.place) q ≡ wrapped n
+    → IsReady ss h q n ahead → sequence_of (after_use ss h.place) q ≡ wrapped n
 step_on ss h q n ahead s (inl apart) =
     sequence_used_elsewhere ss h.place q apart
     ∙ elim s [
@@ -62,7 +62,7 @@ step_on ss h q n ahead s (inl apart) =
     ]
 step_on ss h q n ahead s (inr w) =
     let e : h.place ≡ q = ap (λ (x : Hand). x.place) (same_some h w.held w.in_hand) ∙ w.here_it_goes in
-    ap (λ (x : Place). sequence_of (used ss x) q) e
+    ap (λ (x : Place). sequence_of (after_use ss x) q) e
     ∙ sequence_used_here ss q
     ∙ ap (λ (k : ℕ). Rattle.kob_producers.specs.Sequence.next_sequence k) w.base
     ∙ next_wrapped w.before
@@ -105,7 +105,7 @@ module _ (route : Dispatching) (q : Place) where
       → Kept route q rows (record {
         outbox = record c { mark = h.event.seq };
         producer = Some p;
-        sequences = used ss
+        sequences = after_use ss
             h.place;
         hand = None;
       }) log next

@@ -7,7 +7,7 @@ use Rattle.std.proofs.lemmas.List.{append-nil}
 use Rattle.kob_names.specs.declared.batch.Batch.{Batch}
 use Rattle.kob_outbox.specs.Contents.{Event}
 use Rattle.kob_outbox.specs.Events.{stored_event}
-use Rattle.kob_outbox.specs.Recording.{next_seq, recorded}
+use Rattle.kob_outbox.specs.Recording.{next_seq, after_record}
 use Rattle.kob_rights.specs.declared.on_partitions.Produce.{Produce as ProduceRequest}
 use Rattle.kob_rights.specs.declared.reply.Body.{Body}
 use Rattle.kob_rights.specs.declared.reply.Reply.{Reply}
@@ -15,7 +15,7 @@ use Rattle.kob_rights.specs.declared.reply.Reply.TheVariants.{Denied, Done, Refu
 use Rattle.kob_rights.specs.declared.request.Request.{Request}
 use Rattle.kob_rights.specs.declared.request.Request.TheVariants.{InitProducerId, Produce}
 use Rattle.kob_router.specs.Dispatches.{Dispatching}
-use Rattle.kob_router.specs.Run.{Hand, IsDone, IsRouterRun, IsSending, MayCall, Move, State, advanced, after, calls_of, events_of, start}
+use Rattle.kob_router.specs.Run.{Hand, IsDone, IsRouterRun, IsSending, MayCall, Move, State, after_acknowledgement, after, calls_of, events_of, start}
 use Rattle.kob_router.specs.Run.Move.{Called, Recorded, Restarted, Swept, Took}
 use Rattle.kob_router.specs.declared.line.Call.{Call}
 use Rattle.kob_shared.specs.declared.journal.Entry.{Entry}
@@ -84,7 +84,7 @@ module _ (route : Dispatching) (worker : ℕ) (journal : List Entry) where
 
   kept_mark : (rows : List Event) (s : State) (hand : Hand) → s.hand ≡ Some hand
       → IsSent route worker journal hand.event
-      → Kept rows s → Kept rows (advanced s (Some hand))
+      → Kept rows s → Kept rows (after_acknowledgement s (Some hand))
   kept_mark rows s hand e entry k =
       let holds : InHand route (Some hand) k.wait = subst (λ (o : Option Hand). InHand route o k.wait) e k.holds in
       let at = first_is k.wait hand.event holds.0 in
@@ -132,7 +132,7 @@ module _ (route : Dispatching) (worker : ℕ) (journal : List Entry) where
   kept_call rows s InitProducerId heard true es cs may a own k = absurd (true≢false may.1)
   kept_call rows s (Produce asked) heard true es cs may a own k =
       let i : IsSending route s asked = may.0 in
-      subst (λ (o : Option Hand). Kept rows (advanced s o)) (sym i.has_hand)
+      subst (λ (o : Option Hand). Kept rows (after_acknowledgement s o)) (sym i.has_hand)
       (kept_mark rows s i.hand i.has_hand (acknowledged s asked heard es cs i (may.1 refl) a own) k)
   kept_call rows s _ heard true es cs may a own k = absurd may
 
@@ -144,7 +144,7 @@ module _ (route : Dispatching) (worker : ℕ) (journal : List Entry) where
   kept_all all final (Recorded change event ∷ ms) s rows es are run a own k =
       let row : Event = stored_event (next_seq s.outbox) event in
       kept_all all final ms (after s (Recorded change event)) (rows ++ row ∷ []) es
-      (one_recorded all rows (events_of (recorded s.outbox change event) ms) row are) run.1 a own
+      (one_recorded all rows (events_of (after_record s.outbox change event) ms) row are) run.1 a own
       (record {
         sent = k.sent;
         wait = k.wait ++ row ∷ [];

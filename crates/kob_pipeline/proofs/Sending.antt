@@ -14,7 +14,7 @@ use Rattle.kob_producers.specs.Sequence.{last_of, next_sequence}
 use Rattle.kob_producers.specs.declared.judge.Judgement.TheVariants.{Next, Repeat, OutOfOrder}
 use Rattle.kob_producers.specs.declared.sent.Sent.{Sent}
 use Rattle.kob_partition.specs.Batches.{history, history_from, sent_in}
-use Rattle.kob_router.specs.Places.{prepared, same_place, sequence_of, used}
+use Rattle.kob_router.specs.Places.{with_sequence_for, same_place, sequence_of, after_use}
 use Rattle.kob_router.specs.Run.{batch_of}
 use Rattle.kob_router.specs.declared.place.Place.{Place}
 use Rattle.kob_router.specs.declared.sender.Producer.{Producer}
@@ -212,7 +212,7 @@ no_history id next l log h = go 0 log h
         (not_its id next start (length b.records) l b.idem h.0)
         ∙ go (start + length b.records) log h.1
 
-pub sequence_used_here : (ss : List Sequence) (q : Place) → sequence_of (used ss q) q ≡ next_sequence (sequence_of ss q)
+pub sequence_used_here : (ss : List Sequence) (q : Place) → sequence_of (after_use ss q) q ≡ next_sequence (sequence_of ss q)
 sequence_used_here [] q = rw (same_here q) refl
 sequence_used_here (s ∷ ss) q =
     elim (cases_Bool (same_place s.place q)) [
@@ -221,7 +221,7 @@ sequence_used_here (s ∷ ss) q =
     ]
 
 pub sequence_used_elsewhere : (ss : List Sequence) (p q : Place) → same_place p q ≡ false
-    → sequence_of (used ss p) q ≡ sequence_of ss q
+    → sequence_of (after_use ss p) q ≡ sequence_of ss q
 sequence_used_elsewhere [] p q h = rw h refl
 sequence_used_elsewhere (s ∷ ss) p q h =
     elim (cases_Bool (same_place s.place p)) [
@@ -231,7 +231,7 @@ sequence_used_elsewhere (s ∷ ss) p q h =
       | inr other ↦ rw other (ap (λ (k : ℕ). cond (same_place s.place q) s.next k) (sequence_used_elsewhere ss p q h))
     ]
 
-pub sequence_prepared : (ss : List Sequence) (p q : Place) → sequence_of (prepared ss p) q ≡ sequence_of ss q
+pub sequence_prepared : (ss : List Sequence) (p q : Place) → sequence_of (with_sequence_for ss p) q ≡ sequence_of ss q
 sequence_prepared [] p q = elim (cases_Bool (same_place p q)) [ inl on ↦ rw on refl | inr off ↦ rw off refl ]
 sequence_prepared (s ∷ ss) p q =
     elim (cases_Bool (same_place s.place p)) [

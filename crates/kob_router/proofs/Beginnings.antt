@@ -23,8 +23,8 @@ use Rattle.kob_router.specs.declared.tick.Tick.{Tick}
 use Rattle.kob_router.specs.declared.tick.Tick.TheVariants.{Idle, Moved, Repeat, Stopped}
 use Rattle.kob_router.specs.Dispatches.{Dispatching, dispatch_of}
 use Rattle.kob_router.specs.Parts.{HasHand, Introduces, Takes}
-use Rattle.kob_router.specs.Places.{has_place, prepared, same_place}
-use Rattle.kob_router.specs.Run.{Hand, IsRouterRun, Move, State, calls_of, given}
+use Rattle.kob_router.specs.Places.{has_place, with_sequence_for, same_place}
+use Rattle.kob_router.specs.Run.{Hand, IsRouterRun, Move, State, calls_of, producer_after}
 use Rattle.kob_router.specs.Run.Move.{Called, Took}
 use Rattle.kob_router.specs.Tick.{IsAnswer, IsAtMostOne, IsHeld, IsOfTick, IsOneTick, Ticks, hand_of, state_of}
 use Rattle.kob_router.proofs.Runs.{IsBeginning, calls_append, own_append, run_append, scene, ticks_behind}
@@ -34,17 +34,18 @@ same_place_self : (p : Place) → same_place p p ≡ true
 same_place_self p = ap (λ (b : Bool). b && (p.partition == p.partition)) ((bytes_eq-Decides p.topic p.topic).1 refl)
     ∙ eq-eqb p.partition p.partition refl
 
-has_prepared : (ss : List Sequence) (p : Place) → has_place (prepared ss p) p ≡ true
+has_prepared : (ss : List Sequence) (p : Place) → has_place (with_sequence_for ss p) p ≡ true
 has_prepared [] p = or_left (same_place p p) false (same_place_self p)
 has_prepared (s ∷ ss) p =
     elim (cases_Bool (same_place s.place p)) [
       | inl on ↦
-          ap (λ (xs : List Sequence). has_place xs p) (cond-true (same_place s.place p) (s ∷ ss) (s ∷ prepared ss p) on)
+          ap (λ (xs : List Sequence). has_place xs p)
+          (cond-true (same_place s.place p) (s ∷ ss) (s ∷ with_sequence_for ss p) on)
           ∙ or_left (same_place s.place p) (has_place ss p) on
       | inr off ↦
           ap (λ (xs : List Sequence). has_place xs p)
-          (cond-false (same_place s.place p) (s ∷ ss) (s ∷ prepared ss p) off)
-          ∙ or_right (same_place s.place p) (has_place (prepared ss p) p) (has_prepared ss p)
+          (cond-false (same_place s.place p) (s ∷ ss) (s ∷ with_sequence_for ss p) off)
+          ∙ or_right (same_place s.place p) (has_place (with_sequence_for ss p) p) (has_prepared ss p)
     ]
 
 -- the moves up to a point of a tick
@@ -99,7 +100,7 @@ unmade_known old new before now u t p (is, inr asked) = asked.2
 -- the one call for a producer id was not answered by one
 asked_only : (route : Dispatching) (s : State) (new : Option Producer) (heard : Option Reply) (before now : List Call)
     (u t : ℕ) (tick : Tick)
-    → s.producer ≡ None → new ≡ None → given s.producer InitProducerId heard ≡ s.producer
+    → s.producer ≡ None → new ≡ None → producer_after s.producer InitProducerId heard ≡ s.producer
     → now ≡ before ++ record { request = InitProducerId; heard = heard } ∷ []
     → IsAnswer route tick (Called (record { request = InitProducerId; heard = heard }) false ∷ []) (knowing s new) u t
     → IsHeld route s → Ticks IsOneTick route (scene s before u) (scene (knowing s new) now t) tick
@@ -154,7 +155,7 @@ begins_taken route a outbox old new before now (inl (held, has, same)) k =
     subst (λ (x : Sender). Begins route a (state_of x outbox) before now) (sym same) k
 begins_taken route a outbox old new before now (inr w) k =
     let hand : Hand = hand_of w.held in
-    let b : Sender = record old { sequences = prepared old.sequences w.held.place; hand = Some w.held } in
+    let b : Sender = record old { sequences = with_sequence_for old.sequences w.held.place; hand = Some w.held } in
     let step : IsRouterRun route (state_of old outbox) (Took hand ∷ []) (state_of b outbox) =
     ((ap (λ (h : Option HeldRow). option_map hand_of h) w.nothing_before, w.first_waits, w.goes), refl) in
     subst (λ (x : Sender). Begins route a (state_of x outbox) before now) (sym w.taken)

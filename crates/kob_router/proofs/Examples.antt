@@ -4,7 +4,7 @@ use Rattle.std.specs.Prelude.{Some, None, codes}
 use Rattle.bstr.proofs.Computing.{computing}
 use Rattle.kob_router.specs.Placement.{entries_of}
 use Rattle.kob_router.specs.Route.{topic_named, message_of}
-use Rattle.kob_router.specs.Template.{filled, is_template}
+use Rattle.kob_router.specs.Template.{with_routed_value, is_template}
 use Rattle.kob_router.specs.declared.placement.PlacedColumn.TheVariants.{AggregateType, AggregateId, EventType}
 use Rattle.kob_router.specs.declared.settings.RouteBy.TheVariants as by
 
@@ -23,19 +23,21 @@ of_another_word = refl
 of_two_dollars : is_template (codes "$${routedByValue}") ≡ false
 of_two_dollars = refl
 
-default_filled : filled (codes "outbox.event.${routedByValue}") (codes "customers") ≡ codes "outbox.event.customers"
+default_filled : with_routed_value (codes "outbox.event.${routedByValue}") (codes "customers")
+    ≡ codes "outbox.event.customers"
 unfolding computing
 default_filled = refl
 
-filled_twice : filled (codes "${routedByValue}.${routedByValue}") (codes "a") ≡ codes "a.a"
+filled_twice : with_routed_value (codes "${routedByValue}.${routedByValue}") (codes "a") ≡ codes "a.a"
 unfolding computing
 filled_twice = refl
 
-plain_filled : filled (codes "events") (codes "customers") ≡ codes "events"
+plain_filled : with_routed_value (codes "events") (codes "customers") ≡ codes "events"
 unfolding computing
 plain_filled = refl
 
-value_like_a_template : filled (codes "${routedByValue}") (codes "${routedByValue}") ≡ codes "${routedByValue}"
+value_like_a_template : with_routed_value (codes "${routedByValue}") (codes "${routedByValue}")
+    ≡ codes "${routedByValue}"
 unfolding computing
 value_like_a_template = refl
 

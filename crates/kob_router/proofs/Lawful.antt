@@ -13,7 +13,7 @@ use Rattle.kob_router.specs.Dispatches.{dispatch_of, place_of}
 use Rattle.kob_router.specs.HeaderId.{event_id}
 use Rattle.kob_router.specs.Partitioner.{partition_of}
 use Rattle.kob_router.specs.Route.{key_of, message_of, routed_value, topic_of}
-use Rattle.kob_router.specs.Template.{filled}
+use Rattle.kob_router.specs.Template.{with_routed_value}
 use Rattle.kob_router.specs.declared.dispatch.Target.{Target}
 use Rattle.kob_router.specs.declared.place.Place.{Place}
 use Rattle.kob_router.specs.declared.routed.Routed.{Routed}
@@ -57,7 +57,7 @@ pub one_place : (target : Target) (one two : Event) → one.aggregate_type ≡ t
     → one.aggregate_id ≡ two.aggregate_id
     → place_of (dispatch_of target one) ≡ place_of (dispatch_of target two)
 one_place target one two kind id =
-    let topic : topic_of target.route one ≡ topic_of target.route two = ap (filled target.route.template)
+    let topic : topic_of target.route one ≡ topic_of target.route two = ap (with_routed_value target.route.template)
     (same_value target.route.by one two kind id) in
     is_placed target one
     ∙ ap (λ (t : List ℕ). place_at target t (key_of one)) topic

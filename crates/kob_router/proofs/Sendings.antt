@@ -18,7 +18,7 @@ use Rattle.kob_router.specs.declared.tick.Tick.TheVariants.{Moved, Repeat, Stopp
 use Rattle.kob_router.specs.Dispatches.{Dispatching}
 use Rattle.kob_router.specs.Line.{Adds}
 use Rattle.kob_router.specs.Parts.{Acknowledges, HasHand, Requests}
-use Rattle.kob_router.specs.Run.{Hand, IsDone, MayCall, State, advanced, given}
+use Rattle.kob_router.specs.Run.{Hand, IsDone, MayCall, State, after_acknowledgement, producer_after}
 use Rattle.kob_router.specs.Run.Move.{Called}
 use Rattle.kob_router.specs.Tick.{EndsUnmarked, IsAnswer, IsAtMostOne, IsHeld, Ticks, hand_of, state_of}
 use Rattle.kob_router.proofs.Runs.{scene}
@@ -27,7 +27,7 @@ use Rattle.kob_router.proofs.Runs.{scene}
 pub record IsSent (route : Dispatching) (s : Sender) (asked : Request) : Type 0 where
   pub may : (outbox : Contents) (heard : Option Reply) (marks : Bool) → (marks ≡ true → IsDone heard)
       → MayCall route (state_of s outbox) asked heard marks
-  pub keeps : (heard : Option Reply) → given s.producer asked heard ≡ s.producer
+  pub keeps : (heard : Option Reply) → producer_after s.producer asked heard ≡ s.producer
   pub unmarked : (body : Body) → EndsUnmarked (Called (record { request = asked; heard = Some (Done body) }) false ∷ [])
 
 pub sent : (route : Dispatching) (s : Sender) (asked : Request) → Requests route s (Ok asked) → IsSent route s asked
@@ -103,7 +103,7 @@ ticks_lost route s outbox asked before now u t may (inr unmade) held =
     ticks_none route (state_of s outbox) before now u t Repeat unmade.0 (inr (tt, unmade.1)) held
 
 held_after : (route : Dispatching) (s : State) (hand : Option Hand) → ((h : Hand) × (hand ≡ Some h))
-    → IsHeld route (advanced s hand)
+    → IsHeld route (after_acknowledgement s hand)
 held_after route s None has = let bad : None ≡ Some has.0 = has.1 in absurd (cc)
 held_after route s (Some hand) has = (tt, tt)
 

@@ -34,12 +34,12 @@ with_bytes h (a ∷ b ∷ c ∷ []) = with_rest h (a + 2 ^ 8 * b + 2 ^ 16 * c)
 with_bytes h (a ∷ b ∷ c ∷ d ∷ bytes) = with_bytes (with_word h (word a b c d)) bytes
 
 -- the bits of a hash, mixed a last time
-abbrev pub finished : ℕ → ℕ
-finished h = with_upper_bits (times (with_upper_bits h 13) factor) 15
+abbrev pub last_mix : ℕ → ℕ
+last_mix h = with_upper_bits (times (with_upper_bits h 13) factor) 15
 
 -- murmur2 with the seed that Kafka gives it
 abbrev pub murmur2 : List ℕ → ℕ
-murmur2 bytes = finished (with_bytes (bit_xor 0x9747b28c (length bytes % 2 ^ 32)) bytes)
+murmur2 bytes = last_mix (with_bytes (bit_xor 0x9747b28c (length bytes % 2 ^ 32)) bytes)
 
 -- the hash without its sign bit, modulo the number of partitions
 abbrev pub partition_of : List ℕ → ℕ → ℕ

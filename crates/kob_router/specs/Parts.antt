@@ -16,8 +16,8 @@ use Rattle.kob_router.specs.declared.tick.StopReason.{StopReason}
 use Rattle.kob_router.specs.declared.tick.StopReason.TheVariants as stop
 use Rattle.kob_router.specs.Dispatches.{Dispatching, place_of}
 use Rattle.kob_router.specs.Line.{one_more}
-use Rattle.kob_router.specs.Places.{prepared}
-use Rattle.kob_router.specs.Run.{State, IsSending, advanced, next_row}
+use Rattle.kob_router.specs.Places.{with_sequence_for}
+use Rattle.kob_router.specs.Run.{State, IsSending, after_acknowledgement, next_row}
 use Rattle.kob_router.specs.Tick.{state_of}
 
 -- the one call for a producer id, as it was heard
@@ -58,7 +58,10 @@ pub record IsTaken (route : Dispatching) (outbox : Contents) (old new : Sender) 
   pub nothing_before : old.hand ≡ None
   pub first_waits : next_row outbox ≡ Some (stored_row held.row)
   pub goes : place_of (route (stored_row held.row)) ≡ Some held.place
-  pub taken : new ≡ record old { sequences = prepared old.sequences held.place; hand = Some held }
+  pub taken : new ≡ record old {
+    sequences = with_sequence_for old.sequences held.place;
+    hand = Some held;
+  }
 
 -- whether a row is in hand, or why none could be taken
 abbrev pub Takes : Dispatching → Contents → Sender → Sender → Result Bool StopReason → Type 0
@@ -85,7 +88,7 @@ Requests route sender (Err _) = ⊥
 
 -- the mark moves to the row in hand, or all stays
 abbrev pub Acknowledges : State → State → Result ℕ StopReason → Type 0
-Acknowledges old new (Ok seq) = (new ≡ advanced old old.hand) × (new.outbox.mark ≡ seq)
+Acknowledges old new (Ok seq) = (new ≡ after_acknowledgement old old.hand) × (new.outbox.mark ≡ seq)
 Acknowledges old new (Err stop.Memory) = new ≡ old
 Acknowledges old new (Err stop.Store) = new ≡ old
 Acknowledges old new (Err _) = ⊥

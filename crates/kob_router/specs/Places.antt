@@ -21,15 +21,15 @@ sequence_of (s ∷ sequences) place =
     if same_place s.place place then s.next else sequence_of sequences place
 
 -- one sequence of the place was used
-abbrev pub used : List Sequence → Place → List Sequence
-used [] place = record { place = place; next = 1 } ∷ []
-used (s ∷ sequences) place =
+abbrev pub after_use : List Sequence → Place → List Sequence
+after_use [] place = record { place = place; next = 1 } ∷ []
+after_use (s ∷ sequences) place =
     if same_place s.place place
     then record { place = s.place; next = next_sequence s.next } ∷ sequences
-    else s ∷ used sequences place
+    else s ∷ after_use sequences place
 
 -- the place has a sequence from now on
-abbrev pub prepared : List Sequence → Place → List Sequence
-prepared [] place = record { place = place; next = 0 } ∷ []
-prepared (s ∷ sequences) place =
-    if same_place s.place place then s ∷ sequences else s ∷ prepared sequences place
+abbrev pub with_sequence_for : List Sequence → Place → List Sequence
+with_sequence_for [] place = record { place = place; next = 0 } ∷ []
+with_sequence_for (s ∷ sequences) place =
+    if same_place s.place place then s ∷ sequences else s ∷ with_sequence_for sequences place

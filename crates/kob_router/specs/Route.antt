@@ -12,7 +12,7 @@ use Rattle.kob_router.specs.declared.settings.RouteBy.{RouteBy}
 use Rattle.kob_router.specs.declared.settings.RouteBy.TheVariants.{AggregateType, AggregateId}
 use Rattle.kob_router.specs.declared.settings.Routing.{Routing}
 use Rattle.kob_router.specs.declared.routed.Routed.{Routed}
-use Rattle.kob_router.specs.Template.{filled}
+use Rattle.kob_router.specs.Template.{with_routed_value}
 
 -- the value of the column by which rows are routed
 abbrev pub routed_value : RouteBy → Event → List ℕ
@@ -27,7 +27,7 @@ placed_value placed.EventType event = event.event_type
 
 -- the topic: the template, filled with the value by which rows are routed
 abbrev pub topic_of : Routing → Event → List ℕ
-topic_of routing event = filled routing.template (routed_value routing.by event)
+topic_of routing event = with_routed_value routing.template (routed_value routing.by event)
 
 -- the key: the aggregate's id
 abbrev pub key_of : Event → List ℕ
@@ -55,7 +55,7 @@ abbrev pub topic_named : List ℕ → Option (List ℕ)
 topic_named text = if is_some (topic_fault text) then None else Some text
 
 -- the topic and the record of a row, where the topic's name can be one
-abbrev pub routed : Routing → Event → Option Routed
-routed routing event =
+abbrev pub routed_row : Routing → Event → Option Routed
+routed_row routing event =
     if is_some (topic_fault (topic_of routing event)) then None
     else Some (record { topic = topic_of routing event; message = message_of routing event })

@@ -15,13 +15,13 @@ use Rattle.kob_outbox.specs.Contents.{Contents, Event, empty}
 use Rattle.kob_outbox.specs.Events.{id_text, stored_event}
 use Rattle.kob_outbox.specs.Fields.{first_bad}
 use Rattle.kob_outbox.specs.Reading.{later_than, without_sent}
-use Rattle.kob_outbox.specs.Recording.{is_recorded, next_seq, recorded}
+use Rattle.kob_outbox.specs.Recording.{is_recorded, next_seq, after_record}
 use Rattle.kob_router.specs.declared.line.Call.{Call}
 use Rattle.kob_router.specs.declared.place.Place.{Place}
 use Rattle.kob_router.specs.declared.sender.Producer.{Producer}
 use Rattle.kob_router.specs.declared.sequences.Sequence.{Sequence}
 use Rattle.kob_router.specs.Dispatches.{Dispatching, place_of}
-use Rattle.kob_router.specs.Places.{prepared, sequence_of, used}
+use Rattle.kob_router.specs.Places.{with_sequence_for, sequence_of, after_use}
 
 -- the row that is sent until it is acknowledged, and where it goes
 pub record Hand : Type 0 where
@@ -107,37 +107,37 @@ May route s (Took hand) =
 May route s (Called call marks) = MayCall route s call.request call.heard marks
 
 -- the producer id after an INIT_PRODUCER_ID
-abbrev pub given : Option Producer → Request → Option Reply → Option Producer
-given old InitProducerId (Some (Done (bodies.Producer id epoch))) =
+abbrev pub producer_after : Option Producer → Request → Option Reply → Option Producer
+producer_after old InitProducerId (Some (Done (bodies.Producer id epoch))) =
     Some (record { id = id; epoch = epoch })
-given old _ _ = old
+producer_after old _ _ = old
 
 -- the row in hand is acknowledged: the mark moves to it, its sequence is used, nothing is in hand
-abbrev pub advanced : State → Option Hand → State
-advanced s None = s
-advanced s (Some hand) =
+abbrev pub after_acknowledgement : State → Option Hand → State
+after_acknowledgement s None = s
+after_acknowledgement s (Some hand) =
     record {
       outbox = record s.outbox { mark = hand.event.seq };
       producer = s.producer;
-      sequences = used s.sequences hand.place;
+      sequences = after_use s.sequences hand.place;
       hand = None;
     }
 
 -- what is done leaves
 abbrev pub after : State → Move → State
-after s (Recorded change event) = record s { outbox = recorded s.outbox change event }
+after s (Recorded change event) = record s { outbox = after_record s.outbox change event }
 after s Swept = record s { outbox = without_sent s.outbox.mark s.outbox }
 after s Restarted = record { outbox = s.outbox; producer = None; sequences = []; hand = None }
 after s (Took hand) =
     record {
       outbox = s.outbox;
       producer = s.producer;
-      sequences = prepared s.sequences hand.place;
+      sequences = with_sequence_for s.sequences hand.place;
       hand = Some hand;
     }
 after s (Called call marks) =
-    if marks then advanced s s.hand
-    else record s { producer = given s.producer call.request call.heard }
+    if marks then after_acknowledgement s s.hand
+    else record s { producer = producer_after s.producer call.request call.heard }
 
 -- these moves may be made one after another, and lead from one state to the other
 abbrev pub IsRouterRun : Dispatching → State → List Move → State → Type 0
@@ -155,5 +155,5 @@ calls_of (_ ∷ moves) = calls_of moves
 abbrev pub events_of : Contents → List Move → List Event
 events_of c [] = []
 events_of c (Recorded change event ∷ moves) =
-    stored_event (next_seq c) event ∷ events_of (recorded c change event) moves
+    stored_event (next_seq c) event ∷ events_of (after_record c change event) moves
 events_of c (_ ∷ moves) = events_of c moves

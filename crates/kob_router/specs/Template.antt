@@ -20,6 +20,6 @@ abbrev pub is_template : List ℕ → Bool
 is_template template = not (length template == 0) && each_dollar_begins template
 
 -- the text with the value in place of these words, wherever they stand
-abbrev pub filled : List ℕ → List ℕ → List ℕ
-filled template value =
+abbrev pub with_routed_value : List ℕ → List ℕ → List ℕ
+with_routed_value template value =
     replaced_at template (length routed_by_value) value 0 (matches template routed_by_value 0)

@@ -1,7 +1,7 @@
 //! The partition of a key, as Kafka's default partitioner picks it.
 
 ghost use Rattle.std.specs.Prelude.{◌≡◌, ◌<◌, ◌+◌, ◌≤◌, length, slice_index};
-ghost use Rattle.kob_router.specs.Partitioner.{finished, murmur2, partition_of, with_bytes};
+ghost use Rattle.kob_router.specs.Partitioner.{last_mix, murmur2, partition_of, with_bytes};
 ghost use Rattle.kob_router.specs.Partitioner.{with_rest, with_upper_bits, with_word, word};
 
 const FACTOR: u32 = 0x5bd1e995;
@@ -84,7 +84,7 @@ fn with_rest(hash: u32, rest: u32) -> u32
 }
 
 fn finished(hash: u32) -> u32
-    ensures { result ≡ finished hash }
+    ensures { result ≡ last_mix hash }
 {
     with_upper_bits(with_upper_bits(hash, 13).wrapping_mul(FACTOR), 15)
 }

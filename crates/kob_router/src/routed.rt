@@ -4,7 +4,8 @@ ghost use Rattle.std.specs.Prelude.{◌≡◌, IfOk};
 ghost use Rattle.kob_outbox.specs.Events.{stored_row};
 ghost use Rattle.kob_router.specs.Answers.{OkIfSome};
 ghost use Rattle.kob_router.specs.Route.{headers_of, id_header, message_of, placed_header};
-ghost use Rattle.kob_router.specs.Route.{placed_value, routed, routed_value, topic_named, topic_of};
+ghost use Rattle.kob_router.specs.Route.{placed_value, routed_row, routed_value, topic_named};
+ghost use Rattle.kob_router.specs.Route.{topic_of};
 
 use crate::fault::RecordFault;
 use crate::placement::{Placed, PlacedColumn};
@@ -29,7 +30,7 @@ pub struct Routed {
 /// placed columns in their order. `BadTopic` comes where the template, filled with the row's value,
 /// is no name of a topic.
 pub fn record_of(alloc: Global, route: &Route, row: &Row) -> Result<Routed, RecordFault>
-    ensures { OkIfSome (routed route.now (stored_row row.now))
+    ensures { OkIfSome (routed_row route.now (stored_row row.now))
         RecordFault.BadTopic RecordFault.Memory result }
 {
     let routing = route.as_routing();

@@ -1,7 +1,7 @@
 //! The next sequence on each partition.
 
 ghost use Rattle.std.specs.Prelude.{◌≡◌, [], OnErr, OnOk, true};
-ghost use Rattle.kob_router.specs.Places.{has_place, prepared, sequence_of, used};
+ghost use Rattle.kob_router.specs.Places.{has_place, with_sequence_for, sequence_of, after_use};
 
 use crate::place::{Place, is_same_place};
 use kob_names::PlainValue;
@@ -51,14 +51,14 @@ impl Sequences {
     /// One sequence of a place that has one is used; no memory is taken.
     pub fn use_one(&mut self, place: &Place)
         requires { has_place self.old place.now ≡ true }
-        ensures { self.new ≡ used self.old place.now }
+        ensures { self.new ≡ after_use self.old place.now }
     {
         use_one(&mut self.items, place)
     }
 
     /// Makes room for a place, where it has none. The error is want of memory.
     pub fn prepare(&mut self, alloc: Global, place: &Place) -> Result<(), AllocError>
-        ensures ok { OnOk result (self.new ≡ prepared self.old place.now) }
+        ensures ok { OnOk result (self.new ≡ with_sequence_for self.old place.now) }
         ensures err { OnErr result (self.new ≡ self.old) }
     {
         if has_place(&self.items, place) {
@@ -90,7 +90,7 @@ fn sequence_of(sequences: &[Sequence], place: &Place) -> u64
 
 fn use_one(sequences: &mut [Sequence], place: &Place)
     requires { has_place sequences.old place.now ≡ true }
-    ensures { sequences.new ≡ used sequences.old place.now }
+    ensures { sequences.new ≡ after_use sequences.old place.now }
 {
     for i in 0..sequences.len() {
         let sequence = &mut sequences[i];

@@ -1,7 +1,7 @@
 //! The text that a topic's name is made of, with places for the value by which a row is routed.
 
 ghost use Rattle.std.specs.Prelude.{◌≡◌, IfOk};
-ghost use Rattle.kob_router.specs.Template.{filled, is_template, routed_by_value};
+ghost use Rattle.kob_router.specs.Template.{with_routed_value, is_template, routed_by_value};
 
 use bstr::ByteSlice;
 use std::alloc::{AllocError, Global};
@@ -26,7 +26,7 @@ pub(crate) fn is_template(text: &[u8]) -> bool
 
 /// The template with the value in each of its places.
 pub(crate) fn filled(alloc: Global, template: &[u8], value: &[u8]) -> Result<Vec<u8>, AllocError>
-    ensures { IfOk result (λ text. text.items ≡ filled template.now value.now) }
+    ensures { IfOk result (λ text. text.items ≡ with_routed_value template.now value.now) }
 {
     template.replace(alloc, ROUTED_BY_VALUE.as_bytes(), value)
 }

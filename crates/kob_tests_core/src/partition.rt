@@ -1,4 +1,5 @@
-//! The log of a partition: an idempotent producer's batches, and a batch across the edge of a chunk.
+//! The log of a partition: an idempotent producer's batches, and a batch across the edge of a
+//! chunk.
 
 use kob_names::{Batch, Bytes, Idem, Items, Record};
 use kob_partition::{AppendFault, PartitionLog};

@@ -31,7 +31,8 @@ fn judges(table: &ProducerTable, idem: &Idem, count: u64, wanted: Judgement) -> 
     table.judge(idem, count) == wanted
 }
 
-/// Whether the table, once it has accepted the last batch, knows it again, what follows it, and where a new epoch begins.
+/// Whether the table, once it has accepted the last batch, knows it again, what follows it, and
+/// where a new epoch begins.
 fn judges_wrapped(table: &ProducerTable) -> bool {
     judges(table, &batch(0, 2), 1, Judgement::Next)
         && judges(table, &last(), 3, Judgement::Repeat(2_147_483_647))

@@ -24,7 +24,8 @@ fn event(alloc: Global, id: u128, payload: &str) -> Result<OutboxEvent, AllocErr
     })
 }
 
-/// The texts of a record, all of them `x` but the one at this place, from 0 for the kind to 6 for the payload.
+/// The texts of a record, all of them `x` but the one at this place, from 0 for the kind to 6 for
+/// the payload.
 fn texts(
     alloc: Global,
     event_id: u128,
@@ -179,7 +180,8 @@ fn record_after_refusal(
     outbox.record(change, event)
 }
 
-/// Where one allocation is refused, whichever it is, the call that wanted it leaves all and works when it is made again.
+/// Where one allocation is refused, whichever it is, the call that wanted it leaves all and works
+/// when it is made again.
 #[test]
 fn refused_growth_leaves_all(rt: HostRuntime) -> Result<(), Fail> {
     let alloc = rt.alloc();

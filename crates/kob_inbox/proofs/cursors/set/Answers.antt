@@ -1,6 +1,6 @@
 use Rattle.std.proofs.Common.{List, ◌<◌, length, sym, ap, ◌∙◌, arith}
 use Rattle.kob_inbox.specs.declared.cursors.Cursor.{Cursor}
-use Rattle.kob_inbox.specs.Cursors.{moved}
+use Rattle.kob_inbox.specs.Cursors.{with_cursor}
 use Rattle.kob_inbox.proofs.Cursoring.{changed}
 use Rattle.kob_inbox.proofs.cursors.set.Goals as goal
 
@@ -12,4 +12,4 @@ returns-then-is_same_place c =
     record { place = c.args.place.now; position = c.args.position; uncommitted = c.args.uncommitted } in
     changed cs c.loop-i.i c.index-cursors-i.result c.args.place.now c.args.position c.args.uncommitted lt
     (sym c.is_same_place.ensures ∙ c.if-is_same_place.true)
-    ∙ c.loop-i.invariant.rest ∙ ap (λ (xs : List Cursor). moved xs y) c.loop-i.invariant.same
+    ∙ c.loop-i.invariant.rest ∙ ap (λ (xs : List Cursor). with_cursor xs y) c.loop-i.invariant.same

@@ -1,12 +1,12 @@
 use Rattle.std.proofs.Common.{◌≡◌, ◌++◌, take, drop}
-use Rattle.kob_inbox.specs.Cursors.{IsKnown, cursor_of, moved}
+use Rattle.kob_inbox.specs.Cursors.{IsKnown, cursor_of, with_cursor}
 use Rattle.kob_inbox.proofs.cursors.set.Given as goal
 
 abbrev pub invariant-loop-i : goal.invariant-loop-i
 invariant-loop-i l = record {
   same : l.cursors ≡ l.fn.cursors;
-  rest : take l.i l.cursors ++ moved (drop l.i l.cursors)
+  rest : take l.i l.cursors ++ with_cursor (drop l.i l.cursors)
       (record { place = l.place; position = l.position; uncommitted = l.uncommitted })
-      ≡ moved l.cursors (record { place = l.place; position = l.position; uncommitted = l.uncommitted });
+      ≡ with_cursor l.cursors (record { place = l.place; position = l.position; uncommitted = l.uncommitted });
   some : IsKnown (cursor_of (drop l.i l.cursors) l.place);
 }

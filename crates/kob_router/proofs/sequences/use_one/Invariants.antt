@@ -1,11 +1,11 @@
 use Rattle.std.proofs.Common.{◌≡◌, ◌++◌, take, drop, true}
-use Rattle.kob_router.specs.Places.{has_place, used}
+use Rattle.kob_router.specs.Places.{has_place, after_use}
 use Rattle.kob_router.proofs.sequences.use_one.Given as goal
 
 -- the place is not among those that were passed
 abbrev pub invariant-loop-i : goal.invariant-loop-i
 invariant-loop-i l = record {
   same : l.sequences ≡ l.fn.sequences;
-  rest : take l.i l.sequences ++ used (drop l.i l.sequences) l.place ≡ used l.sequences l.place;
+  rest : take l.i l.sequences ++ after_use (drop l.i l.sequences) l.place ≡ after_use l.sequences l.place;
   some : has_place (drop l.i l.sequences) l.place ≡ true;
 }

@@ -3,8 +3,8 @@ use Rattle.kob_rights.specs.declared.on_partitions.Fetch.{Fetch}
 use Rattle.kob_rights.specs.declared.reply.Body.TheVariants as Body
 use Rattle.kob_rights.specs.declared.request.Request.TheVariants as Request
 use Rattle.kob_inbox.specs.Intake.{arrivals, taken_in}
-use Rattle.kob_inbox.specs.Run.{behind, done, turn_after}
-use Rattle.kob_inbox.specs.Cursors.{advanced}
+use Rattle.kob_inbox.specs.Run.{behind, after_done, turn_after}
+use Rattle.kob_inbox.specs.Cursors.{with_progress}
 use Rattle.kob_inbox.specs.Tick.{state_of}
 use Rattle.kob_inbox.proofs.Ticking.{all_passed, cut_short, same_state, turn_stays}
 use Rattle.kob_inbox.proofs.fetcher.Fetcher.take.Goals as goal
@@ -19,12 +19,12 @@ returns-in-None-clause-done c =
     let asked : Fetch = record { topic = p.topic; partition = p.partition; offset = c.args.position; max = t.max } in
     let some : 0 < length rs = omega arith in
     let left : state_of c.advance.new.self c.take_all-passed.new.inbox
-    ≡ done t s (Request.Fetch asked) (Body.Records rs) n =
+    ≡ after_done t s (Request.Fetch asked) (Body.Records rs) n =
     same_state c.take_all-passed.new.inbox
     (taken_in c.args.inbox.now (arrivals p (take n rs))) c.advance.new.self.cursors.items
-    (advanced c.args.self.now.cursors.items p n (behind c.args.position (take n rs))) c.advance.new.self.turn
+    (with_progress c.args.self.now.cursors.items p n (behind c.args.position (take n rs))) c.advance.new.self.turn
     (turn_after t c.args.self.now.turn (Request.Fetch asked) (Body.Records rs)) c.take_all-passed.ensures.taken
-    (c.advance.ensures.moved ∙ ap (λ (k : ℕ). advanced c.args.self.now.cursors.items p n k)
+    (c.advance.ensures.moved ∙ ap (λ (k : ℕ). with_progress c.args.self.now.cursors.items p n k)
     c.take_all-passed.ensures.behind)
     (c.advance.ensures.turn ∙ turn_stays t c.args.self.now.turn asked rs some) in
     let all : n ≡ length rs =
@@ -41,12 +41,12 @@ returns-in-Some-Memory-clause-done c =
     let asked : Fetch = record { topic = p.topic; partition = p.partition; offset = c.args.position; max = t.max } in
     let some : 0 < length rs = omega arith in
     let left : state_of c.advance.new.self c.take_all-passed.new.inbox
-    ≡ done t s (Request.Fetch asked) (Body.Records rs) n =
+    ≡ after_done t s (Request.Fetch asked) (Body.Records rs) n =
     same_state c.take_all-passed.new.inbox
     (taken_in c.args.inbox.now (arrivals p (take n rs))) c.advance.new.self.cursors.items
-    (advanced c.args.self.now.cursors.items p n (behind c.args.position (take n rs))) c.advance.new.self.turn
+    (with_progress c.args.self.now.cursors.items p n (behind c.args.position (take n rs))) c.advance.new.self.turn
     (turn_after t c.args.self.now.turn (Request.Fetch asked) (Body.Records rs)) c.take_all-passed.ensures.taken
-    (c.advance.ensures.moved ∙ ap (λ (k : ℕ). advanced c.args.self.now.cursors.items p n k)
+    (c.advance.ensures.moved ∙ ap (λ (k : ℕ). with_progress c.args.self.now.cursors.items p n k)
     c.take_all-passed.ensures.behind)
     (c.advance.ensures.turn ∙ turn_stays t c.args.self.now.turn asked rs some) in
     let cut : n < length rs =
@@ -64,12 +64,12 @@ returns-in-Some-Store-clause-done c =
     let asked : Fetch = record { topic = p.topic; partition = p.partition; offset = c.args.position; max = t.max } in
     let some : 0 < length rs = omega arith in
     let left : state_of c.advance.new.self c.take_all-passed.new.inbox
-    ≡ done t s (Request.Fetch asked) (Body.Records rs) n =
+    ≡ after_done t s (Request.Fetch asked) (Body.Records rs) n =
     same_state c.take_all-passed.new.inbox
     (taken_in c.args.inbox.now (arrivals p (take n rs))) c.advance.new.self.cursors.items
-    (advanced c.args.self.now.cursors.items p n (behind c.args.position (take n rs))) c.advance.new.self.turn
+    (with_progress c.args.self.now.cursors.items p n (behind c.args.position (take n rs))) c.advance.new.self.turn
     (turn_after t c.args.self.now.turn (Request.Fetch asked) (Body.Records rs)) c.take_all-passed.ensures.taken
-    (c.advance.ensures.moved ∙ ap (λ (k : ℕ). advanced c.args.self.now.cursors.items p n k)
+    (c.advance.ensures.moved ∙ ap (λ (k : ℕ). with_progress c.args.self.now.cursors.items p n k)
     c.take_all-passed.ensures.behind)
     (c.advance.ensures.turn ∙ turn_stays t c.args.self.now.turn asked rs some) in
     let cut : n < length rs =

@@ -2,16 +2,16 @@ use Rattle.std.proofs.Common.{◌≡◌, ◌++◌, ◌∷◌, [], List, true, fa
 use Rattle.std.proofs.lemmas.Bool.{both_ways, cases_Bool, cond-false, cond-true, or_cases, or_parts}
 use Rattle.kob_router.specs.declared.place.Place.{Place}
 use Rattle.kob_router.specs.declared.sequences.Sequence.{Sequence}
-use Rattle.kob_router.specs.Places.{has_place, prepared, same_place}
+use Rattle.kob_router.specs.Places.{has_place, with_sequence_for, same_place}
 use Rattle.kob_router.proofs.sequences.Sequences.prepare.Goals as goal
 
-prepared_there : (ss : List Sequence) (p : Place) → has_place ss p ≡ true → prepared ss p ≡ ss
+prepared_there : (ss : List Sequence) (p : Place) → has_place ss p ≡ true → with_sequence_for ss p ≡ ss
 prepared_there [] p there = absurd (true≢false (sym there))
 prepared_there (s ∷ ss) p there =
     elim (cases_Bool (same_place s.place p)) [
-      | inl on ↦ cond-true (same_place s.place p) (s ∷ ss) (s ∷ prepared ss p) on
+      | inl on ↦ cond-true (same_place s.place p) (s ∷ ss) (s ∷ with_sequence_for ss p) on
       | inr off ↦
-          cond-false (same_place s.place p) (s ∷ ss) (s ∷ prepared ss p) off
+          cond-false (same_place s.place p) (s ∷ ss) (s ∷ with_sequence_for ss p) off
           ∙ elim (or_cases (same_place s.place p) (has_place ss p) there) [
             | inl on ↦ absurd (both_ways (same_place s.place p) off on)
             | inr later ↦ ap (λ (xs : List Sequence). s ∷ xs) (prepared_there ss p later)
@@ -19,11 +19,11 @@ prepared_there (s ∷ ss) p there =
     ]
 
 prepared_new : (ss : List Sequence) (p : Place) → has_place ss p ≡ false
-    → prepared ss p ≡ ss ++ record { place = p; next = 0 } ∷ []
+    → with_sequence_for ss p ≡ ss ++ record { place = p; next = 0 } ∷ []
 prepared_new [] p new = refl
 prepared_new (s ∷ ss) p new =
     let parts = or_parts (same_place s.place p) (has_place ss p) new in
-    cond-false (same_place s.place p) (s ∷ ss) (s ∷ prepared ss p) parts.0
+    cond-false (same_place s.place p) (s ∷ ss) (s ∷ with_sequence_for ss p) parts.0
     ∙ ap (λ (xs : List Sequence). s ∷ xs) (prepared_new ss p parts.1)
 
 pub returns-then-has_place-clause-ok : goal.returns-then-has_place-clause-ok
