@@ -8,10 +8,10 @@ use Rattle.kob_names.specs.Binding.{Binding}
 use Rattle.kob_acl_cli.specs.PrintedList.{binding_line, list_text}
 
 -- one line more
-pub list-ascii-more : (bindings : List (ℕ × Binding)) (i : ℕ) (item : ℕ × Binding) → i < length bindings
+pub list_ascii_more : (bindings : List (ℕ × Binding)) (i : ℕ) (item : ℕ × Binding) → i < length bindings
     → item ≡ get_or bindings i item → IsAscii (list_text (take i bindings))
     → IsAscii (binding_line item) → IsAscii (list_text (take (i + 1) bindings))
-list-ascii-more bindings i item below is before more =
+list_ascii_more bindings i item below is before more =
     rw (
       take_more bindings i item below,
       flat_map-append binding_line (take i bindings) (get_or bindings i item ∷ []),

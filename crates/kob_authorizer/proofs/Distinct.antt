@@ -8,7 +8,7 @@ use Rattle.std.proofs.lemmas.List.Kept.{AllPairs-filter}
 use Rattle.std.proofs.lemmas.List.Quantifiers.{all_pairs_push}
 use Rattle.kob_authorizer.specs.Creation.{Added, AreDistinct, add_one, added, placed, serial_of}
 use Rattle.kob_authorizer.specs.Deletion.{removed}
-use Rattle.kob_names.proofs.SameBindings.{same_binding-Decides}
+use Rattle.kob_names.proofs.SameBindings.{same_binding_decides}
 use Rattle.kob_names.specs.Filter.{takes}
 use Rattle.kob_names.specs.SameBinding.{same_binding}
 use Rattle.kob_names.specs.Binding.{Binding}
@@ -21,7 +21,7 @@ NoneEqual binding entries = All (λ (entry : ℕ × Binding). entry.1 ≢ bindin
 none_step : (binding : Binding) (entry : ℕ × Binding) (rest : List (ℕ × Binding)) (b : Bool) → same_binding entry.1 binding ≡ b → option_map (λ (e : ℕ × Binding). e.0) (cond b (Some entry) (find (λ (e : ℕ × Binding). same_binding e.1 binding) rest)) ≡ None → (serial_of rest binding ≡ None → NoneEqual binding rest) → NoneEqual binding (entry ∷ rest)
 none_step binding entry rest true is none more = cc
 none_step binding entry rest false is none more =
-    let other : entry.1 ≢ binding = λ equal. (let same = (same_binding-Decides entry.1 binding).1 equal in cc) in
+    let other : entry.1 ≢ binding = λ equal. (let same = (same_binding_decides entry.1 binding).1 equal in cc) in
     All-cons (λ (e : ℕ × Binding). e.1 ≢ binding) entry rest other (more none)
 
 -- a binding without a serial is equal to none

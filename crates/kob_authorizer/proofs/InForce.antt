@@ -5,7 +5,7 @@ use Rattle.std.specs.List.{find, fold}
 use Rattle.std.specs.Option.{option_map}
 use Rattle.std.proofs.lemmas.List.Elements.{Contains-append_left, Contains-append_right, Contains-push}
 use Rattle.kob_authorizer.specs.Creation.{Added, AreInForce, add_one, added, placed, serial_of}
-use Rattle.kob_names.proofs.SameBindings.{same_binding-Decides}
+use Rattle.kob_names.proofs.SameBindings.{same_binding_decides}
 use Rattle.kob_names.specs.SameBinding.{same_binding}
 use Rattle.kob_names.specs.Binding.{Binding}
 
@@ -19,7 +19,7 @@ later rest binding = find (λ (entry : ℕ × Binding). same_binding entry.1 bin
 
 found_step : (binding : Binding) (entry : ℕ × Binding) (rest : List (ℕ × Binding)) (serial : ℕ) (b : Bool) → same_binding entry.1 binding ≡ b → serial_in (cond b (Some entry) (later rest binding)) ≡ Some serial → (serial_in (later rest binding) ≡ Some serial → Contains rest (serial, binding)) → Contains (entry ∷ rest) (serial, binding)
 found_step binding entry rest serial true same found more =
-    let equal : entry.1 ≡ binding = (same_binding-Decides entry.1 binding).0 same in
+    let equal : entry.1 ≡ binding = (same_binding_decides entry.1 binding).0 same in
     let number : entry.0 ≡ serial = cc in
     let whole : (entry.0, entry.1) ≡ (serial, binding) = cc in
     subst (λ (x : ℕ × Binding). Contains (entry ∷ rest) x) whole

@@ -10,7 +10,7 @@ use Rattle.kob_authorizer.specs.AtOnce.{added_at_once, creation, is_among, is_in
 use Rattle.kob_authorizer.specs.Creation.{Added, Creates, OnlyAdds, add_one, added, placed, serial_of}
 use Rattle.kob_authorizer.specs.Contents.{IsRising}
 use Rattle.kob_authorizer.specs.Passing.{create_fault, passed}
-use Rattle.kob_names.proofs.SameBindings.{same_binding-Decides}
+use Rattle.kob_names.proofs.SameBindings.{same_binding_decides}
 use Rattle.kob_names.specs.SameBinding.{same_binding}
 use Rattle.kob_names.specs.Binding.{Binding}
 
@@ -83,7 +83,7 @@ StepEnds n entries b bs state serials after =
 -- a new binding gets the serial that comes next
 new_serial : (n : ℕ) (entries : List (ℕ × Binding)) (fresh : List Binding) (b : Binding) → None ≡ serial_of (grown n entries fresh) b → Some (n + length fresh) ≡ serial_of (grown n entries fresh ++ (n + length fresh, b) ∷ []) b
 new_serial n entries fresh b none =
-    let itself : same_binding b b ≡ true = (same_binding-Decides b b).1 refl in
+    let itself : same_binding b b ≡ true = (same_binding_decides b b).1 refl in
     let alone : Some (n + length fresh) ≡ serial_of ((n + length fresh, b) ∷ []) b =
     ap (λ t. option_map (λ (e : ℕ × Binding). e.0) (cond t (Some (n + length fresh, b)) None)) (sym itself) in
     alone ∙ serial_of-append_none b (grown n entries fresh) ((n + length fresh, b) ∷ []) none

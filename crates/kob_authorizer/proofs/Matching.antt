@@ -6,7 +6,7 @@ use Rattle.std.proofs.lemmas.Bool.{and_from, or_cases}
 use Rattle.std.proofs.lemmas.Bool.Decides.{Decides-eqb}
 use Rattle.std.proofs.lemmas.List.Elements.{Contains-append_left, Contains-append_right}
 use Rattle.std.proofs.lemmas.Slice.Eq.{bytes_eq-Decides, starts_is}
-use Rattle.kob_names.proofs.SameBindings.{resource-Decides, same_binding-Decides}
+use Rattle.kob_names.proofs.SameBindings.{resource_decides, same_binding_decides}
 use Rattle.kob_names.specs.Access.{matches_by}
 use Rattle.kob_names.specs.Same.{same_resource, same_text}
 use Rattle.kob_names.specs.Binding.{Binding}
@@ -70,7 +70,7 @@ module _ (index : Index) (entries : List (ℕ × Binding)) (indexed : Indexes in
   hits_looked_up permission question entry there is =
       let hit : Hits permission question entry = (is_hit-Decides permission question entry).0 is in
       let resource : ResourceKind = question.resource in
-      let on : same_resource entry.1.resource resource ≡ true = (resource-Decides entry.1.resource resource).1 hit.resource in
+      let on : same_resource entry.1.resource resource ≡ true = (resource_decides entry.1.resource resource).1 hit.resource in
       let among : Contains (entries_on resource entries) entry = kept_by_filter (λ (e : ℕ × Binding). same_resource e.1.resource resource) entries entry there on in
       looked_up_by (tree_of index resource) entry.1.pattern.kind entry.1.pattern.name question.name entry.0 hit.name
       (at_its_place pattern_place (tree_of index resource) (entries_on resource entries) entry (indexed.patterns resource) among)
@@ -83,7 +83,7 @@ least_hit_is_first index entries permission question rising indexed =
 -- every entry with an equal binding is looked up by the digest
 equals_looked_up : (m : PrefixMap) (entries : List (ℕ × Binding)) (binding : Binding) → IsIndex digest_place m entries → LeadToAll (is_equal binding) entries (serials_of (digest_place binding).kind (held m (digest_place binding).key))
 equals_looked_up m entries binding indexed entry there is =
-    subst (λ (b : Binding). Contains (serials_of (digest_place b).kind (held m (digest_place b).key)) entry.0) ((same_binding-Decides entry.1 binding).0 is)
+    subst (λ (b : Binding). Contains (serials_of (digest_place b).kind (held m (digest_place b).key)) entry.0) ((same_binding_decides entry.1 binding).0 is)
     (at_its_place digest_place m entries entry indexed there)
 
 -- so the least serial of the equal ones that were looked up is that of the first equal one

@@ -9,7 +9,7 @@ use Rattle.std.proofs.lemmas.List.Elements.{Contains-append_left, Contains-appen
 use Rattle.std.proofs.lemmas.Map.Views.{Contains-from_any, list_any-from_Contains}
 use Rattle.std.proofs.lemmas.Slice.Eq.{bytes_eq-Decides}
 use Rattle.kob_names.specs.Access.{covers, matches, reaches}
-use Rattle.kob_names.proofs.SameBindings.{permission-Decides, resource-Decides}
+use Rattle.kob_names.proofs.SameBindings.{permission_decides, resource_decides}
 use Rattle.kob_names.specs.Binding.{Binding}
 use Rattle.kob_names.specs.declared.kinds.Permission.{Permission}
 use Rattle.kob_names.specs.declared.kinds.Permission.TheVariants.{Allow, Deny}
@@ -33,8 +33,8 @@ is_hit-Decides wanted question entry =
       operation = parts.1.1.1.1;
     })
     (λ hit. (hit.permission, (hit.resource, (hit.name, (hit.who, hit.operation)))))
-    (Decides-and _ _ (permission-Decides entry.1.permission wanted)
-    (Decides-and _ _ (resource-Decides entry.1.resource question.resource)
+    (Decides-and _ _ (permission_decides entry.1.permission wanted)
+    (Decides-and _ _ (resource_decides entry.1.resource question.resource)
     (Decides-and _ _ (itself-Decides (matches entry.1.pattern question.name))
     (Decides-and _ _ (itself-Decides (covers entry.1 question.principal question.host))
     (itself-Decides (reaches wanted entry.1.operation question.operation))))))

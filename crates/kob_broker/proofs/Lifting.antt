@@ -5,7 +5,7 @@ use Rattle.std.proofs.lemmas.List.{map-set, map-append, length-map}
 use Rattle.indexmap.proofs.SetLemmas.{map-remove}
 use Rattle.kob_authorizer.specs.Contents.{Contents}
 use Rattle.kob_catalog.proofs.Listings.{listed_mapped}
-use Rattle.kob_catalog.proofs.MapWrites.{topic_at-mapped}
+use Rattle.kob_catalog.proofs.MapWrites.{topic_at_mapped}
 use Rattle.kob_catalog.proofs.Places.{place_of_mapped}
 use Rattle.kob_catalog.specs.Creation.{new_topic}
 use Rattle.kob_catalog.specs.Topics.{Topic, partition_at, partition_of, place_of, topic_at, topic_map, topics_map, with_partition, with_partition_at, with_partition_found, without_topic, without_topic_found}
@@ -54,7 +54,7 @@ module _ {P Q : Type 0} (f : P → Q) where
   partition_at-map : (topics : List (Topic P)) (place : Option ℕ) (partition : ℕ) → partition_at (topics_map f topics) place partition ≡ option_map f (partition_at topics place partition)
   partition_at-map topics None partition = refl
   partition_at-map topics (Some place) partition =
-      ap (λ (t : Topic Q). slice_get t.partitions partition) (topic_at-mapped f topics place) ∙ slice_get-map (topic_at topics place).partitions partition
+      ap (λ (t : Topic Q). slice_get t.partitions partition) (topic_at_mapped f topics place) ∙ slice_get-map (topic_at topics place).partitions partition
 
   partition_of-map : (name : List ℕ) (partition : ℕ) (topics : List (Topic P)) → partition_of name partition (topics_map f topics) ≡ option_map f (partition_of name partition topics)
   partition_of-map name partition topics =
@@ -62,7 +62,7 @@ module _ {P Q : Type 0} (f : P → Q) where
 
   with_partition_at-map : (place partition : ℕ) (p : P) (topics : List (Topic P)) → with_partition_at place partition (f p) (topics_map f topics) ≡ topics_map f (with_partition_at place partition p topics)
   with_partition_at-map place partition p topics =
-      let topic = topic_at-mapped f topics place in
+      let topic = topic_at_mapped f topics place in
       ap (slice_set (topics_map f topics) place)
       (λ i. record {
         name = (topic i).name;
@@ -103,7 +103,7 @@ module _ {P Q : Type 0} (f : P → Q) where
   topic_found-map : (name : List ℕ) (topics : List (Topic P)) (place : Option ℕ) → topic_found name (topics_map f topics) place ≡ topic_found name topics place
   topic_found-map name topics None = refl
   topic_found-map name topics (Some place) =
-      ap (λ n. (name, n) ∷ []) (ap (λ (t : Topic Q). length t.partitions) (topic_at-mapped f topics place) ∙ length-map (topic_at topics place).partitions f)
+      ap (λ n. (name, n) ∷ []) (ap (λ (t : Topic Q). length t.partitions) (topic_at_mapped f topics place) ∙ length-map (topic_at topics place).partitions f)
 
   metadata-map : (access : Contents) (event : Event) (topics : List (Topic P)) (asked : Option (List ℕ)) → metadata_of access event (topics_map f topics) asked ≡ metadata_of access event topics asked
   metadata-map access event topics None = listed_mapped f _ topics

@@ -12,7 +12,7 @@ use Rattle.kob_catalog.specs.Topics.{Topic, place_of, with_partition}
 use Rattle.kob_names.specs.Binding.{Binding}
 use Rattle.kob_names.specs.declared.settings.Settings.{Settings}
 use Rattle.kob_names.specs.declared.draft.Draft.{Draft}
-use Rattle.kob_partition.proofs.Keeping.{records_of-push}
+use Rattle.kob_partition.proofs.Keeping.{records_of_push}
 use Rattle.kob_partition.specs.Append.{batch_judged, unless_repeat}
 use Rattle.kob_partition.specs.Batches.{Plain, records_of}
 use Rattle.kob_partition.specs.Retained.{plain_meaning}
@@ -142,7 +142,7 @@ put_up_to : (judgement : Judgement) (partition : Plain) (produce : ProduceAsked)
     (unless_repeat judgement topics (with_partition produce.topic produce.partition (plain_meaning.append partition produce.batch) topics))
 put_up_to judgement partition produce n topics short all =
     let records = records_of partition.batches in
-    let long = ap length (records_of-push partition.batches produce.batch) ∙ length-append records produce.batch.records in
+    let long = ap length (records_of_push partition.batches produce.batch) ∙ length-append records produce.batch.records in
     let count = length produce.batch.records in
     let written = once_written (UpTo (n + count)) (place_of produce.topic topics) produce.partition (plain_meaning.append partition produce.batch) topics
     (subst (λ m. m ≤ n + count) (sym long) (omega (arith, short))) all in

@@ -151,10 +151,10 @@ module _ (limit : Option ℕ) (events : Contents) (e : Intake) (n : ℕ) (db : T
       at.3 (sym (conflict_is at.0 (n, e) (omega (arith, at.1, is)))
       ∙ subst (λ r. conflicts None inbox_schema.indexes inbox_table row r ≡ true) at.2 got.2)
 
-  abbrev Task-here : Task
-  Task-here = task_on limit Enforced inbox_schema inbox_table params
+  abbrev task_here : Task
+  task_here = task_on limit Enforced inbox_schema inbox_table params
 
-  cleared : (one : Written) (found : List Row) → Found found → Clears Task-here Ignore row db found (Ok one)
+  cleared : (one : Written) (found : List Row) → Found found → Clears task_here Ignore row db found (Ok one)
       → Goes events e one.trees (length one.rows)
   cleared one [] conf h =
       let fresh = none_found conf in
@@ -177,7 +177,7 @@ module _ (limit : Option ℕ) (events : Contents) (e : Intake) (n : ℕ) (db : T
       }
 
   decided : (one : Written) (verdict : Option Refusal) → IsJudged (uncounted inbox_table) row verdict
-      → Judged Task-here Ignore [] row db verdict (Ok one) → Goes events e one.trees (length one.rows)
+      → Judged task_here Ignore [] row db verdict (Ok one) → Goes events e one.trees (length one.rows)
   decided one verdict judged h =
       let it = judged_clears limit Enforced inbox_schema inbox_table params row suits db (Ok one) verdict judged h in
       cleared one it.0 it.1 it.2
@@ -193,7 +193,7 @@ module _ (limit : Option ℕ) (events : Contents) (e : Intake) (n : ℕ) (db : T
       let it =
       wrote put_text params old new inbox_schema schema _ put_is put_plain 0 inbox_table refl
       (λ limit mode params db text p does. does) (λ text count ran. ran) count h in
-      let does : InsertsOr Task-here Ignore [] (Values new_row 8) db (Ok it.written) =
+      let does : InsertsOr task_here Ignore [] (Values new_row 8) db (Ok it.written) =
       subst (λ l. InsertsOr (task_on l Enforced inbox_schema inbox_table params) Ignore [] (Values new_row 8) db
       (Ok it.written)) unlimited
       (subst (λ (d : Database). InsertsOr (task_on old.step_limit Enforced inbox_schema inbox_table params) Ignore []
@@ -242,15 +242,15 @@ differs : (b : Bool) (more : Bool) → (b || more) ≡ false → (b ≡ false) �
 differs true more h = absurd cc
 differs false more h = (refl, h)
 
-bytes_eq-sym : (s t : List ℕ) → bytes_eq s t ≡ false → bytes_eq t s ≡ false
-bytes_eq-sym s t other =
+bytes_eq_sym : (s t : List ℕ) → bytes_eq s t ≡ false → bytes_eq t s ≡ false
+bytes_eq_sym s t other =
     not_true _ (λ same. let no = sym other ∙ (bytes_eq-Decides s t).1 (sym ((bytes_eq-Decides t s).0 same)) in cc)
 
 once_with : (e : Intake) (events : Contents) → is_there events e.id ≡ false → IsOnce events → IsOnce (events ++ e ∷ [])
 once_with e [] absent once = (tt, tt)
 once_with e (x ∷ events) absent once =
     let apart = differs _ _ absent in (
-      all_with (λ b. bytes_eq b.id x.id ≡ false) e events once.0 (bytes_eq-sym x.id e.id apart.0),
+      all_with (λ b. bytes_eq b.id x.id ≡ false) e events once.0 (bytes_eq_sym x.id e.id apart.0),
       once_with e events apart.1 once.1,
     )
 

@@ -17,17 +17,17 @@ use Rattle.kob_names.specs.contracts.kinds.Operation as operation
 use Rattle.kob_names.specs.contracts.kinds.PatternKind as kind
 use Rattle.kob_names.specs.contracts.kinds.Permission as permission
 
-pub permission-Decides : (a b : Permission) → Decides (same_permission a b) (a ≡ b)
-permission-Decides a b = (same_true permission.the_type tt a b, true_same permission.the_type a b)
+pub permission_decides : (a b : Permission) → Decides (same_permission a b) (a ≡ b)
+permission_decides a b = (same_true permission.the_type tt a b, true_same permission.the_type a b)
 
-pub operation-Decides : (a b : Operation) → Decides (same_operation a b) (a ≡ b)
-operation-Decides a b = (same_true operation.the_type tt a b, true_same operation.the_type a b)
+pub operation_decides : (a b : Operation) → Decides (same_operation a b) (a ≡ b)
+operation_decides a b = (same_true operation.the_type tt a b, true_same operation.the_type a b)
 
-pub resource-Decides : (a b : ResourceKind) → Decides (same_resource a b) (a ≡ b)
-resource-Decides a b = (same_true resource.the_type tt a b, true_same resource.the_type a b)
+pub resource_decides : (a b : ResourceKind) → Decides (same_resource a b) (a ≡ b)
+resource_decides a b = (same_true resource.the_type tt a b, true_same resource.the_type a b)
 
-pub kind-Decides : (a b : PatternKind) → Decides (same_pattern_kind a b) (a ≡ b)
-kind-Decides a b = (same_true kind.the_type tt a b, true_same kind.the_type a b)
+pub kind_decides : (a b : PatternKind) → Decides (same_pattern_kind a b) (a ≡ b)
+kind_decides a b = (same_true kind.the_type tt a b, true_same kind.the_type a b)
 
 -- a pattern of its parts
 abbrev patterned : PatternKind → List ℕ → Pattern
@@ -44,15 +44,15 @@ bound permission principal host operation resource pattern = record {
   pattern = pattern;
 }
 
-pattern-Decides : (a b : Pattern) → Decides (same_pattern a b) (a ≡ b)
-pattern-Decides a b =
+pattern_decides : (a b : Pattern) → Decides (same_pattern a b) (a ≡ b)
+pattern_decides a b =
     Decides-like (same_pattern a b)
     (λ same. let whole : patterned a.kind a.name ≡ patterned b.kind b.name = cc in whole)
     (λ same. (ap (λ (x : Pattern). x.kind) same, ap (λ (x : Pattern). x.name) same))
-    (Decides-and _ _ (kind-Decides a.kind b.kind) (bytes_eq-Decides a.name b.name))
+    (Decides-and _ _ (kind_decides a.kind b.kind) (bytes_eq-Decides a.name b.name))
 
-pub same_binding-Decides : (a b : Binding) → Decides (same_binding a b) (a ≡ b)
-same_binding-Decides a b =
+pub same_binding_decides : (a b : Binding) → Decides (same_binding a b) (a ≡ b)
+same_binding_decides a b =
     Decides-like (same_binding a b)
     (λ same.
     let whole : bound a.permission a.principal a.host a.operation a.resource a.pattern
@@ -71,13 +71,13 @@ same_binding-Decides a b =
         ),
       ),
     ))
-    (Decides-and _ _ (permission-Decides a.permission b.permission)
+    (Decides-and _ _ (permission_decides a.permission b.permission)
     (Decides-and _ _ (bytes_eq-Decides a.principal b.principal)
     (Decides-and _ _ (bytes_eq-Decides a.host b.host)
-    (Decides-and _ _ (operation-Decides a.operation b.operation)
-    (Decides-and _ _ (resource-Decides a.resource b.resource) (pattern-Decides a.pattern b.pattern))))))
+    (Decides-and _ _ (operation_decides a.operation b.operation)
+    (Decides-and _ _ (resource_decides a.resource b.resource) (pattern_decides a.pattern b.pattern))))))
 
 -- an answer of the test is true exactly where the two are equal
-pub same_binding-tells : (a b : Binding) (answer : Bool) → answer ≡ same_binding a b → IsTrue answer ↔ (a ≡ b)
-same_binding-tells a b answer is =
-    let decides = same_binding-Decides a b in (λ yes. decides.0 (sym is ∙ yes), λ same. is ∙ decides.1 same)
+pub same_binding_tells : (a b : Binding) (answer : Bool) → answer ≡ same_binding a b → IsTrue answer ↔ (a ≡ b)
+same_binding_tells a b answer is =
+    let decides = same_binding_decides a b in (λ yes. decides.0 (sym is ∙ yes), λ same. is ∙ decides.1 same)

@@ -159,11 +159,11 @@ module _ (limit : Option ℕ) (ids : List (List ℕ)) (id : List ℕ) (seq : ℕ
       ∙ subst (λ r. conflicts None service_schema.indexes spent_table (spent_row seq id) r ≡ true) at.3 got.2) in
       subst (λ x. is_recorded ids x ≡ true) same at.4
 
-  abbrev Task-here : Task
-  Task-here = task_on limit Enforced service_schema spent_table params
+  abbrev task_here : Task
+  task_here = task_on limit Enforced service_schema spent_table params
 
   cleared : (one : Written) (found : List Row) → Found found
-      → Clears Task-here Ignore (spent_row seq id) db found (Ok one) → Spent ids id seq db one.trees (length one.rows)
+      → Clears task_here Ignore (spent_row seq id) db found (Ok one) → Spent ids id seq db one.trees (length one.rows)
   cleared one [] conf h =
       let fresh = none_found conf in
       let done = put limit Enforced service_schema spent_table params alone (spent_row seq id) db one h in
@@ -192,7 +192,7 @@ module _ (limit : Option ℕ) (ids : List (List ℕ)) (id : List ℕ) (seq : ℕ
       }
 
   decided : (one : Written) (verdict : Option Refusal) → IsJudged (uncounted spent_table) (spent_row seq id) verdict
-      → Judged Task-here Ignore [] (spent_row seq id) db verdict (Ok one)
+      → Judged task_here Ignore [] (spent_row seq id) db verdict (Ok one)
       → Spent ids id seq db one.trees (length one.rows)
   decided one verdict judged h =
       let it =
@@ -208,7 +208,7 @@ module _ (limit : Option ℕ) (ids : List (List ℕ)) (id : List ℕ) (seq : ℕ
       let it =
       wrote spend_text params old new service_schema schema _ spend_is spend_plain 2 spent_table refl
       (λ limit mode params db text p does. does) (λ text count ran. ran) count h in
-      let does : InsertsOr Task-here Ignore [] (Values new_spent 3) db (Ok it.written) =
+      let does : InsertsOr task_here Ignore [] (Values new_spent 3) db (Ok it.written) =
       subst (λ l. InsertsOr (task_on l Enforced service_schema spent_table params) Ignore [] (Values new_spent 3) db
       (Ok it.written)) unlimited
       (subst (λ (d : Database). InsertsOr (task_on old.step_limit Enforced service_schema spent_table params) Ignore []

@@ -24,8 +24,8 @@ Placed = ℕ × Business
 abbrev AreApart : List Placed → Type 0
 AreApart = IsAscending (λ (a b : Placed). has_key b.1.kind b.1.id a.1 ≡ false)
 
-bytes_eq-sym : (s t : List ℕ) → bytes_eq s t ≡ bytes_eq t s
-bytes_eq-sym s t =
+bytes_eq_sym : (s t : List ℕ) → bytes_eq s t ≡ bytes_eq t s
+bytes_eq_sym s t =
     both_ways _ _ (λ e. (bytes_eq-Decides t s).1 (sym ((bytes_eq-Decides s t).0 e)))
     (λ e. (bytes_eq-Decides s t).1 (sym ((bytes_eq-Decides t s).0 e)))
 
@@ -141,7 +141,7 @@ one_at_most kind id (p ∷ ps) apart = elim (cases_Bool (has_key kind id p.1)) [
 ]
 
 tied_as : (kind id : List ℕ) (x : Business) → eq_by_cmp key_cmp (kind, id) (key x) ≡ has_key kind id x
-tied_as kind id x = ties (kind, id) (key x) ∙ rw (bytes_eq-sym kind x.kind, bytes_eq-sym id x.id) refl
+tied_as kind id x = ties (kind, id) (key x) ∙ rw (bytes_eq_sym kind x.kind, bytes_eq_sym id x.id) refl
 
 -- the row with a key shows the state that the map has there
 shown_in : (kind id : List ℕ) (ps : List Placed) → AreApart ps

@@ -11,7 +11,7 @@ use Rattle.kob_shared.specs.Journals.{IsLegal, Record}
 use Rattle.kob_shared.specs.Noted.{Noted}
 use Rattle.kob_shared.specs.Openings.{opened_by}
 use Rattle.kob_shared.specs.Runs.{IsAsNoted, IsTear, events_in, notes_of, told_in}
-use Rattle.kob_shared.proofs.Beginnings.{begins-with}
+use Rattle.kob_shared.proofs.Beginnings.{begins_with}
 use Rattle.kob_pipeline.specs.declared.end.PipelineEnd.{PipelineEnd}
 use Rattle.kob_pipeline.specs.declared.end.WorkerEnd.{WorkerEnd}
 use Rattle.kob_pipeline.specs.declared.worker.Worker.{Worker}
@@ -39,7 +39,7 @@ ended opening first workers done found end legal kept follows each unrefused ans
     record {
       legal = subst (λ s. IsLegal (opened_by opening) end.journal s) (sym broker)
           (subst (λ (h : List Entry). IsLegal (opened_by opening) h found.broker) (sym journal) (subst (λ o. IsLegal (opened_by o) found.journal found.broker) kept.0 legal));
-      begins = begins-with first.events first.told end.journal (each_answered.0).counted follows
+      begins = begins_with first.events first.told end.journal (each_answered.0).counted follows
           (here.mine 0 (omega arith));
       answered = answered;
       kept = subst (λ (ns : List Noted). IsKept (events_in ns) (told_in ns) end.journal) (sym transcripts) here;

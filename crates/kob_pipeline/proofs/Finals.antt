@@ -11,7 +11,7 @@ use Rattle.kob_shared.specs.Journals.{IsLegal}
 use Rattle.kob_shared.specs.Runs.{notes_of}
 use Rattle.kob_shared.specs.declared.script.Script.{Script}
 use Rattle.kob_shared.specs.declared.work.Done.{Done}
-use Rattle.kob_shared.proofs.Zips.{length-all_zip}
+use Rattle.kob_shared.proofs.Zips.{length_all_zip}
 use Rattle.kob_broker.specs.Change.{state_of}
 use Rattle.kob_broker.specs.State.{settings_of}
 use Rattle.kob_rights.specs.declared.event.Event.{Event}
@@ -273,7 +273,7 @@ pipeline_left opening plan end same left =
       counted =
           ap length left.transcripts
           ∙ (let a = length-map done (λ (d : Done WorkerEnd). d.notes) in
-          let b = length-all_zip Left (planned_workers plan) done left.each in
+          let b = length_all_zip Left (planned_workers plan) done left.each in
           let c = planned_count ss cs ads in omega (arith, a, b, c));
       outboxes = ap length left.outboxes ∙ (let a = behind.outboxes in omega (arith, a, outboxes_behind, outboxes_none));
       inboxes = ap length left.inboxes ∙ inboxes_all ∙ (let a = last.inboxes in omega (arith, a, inboxes_none));

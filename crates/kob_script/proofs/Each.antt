@@ -7,10 +7,10 @@ use Rattle.kob_script.specs.declared.fault.LineError.TheVariants.{Memory, Fault}
 use Rattle.kob_script.specs.Reading.{◌>>=◌, Fails, each, with_front}
 
 -- one value more at the front
-pub with_front-more : {A : Type 0} (front : List A) (x : A) (read : Result (List A) FaultKind)
+pub with_front_more : {A : Type 0} (front : List A) (x : A) (read : Result (List A) FaultKind)
     → with_front (front ++ x ∷ []) read ≡ with_front front (read >>= λ others. Ok (x ∷ others))
-with_front-more front x (Ok xs) = ap Ok (append_assoc front (x ∷ []) xs)
-with_front-more front x (Err kind) = refl
+with_front_more front x (Ok xs) = ap Ok (append_assoc front (x ∷ []) xs)
+with_front_more front x (Err kind) = refl
 
 -- one value more, and then the rest
 abbrev pub one_more : {A B : Type 0} → (A → Result B FaultKind) → List A → Result B FaultKind
@@ -40,7 +40,7 @@ pub each_keeps : {A B : Type 0} (read : A → Result B FaultKind) (xs : List A) 
     → with_front front (each read (drop i xs)) ≡ each read xs → i < length xs → x ≡ get_or xs i d → read x ≡ Ok y
     → with_front (front ++ y ∷ []) (each read (drop (i + 1) xs)) ≡ each read xs
 each_keeps read xs i d x front y kept below is gives =
-    with_front-more front y _
+    with_front_more front y _
     ∙ sym (ap (with_front front) (steps_at read xs i d x below is ∙ ap (one_more read (drop (i + 1) xs)) gives)) ∙ kept
 
 pub each_ends : {A B : Type 0} (read : A → Result B FaultKind) (xs : List A) (i : ℕ) (front : List B)
@@ -50,13 +50,13 @@ each_ends read xs i front kept past =
     sym kept ∙ ap (λ rest. with_front front (each read rest)) (drop_of_length-le xs past) ∙ ap Ok (append-nil front)
 
 -- what is read of values that are seen by a view
-pub each-map : {X A B : Type 0} (read : A → Result B FaultKind) (view : X → A) (xs : List X)
+pub each_map : {X A B : Type 0} (read : A → Result B FaultKind) (view : X → A) (xs : List X)
     → each read (map view xs) ≡ each (λ x. read (view x)) xs
 unfolding each
-each-map read view [] = refl
-each-map read view (x ∷ xs) =
-    ap (λ r. read (view x) >>= λ first. r >>= λ others. Ok (first ∷ others)) (each-map read view xs)
+each_map read view [] = refl
+each_map read view (x ∷ xs) =
+    ap (λ r. read (view x) >>= λ first. r >>= λ others. Ok (first ∷ others)) (each_map read view xs)
 
-pub each_fails-map : {X A B : Type 0} (read : A → Result B FaultKind) (view : X → A) (xs : List X) (e : LineError)
+pub each_fails_map : {X A B : Type 0} (read : A → Result B FaultKind) (view : X → A) (xs : List X) (e : LineError)
     → Fails e (each (λ x. read (view x)) xs) → Fails e (each read (map view xs))
-each_fails-map read view xs e fails = subst (Fails e) (sym (each-map read view xs)) fails
+each_fails_map read view xs e fails = subst (Fails e) (sym (each_map read view xs)) fails

@@ -39,11 +39,11 @@ more_whole : (b : Bool) (byte high low : ℕ) (rest : List ℕ)
 more_whole true byte high low rest = escape_whole (are_hexadecimal high low) (hexadecimal high low) rest
 more_whole false byte high low rest = refl
 
-pub whole-step : (byte : ℕ) (rest : List ℕ) → has_whole_escapes (byte ∷ rest) ≡ whole_after (byte_at byte rest)
+pub whole_step : (byte : ℕ) (rest : List ℕ) → has_whole_escapes (byte ∷ rest) ≡ whole_after (byte_at byte rest)
 unfolding has_whole_escapes
-whole-step byte [] = last_whole (byte == 37) byte
-whole-step byte (high ∷ []) = two_whole (byte == 37) byte high
-whole-step byte (high ∷ low ∷ rest) = more_whole (byte == 37) byte high low rest
+whole_step byte [] = last_whole (byte == 37) byte
+whole_step byte (high ∷ []) = two_whole (byte == 37) byte high
+whole_step byte (high ∷ low ∷ rest) = more_whole (byte == 37) byte high low rest
 
 last_bytes : (b : Bool) (byte : ℕ) → byte ∷ [] ≡ bytes_after byte [] (if b then None else Some (byte, []))
 unfolding bytes_of
@@ -71,11 +71,11 @@ more_bytes true byte high low rest =
     escape_bytes (are_hexadecimal high low) byte (hexadecimal high low) (high ∷ low ∷ rest) rest
 more_bytes false byte high low rest = refl
 
-pub bytes-step : (byte : ℕ) (rest : List ℕ) → bytes_of (byte ∷ rest) ≡ bytes_after byte rest (byte_at byte rest)
+pub bytes_step : (byte : ℕ) (rest : List ℕ) → bytes_of (byte ∷ rest) ≡ bytes_after byte rest (byte_at byte rest)
 unfolding bytes_of
-bytes-step byte [] = last_bytes (byte == 37) byte
-bytes-step byte (high ∷ []) = two_bytes (byte == 37) byte high
-bytes-step byte (high ∷ low ∷ rest) = more_bytes (byte == 37) byte high low rest
+bytes_step byte [] = last_bytes (byte == 37) byte
+bytes_step byte (high ∷ []) = two_bytes (byte == 37) byte high
+bytes_step byte (high ∷ low ∷ rest) = more_bytes (byte == 37) byte high low rest
 
 both_false : (a b : Bool) → (a || b) ≡ false → (a ≡ false) × (b ≡ false)
 both_false true b e = absurd cc
@@ -92,33 +92,33 @@ bytes_after_plain true byte rest others e = absurd cc
 bytes_after_plain false byte rest others e = refl
 
 -- a word without a percent sign has whole escapes and stands for itself
-whole-plain : (word : List ℕ) → list_any (λ y. y == 37) word ≡ false → has_whole_escapes word ≡ true
+whole_plain : (word : List ℕ) → list_any (λ y. y == 37) word ≡ false → has_whole_escapes word ≡ true
 unfolding has_whole_escapes
-whole-plain [] none = refl
-whole-plain (byte ∷ rest) none =
+whole_plain [] none = refl
+whole_plain (byte ∷ rest) none =
     let here = both_false (byte == 37) (list_any (λ y. y == 37) rest) none in
-    whole-step byte rest ∙ whole_after_plain (byte == 37) byte rest rest here.0 ∙ whole-plain rest here.1
+    whole_step byte rest ∙ whole_after_plain (byte == 37) byte rest rest here.0 ∙ whole_plain rest here.1
 
-bytes-plain : (word : List ℕ) → list_any (λ y. y == 37) word ≡ false → bytes_of word ≡ word
+bytes_plain : (word : List ℕ) → list_any (λ y. y == 37) word ≡ false → bytes_of word ≡ word
 unfolding bytes_of
-bytes-plain [] none = refl
-bytes-plain (byte ∷ rest) none =
+bytes_plain [] none = refl
+bytes_plain (byte ∷ rest) none =
     let here = both_false (byte == 37) (list_any (λ y. y == 37) rest) none in
-    bytes-step byte rest ∙ bytes_after_plain (byte == 37) byte rest rest here.0
-    ∙ ap (λ r. byte ∷ r) (bytes-plain rest here.1)
+    bytes_step byte rest ∙ bytes_after_plain (byte == 37) byte rest rest here.0
+    ∙ ap (λ r. byte ∷ r) (bytes_plain rest here.1)
 
-pub word_of-plain : (word : List ℕ) → list_any (λ y. y == 37) word ≡ false
+pub word_of_plain : (word : List ℕ) → list_any (λ y. y == 37) word ≡ false
     → word_of word ≡ Ok (record { raw = word; decoded = word })
-word_of-plain word none =
-    chosen_true (has_whole_escapes word) _ _ (whole-plain word none)
-    ∙ ap (λ bytes. Ok (record { raw = word; decoded = bytes })) (bytes-plain word none)
+word_of_plain word none =
+    chosen_true (has_whole_escapes word) _ _ (whole_plain word none)
+    ∙ ap (λ bytes. Ok (record { raw = word; decoded = bytes })) (bytes_plain word none)
 
 -- the loop over the bytes of a word, by what was found at the front of the rest
 pub whole_keeps : (word rest others : List ℕ) (first : ℕ) (found : Option (ℕ × List ℕ))
     → has_whole_escapes rest ≡ has_whole_escapes word → rest ≡ first ∷ others → found ≡ byte_at first others
     → whole_after found ≡ has_whole_escapes word
 whole_keeps word rest others first found kept split read =
-    ap whole_after read ∙ sym (whole-step first others) ∙ sym (ap has_whole_escapes split) ∙ kept
+    ap whole_after read ∙ sym (whole_step first others) ∙ sym (ap has_whole_escapes split) ∙ kept
 
 pub whole_ends : (word rest : List ℕ) → has_whole_escapes rest ≡ has_whole_escapes word → rest ≡ []
     → true ≡ has_whole_escapes word
@@ -140,7 +140,7 @@ bytes_keep out more word rest first others found next kept split read is grown =
     ap (λ o. o ++ bytes_of next.1.now) grown
     ∙ append_assoc out (next.0 ∷ []) (bytes_of next.1.now)
     ∙ ap (λ (n : ℕ × Bor (List ℕ)). out ++ n.0 ∷ bytes_of n.1.now) is
-    ∙ sym (ap (λ o. out ++ o) (ap bytes_of split ∙ bytes-step first others.now
+    ∙ sym (ap (λ o. out ++ o) (ap bytes_of split ∙ bytes_step first others.now
     ∙ sym (ap (bytes_after first others.now) read) ∙ found_or_first first others found))
     ∙ kept
 

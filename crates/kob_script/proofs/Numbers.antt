@@ -37,14 +37,14 @@ pub number_taken : (ds : List ℕ) → WritesNumber ds → number_in ds ≡ Ok (
 number_taken ds w = chosen_true (is_number ds) _ _ (from_number ds w)
 
 -- what is not text writes no number
-pub number-not_text : (ds : List ℕ) → (IsUtf8 ds → ⊥) → number_in ds ≡ Err BadNumber
-number-not_text ds refuted =
+pub number_not_text : (ds : List ℕ) → (IsUtf8 ds → ⊥) → number_in ds ≡ Err BadNumber
+number_not_text ds refuted =
     number_refused ds (λ w. refuted (IsUtf8-from_ascii ds (IsAscii-from_digits ds (own.to ds w.0))))
 
 -- what `parse` answers, where no sign stands in front
-pub number-parsed : {E : Type 0} (ds : List ℕ) (r : Result ℕ E) → ParsesUnsigned 64 10 ds r → get_or ds 0 0 ≢ 43
+pub number_parsed : {E : Type 0} (ds : List ℕ) (r : Result ℕ E) → ParsesUnsigned 64 10 ds r → get_or ds 0 0 ≢ 43
     → MatchResult r (λ n. number_in ds ≡ Ok n) (λ _. number_in ds ≡ Err BadNumber)
-number-parsed ds r h plain = parsed r (parse_plain own 64 ds r h plain)
+number_parsed ds r h plain = parsed r (parse_plain own 64 ds r h plain)
   where
     parsed : {E : Type 0} (r : Result ℕ E) → OkIff r (WritesNumber ds) (digits_value 10 ds)
         → MatchResult r (λ n. number_in ds ≡ Ok n) (λ _. number_in ds ≡ Err BadNumber)

@@ -12,13 +12,13 @@ use Rattle.kob_shared.specs.declared.work.Done.{Done}
 use Rattle.kob_shared.specs.Noted.{Noted}
 use Rattle.kob_shared.specs.Openings.{opened_by}
 use Rattle.kob_shared.specs.Runs.{IsAsNoted, IsTaken, IsTear, events_in, notes_of}
-use Rattle.kob_shared.proofs.Noted.{asked-scripts, told-taken}
+use Rattle.kob_shared.proofs.Noted.{asked_scripts, told_taken}
 use Rattle.kob_shared.specs.declared.journal.Entry.{Entry}
 use Rattle.kob_shared.specs.declared.journal.Receipt.{Receipt}
 use Rattle.kob_shared.specs.Journals.{IsLegal, Record}
 use Rattle.kob_shared.specs.Fleets.{IsFleet, IsKept, EachIsAnswered, Follows, asked_of_all, claims_of, DifferAt, events_of_script}
-use Rattle.kob_shared.proofs.Beginnings.{begins-with}
-use Rattle.kob_shared.proofs.Counted.{length-kept}
+use Rattle.kob_shared.proofs.Beginnings.{begins_with}
+use Rattle.kob_shared.proofs.Counted.{length_kept}
 
 pub fleet_of : (opening : State Retained) (first : List Event) (scripts : List Script) (journal : List Entry)
     (now : State Retained) (told : List (List Receipt)) → IsLegal opening journal now
@@ -28,10 +28,10 @@ fleet_of opening first scripts journal now [] legal each begun kept = absurd eac
 fleet_of opening first scripts journal now (t ∷ ts) legal each begun kept =
     record {
       legal = legal;
-      begins = begins-with first t journal (each.0).counted begun (kept.mine 0 (omega arith));
+      begins = begins_with first t journal (each.0).counted begun (kept.mine 0 (omega arith));
       answered = each;
       kept = kept;
-      counted = length-kept first scripts (t ∷ ts) journal each kept;
+      counted = length_kept first scripts (t ∷ ts) journal each kept;
     }
 
 -- what a fleet of scripts leaves, where its journal is what was noted
@@ -43,8 +43,8 @@ pub scripts_end : {E : Type 0} (opening : Settings) (first : Noted) (scripts : L
     → AllZip IsTaken (notes_of first done) told
     → IsFleet (opened_by opening) first.events scripts found.journal found.broker told
 scripts_end {E} opening first scripts done found told legal kept follows each taken =
-    let same = told-taken (notes_of first done) told taken in
-    let asked = asked-scripts first scripts done each in
+    let same = told_taken (notes_of first done) told taken in
+    let asked = asked_scripts first scripts done each in
     fleet_of (opened_by opening) first.events scripts found.journal found.broker told
     (subst (λ o. IsLegal (opened_by o) found.journal found.broker) kept.0 legal)
     (subst (λ es. EachIsAnswered es told) asked same.1)
@@ -61,8 +61,8 @@ pub scripts_torn : {E : Type 0} (opening : Settings) (first : Noted) (scripts : 
     → DifferAt d.worker found.journal (claims_of (asked_of_all first.events scripts) told d.worker) d.place
     ⊎ ((d.worker ≡ 0) × (found.opening ≢ opening))
 scripts_torn {E} opening first scripts done found told d tear each taken =
-    let same = told-taken (notes_of first done) told taken in
-    let asked = asked-scripts first scripts done each in
+    let same = told_taken (notes_of first done) told taken in
+    let asked = asked_scripts first scripts done each in
     subst (λ es. DifferAt d.worker found.journal (claims_of es told d.worker) d.place
     ⊎ ((d.worker ≡ 0) × (found.opening ≢ opening))) asked
     (subst (λ ts. DifferAt d.worker found.journal (claims_of (events_in (notes_of first done)) ts d.worker) d.place

@@ -30,65 +30,65 @@ literal : (text : List ℕ) → list_all is_ascii text ≡ true → IsAscii text
 literal [] passes = IsAscii-nil
 literal (b ∷ bs) passes = IsAscii-cons b bs (grind (arith, nat_tests)) (literal bs (grind (arith, nat_tests)))
 
-permission-ascii : (p : Permission) → IsAscii (permission_name p)
-permission-ascii Allow = literal (codes "ALLOW") refl
-permission-ascii Deny = literal (codes "DENY") refl
+permission_ascii : (p : Permission) → IsAscii (permission_name p)
+permission_ascii Allow = literal (codes "ALLOW") refl
+permission_ascii Deny = literal (codes "DENY") refl
 
-operation-ascii : (o : Operation) → IsAscii (operation_name o)
-operation-ascii All = literal (codes "All") refl
-operation-ascii Read = literal (codes "Read") refl
-operation-ascii Write = literal (codes "Write") refl
-operation-ascii Create = literal (codes "Create") refl
-operation-ascii Delete = literal (codes "Delete") refl
-operation-ascii Alter = literal (codes "Alter") refl
-operation-ascii Describe = literal (codes "Describe") refl
-operation-ascii ClusterAction = literal (codes "ClusterAction") refl
-operation-ascii DescribeConfigs = literal (codes "DescribeConfigs") refl
-operation-ascii AlterConfigs = literal (codes "AlterConfigs") refl
-operation-ascii IdempotentWrite = literal (codes "IdempotentWrite") refl
+operation_ascii : (o : Operation) → IsAscii (operation_name o)
+operation_ascii All = literal (codes "All") refl
+operation_ascii Read = literal (codes "Read") refl
+operation_ascii Write = literal (codes "Write") refl
+operation_ascii Create = literal (codes "Create") refl
+operation_ascii Delete = literal (codes "Delete") refl
+operation_ascii Alter = literal (codes "Alter") refl
+operation_ascii Describe = literal (codes "Describe") refl
+operation_ascii ClusterAction = literal (codes "ClusterAction") refl
+operation_ascii DescribeConfigs = literal (codes "DescribeConfigs") refl
+operation_ascii AlterConfigs = literal (codes "AlterConfigs") refl
+operation_ascii IdempotentWrite = literal (codes "IdempotentWrite") refl
 
-resource-ascii : (r : ResourceKind) → IsAscii (resource_name r)
-resource-ascii Topic = literal (codes "Topic") refl
-resource-ascii Group = literal (codes "Group") refl
-resource-ascii Cluster = literal (codes "Cluster") refl
-resource-ascii TransactionalId = literal (codes "TransactionalId") refl
+resource_ascii : (r : ResourceKind) → IsAscii (resource_name r)
+resource_ascii Topic = literal (codes "Topic") refl
+resource_ascii Group = literal (codes "Group") refl
+resource_ascii Cluster = literal (codes "Cluster") refl
+resource_ascii TransactionalId = literal (codes "TransactionalId") refl
 
-pattern-ascii : (k : PatternKind) → IsAscii (pattern_name k)
-pattern-ascii Literal = literal (codes "LITERAL") refl
-pattern-ascii Prefixed = literal (codes "PREFIXED") refl
+pattern_ascii : (k : PatternKind) → IsAscii (pattern_name k)
+pattern_ascii Literal = literal (codes "LITERAL") refl
+pattern_ascii Prefixed = literal (codes "PREFIXED") refl
 
 -- a text, and another one after a space
 spaced : (one two : List ℕ) → IsAscii one → IsAscii two → IsAscii (one ++ codes " " ++ two)
 spaced one two first second =
     IsAscii-append (one ++ codes " ") two (IsAscii-append one (codes " ") first (literal (codes " ") refl)) second
 
-pub grant-ascii : (b : Binding) → IsAscii (bytes_text b.principal) → IsAscii (bytes_text b.host)
+pub grant_ascii : (b : Binding) → IsAscii (bytes_text b.principal) → IsAscii (bytes_text b.host)
     → IsAscii (grant_text b)
-grant-ascii b principal host =
+grant_ascii b principal host =
     spaced (permission_name b.permission ++ codes " " ++ bytes_text b.principal ++ codes " " ++ bytes_text b.host)
     (operation_name b.operation)
     (spaced (permission_name b.permission ++ codes " " ++ bytes_text b.principal) (bytes_text b.host)
-    (spaced (permission_name b.permission) (bytes_text b.principal) (permission-ascii b.permission) principal) host)
-    (operation-ascii b.operation)
+    (spaced (permission_name b.permission) (bytes_text b.principal) (permission_ascii b.permission) principal) host)
+    (operation_ascii b.operation)
 
-pub target-ascii : (b : Binding) → IsAscii (bytes_text b.pattern.name) → IsAscii (target_text b)
-target-ascii b name =
+pub target_ascii : (b : Binding) → IsAscii (bytes_text b.pattern.name) → IsAscii (target_text b)
+target_ascii b name =
     spaced (resource_name b.resource ++ codes " " ++ pattern_name b.pattern.kind) (bytes_text b.pattern.name)
-    (spaced (resource_name b.resource) (pattern_name b.pattern.kind) (resource-ascii b.resource)
-    (pattern-ascii b.pattern.kind)) name
+    (spaced (resource_name b.resource) (pattern_name b.pattern.kind) (resource_ascii b.resource)
+    (pattern_ascii b.pattern.kind)) name
 
-pub binding-ascii : (serial : ℕ) (b : Binding) → IsAscii (decimal serial) → IsAscii (grant_text b)
+pub binding_ascii : (serial : ℕ) (b : Binding) → IsAscii (decimal serial) → IsAscii (grant_text b)
     → IsAscii (target_text b) → IsAscii (binding_text serial b)
-binding-ascii serial b number grant target =
+binding_ascii serial b number grant target =
     spaced (codes "binding " ++ decimal serial ++ codes " " ++ grant_text b) (target_text b)
     (spaced (codes "binding " ++ decimal serial) (grant_text b)
     (IsAscii-append (codes "binding ") (decimal serial) (literal (codes "binding ") refl) number) grant)
     target
 
 -- one byte more
-pub bytes-ascii-more : (bytes : List ℕ) (i d : ℕ) → i < length bytes → IsAscii (bytes_text (take i bytes))
+pub bytes_ascii_more : (bytes : List ℕ) (i d : ℕ) → i < length bytes → IsAscii (bytes_text (take i bytes))
     → IsAscii (byte_text (get_or bytes i d)) → IsAscii (bytes_text (take (i + 1) bytes))
-bytes-ascii-more bytes i d below before more =
+bytes_ascii_more bytes i d below before more =
     rw (
       take_more bytes i d below,
       flat_map-append byte_text (take i bytes) (get_or bytes i d ∷ []),
@@ -97,8 +97,8 @@ bytes-ascii-more bytes i d below before more =
     (IsAscii-append (bytes_text (take i bytes)) (byte_text (get_or bytes i d)) before more)
 
 -- a line
-pub line-ascii : (text : List ℕ) → IsAscii text → IsAscii (text ++ codes "\n")
-line-ascii text is = IsAscii-append text (codes "\n") is (literal (codes "\n") refl)
+pub line_ascii : (text : List ℕ) → IsAscii text → IsAscii (text ++ codes "\n")
+line_ascii text is = IsAscii-append text (codes "\n") is (literal (codes "\n") refl)
 
 -- a fact of what was done, from another one
 pub on_ok : {A E : Type 0} (r : Result A E) (P Q : Type 0) → OnOk r P → (P → Q) → OnOk r Q

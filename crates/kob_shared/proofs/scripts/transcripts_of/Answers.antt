@@ -1,7 +1,7 @@
 use Rattle.std.proofs.Common.{[], ◌∷◌, ◌++◌, length, sym, ap, subst, ◌∙◌, append_assoc}
 use Rattle.std.specs.Vec.Iter.{into_iter_items}
 use Rattle.kob_shared.specs.Fleets.{IsAnswered}
-use Rattle.kob_shared.proofs.Noted.{taken-more}
+use Rattle.kob_shared.proofs.Noted.{taken_more}
 use Rattle.kob_shared.proofs.scripts.transcripts_of.Goals as goal
 
 pub loop-one-preserved : goal.loop-one-preserved
@@ -13,7 +13,7 @@ loop-one-preserved c =
       was.0 ∙ ap (λ xs. yielded ++ xs) c.in-Some.ensures.steps.0
           ∙ sym (append_assoc yielded (one ∷ []) (into_iter_items c.next.new.self)),
       rw c.in_ok-push-2.ensures.items
-          (taken-more c.args.first yielded one c.loop-one.transcripts.items taken.result was.1 (
+          (taken_more c.args.first yielded one c.loop-one.transcripts.items taken.result was.1 (
             taken.ensures.value,
             subst (λ ts. IsAnswered (length one.notes.events) ts)
                 (sym taken.ensures.value) taken.ensures.answered,

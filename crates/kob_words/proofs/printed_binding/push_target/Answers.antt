@@ -1,6 +1,6 @@
 use Rattle.std.proofs.Common.{rules}
-use Rattle.kob_words.proofs.AsciiText.{target-ascii}
+use Rattle.kob_words.proofs.AsciiText.{target_ascii}
 use Rattle.kob_words.proofs.printed_binding.push_target.Goals as goal
 
 pub returns-clause-ascii : goal.returns-clause-ascii
-returns-clause-ascii c = search (rules, target-ascii c.args.binding.now)
+returns-clause-ascii c = search (rules, target_ascii c.args.binding.now)

@@ -1,5 +1,5 @@
 use Rattle.std.proofs.Common.{◌≡◌, ◌++◌, [], ◌∷◌, arith, length-append, ap, ◌∙◌}
-use Rattle.kob_shared.proofs.Rising.{rises-push}
+use Rattle.kob_shared.proofs.Rising.{rises_push}
 use Rattle.kob_shared.proofs.desk.Desk.call.Goals as goal
 
 pub invariant_of-self-2 : goal.invariant_of-self-2
@@ -19,5 +19,5 @@ invariant_of-self-2 g c =
         length-append old.receipts.items (receipt ∷ []),
         was.0,
       )),
-      rw (told, ap (λ s. s.seen) served.1) (rises-push 0 old.receipts.items old.session.seen receipt was.1 served.0),
+      rw (told, ap (λ s. s.seen) served.1) (rises_push 0 old.receipts.items old.session.seen receipt was.1 served.0),
     )
