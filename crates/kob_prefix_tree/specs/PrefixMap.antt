@@ -4,7 +4,8 @@ use Rattle.std.specs.Ordering.{nat_cmp}
 use Rattle.std.specs.Cmp.Lexicographic.{slice_cmp}
 use Rattle.std.specs.FinMap as map
 use Rattle.kob_prefix_tree.specs.declared.kind.PatternKind.{PatternKind}
-use Rattle.kob_prefix_tree.specs.Held.{Held, nothing, is_nothing, with_serial, without_serial, without_serials}
+use Rattle.kob_prefix_tree.specs.Held.{Held, nothing, is_nothing}
+use Rattle.kob_prefix_tree.specs.Held.{with_serial, without_serial, without_serials}
 use Rattle.kob_prefix_tree.specs.Walked.{walked, IsLongestInUse}
 
 -- keys in use, each with what it holds

@@ -17,7 +17,9 @@ longer_prefixes (byte ∷ name) = map (λ prefix. byte ∷ prefix) (prefixes nam
 
 -- what comes behind the prefixed serials of the place itself
 abbrev pub walked_on : (List ℕ → Held) → List ℕ → List ℕ
-walked_on held name = flat_map (λ prefix. serials_of Prefixed (held prefix)) (longer_prefixes name) ++ serials_of Literal (held name)
+walked_on held name =
+    flat_map (λ prefix. serials_of Prefixed (held prefix)) (longer_prefixes name)
+    ++ serials_of Literal (held name)
 
 -- what a place still ahead gives
 abbrev pub ahead_of : Option Ahead → List ℕ

@@ -24,7 +24,8 @@ impl<T> Model for Link<T> {
 }
 
 impl<T> Link<T> {
-    ghost use Rattle.kob_prefix_tree.specs.Nodes.{Leads, tree_of, last_of, joined, keeps_what_is_left};
+    ghost use Rattle.kob_prefix_tree.specs.Nodes.{Leads, tree_of, last_of, joined};
+    ghost use Rattle.kob_prefix_tree.specs.Nodes.{keeps_what_is_left};
 
     /// The way to no node.
     pub fn null() -> Link<T>
