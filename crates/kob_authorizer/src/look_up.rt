@@ -5,7 +5,8 @@ ghost use Rattle.std.specs.Option.{option_copied};
 ghost use Rattle.kob_authorizer.specs.Asked.{asked};
 ghost use Rattle.kob_authorizer.specs.Decide.{first_serial, hits, is_hit, verdict_of};
 ghost use Rattle.kob_authorizer.specs.Index.{Indexes, tree_of};
-ghost use Rattle.kob_authorizer.specs.LookUp.{AreRising, entry_at, least_passing, looked_up, passes_at};
+ghost use Rattle.kob_authorizer.specs.LookUp.{AreRising, entry_at, least_passing};
+ghost use Rattle.kob_authorizer.specs.LookUp.{looked_up, passes_at};
 
 use crate::index::Index;
 use crate::question::Question;
