@@ -33,7 +33,7 @@ use Rattle.std.specs.contracts.impls.GlobalAllocator.TheImpl.{ghosts as heap_rig
 use Rattle.std.proofs.alloc.Global.TheLaws as heap_laws
 use Rattle.kob_prefix_tree.specs.Tree.{Tree, leaf, node}
 use Rattle.kob_prefix_tree.specs.Owned.{low, nodes_own}
-use Rattle.kob_prefix_tree.specs.Nodes.{Leads, tree_of, linked_row, last_of, joined, if_none}
+use Rattle.kob_prefix_tree.specs.Nodes.{Leads, tree_of, linked_row, last_of, with_others, if_none}
 use Rattle.kob_prefix_tree.specs.declared.node.Node.{Node}
 use Rattle.kob_prefix_tree.specs.declared.link.Link.{Link}
 use Rattle.kob_prefix_tree.specs.contracts.link.Link as link
@@ -51,14 +51,14 @@ head (v ∷ vs) = v
 
 -- the first of some siblings, with others behind it
 joined_one : {X : Type 0} (n : Node X (Link X) (Link X)) (l : Link X) → n.next.nodes ≡ leaf
-    → joined (tree_of n) l ≡ tree_of (with_next n l)
+    → with_others (tree_of n) l ≡ tree_of (with_next n l)
 joined_one n l last i =
-    node n.item n.alloc n.child.first n.child.nodes (if_none (last i) l.first n.next.first) (joined (last i) l)
+    node n.item n.alloc n.child.first n.child.nodes (if_none (last i) l.first n.next.first) (with_others (last i) l)
 
 joined_more : {X : Type 0} (n : Node X (Link X) (Link X)) (l : Link X) → Leads n.next.nodes
-    → joined (tree_of n) l ≡ tree_of (with_next n (record { first = n.next.first; nodes = joined n.next.nodes l }))
+    → with_others (tree_of n) l ≡ tree_of (with_next n (record { first = n.next.first; nodes = with_others n.next.nodes l }))
 joined_more {X = X} n l leads i =
-    node n.item n.alloc n.child.first n.child.nodes (there n.next.nodes leads i) (joined n.next.nodes l)
+    node n.item n.alloc n.child.first n.child.nodes (there n.next.nodes leads i) (with_others n.next.nodes l)
   where
     there : (t : Tree X) → Leads t → if_none t l.first n.next.first ≡ n.next.first
     there leaf leads = absurd (leads refl)
@@ -127,7 +127,7 @@ module _ (Y : RattleType) (laws : Laws Y) where
 
     -- the siblings, once a link lies at the place where they end
     abbrev Closed : Tree Y.Denot → Ptr → ℕ → ℕ → Link Y.Denot → SProp ghosts
-    Closed t p b at l = wand ghosts (sem logic (link_at l b at)) (sem logic (nodes_own Item' (joined t l) p))
+    Closed t p b at l = wand ghosts (sem logic (link_at l b at)) (sem logic (nodes_own Item' (with_others t l) p))
 
     abbrev pub Closes : Tree Y.Denot → Ptr → ℕ → ℕ → SProp ghosts
     Closes t p b at = all ghosts (Closed t p b at)
@@ -160,12 +160,12 @@ module _ (Y : RattleType) (laws : Laws Y) where
         use2 logic (‵ (link_at l b at)) (part_in logic Linked refl full_share l b at (word l.first)) $ rest)
 
     pub closes_with : Mark → (l : Link Y.Denot) (t : Tree Y.Denot) (p : Ptr) (b at : ℕ)
-        → Step Mark logic (‵ (nodes_own Item' (joined t l) p) ∷ held) goal
+        → Step Mark logic (‵ (nodes_own Item' (with_others t l) p) ∷ held) goal
         (raw (Closes logic t p b at) ∷ ‵ (link_at l b at) ∷ held) goal
     closes_with mark l t p b at = step (λ rest.
         use1 logic (raw (Closed logic t p b at l)) (all_e ghosts (Closed logic t p b at) l) $ move mark (1 ∷ []) $
-        use2 logic (‵ (nodes_own Item' (joined t l) p))
-        (apply∗ ghosts (sem logic (link_at l b at)) (sem logic (nodes_own Item' (joined t l) p))) $ rest)
+        use2 logic (‵ (nodes_own Item' (with_others t l) p))
+        (apply∗ ghosts (sem logic (link_at l b at)) (sem logic (nodes_own Item' (with_others t l) p))) $ rest)
 
   module _ {World : Type 1} {ghosts : Ura World} (logic : Logic ghosts) (n : Made) (b o : ℕ) (p : Ptr)
       (lies : p ≡ block_ptr b o) where
@@ -188,7 +188,7 @@ module _ (Y : RattleType) (laws : Laws Y) where
         qed logic (raw (Closes logic n.next.nodes n.next.first far place) ∷ ‵ (at_end b o (word n.next.first)) ∷
         raw (Others logic n b o) ∷ ‵ (may_free n b o) ∷ ‵ (low Item' p) ∷ []) ∵
         each ! (Closed logic (tree_of n) p far place) (λ l.
-        let behind : Link Y.Denot = record { nodes = joined n.next.nodes l; first = n.next.first } in
+        let behind : Link Y.Denot = record { nodes = with_others n.next.nodes l; first = n.next.first } in
         assume ! (‵ (link_at l far place)) $ move ! (1 ∷ []) $
         closes_with ! l n.next.nodes n.next.first far place $
         -- [the others behind; the word of the link to them; the node's other fields; the right to free it; the

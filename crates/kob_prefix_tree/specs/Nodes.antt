@@ -40,10 +40,10 @@ last_of leaf p = p
 last_of (node item heap c below n after) p = if_none after p (last_of after n)
 
 -- siblings, and behind the last of them others
-abbrev pub joined : {X : Type 0} → Tree X → Link X → Tree X
-joined leaf others = others.nodes
-joined (node item heap c below n after) others =
-    node item heap c below (if_none after others.first n) (joined after others)
+abbrev pub with_others : {X : Type 0} → Tree X → Link X → Tree X
+with_others leaf others = others.nodes
+with_others (node item heap c below n after) others =
+    node item heap c below (if_none after others.first n) (with_others after others)
 
 -- a node between links
 abbrev pub linked_row : RattleType → RattleType

@@ -25,7 +25,7 @@ use denote.Steps.{heard}
 use Rattle.kob_prefix_tree.proofs.Ends.{closes_with, end_offset, link_lies, opens_end}
 use Rattle.kob_prefix_tree.proofs.Firsts.{apart, together, word, word_fits}
 use Rattle.kob_prefix_tree.proofs.Moves.{leads_to, names_member, nothing_of_three, read_local, read_result}
-use Rattle.kob_prefix_tree.specs.Nodes.{Leads, joined, last_of}
+use Rattle.kob_prefix_tree.specs.Nodes.{Leads, with_others, last_of}
 use Rattle.kob_prefix_tree.specs.declared.link.Link.{Link}
 use Rattle.kob_prefix_tree.specs.contracts.link.Link as link
 use Rattle.kob_prefix_tree.specs.contracts.link.Link.join as f
@@ -59,7 +59,7 @@ join_spec ghosts logic model runs wired Y laws =
     split ! $ move ! (1 ∷ []) $ fsplit ! $ apart Y ! these words (λ is_word.
     opens_end Y laws ! _ these.nodes these.first some_node (λ b o old lies.
     let place = o + end_offset Y laws in
-    let made : Link Y.Denot = record { nodes = joined these.nodes others; first = these.first } in
+    let made : Link Y.Denot = record { nodes = with_others these.nodes others; first = these.first } in
     -- [the place at the end; what closes it; the pointer and the others; the tokens]
     move ! (2 ∷ []) $ fsplit ! $ feq_l ! (λ is_pointer. fsplit ! $ apart Y ! others other_words (λ is_other.
     regoal ! (λ (given : List Val). prop (Runs (given ++ (pointers ++ (other_words ++ []))))) is_word refl $
@@ -80,7 +80,7 @@ join_spec ghosts logic model runs wired Y laws =
     move ! (1 ∷ []) $ link_lies Y laws ! others b place $ move ! (2 ∷ []) $
     closes_with Y laws ! others these.nodes these.first b place $ together Y ! made $
     -- [the link; nothing; the tokens]
-    let starts = made.first ≡ these.first in let holds = made.nodes ≡ joined these.nodes others in
+    let starts = made.first ≡ these.first in let holds = made.nodes ≡ with_others these.nodes others in
     use0 logic (raw (fact ghosts holds)) (fact_i ghosts holds (emp ghosts) refl) $
     use0 logic (raw (fact ghosts starts)) (fact_i ghosts starts (emp ghosts) refl) $ join ! $ nothing_of_three ! $
     -- [what is left of the three; what is promised; the link; nothing; the tokens]
