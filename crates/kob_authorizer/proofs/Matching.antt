@@ -25,7 +25,7 @@ use Rattle.kob_authorizer.proofs.Verdicts.{is_hit-Decides}
 use Rattle.kob_authorizer.specs.Creation.{serial_of}
 use Rattle.kob_authorizer.specs.Decide.{first_serial, hits, is_hit}
 use Rattle.kob_authorizer.specs.Index.{Indexes, entries_on, tree_of}
-use Rattle.kob_authorizer.specs.LookUp.{AreRising, is_equal, least_passing, looked_up}
+use Rattle.kob_authorizer.specs.LookUp.{AreRising, is_equal, least_passing, matching_serials}
 use Rattle.kob_authorizer.specs.Meaning.{Hits}
 use Rattle.kob_authorizer.specs.Places.{IsIndex, Place, digest_place, is_place, kind_in_tree, pattern_place, same_kind}
 use Rattle.kob_authorizer.specs.Question.{Question}
@@ -49,9 +49,9 @@ at_its_place place m entries entry is there =
     (among_mapped (λ (e : ℕ × Binding). e.0) (filter test entries) entry (kept_by_filter test entries entry there (stands_itself (place entry.1))))
 
 -- the serials at a pattern that matches a name are looked up for it
-looked_up_by : (m : PrefixMap) (kind : PatternKind) (key name : List ℕ) (serial : ℕ) → matches_by kind key name ≡ true → Contains (serials_of (kind_in_tree kind) (held m key)) serial → Contains (looked_up m name) serial
+looked_up_by : (m : PrefixMap) (kind : PatternKind) (key name : List ℕ) (serial : ℕ) → matches_by kind key name ≡ true → Contains (serials_of (kind_in_tree kind) (held m key)) serial → Contains (matching_serials m name) serial
 looked_up_by m Literal key name serial matched has =
-    elim (or_cases (same_text key name) (same_text key (codes "*")) matched) as (λ _. Contains (looked_up m name) serial) [
+    elim (or_cases (same_text key name) (same_text key (codes "*")) matched) as (λ _. Contains (matching_serials m name) serial) [
       | inl equal ↦
           Contains-append_left (walk_of m name) (held m (codes "*")).0 serial
           (walk_has_literal m serial name (subst (λ k. Contains (held m k).0 serial) ((bytes_eq-Decides key name).0 equal) has))
@@ -66,7 +66,7 @@ looked_up_by m Prefixed key name serial matched has =
 
 module _ (index : Index) (entries : List (ℕ × Binding)) (indexed : Indexes index entries) where
   -- every hit is looked up
-  hits_looked_up : (permission : Permission) (question : Question) → LeadToAll (is_hit permission question) entries (looked_up (tree_of index question.resource) question.name)
+  hits_looked_up : (permission : Permission) (question : Question) → LeadToAll (is_hit permission question) entries (matching_serials (tree_of index question.resource) question.name)
   hits_looked_up permission question entry there is =
       let hit : Hits permission question entry = (is_hit-Decides permission question entry).0 is in
       let resource : ResourceKind = question.resource in
@@ -76,9 +76,9 @@ module _ (index : Index) (entries : List (ℕ × Binding)) (indexed : Indexes in
       (at_its_place pattern_place (tree_of index resource) (entries_on resource entries) entry (indexed.patterns resource) among)
 
 -- so the least serial of the hits that were looked up is that of the first hit in force
-pub least_hit_is_first : (index : Index) (entries : List (ℕ × Binding)) (permission : Permission) (question : Question) → AreRising entries → Indexes index entries → least_passing (is_hit permission question) entries (looked_up (tree_of index question.resource) question.name) ≡ first_serial (hits entries permission question)
+pub least_hit_is_first : (index : Index) (entries : List (ℕ × Binding)) (permission : Permission) (question : Question) → AreRising entries → Indexes index entries → least_passing (is_hit permission question) entries (matching_serials (tree_of index question.resource) question.name) ≡ first_serial (hits entries permission question)
 least_hit_is_first index entries permission question rising indexed =
-    least_is_first (is_hit permission question) entries (looked_up (tree_of index question.resource) question.name) rising (hits_looked_up index entries indexed permission question)
+    least_is_first (is_hit permission question) entries (matching_serials (tree_of index question.resource) question.name) rising (hits_looked_up index entries indexed permission question)
 
 -- every entry with an equal binding is looked up by the digest
 equals_looked_up : (m : PrefixMap) (entries : List (ℕ × Binding)) (binding : Binding) → IsIndex digest_place m entries → LeadToAll (is_equal binding) entries (serials_of (digest_place binding).kind (held m (digest_place binding).key))

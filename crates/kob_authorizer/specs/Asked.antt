@@ -5,4 +5,5 @@ use Rattle.kob_authorizer.specs.declared.question.Question as program
 -- the question, with the texts in place of the references to them
 abbrev pub asked : program.Question → Question
 asked question =
-    question_of question.principal.now question.host.now question.operation question.resource question.name.now
+    question_of question.principal.now question.host.now question.operation question.resource
+    question.name.now

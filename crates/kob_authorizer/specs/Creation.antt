@@ -1,5 +1,6 @@
 -- What creating bindings does to the list in force.
-use Rattle.std.specs.Prelude.{◌≡◌, ◌≢◌, ◌≤◌, AllPairs, Contains, List, [], ◌∷◌, ◌++◌, ℕ, ◌+◌, length, Option, Some, None, ⊤}
+use Rattle.std.specs.Prelude.{◌≡◌, ◌≢◌, ◌≤◌, AllPairs, Contains, List, [], ◌∷◌, ◌++◌, ℕ, ◌+◌}
+use Rattle.std.specs.Prelude.{length, Option, Some, None, ⊤}
 use Rattle.std.specs.List.{find, fold}
 use Rattle.std.specs.Option.{option_map}
 use Rattle.kob_names.specs.SameBinding.{same_binding}

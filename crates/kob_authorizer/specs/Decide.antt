@@ -8,7 +8,8 @@ use Rattle.kob_names.specs.Binding.{Binding}
 use Rattle.kob_names.specs.declared.kinds.Permission.{Permission}
 use Rattle.kob_names.specs.declared.kinds.Permission.TheVariants.{Allow, Deny}
 use Rattle.kob_names.specs.declared.verdict.Verdict.{Verdict}
-use Rattle.kob_names.specs.declared.verdict.Verdict.TheVariants.{Super, AllowedBy, DeniedBy, NoAllow}
+use Rattle.kob_names.specs.declared.verdict.Verdict.TheVariants.{Super, AllowedBy}
+use Rattle.kob_names.specs.declared.verdict.Verdict.TheVariants.{DeniedBy, NoAllow}
 use Rattle.kob_authorizer.specs.Question.{Question}
 
 -- the binding has this permission and speaks of what is asked

@@ -7,9 +7,11 @@ use Rattle.kob_names.specs.Same.{same_resource}
 use Rattle.kob_names.specs.Binding.{Binding}
 use Rattle.kob_names.specs.declared.filter.BindingFilter.{BindingFilter}
 use Rattle.kob_names.specs.declared.kinds.ResourceKind.{ResourceKind}
-use Rattle.kob_names.specs.declared.kinds.ResourceKind.TheVariants.{Topic, Group, Cluster, TransactionalId}
+use Rattle.kob_names.specs.declared.kinds.ResourceKind.TheVariants.{Topic, Group}
+use Rattle.kob_names.specs.declared.kinds.ResourceKind.TheVariants.{Cluster, TransactionalId}
 use Rattle.kob_prefix_tree.specs.PrefixMap.{PrefixMap}
-use Rattle.kob_authorizer.specs.Places.{IsIndex, addition, digest_place, pattern_place, with_addition, without_addition}
+use Rattle.kob_authorizer.specs.Places.{IsIndex, addition, digest_place, pattern_place}
+use Rattle.kob_authorizer.specs.Places.{with_addition, without_addition}
 use Rattle.kob_authorizer.specs.declared.index.Index.{Index}
 use Rattle.kob_authorizer.specs.declared.index.Leaf.{Leaf}
 
@@ -48,14 +50,16 @@ leaf_of entry = record {
 -- one more entry is indexed
 abbrev pub with_leaf : Index → Leaf → Index
 with_leaf index leaf =
-    record (with_tree index leaf.resource (with_addition (tree_of index leaf.resource) leaf.pattern)) {
+    let tree = with_addition (tree_of index leaf.resource) leaf.pattern in
+    record (with_tree index leaf.resource tree) {
       digests = with_addition index.digests leaf.digest;
     }
 
 -- an entry is indexed no more
 abbrev pub without_leaf : Index → Leaf → Index
 without_leaf index leaf =
-    record (with_tree index leaf.resource (without_addition (tree_of index leaf.resource) leaf.pattern)) {
+    let tree = without_addition (tree_of index leaf.resource) leaf.pattern in
+    record (with_tree index leaf.resource tree) {
       digests = without_addition index.digests leaf.digest;
     }
 

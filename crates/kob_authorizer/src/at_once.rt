@@ -3,7 +3,8 @@
 ghost use Rattle.std.specs.Prelude.{◌≡◌, ◌+◌, ◌≤◌, ◌++◌, ◌||◌, IfOk, length};
 ghost use Rattle.std.specs.List.{enumerate_from};
 ghost use Rattle.kob_authorizer.specs.Limits.{serial_limit};
-ghost use Rattle.kob_authorizer.specs.AtOnce.{is_among, is_in_force, is_known, new_bindings, serials_in};
+ghost use Rattle.kob_authorizer.specs.AtOnce.{is_among, is_in_force, is_known};
+ghost use Rattle.kob_authorizer.specs.AtOnce.{new_bindings, serials_in};
 ghost use Rattle.kob_authorizer.specs.Creation.{serial_of};
 ghost use Rattle.kob_authorizer.specs.LookUp.{AreRising};
 ghost use Rattle.kob_authorizer.specs.Places.{IsIndex, digest_place};

@@ -1,6 +1,7 @@
 //! A creation of bindings: what its first step has made, for its second step.
 
-ghost use Rattle.std.specs.Prelude.{◌≡◌, ◌≢◌, ◌+◌, ◌≤◌, ◌++◌, IfErr, IfOk, None, OnOk, Some, length, map, vec_capacity, vec_len};
+ghost use Rattle.std.specs.Prelude.{◌≡◌, ◌≢◌, ◌+◌, ◌≤◌, ◌++◌, IfErr, IfOk, None, OnOk, Some};
+ghost use Rattle.std.specs.Prelude.{length, map, vec_capacity, vec_len};
 ghost use Rattle.kob_authorizer.specs.Contents.{IsRising};
 ghost use Rattle.kob_authorizer.specs.Creation.{Creates};
 ghost use Rattle.kob_authorizer.specs.Index.{Indexes, leaf_of};
@@ -32,7 +33,10 @@ impl Model for PreparedCreate {
 
     ghost Value = { Creation };
 
-    ghost view = { λ prepared. record { fresh = prepared.fresh.items; serials = prepared.serials.items } };
+    ghost view = { λ prepared. record {
+      fresh = prepared.fresh.items;
+      serials = prepared.serials.items;
+    } };
 
     ghost invariant = { λ prepared. prepared.leaves.items ≡ map leaf_of prepared.fresh.items };
 }

@@ -25,7 +25,8 @@ pub fn serial_of(entries: &[(u64, Binding)], digests: &PrefixTree, binding: &Bin
 fn least_equal(entries: &[(u64, Binding)], digests: &PrefixTree, binding: &Binding) -> Option<u64>
     requires { AreRising entries.now }
     ensures { result ≡ least_passing (is_equal binding.now) entries.now
-        (serials_of (digest_place binding.now).kind (held digests.now (digest_place binding.now).key)) }
+        (serials_of (digest_place binding.now).kind
+        (held digests.now (digest_place binding.now).key)) }
 {
     let key = digest_key(binding);
     digests

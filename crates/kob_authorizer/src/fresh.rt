@@ -1,6 +1,7 @@
 //! The new bindings of a creation, before they have serials.
 
-ghost use Rattle.std.specs.Prelude.{◌≡◌, ◌+◌, ◌<◌, ◌≤◌, [], ◌∷◌, ◌++◌, IfOk, IfSome, OnOk, length, vec_len};
+ghost use Rattle.std.specs.Prelude.{◌≡◌, ◌+◌, ◌<◌, ◌≤◌, [], ◌∷◌, ◌++◌, length, vec_len};
+ghost use Rattle.std.specs.Prelude.{IfOk, IfSome, OnOk};
 ghost use Rattle.std.specs.List.{enumerate_from};
 ghost use Rattle.kob_authorizer.specs.Limits.{serial_limit};
 ghost use Rattle.kob_authorizer.specs.Creation.{serial_of};
@@ -33,7 +34,8 @@ impl Model for Fresh {
 
     ghost view = { λ fresh. bindings_of fresh.entries.items };
 
-    ghost invariant = { λ fresh. (fresh.entries.items ≡ enumerate_from 0 (bindings_of fresh.entries.items))
+    ghost invariant = { λ fresh.
+        (fresh.entries.items ≡ enumerate_from 0 (bindings_of fresh.entries.items))
         × IsIndex digest_place fresh.digests fresh.entries.items };
 }
 

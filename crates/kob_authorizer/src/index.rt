@@ -2,7 +2,8 @@
 
 ghost use Rattle.std.specs.Prelude.{◌≡◌, IfOk, map};
 ghost use Rattle.std.specs.List.{fold};
-ghost use Rattle.kob_authorizer.specs.Index.{empty_index, leaf_of, tree_of, with_leaf, without_if_taken, without_leaf};
+ghost use Rattle.kob_authorizer.specs.Index.{empty_index, leaf_of, tree_of, with_leaf};
+ghost use Rattle.kob_authorizer.specs.Index.{without_if_taken, without_leaf};
 ghost use Rattle.kob_authorizer.specs.Places.{kind_in_tree};
 
 use crate::digest::digest_key;

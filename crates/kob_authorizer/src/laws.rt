@@ -14,7 +14,8 @@ ghost use Rattle.kob_names.specs.declared.filter.BindingFilter.{BindingFilter};
 /// serial of all that hit, an allow is named only where no deny hits, and no allow is said to be
 /// there only where neither hits.
 pub fn verdicts_are_true()
-    ensures { (entries : List (ℕ × Binding)) (next : ℕ) (supers : List (List ℕ)) (question : Question)
+    ensures { (entries : List (ℕ × Binding)) (next : ℕ) (supers : List (List ℕ))
+        (question : Question)
         → IsRising 1 entries next
         → IsTrueVerdict entries supers question (decide entries supers question) }
 {
@@ -25,7 +26,8 @@ pub fn verdicts_are_true()
 /// it.
 pub fn created_bindings_are_in_force()
     ensures { (entries : List (ℕ × Binding)) (next : ℕ) (bindings : List Binding)
-        → AreInForce (added entries next bindings).entries bindings (added entries next bindings).serials }
+        → AreInForce (added entries next bindings).entries bindings
+        (added entries next bindings).serials }
 {
     // The contract is the law.
 }

@@ -5,7 +5,8 @@ ghost use Rattle.std.specs.Option.{option_copied};
 ghost use Rattle.kob_authorizer.specs.Asked.{asked};
 ghost use Rattle.kob_authorizer.specs.Decide.{first_serial, hits, is_hit, verdict_of};
 ghost use Rattle.kob_authorizer.specs.Index.{Indexes, tree_of};
-ghost use Rattle.kob_authorizer.specs.LookUp.{AreRising, entry_at, least_passing, looked_up, passes_at};
+ghost use Rattle.kob_authorizer.specs.LookUp.{AreRising, entry_at, least_passing};
+ghost use Rattle.kob_authorizer.specs.LookUp.{matching_serials, passes_at};
 
 use crate::index::Index;
 use crate::question::Question;
@@ -52,7 +53,7 @@ fn least_hit(
 ) -> Option<u64>
     requires { AreRising entries.now }
     ensures { result ≡ least_passing (is_hit permission (asked question.now)) entries.now
-        (looked_up (tree_of index.now question.now.resource) question.now.name.now) }
+        (matching_serials (tree_of index.now question.now.resource) question.now.name.now) }
 {
     let tree = index.tree(question.resource);
     tree.walk(question.name.as_bytes())

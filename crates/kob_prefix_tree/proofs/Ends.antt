@@ -1,18 +1,22 @@
--- The end of a list of siblings: the place of the last node's `next`, taken out of what is owned of them all, and put back with other siblings behind it.
+-- The end of a list of siblings: the place of the last node's `next`, taken out of what is owned of them all, and put
+-- back with other siblings behind it.
 --     end_offset          how far into a node its `next` lies
---     next_out, next_in   a node in memory is its `next` and the others of its fields, and with another link there again a node
+--     next_out, next_in   a node in memory is its `next` and the others of its fields, and with another link there
+-- again a node
 --     Closes              whatever link comes to lie at that place, the siblings go on with what it leads to
 --     opens_end           the siblings, opened at their end
+--     link_lies           a link by value, whose word lies at a place, lies there
+--     closes_with         with a link at their end the siblings are closed again
 use Rattle.std.proofs.Common.{◌≡◌, ℕ, ◌+◌, List, [], ◌∷◌, refl, sym, ap, subst}
 use seplogic.Ra.Ura.{Ura}
 use base.Fraction.{full_share}
 use base.Logic.{SProp, ent, sep, all, wand, never, fst∗, all_e, apply∗}
-use base.Fml.{fat}
+use base.Fml.{Fml, fat}
 use mir.Raw.{raw as bare}
 use mir.Val.{Val, vunit}
 use prog.Memory.{size, align, up}
 use types.Logic.{Logic, sem}
-use types.Kit.{ !, qed, done, Goal, Item, Seq, ‵, raw, some, ◌⊛◌, ◌$◌, ◌∵◌, move, drop, split, pick, each, assume, rewrite, group, use1, use2, use3, fsplit, fjoin}
+use types.Kit.{ !, qed, done, Goal, Item, Seq, Step, step, ‵, raw, some, ◌⊛◌, ◌$◌, ◌∵◌, move, drop, split, pick, each, assume, rewrite, group, use1, use2, use3, fsplit, fjoin}
 use borrow.Table.OneValue.{part_in, part_out}
 use denote.Laws.{Lawfuls}
 use denote.Memory.{lone, part_at, part_of}
@@ -25,11 +29,11 @@ use denote.Struct.Members.{Member, rows_of}
 use denote.Struct.Parts.{PartsBack}
 use denote.Struct.Pick.{rest_at, field_out, field_back}
 use Rattle.std_alloc.specs.Box.Ownership.{box_owns}
-use Rattle.std.specs.contracts.impls.GlobalAllocator.TheImpl.{ghosts}
+use Rattle.std.specs.contracts.impls.GlobalAllocator.TheImpl.{ghosts as heap_rights}
 use Rattle.std.proofs.alloc.Global.TheLaws as heap_laws
 use Rattle.kob_prefix_tree.specs.Tree.{Tree, leaf, node}
 use Rattle.kob_prefix_tree.specs.Owned.{low, nodes_own}
-use Rattle.kob_prefix_tree.specs.Nodes.{Leads, tree_of, linked_row, last_of, joined, if_none}
+use Rattle.kob_prefix_tree.specs.Nodes.{Leads, tree_of, linked_row, last_of, with_others, if_none}
 use Rattle.kob_prefix_tree.specs.declared.node.Node.{Node}
 use Rattle.kob_prefix_tree.specs.declared.link.Link.{Link}
 use Rattle.kob_prefix_tree.specs.contracts.link.Link as link
@@ -46,124 +50,197 @@ head [] = vunit
 head (v ∷ vs) = v
 
 -- the first of some siblings, with others behind it
-joined_one : {X : Type 0} (n : Node X (Link X) (Link X)) (l : Link X) → n.next.nodes ≡ leaf → joined (tree_of n) l ≡ tree_of (with_next n l)
-joined_one n l last i = node n.item n.alloc n.child.first n.child.nodes (if_none (last i) l.first n.next.first) (joined (last i) l)
+joined_one : {X : Type 0} (n : Node X (Link X) (Link X)) (l : Link X) → n.next.nodes ≡ leaf
+    → with_others (tree_of n) l ≡ tree_of (with_next n l)
+joined_one n l last i =
+    node n.item n.alloc n.child.first n.child.nodes (if_none (last i) l.first n.next.first) (with_others (last i) l)
 
 joined_more : {X : Type 0} (n : Node X (Link X) (Link X)) (l : Link X) → Leads n.next.nodes
-    → joined (tree_of n) l ≡ tree_of (with_next n (record { first = n.next.first; nodes = joined n.next.nodes l }))
-joined_more {X = X} n l leads i = node n.item n.alloc n.child.first n.child.nodes (there n.next.nodes leads i) (joined n.next.nodes l)
+    → with_others (tree_of n) l ≡ tree_of (with_next n (record { first = n.next.first; nodes = with_others n.next.nodes l }))
+joined_more {X = X} n l leads i =
+    node n.item n.alloc n.child.first n.child.nodes (there n.next.nodes leads i) (with_others n.next.nodes l)
   where
     there : (t : Tree X) → Leads t → if_none t l.first n.next.first ≡ n.next.first
     there leaf leads = absurd (leads refl)
     there (node item heap c below m after) leads = refl
 
-module _ (Y : RattleType) (L : Laws Y) where
-  abbrev T : RattleType
-  T = param 0 Y
+module _ (Y : RattleType) (laws : Laws Y) where
+  abbrev Item' : RattleType
+  Item' = param 0 Y
 
-  abbrev S : RattleType
-  S = link.the_row T
+  abbrev Linked : RattleType
+  Linked = link.the_row Item'
 
-  abbrev N : RattleType
-  N = linked_row T
+  abbrev Kept : RattleType
+  Kept = linked_row Item'
 
   abbrev Made : Type 0
   Made = Node Y.Denot (Link Y.Denot) (Link Y.Denot)
 
   abbrev each_member : List RattleType → List Member
   each_member [] = []
-  each_member (R ∷ Rs) = record { row = R; ty = lone R.mir } ∷ each_member Rs
+  each_member (first ∷ others) = record { ty = lone first.mir; row = first } ∷ each_member others
 
   abbrev members : List Member
-  members = each_member (fields (block.the_type T S S))
+  members = each_member (fields (block.the_type Item' Linked Linked))
 
   abbrev pub end_offset : ℕ
-  end_offset = up (align (lone S.mir)) (up (align (lone S.mir)) (up (align (lone T.mir)) 0 + size (lone T.mir)) + size (lone S.mir))
+  end_offset =
+      let behind_item = up (align (lone Item'.mir)) 0 + size (lone Item'.mir) in
+      up (align (lone Linked.mir)) (up (align (lone Linked.mir)) behind_item + size (lone Linked.mir))
 
-  module _ {M : Type 1} {𝓤 : Ura M} (𝓛 : Logic 𝓤) where
-    members_lawful : Lawfuls 𝓛 (rows_of members)
+  abbrev may_free : Made → ℕ → ℕ → Fml
+  may_free n b o = heap_rights.dealloc_token n.alloc (bare (lone Kept.mir)) (block_ptr b o)
+
+  -- the word of a link, at the end of the node at that place
+  abbrev at_end : ℕ → ℕ → Val → Fml
+  at_end b o v = fat full_share (lone Linked.mir) b (o + end_offset) v
+
+  abbrev link_at : Link Y.Denot → ℕ → ℕ → Fml
+  link_at l b at = part_at Linked full_share l b at
+
+  module _ {World : Type 1} {ghosts : Ura World} (logic : Logic ghosts) where
+    members_lawful : Lawfuls logic (rows_of members)
     members_lawful =
-        let LT = param_laws 0 Y L in let LS = (link_laws.the_row_laws T LT).lawful 𝓛 in
-        (LT.lawful 𝓛, (LS, (LS, (heap_laws.the_field_loose.lawful 𝓛, tt))))
+        let of_item = param_laws 0 Y laws in let of_link = (link_laws.the_row_laws Item' of_item).lawful logic in
+        (of_item.lawful logic, (of_link, (of_link, (heap_laws.the_field_loose.lawful logic, tt))))
 
-    abbrev Others : Made → ℕ → ℕ → SProp 𝓤
-    Others n b o = sep 𝓤 (sem 𝓛 (rest_at full_share members 0 ((block.the_type T S S).to n) b o 2)) (PartsBack 𝓛 full_share [] members b o)
+    abbrev Others : Made → ℕ → ℕ → SProp ghosts
+    Others n b o =
+        let rest = rest_at full_share members 0 ((block.the_type Item' Linked Linked).to n) b o 2 in
+        sep ghosts (sem logic rest) (PartsBack logic full_share [] members b o)
 
-    next_out : (n : Made) (b o : ℕ) → ent 𝓤 (sem 𝓛 (part_at N full_share n b o)) (sep 𝓤 (sem 𝓛 (part_at S full_share n.next b (o + end_offset))) (Others n b o))
+    abbrev Whole : Made → ℕ → ℕ → SProp ghosts
+    Whole n b o = sem logic (part_at Kept full_share n b o)
+
+    next_out : (n : Made) (b o : ℕ)
+        → ent ghosts (Whole n b o) (sep ghosts (sem logic (link_at n.next b (o + end_offset))) (Others n b o))
     unfolding part_of
-    next_out n b o = field_out 𝓛 full_share [] members members_lawful ((block.the_type T S S).to n) b o 2
+    next_out n b o =
+        field_out logic full_share [] members members_lawful ((block.the_type Item' Linked Linked).to n) b o 2
 
-    next_in : (n : Made) (l : Link Y.Denot) (b o : ℕ) → ent 𝓤 (sep 𝓤 (sem 𝓛 (part_at S full_share l b (o + end_offset))) (Others n b o)) (sem 𝓛 (part_at N full_share (with_next n l) b o))
+    next_in : (n : Made) (l : Link Y.Denot) (b o : ℕ)
+        → ent ghosts (sep ghosts (sem logic (link_at l b (o + end_offset))) (Others n b o)) (Whole (with_next n l) b o)
     unfolding part_of
-    next_in n l b o = field_back 𝓛 full_share [] members ((block.the_type T S S).to (with_next n l)) b o 2
+    next_in n l b o =
+        field_back logic full_share [] members ((block.the_type Item' Linked Linked).to (with_next n l)) b o 2
 
-    abbrev pub Closes : Tree Y.Denot → Ptr → ℕ → ℕ → SProp 𝓤
-    Closes t p b a = all 𝓤 (λ (l : Link Y.Denot). wand 𝓤 (sem 𝓛 (part_at S full_share l b a)) (sem 𝓛 (nodes_own T (joined t l) p)))
+    -- the siblings, once a link lies at the place where they end
+    abbrev Closed : Tree Y.Denot → Ptr → ℕ → ℕ → Link Y.Denot → SProp ghosts
+    Closed t p b at l = wand ghosts (sem logic (link_at l b at)) (sem logic (nodes_own Item' (with_others t l) p))
+
+    abbrev pub Closes : Tree Y.Denot → Ptr → ℕ → ℕ → SProp ghosts
+    Closes t p b at = all ghosts (Closed t p b at)
+
+    -- all of a node but its link to the next
+    abbrev AllBut : Made → ℕ → ℕ → Ptr → SProp ghosts
+    AllBut n b o p = sep ghosts (Others n b o) (sep ghosts (sem logic (may_free n b o)) (sem logic (low Item' p)))
 
     -- a node whose `next` is there again is the first behind its pointer
-    pub node_again : (n : Made) (l : Link Y.Denot) (b o : ℕ) (p : Ptr) → p ≡ block_ptr b o
-        → ent 𝓤 (sep 𝓤 (sem 𝓛 (part_at S full_share l b (o + end_offset))) (sep 𝓤 (Others n b o) (sep 𝓤 (sem 𝓛 (ghosts.dealloc_token n.alloc (bare (lone N.mir)) (block_ptr b o))) (sem 𝓛 (low T p)))))
-        (sem 𝓛 (nodes_own T (tree_of (with_next n l)) p))
+    node_again : (n : Made) (l : Link Y.Denot) (b o : ℕ) (p : Ptr) → p ≡ block_ptr b o
+        → ent ghosts (sep ghosts (sem logic (link_at l b (o + end_offset))) (AllBut n b o p))
+        (sem logic (nodes_own Item' (tree_of (with_next n l)) p))
     unfolding part_of
     node_again n l b o p lies =
-        qed 𝓛 (‵ (part_at S full_share l b (o + end_offset)) ∷ raw (Others n b o) ∷ ‵ (ghosts.dealloc_token n.alloc (bare (lone N.mir)) (block_ptr b o)) ∷ ‵ (low T p) ∷ []) ∵
-        use2 𝓛 (‵ (part_at N full_share (with_next n l) b o)) (next_in n l b o) $ fjoin ! $ rewrite ! 1 (λ (q : Ptr). ‵ (low T q)) lies refl $
+        let now = with_next n l in
+        qed logic (‵ (link_at l b (o + end_offset)) ∷ raw (Others n b o) ∷ ‵ (may_free n b o) ∷ ‵ (low Item' p) ∷ []) ∵
+        use2 logic (‵ (part_at Kept full_share now b o)) (next_in n l b o) $ fjoin ! $
+        rewrite ! 1 (λ (q : Ptr). ‵ (low Item' q)) lies refl $
         -- [the node, with the right to free it; the comparison]
-        move ! (1 ∷ 0 ∷ []) $ use2 𝓛 (‵ (nodes_own T (tree_of (with_next n l)) (block_ptr b o))) (is_first Y 𝓛 (with_next n l) (block_ptr b o)) $
-        rewrite ! 0 (λ (q : Ptr). ‵ (nodes_own T (tree_of (with_next n l)) q)) (sym lies) refl $ done !
+        move ! (1 ∷ 0 ∷ []) $ use2 logic (‵ (nodes_own Item' (tree_of now) (block_ptr b o)))
+        (is_first Y logic now (block_ptr b o)) $
+        rewrite ! 0 (λ (q : Ptr). ‵ (nodes_own Item' (tree_of now) q)) (sym lies) refl $ done !
 
+  module _ {World : Type 1} {ghosts : Ura World} {logic : Logic ghosts} {Mark : Type 0} {held : List (Item ghosts)}
+      {goal : Goal ghosts logic.H} where
+    pub link_lies : Mark → (l : Link Y.Denot) (b at : ℕ) → Step Mark logic (‵ (link_at l b at) ∷ held) goal
+        (‵ (nodes_own Item' l.nodes l.first) ∷ ‵ (fat full_share (lone Linked.mir) b at (word l.first)) ∷ held) goal
+    link_lies mark l b at = step (λ rest.
+        together Y mark l $ move mark (1 ∷ []) $
+        use2 logic (‵ (link_at l b at)) (part_in logic Linked refl full_share l b at (word l.first)) $ rest)
+
+    pub closes_with : Mark → (l : Link Y.Denot) (t : Tree Y.Denot) (p : Ptr) (b at : ℕ)
+        → Step Mark logic (‵ (nodes_own Item' (with_others t l) p) ∷ held) goal
+        (raw (Closes logic t p b at) ∷ ‵ (link_at l b at) ∷ held) goal
+    closes_with mark l t p b at = step (λ rest.
+        use1 logic (raw (Closed logic t p b at l)) (all_e ghosts (Closed logic t p b at) l) $ move mark (1 ∷ []) $
+        use2 logic (‵ (nodes_own Item' (with_others t l) p))
+        (apply∗ ghosts (sem logic (link_at l b at)) (sem logic (nodes_own Item' (with_others t l) p))) $ rest)
+
+  module _ {World : Type 1} {ghosts : Ura World} (logic : Logic ghosts) (n : Made) (b o : ℕ) (p : Ptr)
+      (lies : p ≡ block_ptr b o) where
     -- the one node of its list
-    closes_one : (n : Made) (b o : ℕ) (p : Ptr) → p ≡ block_ptr b o → n.next.nodes ≡ leaf
-        → ent 𝓤 (sep 𝓤 (Others n b o) (sep 𝓤 (sem 𝓛 (ghosts.dealloc_token n.alloc (bare (lone N.mir)) (block_ptr b o))) (sem 𝓛 (low T p)))) (Closes (tree_of n) p b (o + end_offset))
-    closes_one n b o p lies last =
-        qed 𝓛 (raw (Others n b o) ∷ ‵ (ghosts.dealloc_token n.alloc (bare (lone N.mir)) (block_ptr b o)) ∷ ‵ (low T p) ∷ []) ∵
-        each ! (λ (l : Link Y.Denot). wand 𝓤 (sem 𝓛 (part_at S full_share l b (o + end_offset))) (sem 𝓛 (nodes_own T (joined (tree_of n) l) p))) (λ l.
-        assume ! (‵ (part_at S full_share l b (o + end_offset))) $ group ! 4 $ use1 𝓛 (‵ (nodes_own T (tree_of (with_next n l)) p)) (node_again n l b o p lies) $
-        rewrite ! 0 (λ (t : Tree Y.Denot). ‵ (nodes_own T t p)) (sym (joined_one n l last)) refl $ done !)
+    closes_one : n.next.nodes ≡ leaf
+        → ent ghosts (AllBut logic n b o p) (Closes logic (tree_of n) p b (o + end_offset))
+    closes_one last =
+        qed logic (raw (Others logic n b o) ∷ ‵ (may_free n b o) ∷ ‵ (low Item' p) ∷ []) ∵
+        each ! (Closed logic (tree_of n) p b (o + end_offset)) (λ l.
+        assume ! (‵ (link_at l b (o + end_offset))) $ group ! 4 $
+        use1 logic (‵ (nodes_own Item' (tree_of (with_next n l)) p)) (node_again logic n l b o p lies) $
+        rewrite ! 0 (λ (t : Tree Y.Denot). ‵ (nodes_own Item' t p)) (sym (joined_one n l last)) refl $ done !)
 
     -- a node with others behind it, which close
-    closes_more : (n : Made) (b o b' a' : ℕ) (p : Ptr) → p ≡ block_ptr b o → Leads n.next.nodes
-        → ent 𝓤 (sep 𝓤 (Closes n.next.nodes n.next.first b' a') (sep 𝓤 (sem 𝓛 (fat full_share (lone S.mir) b (o + end_offset) (word n.next.first)))
-        (sep 𝓤 (Others n b o) (sep 𝓤 (sem 𝓛 (ghosts.dealloc_token n.alloc (bare (lone N.mir)) (block_ptr b o))) (sem 𝓛 (low T p))))))
-        (Closes (tree_of n) p b' a')
-    closes_more n b o b' a' p lies leads =
-        qed 𝓛 (raw (Closes n.next.nodes n.next.first b' a') ∷ ‵ (fat full_share (lone S.mir) b (o + end_offset) (word n.next.first)) ∷ raw (Others n b o) ∷ ‵ (ghosts.dealloc_token n.alloc (bare (lone N.mir)) (block_ptr b o)) ∷ ‵ (low T p) ∷ []) ∵
-        each ! (λ (l : Link Y.Denot). wand 𝓤 (sem 𝓛 (part_at S full_share l b' a')) (sem 𝓛 (nodes_own T (joined (tree_of n) l) p))) (λ l.
-        let behind : Link Y.Denot = record { first = n.next.first; nodes = joined n.next.nodes l } in
-        assume ! (‵ (part_at S full_share l b' a')) $ move ! (1 ∷ []) $
-        use1 𝓛 (raw (wand 𝓤 (sem 𝓛 (part_at S full_share l b' a')) (sem 𝓛 (nodes_own T (joined n.next.nodes l) n.next.first))))
-        (all_e 𝓤 (λ (k : Link Y.Denot). wand 𝓤 (sem 𝓛 (part_at S full_share k b' a')) (sem 𝓛 (nodes_own T (joined n.next.nodes k) n.next.first))) l) $ move ! (1 ∷ 0 ∷ []) $
-        use2 𝓛 (‵ (nodes_own T (joined n.next.nodes l) n.next.first)) (apply∗ 𝓤 (sem 𝓛 (part_at S full_share l b' a')) (sem 𝓛 (nodes_own T (joined n.next.nodes l) n.next.first))) $
-        -- [the others behind; the place of the link to them; the node's other fields; the right to free it; the comparison]
-        together Y ! behind $ move ! (1 ∷ 0 ∷ []) $ use2 𝓛 (‵ (part_at S full_share behind b (o + end_offset))) (part_in 𝓛 S refl full_share behind b (o + end_offset) (word n.next.first)) $
-        group ! 4 $ use1 𝓛 (‵ (nodes_own T (tree_of (with_next n behind)) p)) (node_again n behind b o p lies) $
-        rewrite ! 0 (λ (t : Tree Y.Denot). ‵ (nodes_own T t p)) (sym (joined_more n l leads)) refl $ done !)
+    closes_more : (far place : ℕ) → Leads n.next.nodes
+        → ent ghosts (sep ghosts (Closes logic n.next.nodes n.next.first far place)
+        (sep ghosts (sem logic (at_end b o (word n.next.first))) (AllBut logic n b o p)))
+        (Closes logic (tree_of n) p far place)
+    closes_more far place leads =
+        qed logic (raw (Closes logic n.next.nodes n.next.first far place) ∷ ‵ (at_end b o (word n.next.first)) ∷
+        raw (Others logic n b o) ∷ ‵ (may_free n b o) ∷ ‵ (low Item' p) ∷ []) ∵
+        each ! (Closed logic (tree_of n) p far place) (λ l.
+        let behind : Link Y.Denot = record { nodes = with_others n.next.nodes l; first = n.next.first } in
+        assume ! (‵ (link_at l far place)) $ move ! (1 ∷ []) $
+        closes_with ! l n.next.nodes n.next.first far place $
+        -- [the others behind; the word of the link to them; the node's other fields; the right to free it; the
+        -- comparison]
+        link_lies ! behind b (o + end_offset) $ group ! 4 $
+        use1 logic (‵ (nodes_own Item' (tree_of (with_next n behind)) p)) (node_again logic n behind b o p lies) $
+        rewrite ! 0 (λ (t : Tree Y.Denot). ‵ (nodes_own Item' t p)) (sym (joined_more n l leads)) refl $ done !)
 
-  module _ {M : Type 1} {𝓤 : Ura M} {𝓛 : Logic 𝓤} {K : Type 0} {G : Goal 𝓤 𝓛.H} where
+  module _ {World : Type 1} {ghosts : Ura World} {logic : Logic ghosts} {Mark : Type 0}
+      {goal : Goal ghosts logic.H} where
     -- a node's block: the place of its link to the next, and the rest
-    opens_node : K → (Γ : List (Item 𝓤)) (n : Made) (p : Ptr)
-        → ((b o : ℕ) (v : Val) → p ≡ block_ptr b o → v ∷ [] ≡ word n.next.first ∷ [] → Seq K 𝓛 (‵ (fat full_share (lone S.mir) b (o + end_offset) v) ∷ ‵ (nodes_own T n.next.nodes n.next.first) ∷ raw (Others 𝓛 n b o) ∷ ‵ (ghosts.dealloc_token n.alloc (bare (lone N.mir)) (block_ptr b o)) ∷ ‵ (low T p) ∷ Γ) G)
-        → Seq K 𝓛 (‵ (nodes_own T (tree_of n) p) ∷ Γ) G
+    opens_node : Mark → (held : List (Item ghosts)) (n : Made) (p : Ptr)
+        → ((b o : ℕ) (v : Val) → p ≡ block_ptr b o → v ∷ [] ≡ word n.next.first ∷ []
+        → Seq Mark logic (‵ (at_end b o v) ∷ ‵ (nodes_own Item' n.next.nodes n.next.first) ∷
+        raw (Others logic n b o) ∷ ‵ (may_free n b o) ∷ ‵ (low Item' p) ∷ held) goal)
+        → Seq Mark logic (‵ (nodes_own Item' (tree_of n) p) ∷ held) goal
     unfolding part_of
-    opens_node k Γ n p next =
-        use1 𝓛 (‵ (low T p) ⊛ ‵ (box_owns (ghosts.dealloc_token n.alloc) N p n)) (has_first Y 𝓛 n p) $ split k $ move k (1 ∷ []) $
-        in_a_block k p (λ q. box_owns (ghosts.dealloc_token n.alloc) N q n) (fst∗ 𝓤 (never 𝓤) (sem 𝓛 (ghosts.dealloc_token n.alloc (bare (lone N.mir)) null_ptr))) (λ b o lies. fsplit k $
-        use1 𝓛 (‵ (part_at S full_share n.next b (o + end_offset)) ⊛ raw (Others 𝓛 n b o)) (next_out 𝓛 n b o) $ split k $
-        use1 𝓛 (some (λ (v : Val). ‵ (fat full_share (lone S.mir) b (o + end_offset) v) ⊛ ‵ (S.own_val n.next (v ∷ [])))) (part_out 𝓛 S refl full_share n.next b (o + end_offset)) $ pick k (λ v. split k $
-        move k (1 ∷ []) $ apart Y k n.next (v ∷ []) (λ is_word. move k (1 ∷ 0 ∷ []) $ next b o v lies is_word)))
+    opens_node mark held n p rest =
+        let boxed : Ptr → Fml = λ q. box_owns (heap_rights.dealloc_token n.alloc) Kept q n in
+        let freed = heap_rights.dealloc_token n.alloc (bare (lone Kept.mir)) null_ptr in
+        use1 logic (‵ (low Item' p) ⊛ ‵ (boxed p)) (has_first Y logic n p) $ split mark $ move mark (1 ∷ []) $
+        in_a_block mark p boxed (fst∗ ghosts (never ghosts) (sem logic freed)) (λ b o lies. fsplit mark $
+        let place = o + end_offset in
+        use1 logic (‵ (link_at n.next b place) ⊛ raw (Others logic n b o)) (next_out logic n b o) $ split mark $
+        use1 logic (some (λ (v : Val). ‵ (at_end b o v) ⊛ ‵ (Linked.own_val n.next (v ∷ []))))
+        (part_out logic Linked refl full_share n.next b place) $ pick mark (λ v. split mark $
+        move mark (1 ∷ []) $ apart Y mark n.next (v ∷ []) (λ is_word. move mark (1 ∷ []) $ rest b o v lies is_word)))
 
-    pub opens_end : K → (Γ : List (Item 𝓤)) (t : Tree Y.Denot) (p : Ptr) → Leads t
-        → ((b o : ℕ) (v : Val) → last_of t p ≡ block_ptr b o → Seq K 𝓛 (‵ (fat full_share (lone S.mir) b (o + end_offset) v) ∷ raw (Closes 𝓛 t p b (o + end_offset)) ∷ Γ) G)
-        → Seq K 𝓛 (‵ (nodes_own T t p) ∷ Γ) G
-    opens_end k Γ leaf p leads next = absurd (leads refl)
-    opens_end k Γ (node item heap c below m leaf) p leads next =
-        let n : Made = record { item = item; child = record { first = c; nodes = below }; next = record { first = m; nodes = leaf }; alloc = heap } in
-        opens_node k Γ n p (λ b o v lies is_word. move k (1 ∷ []) $ drop k $ move k (1 ∷ 2 ∷ 3 ∷ []) $
-        use3 𝓛 (raw (Closes 𝓛 (tree_of n) p b (o + end_offset))) (closes_one 𝓛 n b o p lies refl) $ move k (1 ∷ 0 ∷ []) $ next b o v lies)
-    opens_end k Γ (node item heap c below m (node item' heap' c' below' m' after)) p leads next =
+    pub opens_end : Mark → (held : List (Item ghosts)) (t : Tree Y.Denot) (p : Ptr) → Leads t
+        → ((b o : ℕ) (v : Val) → last_of t p ≡ block_ptr b o
+        → Seq Mark logic (‵ (at_end b o v) ∷ raw (Closes logic t p b (o + end_offset)) ∷ held) goal)
+        → Seq Mark logic (‵ (nodes_own Item' t p) ∷ held) goal
+    opens_end mark held leaf p leads rest = absurd (leads refl)
+    opens_end mark held (node item heap c below m leaf) p leads rest =
+        let child : Link Y.Denot = record { first = c; nodes = below } in
+        let next : Link Y.Denot = record { first = m; nodes = leaf } in
+        let n : Made = record { item = item; child = child; next = next; alloc = heap } in
+        opens_node mark held n p (λ b o v lies is_word. move mark (1 ∷ []) $ drop mark $ move mark (1 ∷ 2 ∷ 3 ∷ []) $
+        use3 logic (raw (Closes logic (tree_of n) p b (o + end_offset))) (closes_one logic n b o p lies refl) $
+        move mark (1 ∷ []) $ rest b o v lies)
+    opens_end mark held (node item heap c below m (node item' heap' c' below' m' after)) p leads rest =
         let behind = node item' heap' c' below' m' after in
-        let n : Made = record { item = item; child = record { first = c; nodes = below }; next = record { first = m; nodes = behind }; alloc = heap } in
-        opens_node k Γ n p (λ b o v lies is_word. rewrite k 0 (λ (u : Val). ‵ (fat full_share (lone S.mir) b (o + end_offset) u)) (ap head is_word) refl $ move k (1 ∷ []) $
-        opens_end k (‵ (fat full_share (lone S.mir) b (o + end_offset) (word m)) ∷ raw (Others 𝓛 n b o) ∷ ‵ (ghosts.dealloc_token n.alloc (bare (lone N.mir)) (block_ptr b o)) ∷ ‵ (low T p) ∷ Γ) (node item' heap' c' below' m' after) m (λ e. subst is_node (sym e) tt) (λ b' o' v' lies'.
-        move k (1 ∷ 2 ∷ 3 ∷ 4 ∷ 5 ∷ []) $ group k 5 $ use1 𝓛 (raw (Closes 𝓛 (tree_of n) p b' (o' + end_offset))) (closes_more 𝓛 n b o b' (o' + end_offset) p lies (λ e. subst is_node (sym e) tt)) $
-        move k (1 ∷ 0 ∷ []) $ next b' o' v' lies'))
+        let child : Link Y.Denot = record { first = c; nodes = below } in
+        let next : Link Y.Denot = record { first = m; nodes = behind } in
+        let n : Made = record { item = item; child = child; next = next; alloc = heap } in
+        let more : Leads behind = λ e. subst is_node (sym e) tt in
+        opens_node mark held n p (λ b o v lies is_word.
+        rewrite mark 0 (λ (u : Val). ‵ (at_end b o u)) (ap head is_word) refl $ move mark (1 ∷ []) $
+        opens_end mark
+        (‵ (at_end b o (word m)) ∷ raw (Others logic n b o) ∷ ‵ (may_free n b o) ∷ ‵ (low Item' p) ∷ held)
+        (node item' heap' c' below' m' after) m more (λ far place last there.
+        move mark (1 ∷ 2 ∷ 3 ∷ 4 ∷ 5 ∷ []) $ group mark 5 $
+        use1 logic (raw (Closes logic (tree_of n) p far (place + end_offset)))
+        (closes_more logic n b o p lies far (place + end_offset) more) $ move mark (1 ∷ []) $
+        rest far place last there))

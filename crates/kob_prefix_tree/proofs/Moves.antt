@@ -4,11 +4,13 @@
 --     read_member      the first field of the struct in a local
 --     read_through     what lies where the pointer in a local leads
 --     read_result      what the result holds
+--     read_beyond      the first field of the struct behind the reference in a local
+--     names_member     the place of a field of the struct where the pointer in a local leads
 --     reaches          where the pointer leads that is the first field of the struct behind the reference in a local
 --     wraps, pairs     a struct of what one local holds, or two
 --     wraps_number     a struct of a constant
 --     heard_last       the last of what is asked, as a fact
---     nothing_of_one, nothing_of_two     what a function has left of parameters that it used up
+--     nothing_of_one, nothing_of_two, nothing_of_three     what a function has left of parameters that it used up
 use mathlib.Core.Option.{some}
 use mathlib.Core.Path.{◌≡◌}
 use Prim.Native.Nat.{ℕ, ◌+◌, ◌^◌}
@@ -75,6 +77,18 @@ module _ {World : Type 1} {ghosts : Ura World} {logic : Logic ghosts} {Mark : Ty
         (vstruct (of_list (v ∷ w ∷ [])))
     pairs mark first second = agg mark (and_then mark (get mark first) (and_then mark (get mark second) (no_more mark)))
 
+    pub read_beyond : Mark → {σ τ : Ty} {b o gap : ℕ} {share' : Share} (n : ℕ)
+        → Holds logic held locals i share' (vptr b o) → field_of σ 0 ≡ some (τ, gap)
+        → nth logic n held ≡ ‵ (fat share τ b (o + gap) v)
+        → Rv Mark logic held locals (rv_opd (copy (place i (deref σ ∷ field 0 ∷ [])))) v
+    read_beyond mark n leads fits holds =
+        of_opd mark (load mark (through mark leads (fld mark fits (stop mark))) (look mark n holds))
+
+  pub names_member : Mark → {i k : ℕ} {share : Share} {σ τ : Ty} {b o gap : ℕ}
+      → Holds logic held locals i share (vptr b o) → field_of σ k ≡ some (τ, gap)
+      → Rv Mark logic held locals (addr_of (place i (deref σ ∷ field k ∷ []))) (vptr b (o + gap))
+  names_member mark leads fits = addr mark (through mark leads (fld mark fits (stop mark)))
+
   pub reaches : Mark → {i : ℕ} {share : Share} {σ τ ρ : Ty} {b o tb to gap : ℕ} {share' : Share}
       {back : Val → Item ghosts} (n : ℕ) → Holds logic held locals i share (vptr b o) → field_of σ 0 ≡ some (τ, gap)
       → Part Mark logic (nth logic n held) share' τ b (o + gap) (vptr tb to) back
@@ -97,3 +111,7 @@ module _ {World : Type 1} {ghosts : Ura World} {logic : Logic ghosts} {Mark : Ty
 
   pub nothing_of_two : Mark → Step Mark logic (‵ (fsep ftrue (fsep ftrue ftrue)) ∷ held) goal held goal
   nothing_of_two mark = step (λ rest. nothing_of_one mark $ nothing mark $ fjoin mark $ rest)
+
+  pub nothing_of_three : Mark
+      → Step Mark logic (‵ (fsep ftrue (fsep ftrue (fsep ftrue ftrue))) ∷ held) goal held goal
+  nothing_of_three mark = step (λ rest. nothing_of_two mark $ nothing mark $ fjoin mark $ rest)

@@ -1,14 +1,17 @@
--- A link that is read through a `&`.
---     read_link      a `&` to the link shows what it lends of its nodes, and is also a `&` to its pointer
---     with_pointer   a `&` to a pointer, opened: the cell that holds it, null or not, until it is shut
---     shut_pointer   shut again
-use Rattle.std.proofs.Common.{ℕ, ◌+◌, List, [], ◌∷◌, refl}
+-- A link that is looked at through a `&`, the one parameter of a function.
+--     Look             such a parameter: a life, and a `&` of that life
+--     linked_there     the link lies where the `&` leads
+--     arrived          the tokens, and the `&` by value
+--     enters, ends     what such a function finds, and what it leaves of it
+--     with_pointer     the place of that pointer, open, until it is shut
+--     shut_pointer     shut again
+use Rattle.std.proofs.Common.{◌≡◌, ℕ, ◌+◌, List, [], ◌∷◌, refl, sym}
 use mir.Syntax.{ty_ptr}
 use mir.Val.{Val}
 use seplogic.Ra.Ura.{Ura}
-use base.Fml.{Lft, Share, fat, flft, fhide}
+use base.Fml.{Fml, Lft, Share, fat, feq, flft, fhide, fsep, ftrue}
 use types.Logic.{Logic}
-use types.Kit.{Item, Goal, Soaks, Seq, Step, step, ‵, ◌⊛◌, ◌$◌, move, drop, use1, split, fsplit, feq_i, feq_l, rewrite}
+use types.Kit.{Item, Goal, Soaks, Seq, Step, step, ‵, ◌⊛◌, ◌$◌, move, drop, join, use1, split, fjoin, fsplit, feq_i, feq_l, rewrite}
 use denote.Copied.{plain_Copied}
 use denote.Memory.{cell_at, hidden_shr, part_at}
 use denote.Opens.{Shut, shr_dup, unhide, hide}
@@ -16,6 +19,7 @@ use denote.Param.{param}
 use denote.Param.Laws.{Laws, param_laws}
 use denote.RattleType.{RattleType}
 use denote.RawPtr.{Ptr, RawPtr, coded_ptr, ptr_own, ptr_val, rawptr_pure}
+use denote.Ref.{Bor, shr_vals}
 use denote.Steps.{looks, shuts}
 use denote.Struct.Laws.{RawPtr-laws}
 use denote.Struct.Lending.{lent_out}
@@ -26,26 +30,69 @@ use Rattle.kob_prefix_tree.specs.declared.link.Link.{Link}
 use Rattle.kob_prefix_tree.specs.contracts.link.Link as link
 use Rattle.kob_prefix_tree.proofs.link.Link.TheLaw.Met as law
 
-abbrev linked : RattleType → RattleType
-linked Y = link.the_row (param 0 Y)
+module _ (Y : RattleType) (life : Lft) (look : Bor (Link Y.Denot)) where
+  abbrev Looked : RattleType
+  Looked = link.the_row (param 0 Y)
 
-module _ {M : Type 1} {𝓤 : Ura M} {𝓛 : Logic 𝓤} {K : Type 0} {Γ : List (Item 𝓤)} {G : Goal 𝓤 𝓛.H} where
-  module _ (Y : RattleType) (L : Laws Y) where
-    pub read_link : K → {κ : Lft} (l : Link Y.Denot) (b o : ℕ)
-        → Step K 𝓛 (‵ (nodes_lent (param 0 Y) l.nodes l.first κ) ∷ ‵ (hidden_shr RawPtr κ l.first b (o + 0)) ∷ ‵ (hidden_shr (linked Y) κ l b o) ∷ Γ) G (‵ (hidden_shr (linked Y) κ l b o) ∷ Γ) G
-    read_link k {κ} l b o = step (λ next.
-        let R : RattleType = param 0 Y in let Fields : RattleType = Struct (shape (link.the_type R)) in
-        shr_dup k (linked Y) (law.shares R (param_laws 0 Y L)).shr_laws l b o κ $
-        use1 𝓛 (‵ (hidden_shr Fields κ (l.first, tt) b o) ⊛ ‵ (fhide (link.the_lent R l l.first κ))) (lent_out 𝓛 (link.struct R) (link.the_codes R.Denot R.coded) (link.the_heap R) (link.the_lent R) κ l b o) $ split k $
+  abbrev pub linked_there : Fml
+  linked_there = hidden_shr Looked life look.now look.ref_ptr.0 look.ref_ptr.1
+
+  abbrev pub nodes_there : Fml
+  nodes_there = nodes_lent (param 0 Y) look.now.nodes look.now.first life
+
+  abbrev pub pointer_there : Fml
+  pointer_there = hidden_shr RawPtr life look.now.first look.ref_ptr.0 (look.ref_ptr.1 + 0)
+
+  -- the one parameter, by value
+  abbrev pub given : Fml
+  given = fsep (fsep (feq (List Val) (shr_vals look) (shr_vals look)) linked_there) ftrue
+
+  module _ {World : Type 1} {ghosts : Ura World} {logic : Logic ghosts} {Mark : Type 0} {held : List (Item ghosts)}
+      {goal : Goal ghosts logic.H} (token : Fml) (others : Item ghosts) where
+    pub ends : Mark → Step Mark logic ((‵ token ⊛ others) ∷ ‵ given ∷ held) goal
+        (‵ linked_there ∷ ‵ ftrue ∷ ‵ token ∷ others ∷ held) goal
+    ends mark = step (λ rest.
+        feq_i mark (List Val) (shr_vals look) (shr_vals look) refl $ fjoin mark $ fjoin mark $
+        move mark (1 ∷ 2 ∷ []) $ join mark $ rest)
+
+    -- [what is lent of the nodes; the pointer; the token; the link; nothing; the other tokens]
+    pub enters : Mark → Laws Y
+        → Step Mark logic (‵ nodes_there ∷ ‵ pointer_there ∷ ‵ token ∷ ‵ linked_there ∷ ‵ ftrue ∷ others ∷ held) goal
+        (((‵ token ⊛ others) ⊛ ‵ given) ∷ held) goal
+    enters mark laws = step (λ rest.
+        let Fields : RattleType = Struct (shape (link.the_type (param 0 Y))) in
+        let l = look.now in let b = look.ref_ptr.0 in let o = look.ref_ptr.1 in
+        split mark $ split mark $ move mark (2 ∷ []) $ fsplit mark $ fsplit mark $ drop mark $
+        -- [the link; nothing; the token; the other tokens]
+        shr_dup mark Looked (law.shares (param 0 Y) (param_laws 0 Y laws)).shr_laws l b o life $
+        use1 logic
+        (‵ (hidden_shr Fields life (l.first, tt) b o) ⊛ ‵ (fhide (link.the_lent (param 0 Y) l l.first life)))
+        (lent_out logic (link.struct (param 0 Y)) (link.the_codes Y.Denot (param 0 Y).coded)
+        (link.the_heap (param 0 Y)) (link.the_lent (param 0 Y)) life l b o) $ split mark $
         -- of the fields that the struct lends, the pointer is the only one
-        unhide k $ fsplit k $ fsplit k $ hide k $ move k (3 ∷ 0 ∷ 4 ∷ 1 ∷ 2 ∷ []) $ unhide k $ move k (3 ∷ 4 ∷ []) $ drop k $ drop k $ next)
+        unhide mark $ fsplit mark $ fsplit mark $ hide mark $ move mark (3 ∷ []) $ unhide mark $
+        move mark (2 ∷ 3 ∷ []) $ drop mark $ drop mark $ move mark (0 ∷ 1 ∷ 4 ∷ []) $ rest)
 
-  module _ (p : Ptr) (b a : ℕ) where
-    pub with_pointer : K → Soaks G → {κ : Lft} {q : Share}
-        → ((s : Share) → Seq K 𝓛 (‵ (fat s ty_ptr b a (ptr_val p)) ∷ Shut 𝓛 κ q (part_at RawPtr s p b a) ∷ Γ) G) → Seq K 𝓛 (‵ (hidden_shr RawPtr κ p b a) ∷ ‵ (flft κ q) ∷ Γ) G
-    with_pointer k soaks {κ} {q} next =
-        let copies = plain_Copied 𝓛 Ptr coded_ptr (ty_ptr ∷ []) ptr_own rawptr_pure ptr_val RawPtr-laws.tells in
-        looks k soaks RawPtr copies.opens p b a (λ s vs. move k (1 ∷ []) $ feq_l k (λ holds. rewrite k 0 (λ (us : List Val). ‵ (cell_at s RawPtr.mir us b a)) holds refl $ move k (2 ∷ []) $ drop k $ next s))
+-- a pointer that is known to be `known`, in its place
+module _ (pointer known : Ptr) (is : pointer ≡ known) (b o : ℕ) where
+  module _ {World : Type 1} {ghosts : Ura World} where
+    abbrev holds : Share → Ptr → Item ghosts
+    holds part p = ‵ (fat part ty_ptr b o (ptr_val p))
 
-    pub shut_pointer : K → Soaks G → {κ : Lft} {q s : Share} → Step K 𝓛 (‵ (flft κ q) ∷ Γ) G (‵ (fat s ty_ptr b a (ptr_val p)) ∷ Shut 𝓛 κ q (part_at RawPtr s p b a) ∷ Γ) G
-    shut_pointer k soaks {s = s} = step (λ next. feq_i k (List Val) (ptr_val p ∷ []) (ptr_val p ∷ []) refl $ move k (1 ∷ []) $ shuts k soaks RawPtr s p (ptr_val p ∷ []) b a $ next)
+  module _ {World : Type 1} {ghosts : Ura World} {logic : Logic ghosts} {Mark : Type 0} {held : List (Item ghosts)}
+      {goal : Goal ghosts logic.H} {life : Lft} {share : Share} where
+    pub with_pointer : Mark → Soaks goal → ((part : Share) → Seq Mark logic
+        (holds part known ∷ Shut logic life share (part_at RawPtr part pointer b o) ∷ held) goal)
+        → Seq Mark logic (‵ (hidden_shr RawPtr life pointer b o) ∷ ‵ (flft life share) ∷ held) goal
+    with_pointer mark soaks rest =
+        let by_copy = plain_Copied logic Ptr coded_ptr (ty_ptr ∷ []) ptr_own rawptr_pure ptr_val RawPtr-laws.tells in
+        looks mark soaks RawPtr by_copy.opens pointer b o (λ part words. move mark (3 ∷ 1 ∷ []) $ drop mark $
+        feq_l mark (λ are. rewrite mark 0 (λ (those : List Val). ‵ (cell_at part RawPtr.mir those b o)) are refl $
+        rewrite mark 0 (holds part) is refl $ rest part))
+
+    pub shut_pointer : Mark → Soaks goal → {part : Share} → Step Mark logic (‵ (flft life share) ∷ held) goal
+        (holds part known ∷ Shut logic life share (part_at RawPtr part pointer b o) ∷ held) goal
+    shut_pointer mark soaks {part} = step (λ rest.
+        let words : List Val = ptr_val pointer ∷ [] in
+        rewrite mark 0 (holds part) (sym is) refl $ feq_i mark (List Val) words words refl $ move mark (1 ∷ []) $
+        shuts mark soaks RawPtr part pointer words b o $ rest)

@@ -6,8 +6,8 @@ use Rattle.kob_prefix_tree.specs.declared.walk.Ahead.{Ahead}
 use Rattle.kob_prefix_tree.specs.Held.{Held, nothing}
 use Rattle.kob_prefix_tree.specs.Siblings.{Contents, held_in}
 use Rattle.kob_prefix_tree.specs.Contents.{seen}
-use Rattle.kob_prefix_tree.specs.Walked.{prefixes, walked}
-use Rattle.kob_prefix_tree.specs.WalkLeft.{longer_prefixes, walked_on, ahead_of, left_of}
+use Rattle.kob_prefix_tree.specs.Walked.{prefixes, serials_along}
+use Rattle.kob_prefix_tree.specs.WalkLeft.{longer_prefixes, serials_beyond, ahead_of, left_of}
 use Rattle.kob_prefix_tree.specs.SerialsLeft.{unread_of}
 
 -- how many bytes the walk has still to go, and one more
@@ -24,23 +24,23 @@ prefixes-longer [] = refl
 prefixes-longer (byte ∷ name) = refl
 
 -- a walk begins with the prefixed serials of its place
-pub walked-first : (held : List ℕ → Held) (name : List ℕ) → walked held name ≡ (held []).1 ++ (flat_map (λ prefix. (held prefix).1) (longer_prefixes name) ++ (held name).0)
-walked-first held name = ap (λ ps. flat_map (λ prefix. (held prefix).1) ps ++ (held name).0) (prefixes-longer name) ∙ append_assoc (held []).1 (flat_map (λ prefix. (held prefix).1) (longer_prefixes name)) (held name).0
+pub serials_along-first : (held : List ℕ → Held) (name : List ℕ) → serials_along held name ≡ (held []).1 ++ (flat_map (λ prefix. (held prefix).1) (longer_prefixes name) ++ (held name).0)
+serials_along-first held name = ap (λ ps. flat_map (λ prefix. (held prefix).1) ps ++ (held name).0) (prefixes-longer name) ∙ append_assoc (held []).1 (flat_map (λ prefix. (held prefix).1) (longer_prefixes name)) (held name).0
 
 -- a child goes on
-pub walked_on-child : (held child : List ℕ → Held) (byte : ℕ) (name : List ℕ) → ((key : List ℕ) → held (byte ∷ key) ≡ child key) → walked_on held (byte ∷ name) ≡ (child []).1 ++ walked_on child name
-walked_on-child held child byte name is =
+pub serials_beyond-child : (held child : List ℕ → Held) (byte : ℕ) (name : List ℕ) → ((key : List ℕ) → held (byte ∷ key) ≡ child key) → serials_beyond held (byte ∷ name) ≡ (child []).1 ++ serials_beyond child name
+serials_beyond-child held child byte name is =
     (λ i. flat_map-map (λ prefix. (held prefix).1) byte (prefixes name) i ++ (is name i).0)
     ∙ (λ i. flat_map (λ prefix. (is prefix i).1) (prefixes name) ++ (child name).0)
-    ∙ walked-first child name
+    ∙ serials_along-first child name
 
 nothing_along : (f : List ℕ → List ℕ) (ps : List (List ℕ)) → ((p : List ℕ) → f p ≡ []) → flat_map f ps ≡ []
 nothing_along f [] none = refl
 nothing_along f (p ∷ ps) none = ap (λ ys. ys ++ flat_map f ps) (none p) ∙ nothing_along f ps none
 
 -- without a child there is nothing more
-pub walked_on-none : (held : List ℕ → Held) (byte : ℕ) (name : List ℕ) → ((key : List ℕ) → held (byte ∷ key) ≡ nothing) → walked_on held (byte ∷ name) ≡ []
-walked_on-none held byte name none =
+pub serials_beyond-none : (held : List ℕ → Held) (byte : ℕ) (name : List ℕ) → ((key : List ℕ) → held (byte ∷ key) ≡ nothing) → serials_beyond held (byte ∷ name) ≡ []
+serials_beyond-none held byte name none =
     (λ i. flat_map-map (λ prefix. (held prefix).1) byte (prefixes name) i ++ (none name i).0)
     ∙ ap (λ ys. ys ++ []) (nothing_along (λ prefix. (held (byte ∷ prefix)).1) (prefixes name) (λ p. ap (λ (h : Held). h.1) (none p)))
 
@@ -50,12 +50,12 @@ module _ (serials : Unread) (ahead : Option Ahead) (a : Ahead) (byte : ℕ) (res
   abbrev held : List ℕ → Held
   held key = held_in key (seen a.place)
 
-  first_of : left_of (record { serials = serials; ahead = ahead }) ≡ walked_on held (byte ∷ rest)
-  first_of = (λ i. used i ++ ahead_of (is i)) ∙ ap (walked_on held) name
+  first_of : left_of (record { serials = serials; ahead = ahead }) ≡ serials_beyond held (byte ∷ rest)
+  first_of = (λ i. used i ++ ahead_of (is i)) ∙ ap (serials_beyond held) name
 
   pub step_none : ((key : List ℕ) → held_in (byte ∷ key) (seen a.place) ≡ nothing) → left_of (record { serials = serials; ahead = ahead }) ≡ []
-  step_none none = first_of ∙ walked_on-none held byte rest none
+  step_none none = first_of ∙ serials_beyond-none held byte rest none
 
   pub step_child : (child : Contents) → ((key : List ℕ) → held_in (byte ∷ key) (seen a.place) ≡ held_in key child)
-      → left_of (record { serials = serials; ahead = ahead }) ≡ child.0.1 ++ walked_on (λ key. held_in key child) rest
-  step_child child same = first_of ∙ walked_on-child held (λ key. held_in key child) byte rest same
+      → left_of (record { serials = serials; ahead = ahead }) ≡ child.0.1 ++ serials_beyond (λ key. held_in key child) rest
+  step_child child same = first_of ∙ serials_beyond-child held (λ key. held_in key child) byte rest same

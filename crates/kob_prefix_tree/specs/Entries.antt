@@ -58,7 +58,8 @@ IsTidy (child ∷ children) =
 -- each sibling's byte with the entries below it, in order
 abbrev pub children_of : Tree Item → Children
 children_of leaf = []
-children_of (node item heap c below n after) = (item.byte, entries_of item.literal item.prefixed (children_of below)) ∷ children_of after
+children_of (node item heap c below n after) =
+    (item.byte, entries_of item.literal item.prefixed (children_of below)) ∷ children_of after
 
 -- the entries of a place of the tree
 abbrev pub entries_in : Contents → Entries

@@ -27,10 +27,6 @@ abbrev pub one_serial : PatternKind → ℕ → Held
 one_serial Literal serial = (serial ∷ [], [])
 one_serial Prefixed serial = ([], serial ∷ [])
 
--- the serials of the first, and behind them those of the second
-abbrev pub joined : Held → Held → Held
-joined first second = (first.0 ++ second.0, first.1 ++ second.1)
-
 -- the serials put last in the list of this kind
 abbrev pub with_serials : PatternKind → List ℕ → Held → Held
 with_serials Literal serials held = (held.0 ++ serials, held.1)

@@ -11,7 +11,8 @@ without_first test (x ∷ xs) = if test x then xs else x ∷ without_first test 
 abbrev pub without_in_turn : List ℕ → List ℕ → List ℕ
 without_in_turn ys [] = []
 without_in_turn [] (x ∷ xs) = x ∷ xs
-without_in_turn (y ∷ ys) (x ∷ xs) = if x == y then without_in_turn ys xs else x ∷ without_in_turn (y ∷ ys) xs
+without_in_turn (y ∷ ys) (x ∷ xs) =
+    if x == y then without_in_turn ys xs else x ∷ without_in_turn (y ∷ ys) xs
 
 -- whether such a pass takes any out
 abbrev pub has_in_turn : List ℕ → List ℕ → Bool

@@ -40,14 +40,17 @@ last_of leaf p = p
 last_of (node item heap c below n after) p = if_none after p (last_of after n)
 
 -- siblings, and behind the last of them others
-abbrev pub joined : {X : Type 0} → Tree X → Link X → Tree X
-joined leaf others = others.nodes
-joined (node item heap c below n after) others = node item heap c below (if_none after others.first n) (joined after others)
+abbrev pub with_others : {X : Type 0} → Tree X → Link X → Tree X
+with_others leaf others = others.nodes
+with_others (node item heap c below n after) others =
+    node item heap c below (if_none after others.first n) (with_others after others)
 
 -- a node between links
 abbrev pub linked_row : RattleType → RattleType
 linked_row T = block.the_row T (link.the_row T) (link.the_row T)
 
 -- after the loan the link leads to the node as the loan leaves it
-abbrev pub keeps_what_is_left : (T : RattleType) → MutBor (Link T.Denot) → MutBor (Node T.Denot (Link T.Denot) (Link T.Denot)) → Fml
-keeps_what_is_left T l loan = follows (link.the_row T) (linked_row T) l.ghost_name loan.ghost_name (leading_to l.now)
+abbrev pub keeps_what_is_left : (T : RattleType) → MutBor (Link T.Denot)
+    → MutBor (Node T.Denot (Link T.Denot) (Link T.Denot)) → Fml
+keeps_what_is_left T l loan =
+    follows (link.the_row T) (linked_row T) l.ghost_name loan.ghost_name (leading_to l.now)

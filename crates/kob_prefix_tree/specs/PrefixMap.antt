@@ -4,8 +4,9 @@ use Rattle.std.specs.Ordering.{nat_cmp}
 use Rattle.std.specs.Cmp.Lexicographic.{slice_cmp}
 use Rattle.std.specs.FinMap as map
 use Rattle.kob_prefix_tree.specs.declared.kind.PatternKind.{PatternKind}
-use Rattle.kob_prefix_tree.specs.Held.{Held, nothing, is_nothing, with_serial, without_serial, without_serials}
-use Rattle.kob_prefix_tree.specs.Walked.{walked, IsLongestInUse}
+use Rattle.kob_prefix_tree.specs.Held.{Held, nothing, is_nothing}
+use Rattle.kob_prefix_tree.specs.Held.{with_serial, without_serial, without_serials}
+use Rattle.kob_prefix_tree.specs.Walked.{serials_along, IsLongestInUse}
 
 -- keys in use, each with what it holds
 abbrev pub PrefixMap : Type 0
@@ -33,7 +34,7 @@ removed_all m key kind serials =
 
 -- the prefixed serials of the keys with which the name begins, and then its literal ones
 abbrev pub walk_of : PrefixMap → List ℕ → List ℕ
-walk_of m name = walked (held m) name
+walk_of m name = serials_along (held m) name
 
 -- one more than the length of the longest beginning of the name that begins a key in use
 abbrev pub IsLevels : PrefixMap → List ℕ → ℕ → Type 0

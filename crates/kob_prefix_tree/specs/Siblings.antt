@@ -1,5 +1,6 @@
 -- What stands among siblings: values, each under a byte.
-use Rattle.std.specs.Prelude.{◌≡◌, ◌≢◌, ℕ, ◌+◌, List, [], ◌∷◌, Option, None, Some, ◌==◌, if◌then◌else◌}
+use Rattle.std.specs.Prelude.{◌≡◌, ◌≢◌, ℕ, ◌+◌, ◌==◌, List, [], ◌∷◌, Option, None, Some}
+use Rattle.std.specs.Prelude.{if◌then◌else◌}
 use Rattle.kob_prefix_tree.specs.Tree.{Tree, leaf, node}
 use Rattle.kob_prefix_tree.specs.declared.siblings.Item.{Item}
 use Rattle.kob_prefix_tree.specs.Held.{Held, nothing}
@@ -13,7 +14,8 @@ module _ {A : Type 0} where
   -- another value put in its place
   abbrev pub with_value : ℕ → A → List (ℕ × A) → List (ℕ × A)
   with_value byte value [] = []
-  with_value byte value (x ∷ xs) = if x.0 == byte then (x.0, value) ∷ xs else x ∷ with_value byte value xs
+  with_value byte value (x ∷ xs) =
+      if x.0 == byte then (x.0, value) ∷ xs else x ∷ with_value byte value xs
 
   -- all but that one
   abbrev pub without : ℕ → List (ℕ × A) → List (ℕ × A)
@@ -31,7 +33,8 @@ bare = (nothing, leaf)
 -- each sibling's byte with its contents, in order
 abbrev pub siblings : Tree Item → List (ℕ × Contents)
 siblings leaf = []
-siblings (node item heap c below n after) = (item.byte, ((item.literal, item.prefixed), below)) ∷ siblings after
+siblings (node item heap c below n after) =
+    (item.byte, ((item.literal, item.prefixed), below)) ∷ siblings after
 
 -- how many they are
 abbrev pub count : {X : Type 0} → Tree X → ℕ
@@ -51,4 +54,5 @@ held_in (byte ∷ key) c = behind_one (held_in key) (value_at byte (siblings c.1
 abbrev pub IsNeat : Tree Item → Type 0
 IsNeat leaf = Unit {0}
 IsNeat (node item heap c below n after) =
-    (value_at item.byte (siblings after) ≡ None) × ((((item.literal, item.prefixed), below) ≢ bare) × (IsNeat below × IsNeat after))
+    (value_at item.byte (siblings after) ≡ None)
+    × ((((item.literal, item.prefixed), below) ≢ bare) × (IsNeat below × IsNeat after))

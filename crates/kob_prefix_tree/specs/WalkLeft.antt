@@ -16,13 +16,15 @@ longer_prefixes [] = []
 longer_prefixes (byte ∷ name) = map (λ prefix. byte ∷ prefix) (prefixes name)
 
 -- what comes behind the prefixed serials of the place itself
-abbrev pub walked_on : (List ℕ → Held) → List ℕ → List ℕ
-walked_on held name = flat_map (λ prefix. serials_of Prefixed (held prefix)) (longer_prefixes name) ++ serials_of Literal (held name)
+abbrev pub serials_beyond : (List ℕ → Held) → List ℕ → List ℕ
+serials_beyond held name =
+    flat_map (λ prefix. serials_of Prefixed (held prefix)) (longer_prefixes name)
+    ++ serials_of Literal (held name)
 
 -- what a place still ahead gives
 abbrev pub ahead_of : Option Ahead → List ℕ
 ahead_of None = []
-ahead_of (Some a) = walked_on (λ key. held_in key (seen a.place)) a.name.now
+ahead_of (Some a) = serials_beyond (λ key. held_in key (seen a.place)) a.name.now
 
 -- the serials that are left, in order
 abbrev pub left_of : Walk → List ℕ

@@ -128,7 +128,8 @@ impl Branch {
     pub(crate) fn remove_all(&mut self, key: &[u8], kind: PatternKind, serials: &[u64]) -> bool
         requires neat { IsNeat self.old.below.nodes }
         ensures neat { IsNeat self.new.below.nodes }
-        ensures found { result ≡ has_serials kind serials.now (held_in key.now (contents self.old)) }
+        ensures found { result
+            ≡ has_serials kind serials.now (held_in key.now (contents self.old)) }
         ensures taken { held_in key.now (contents self.new)
             ≡ without_serials kind serials.now (held_in key.now (contents self.old)) }
         ensures elsewhere { (other : List ℕ) → other ≢ key.now

@@ -24,7 +24,8 @@ impl<T> Model for Link<T> {
 }
 
 impl<T> Link<T> {
-    ghost use Rattle.kob_prefix_tree.specs.Nodes.{Leads, tree_of, last_of, joined, keeps_what_is_left};
+    ghost use Rattle.kob_prefix_tree.specs.Nodes.{Leads, tree_of, last_of, with_others};
+    ghost use Rattle.kob_prefix_tree.specs.Nodes.{keeps_what_is_left};
 
     /// The way to no node.
     pub fn null() -> Link<T>
@@ -103,7 +104,7 @@ impl<T> Link<T> {
         requires leads { Leads self.nodes }
         requires last { last ≡ last_of self.nodes self.first }
         ensures first { result.first ≡ self.first }
-        ensures nodes { result.nodes ≡ joined self.nodes others }
+        ensures nodes { result.nodes ≡ with_others self.nodes others }
     {
         unsafe {
             let next = &raw mut (*last).next;

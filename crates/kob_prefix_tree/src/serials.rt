@@ -84,7 +84,7 @@ impl Serials {
     }
 
     pub(crate) fn is_empty(&self) -> bool
-        ensures { IsTrue result ↔ (self.now ≡ []) }
+        ensures empty { IsTrue result ↔ (self.now ≡ []) }
     {
         self.cells.is_null()
     }
@@ -120,7 +120,7 @@ impl Serials {
     /// Takes the first serial off, as a list of its own.
     fn take_first(&mut self) -> Option<(u64, Serials)>
         ensures { MatchOption result
-            ((self.old ≡ []) × (self.new ≡ []))
+            ((self.old ≡ []) × (self.new ≡ self.old))
             (λ p. (self.old ≡ p.0 ∷ self.new) × (p.1 ≡ p.0 ∷ [])) }
     {
         if self.cells.is_null() {

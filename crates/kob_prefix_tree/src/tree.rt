@@ -37,7 +37,8 @@ impl Model for PrefixTree {
 
     ghost Value = { PrefixMap };
 
-    ghost coded = { map.code (coded_list coded_ℕ) (coded× (coded_list coded_ℕ) (coded_list coded_ℕ)) };
+    ghost coded = { map.code (coded_list coded_ℕ)
+        (coded× (coded_list coded_ℕ) (coded_list coded_ℕ)) };
 
     ghost view = { λ a. map.from_entries (entries_in (contents a.root)) };
 
@@ -59,7 +60,11 @@ impl Model for Prepared {
 
     ghost Value = { Addition };
 
-    ghost view = { λ a. record { key = key_of a.path.nodes; kind = a.kind; serial = first_serial a.serials } };
+    ghost view = { λ a. record {
+      key = key_of a.path.nodes;
+      kind = a.kind;
+      serial = first_serial a.serials;
+    } };
 
     ghost invariant = { λ a. a.serials ≡ first_serial a.serials ∷ [] };
 }

@@ -3,7 +3,7 @@ ghost use Rattle.std.specs.Prelude.{◌≡◌, [], ◌++◌};
 ghost use Rattle.std.specs.Iterator.{YieldsFirst, item_count};
 ghost use Rattle.kob_prefix_tree.specs.Contents.{seen};
 ghost use Rattle.kob_prefix_tree.specs.Siblings.{held_in};
-ghost use Rattle.kob_prefix_tree.specs.WalkLeft.{left_of, walked_on};
+ghost use Rattle.kob_prefix_tree.specs.WalkLeft.{left_of, serials_beyond};
 ghost use Rattle.kob_prefix_tree.specs.SerialsLeft.{unread_of};
 
 use crate::branch::Place;
@@ -27,7 +27,7 @@ impl<'a> Walk<'a> {
     pub(crate) fn along(place: Place<'a>, name: &'a [u8]) -> Walk<'a>
         ensures { left_of result
             ≡ (held_in [] (seen place.entry)).1
-            ++ walked_on (λ key. held_in key (seen place.entry)) name.now }
+            ++ serials_beyond (λ key. held_in key (seen place.entry)) name.now }
     {
         Walk {
             serials: place.prefixed.unread(),

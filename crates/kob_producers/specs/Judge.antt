@@ -1,17 +1,19 @@
--- How a batch stands to those that its producer sent before: the rules of Kafka's idempotent producer (KIP-98), whose broker looks at
--- the last five batches.
+-- How a batch stands to those that its producer sent before: the rules of Kafka's idempotent
+-- producer (KIP-98), whose broker looks at the last five batches.
 use Rattle.std.specs.Prelude.{ℕ, ◌==◌, ◌&&◌, List, Bool, nat_lt, Option, Some, None, if◌then◌else◌}
 use Rattle.std.specs.List.{find}
 use Rattle.circular_buffer.specs.Buffer.{keep_last, last_item}
 use Rattle.kob_names.specs.declared.batch.Idem.{Idem}
 use Rattle.kob_producers.specs.declared.sent.Sent.{Sent}
 use Rattle.kob_producers.specs.declared.judge.Judgement.{Judgement}
-use Rattle.kob_producers.specs.declared.judge.Judgement.TheVariants.{Next, Repeat, OutOfOrder, OldEpoch}
+use Rattle.kob_producers.specs.declared.judge.Judgement.TheVariants.{Next, Repeat}
+use Rattle.kob_producers.specs.declared.judge.Judgement.TheVariants.{OutOfOrder, OldEpoch}
 use Rattle.kob_producers.specs.Sequence.{next_sequence, last_of}
 
 -- the batch is one that was sent before
 abbrev pub is_same : Idem → ℕ → Sent → Bool
-is_same idem count sent = sent.epoch == idem.epoch && (sent.base == idem.base && sent.count == count)
+is_same idem count sent =
+    sent.epoch == idem.epoch && (sent.base == idem.base && sent.count == count)
 
 -- a producer, or a new epoch of one, begins at 0
 abbrev pub judge_first : ℕ → Judgement
@@ -19,7 +21,8 @@ judge_first base = if base == 0 then Next else OutOfOrder
 
 -- after a last batch of the same epoch
 abbrev pub judge_base : ℕ → Sent → Judgement
-judge_base base last = if base == next_sequence (last_of last.base last.count) then Next else OutOfOrder
+judge_base base last =
+    if base == next_sequence (last_of last.base last.count) then Next else OutOfOrder
 
 -- a batch of the last batch's epoch: the one that it repeats, if any
 abbrev pub judge_same : Option Sent → ℕ → Sent → Judgement

@@ -17,18 +17,22 @@ sent_by recent producer = unwrap_or (get recent producer) []
 
 -- what is kept of a batch of so many records that was accepted at an offset
 abbrev pub sent : Idem → ℕ → ℕ → Sent
-sent idem count offset = record { epoch = idem.epoch; base = idem.base; count = count; offset = offset }
+sent idem count offset =
+    record { epoch = idem.epoch; base = idem.base; count = count; offset = offset }
 
 -- after one more batch, accepted at an offset
 abbrev pub accepted : Recent → Idem → ℕ → ℕ → Recent
 accepted recent idem count offset =
-    insert recent idem.id (keep_last remembered (sent_by recent idem.id ++ sent idem count offset ∷ []))
+    insert recent idem.id
+    (keep_last remembered (sent_by recent idem.id ++ sent idem count offset ∷ []))
 
 -- the last few batches of each producer's history are kept, whatever came before them
 abbrev pub Keeps : (ℕ → List Sent) → Recent → Type 0
-Keeps histories recent = (producer : ℕ) → sent_by recent producer ≡ keep_last remembered (histories producer)
+Keeps histories recent =
+    (producer : ℕ) → sent_by recent producer ≡ keep_last remembered (histories producer)
 
 -- the histories after one more batch, accepted at an offset
 abbrev pub with_sent : (ℕ → List Sent) → Idem → ℕ → ℕ → ℕ → List Sent
 with_sent histories idem count offset producer =
-    if producer == idem.id then histories producer ++ sent idem count offset ∷ [] else histories producer
+    if producer == idem.id then histories producer ++ sent idem count offset ∷ []
+    else histories producer

@@ -1,5 +1,6 @@
 -- What a table of producers shows.
-use Rattle.std.specs.Prelude.{◌≡◌, ℕ, ◌≤◌, Bool, ◌||◌, nat_eq, IsTrue, List, [], length, map, IfSome, refl}
+use Rattle.std.specs.Prelude.{◌≡◌, ℕ, ◌≤◌, Bool, ◌||◌, nat_eq, IsTrue, IfSome, refl}
+use Rattle.std.specs.Prelude.{List, [], length, map}
 use Rattle.std.specs.FinMap as map
 use Rattle.std.specs.Coded.{Coded, code_by, coded×, coded_ℕ, coded_bool, coded_list}
 use Rattle.std.specs.HashMap.{HashMap, get_by}
@@ -15,7 +16,8 @@ pub record TableKept : Type 0 where
 
 abbrev pub sent_code : Coded Sent
 sent_code = code_by (ℕ × (ℕ × (ℕ × ℕ))) (coded× coded_ℕ (coded× coded_ℕ (coded× coded_ℕ coded_ℕ)))
-    (λ s. (s.epoch, (s.base, (s.count, s.offset)))) (λ p. record { epoch = p.0; base = p.1.0; count = p.1.1.0; offset = p.1.1.1 }) (λ _. refl)
+    (λ s. (s.epoch, (s.base, (s.count, s.offset))))
+    (λ p. record { epoch = p.0; base = p.1.0; count = p.1.1.0; offset = p.1.1.1 }) (λ _. refl)
 
 abbrev pub table_code : Coded TableKept
 table_code = code_by (Recent × Bool) (coded× (map.code coded_ℕ (coded_list sent_code)) coded_bool)

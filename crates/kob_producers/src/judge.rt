@@ -8,7 +8,8 @@ use crate::sequence::{last_of, next_sequence};
 use circular_buffer::HeapCircularBuffer;
 use kob_names::Idem;
 
-/// How a batch stands to those that its producer sent before (the rules of Kafka's idempotent producer).
+/// How a batch stands to those that its producer sent before (the rules of Kafka's idempotent
+/// producer).
 #[derive(Clone, Copy, Debug, PartialEq, Eq)]
 pub enum Judgement {
     /// It is the next one.

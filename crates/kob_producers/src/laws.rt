@@ -11,13 +11,15 @@ ghost use Rattle.kob_producers.specs.Recent.{sent};
 /// A judgement by the last five batches is one by all batches.
 #[tactic(auto, using(crate::proofs::Remembering::judge_kept))]
 pub fn the_last_batches_are_enough()
-    ensures { (history : List Sent) (idem : Idem) (count : ℕ) → judge (keep_last remembered history) idem count ≡ judge history idem count }
+    ensures { (history : List Sent) (idem : Idem) (count : ℕ)
+        → judge (keep_last remembered history) idem count ≡ judge history idem count }
 {}
 
-/// A batch that was accepted, and that repeated none of the last five then, is known when it is sent again: the answer is its
-/// offset.
+/// A batch that was accepted, and that repeated none of the last five then, is known when it is
+/// sent again: the answer is its offset.
 #[tactic(auto, using(crate::proofs::Repeats::accepted_repeats))]
 pub fn an_accepted_batch_is_known_again()
-    ensures { (history : List Sent) (idem : Idem) (count offset : ℕ) → find (is_same idem count) (keep_last remembered history) ≡ None
+    ensures { (history : List Sent) (idem : Idem) (count offset : ℕ)
+        → find (is_same idem count) (keep_last remembered history) ≡ None
         → judge (history ++ sent idem count offset ∷ []) idem count ≡ Repeat offset }
 {}

@@ -1,4 +1,5 @@
-//! The sequences of idempotent producers on one partition: which batch comes next, and which was sent before.
+//! The sequences of idempotent producers on one partition: which batch comes next, and which was
+//! sent before.
 #![tactic(auto)]
 
 mod judge;

@@ -4,8 +4,8 @@ ghost use Rattle.std.specs.Prelude.{◌≡◌};
 
 use kob_names::Idem;
 
-/// An accepted batch of a producer: its epoch, the sequence of its first record, how many records it has, and the offset of
-/// the first one.
+/// An accepted batch of a producer: its epoch, the sequence of its first record, how many records
+/// it has, and the offset of the first one.
 #[derive(Clone, Copy, Debug, PartialEq, Eq)]
 pub struct Sent {
     pub epoch: u64,

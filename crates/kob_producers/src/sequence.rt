@@ -1,4 +1,5 @@
-//! Sequences of records: they run from 0 to 2,147,483,647, and then from 0 again, as in Kafka's idempotent producer.
+//! Sequences of records: they run from 0 to 2,147,483,647, and then from 0 again, as in Kafka's
+//! idempotent producer.
 
 ghost use Rattle.std.specs.Prelude.{◌≡◌, ◌<◌};
 ghost use Rattle.kob_producers.specs.Sequence.{sequences, next_sequence, last_of};
@@ -14,7 +15,8 @@ pub fn next_sequence(sequence: u64) -> u64
     (sequence % SEQUENCES + 1) % SEQUENCES
 }
 
-/// The sequence of the last of so many records, of which the first has the sequence `base`. Of no record it is `base`.
+/// The sequence of the last of so many records, of which the first has the sequence `base`. Of no
+/// record it is `base`.
 pub fn last_of(base: u64, count: u64) -> u64
     ensures last { result ≡ last_of base count }
     ensures within { result < sequences }

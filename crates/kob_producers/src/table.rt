@@ -31,13 +31,17 @@ pub struct ProducerTable {
 impl Model for ProducerTable {
     ghost use Rattle.std.specs.Prelude.{◌&&◌, nat_lt, is_some, IfSome};
     ghost use Rattle.std.specs.HashMap.{spare};
-    ghost use Rattle.kob_producers.specs.Table.{TableKept, table_code, recent_in, HasRings, IsFresh};
+    ghost use Rattle.kob_producers.specs.Table.{TableKept, table_code, recent_in};
+    ghost use Rattle.kob_producers.specs.Table.{HasRings, IsFresh};
 
     ghost Value = { TableKept };
 
     ghost coded = { table_code };
 
-    ghost view = { λ t. record { recent = recent_in t.rings.entries; ready = is_some t.fresh && nat_lt 0 (spare t.rings) } };
+    ghost view = { λ t. record {
+      recent = recent_in t.rings.entries;
+      ready = is_some t.fresh && nat_lt 0 (spare t.rings);
+    } };
 
     ghost invariant = { λ t. HasRings t.rings × IfSome t.fresh IsFresh };
 }
@@ -64,7 +68,8 @@ impl ProducerTable {
     pub fn judge(&self, idem: &Idem, count: u64) -> Judgement
         ensures kept { result ≡ judge (sent_by self.now.recent idem.now.id) idem.now count }
         // It is the judgement by all batches ever accepted, whatever they were.
-        ensures plain { (histories : ℕ → List Sent) → Keeps histories self.now.recent → result ≡ judge (histories idem.now.id) idem.now count }
+        ensures plain { (histories : ℕ → List Sent) → Keeps histories self.now.recent
+            → result ≡ judge (histories idem.now.id) idem.now count }
     {
         match self.rings.get(&idem.id) {
             Some(ring) => judge_ring(ring, idem, count),
@@ -84,11 +89,13 @@ impl ProducerTable {
         self.rings.reserve(1)
     }
 
-    /// Puts a batch of so many records, whose first one has the offset, last among those of its producer. It takes no memory.
+    /// Puts a batch of so many records, whose first one has the offset, last among those of its
+    /// producer. It takes no memory.
     pub fn accept(&mut self, idem: &Idem, count: u64, offset: u64)
         requires { CanAccept self.old idem.now.id }
         ensures recent { self.new.recent ≡ accepted self.old.recent idem.now count offset }
-        ensures plain { (histories : ℕ → List Sent) → Keeps histories self.old.recent → Keeps (with_sent histories idem.now count offset) self.new.recent }
+        ensures plain { (histories : ℕ → List Sent) → Keeps histories self.old.recent
+            → Keeps (with_sent histories idem.now count offset) self.new.recent }
     {
         let sent = Sent::new(idem, count, offset);
         if let Some(ring) = self.rings.get_mut(&idem.id) {

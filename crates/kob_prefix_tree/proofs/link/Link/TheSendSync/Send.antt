@@ -10,7 +10,7 @@ use mir.Raw.{raw}
 use Rattle.std_alloc.proofs.SendSync.{quiet, lies}
 use Rattle.std.proofs.Crossing.{frees}
 use Rattle.kob_prefix_tree.specs.Tree.{Tree, leaf, node}
-use Rattle.kob_prefix_tree.specs.Owned.{NodeOf, kept, nodes_own, way}
+use Rattle.kob_prefix_tree.specs.Owned.{NodeOf, node_of, nodes_own, way}
 use Rattle.kob_prefix_tree.specs.contracts.link.Link as link
 use Rattle.kob_prefix_tree.proofs.node.Node.TheSendSync as block
 
@@ -22,7 +22,7 @@ module _ (T : RattleType) (goes : IsSend T) where
   nodes_go leaf p = tt
   nodes_go (node item heap c below n after) p =
       let N = NodeOf T (way T below) (way T after) in
-      (tt, (lies N (block.the_send T (row (way T below)) (row (way T after)) goes (way_goes below (nodes_go below)) (way_goes after (nodes_go after))) p (kept T item heap c n), frees.frees heap (raw (lone N.mir)) p))
+      (tt, (lies N (block.the_send T (row (way T below)) (row (way T after)) goes (way_goes below (nodes_go below)) (way_goes after (nodes_go after))) p (node_of T item heap c n), frees.frees heap (raw (lone N.mir)) p))
 
   pub send : IsSend (link.the_row T)
   send = let made_of = link.the_type T in

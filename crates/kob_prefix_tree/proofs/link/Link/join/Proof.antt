@@ -1,74 +1,89 @@
--- `join` opens the siblings at their end, writes the other link there, and closes them.
-use Rattle.std.proofs.Common.{◌≡◌, ◌+◌, List, [], ◌∷◌, ◌++◌, refl, sym, ap, ◌∙◌, subst}
-use Rattle.std.proofs.raw_atomic.Walks.{proved_at, leaves}
-use mir.Syntax.{a_type}
-use mir.MapTy.{inst_fn}
-use mir.Val.{Val, vptr}
-use base.Fraction.{full_share}
-use base.Logic.{SProp, ent, emp, wand, all_e, apply∗, id⊢}
+-- `join` opens the siblings at their end, stores the other link there, and closes them with it.
+use Rattle.std.proofs.Common.{◌≡◌, ◌+◌, List, [], ◌∷◌, ◌++◌, refl, ap, ◌∙◌}
+use Rattle.std.proofs.raw_atomic.Walks.{leaves, proved_at}
+use Rattle.core.proofs.alloc.Calls.{Goes-blank}
+use Rattle.core.proofs.alloc.Shapes.{after}
 use base.Fml.{flft, ftrue}
-use prog.Wp.{WpFn}
-use types.Logic.{sem}
-use types.Kit.{‵, raw, ◌⊛◌, at_ret, ◌$◌, ◌∵◌, !, qed, by, move, keep, drop, split, join, fsplit, fjoin, feq_l, suffices, use0, use1, use2}
-use types.Run.{stop, fld, store, addr, of_opd, assigns_last, first, blocks, exec, returns, enter}
-use types.ByLocal.{alloc_all, pass_all, free_all, look_at, get, through, sets, env}
+use base.Logic.{SProp, emp}
 use contract.BorrowLft.{◌⊑◌}
 use contract.Monad.{fact, fact_i}
 use contract.Running.{tables}
-use borrow.Table.OneValue.{part_in}
 use denote.Exit.{no, yes}
+use denote.Param.{layouts, param}
 use denote.RattleType.{RattleType, owns}
-use denote.Memory.{part_at}
-use denote.Signature.{types_at, plain}
-use denote.RawPtr.{RawPtr, ptr_val}
-use denote.Steps.{heard, nothing}
-use denote.Param.{param, layouts}
-use denote.Triple.Walked.{Stays, stay_dropped, Goes-dropped, walk_of}
-use Rattle.core.proofs.alloc.Calls.{Goes-blank}
-use Rattle.core.proofs.alloc.Shapes.{after}
-use Rattle.kob_prefix_tree.specs.Owned.{nodes_own}
-use Rattle.kob_prefix_tree.specs.Nodes.{Leads, last_of, joined}
+use denote.RawPtr.{Ptr, RawPtr, ptr_val}
+use denote.Signature.{plain, types_at}
+use denote.Triple.Walked.{Goes-dropped, Stays, stay_dropped, walk_of}
+use mir.MapTy.{inst_fn}
+use mir.Syntax.{a_type}
+use mir.Val.{Val, vptr}
+use prog.Wp.{WpFn}
+use types.ByLocal.{alloc_all, env, free_all, pass_all, sets}
+use types.Kit.{◌$◌, ◌∵◌, ◌⊛◌, !, ‵, at_ret, by, drop, feq_l, fsplit, join, keep, move, prop, qed, raw, regoal, split, split3, use0}
+use types.Run.{assigns_last, blocks, enter, exec, first, returns, store}
+use denote.Steps.{heard}
+use Rattle.kob_prefix_tree.proofs.Ends.{closes_with, end_offset, link_lies, opens_end}
+use Rattle.kob_prefix_tree.proofs.Firsts.{apart, together, word, word_fits}
+use Rattle.kob_prefix_tree.proofs.Moves.{leads_to, names_member, nothing_of_three, read_local, read_result}
+use Rattle.kob_prefix_tree.specs.Nodes.{Leads, with_others, last_of}
 use Rattle.kob_prefix_tree.specs.declared.link.Link.{Link}
-use Rattle.kob_prefix_tree.proofs.Firsts.{word, apart, together, word_fits}
-use Rattle.kob_prefix_tree.proofs.Ends.{end_offset, opens_end}
 use Rattle.kob_prefix_tree.specs.contracts.link.Link as link
 use Rattle.kob_prefix_tree.specs.contracts.link.Link.join as f
-use Rattle.kob_prefix_tree.proofs.link.Link.join.Statement.{statement}
 use Rattle.kob_prefix_tree.proofs.link.Link.join.Code as code
+use Rattle.kob_prefix_tree.proofs.link.Link.join.Statement.{statement}
 
 pub join_spec : {M : Type 1} → statement M
-join_spec 𝓤 𝓛 𝓜 𝓡 wired Y L =
-    let R : RattleType = param 0 Y in let S : RattleType = link.the_row R in
-    let args = layouts (a_type ∷ []) (Y, tt) in let fn = inst_fn args code.function in
-    let ended = f.ended Y in let c = f.clauses Y 𝓛 𝓜.mem 𝓡.returns in let 𝓣 = tables 𝓤 𝓛.H 𝓜 𝓡 𝓡.env in
-    let stayed : Stays ended.signature.params ended.kept = (stay_dropped (plain (λ _. S)) no, (stay_dropped (plain (λ _. RawPtr)) yes, (stay_dropped (plain (λ _. S)) no, tt))) in
-    proved_at 𝓛 ended stayed c 𝓜 𝓡
-    (Goes-blank 𝓛 1 (plain (λ _. S)) no (λ κs x ok. tt), (Goes-dropped 𝓛 1 (plain (λ _. RawPtr)) yes (λ κs x w. refl), (Goes-blank 𝓛 1 (plain (λ _. S)) no (λ κs x ok. tt), tt)))
-    (f.Key.name args) fn (code.unfolded 𝓤 𝓛.H 𝓜 𝓡 wired (Y, tt)) (λ y are.
-    let κs = y.0.0 in let qs = y.0.1 in let l = y.0.3.0 in let last = y.0.3.1.0 in let others = y.0.3.1.1.0 in let inY = κs.0 ⊑ Y.lives in
-    let Post : Val → SProp 𝓤 = (walk_of 𝓛 ended stayed c).post y in let Run : List Val → SProp 𝓤 = λ vs. WpFn 𝓤 𝓛.H 𝓣.C 𝓣.Λ fn vs Post in
-    qed 𝓛 (((‵ (flft κs.0 qs.0) ⊛ ‵ ftrue) ⊛ ‵ (owns (types_at ended.signature.params κs) y.0.3 y.0.4)) ∷ (raw (fact 𝓤 inY) ⊛ raw (fact 𝓤 (Leads l.nodes)) ⊛ raw (fact 𝓤 (last ≡ last_of l.nodes l.first))) ∷ []) ∵
-    move ! (1 ∷ []) $ split ! $ drop ! $ split ! $ heard ! (Leads l.nodes) (λ leads. heard ! (last ≡ last_of l.nodes l.first) (λ is_last.
-    split ! $ move ! (1 ∷ []) $ fsplit ! $ apart Y ! l y.0.4.0 (λ is_word. move ! (1 ∷ []) $ fsplit ! $ feq_l ! (λ is_ptr. fsplit ! $ apart Y ! others y.0.4.1.1.0 (λ is_other.
-    -- [the nodes of the others; nothing; the nodes of these; the tokens]
-    move ! (2 ∷ []) $ opens_end Y L ! _ l.nodes l.first leads (λ b o v lies.
-    -- [the place at the end; what closes it; the nodes of the others; nothing; the tokens]
-    let is_last_val : y.0.4.1.0 ≡ vptr b o ∷ [] = is_ptr ∙ ap (λ p. ptr_val p ∷ []) (is_last ∙ lies) in
-    let vals : List Val = word l.first ∷ vptr b o ∷ word others.first ∷ [] in
-    suffices ! (Run vals) (subst (λ (us : List Val × (List Val × List Val)). ent 𝓤 (Run vals) (Run (us.0 ++ (us.1.0 ++ (us.1.1 ++ []))))) (λ i. (sym is_word i, (sym is_last_val i, sym is_other i))) (id⊢ 𝓤 (Run vals))) $
-    enter ! 𝓣.C 𝓣.Λ fn vals Post $ alloc_all ! (λ k. pass_all ! refl (word_fits Y l.first, ((tt, tt), (word_fits Y others.first, tt))) $ let E = env fn.locals k in
-    first ! $ blocks ! $ sets ! (addr ! (through ! refl (fld ! refl (stop !)))) refl (tt, tt) $
-    sets ! (of_opd ! (get ! refl)) refl (word_fits Y others.first) $
-    assigns_last ! (of_opd ! (get ! refl)) (through ! refl (stop !)) (store ! 0 refl (word_fits Y others.first)) $
-    exec ! 𝓣.C 𝓣.Λ E (after 1 fn.body) (at_ret E Post) $ sets ! (of_opd ! (get ! refl)) refl (word_fits Y l.first) $ returns ! (look_at ! 0 refl) $ free_all ! refl $
-    -- [the place, with the other link; what closes it; the nodes of the others; nothing; the tokens]
-    let at = o + end_offset Y L in let made : Link Y.Denot = record { first = l.first; nodes = joined l.nodes others } in
-    move ! (2 ∷ []) $ together Y ! others $ move ! (1 ∷ 0 ∷ []) $ use2 𝓛 (‵ (part_at S full_share others b at)) (part_in 𝓛 S refl full_share others b at (word others.first)) $ move ! (1 ∷ []) $
-    use1 𝓛 (raw (wand 𝓤 (sem 𝓛 (part_at S full_share others b at)) (sem 𝓛 (nodes_own R made.nodes l.first))))
-    (all_e 𝓤 (λ (k : Link Y.Denot). wand 𝓤 (sem 𝓛 (part_at S full_share k b at)) (sem 𝓛 (nodes_own R (joined l.nodes k) l.first))) others) $ move ! (1 ∷ 0 ∷ []) $
-    use2 𝓛 (‵ (nodes_own R made.nodes l.first)) (apply∗ 𝓤 (sem 𝓛 (part_at S full_share others b at)) (sem 𝓛 (nodes_own R made.nodes l.first))) $ together Y ! made $
-    use0 𝓛 (raw (fact 𝓤 (made.nodes ≡ joined l.nodes others))) (fact_i 𝓤 (made.nodes ≡ joined l.nodes others) (emp 𝓤) refl) $
-    use0 𝓛 (raw (fact 𝓤 (made.first ≡ l.first))) (fact_i 𝓤 (made.first ≡ l.first) (emp 𝓤) refl) $ join ! $
-    nothing ! $ nothing ! $ fjoin ! $ nothing ! $ fjoin ! $ nothing ! $ fjoin ! $
-    -- [what is left of the three; the facts; the link; nothing; the tokens]
-    keep ! (4 ∷ 0 ∷ 2 ∷ 1 ∷ []) $ by ! (leaves 𝓛 ended stayed c y (word l.first) made _ (tt, (tt, (tt, tt))))))))))))
+join_spec ghosts logic model runs wired Y laws =
+    let Linked : RattleType = link.the_row (param 0 Y) in
+    let types = layouts (a_type ∷ []) (Y, tt) in let body = inst_fn types code.function in
+    let table = tables ghosts logic.H model runs runs.env in
+    let signed = f.ended Y in let clauses = f.clauses Y logic model.mem runs.returns in
+    let gone = stay_dropped (plain (λ _. Linked)) no in let copied = stay_dropped (plain (λ _. RawPtr)) yes in
+    let stays : Stays signed.signature.params signed.kept = (gone, (copied, (gone, tt))) in
+    let walk = walk_of logic signed stays clauses in
+    let used_up = Goes-blank logic 1 (plain (λ _. Linked)) no (λ _ _ _. tt) in
+    let copy_gone = Goes-dropped logic 1 (plain (λ _. RawPtr)) yes (λ _ _ _. refl) in
+    proved_at logic signed stays clauses model runs (used_up, (copy_gone, (used_up, tt))) (f.Key.name types) body
+    (code.unfolded ghosts logic.H model runs wired (Y, tt)) (λ state _.
+    let lives = state.0.0 in let these = state.0.3.0 in let last = state.0.3.1.0 in let others = state.0.3.1.1.0 in
+    let Runs : List Val → SProp ghosts = λ given. WpFn ghosts logic.H table.C table.Λ body given (walk.post state) in
+    let at_last = last ≡ last_of these.nodes these.first in
+    let asked = raw (fact ghosts (lives.0 ⊑ Y.lives)) ⊛ raw (fact ghosts (Leads these.nodes))
+    ⊛ raw (fact ghosts at_last) in
+    let alive = ‵ (flft lives.0 state.0.1.0) ⊛ ‵ ftrue in
+    let arrived = ‵ (owns (types_at signed.signature.params lives) state.0.3 state.0.4) in
+    let words = state.0.4.0 in let pointers = state.0.4.1.0 in let other_words = state.0.4.1.1.0 in
+    qed logic ((alive ⊛ arrived) ∷ asked ∷ []) ∵
+    -- [what is asked; the tokens, with what arrived]
+    move ! (1 ∷ []) $ split3 ! $ drop ! $ heard ! (Leads these.nodes) (λ some_node. heard ! at_last (λ is_last.
+    split ! $ move ! (1 ∷ []) $ fsplit ! $ apart Y ! these words (λ is_word.
+    opens_end Y laws ! _ these.nodes these.first some_node (λ b o old lies.
+    let place = o + end_offset Y laws in
+    let made : Link Y.Denot = record { nodes = with_others these.nodes others; first = these.first } in
+    -- [the place at the end; what closes it; the pointer and the others; the tokens]
+    move ! (2 ∷ []) $ fsplit ! $ feq_l ! (λ is_pointer. fsplit ! $ apart Y ! others other_words (λ is_other.
+    regoal ! (λ (given : List Val). prop (Runs (given ++ (pointers ++ (other_words ++ []))))) is_word refl $
+    regoal ! (λ (given : List Val). prop (Runs (word these.first ∷ (given ++ (other_words ++ [])))))
+    (is_pointer ∙ ap (λ (p : Ptr). ptr_val p ∷ []) (is_last ∙ lies)) refl $
+    regoal ! (λ (given : List Val). prop (Runs (word these.first ∷ vptr b o ∷ (given ++ [])))) is_other refl $
+    -- [the nodes of the others; nothing; the place at the end; what closes it; the tokens]
+    move ! (2 ∷ []) $
+    enter ! table.C table.Λ body (word these.first ∷ vptr b o ∷ word others.first ∷ []) (walk.post state) $
+    alloc_all ! (λ places. let local = env body.locals places in
+    pass_all ! refl (word_fits Y these.first, ((tt, tt), (word_fits Y others.first, tt))) $
+    first ! $ blocks ! $ sets ! (names_member ! refl refl) refl (tt, tt) $
+    sets ! (read_local ! refl) refl (word_fits Y others.first) $
+    assigns_last ! (read_local ! refl) (leads_to ! refl) (store ! 0 refl (word_fits Y others.first)) $
+    exec ! table.C table.Λ local (after 1 body.body) (at_ret local (walk.post state)) $
+    sets ! (read_local ! refl) refl (word_fits Y these.first) $ returns ! (read_result ! refl) $ free_all ! refl $
+    -- the other link lies there now
+    move ! (1 ∷ []) $ link_lies Y laws ! others b place $ move ! (2 ∷ []) $
+    closes_with Y laws ! others these.nodes these.first b place $ together Y ! made $
+    -- [the link; nothing; the tokens]
+    let starts = made.first ≡ these.first in let holds = made.nodes ≡ with_others these.nodes others in
+    use0 logic (raw (fact ghosts holds)) (fact_i ghosts holds (emp ghosts) refl) $
+    use0 logic (raw (fact ghosts starts)) (fact_i ghosts starts (emp ghosts) refl) $ join ! $ nothing_of_three ! $
+    -- [what is left of the three; what is promised; the link; nothing; the tokens]
+    keep ! (4 ∷ 0 ∷ 2 ∷ 1 ∷ []) $
+    let no_more : Unit {0} × Unit {0} = (tt, tt) in
+    by ! (leaves logic signed stays clauses state (word these.first) made _ (tt, (tt, no_more)))))))))))

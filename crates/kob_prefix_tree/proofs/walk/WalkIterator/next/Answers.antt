@@ -1,5 +1,5 @@
 use Rattle.std.proofs.Common.{[], ◌++◌, sym, ap, ◌∙◌}
-use Rattle.kob_prefix_tree.specs.WalkLeft.{walked_on}
+use Rattle.kob_prefix_tree.specs.WalkLeft.{serials_beyond}
 use Rattle.kob_prefix_tree.specs.Siblings.{held_in}
 use Rattle.kob_prefix_tree.specs.Contents.{seen}
 use Rattle.kob_prefix_tree.proofs.WalkLemmas.{step_none, step_child}
@@ -14,7 +14,7 @@ loop-serial-preserved-in-None-child c =
 
 pub loop-serial-preserved : goal.loop-serial-preserved
 loop-serial-preserved c =
-    ap (λ xs. xs ++ walked_on (λ key. held_in key (seen c.in-Some-child.child)) c.in-Some-split_first.rest.now) c.unread-self-in-Some-child.ensures
+    ap (λ xs. xs ++ serials_beyond (λ key. held_in key (seen c.in-Some-child.child)) c.in-Some-split_first.rest.now) c.unread-self-in-Some-child.ensures
     ∙ sym (step_child c.loop-serial.self.serials c.loop-serial.self.ahead c.in_ok-ahead.ahead c.in-Some-split_first.byte.now c.in-Some-split_first.rest.now c.in_default.ensures.0 c.in_ok-ahead.was c.in-Some-split_first.ensures.cases.0
     (seen c.in-Some-child.child) c.in-Some-child.ensures.held)
     ∙ c.loop-serial.invariant
