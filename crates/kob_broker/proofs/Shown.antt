@@ -1,6 +1,7 @@
 -- What a filter leaves stands in the list and passes the test, in the list's order.
 use Rattle.std.proofs.Common.{◌≡◌, ◌↔◌, ℕ, Bool, true, false, cond, filter, List, [], ◌∷◌, map, refl, sym, ap, subst, ◌∙◌, inl, inr}
 use Rattle.std.specs.Prelude.{IsTrue, ◌⊎◌}
+use Rattle.kob_groups.specs.Groups.{group_names}
 use Rattle.kob_catalog.specs.Topics.{Topic, listed, listed_where}
 use Rattle.kob_partition.specs.Meaning.{Meaning}
 use Rattle.kob_rights.specs.declared.event.Event.{Event}
@@ -103,7 +104,7 @@ module _ {P : Type 0} (m : Meaning P) where
 
   pub lists_groups : (s : State P) (event : Event) → ListsGroups m s event
   lists_groups s event asks = (
-    groups_shown s.access event s.groups.names,
+    groups_shown s.access event (group_names s.groups),
     rw asks refl,
-    groups_listed (describes_cluster s.access event) (describes_group s.access event) s.groups.names,
+    groups_listed (describes_cluster s.access event) (describes_group s.access event) (group_names s.groups),
   )

@@ -6,6 +6,8 @@ use Rattle.kob_catalog.specs.Creation.{CanAdd}
 use Rattle.kob_catalog.specs.Kept.{catalog_log, kept_of, topics_of}
 use Rattle.kob_catalog.specs.Topics.{HasPartition, topic_map, with_partition_at}
 use Rattle.kob_groups.specs.Groups as groups
+use Rattle.kob_groups.specs.Kept as groups_kept
+use Rattle.kob_groups.specs.Kept.{groups_of}
 use Rattle.kob_partition.specs.Log.{CanAppend}
 use Rattle.kob_partition.specs.Retained.{Retained, retained_meaning}
 use Rattle.kob_rights.specs.declared.event.Event.{Event}
@@ -24,7 +26,7 @@ use Rattle.kob_broker.specs.State.{State}
 abbrev pub state_of : Broker → State Retained
 state_of broker = record {
   topics = topics_of broker.catalog;
-  groups = broker.groups.groups;
+  groups = groups_of broker.groups;
   access = broker.authorizer.contents;
   next_producer = broker.next_producer;
 }
@@ -43,9 +45,11 @@ changed (Append place partition batch) broker = record (state_of broker) {
   topics = with_partition_at place partition
       (retained_meaning.append (catalog_log broker.catalog place partition).kept batch) (topics_of broker.catalog);
 }
-changed (Commit made) broker = record (state_of broker) { groups = groups.with_commit made.place made.offset broker.groups.groups }
+changed (Commit made) broker = record (state_of broker) {
+  groups = groups.with_commit made.place made.offset (groups_of broker.groups);
+}
 changed (RemoveGroup name) broker =
-    record (state_of broker) { groups = groups.without_group name broker.groups.groups }
+    record (state_of broker) { groups = groups.without_group name (groups_of broker.groups) }
 changed GiveProducer broker = record (state_of broker) { next_producer = broker.next_producer + 1 }
 
 -- there is room for the change, and its place is there
@@ -58,8 +62,8 @@ CanCommit (RemoveBindings made) broker = CanDelete made broker.authorizer
 CanCommit (Append place partition batch) broker =
     HasPartition broker.catalog.logs place partition
     × CanAppend (catalog_log broker.catalog place partition) batch
-CanCommit (Commit made) broker = groups.CanCommit made broker.groups
-CanCommit (RemoveGroup name) broker = groups.has_group name broker.groups.groups ≡ true
+CanCommit (Commit made) broker = groups_kept.CanCommit made broker.groups
+CanCommit (RemoveGroup name) broker = groups.has_group name (groups_of broker.groups) ≡ true
 CanCommit GiveProducer broker = broker.next_producer < producer_limit
 
 -- the reply that is prepared, the state that its change leaves, and that there is room for it

@@ -75,7 +75,8 @@ module _ {P : Type 0} (m : Meaning P) where
       bodies.Topics (metadata_of s.access event s.topics asked.topic)
   body s found event (OffsetCommit commit) = bodies.Committed
   body s found event (OffsetFetch asked) = bodies.Commit (committed s.groups asked)
-  body s found event ListGroups = bodies.Groups (groups_shown s.access event s.groups.names)
+  body s found event ListGroups =
+      bodies.Groups (groups_shown s.access event (groups.group_names s.groups))
   body s found event (DeleteGroups delete) = bodies.Deleted
   body s found event (CreateTopics create) = bodies.Created
   body s found event (DeleteTopics delete) = bodies.Deleted

@@ -1,6 +1,7 @@
 -- What the listings of topics and groups hold.
 use Rattle.std.specs.Prelude.{◌≡◌, ◌↔◌, ℕ, List, [], ◌∷◌, None, map, IsTrue, ◌⊎◌}
 use Rattle.kob_catalog.specs.Topics.{listed}
+use Rattle.kob_groups.specs.Groups.{group_names}
 use Rattle.kob_rights.specs.declared.event.Event.{Event}
 use Rattle.kob_rights.specs.declared.reply.Body.TheVariants.{Topics, Groups}
 use Rattle.kob_rights.specs.declared.reply.Reply.TheVariants.{Done}
@@ -53,4 +54,4 @@ module _ {P : Type 0} (m : Meaning P) where
   abbrev pub ListsGroups : State P → Event → Type 0
   ListsGroups s event = event.request ≡ ListGroups
       → (groups : List (List ℕ)) × ((step m s event).reply ≡ Done (Groups groups))
-      × Lists (IsShownGroup s event) groups s.groups.names
+      × Lists (IsShownGroup s event) groups (group_names s.groups)

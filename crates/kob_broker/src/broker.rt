@@ -79,7 +79,7 @@ impl Broker {
             Request::ListOffsets(asked) => Ok(self.prepare_list_offsets(asked)),
             Request::Metadata(asked) => self.prepare_metadata(alloc, event, asked),
             Request::OffsetCommit(asked) => self.prepare_offset_commit(alloc, asked),
-            Request::OffsetFetch(asked) => self.prepare_offset_fetch(alloc, asked),
+            Request::OffsetFetch(asked) => Ok(self.prepare_offset_fetch(asked)),
             Request::ListGroups => self.prepare_list_groups(alloc, event),
             Request::DeleteGroups(asked) => self.prepare_delete_groups(alloc, asked),
             Request::CreateTopics(asked) => self.prepare_create_topics(alloc, asked),

@@ -1,75 +1,75 @@
 -- Groups in order of their first commit, and the offsets that they committed.
-use Rattle.std.specs.Prelude.{◌≡◌, ◌<◌, ℕ, Bool, not, ◌&&◌, List, [], Option, length, nat_eq, nat_le}
-use Rattle.std.specs.List.{filter, list_any}
-use Rattle.std.specs.Map.{lookup}
+use Rattle.std.specs.Prelude.{Bool, not, ◌&&◌, ℕ, List, [], Option, filter, is_some, length, map, nat_eq, nat_le, unwrap_or}
+use Rattle.std.specs.Map.{keys_of, lookup}
 use Rattle.indexmap.specs.IndexMap.{insert_entry}
-use Rattle.indexmap.specs.IndexSet.{insert_key, remove_key}
 use Rattle.kob_names.specs.Same.{same_text}
 use Rattle.kob_groups.specs.Limits.{group_limit}
 use Rattle.kob_groups.specs.declared.place.CommitPlace.{CommitPlace}
 
--- the names of the groups, and the offset at each place, in order of the first commit there
-pub record Groups : Type 0 where
-  pub names : List (List ℕ)
-  pub commits : List (CommitPlace × ℕ)
+-- the offsets on a topic, by partition
+abbrev pub Offsets : Type 0
+Offsets = List (ℕ × ℕ)
+
+-- a group's commits: each topic's name, with the offsets on it
+abbrev pub Commits : Type 0
+Commits = List (List ℕ × Offsets)
+
+-- each group's name, with its commits, in order of the first commit
+abbrev pub Groups : Type 0
+Groups = List (List ℕ × Commits)
 
 abbrev pub no_groups : Groups
-no_groups = record { names = []; commits = [] }
+no_groups = []
 
 abbrev pub place_of : List ℕ → List ℕ → ℕ → CommitPlace
 place_of group topic partition = record { group = group; topic = topic; partition = partition }
 
--- the test of equality of places
-abbrev pub same_place : CommitPlace → CommitPlace → Bool
-same_place a b =
-    same_text a.group b.group && (same_text a.topic b.topic && nat_eq a.partition b.partition)
+abbrev pub group_names : Groups → List (List ℕ)
+group_names groups = keys_of groups
 
 abbrev pub has_group : List ℕ → Groups → Bool
-has_group name groups = list_any (same_text name) groups.names
+has_group name groups = is_some (lookup (same_text name) groups)
 
 -- the group is a new one, and there are as many as may be
 abbrev pub is_full_for : List ℕ → Groups → Bool
-is_full_for name groups = not (has_group name groups) && nat_le group_limit (length groups.names)
+is_full_for name groups = not (has_group name groups) && nat_le group_limit (length groups)
+
+-- the commits of the group of that name, and none where there is no such group
+abbrev pub commits_of : List ℕ → Groups → Commits
+commits_of name groups = unwrap_or (lookup (same_text name) groups) []
+
+-- the offsets among a group's commits on the topic of that name
+abbrev pub offsets_on : List ℕ → Commits → Offsets
+offsets_on topic commits = unwrap_or (lookup (same_text topic) commits) []
 
 -- the offset that was committed at a place, if any was
 abbrev pub committed_at : CommitPlace → Groups → Option ℕ
-committed_at place groups = lookup (same_place place) groups.commits
+committed_at place groups =
+    lookup (nat_eq place.partition) (offsets_on place.topic (commits_of place.group groups))
 
--- a new group is put last; a place that has an offset takes the new one, and another is put last
+-- a group's commits with an offset on a topic, which takes the place of the one before
+abbrev pub with_offset : List ℕ → ℕ → ℕ → Commits → Commits
+with_offset topic partition offset commits =
+    insert_entry same_text commits topic
+    (insert_entry nat_eq (offsets_on topic commits) partition offset)
+
+-- the offset stands at its place, and a new group is put last
 abbrev pub with_commit : CommitPlace → ℕ → Groups → Groups
-with_commit place offset groups = record {
-  names = insert_key same_text groups.names place.group;
-  commits = insert_entry same_place groups.commits place offset;
-}
+with_commit place offset groups =
+    insert_entry same_text groups place.group
+    (with_offset place.topic place.partition offset (commits_of place.group groups))
 
 -- the group goes, with its commits
 abbrev pub without_group : List ℕ → Groups → Groups
-without_group name groups = record {
-  names = remove_key (same_text name) groups.names;
-  commits = filter (λ (entry : CommitPlace × ℕ). not (same_text entry.0.group name)) groups.commits;
-}
+without_group name groups =
+    filter (λ (group : List ℕ × Commits). not (same_text name group.0)) groups
+
+-- a group's commits but those on a topic
+abbrev pub without_offsets : List ℕ → Commits → Commits
+without_offsets topic commits =
+    filter (λ (on : List ℕ × Offsets). not (same_text topic on.0)) commits
 
 -- the commits on a topic go, and the groups stay
 abbrev pub without_topic : List ℕ → Groups → Groups
 without_topic topic groups =
-    record groups {
-      commits = filter (λ (entry : CommitPlace × ℕ). not (same_text entry.0.topic topic)) groups.commits;
-    }
-
--- the groups, and for how many more groups and places there is room
-pub record GroupsKept : Type 0 where
-  pub groups : Groups
-  pub name_room : ℕ
-  pub commit_room : ℕ
-
--- a commit that is to be made
-pub record Commit : Type 0 where
-  pub place : CommitPlace
-  pub offset : ℕ
-  pub group : List ℕ
-
--- there is room for the commit, which names its group
-pub record CanCommit (made : Commit) (kept : GroupsKept) : Type 0 where
-  pub name_room : 0 < kept.name_room
-  pub commit_room : 0 < kept.commit_room
-  pub group : made.group ≡ made.place.group
+    map (λ (group : List ℕ × Commits). (group.0, without_offsets topic group.1)) groups

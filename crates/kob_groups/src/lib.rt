@@ -2,6 +2,7 @@
 #![tactic(auto)]
 
 mod commit;
+mod commits;
 mod groups;
 mod limits;
 mod place;

@@ -7,7 +7,7 @@ use kob_names::{PlainValue, Text};
 use std::alloc::{AllocError, Global};
 
 /// A partition of a topic, as a group commits an offset on it. Kafka keeps one offset for each.
-#[derive(Debug, PartialEq, Eq, Hash, Drop)]
+#[derive(Debug, PartialEq, Eq, Drop)]
 pub struct CommitPlace {
     pub group: Text,
     pub topic: Text,

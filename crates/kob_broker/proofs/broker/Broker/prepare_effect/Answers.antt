@@ -6,3 +6,6 @@ returns-in-ListOffsets-clause-ok c = made_for c.args.self.now _ c.args.event.now
 
 pub returns-in-InitProducerId-clause-ok : goal.returns-in-InitProducerId-clause-ok
 returns-in-InitProducerId-clause-ok c = made_for c.args.self.now _ c.args.event.now c.prepare_init_producer_id.result c.in-InitProducerId.is c.prepare_init_producer_id.ensures
+
+pub returns-in-OffsetFetch-clause-ok : goal.returns-in-OffsetFetch-clause-ok
+returns-in-OffsetFetch-clause-ok c = made_for c.args.self.now _ c.args.event.now c.prepare_offset_fetch.result c.in-OffsetFetch.is c.prepare_offset_fetch.ensures

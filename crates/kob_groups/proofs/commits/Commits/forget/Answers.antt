@@ -1,0 +1,12 @@
+use Rattle.std.proofs.Common.{ap, sym, ◌∙◌}
+use Rattle.std.specs.Map.{lookup}
+use Rattle.kob_names.specs.Same.{same_text}
+use Rattle.kob_groups.specs.Kept.{offsets_in}
+use Rattle.kob_groups.proofs.Maps.{seen, seen_removed}
+use Rattle.kob_groups.proofs.commits.Commits.forget.Goals as goal
+
+pub returns : goal.returns
+returns c =
+    let test = same_text c.args.topic.now in let entries = c.shift_remove.ensures.entries in
+    ap (seen offsets_in) entries
+    ∙ seen_removed offsets_in test c.args.self.now.by_topic.entries (ap (lookup test) (sym entries) ∙ c.shift_remove.ensures.updates.1)
