@@ -18,32 +18,44 @@ use Rattle.kob_names.specs.declared.filter.BindingFilter.{BindingFilter}
 abbrev NoneEqual : Binding → List (ℕ × Binding) → Type 0
 NoneEqual binding entries = All (λ (entry : ℕ × Binding). entry.1 ≢ binding) entries
 
-none_step : (binding : Binding) (entry : ℕ × Binding) (rest : List (ℕ × Binding)) (b : Bool) → same_binding entry.1 binding ≡ b → option_map (λ (e : ℕ × Binding). e.0) (cond b (Some entry) (find (λ (e : ℕ × Binding). same_binding e.1 binding) rest)) ≡ None → (serial_of rest binding ≡ None → NoneEqual binding rest) → NoneEqual binding (entry ∷ rest)
+none_step : (binding : Binding) (entry : ℕ × Binding) (rest : List (ℕ × Binding)) (b : Bool)
+    → same_binding entry.1 binding ≡ b → option_map (λ (e : ℕ × Binding). e.0)
+    (cond b (Some entry) (find (λ (e : ℕ × Binding). same_binding e.1 binding) rest)) ≡ None
+    → (serial_of rest binding ≡ None → NoneEqual binding rest) → NoneEqual binding (entry ∷ rest)
 none_step binding entry rest true is none more = cc
 none_step binding entry rest false is none more =
     let other : entry.1 ≢ binding = λ equal. (let same = (same_binding_decides entry.1 binding).1 equal in cc) in
     All-cons (λ (e : ℕ × Binding). e.1 ≢ binding) entry rest other (more none)
 
 -- a binding without a serial is equal to none
-none_equal : (entries : List (ℕ × Binding)) (binding : Binding) → serial_of entries binding ≡ None → NoneEqual binding entries
+none_equal : (entries : List (ℕ × Binding)) (binding : Binding) → serial_of entries binding ≡ None
+    → NoneEqual binding entries
 none_equal [] binding none = λ k d h. absurd (omega (arith, h))
-none_equal (entry ∷ rest) binding none = none_step binding entry rest (same_binding entry.1 binding) refl none (none_equal rest binding)
+none_equal (entry ∷ rest) binding none =
+    none_step binding entry rest (same_binding entry.1 binding) refl none (none_equal rest binding)
 
-step_distinct : (so_far : Added) (binding : Binding) (o : Option ℕ) → serial_of so_far.entries binding ≡ o → AreDistinct so_far.entries → AreDistinct (placed o so_far binding).entries
+step_distinct : (so_far : Added) (binding : Binding) (o : Option ℕ) → serial_of so_far.entries binding ≡ o
+    → AreDistinct so_far.entries → AreDistinct (placed o so_far binding).entries
 step_distinct so_far binding (Some serial) is distinct = distinct
 step_distinct so_far binding None is distinct =
-    all_pairs_push (λ (one two : ℕ × Binding). one.1 ≢ two.1) so_far.entries (so_far.next, binding) distinct (none_equal so_far.entries binding is)
+    all_pairs_push (λ (one two : ℕ × Binding). one.1 ≢ two.1) so_far.entries (so_far.next, binding) distinct
+    (none_equal so_far.entries binding is)
 
-fold_distinct : (bindings : List Binding) (so_far : Added) → AreDistinct so_far.entries → AreDistinct (fold add_one so_far bindings).entries
+fold_distinct : (bindings : List Binding) (so_far : Added) → AreDistinct so_far.entries
+    → AreDistinct (fold add_one so_far bindings).entries
 fold_distinct [] so_far distinct = distinct
 fold_distinct (binding ∷ bindings) so_far distinct =
-    fold_distinct bindings (add_one so_far binding) (step_distinct so_far binding (serial_of so_far.entries binding) refl distinct)
+    fold_distinct bindings (add_one so_far binding)
+    (step_distinct so_far binding (serial_of so_far.entries binding) refl distinct)
 
 -- adding bindings keeps those in force distinct
-pub added_distinct : (entries : List (ℕ × Binding)) (next : ℕ) (bindings : List Binding) → AreDistinct entries → AreDistinct (added entries next bindings).entries
+pub added_distinct : (entries : List (ℕ × Binding)) (next : ℕ) (bindings : List Binding) → AreDistinct entries
+    → AreDistinct (added entries next bindings).entries
 added_distinct entries next bindings = fold_distinct bindings (record { entries = entries; next = next; serials = [] })
 
 -- and so does deleting some
-pub removed_distinct : (entries : List (ℕ × Binding)) (wanted : BindingFilter) → AreDistinct entries → AreDistinct (removed wanted entries)
+pub removed_distinct : (entries : List (ℕ × Binding)) (wanted : BindingFilter) → AreDistinct entries
+    → AreDistinct (removed wanted entries)
 removed_distinct entries wanted =
-    AllPairs-filter (λ (one two : ℕ × Binding). one.1 ≢ two.1) (λ (entry : ℕ × Binding). not (takes wanted entry.1)) entries
+    AllPairs-filter (λ (one two : ℕ × Binding). one.1 ≢ two.1)
+    (λ (entry : ℕ × Binding). not (takes wanted entry.1)) entries

@@ -6,7 +6,8 @@ use Rattle.std.specs.Option.{option_map}
 use Rattle.kob_authorizer.specs.Decide.{first_serial}
 use Rattle.kob_names.specs.Binding.{Binding}
 
-pub first_serial_found : (test : ℕ × Binding → Bool) (entries : List (ℕ × Binding)) → first_serial (filter test entries) ≡ option_map (λ (entry : ℕ × Binding). entry.0) (find test entries)
+pub first_serial_found : (test : ℕ × Binding → Bool) (entries : List (ℕ × Binding))
+    → first_serial (filter test entries) ≡ option_map (λ (entry : ℕ × Binding). entry.0) (find test entries)
 first_serial_found test [] = refl
 first_serial_found test (entry ∷ rest) =
     elim (test entry) as (λ t.

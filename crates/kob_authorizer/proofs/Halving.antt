@@ -10,14 +10,16 @@ use Rattle.kob_authorizer.specs.Contents.{IsRising}
 use Rattle.kob_authorizer.specs.LookUp.{AreRising, entry_at, passes_at}
 
 -- in rising order no serial is below where they begin
-at_least : (low high : ℕ) (entries : List (ℕ × Binding)) (k : ℕ) (d : ℕ × Binding) → IsRising low entries high → k < length entries → low ≤ (get_or entries k d).0
+at_least : (low high : ℕ) (entries : List (ℕ × Binding)) (k : ℕ) (d : ℕ × Binding) → IsRising low entries high
+    → k < length entries → low ≤ (get_or entries k d).0
 at_least low high [] k d rising below = absurd (omega (arith, below))
 at_least low high (x ∷ xs) zero d rising below = rising.0
 at_least low high (x ∷ xs) (suc k) d rising below =
     let more = at_least (x.0 + 1) high xs k d rising.1 (omega (arith, below)) in omega (arith, rising.0, more)
 
 -- a later serial is not below an earlier one
-in_order : (low high : ℕ) (entries : List (ℕ × Binding)) (i j : ℕ) (d : ℕ × Binding) → IsRising low entries high → i ≤ j → j < length entries → (get_or entries i d).0 ≤ (get_or entries j d).0
+in_order : (low high : ℕ) (entries : List (ℕ × Binding)) (i j : ℕ) (d : ℕ × Binding) → IsRising low entries high
+    → i ≤ j → j < length entries → (get_or entries i d).0 ≤ (get_or entries j d).0
 in_order low high [] i j d rising le below = absurd (omega (arith, below))
 in_order low high (x ∷ xs) zero zero d rising le below = omega arith
 in_order low high (x ∷ xs) zero (suc j) d rising le below =
@@ -27,7 +29,8 @@ in_order low high (x ∷ xs) (suc i) (suc j) d rising le below =
     in_order (x.0 + 1) high xs i j d rising.1 (omega (arith, le)) (omega (arith, below))
 
 -- the entry at a place is the one with its serial
-found_at : (low high : ℕ) (entries : List (ℕ × Binding)) (k serial : ℕ) (d : ℕ × Binding) → IsRising low entries high → k < length entries → (get_or entries k d).0 ≡ serial → Some (get_or entries k d) ≡ entry_at entries serial
+found_at : (low high : ℕ) (entries : List (ℕ × Binding)) (k serial : ℕ) (d : ℕ × Binding) → IsRising low entries high
+    → k < length entries → (get_or entries k d).0 ≡ serial → Some (get_or entries k d) ≡ entry_at entries serial
 found_at low high [] k serial d rising below is = absurd (omega (arith, below))
 found_at low high (x ∷ xs) zero serial d rising below is =
     ap (λ b. cond b (Some x) (entry_at xs serial)) (sym (eq-eqb x.0 serial is))
@@ -38,7 +41,9 @@ found_at low high (x ∷ xs) (suc k) serial d rising below is =
     ∙ ap (λ b. cond b (Some x) (entry_at xs serial)) (sym other)
 
 -- where each serial is another, none is found
-none_found : (entries : List (ℕ × Binding)) (serial : ℕ) → ((k : ℕ) (d : ℕ × Binding) → k < length entries → (get_or entries k d).0 ≡ serial → ⊥) → None ≡ entry_at entries serial
+none_found : (entries : List (ℕ × Binding)) (serial : ℕ)
+    → ((k : ℕ) (d : ℕ × Binding) → k < length entries → (get_or entries k d).0 ≡ serial → ⊥)
+    → None ≡ entry_at entries serial
 none_found [] serial other = refl
 none_found (x ∷ xs) serial other =
     let first : (x.0 == serial) ≡ false = ne_eqb x.0 serial (λ same. other 0 x (omega arith) same) in
@@ -48,14 +53,23 @@ none_found (x ∷ xs) serial other =
 module _ (entries : List (ℕ × Binding)) (rising : AreRising entries) (serial : ℕ) where
   -- the comparisons with the serial rise along the list, as a binary search asks
   comparisons_rise : IsNonDecreasingBy (λ (entry : ℕ × Binding). ordering_index (nat_cmp entry.0 serial)) entries
-  comparisons_rise i j d le below = let ordered = in_order 0 rising.0 entries i j d rising.1 le below in grind (arith, nat_tests)
+  comparisons_rise i j d le below =
+      let ordered = in_order 0 rising.0 entries i j d rising.1 le below in grind (arith, nat_tests)
 
   -- a binary search ends at the entry with the serial, or there is none
-  pub searched : (r : Result ℕ ℕ) → IsSearchInRange r (length entries) → IsBinarySearchResult (λ (entry : ℕ × Binding). nat_cmp entry.0 serial) entries r → MatchResult r (λ place. (d : ℕ × Binding) → Some (get_or entries place d) ≡ entry_at entries serial) (λ _. None ≡ entry_at entries serial)
-  searched (Ok place) below equal = λ d. found_at 0 rising.0 entries place serial d rising.1 below (ranked _ serial _ (sym (equal d)))
+  pub searched : (r : Result ℕ ℕ) → IsSearchInRange r (length entries)
+      → IsBinarySearchResult (λ (entry : ℕ × Binding). nat_cmp entry.0 serial) entries r
+      → MatchResult r (λ place. (d : ℕ × Binding) → Some (get_or entries place d) ≡ entry_at entries serial)
+      (λ _. None ≡ entry_at entries serial)
+  searched (Ok place) below equal =
+      λ d. found_at 0 rising.0 entries place serial d rising.1 below (ranked _ serial _ (sym (equal d)))
   searched (Err place) below parted = none_found entries serial (λ k d lt same.
-      let before : k < place → ⊥ = λ lower. (let less = ranked _ serial _ (sym ((parted comparisons_rise).0 k d (omega arith) lower)) in omega (arith, less, same)) in
-      let after : place ≤ k → ⊥ = λ higher. (let greater = ranked _ serial _ (sym ((parted comparisons_rise).1 k d higher lt)) in omega (arith, greater, same)) in
+      let before : k < place → ⊥ =
+      λ lower. (let less = ranked _ serial _ (sym ((parted comparisons_rise).0 k d (omega arith) lower)) in
+      omega (arith, less, same)) in
+      let after : place ≤ k → ⊥ =
+      λ higher. (let greater = ranked _ serial _ (sym ((parted comparisons_rise).1 k d higher lt)) in
+      omega (arith, greater, same)) in
       grind (arith, before, after))
 
 -- the test of the entry with a serial, where there is one
@@ -64,16 +78,20 @@ passing test None = false
 passing test (Some entry) = test entry
 
 -- no entry has a serial below where they begin
-none_passes : (test : ℕ × Binding → Bool) (low high : ℕ) (entries : List (ℕ × Binding)) (serial : ℕ) → IsRising low entries high → serial < low → passes_at test entries serial ≡ false
+none_passes : (test : ℕ × Binding → Bool) (low high : ℕ) (entries : List (ℕ × Binding)) (serial : ℕ)
+    → IsRising low entries high → serial < low → passes_at test entries serial ≡ false
 none_passes test low high [] serial rising lt = refl
 none_passes test low high (x ∷ xs) serial rising lt =
     let other : (x.0 == serial) ≡ false = ne_eqb x.0 serial (λ same. absurd (omega (arith, lt, same, rising.0))) in
-    ap (λ b. (b && test x) || passes_at test xs serial) other ∙ none_passes test (x.0 + 1) high xs serial rising.1 (omega (arith, lt, rising.0))
+    ap (λ b. (b && test x) || passes_at test xs serial) other
+    ∙ none_passes test (x.0 + 1) high xs serial rising.1 (omega (arith, lt, rising.0))
 
-passes_from : (test : ℕ × Binding → Bool) (low high : ℕ) (entries : List (ℕ × Binding)) (serial : ℕ) → IsRising low entries high → passing test (entry_at entries serial) ≡ passes_at test entries serial
+passes_from : (test : ℕ × Binding → Bool) (low high : ℕ) (entries : List (ℕ × Binding)) (serial : ℕ)
+    → IsRising low entries high → passing test (entry_at entries serial) ≡ passes_at test entries serial
 passes_from test low high [] serial rising = refl
 passes_from test low high (x ∷ xs) serial rising =
-    elim (x.0 == serial) as (λ b. (x.0 == serial) ≡ b → passing test (cond b (Some x) (entry_at xs serial)) ≡ ((b && test x) || passes_at test xs serial)) [
+    elim (x.0 == serial) as (λ b. (x.0 == serial) ≡ b
+    → passing test (cond b (Some x) (entry_at xs serial)) ≡ ((b && test x) || passes_at test xs serial)) [
       | true ↦ λ is.
           let none = none_passes test (x.0 + 1) high xs serial rising.1 (omega (arith, eqb-true x.0 serial is)) in
           elim (test x) as (λ t. t ≡ ((true && t) || passes_at test xs serial)) [ true ↦ refl | false ↦ sym none ]
@@ -81,9 +99,13 @@ passes_from test low high (x ∷ xs) serial rising =
     ] refl
 
 -- the entry that was found passes the test where some entry with the serial does, since no two have the same
-pub passes_some : (test : ℕ × Binding → Bool) (entries : List (ℕ × Binding)) (serial : ℕ) (entry : ℕ × Binding) → AreRising entries → Some entry ≡ entry_at entries serial → test entry ≡ passes_at test entries serial
-passes_some test entries serial entry rising found = ap (passing test) found ∙ passes_from test 0 rising.0 entries serial rising.1
+pub passes_some : (test : ℕ × Binding → Bool) (entries : List (ℕ × Binding)) (serial : ℕ) (entry : ℕ × Binding)
+    → AreRising entries → Some entry ≡ entry_at entries serial → test entry ≡ passes_at test entries serial
+passes_some test entries serial entry rising found =
+    ap (passing test) found ∙ passes_from test 0 rising.0 entries serial rising.1
 
 -- where none was found, none with the serial passes
-pub passes_none : (test : ℕ × Binding → Bool) (entries : List (ℕ × Binding)) (serial : ℕ) → AreRising entries → None ≡ entry_at entries serial → false ≡ passes_at test entries serial
-passes_none test entries serial rising found = ap (passing test) found ∙ passes_from test 0 rising.0 entries serial rising.1
+pub passes_none : (test : ℕ × Binding → Bool) (entries : List (ℕ × Binding)) (serial : ℕ) → AreRising entries
+    → None ≡ entry_at entries serial → false ≡ passes_at test entries serial
+passes_none test entries serial rising found =
+    ap (passing test) found ∙ passes_from test 0 rising.0 entries serial rising.1

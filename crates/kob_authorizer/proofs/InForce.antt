@@ -17,7 +17,10 @@ serial_in found = option_map (λ (entry : ℕ × Binding). entry.0) found
 abbrev later : List (ℕ × Binding) → Binding → Option (ℕ × Binding)
 later rest binding = find (λ (entry : ℕ × Binding). same_binding entry.1 binding) rest
 
-found_step : (binding : Binding) (entry : ℕ × Binding) (rest : List (ℕ × Binding)) (serial : ℕ) (b : Bool) → same_binding entry.1 binding ≡ b → serial_in (cond b (Some entry) (later rest binding)) ≡ Some serial → (serial_in (later rest binding) ≡ Some serial → Contains rest (serial, binding)) → Contains (entry ∷ rest) (serial, binding)
+found_step : (binding : Binding) (entry : ℕ × Binding) (rest : List (ℕ × Binding)) (serial : ℕ) (b : Bool)
+    → same_binding entry.1 binding ≡ b → serial_in (cond b (Some entry) (later rest binding)) ≡ Some serial
+    → (serial_in (later rest binding) ≡ Some serial → Contains rest (serial, binding))
+    → Contains (entry ∷ rest) (serial, binding)
 found_step binding entry rest serial true same found more =
     let equal : entry.1 ≡ binding = (same_binding_decides entry.1 binding).0 same in
     let number : entry.0 ≡ serial = cc in
@@ -28,13 +31,15 @@ found_step binding entry rest serial false same found more =
     Contains-append_right (entry ∷ []) rest (serial, binding) (more found)
 
 -- a binding whose serial is found is in force under it
-found_in_force : (entries : List (ℕ × Binding)) (binding : Binding) (serial : ℕ) → serial_of entries binding ≡ Some serial → Contains entries (serial, binding)
+found_in_force : (entries : List (ℕ × Binding)) (binding : Binding) (serial : ℕ)
+    → serial_of entries binding ≡ Some serial → Contains entries (serial, binding)
 found_in_force [] binding serial found = cc
 found_in_force (entry ∷ rest) binding serial found =
     found_step binding entry rest serial (same_binding entry.1 binding) refl found (found_in_force rest binding serial)
 
 -- what is in force stays so when more entries are put last
-still_in_force : (entries more : List (ℕ × Binding)) (bindings : List Binding) (serials : List ℕ) → AreInForce entries bindings serials → AreInForce (entries ++ more) bindings serials
+still_in_force : (entries more : List (ℕ × Binding)) (bindings : List Binding) (serials : List ℕ)
+    → AreInForce entries bindings serials → AreInForce (entries ++ more) bindings serials
 still_in_force entries more [] [] all = tt
 still_in_force entries more [] (serial ∷ serials) all = all
 still_in_force entries more (binding ∷ bindings) [] all = all
@@ -42,32 +47,43 @@ still_in_force entries more (binding ∷ bindings) (serial ∷ serials) all =
     (Contains-append_left entries more (serial, binding) all.0, still_in_force entries more bindings serials all.1)
 
 -- one more binding, with its serial
-one_more_in_force : (entries : List (ℕ × Binding)) (bindings : List Binding) (serials : List ℕ) (binding : Binding) (serial : ℕ) → AreInForce entries bindings serials → Contains entries (serial, binding) → AreInForce entries (bindings ++ binding ∷ []) (serials ++ serial ∷ [])
+one_more_in_force : (entries : List (ℕ × Binding)) (bindings : List Binding) (serials : List ℕ) (binding : Binding)
+    (serial : ℕ) → AreInForce entries bindings serials → Contains entries (serial, binding)
+    → AreInForce entries (bindings ++ binding ∷ []) (serials ++ serial ∷ [])
 one_more_in_force entries [] [] binding serial all there = (there, tt)
 one_more_in_force entries [] (s ∷ serials) binding serial all there = absurd all
 one_more_in_force entries (b ∷ bindings) [] binding serial all there = absurd all
 one_more_in_force entries (b ∷ bindings) (s ∷ serials) binding serial all there =
     (all.0, one_more_in_force entries bindings serials binding serial all.1 there)
 
-step_in_force : (so_far : Added) (before : List Binding) (binding : Binding) (o : Option ℕ) → serial_of so_far.entries binding ≡ o → AreInForce so_far.entries before so_far.serials → AreInForce (placed o so_far binding).entries (before ++ binding ∷ []) (placed o so_far binding).serials
+step_in_force : (so_far : Added) (before : List Binding) (binding : Binding) (o : Option ℕ)
+    → serial_of so_far.entries binding ≡ o → AreInForce so_far.entries before so_far.serials
+    → AreInForce (placed o so_far binding).entries (before ++ binding ∷ []) (placed o so_far binding).serials
 step_in_force so_far before binding (Some serial) is all =
-    one_more_in_force so_far.entries before so_far.serials binding serial all (found_in_force so_far.entries binding serial is)
+    one_more_in_force so_far.entries before so_far.serials binding serial all
+    (found_in_force so_far.entries binding serial is)
 step_in_force so_far before binding None is all =
     let entries : List (ℕ × Binding) = so_far.entries ++ (so_far.next, binding) ∷ [] in
     one_more_in_force entries before so_far.serials binding so_far.next
     (still_in_force so_far.entries ((so_far.next, binding) ∷ []) before so_far.serials all)
     (Contains-push so_far.entries (so_far.next, binding))
 
-all_in_force : (bindings : List Binding) (so_far : Added) (before : List Binding) → AreInForce so_far.entries before so_far.serials → AreInForce (fold add_one so_far bindings).entries (before ++ bindings) (fold add_one so_far bindings).serials
+all_in_force : (bindings : List Binding) (so_far : Added) (before : List Binding)
+    → AreInForce so_far.entries before so_far.serials
+    → AreInForce (fold add_one so_far bindings).entries (before ++ bindings) (fold add_one so_far bindings).serials
 all_in_force [] so_far before all =
     subst (λ (bs : List Binding). AreInForce so_far.entries bs so_far.serials) (sym (append-nil before)) all
 all_in_force (binding ∷ bindings) so_far before all =
     let after : Added = add_one so_far binding in
-    let rest : AreInForce (fold add_one after bindings).entries ((before ++ binding ∷ []) ++ bindings) (fold add_one after bindings).serials =
-    all_in_force bindings after (before ++ binding ∷ []) (step_in_force so_far before binding (serial_of so_far.entries binding) refl all) in
-    subst (λ (bs : List Binding). AreInForce (fold add_one after bindings).entries bs (fold add_one after bindings).serials) (append_assoc before (binding ∷ []) bindings) rest
+    let rest : AreInForce (fold add_one after bindings).entries ((before ++ binding ∷ []) ++ bindings)
+    (fold add_one after bindings).serials =
+    all_in_force bindings after (before ++ binding ∷ [])
+    (step_in_force so_far before binding (serial_of so_far.entries binding) refl all) in
+    subst (λ (bs : List Binding). AreInForce (fold add_one after bindings).entries bs
+    (fold add_one after bindings).serials) (append_assoc before (binding ∷ []) bindings) rest
 
 -- after a creation each of its bindings is in force under the serial answered for it
-pub created_in_force : (entries : List (ℕ × Binding)) (next : ℕ) (bindings : List Binding) → AreInForce (added entries next bindings).entries bindings (added entries next bindings).serials
+pub created_in_force : (entries : List (ℕ × Binding)) (next : ℕ) (bindings : List Binding)
+    → AreInForce (added entries next bindings).entries bindings (added entries next bindings).serials
 created_in_force entries next bindings =
     all_in_force bindings (record { entries = entries; next = next; serials = [] }) [] tt

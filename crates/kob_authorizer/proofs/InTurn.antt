@@ -19,51 +19,66 @@ abbrev grown : ℕ → List (ℕ × Binding) → List Binding → List (ℕ × B
 grown n entries fresh = entries ++ enumerate_from n fresh
 
 -- a binding is known exactly where it has a serial among the entries and the fresh ones
-known_has_serial : (n : ℕ) (entries : List (ℕ × Binding)) (fresh : List Binding) (b : Binding) → is_some (serial_of (grown n entries fresh) b) ≡ is_known entries fresh b
+known_has_serial : (n : ℕ) (entries : List (ℕ × Binding)) (fresh : List Binding) (b : Binding)
+    → is_some (serial_of (grown n entries fresh) b) ≡ is_known entries fresh b
 known_has_serial n [] [] b = refl
 known_has_serial n [] (x ∷ xs) b =
     elim (same_binding x b) as (λ t.
-    is_some (option_map (λ (e : ℕ × Binding). e.0) (cond t (Some (n, x)) (find (λ (e : ℕ × Binding). same_binding e.1 b) (enumerate_from (n + 1) xs))))
+    is_some (option_map (λ (e : ℕ × Binding). e.0)
+    (cond t (Some (n, x)) (find (λ (e : ℕ × Binding). same_binding e.1 b) (enumerate_from (n + 1) xs))))
     ≡ (t || is_among xs b))
     [ true ↦ refl | false ↦ known_has_serial (n + 1) [] xs b ]
 known_has_serial n (e ∷ es) fresh b =
     elim (same_binding e.1 b) as (λ t.
-    is_some (option_map (λ (e : ℕ × Binding). e.0) (cond t (Some e) (find (λ (e : ℕ × Binding). same_binding e.1 b) (grown n es fresh))))
+    is_some (option_map (λ (e : ℕ × Binding). e.0)
+    (cond t (Some e) (find (λ (e : ℕ × Binding). same_binding e.1 b) (grown n es fresh))))
     ≡ ((t || is_in_force es b) || is_among fresh b))
     [ true ↦ refl | false ↦ known_has_serial n es fresh b ]
 
 -- numbering two lists is numbering the one and then the other
-enumerate_from-append : (n : ℕ) (xs ys : List Binding) → enumerate_from n (xs ++ ys) ≡ enumerate_from n xs ++ enumerate_from (n + length xs) ys
+enumerate_from-append : (n : ℕ) (xs ys : List Binding)
+    → enumerate_from n (xs ++ ys) ≡ enumerate_from n xs ++ enumerate_from (n + length xs) ys
 enumerate_from-append n [] ys = let e : n ≡ n + 0 = omega arith in ap (λ k. enumerate_from k ys) e
 enumerate_from-append n (x ∷ xs) ys =
     let more : n + 1 + length xs ≡ n + length (x ∷ xs) = omega arith in
-    ap (λ rest. (n, x) ∷ rest) (enumerate_from-append (n + 1) xs ys ∙ ap (λ k. enumerate_from (n + 1) xs ++ enumerate_from k ys) more)
+    ap (λ rest. (n, x) ∷ rest) (enumerate_from-append (n + 1) xs ys
+    ∙ ap (λ k. enumerate_from (n + 1) xs ++ enumerate_from k ys) more)
 
 -- the new bindings so far stay at the front
-fresh_extends : (entries : List (ℕ × Binding)) (fresh bs : List Binding) → (more : List Binding) × (fold (with_new entries) fresh bs ≡ fresh ++ more)
+fresh_extends : (entries : List (ℕ × Binding)) (fresh bs : List Binding)
+    → (more : List Binding) × (fold (with_new entries) fresh bs ≡ fresh ++ more)
 fresh_extends entries fresh [] = ([], sym (append-nil fresh))
 fresh_extends entries fresh (b ∷ bs) =
-    elim (is_known entries fresh b) as (λ t. (more : List Binding) × (fold (with_new entries) (cond t fresh (fresh ++ b ∷ [])) bs ≡ fresh ++ more)) [
+    elim (is_known entries fresh b) as (λ t. (more : List Binding)
+    × (fold (with_new entries) (cond t fresh (fresh ++ b ∷ [])) bs ≡ fresh ++ more)) [
       | true ↦ fresh_extends entries fresh bs
-      | false ↦ (let later = fresh_extends entries (fresh ++ b ∷ []) bs in (b ∷ later.0, later.1 ∙ append_assoc fresh (b ∷ []) later.0))
+      | false ↦ (let later = fresh_extends entries (fresh ++ b ∷ []) bs in
+          (b ∷ later.0, later.1 ∙ append_assoc fresh (b ∷ []) later.0))
     ]
 
 -- a serial that was given stays given
-serial_stays : (n : ℕ) (entries : List (ℕ × Binding)) (fresh bs : List Binding) (b : Binding) (serial : ℕ) → Some serial ≡ serial_of (grown n entries fresh) b → Some serial ≡ serial_of (grown n entries (fold (with_new entries) fresh bs)) b
+serial_stays : (n : ℕ) (entries : List (ℕ × Binding)) (fresh bs : List Binding) (b : Binding) (serial : ℕ)
+    → Some serial ≡ serial_of (grown n entries fresh) b
+    → Some serial ≡ serial_of (grown n entries (fold (with_new entries) fresh bs)) b
 serial_stays n entries fresh bs b serial given =
     let later = fresh_extends entries fresh bs in
-    let whole : grown n entries fresh ++ enumerate_from (n + length fresh) later.0 ≡ grown n entries (fold (with_new entries) fresh bs) =
+    let whole : grown n entries fresh ++ enumerate_from (n + length fresh) later.0
+    ≡ grown n entries (fold (with_new entries) fresh bs) =
     append_assoc entries (enumerate_from n fresh) (enumerate_from (n + length fresh) later.0)
     ∙ ap (λ rest. entries ++ rest) (sym (enumerate_from-append n fresh later.0))
     ∙ ap (λ all. grown n entries all) (sym later.1) in
-    serial_of-append_some b (grown n entries fresh) (enumerate_from (n + length fresh) later.0) serial given ∙ ap (λ all. serial_of all b) whole
+    serial_of-append_some b (grown n entries fresh) (enumerate_from (n + length fresh) later.0) serial given
+    ∙ ap (λ all. serial_of all b) whole
 
 -- the state after fresh bindings, with the serials answered so far
 abbrev reached : ℕ → List (ℕ × Binding) → List Binding → List ℕ → Added
 reached n entries fresh serials = record { entries = grown n entries fresh; next = n + length fresh; serials = serials }
 
 -- one more serial in front of the others
-one_more : (n : ℕ) (entries : List (ℕ × Binding)) (all : List Binding) (serials : List ℕ) (b : Binding) (bs : List Binding) (serial : ℕ) → Some serial ≡ serial_of (grown n entries all) b → (serials ++ serial ∷ []) ++ serials_in (grown n entries all) bs ≡ serials ++ serials_in (grown n entries all) (b ∷ bs)
+one_more : (n : ℕ) (entries : List (ℕ × Binding)) (all : List Binding) (serials : List ℕ) (b : Binding)
+    (bs : List Binding) (serial : ℕ) → Some serial ≡ serial_of (grown n entries all) b
+    → (serials ++ serial ∷ []) ++ serials_in (grown n entries all) bs
+    ≡ serials ++ serials_in (grown n entries all) (b ∷ bs)
 one_more n entries all serials b bs serial given =
     append_assoc serials (serial ∷ []) (serials_in (grown n entries all) bs)
     ∙ ap (λ o. serials ++ cons_option o (serials_in (grown n entries all) bs)) given
@@ -72,16 +87,20 @@ one_more n entries all serials b bs serial given =
 abbrev Ends : ℕ → List (ℕ × Binding) → List Binding → List Binding → List ℕ → Type 0
 Ends n entries bs fresh serials =
     fold add_one (reached n entries fresh serials) bs
-    ≡ reached n entries (fold (with_new entries) fresh bs) (serials ++ serials_in (grown n entries (fold (with_new entries) fresh bs)) bs)
+    ≡ reached n entries (fold (with_new entries) fresh bs)
+    (serials ++ serials_in (grown n entries (fold (with_new entries) fresh bs)) bs)
 
 -- the same after the binding b, when `after` are the fresh bindings with it
 abbrev StepEnds : ℕ → List (ℕ × Binding) → Binding → List Binding → Added → List ℕ → List Binding → Type 0
 StepEnds n entries b bs state serials after =
     fold add_one state bs
-    ≡ reached n entries (fold (with_new entries) after bs) (serials ++ serials_in (grown n entries (fold (with_new entries) after bs)) (b ∷ bs))
+    ≡ reached n entries (fold (with_new entries) after bs)
+    (serials ++ serials_in (grown n entries (fold (with_new entries) after bs)) (b ∷ bs))
 
 -- a new binding gets the serial that comes next
-new_serial : (n : ℕ) (entries : List (ℕ × Binding)) (fresh : List Binding) (b : Binding) → None ≡ serial_of (grown n entries fresh) b → Some (n + length fresh) ≡ serial_of (grown n entries fresh ++ (n + length fresh, b) ∷ []) b
+new_serial : (n : ℕ) (entries : List (ℕ × Binding)) (fresh : List Binding) (b : Binding)
+    → None ≡ serial_of (grown n entries fresh) b
+    → Some (n + length fresh) ≡ serial_of (grown n entries fresh ++ (n + length fresh, b) ∷ []) b
 new_serial n entries fresh b none =
     let itself : same_binding b b ≡ true = (same_binding_decides b b).1 refl in
     let alone : Some (n + length fresh) ≡ serial_of ((n + length fresh, b) ∷ []) b =
@@ -89,21 +108,27 @@ new_serial n entries fresh b none =
     alone ∙ serial_of-append_none b (grown n entries fresh) ((n + length fresh, b) ∷ []) none
 
 -- the entries with one more fresh binding
-grown_push : (n : ℕ) (entries : List (ℕ × Binding)) (fresh : List Binding) (b : Binding) → grown n entries fresh ++ (n + length fresh, b) ∷ [] ≡ grown n entries (fresh ++ b ∷ [])
+grown_push : (n : ℕ) (entries : List (ℕ × Binding)) (fresh : List Binding) (b : Binding)
+    → grown n entries fresh ++ (n + length fresh, b) ∷ [] ≡ grown n entries (fresh ++ b ∷ [])
 grown_push n entries fresh b =
-    append_assoc entries (enumerate_from n fresh) ((n + length fresh, b) ∷ []) ∙ ap (λ rest. entries ++ rest) (sym (enumerate_from_push n fresh b))
+    append_assoc entries (enumerate_from n fresh) ((n + length fresh, b) ∷ [])
+    ∙ ap (λ rest. entries ++ rest) (sym (enumerate_from_push n fresh b))
 
 abbrev state : List (ℕ × Binding) → ℕ → List ℕ → Added
 state entries next serials = record { entries = entries; next = next; serials = serials }
 
-in_turn_step : (n : ℕ) (entries : List (ℕ × Binding)) (b : Binding) (bs fresh : List Binding) (serials : List ℕ) (o : Option ℕ) → o ≡ serial_of (grown n entries fresh) b → ((later : List Binding) (more : List ℕ) → Ends n entries bs later more) → StepEnds n entries b bs (placed o (reached n entries fresh serials) b) serials (with_new entries fresh b)
+in_turn_step : (n : ℕ) (entries : List (ℕ × Binding)) (b : Binding) (bs fresh : List Binding) (serials : List ℕ)
+    (o : Option ℕ) → o ≡ serial_of (grown n entries fresh) b
+    → ((later : List Binding) (more : List ℕ) → Ends n entries bs later more)
+    → StepEnds n entries b bs (placed o (reached n entries fresh serials) b) serials (with_new entries fresh b)
 in_turn_step n entries b bs fresh serials (Some serial) is rest =
     let known : is_known entries fresh b ≡ true = sym (known_has_serial n entries fresh b) ∙ ap is_some (sym is) in
     let after : fresh ≡ with_new entries fresh b = ap (λ t. cond t fresh (fresh ++ b ∷ [])) (sym known) in
     let all : List Binding = fold (with_new entries) fresh bs in
     let here : StepEnds n entries b bs (reached n entries fresh (serials ++ serial ∷ [])) serials fresh =
     rest fresh (serials ++ serial ∷ [])
-    ∙ ap (λ given. reached n entries all given) (one_more n entries all serials b bs serial (serial_stays n entries fresh bs b serial is)) in
+    ∙ ap (λ given. reached n entries all given)
+    (one_more n entries all serials b bs serial (serial_stays n entries fresh bs b serial is)) in
     subst (λ w. StepEnds n entries b bs (reached n entries fresh (serials ++ serial ∷ [])) serials w) after here
 in_turn_step n entries b bs fresh serials None is rest =
     let known : is_known entries fresh b ≡ false = sym (known_has_serial n entries fresh b) ∙ ap is_some (sym is) in
@@ -111,24 +136,30 @@ in_turn_step n entries b bs fresh serials None is rest =
     let all : List Binding = fold (with_new entries) (fresh ++ b ∷ []) bs in
     let serial : ℕ = n + length fresh in
     let longer : serial + 1 ≡ n + length (fresh ++ b ∷ []) = omega (arith, length-append fresh (b ∷ [])) in
-    let moved : state (grown n entries fresh ++ (serial, b) ∷ []) (serial + 1) (serials ++ serial ∷ []) ≡ reached n entries (fresh ++ b ∷ []) (serials ++ serial ∷ []) =
+    let moved : state (grown n entries fresh ++ (serial, b) ∷ []) (serial + 1) (serials ++ serial ∷ [])
+    ≡ reached n entries (fresh ++ b ∷ []) (serials ++ serial ∷ []) =
     ap (λ es. state es (serial + 1) (serials ++ serial ∷ [])) (grown_push n entries fresh b)
     ∙ ap (λ k. state (grown n entries (fresh ++ b ∷ [])) k (serials ++ serial ∷ [])) longer in
     let given : Some serial ≡ serial_of (grown n entries (fresh ++ b ∷ [])) b =
     new_serial n entries fresh b is ∙ ap (λ es. serial_of es b) (grown_push n entries fresh b) in
-    let here : StepEnds n entries b bs (state (grown n entries fresh ++ (serial, b) ∷ []) (serial + 1) (serials ++ serial ∷ [])) serials (fresh ++ b ∷ []) =
+    let here : StepEnds n entries b bs (state (grown n entries fresh ++ (serial, b) ∷ []) (serial + 1)
+    (serials ++ serial ∷ [])) serials (fresh ++ b ∷ []) =
     ap (λ from. fold add_one from bs) moved
     ∙ rest (fresh ++ b ∷ []) (serials ++ serial ∷ [])
-    ∙ ap (λ answered. reached n entries all answered) (one_more n entries all serials b bs serial (serial_stays n entries (fresh ++ b ∷ []) bs b serial given)) in
-    subst (λ w. StepEnds n entries b bs (state (grown n entries fresh ++ (serial, b) ∷ []) (serial + 1) (serials ++ serial ∷ [])) serials w) after here
+    ∙ ap (λ answered. reached n entries all answered)
+    (one_more n entries all serials b bs serial (serial_stays n entries (fresh ++ b ∷ []) bs b serial given)) in
+    subst (λ w. StepEnds n entries b bs (state (grown n entries fresh ++ (serial, b) ∷ []) (serial + 1)
+    (serials ++ serial ∷ [])) serials w) after here
 
-in_turn_from : (n : ℕ) (entries : List (ℕ × Binding)) (bs fresh : List Binding) (serials : List ℕ) → Ends n entries bs fresh serials
+in_turn_from : (n : ℕ) (entries : List (ℕ × Binding)) (bs fresh : List Binding) (serials : List ℕ)
+    → Ends n entries bs fresh serials
 in_turn_from n entries [] fresh serials = ap (λ all. reached n entries fresh all) (sym (append-nil serials))
 in_turn_from n entries (b ∷ bs) fresh serials =
     in_turn_step n entries b bs fresh serials (serial_of (grown n entries fresh) b) refl (in_turn_from n entries bs)
 
 -- adding one after another gives what adding at once gives
-pub in_turn_at_once : (entries : List (ℕ × Binding)) (next : ℕ) (bindings : List Binding) → added entries next bindings ≡ added_at_once entries next bindings
+pub in_turn_at_once : (entries : List (ℕ × Binding)) (next : ℕ) (bindings : List Binding)
+    → added entries next bindings ≡ added_at_once entries next bindings
 in_turn_at_once entries next bindings =
     let all : List Binding = new_bindings entries bindings in
     let answered : List ℕ = serials_in (grown next entries all) bindings in
@@ -142,11 +173,14 @@ in_turn_at_once entries next bindings =
     ∙ ap (λ k. state (grown next entries all) k answered) counted
 
 -- what is found first and then numbered is a creation of the bindings
-pub creation_creates : (entries : List (ℕ × Binding)) (next : ℕ) (bindings : List Binding) → Creates entries next bindings (creation entries next bindings)
+pub creation_creates : (entries : List (ℕ × Binding)) (next : ℕ) (bindings : List Binding)
+    → Creates entries next bindings (creation entries next bindings)
 creation_creates entries next bindings = in_turn_at_once entries next bindings
 
 -- the limit that is passed, by the number of new bindings
-pub fault_by_count : (entries : List (ℕ × Binding)) (next : ℕ) (bindings : List Binding) → create_fault entries next bindings ≡ passed (length entries + length (new_bindings entries bindings)) (next + length (new_bindings entries bindings))
+pub fault_by_count : (entries : List (ℕ × Binding)) (next : ℕ) (bindings : List Binding)
+    → create_fault entries next bindings ≡ passed (length entries + length (new_bindings entries bindings))
+    (next + length (new_bindings entries bindings))
 fault_by_count entries next bindings =
     let all : List Binding = new_bindings entries bindings in
     let fresh : length (enumerate_from next all) ≡ length all = length-enumerate_from next all in
@@ -157,14 +191,17 @@ fault_by_count entries next bindings =
     ∙ ap (λ k. passed (length entries + length all) (next + k)) fresh
 
 -- adding bindings keeps the serials rising
-pub added_rises : (entries : List (ℕ × Binding)) (next : ℕ) (bindings : List Binding) → IsRising 1 entries next → IsRising 1 (added entries next bindings).entries (added entries next bindings).next
+pub added_rises : (entries : List (ℕ × Binding)) (next : ℕ) (bindings : List Binding) → IsRising 1 entries next
+    → IsRising 1 (added entries next bindings).entries (added entries next bindings).next
 added_rises entries next bindings rising =
     let fresh : List Binding = new_bindings entries bindings in
     subst (λ (after : Added). IsRising 1 after.entries after.next) (sym (in_turn_at_once entries next bindings))
-    (rising_append 1 next (next + length (enumerate_from next fresh)) entries (enumerate_from next fresh) rising (rising_enumerate_from next fresh))
+    (rising_append 1 next (next + length (enumerate_from next fresh)) entries (enumerate_from next fresh) rising
+    (rising_enumerate_from next fresh))
 
 -- adding bindings leaves the entries and gives serials from the next one on
-pub only_adds : (entries : List (ℕ × Binding)) (next : ℕ) (bindings : List Binding) → OnlyAdds entries next (added entries next bindings)
+pub only_adds : (entries : List (ℕ × Binding)) (next : ℕ) (bindings : List Binding)
+    → OnlyAdds entries next (added entries next bindings)
 only_adds entries next bindings =
     let fresh : List (ℕ × Binding) = enumerate_from next (new_bindings entries bindings) in
     let at_once : OnlyAdds entries next (added_at_once entries next bindings) = record {

@@ -18,7 +18,9 @@ use Rattle.kob_authorizer.specs.Places.{IsIndex, addition, digest_place, pattern
 use Rattle.kob_authorizer.specs.declared.index.Index.{Index}
 
 -- a change of the tree of one kind of resource leaves the others
-tree_after : (index : Index) (change : PrefixMap → PrefixMap) (digests : PrefixMap) (resource other : ResourceKind) → tree_of (record (with_tree index resource (change (tree_of index resource))) { digests = digests }) other ≡ cond (same_resource resource other) (change (tree_of index other)) (tree_of index other)
+tree_after : (index : Index) (change : PrefixMap → PrefixMap) (digests : PrefixMap) (resource other : ResourceKind)
+    → tree_of (record (with_tree index resource (change (tree_of index resource))) { digests = digests }) other
+    ≡ cond (same_resource resource other) (change (tree_of index other)) (tree_of index other)
 tree_after index change digests Topic Topic = refl
 tree_after index change digests Topic other = refl
 tree_after index change digests Group Group = refl
@@ -28,7 +30,8 @@ tree_after index change digests Cluster other = refl
 tree_after index change digests TransactionalId TransactionalId = refl
 tree_after index change digests TransactionalId other = refl
 
-digests_after : (index : Index) (tree digests : PrefixMap) (resource : ResourceKind) → (record (with_tree index resource tree) { digests = digests }).digests ≡ digests
+digests_after : (index : Index) (tree digests : PrefixMap) (resource : ResourceKind)
+    → (record (with_tree index resource tree) { digests = digests }).digests ≡ digests
 digests_after index tree digests resource = refl
 
 empty_tree : (resource : ResourceKind) → IsIndex pattern_place (tree_of empty_index resource) []
@@ -46,65 +49,96 @@ abbrev is_on : ResourceKind → ℕ × Binding → Bool
 is_on resource entry = same_resource entry.1.resource resource
 
 -- one more entry, put last
-pub indexes_put : (index : Index) (entries : List (ℕ × Binding)) (entry : ℕ × Binding) → Indexes index entries → Indexes (with_leaf index (leaf_of entry)) (entries ++ entry ∷ [])
+pub indexes_put : (index : Index) (entries : List (ℕ × Binding)) (entry : ℕ × Binding) → Indexes index entries
+    → Indexes (with_leaf index (leaf_of entry)) (entries ++ entry ∷ [])
 indexes_put index entries entry is = record {
   patterns = λ resource.
       (let change : PrefixMap → PrefixMap = λ m. with_addition m (addition pattern_place entry) in
       let old : List (ℕ × Binding) = entries_on resource entries in
-      let both : (b : Bool) → IsIndex pattern_place (cond b (change (tree_of index resource)) (tree_of index resource)) (old ++ cond b (entry ∷ []) []) =
-      λ b. elim b as (λ b. IsIndex pattern_place (cond b (change (tree_of index resource)) (tree_of index resource)) (old ++ cond b (entry ∷ []) [])) [
+      let both : (b : Bool) → IsIndex pattern_place (cond b (change (tree_of index resource)) (tree_of index resource))
+      (old ++ cond b (entry ∷ []) []) =
+      λ b. elim b as (λ b. IsIndex pattern_place (cond b (change (tree_of index resource)) (tree_of index resource))
+      (old ++ cond b (entry ∷ []) [])) [
         | true ↦ index_added pattern_place (tree_of index resource) old entry (is.patterns resource)
-        | false ↦ subst (λ es. IsIndex pattern_place (tree_of index resource) es) (sym (append-nil old)) (is.patterns resource)
+        | false ↦ subst (λ es. IsIndex pattern_place (tree_of index resource) es) (sym (append-nil old))
+            (is.patterns resource)
       ] in
-      let entries_are : entries_on resource (entries ++ entry ∷ []) ≡ old ++ cond (is_on resource entry) (entry ∷ []) [] = filter-append (is_on resource) entries (entry ∷ []) in
-      let tree_is = tree_after index change (with_addition index.digests (addition digest_place entry)) entry.1.resource resource in
+      let entries_are : entries_on resource (entries ++ entry ∷ [])
+      ≡ old ++ cond (is_on resource entry) (entry ∷ []) [] = filter-append (is_on resource) entries (entry ∷ []) in
+      let tree_is =
+      tree_after index change (with_addition index.digests (addition digest_place entry)) entry.1.resource
+      resource in
       subst (λ m. IsIndex pattern_place m (entries_on resource (entries ++ entry ∷ []))) (sym tree_is)
-      (subst (λ es. IsIndex pattern_place (cond (is_on resource entry) (change (tree_of index resource)) (tree_of index resource)) es) (sym entries_are) (both (is_on resource entry))));
+      (subst (λ es. IsIndex pattern_place (cond (is_on resource entry) (change (tree_of index resource))
+      (tree_of index resource)) es) (sym entries_are) (both (is_on resource entry))));
   digests = index_added digest_place index.digests entries entry is.digests;
 }
 
 -- more entries, put last one after another
-pub indexes_put_all : (fresh : List (ℕ × Binding)) (index : Index) (entries : List (ℕ × Binding)) → Indexes index entries → Indexes (fold with_leaf index (map leaf_of fresh)) (entries ++ fresh)
+pub indexes_put_all : (fresh : List (ℕ × Binding)) (index : Index) (entries : List (ℕ × Binding))
+    → Indexes index entries → Indexes (fold with_leaf index (map leaf_of fresh)) (entries ++ fresh)
 indexes_put_all [] index entries is = subst (Indexes index) (sym (append-nil entries)) is
 indexes_put_all (entry ∷ fresh) index entries is =
-    subst (Indexes (fold with_leaf (with_leaf index (leaf_of entry)) (map leaf_of fresh))) (append_assoc entries (entry ∷ []) fresh)
-    (indexes_put_all fresh (with_leaf index (leaf_of entry)) (entries ++ entry ∷ []) (indexes_put index entries entry is))
+    subst (Indexes (fold with_leaf (with_leaf index (leaf_of entry)) (map leaf_of fresh)))
+    (append_assoc entries (entry ∷ []) fresh)
+    (indexes_put_all fresh (with_leaf index (leaf_of entry)) (entries ++ entry ∷ [])
+    (indexes_put index entries entry is))
 
 -- an entry goes from among others
-pub indexes_removed : (index : Index) (done : List (ℕ × Binding)) (entry : ℕ × Binding) (rest : List (ℕ × Binding)) → NoneHas entry.0 done → Indexes index (done ++ entry ∷ rest) → Indexes (without_leaf index (leaf_of entry)) (done ++ rest)
+pub indexes_removed : (index : Index) (done : List (ℕ × Binding)) (entry : ℕ × Binding) (rest : List (ℕ × Binding))
+    → NoneHas entry.0 done → Indexes index (done ++ entry ∷ rest)
+    → Indexes (without_leaf index (leaf_of entry)) (done ++ rest)
 indexes_removed index done entry rest none is = record {
   patterns = λ resource.
       (let change : PrefixMap → PrefixMap = λ m. without_addition m (addition pattern_place entry) in
       let old : List (ℕ × Binding) = entries_on resource done in
       let later : List (ℕ × Binding) = entries_on resource rest in
-      let both : (b : Bool) → IsIndex pattern_place (tree_of index resource) (old ++ cond b (entry ∷ later) later) → IsIndex pattern_place (cond b (change (tree_of index resource)) (tree_of index resource)) (old ++ later) =
-      λ b. elim b as (λ b. IsIndex pattern_place (tree_of index resource) (old ++ cond b (entry ∷ later) later) → IsIndex pattern_place (cond b (change (tree_of index resource)) (tree_of index resource)) (old ++ later)) [
-        | true ↦ index_removed pattern_place (tree_of index resource) old entry later (none_has_filter (is_on resource) entry.0 done none)
+      let both : (b : Bool) → IsIndex pattern_place (tree_of index resource) (old ++ cond b (entry ∷ later) later)
+      → IsIndex pattern_place (cond b (change (tree_of index resource)) (tree_of index resource)) (old ++ later) =
+      λ b. elim b as (λ b. IsIndex pattern_place (tree_of index resource) (old ++ cond b (entry ∷ later) later)
+      → IsIndex pattern_place (cond b (change (tree_of index resource)) (tree_of index resource)) (old ++ later)) [
+        | true ↦ index_removed pattern_place (tree_of index resource) old entry later
+            (none_has_filter (is_on resource) entry.0 done none)
         | false ↦ λ same. same
       ] in
-      let before : IsIndex pattern_place (tree_of index resource) (old ++ cond (is_on resource entry) (entry ∷ later) later) =
-      subst (IsIndex pattern_place (tree_of index resource)) (filter-append (is_on resource) done (entry ∷ rest)) (is.patterns resource) in
-      let tree_is = tree_after index change (without_addition index.digests (addition digest_place entry)) entry.1.resource resource in
+      let before : IsIndex pattern_place (tree_of index resource)
+      (old ++ cond (is_on resource entry) (entry ∷ later) later) =
+      subst (IsIndex pattern_place (tree_of index resource)) (filter-append (is_on resource) done (entry ∷ rest))
+      (is.patterns resource) in
+      let tree_is =
+      tree_after index change (without_addition index.digests (addition digest_place entry)) entry.1.resource
+      resource in
       subst (λ m. IsIndex pattern_place m (entries_on resource (done ++ rest))) (sym tree_is)
-      (subst (λ es. IsIndex pattern_place (cond (is_on resource entry) (change (tree_of index resource)) (tree_of index resource)) es) (sym (filter-append (is_on resource) done rest)) (both (is_on resource entry) before)));
+      (subst (λ es. IsIndex pattern_place (cond (is_on resource entry) (change (tree_of index resource))
+      (tree_of index resource)) es) (sym (filter-append (is_on resource) done rest))
+      (both (is_on resource entry) before)));
   digests = index_removed digest_place index.digests done entry rest none is.digests;
 }
 
 -- serials still rise where one is left out
-rising_without : (low high : ℕ) (done : List (ℕ × Binding)) (entry : ℕ × Binding) (rest : List (ℕ × Binding)) → IsRising low (done ++ entry ∷ rest) high → IsRising low (done ++ rest) high
-rising_without low high [] entry rest rising = let lower : low ≤ entry.0 + 1 = omega (arith, rising.0) in rising_below low (entry.0 + 1) high rest lower rising.1
-rising_without low high (x ∷ done) entry rest rising = (rising.0, rising_without (x.0 + 1) high done entry rest rising.1)
+rising_without : (low high : ℕ) (done : List (ℕ × Binding)) (entry : ℕ × Binding) (rest : List (ℕ × Binding))
+    → IsRising low (done ++ entry ∷ rest) high → IsRising low (done ++ rest) high
+rising_without low high [] entry rest rising =
+    let lower : low ≤ entry.0 + 1 = omega (arith, rising.0) in rising_below low (entry.0 + 1) high rest lower rising.1
+rising_without low high (x ∷ done) entry rest rising =
+    (rising.0, rising_without (x.0 + 1) high done entry rest rising.1)
 
 -- the entries that a filter takes go, one after another
-pub indexes_remove_taken : (wanted : BindingFilter) (low high : ℕ) (rest : List (ℕ × Binding)) (index : Index) (done : List (ℕ × Binding)) → IsRising low (done ++ rest) high → Indexes index (done ++ rest) → Indexes (fold (without_if_taken wanted) index rest) (done ++ removed wanted rest)
+pub indexes_remove_taken : (wanted : BindingFilter) (low high : ℕ) (rest : List (ℕ × Binding)) (index : Index)
+    (done : List (ℕ × Binding)) → IsRising low (done ++ rest) high → Indexes index (done ++ rest)
+    → Indexes (fold (without_if_taken wanted) index rest) (done ++ removed wanted rest)
 indexes_remove_taken wanted low high [] index done rising is = is
 indexes_remove_taken wanted low high (entry ∷ rest) index done rising is =
-    elim (takes wanted entry.1) as (λ b. Indexes (fold (without_if_taken wanted) (cond b (without_leaf index (leaf_of entry)) index) rest) (done ++ cond (not b) (entry ∷ removed wanted rest) (removed wanted rest))) [
-      | true ↦ indexes_remove_taken wanted low high rest (without_leaf index (leaf_of entry)) done (rising_without low high done entry rest rising)
+    elim (takes wanted entry.1) as (λ b. Indexes
+    (fold (without_if_taken wanted) (cond b (without_leaf index (leaf_of entry)) index) rest)
+    (done ++ cond (not b) (entry ∷ removed wanted rest) (removed wanted rest))) [
+      | true ↦ indexes_remove_taken wanted low high rest (without_leaf index (leaf_of entry)) done
+          (rising_without low high done entry rest rising)
           (indexes_removed index done entry rest (none_before low high done entry rest rising) is)
       | false ↦
           let joined : (done ++ entry ∷ []) ++ rest ≡ done ++ entry ∷ rest = append_assoc done (entry ∷ []) rest in
           let kept = indexes_remove_taken wanted low high rest index (done ++ entry ∷ [])
           (subst (λ es. IsRising low es high) (sym joined) rising) (subst (Indexes index) (sym joined) is) in
-          subst (Indexes (fold (without_if_taken wanted) index rest)) (append_assoc done (entry ∷ []) (removed wanted rest)) kept
+          subst (Indexes (fold (without_if_taken wanted) index rest))
+          (append_assoc done (entry ∷ []) (removed wanted rest)) kept
     ]

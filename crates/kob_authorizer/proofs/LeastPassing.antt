@@ -1,4 +1,5 @@
--- The least serial that passes, among serials that lead to every entry that passes, is that of the first entry that passes.
+-- The least serial that passes, among serials that lead to every entry that passes, is that of the first entry that
+-- passes.
 use Rattle.std.proofs.Common.{◌≡◌, ◌⊎◌, inl, inr, refl, sym, ap, ◌∙◌, subst, arith, Bool, true, false, cond, ◌&&◌, ◌||◌, ◌==◌, ℕ, ◌+◌, ◌≤◌, min, List, [], ◌∷◌, map}
 use Rattle.std.specs.Prelude.{All, Contains, Some, None}
 use Rattle.std.specs.List.{filter, fold, reduce}
@@ -14,22 +15,27 @@ use Rattle.kob_authorizer.specs.LookUp.{AreRising, least_passing, passes_at}
 pub first_or_rest : {A : Type 0} (x : A) (xs : List A) (y : A) → Contains (x ∷ xs) y → (x ≡ y) ⊎ Contains xs y
 first_or_rest x xs y has =
     elim (Contains-append_cases (x ∷ []) xs y has) as (λ _. (x ≡ y) ⊎ Contains xs y) [
-      | inl here ↦ elim (Contains-push_cases [] x y here) as (λ _. (x ≡ y) ⊎ Contains xs y) [ inl nowhere ↦ absurd (omega (arith, nowhere.1)) | inr same ↦ inl same ]
+      | inl here ↦ elim (Contains-push_cases [] x y here) as
+          (λ _. (x ≡ y) ⊎ Contains xs y) [ inl nowhere ↦ absurd (omega (arith, nowhere.1)) | inr same ↦ inl same ]
       | inr later ↦ inr later
     ]
 
 -- an element that passes is kept
-pub kept_by_filter : {A : Type 0} (test : A → Bool) (xs : List A) (y : A) → Contains xs y → test y ≡ true → Contains (filter test xs) y
+pub kept_by_filter : {A : Type 0} (test : A → Bool) (xs : List A) (y : A) → Contains xs y → test y ≡ true
+    → Contains (filter test xs) y
 kept_by_filter test [] y has passes = has
 kept_by_filter test (x ∷ xs) y has passes =
     elim (first_or_rest x xs y has) as (λ _. Contains (cond (test x) (x ∷ filter test xs) (filter test xs)) y) [
       | inl same ↦
-          let here : Contains (y ∷ filter test xs) y = Contains-append_left (y ∷ []) (filter test xs) y (Contains-push [] y) in
+          let here : Contains (y ∷ filter test xs) y =
+          Contains-append_left (y ∷ []) (filter test xs) y (Contains-push [] y) in
           let x_passes : true ≡ test x = sym passes ∙ ap test (sym same) in
-          subst (λ b. Contains (cond b (x ∷ filter test xs) (filter test xs)) y) x_passes (subst (λ z. Contains (z ∷ filter test xs) y) (sym same) here)
+          subst (λ b. Contains (cond b (x ∷ filter test xs) (filter test xs)) y) x_passes
+          (subst (λ z. Contains (z ∷ filter test xs) y) (sym same) here)
       | inr later ↦
           let kept = kept_by_filter test xs y later passes in
-          elim (test x) as (λ b. Contains (cond b (x ∷ filter test xs) (filter test xs)) y) [ true ↦ Contains-append_right (x ∷ []) (filter test xs) y kept | false ↦ kept ]
+          elim (test x) as (λ b. Contains (cond b (x ∷ filter test xs) (filter test xs))
+          y) [ true ↦ Contains-append_right (x ∷ []) (filter test xs) y kept | false ↦ kept ]
     ]
 
 -- what a function gives of an element is among what it gives of them all
@@ -37,19 +43,22 @@ pub among_mapped : {A B : Type 0} (f : A → B) (xs : List A) (y : A) → Contai
 among_mapped f [] y has = absurd (omega (arith, has.1))
 among_mapped f (x ∷ xs) y has =
     elim (first_or_rest x xs y has) as (λ _. Contains (f x ∷ map f xs) (f y)) [
-      | inl same ↦ subst (λ z. Contains (f x ∷ map f xs) (f z)) same (Contains-append_left (f x ∷ []) (map f xs) (f x) (Contains-push [] (f x)))
+      | inl same ↦ subst (λ z. Contains (f x ∷ map f xs) (f z)) same
+          (Contains-append_left (f x ∷ []) (map f xs) (f x) (Contains-push [] (f x)))
       | inr later ↦ Contains-append_right (f x ∷ []) (map f xs) (f y) (among_mapped f xs y later)
     ]
 
 fold_at_most : (x : ℕ) (xs : List ℕ) → fold min x xs ≤ x
 fold_at_most x [] = omega arith
-fold_at_most x (y ∷ ys) = let more = fold_at_most (min x y) ys in let less = min-le_left x y in omega (arith, more, less)
+fold_at_most x (y ∷ ys) =
+    let more = fold_at_most (min x y) ys in let less = min-le_left x y in omega (arith, more, less)
 
 -- the least is at most each
 fold_least : (x : ℕ) (xs : List ℕ) → All (λ y. fold min x xs ≤ y) xs
 fold_least x [] = All-nil (λ y. x ≤ y)
 fold_least x (z ∷ zs) =
-    let first : fold min (min x z) zs ≤ z = (let more = fold_at_most (min x z) zs in let less = min-le_right x z in omega (arith, more, less)) in
+    let first : fold min (min x z) zs ≤ z =
+    (let more = fold_at_most (min x z) zs in let less = min-le_right x z in omega (arith, more, less)) in
     All-cons (λ y. fold min (min x z) zs ≤ y) z zs first (fold_least (min x z) zs)
 
 -- and not below what is at most each
@@ -76,12 +85,15 @@ none_kept test (x ∷ xs) none = ap (λ b. cond b (x ∷ filter test xs) (filter
 
 module _ (test : ℕ × Binding → Bool) where
   -- a serial that passes is not below where the serials begin
-  not_below : (low high : ℕ) (entries : List (ℕ × Binding)) (serial : ℕ) → IsRising low entries high → passes_at test entries serial ≡ true → low ≤ serial
+  not_below : (low high : ℕ) (entries : List (ℕ × Binding)) (serial : ℕ) → IsRising low entries high
+      → passes_at test entries serial ≡ true → low ≤ serial
   not_below low high [] serial rising passes = absurd (cc)
   not_below low high (x ∷ xs) serial rising passes =
-      elim (x.0 == serial) as (λ b. (x.0 == serial) ≡ b → ((b && test x) || passes_at test xs serial) ≡ true → low ≤ serial) [
+      elim (x.0 == serial) as (λ b. (x.0 == serial) ≡ b → ((b && test x) || passes_at test xs serial) ≡ true
+      → low ≤ serial) [
         | true ↦ λ is _. omega (arith, eqb-true x.0 serial is, rising.0)
-        | false ↦ λ is later. (let more = not_below (x.0 + 1) high xs serial rising.1 later in omega (arith, more, rising.0))
+        | false ↦ λ is later. (let more = not_below (x.0 + 1) high xs serial rising.1 later in
+            omega (arith, more, rising.0))
       ] refl passes
 
   -- an entry that passes, whose serial is the least of all that pass
@@ -93,18 +105,24 @@ module _ (test : ℕ × Binding → Bool) where
     at_serial : passes_at test entries serial ≡ true
     least : (other : ℕ) → passes_at test entries other ≡ true → serial ≤ other
 
-  none_passes : (entries : List (ℕ × Binding)) → first_serial (filter test entries) ≡ None → (serial : ℕ) → passes_at test entries serial ≡ false
+  none_passes : (entries : List (ℕ × Binding)) → first_serial (filter test entries) ≡ None → (serial : ℕ)
+      → passes_at test entries serial ≡ false
   none_passes [] none serial = refl
   none_passes (x ∷ xs) none serial =
-      elim (test x) as (λ t. first_serial (cond t (x ∷ filter test xs) (filter test xs)) ≡ None → ((x.0 == serial && t) || passes_at test xs serial) ≡ false) [
+      elim (test x) as (λ t. first_serial (cond t (x ∷ filter test xs) (filter test xs)) ≡ None
+      → ((x.0 == serial && t) || passes_at test xs serial) ≡ false) [
         | true ↦ λ some. absurd (cc)
-        | false ↦ λ none. elim (x.0 == serial) as (λ b. ((b && false) || passes_at test xs serial) ≡ false) [ true ↦ none_passes xs none serial | false ↦ none_passes xs none serial ]
+        | false ↦ λ none. elim (x.0 == serial) as
+            (λ b. ((b && false) || passes_at test xs serial)
+            ≡ false) [ true ↦ none_passes xs none serial | false ↦ none_passes xs none serial ]
       ] none
 
-  first_passes : (low high : ℕ) (entries : List (ℕ × Binding)) (serial : ℕ) → IsRising low entries high → first_serial (filter test entries) ≡ Some serial → IsFirst entries serial
+  first_passes : (low high : ℕ) (entries : List (ℕ × Binding)) (serial : ℕ) → IsRising low entries high
+      → first_serial (filter test entries) ≡ Some serial → IsFirst entries serial
   first_passes low high [] serial rising found = absurd (cc)
   first_passes low high (x ∷ xs) serial rising found =
-      elim (test x) as (λ t. test x ≡ t → first_serial (cond t (x ∷ filter test xs) (filter test xs)) ≡ Some serial → IsFirst (x ∷ xs) serial) [
+      elim (test x) as (λ t. test x ≡ t → first_serial (cond t (x ∷ filter test xs) (filter test xs)) ≡ Some serial
+      → IsFirst (x ∷ xs) serial) [
         | true ↦ λ is found.
             (let same : x.0 ≡ serial = cc in
             record {
@@ -114,15 +132,19 @@ module _ (test : ℕ × Binding → Bool) where
               serial_is = same;
               at_serial = (let equal = eq-eqb x.0 serial same in cc);
               least = λ other passes.
-                  elim (x.0 == other) as (λ b. (x.0 == other) ≡ b → ((b && test x) || passes_at test xs other) ≡ true → serial ≤ other) [
+                  elim (x.0 == other) as (λ b. (x.0 == other) ≡ b → ((b && test x) || passes_at test xs other) ≡ true
+                  → serial ≤ other) [
                     | true ↦ λ here _. omega (arith, eqb-true x.0 other here, same)
-                    | false ↦ λ _ later. (let more = not_below (x.0 + 1) high xs other rising.1 later in omega (arith, more, same))
+                    | false ↦ λ _ later. (let more = not_below (x.0 + 1) high xs other rising.1 later in
+                        omega (arith, more, same))
                   ] refl passes;
             })
         | false ↦ λ is found.
             (let rest = first_passes (x.0 + 1) high xs serial rising.1 found in
             let fails : (other : ℕ) → passes_at test (x ∷ xs) other ≡ passes_at test xs other = λ other.
-            ap (λ t. (x.0 == other && t) || passes_at test xs other) is ∙ elim (x.0 == other) as (λ b. ((b && false) || passes_at test xs other) ≡ passes_at test xs other) [ true ↦ refl | false ↦ refl ] in
+            ap (λ t. (x.0 == other && t) || passes_at test xs other) is
+            ∙ elim (x.0 == other) as (λ b. ((b && false) || passes_at test xs other)
+            ≡ passes_at test xs other) [ true ↦ refl | false ↦ refl ] in
             record {
               entry = rest.entry;
               there = Contains-append_right (x ∷ []) xs rest.entry rest.there;
@@ -135,17 +157,22 @@ module _ (test : ℕ × Binding → Bool) where
 
   -- serials that lead to every entry that passes
   abbrev pub LeadToAll : List (ℕ × Binding) → List ℕ → Type 0
-  LeadToAll entries serials = (entry : ℕ × Binding) → Contains entries entry → test entry ≡ true → Contains serials entry.0
+  LeadToAll entries serials =
+      (entry : ℕ × Binding) → Contains entries entry → test entry ≡ true → Contains serials entry.0
 
-  pub least_is_first : (entries : List (ℕ × Binding)) (serials : List ℕ) → AreRising entries → LeadToAll entries serials → least_passing test entries serials ≡ first_serial (filter test entries)
+  pub least_is_first : (entries : List (ℕ × Binding)) (serials : List ℕ) → AreRising entries
+      → LeadToAll entries serials → least_passing test entries serials ≡ first_serial (filter test entries)
   least_is_first entries serials rising lead =
       let passing : List ℕ = filter (passes_at test entries) serials in
-      elim (first_serial (filter test entries)) as (λ o. first_serial (filter test entries) ≡ o → reduce min passing ≡ o) [
+      elim (first_serial (filter test entries)) as
+      (λ o. first_serial (filter test entries) ≡ o → reduce min passing ≡ o) [
         | None ↦ λ none. ap (reduce min) (none_kept (passes_at test entries) serials (none_passes entries none))
         | Some serial ↦ λ found.
             (let first = first_passes 0 rising.0 entries serial rising.1 found in
-            let there : Contains serials serial = subst (Contains serials) first.serial_is (lead first.entry first.there first.passes) in
+            let there : Contains serials serial =
+            subst (Contains serials) first.serial_is (lead first.entry first.there first.passes) in
             least_is serial passing
             (kept_by_filter (passes_at test entries) serials serial there first.at_serial)
-            (All-weaker (λ x. passes_at test entries x ≡ true) (λ x. serial ≤ x) first.least passing (filter_passes (passes_at test entries) serials)))
+            (All-weaker (λ x. passes_at test entries x ≡ true) (λ x. serial ≤ x) first.least passing
+            (filter_passes (passes_at test entries) serials)))
       ] refl

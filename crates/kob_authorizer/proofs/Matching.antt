@@ -37,57 +37,82 @@ same_kind_itself in_tree.Prefixed = refl
 
 stands_itself : (place : Place) → is_place place.kind place.key place ≡ true
 stands_itself place =
-    and_from (same_kind place.kind place.kind) (same_text place.key place.key) (same_kind_itself place.kind) ((bytes_eq-Decides place.key place.key).1 refl)
+    and_from (same_kind place.kind place.kind) (same_text place.key place.key) (same_kind_itself place.kind)
+    ((bytes_eq-Decides place.key place.key).1 refl)
 
 -- the serial of an entry is at its place
-pub at_its_place : (place : Binding → Place) (m : PrefixMap) (entries : List (ℕ × Binding)) (entry : ℕ × Binding) → IsIndex place m entries → Contains entries entry → Contains (serials_of (place entry.1).kind (held m (place entry.1).key)) entry.0
+pub at_its_place : (place : Binding → Place) (m : PrefixMap) (entries : List (ℕ × Binding)) (entry : ℕ × Binding)
+    → IsIndex place m entries → Contains entries entry
+    → Contains (serials_of (place entry.1).kind (held m (place entry.1).key)) entry.0
 at_its_place place m entries entry is there =
     let kind : of_tree.PatternKind = (place entry.1).kind in
     let key : List ℕ = (place entry.1).key in
     let test : ℕ × Binding → Bool = λ e. is_place kind key (place e.1) in
     subst (λ xs. Contains xs entry.0) (sym (is kind key))
-    (among_mapped (λ (e : ℕ × Binding). e.0) (filter test entries) entry (kept_by_filter test entries entry there (stands_itself (place entry.1))))
+    (among_mapped (λ (e : ℕ × Binding). e.0) (filter test entries) entry
+    (kept_by_filter test entries entry there (stands_itself (place entry.1))))
 
 -- the serials at a pattern that matches a name are looked up for it
-looked_up_by : (m : PrefixMap) (kind : PatternKind) (key name : List ℕ) (serial : ℕ) → matches_by kind key name ≡ true → Contains (serials_of (kind_in_tree kind) (held m key)) serial → Contains (matching_serials m name) serial
+looked_up_by : (m : PrefixMap) (kind : PatternKind) (key name : List ℕ) (serial : ℕ) → matches_by kind key name ≡ true
+    → Contains (serials_of (kind_in_tree kind) (held m key)) serial → Contains (matching_serials m name) serial
 looked_up_by m Literal key name serial matched has =
-    elim (or_cases (same_text key name) (same_text key (codes "*")) matched) as (λ _. Contains (matching_serials m name) serial) [
+    elim (or_cases (same_text key name) (same_text key (codes "*")) matched) as
+    (λ _. Contains (matching_serials m name) serial) [
       | inl equal ↦
           Contains-append_left (walk_of m name) (held m (codes "*")).0 serial
-          (walk_has_literal m serial name (subst (λ k. Contains (held m k).0 serial) ((bytes_eq-Decides key name).0 equal) has))
+          (walk_has_literal m serial name (subst (λ k. Contains (held m k).0 serial)
+          ((bytes_eq-Decides key name).0 equal) has))
       | inr star ↦
           Contains-append_right (walk_of m name) (held m (codes "*")).0 serial
           (subst (λ k. Contains (held m k).0 serial) ((bytes_eq-Decides key (codes "*")).0 star) has)
     ]
 looked_up_by m Prefixed key name serial matched has =
-    let whole : name ≡ key ++ drop (length key) name = (starts_is Decides-eqb name key (starts_with nat_eq name key) refl).0 matched in
+    let whole : name ≡ key ++ drop (length key) name =
+    (starts_is Decides-eqb name key (starts_with nat_eq name key) refl).0 matched in
     Contains-append_left (walk_of m name) (held m (codes "*")).0 serial
-    (subst (λ n. Contains (walk_of m n) serial) (sym whole) (walk_has_prefixed m serial key (drop (length key) name) has))
+    (subst (λ n. Contains (walk_of m n) serial) (sym whole)
+    (walk_has_prefixed m serial key (drop (length key) name) has))
 
 module _ (index : Index) (entries : List (ℕ × Binding)) (indexed : Indexes index entries) where
   -- every hit is looked up
-  hits_looked_up : (permission : Permission) (question : Question) → LeadToAll (is_hit permission question) entries (matching_serials (tree_of index question.resource) question.name)
+  hits_looked_up : (permission : Permission) (question : Question)
+      → LeadToAll (is_hit permission question) entries
+      (matching_serials (tree_of index question.resource) question.name)
   hits_looked_up permission question entry there is =
       let hit : Hits permission question entry = (is_hit-Decides permission question entry).0 is in
       let resource : ResourceKind = question.resource in
-      let on : same_resource entry.1.resource resource ≡ true = (resource_decides entry.1.resource resource).1 hit.resource in
-      let among : Contains (entries_on resource entries) entry = kept_by_filter (λ (e : ℕ × Binding). same_resource e.1.resource resource) entries entry there on in
+      let on : same_resource entry.1.resource resource ≡ true =
+      (resource_decides entry.1.resource resource).1 hit.resource in
+      let among : Contains (entries_on resource entries) entry =
+      kept_by_filter (λ (e : ℕ × Binding). same_resource e.1.resource resource) entries entry there on in
       looked_up_by (tree_of index resource) entry.1.pattern.kind entry.1.pattern.name question.name entry.0 hit.name
-      (at_its_place pattern_place (tree_of index resource) (entries_on resource entries) entry (indexed.patterns resource) among)
+      (at_its_place pattern_place (tree_of index resource) (entries_on resource entries) entry
+      (indexed.patterns resource) among)
 
 -- so the least serial of the hits that were looked up is that of the first hit in force
-pub least_hit_is_first : (index : Index) (entries : List (ℕ × Binding)) (permission : Permission) (question : Question) → AreRising entries → Indexes index entries → least_passing (is_hit permission question) entries (matching_serials (tree_of index question.resource) question.name) ≡ first_serial (hits entries permission question)
+pub least_hit_is_first : (index : Index) (entries : List (ℕ × Binding)) (permission : Permission) (question : Question)
+    → AreRising entries → Indexes index entries
+    → least_passing (is_hit permission question) entries
+    (matching_serials (tree_of index question.resource) question.name) ≡ first_serial (hits entries permission question)
 least_hit_is_first index entries permission question rising indexed =
-    least_is_first (is_hit permission question) entries (matching_serials (tree_of index question.resource) question.name) rising (hits_looked_up index entries indexed permission question)
+    least_is_first (is_hit permission question) entries
+    (matching_serials (tree_of index question.resource) question.name) rising
+    (hits_looked_up index entries indexed permission question)
 
 -- every entry with an equal binding is looked up by the digest
-equals_looked_up : (m : PrefixMap) (entries : List (ℕ × Binding)) (binding : Binding) → IsIndex digest_place m entries → LeadToAll (is_equal binding) entries (serials_of (digest_place binding).kind (held m (digest_place binding).key))
+equals_looked_up : (m : PrefixMap) (entries : List (ℕ × Binding)) (binding : Binding) → IsIndex digest_place m entries
+    → LeadToAll (is_equal binding) entries (serials_of (digest_place binding).kind (held m (digest_place binding).key))
 equals_looked_up m entries binding indexed entry there is =
-    subst (λ (b : Binding). Contains (serials_of (digest_place b).kind (held m (digest_place b).key)) entry.0) ((same_binding_decides entry.1 binding).0 is)
+    subst (λ (b : Binding). Contains (serials_of (digest_place b).kind (held m (digest_place b).key)) entry.0)
+    ((same_binding_decides entry.1 binding).0 is)
     (at_its_place digest_place m entries entry indexed there)
 
 -- so the least serial of the equal ones that were looked up is that of the first equal one
-pub least_equal_is_first : (m : PrefixMap) (entries : List (ℕ × Binding)) (binding : Binding) → AreRising entries → IsIndex digest_place m entries → least_passing (is_equal binding) entries (serials_of (digest_place binding).kind (held m (digest_place binding).key)) ≡ serial_of entries binding
+pub least_equal_is_first : (m : PrefixMap) (entries : List (ℕ × Binding)) (binding : Binding) → AreRising entries
+    → IsIndex digest_place m entries → least_passing (is_equal binding) entries
+    (serials_of (digest_place binding).kind (held m (digest_place binding).key)) ≡ serial_of entries binding
 least_equal_is_first m entries binding rising indexed =
-    least_is_first (is_equal binding) entries (serials_of (digest_place binding).kind (held m (digest_place binding).key)) rising (equals_looked_up m entries binding indexed)
+    least_is_first (is_equal binding) entries
+    (serials_of (digest_place binding).kind (held m (digest_place binding).key)) rising
+    (equals_looked_up m entries binding indexed)
     ∙ first_serial_found (is_equal binding) entries

@@ -9,7 +9,8 @@ use Rattle.kob_names.specs.Binding.{Binding}
 use Rattle.kob_names.specs.declared.filter.BindingFilter.{BindingFilter}
 
 -- numbering gives rising serials
-pub rising_enumerate_from : (n : ℕ) (xs : List Binding) → IsRising n (enumerate_from n xs) (n + length (enumerate_from n xs))
+pub rising_enumerate_from : (n : ℕ) (xs : List Binding)
+    → IsRising n (enumerate_from n xs) (n + length (enumerate_from n xs))
 rising_enumerate_from n [] = omega arith
 rising_enumerate_from n (x ∷ xs) = (
   omega arith,
@@ -19,7 +20,8 @@ rising_enumerate_from n (x ∷ xs) = (
 )
 
 -- serials that rise from some bound on rise from a lower one
-pub rising_below : (low middle high : ℕ) (ys : List (ℕ × Binding)) → low ≤ middle → IsRising middle ys high → IsRising low ys high
+pub rising_below : (low middle high : ℕ) (ys : List (ℕ × Binding)) → low ≤ middle → IsRising middle ys high
+    → IsRising low ys high
 rising_below low middle high [] le rising = omega arith
 rising_below low middle high (y ∷ ys) le rising = (omega (arith, rising.0), rising.1)
 
@@ -28,17 +30,25 @@ pub are_rising : (low high : ℕ) (entries : List (ℕ × Binding)) → IsRising
 are_rising low high entries rising = (high, rising_below 0 low high entries (omega arith) rising)
 
 -- serials that go on where others end rise with them
-pub rising_append : (low middle high : ℕ) (xs ys : List (ℕ × Binding)) → IsRising low xs middle → IsRising middle ys high → IsRising low (xs ++ ys) high
+pub rising_append : (low middle high : ℕ) (xs ys : List (ℕ × Binding)) → IsRising low xs middle
+    → IsRising middle ys high → IsRising low (xs ++ ys) high
 rising_append low middle high [] ys before after = rising_below low middle high ys before after
-rising_append low middle high (x ∷ xs) ys before after = (before.0, rising_append (x.0 + 1) middle high xs ys before.1 after)
+rising_append low middle high (x ∷ xs) ys before after =
+    (before.0, rising_append (x.0 + 1) middle high xs ys before.1 after)
 
 -- the entries after fresh ones were put last
-pub put_rises : (limit next count : ℕ) (entries fresh : List (ℕ × Binding)) → count ≡ length fresh → length entries + length fresh ≤ limit → IsRising 1 entries next → IsRising next fresh (next + length fresh) → (length (entries ++ fresh) ≤ limit) × IsRising 1 (entries ++ fresh) (next + count)
+pub put_rises : (limit next count : ℕ) (entries fresh : List (ℕ × Binding)) → count ≡ length fresh
+    → length entries + length fresh ≤ limit → IsRising 1 entries next → IsRising next fresh (next + length fresh)
+    → (length (entries ++ fresh) ≤ limit) × IsRising 1 (entries ++ fresh) (next + count)
 put_rises limit next count entries fresh is within before after =
-    rw is (omega (arith, length-append entries fresh), rising_append 1 next (next + length fresh) entries fresh before after)
+    rw is (
+      omega (arith, length-append entries fresh),
+      rising_append 1 next (next + length fresh) entries fresh before after,
+    )
 
 -- leaving entries out keeps the serials rising
-pub rising_filter : (test : ℕ × Binding → Bool) (low high : ℕ) (xs : List (ℕ × Binding)) → IsRising low xs high → IsRising low (filter test xs) high
+pub rising_filter : (test : ℕ × Binding → Bool) (low high : ℕ) (xs : List (ℕ × Binding)) → IsRising low xs high
+    → IsRising low (filter test xs) high
 rising_filter test low high [] rising = rising
 rising_filter test low high (x ∷ xs) rising =
     let rest : IsRising (x.0 + 1) (filter test xs) high = rising_filter test (x.0 + 1) high xs rising.1 in
@@ -47,5 +57,6 @@ rising_filter test low high (x ∷ xs) rising =
     [ true ↦ (rising.0, rest) | false ↦ rising_below low (x.0 + 1) high (filter test xs) lower rest ]
 
 -- deleting bindings keeps the serials rising
-pub removed_rises : (entries : List (ℕ × Binding)) (next : ℕ) (wanted : BindingFilter) → IsRising 1 entries next → IsRising 1 (removed wanted entries) next
+pub removed_rises : (entries : List (ℕ × Binding)) (next : ℕ) (wanted : BindingFilter) → IsRising 1 entries next
+    → IsRising 1 (removed wanted entries) next
 removed_rises entries next wanted = rising_filter (λ (entry : ℕ × Binding). not (takes wanted entry.1)) 1 next entries

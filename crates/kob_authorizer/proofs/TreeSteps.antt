@@ -29,13 +29,15 @@ where_so here s = cond here (s ∷ []) []
 abbrev less : Bool → ℕ → List ℕ → List ℕ
 less here s xs = cond here (without_first (λ x. x == s) xs) xs
 
-with_serials : (kind other : PatternKind) (s : ℕ) (h : Held) → serials_of other (with_serial kind s h) ≡ serials_of other h ++ where_so (same_kind kind other) s
+with_serials : (kind other : PatternKind) (s : ℕ) (h : Held)
+    → serials_of other (with_serial kind s h) ≡ serials_of other h ++ where_so (same_kind kind other) s
 with_serials Literal Literal s h = refl
 with_serials Literal Prefixed s h = sym (append-nil h.1)
 with_serials Prefixed Literal s h = sym (append-nil h.0)
 with_serials Prefixed Prefixed s h = refl
 
-without_serials : (kind other : PatternKind) (s : ℕ) (h : Held) → serials_of other (without_serial kind s h) ≡ less (same_kind kind other) s (serials_of other h)
+without_serials : (kind other : PatternKind) (s : ℕ) (h : Held)
+    → serials_of other (without_serial kind s h) ≡ less (same_kind kind other) s (serials_of other h)
 without_serials Literal Literal s h = refl
 without_serials Literal Prefixed s h = refl
 without_serials Prefixed Literal s h = refl
@@ -55,26 +57,43 @@ apart key other differ same = let equal = (bytes_eq-Decides key other).1 (sym sa
 
 module _ (m : PrefixMap) (key : List ℕ) (kind : PatternKind) (s : ℕ) where
   -- a serial that was added stands at its place alone, after the others
-  after_added : (other : PatternKind) (name : List ℕ) → serials_of other (held (added m key kind s) name) ≡ serials_of other (held m name) ++ where_so (same_kind kind other && same_text key name) s
+  after_added : (other : PatternKind) (name : List ℕ)
+      → serials_of other (held (added m key kind s) name)
+      ≡ serials_of other (held m name) ++ where_so (same_kind kind other && same_text key name) s
   after_added other name =
-      elim (same_text key name) as (λ b. same_text key name ≡ b → serials_of other (held (added m key kind s) name) ≡ serials_of other (held m name) ++ where_so (same_kind kind other && b) s) [
+      elim (same_text key name) as (λ b. same_text key name ≡ b
+      → serials_of other (held (added m key kind s) name)
+      ≡ serials_of other (held m name) ++ where_so (same_kind kind other && b) s) [
         | true ↦ λ is.
-            let here : serials_of other (held (added m key kind s) key) ≡ serials_of other (held m key) ++ where_so (same_kind kind other && true) s =
-            ap (serials_of other) (held_added_same m key kind s) ∙ with_serials kind other s (held m key) ∙ ap (λ b. serials_of other (held m key) ++ where_so b s) (and_true (same_kind kind other)) in
-            subst (λ k. serials_of other (held (added m key kind s) k) ≡ serials_of other (held m k) ++ where_so (same_kind kind other && true) s) ((bytes_eq-Decides key name).0 is) here
+            let here : serials_of other (held (added m key kind s) key)
+            ≡ serials_of other (held m key) ++ where_so (same_kind kind other && true) s =
+            ap (serials_of other) (held_added_same m key kind s) ∙ with_serials kind other s (held m key)
+            ∙ ap (λ b. serials_of other (held m key) ++ where_so b s) (and_true (same_kind kind other)) in
+            subst (λ k. serials_of other (held (added m key kind s) k)
+            ≡ serials_of other (held m k) ++ where_so (same_kind kind other && true) s)
+            ((bytes_eq-Decides key name).0 is) here
         | false ↦ λ is.
-            ap (serials_of other) (held_added_other m key kind s name (apart key name is)) ∙ sym (append-nil (serials_of other (held m name)))
+            ap (serials_of other) (held_added_other m key kind s name (apart key name is))
+            ∙ sym (append-nil (serials_of other (held m name)))
             ∙ ap (λ b. serials_of other (held m name) ++ where_so b s) (and_false (same_kind kind other))
       ] refl
 
   -- a serial that was taken away is gone from its place alone
-  after_removed : (other : PatternKind) (name : List ℕ) → serials_of other (held (removed m key kind s) name) ≡ less (same_kind kind other && same_text key name) s (serials_of other (held m name))
+  after_removed : (other : PatternKind) (name : List ℕ)
+      → serials_of other (held (removed m key kind s) name)
+      ≡ less (same_kind kind other && same_text key name) s (serials_of other (held m name))
   after_removed other name =
-      elim (same_text key name) as (λ b. same_text key name ≡ b → serials_of other (held (removed m key kind s) name) ≡ less (same_kind kind other && b) s (serials_of other (held m name))) [
+      elim (same_text key name) as (λ b. same_text key name ≡ b
+      → serials_of other (held (removed m key kind s) name)
+      ≡ less (same_kind kind other && b) s (serials_of other (held m name))) [
         | true ↦ λ is.
-            let here : serials_of other (held (removed m key kind s) key) ≡ less (same_kind kind other && true) s (serials_of other (held m key)) =
-            ap (serials_of other) (held_removed_same m key kind s) ∙ without_serials kind other s (held m key) ∙ ap (λ b. less b s (serials_of other (held m key))) (and_true (same_kind kind other)) in
-            subst (λ k. serials_of other (held (removed m key kind s) k) ≡ less (same_kind kind other && true) s (serials_of other (held m k))) ((bytes_eq-Decides key name).0 is) here
+            let here : serials_of other (held (removed m key kind s) key)
+            ≡ less (same_kind kind other && true) s (serials_of other (held m key)) =
+            ap (serials_of other) (held_removed_same m key kind s) ∙ without_serials kind other s (held m key)
+            ∙ ap (λ b. less b s (serials_of other (held m key))) (and_true (same_kind kind other)) in
+            subst (λ k. serials_of other (held (removed m key kind s) k)
+            ≡ less (same_kind kind other && true) s (serials_of other (held m k)))
+            ((bytes_eq-Decides key name).0 is) here
         | false ↦ λ is.
             ap (serials_of other) (held_removed_other m key kind s name (apart key name is))
             ∙ ap (λ b. less b s (serials_of other (held m name))) (and_false (same_kind kind other))
@@ -85,7 +104,8 @@ abbrev pub NoneHas : ℕ → List (ℕ × Binding) → Type 0
 NoneHas s [] = Unit {0}
 NoneHas s (entry ∷ rest) = (entry.0 == s ≡ false) × NoneHas s rest
 
-pub none_has_filter : (test : ℕ × Binding → Bool) (s : ℕ) (xs : List (ℕ × Binding)) → NoneHas s xs → NoneHas s (filter test xs)
+pub none_has_filter : (test : ℕ × Binding → Bool) (s : ℕ) (xs : List (ℕ × Binding)) → NoneHas s xs
+    → NoneHas s (filter test xs)
 none_has_filter test s [] none = tt
 none_has_filter test s (x ∷ xs) none =
     elim (test x) as (λ t. NoneHas s (cond t (x ∷ filter test xs) (filter test xs)))
@@ -96,51 +116,68 @@ none_any s [] none = refl
 none_any s (x ∷ xs) none = let rest = none_any s xs none.1 in let first = none.0 in cc
 
 -- the serial of an entry after some is not below where they begin
-after_low : (low high : ℕ) (done : List (ℕ × Binding)) (entry : ℕ × Binding) (rest : List (ℕ × Binding)) → IsRising low (done ++ entry ∷ rest) high → low ≤ entry.0
+after_low : (low high : ℕ) (done : List (ℕ × Binding)) (entry : ℕ × Binding) (rest : List (ℕ × Binding))
+    → IsRising low (done ++ entry ∷ rest) high → low ≤ entry.0
 after_low low high [] entry rest rising = rising.0
 after_low low high (x ∷ done) entry rest rising =
     let more = after_low (x.0 + 1) high done entry rest rising.1 in omega (arith, rising.0, more)
 
 -- where serials rise, no entry before one has its serial
-pub none_before : (low high : ℕ) (done : List (ℕ × Binding)) (entry : ℕ × Binding) (rest : List (ℕ × Binding)) → IsRising low (done ++ entry ∷ rest) high → NoneHas entry.0 done
+pub none_before : (low high : ℕ) (done : List (ℕ × Binding)) (entry : ℕ × Binding) (rest : List (ℕ × Binding))
+    → IsRising low (done ++ entry ∷ rest) high → NoneHas entry.0 done
 none_before low high [] entry rest rising = tt
 none_before low high (x ∷ done) entry rest rising =
-    let above = after_low (x.0 + 1) high done entry rest rising.1 in
-    (ne_eqb x.0 entry.0 (λ same. absurd (omega (arith, above, same))), none_before (x.0 + 1) high done entry rest rising.1)
+    let above = after_low (x.0 + 1) high done entry rest rising.1 in (
+      ne_eqb x.0 entry.0 (λ same. absurd (omega (arith, above, same))),
+      none_before (x.0 + 1) high done entry rest rising.1,
+    )
 
 module _ (place : Binding → Place) where
   abbrev stands : PatternKind → List ℕ → ℕ × Binding → Bool
   stands kind key entry = is_place kind key (place entry.1)
 
-  serials_at-append : (xs ys : List (ℕ × Binding)) (kind : PatternKind) (key : List ℕ) → serials_at place (xs ++ ys) kind key ≡ serials_at place xs kind key ++ serials_at place ys kind key
+  serials_at-append : (xs ys : List (ℕ × Binding)) (kind : PatternKind) (key : List ℕ)
+      → serials_at place (xs ++ ys) kind key ≡ serials_at place xs kind key ++ serials_at place ys kind key
   serials_at-append xs ys kind key =
-      ap (map serial) (filter-append (stands kind key) xs ys) ∙ map-append serial (filter (stands kind key) xs) (filter (stands kind key) ys)
+      ap (map serial) (filter-append (stands kind key) xs ys)
+      ∙ map-append serial (filter (stands kind key) xs) (filter (stands kind key) ys)
 
   pub index_empty : IsIndex place finite.empty []
   index_empty Literal key = ap (λ (h : Held). h.0) (held_empty key)
   index_empty Prefixed key = ap (λ (h : Held). h.1) (held_empty key)
 
   -- one more entry, put last
-  pub index_added : (m : PrefixMap) (entries : List (ℕ × Binding)) (entry : ℕ × Binding) → IsIndex place m entries → IsIndex place (with_addition m (addition place entry)) (entries ++ entry ∷ [])
+  pub index_added : (m : PrefixMap) (entries : List (ℕ × Binding)) (entry : ℕ × Binding) → IsIndex place m entries
+      → IsIndex place (with_addition m (addition place entry)) (entries ++ entry ∷ [])
   index_added m entries entry is kind key =
       let one : where_so (stands kind key entry) entry.0 ≡ serials_at place (entry ∷ []) kind key =
-      elim (stands kind key entry) as (λ b. where_so b entry.0 ≡ map serial (cond b (entry ∷ []) [])) [ true ↦ refl | false ↦ refl ] in
+      elim (stands kind key entry) as (λ b. where_so b entry.0
+      ≡ map serial (cond b (entry ∷ []) [])) [ true ↦ refl | false ↦ refl ] in
       after_added m (place entry.1).key (place entry.1).kind entry.0 kind key
       ∙ ap (λ xs. xs ++ where_so (stands kind key entry) entry.0) (is kind key)
       ∙ ap (λ xs. serials_at place entries kind key ++ xs) one
       ∙ sym (serials_at-append entries (entry ∷ []) kind key)
 
   -- the list of a place without the serial of an entry, when none before has it
-  taken_out : (done : List (ℕ × Binding)) (entry : ℕ × Binding) (rest : List (ℕ × Binding)) (kind : PatternKind) (key : List ℕ) → NoneHas entry.0 done → (b : Bool) → less b entry.0 (serials_at place done kind key ++ map serial (cond b (entry ∷ filter (stands kind key) rest) (filter (stands kind key) rest))) ≡ serials_at place done kind key ++ serials_at place rest kind key
+  taken_out : (done : List (ℕ × Binding)) (entry : ℕ × Binding) (rest : List (ℕ × Binding)) (kind : PatternKind)
+      (key : List ℕ) → NoneHas entry.0 done → (b : Bool)
+      → less b entry.0 (serials_at place done kind key
+      ++ map serial (cond b (entry ∷ filter (stands kind key) rest) (filter (stands kind key) rest)))
+      ≡ serials_at place done kind key ++ serials_at place rest kind key
   taken_out done entry rest kind key none true =
       let before : list_any (λ x. x == entry.0) (serials_at place done kind key) ≡ false =
       none_any entry.0 (filter (stands kind key) done) (none_has_filter (stands kind key) entry.0 done none) in
-      taken_of_second (λ x. x == entry.0) (serials_at place done kind key) (entry.0 ∷ serials_at place rest kind key) before
-      ∙ ap (λ b. serials_at place done kind key ++ cond b (serials_at place rest kind key) (entry.0 ∷ without_first (λ x. x == entry.0) (serials_at place rest kind key))) (eq-eqb entry.0 entry.0 refl)
+      taken_of_second (λ x. x == entry.0) (serials_at place done kind key)
+      (entry.0 ∷ serials_at place rest kind key) before
+      ∙ ap (λ b. serials_at place done kind key
+      ++ cond b (serials_at place rest kind key)
+      (entry.0 ∷ without_first (λ x. x == entry.0) (serials_at place rest kind key))) (eq-eqb entry.0 entry.0 refl)
   taken_out done entry rest kind key none false = refl
 
   -- an entry is taken away from among others
-  pub index_removed : (m : PrefixMap) (done : List (ℕ × Binding)) (entry : ℕ × Binding) (rest : List (ℕ × Binding)) → NoneHas entry.0 done → IsIndex place m (done ++ entry ∷ rest) → IsIndex place (without_addition m (addition place entry)) (done ++ rest)
+  pub index_removed : (m : PrefixMap) (done : List (ℕ × Binding)) (entry : ℕ × Binding) (rest : List (ℕ × Binding))
+      → NoneHas entry.0 done → IsIndex place m (done ++ entry ∷ rest)
+      → IsIndex place (without_addition m (addition place entry)) (done ++ rest)
   index_removed m done entry rest none is kind key =
       after_removed m (place entry.1).key (place entry.1).kind entry.0 kind key
       ∙ ap (less (stands kind key entry) entry.0) (is kind key ∙ serials_at-append done (entry ∷ rest) kind key)

@@ -19,7 +19,8 @@ entry_at entries serial = find (λ (entry : ℕ × Binding). entry.0 == serial) 
 
 -- the serials of the patterns that match a name: those along it, and those of the literal `*`
 abbrev pub matching_serials : PrefixMap → List ℕ → List ℕ
-matching_serials tree name = walk_of tree name ++ serials_of (kind_in_tree Literal) (held tree (codes "*"))
+matching_serials tree name =
+    walk_of tree name ++ serials_of (kind_in_tree Literal) (held tree (codes "*"))
 
 -- an entry with this serial passes the test
 abbrev pub passes_at : (ℕ × Binding → Bool) → List (ℕ × Binding) → ℕ → Bool

@@ -21,7 +21,8 @@ or_true false c h = inr h
 abbrev pub IsNumbered : Contents → Type 0
 IsNumbered access = IsRising 1 access.entries access.next
 
-blames : (access : Contents) (event : Event) (check : Check) → IsNumbered access → is_granted (verdict access event check) ≡ false → IsBlame access event check (verdict access event check)
+blames : (access : Contents) (event : Event) (check : Check) → IsNumbered access
+    → is_granted (verdict access event check) ≡ false → IsBlame access event check (verdict access event check)
 blames access event check numbered ungranted = record {
   not_granted = ungranted;
   says = true_verdict access.entries access.next access.supers (question event check) numbered;
@@ -36,30 +37,38 @@ blamed_step access event check checks numbered h more =
     (blames access event check numbered both.0, more both.1)
 
 -- a clause that isn't met has a reason for each alternative
-pub each_blamed : (access : Contents) (event : Event) (clause : List Check) → IsNumbered access → is_met access event clause ≡ false → EachBlamed access event clause (map (verdict access event) clause)
+pub each_blamed : (access : Contents) (event : Event) (clause : List Check) → IsNumbered access
+    → is_met access event clause ≡ false → EachBlamed access event clause (map (verdict access event) clause)
 each_blamed access event [] numbered h = tt
-each_blamed access event (check ∷ checks) numbered h = blamed_step access event check checks numbered h (each_blamed access event checks numbered)
+each_blamed access event (check ∷ checks) numbered h =
+    blamed_step access event check checks numbered h (each_blamed access event checks numbered)
 
 granted_step : (access : Contents) (event : Event) (check : Check) (checks : List Check)
     → (is_granted (verdict access event check) || is_met access event checks) ≡ true
     → (is_met access event checks ≡ true → SomeGranted access event checks) → SomeGranted access event (check ∷ checks)
 granted_step access event check checks h more =
-    elim (or_true (is_granted (verdict access event check)) (is_met access event checks) h) [ inl this ↦ inl this | inr rest ↦ inr (more rest) ]
+    elim (or_true (is_granted (verdict access event check))
+    (is_met access event checks) h) [ inl this ↦ inl this | inr rest ↦ inr (more rest) ]
 
-some_granted : (access : Contents) (event : Event) (clause : List Check) → is_met access event clause ≡ true → SomeGranted access event clause
+some_granted : (access : Contents) (event : Event) (clause : List Check) → is_met access event clause ≡ true
+    → SomeGranted access event clause
 some_granted access event [] h = cc
-some_granted access event (check ∷ checks) h = granted_step access event check checks h (some_granted access event checks)
+some_granted access event (check ∷ checks) h =
+    granted_step access event check checks h (some_granted access event checks)
 
 -- what the search for a clause that isn't met finds
-pub record Found (access : Contents) (event : Event) (clauses : List (List Check)) (n found : ℕ) (clause : List Check) : Type 0 where
+pub record Found (access : Contents) (event : Event) (clauses : List (List Check)) (n found : ℕ)
+    (clause : List Check) : Type 0 where
   pub place : ℕ
   pub found_is : found ≡ n + place
   pub clause_is : slice_get clauses place ≡ Some clause
   pub before : EachGranted access event (take place clauses)
   pub not_met : is_met access event clause ≡ false
 
-found_here : (access : Contents) (event : Event) (clause : List Check) (clauses : List (List Check)) (n found : ℕ) (blamed : List Check)
-    → is_met access event clause ≡ false → n ≡ found → clause ≡ blamed → Found access event (clause ∷ clauses) n found blamed
+found_here : (access : Contents) (event : Event) (clause : List Check) (clauses : List (List Check)) (n found : ℕ)
+    (blamed : List Check)
+    → is_met access event clause ≡ false → n ≡ found → clause ≡ blamed
+    → Found access event (clause ∷ clauses) n found blamed
 found_here access event clause clauses n found blamed not_met at is = record {
   place = 0;
   found_is = omega arith;
@@ -68,8 +77,10 @@ found_here access event clause clauses n found blamed not_met at is = record {
   not_met = rw (← is) not_met;
 }
 
-found_later : (access : Contents) (event : Event) (clause : List Check) (clauses : List (List Check)) (n found : ℕ) (blamed : List Check)
-    → is_met access event clause ≡ true → Found access event clauses (n + 1) found blamed → Found access event (clause ∷ clauses) n found blamed
+found_later : (access : Contents) (event : Event) (clause : List Check) (clauses : List (List Check)) (n found : ℕ)
+    (blamed : List Check)
+    → is_met access event clause ≡ true → Found access event clauses (n + 1) found blamed
+    → Found access event (clause ∷ clauses) n found blamed
 found_later access event clause clauses n found blamed met f = record {
   place = suc f.place;
   found_is = let e = f.found_is in omega arith;
@@ -78,28 +89,36 @@ found_later access event clause clauses n found blamed met f = record {
   not_met = f.not_met;
 }
 
-unmet_step : (access : Contents) (event : Event) (clause : List Check) (clauses : List (List Check)) (n found : ℕ) (blamed : List Check) (met : Bool)
-    → is_met access event clause ≡ met → cond met (unmet access event (n + 1) clauses) (Some (n, clause)) ≡ Some (found, blamed)
+unmet_step : (access : Contents) (event : Event) (clause : List Check) (clauses : List (List Check)) (n found : ℕ)
+    (blamed : List Check) (met : Bool)
+    → is_met access event clause ≡ met → cond met (unmet access event (n + 1) clauses) (Some (n, clause))
+    ≡ Some (found, blamed)
     → (unmet access event (n + 1) clauses ≡ Some (found, blamed) → Found access event clauses (n + 1) found blamed)
     → Found access event (clause ∷ clauses) n found blamed
-unmet_step access event clause clauses n found blamed true is h more = found_later access event clause clauses n found blamed is (more h)
+unmet_step access event clause clauses n found blamed true is h more =
+    found_later access event clause clauses n found blamed is (more h)
 unmet_step access event clause clauses n found blamed false is h more =
     let pair : ◌≡◌ {A = ℕ × List Check} (n, clause) (found, blamed) = cc in
-    found_here access event clause clauses n found blamed is (ap (λ (x : ℕ × List Check). x.0) pair) (ap (λ (x : ℕ × List Check). x.1) pair)
+    found_here access event clause clauses n found blamed is (ap (λ (x : ℕ × List Check). x.0) pair)
+    (ap (λ (x : ℕ × List Check). x.1) pair)
 
 pub unmet_found : (access : Contents) (event : Event) (clauses : List (List Check)) (n found : ℕ) (blamed : List Check)
     → unmet access event n clauses ≡ Some (found, blamed) → Found access event clauses n found blamed
 unmet_found access event [] n found blamed h = cc
 unmet_found access event (clause ∷ clauses) n found blamed h =
-    unmet_step access event clause clauses n found blamed (is_met access event clause) refl h (unmet_found access event clauses (n + 1) found blamed)
+    unmet_step access event clause clauses n found blamed (is_met access event clause) refl h
+    (unmet_found access event clauses (n + 1) found blamed)
 
-all_step : (access : Contents) (event : Event) (clause : List Check) (clauses : List (List Check)) (n : ℕ) (met : Bool) → is_met access event clause ≡ met
-    → cond met (unmet access event (n + 1) clauses) (Some (n, clause)) ≡ None → (unmet access event (n + 1) clauses ≡ None → EachGranted access event clauses)
+all_step : (access : Contents) (event : Event) (clause : List Check) (clauses : List (List Check)) (n : ℕ) (met : Bool)
+    → is_met access event clause ≡ met
+    → cond met (unmet access event (n + 1) clauses) (Some (n, clause)) ≡ None
+    → (unmet access event (n + 1) clauses ≡ None → EachGranted access event clauses)
     → EachGranted access event (clause ∷ clauses)
 all_step access event clause clauses n true is h more = (some_granted access event clause is, more h)
 all_step access event clause clauses n false is h more = cc
 
-pub unmet_none : (access : Contents) (event : Event) (clauses : List (List Check)) (n : ℕ) → unmet access event n clauses ≡ None → EachGranted access event clauses
+pub unmet_none : (access : Contents) (event : Event) (clauses : List (List Check)) (n : ℕ)
+    → unmet access event n clauses ≡ None → EachGranted access event clauses
 unmet_none access event [] n h = tt
 unmet_none access event (clause ∷ clauses) n h =
     all_step access event clause clauses n (is_met access event clause) refl h (unmet_none access event clauses (n + 1))

@@ -17,27 +17,39 @@ use Rattle.kob_broker.specs.Effect.{effect, effect_by, named, refusal}
 use Rattle.kob_broker.specs.Metadata.{metadata_request}
 
 -- a refusal for the first reason that holds
-pub refused_makes : (broker : Broker) (request : Request) (prepared : Prepared) (reason : Reason) → refusal retained_meaning (state_of broker) request ≡ Some reason
+pub refused_makes : (broker : Broker) (request : Request) (prepared : Prepared) (reason : Reason)
+    → refusal retained_meaning (state_of broker) request ≡ Some reason
     → prepared.reply ≡ Refused (code_of reason) reason → prepared.change ≡ Unchanged → MakesFor request broker prepared
 refused_makes broker request prepared reason why reply change event = record {
-  same_reply = reply ∙ ap (λ found. (effect_by retained_meaning found (state_of broker) (named (state_of broker) request) event request).reply) (sym why);
-  same_state = ap (λ made. changed made broker) change ∙ ap (λ found. (effect_by retained_meaning found (state_of broker) (named (state_of broker) request) event request).state) (sym why);
+  same_reply =
+      reply ∙ ap (λ found. (effect_by retained_meaning found (state_of broker)
+      (named (state_of broker) request) event request).reply) (sym why);
+  same_state =
+      ap (λ made. changed made broker) change
+      ∙ ap (λ found. (effect_by retained_meaning found (state_of broker)
+      (named (state_of broker) request) event request).state) (sym why);
   ready = rw change tt;
 }
 
 -- what makes the effect of a request for whoever asks makes it for the event that has it
-pub made_for : (broker : Broker) (request : Request) (event : Event) (prepared : Prepared) → event.request ≡ request → MakesFor request broker prepared
+pub made_for : (broker : Broker) (request : Request) (event : Event) (prepared : Prepared) → event.request ≡ request
+    → MakesFor request broker prepared
     → Makes (effect retained_meaning (state_of broker) event event.request) broker prepared
 made_for broker request event prepared is makes =
-    subst (λ (r : Request). Makes (effect retained_meaning (state_of broker) event r) broker prepared) (sym is) (makes event)
+    subst (λ (r : Request). Makes (effect retained_meaning (state_of broker) event r) broker prepared) (sym is)
+    (makes event)
 
-pub made_for_ok : {E : Type 0} (broker : Broker) (request : Request) (event : Event) (result : Result Prepared E) → event.request ≡ request → IfOk result (MakesFor request broker)
+pub made_for_ok : {E : Type 0} (broker : Broker) (request : Request) (event : Event) (result : Result Prepared E)
+    → event.request ≡ request → IfOk result (MakesFor request broker)
     → IfOk result (Makes (effect retained_meaning (state_of broker) event event.request) broker)
 made_for_ok broker request event (Ok prepared) is makes = made_for broker request event prepared is makes
 made_for_ok broker request event (Err fault) is makes = tt
 
-pub metadata_for : {E : Type 0} (broker : Broker) (topic : Option (List ℕ)) (asked : Metadata) (event : Event) (result : Result Prepared E) → asked.topic ≡ topic
-    → IfOk result (MakesFor (metadata_request topic) broker) → IfOk result (Makes (effect retained_meaning (state_of broker) event (requests.Metadata asked)) broker)
+pub metadata_for : {E : Type 0} (broker : Broker) (topic : Option (List ℕ)) (asked : Metadata) (event : Event)
+    (result : Result Prepared E) → asked.topic ≡ topic
+    → IfOk result (MakesFor (metadata_request topic) broker)
+    → IfOk result (Makes (effect retained_meaning (state_of broker) event (requests.Metadata asked)) broker)
 metadata_for broker topic asked event (Ok prepared) is makes =
-    subst (λ t. Makes (effect retained_meaning (state_of broker) event (metadata_request t)) broker prepared) (sym is) (makes event)
+    subst (λ t. Makes (effect retained_meaning (state_of broker) event (metadata_request t)) broker prepared) (sym is)
+    (makes event)
 metadata_for broker topic asked event (Err fault) is makes = tt

@@ -23,11 +23,14 @@ module _ {P : Type 0} (m : Meaning P) where
 
 module _ {P Q : Type 0} (m : Meaning P) (n : Meaning Q) where
   by_alike : (denial : Option Reply) (s : State P) (t : State Q) (event : Event) (code : Code) (verdicts : List Verdict)
-      → (step_by m denial s event).reply ≡ Denied code verdicts → (step_by n denial t event).reply ≡ Denied code verdicts
+      → (step_by m denial s event).reply ≡ Denied code verdicts
+      → (step_by n denial t event).reply ≡ Denied code verdicts
   by_alike (Some reply) s t event code verdicts is = is
-  by_alike None s t event code verdicts is = absurd (never_denied m (refusal m s event.request) s event code verdicts is)
+  by_alike None s t event code verdicts is =
+      absurd (never_denied m (refusal m s event.request) s event code verdicts is)
 
-  denied_alike : (s : State P) (t : State Q) (event : Event) → s.access ≡ t.access → (code : Code) (verdicts : List Verdict)
+  denied_alike : (s : State P) (t : State Q) (event : Event) → s.access ≡ t.access
+      → (code : Code) (verdicts : List Verdict)
       → (step m s event).reply ≡ Denied code verdicts → (step n t event).reply ≡ Denied code verdicts
   denied_alike s t event same code verdicts is =
       ap (λ (access : Contents). (step_by n (denial_of access event) t event).reply) (sym same)

@@ -18,12 +18,16 @@ use Rattle.kob_broker.specs.Reasons.{first_reason}
 use Rattle.kob_broker.proofs.Decisions.{refused_makes}
 use Rattle.kob_broker.proofs.FirstReasons.{first_some}
 
-pub bad_draft_makes : (broker : Broker) (create : CreateAcls) (prepared : Prepared) (drafts : List Draft) (fault : DraftFault) (reason given : Reason)
-    → IsUnlessRefused (first_reason (flat_map draft_reasons drafts)) fault → drafts ≡ create.drafts → fault ≡ faults.Refused reason
+pub bad_draft_makes : (broker : Broker) (create : CreateAcls) (prepared : Prepared) (drafts : List Draft)
+    (fault : DraftFault) (reason given : Reason)
+    → IsUnlessRefused (first_reason (flat_map draft_reasons drafts)) fault → drafts ≡ create.drafts
+    → fault ≡ faults.Refused reason
     → given ≡ reason → prepared.reply ≡ Refused (code_of given) given → prepared.change ≡ Unchanged
     → MakesFor (requests.CreateAcls create) broker prepared
 bad_draft_makes broker create prepared drafts fault reason given unless same is told reply change =
-    let why : first_reason (flat_map draft_reasons drafts) ≡ Some reason = subst (IsUnlessRefused (first_reason (flat_map draft_reasons drafts))) is unless in
+    let why : first_reason (flat_map draft_reasons drafts) ≡ Some reason =
+    subst (IsUnlessRefused (first_reason (flat_map draft_reasons drafts))) is unless in
     refused_makes broker (requests.CreateAcls create) prepared reason
-    (first_some (flat_map draft_reasons create.drafts) _ reason (ap (λ ds. first_reason (flat_map draft_reasons ds)) (sym same) ∙ why))
+    (first_some (flat_map draft_reasons create.drafts) _ reason
+    (ap (λ ds. first_reason (flat_map draft_reasons ds)) (sym same) ∙ why))
     (reply ∙ ap (λ r. Refused (code_of r) r) told) change

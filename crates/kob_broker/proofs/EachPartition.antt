@@ -23,11 +23,14 @@ module _ (Holds : Plain → Type 0) where
   at_place (topic ∷ topics) zero all = All-head EachOf topic topics all
   at_place (topic ∷ topics) (suc place) all = at_place topics place (All-tail EachOf topic topics all)
 
-  found_at : (topics : List (Topic Plain)) (place : Option ℕ) (partition : ℕ) → All EachOf topics → IfSome (partition_at topics place partition) Holds
+  found_at : (topics : List (Topic Plain)) (place : Option ℕ) (partition : ℕ) → All EachOf topics
+      → IfSome (partition_at topics place partition) Holds
   found_at topics None partition all = tt
-  found_at topics (Some place) partition all = got (topic_at topics place).partitions partition (at_place topics place all)
+  found_at topics (Some place) partition all =
+      got (topic_at topics place).partitions partition (at_place topics place all)
 
-  of_name : (name : List ℕ) (partition : ℕ) (topics : List (Topic Plain)) → All EachOf topics → IfSome (partition_of name partition topics) Holds
+  of_name : (name : List ℕ) (partition : ℕ) (topics : List (Topic Plain)) → All EachOf topics
+      → IfSome (partition_of name partition topics) Holds
   of_name name partition topics all = found_at topics (place_of name topics) partition all
 
   -- the partition that a request names
@@ -40,7 +43,8 @@ module _ (Holds : Plain → Type 0) where
   of_request s request all = of_named s.topics (partition_named request) all
 
   -- a partition is written
-  pub once_written : (place : Option ℕ) (number : ℕ) (written : Plain) (topics : List (Topic Plain)) → Holds written → All EachOf topics → All EachOf (with_partition_found place number written topics)
+  pub once_written : (place : Option ℕ) (number : ℕ) (written : Plain) (topics : List (Topic Plain)) → Holds written
+      → All EachOf topics → All EachOf (with_partition_found place number written topics)
   once_written None number written topics holds all = all
   once_written (Some place) number written topics holds all =
       let topic = topic_at topics place in
@@ -48,7 +52,9 @@ module _ (Holds : Plain → Type 0) where
       (All-set Holds topic.partitions number written holds (at_place topics place all)) all
 
   -- a topic is taken away
-  pub once_removed : (place : Option ℕ) (topics : List (Topic Plain)) → All EachOf topics → All EachOf (without_topic_found place topics)
+  pub once_removed : (place : Option ℕ) (topics : List (Topic Plain)) → All EachOf topics
+      → All EachOf (without_topic_found place topics)
   once_removed None topics all = all
   once_removed (Some place) topics all =
-      All-append EachOf (take place topics) (drop (suc place) topics) (All-take EachOf place topics all) (All-drop EachOf (suc place) topics all)
+      All-append EachOf (take place topics) (drop (suc place) topics) (All-take EachOf place topics all)
+      (All-drop EachOf (suc place) topics all)

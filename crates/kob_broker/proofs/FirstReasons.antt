@@ -4,7 +4,8 @@ use Rattle.std.proofs.lemmas.Bool.Decides.{nat_tests}
 use Rattle.kob_rights.specs.declared.reason.Reason.{Reason}
 use Rattle.kob_broker.specs.Reasons.{first_reason}
 
-pub first_some : (xs ys : List (Bool × Reason)) (reason : Reason) → first_reason xs ≡ Some reason → first_reason (xs ++ ys) ≡ Some reason
+pub first_some : (xs ys : List (Bool × Reason)) (reason : Reason) → first_reason xs ≡ Some reason
+    → first_reason (xs ++ ys) ≡ Some reason
 first_some [] ys reason h = grind arith
 first_some (x ∷ xs) ys reason h = grind (arith, nat_tests, first_some xs ys reason)
 
@@ -13,7 +14,8 @@ first_none [] ys h = refl
 first_none (x ∷ xs) ys h = grind (arith, nat_tests, first_none xs ys)
 
 -- where no reason holds, the first doesn't, nor do those that come later
-none_later : (holds : Bool) (reason : Reason) (rest : List (Bool × Reason)) → first_reason ((holds, reason) ∷ rest) ≡ None → first_reason rest ≡ None
+none_later : (holds : Bool) (reason : Reason) (rest : List (Bool × Reason))
+    → first_reason ((holds, reason) ∷ rest) ≡ None → first_reason rest ≡ None
 none_later true reason rest none = cc
 none_later false reason rest none = none
 
@@ -21,6 +23,7 @@ pub none_after : (xs ys : List (Bool × Reason)) → first_reason (xs ++ ys) ≡
 none_after [] ys none = none
 none_after (x ∷ xs) ys none = none_after xs ys (none_later x.0 x.1 (xs ++ ys) none)
 
-pub none_here : (holds : Bool) (reason : Reason) (rest : List (Bool × Reason)) → first_reason ((holds, reason) ∷ rest) ≡ None → holds ≡ false
+pub none_here : (holds : Bool) (reason : Reason) (rest : List (Bool × Reason))
+    → first_reason ((holds, reason) ∷ rest) ≡ None → holds ≡ false
 none_here true reason rest none = cc
 none_here false reason rest none = refl

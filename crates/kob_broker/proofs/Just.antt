@@ -23,7 +23,8 @@ use Rattle.kob_broker.specs.State.{State}
 use Rattle.kob_broker.specs.Step.{step, step_by}
 use Rattle.kob_broker.proofs.Clauses.{Found, IsNumbered, each_blamed, unmet_found, unmet_none}
 
-found_denial : (access : Contents) (event : Event) (found : ℕ) (clause : List Check) → IsNumbered access → Found access event (rights event.request) 0 found clause
+found_denial : (access : Contents) (event : Event) (found : ℕ) (clause : List Check) → IsNumbered access
+    → Found access event (rights event.request) 0 found clause
     → IsDenial access event (denial_code event.request found) (map (verdict access event) clause)
 found_denial access event found clause numbered f = record {
   place = f.place;
@@ -35,30 +36,40 @@ found_denial access event found clause numbered f = record {
 }
 
 -- the bindings after what a request did, where they are numbered
-changed_numbered : (write : Option Write) (access : Contents) → IsNumbered access → IsNumbered (changed_access write access)
-changed_numbered (Some (writes.AddBindings create)) access numbered = added_rises access.entries access.next create.drafts numbered
-changed_numbered (Some (writes.RemoveBindings delete)) access numbered = removed_rises access.entries access.next delete.filter numbered
+changed_numbered : (write : Option Write) (access : Contents) → IsNumbered access
+    → IsNumbered (changed_access write access)
+changed_numbered (Some (writes.AddBindings create)) access numbered =
+    added_rises access.entries access.next create.drafts numbered
+changed_numbered (Some (writes.RemoveBindings delete)) access numbered =
+    removed_rises access.entries access.next delete.filter numbered
 changed_numbered _ access numbered = numbered
 
-reply_numbered : (reply : Reply) (request : Request) (access : Contents) → IsNumbered access → IsNumbered (access_after reply request access)
+reply_numbered : (reply : Reply) (request : Request) (access : Contents) → IsNumbered access
+    → IsNumbered (access_after reply request access)
 reply_numbered (Done body) request access numbered = changed_numbered (write_of request) access numbered
 reply_numbered (Denied code verdicts) request access numbered = numbered
 reply_numbered (Refused code reason) request access numbered = numbered
 
-just_at : (access : Contents) (e event : Event) (r reply : Reply) → e ≡ event → r ≡ reply → IsJust access e r → IsJust access event reply
-just_at access e event r reply this that just = subst (λ (x : Event). IsJust access x reply) this (subst (λ (x : Reply). IsJust access e x) that just)
+just_at : (access : Contents) (e event : Event) (r reply : Reply) → e ≡ event → r ≡ reply → IsJust access e r
+    → IsJust access event reply
+just_at access e event r reply this that just =
+    subst (λ (x : Event). IsJust access x reply) this (subst (λ (x : Reply). IsJust access e x) that just)
 
 module _ {P : Type 0} (m : Meaning P) where
-  effect_just : (s : State P) (event : Event) (against : Option Reason) → EachGranted s.access event (rights event.request)
+  effect_just : (s : State P) (event : Event) (against : Option Reason)
+      → EachGranted s.access event (rights event.request)
       → IsJust s.access event (effect_by m against s (named s event.request) event event.request).reply
   effect_just s event (Some reason) granted = granted
   effect_just s event None granted = granted
 
-  just_by : (s : State P) (event : Event) (found : Option (ℕ × List Check)) → unmet s.access event 0 (rights event.request) ≡ found → IsNumbered s.access
+  just_by : (s : State P) (event : Event) (found : Option (ℕ × List Check))
+      → unmet s.access event 0 (rights event.request) ≡ found → IsNumbered s.access
       → IsJust s.access event (step_by m (option_map (denied s.access event) found) s event).reply
-  just_by s event None is numbered = effect_just s event (refusal m s event.request) (unmet_none s.access event (rights event.request) 0 is)
+  just_by s event None is numbered =
+      effect_just s event (refusal m s event.request) (unmet_none s.access event (rights event.request) 0 is)
   just_by s event (Some (place, clause)) is numbered =
-      found_denial s.access event place clause numbered (unmet_found s.access event (rights event.request) 0 place clause is)
+      found_denial s.access event place clause numbered
+      (unmet_found s.access event (rights event.request) 0 place clause is)
 
   -- the reply to one event is just
   step_just : (s : State P) (event : Event) → IsNumbered s.access → IsJust s.access event (step m s event).reply
@@ -83,11 +94,13 @@ module _ {P : Type 0} (m : Meaning P) where
   access_by s event None = effect_access s event (refusal m s event.request)
   access_by s event (Some blamed) = refl
 
-  step_access : (s : State P) (event : Event) → (step m s event).state.access ≡ access_after (step m s event).reply event.request s.access
+  step_access : (s : State P) (event : Event)
+      → (step m s event).state.access ≡ access_after (step m s event).reply event.request s.access
   step_access s event = access_by s event (unmet s.access event 0 (rights event.request))
 
   step_numbered : (s : State P) (event : Event) → IsNumbered s.access → IsNumbered (step m s event).state.access
-  step_numbered s event numbered = rw (step_access s event) (reply_numbered (step m s event).reply event.request s.access numbered)
+  step_numbered s event numbered =
+      rw (step_access s event) (reply_numbered (step m s event).reply event.request s.access numbered)
 
   -- and so each reply of a run
   pub run_just : (events : List Event) (s : State P) → IsNumbered s.access → EachJust m events s

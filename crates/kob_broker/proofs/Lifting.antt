@@ -51,39 +51,57 @@ module _ {P Q : Type 0} (f : P → Q) where
   slice_get-map (p ∷ ps) zero = refl
   slice_get-map (p ∷ ps) (suc i) = slice_get-map ps i
 
-  partition_at-map : (topics : List (Topic P)) (place : Option ℕ) (partition : ℕ) → partition_at (topics_map f topics) place partition ≡ option_map f (partition_at topics place partition)
+  partition_at-map : (topics : List (Topic P)) (place : Option ℕ) (partition : ℕ)
+      → partition_at (topics_map f topics) place partition ≡ option_map f (partition_at topics place partition)
   partition_at-map topics None partition = refl
   partition_at-map topics (Some place) partition =
-      ap (λ (t : Topic Q). slice_get t.partitions partition) (topic_at_mapped f topics place) ∙ slice_get-map (topic_at topics place).partitions partition
+      ap (λ (t : Topic Q). slice_get t.partitions partition) (topic_at_mapped f topics place)
+      ∙ slice_get-map (topic_at topics place).partitions partition
 
-  partition_of-map : (name : List ℕ) (partition : ℕ) (topics : List (Topic P)) → partition_of name partition (topics_map f topics) ≡ option_map f (partition_of name partition topics)
+  partition_of-map : (name : List ℕ) (partition : ℕ) (topics : List (Topic P))
+      → partition_of name partition (topics_map f topics) ≡ option_map f (partition_of name partition topics)
   partition_of-map name partition topics =
-      ap (λ o. partition_at (topics_map f topics) o partition) (place_of_mapped f name topics) ∙ partition_at-map topics (place_of name topics) partition
+      ap (λ o. partition_at (topics_map f topics) o partition) (place_of_mapped f name topics)
+      ∙ partition_at-map topics (place_of name topics) partition
 
-  with_partition_at-map : (place partition : ℕ) (p : P) (topics : List (Topic P)) → with_partition_at place partition (f p) (topics_map f topics) ≡ topics_map f (with_partition_at place partition p topics)
+  with_partition_at-map : (place partition : ℕ) (p : P) (topics : List (Topic P))
+      → with_partition_at place partition (f p) (topics_map f topics)
+      ≡ topics_map f (with_partition_at place partition p topics)
   with_partition_at-map place partition p topics =
       let topic = topic_at_mapped f topics place in
       ap (slice_set (topics_map f topics) place)
       (λ i. record {
         name = (topic i).name;
-        partitions = (ap (λ (t : Topic Q). slice_set t.partitions partition (f p)) topic ∙ sym (map-set f (topic_at topics place).partitions partition p)) i;
+        partitions =
+            (ap (λ (t : Topic Q). slice_set t.partitions partition (f p)) topic
+            ∙ sym (map-set f (topic_at topics place).partitions partition p)) i;
       })
-      ∙ sym (map-set (topic_map f) topics place (record (topic_at topics place) { partitions = slice_set (topic_at topics place).partitions partition p }))
+      ∙ sym (map-set (topic_map f) topics place
+      (record (topic_at topics place) { partitions = slice_set (topic_at topics place).partitions partition p }))
 
-  with_partition_found-map : (place : Option ℕ) (partition : ℕ) (p : P) (topics : List (Topic P)) → with_partition_found place partition (f p) (topics_map f topics) ≡ topics_map f (with_partition_found place partition p topics)
+  with_partition_found-map : (place : Option ℕ) (partition : ℕ) (p : P) (topics : List (Topic P))
+      → with_partition_found place partition (f p) (topics_map f topics)
+      ≡ topics_map f (with_partition_found place partition p topics)
   with_partition_found-map None partition p topics = refl
   with_partition_found-map (Some place) partition p topics = with_partition_at-map place partition p topics
 
-  with_partition-map : (name : List ℕ) (partition : ℕ) (p : P) (topics : List (Topic P)) → with_partition name partition (f p) (topics_map f topics) ≡ topics_map f (with_partition name partition p topics)
+  with_partition-map : (name : List ℕ) (partition : ℕ) (p : P) (topics : List (Topic P))
+      → with_partition name partition (f p) (topics_map f topics)
+      ≡ topics_map f (with_partition name partition p topics)
   with_partition-map name partition p topics =
-      ap (λ o. with_partition_found o partition (f p) (topics_map f topics)) (place_of_mapped f name topics) ∙ with_partition_found-map (place_of name topics) partition p topics
+      ap (λ o. with_partition_found o partition (f p) (topics_map f topics)) (place_of_mapped f name topics)
+      ∙ with_partition_found-map (place_of name topics) partition p topics
 
-  without_found-map : (place : Option ℕ) (topics : List (Topic P)) → without_topic_found place (topics_map f topics) ≡ topics_map f (without_topic_found place topics)
+  without_found-map : (place : Option ℕ) (topics : List (Topic P))
+      → without_topic_found place (topics_map f topics) ≡ topics_map f (without_topic_found place topics)
   without_found-map None topics = refl
   without_found-map (Some place) topics = sym (map-remove (topic_map f) topics place)
 
-  without_topic-map : (name : List ℕ) (topics : List (Topic P)) → without_topic name (topics_map f topics) ≡ topics_map f (without_topic name topics)
-  without_topic-map name topics = ap (λ o. without_topic_found o (topics_map f topics)) (place_of_mapped f name topics) ∙ without_found-map (place_of name topics) topics
+  without_topic-map : (name : List ℕ) (topics : List (Topic P))
+      → without_topic name (topics_map f topics) ≡ topics_map f (without_topic name topics)
+  without_topic-map name topics =
+      ap (λ o. without_topic_found o (topics_map f topics)) (place_of_mapped f name topics)
+      ∙ without_found-map (place_of name topics) topics
 
   is_some-map : (found : Option P) → is_some (option_map f found) ≡ is_some found
   is_some-map None = refl
@@ -93,24 +111,30 @@ module _ {P Q : Type 0} (f : P → Q) where
   replicate-map zero p = refl
   replicate-map (suc n) p = ap (λ ps. f p ∷ ps) (replicate-map n p)
 
-  unless_repeat-map : (judgement : Judgement) (old new : List (Topic P)) (written : List (Topic Q)) → written ≡ topics_map f new
+  unless_repeat-map : (judgement : Judgement) (old new : List (Topic P)) (written : List (Topic Q))
+      → written ≡ topics_map f new
       → unless_repeat judgement (topics_map f old) written ≡ topics_map f (unless_repeat judgement old new)
   unless_repeat-map Next old new written is = is
   unless_repeat-map (Repeat offset) old new written is = refl
   unless_repeat-map OutOfOrder old new written is = is
   unless_repeat-map OldEpoch old new written is = is
 
-  topic_found-map : (name : List ℕ) (topics : List (Topic P)) (place : Option ℕ) → topic_found name (topics_map f topics) place ≡ topic_found name topics place
+  topic_found-map : (name : List ℕ) (topics : List (Topic P)) (place : Option ℕ)
+      → topic_found name (topics_map f topics) place ≡ topic_found name topics place
   topic_found-map name topics None = refl
   topic_found-map name topics (Some place) =
-      ap (λ n. (name, n) ∷ []) (ap (λ (t : Topic Q). length t.partitions) (topic_at_mapped f topics place) ∙ length-map (topic_at topics place).partitions f)
+      ap (λ n. (name, n) ∷ []) (ap (λ (t : Topic Q). length t.partitions) (topic_at_mapped f topics place)
+      ∙ length-map (topic_at topics place).partitions f)
 
-  metadata-map : (access : Contents) (event : Event) (topics : List (Topic P)) (asked : Option (List ℕ)) → metadata_of access event (topics_map f topics) asked ≡ metadata_of access event topics asked
+  metadata-map : (access : Contents) (event : Event) (topics : List (Topic P)) (asked : Option (List ℕ))
+      → metadata_of access event (topics_map f topics) asked ≡ metadata_of access event topics asked
   metadata-map access event topics None = listed_mapped f _ topics
   metadata-map access event topics (Some name) =
-      ap (topic_found name (topics_map f topics)) (place_of_mapped f name topics) ∙ topic_found-map name topics (place_of name topics)
+      ap (topic_found name (topics_map f topics)) (place_of_mapped f name topics)
+      ∙ topic_found-map name topics (place_of name topics)
 
-  metadata_reasons-map : (topics : List (Topic P)) (asked : Option (List ℕ)) → metadata_reasons (topics_map f topics) asked ≡ metadata_reasons topics asked
+  metadata_reasons-map : (topics : List (Topic P)) (asked : Option (List ℕ))
+      → metadata_reasons (topics_map f topics) asked ≡ metadata_reasons topics asked
   metadata_reasons-map topics None = refl
   metadata_reasons-map topics (Some name) = rw (place_of_mapped f name topics) refl
 
@@ -122,7 +146,8 @@ module _ {P Q : Type 0} (m : Meaning P) (n : Meaning Q) (f : P → Q) (c : Carri
   judged_alike p None count = refl
   judged_alike p (Some idem) count = c.judge p idem count
 
-  judged_at_alike : (found : Option P) (batch : Batch) → judged_at n (option_map f found) batch ≡ judged_at m found batch
+  judged_at_alike : (found : Option P) (batch : Batch)
+      → judged_at n (option_map f found) batch ≡ judged_at m found batch
   judged_at_alike None batch = refl
   judged_at_alike (Some p) batch = judged_alike p batch.idem (length batch.records)
 
@@ -134,53 +159,79 @@ module _ {P Q : Type 0} (m : Meaning P) (n : Meaning Q) (f : P → Q) (c : Carri
   end_at_alike None = refl
   end_at_alike (Some p) = c.end p
 
-  offset_at_alike : (found : Option P) (which : Which) → offset_at n (option_map f found) which ≡ offset_at m found which
+  offset_at_alike : (found : Option P) (which : Which)
+      → offset_at n (option_map f found) which ≡ offset_at m found which
   offset_at_alike found Start = start_at_alike found
   offset_at_alike found End = end_at_alike found
 
-  out_of_range_alike : (found : Option P) (offset : ℕ) → is_out_of_range n (option_map f found) offset ≡ is_out_of_range m found offset
+  out_of_range_alike : (found : Option P) (offset : ℕ)
+      → is_out_of_range n (option_map f found) offset ≡ is_out_of_range m found offset
   out_of_range_alike None offset = refl
   out_of_range_alike (Some p) offset = rw (c.start p, c.end p) refl
 
-  fetched_alike : (found : Option P) (fetch : FetchAsked) → fetched_at n (option_map f found) fetch ≡ fetched_at m found fetch
+  fetched_alike : (found : Option P) (fetch : FetchAsked)
+      → fetched_at n (option_map f found) fetch ≡ fetched_at m found fetch
   fetched_alike None fetch = refl
   fetched_alike (Some p) fetch = rw (c.start p, c.readable p) refl
 
-  with_batch_alike : (found : Option P) (produce : ProduceAsked) (topics : List (Topic P)) → with_batch n (option_map f found) produce (topics_map f topics) ≡ topics_map f (with_batch m found produce topics)
+  with_batch_alike : (found : Option P) (produce : ProduceAsked) (topics : List (Topic P))
+      → with_batch n (option_map f found) produce (topics_map f topics)
+      ≡ topics_map f (with_batch m found produce topics)
   with_batch_alike None produce topics = refl
   with_batch_alike (Some p) produce topics =
-      let written = ap (λ q. with_partition produce.topic produce.partition q (topics_map f topics)) (sym (c.append p produce.batch))
+      let written =
+      ap (λ q. with_partition produce.topic produce.partition q (topics_map f topics))
+      (sym (c.append p produce.batch))
       ∙ with_partition-map f produce.topic produce.partition (m.append p produce.batch) topics in
-      ap (λ j. unless_repeat j (topics_map f topics) (with_partition produce.topic produce.partition (n.append (f p) produce.batch) (topics_map f topics))) (judged_at_alike (Some p) produce.batch)
-      ∙ unless_repeat-map f (judged_at m (Some p) produce.batch) topics (with_partition produce.topic produce.partition (m.append p produce.batch) topics) _ written
+      ap (λ j. unless_repeat j (topics_map f topics)
+      (with_partition produce.topic produce.partition (n.append (f p) produce.batch) (topics_map f topics)))
+      (judged_at_alike (Some p) produce.batch)
+      ∙ unless_repeat-map f (judged_at m (Some p) produce.batch) topics
+      (with_partition produce.topic produce.partition (m.append p produce.batch) topics) _ written
 
-  in_alike : (topics : List (Topic P)) (name : Option (List ℕ × ℕ)) → partition_in (topics_map f topics) name ≡ option_map f (partition_in topics name)
+  in_alike : (topics : List (Topic P)) (name : Option (List ℕ × ℕ))
+      → partition_in (topics_map f topics) name ≡ option_map f (partition_in topics name)
   in_alike topics None = refl
   in_alike topics (Some name) = partition_of-map f name.0 name.1 topics
 
   named_alike : (s : State P) (request : Request) → named (state_map f s) request ≡ option_map f (named s request)
   named_alike s request = in_alike s.topics (partition_named request)
 
-  reasons_alike : (s : State P) (found : Option P) (request : Request) → reasons_against n (state_map f s) (option_map f found) request ≡ reasons_against m s found request
+  reasons_alike : (s : State P) (found : Option P) (request : Request)
+      → reasons_against n (state_map f s) (option_map f found) request ≡ reasons_against m s found request
   reasons_alike s found (Produce produce) =
-      rw (place_of_mapped f produce.topic s.topics, is_some-map f found, judged_at_alike found produce.batch, end_at_alike found) refl
-  reasons_alike s found (Fetch fetch) = rw (place_of_mapped f fetch.topic s.topics, is_some-map f found, out_of_range_alike found fetch.offset) refl
+      rw (
+        place_of_mapped f produce.topic s.topics,
+        is_some-map f found,
+        judged_at_alike found produce.batch,
+        end_at_alike found,
+      ) refl
+  reasons_alike s found (Fetch fetch) =
+      rw (place_of_mapped f fetch.topic s.topics, is_some-map f found, out_of_range_alike found fetch.offset) refl
   reasons_alike s found (ListOffsets asked) = rw (place_of_mapped f asked.topic s.topics, is_some-map f found) refl
   reasons_alike s found (Metadata asked) = metadata_reasons-map f s.topics asked.topic
   reasons_alike s found (OffsetCommit commit) = rw (place_of_mapped f commit.topic s.topics, is_some-map f found) refl
-  reasons_alike s found (CreateTopics create) = rw (place_of_mapped f create.name s.topics, length-map s.topics (topic_map f)) refl
+  reasons_alike s found (CreateTopics create) =
+      rw (place_of_mapped f create.name s.topics, length-map s.topics (topic_map f)) refl
   reasons_alike s found (DeleteTopics delete) = rw (place_of_mapped f delete.name s.topics) refl
   reasons_alike s found _ = refl
 
-  body_alike : (s : State P) (found : Option P) (event : Event) (request : Request) → body n (state_map f s) (option_map f found) event request ≡ body m s found event request
+  body_alike : (s : State P) (found : Option P) (event : Event) (request : Request)
+      → body n (state_map f s) (option_map f found) event request ≡ body m s found event request
   body_alike s found event (Produce produce) = rw (judged_at_alike found produce.batch, end_at_alike found) refl
   body_alike s found event (Fetch fetch) = ap bodies.Records (fetched_alike found fetch)
   body_alike s found event (ListOffsets asked) = ap bodies.Offset (offset_at_alike found asked.which)
   body_alike s found event (Metadata asked) = ap bodies.Topics (metadata-map f s.access event s.topics asked.topic)
   body_alike s found event _ = refl
 
-  new_topic_alike : (name : List ℕ) (partitions : ℕ) → new_topic n name partitions ≡ topic_map f (new_topic m name partitions)
-  new_topic_alike name partitions = λ i. record { name = name; partitions = (ap (replicate partitions) (sym c.empty) ∙ replicate-map f partitions m.empty) i }
+  new_topic_alike : (name : List ℕ) (partitions : ℕ)
+      → new_topic n name partitions ≡ topic_map f (new_topic m name partitions)
+  new_topic_alike name partitions =
+      λ i. record {
+        name = name;
+        partitions =
+            (ap (replicate partitions) (sym c.empty) ∙ replicate-map f partitions m.empty) i;
+      }
 
   write_alike : (s : State P) (found : Option P) (write : Option Write)
       → after_write n (state_map f s) (option_map f found) write ≡ state_map f (after_write m s found write)
@@ -202,25 +253,31 @@ module _ {P Q : Type 0} (m : Meaning P) (n : Meaning Q) (f : P → Q) (c : Carri
   }
   write_alike s found _ = refl
 
-  after_alike : (s : State P) (found : Option P) (request : Request) → after n (state_map f s) (option_map f found) request ≡ state_map f (after m s found request)
+  after_alike : (s : State P) (found : Option P) (request : Request)
+      → after n (state_map f s) (option_map f found) request ≡ state_map f (after m s found request)
   after_alike s found request = write_alike s found (write_of request)
 
   effect_by_alike : (against : Option Reason) (s : State P) (found : Option P) (event : Event) (request : Request)
-      → effect_by n against (state_map f s) (option_map f found) event request ≡ outcome_map f (effect_by m against s found event request)
+      → effect_by n against (state_map f s) (option_map f found) event request
+      ≡ outcome_map f (effect_by m against s found event request)
   effect_by_alike (Some reason) s found event request = refl
   effect_by_alike None s found event request = λ i. record {
     reply = Done (body_alike s found event request i);
     state = after_alike s found request i;
   }
 
-  effect_alike : (s : State P) (event : Event) (request : Request) → effect n (state_map f s) event request ≡ outcome_map f (effect m s event request)
+  effect_alike : (s : State P) (event : Event) (request : Request)
+      → effect n (state_map f s) event request ≡ outcome_map f (effect m s event request)
   effect_alike s event request =
       let found = named s request in
-      ap (λ o. effect_by n (first_reason (reasons_against n (state_map f s) o request)) (state_map f s) o event request) (named_alike s request)
-      ∙ ap (λ rs. effect_by n (first_reason rs) (state_map f s) (option_map f found) event request) (reasons_alike s found request)
+      ap (λ o. effect_by n (first_reason (reasons_against n (state_map f s) o request))
+      (state_map f s) o event request) (named_alike s request)
+      ∙ ap (λ rs. effect_by n (first_reason rs) (state_map f s) (option_map f found) event request)
+      (reasons_alike s found request)
       ∙ effect_by_alike (refusal m s request) s found event request
 
-  step_by_alike : (denial : Option Reply) (s : State P) (event : Event) → step_by n denial (state_map f s) event ≡ outcome_map f (step_by m denial s event)
+  step_by_alike : (denial : Option Reply) (s : State P) (event : Event)
+      → step_by n denial (state_map f s) event ≡ outcome_map f (step_by m denial s event)
   step_by_alike (Some denial) s event = refl
   step_by_alike None s event = effect_alike s event event.request
 
@@ -230,17 +287,22 @@ module _ {P Q : Type 0} (m : Meaning P) (n : Meaning Q) (f : P → Q) (c : Carri
   pub replies_alike : (events : List Event) (s : State P) → replies_of n events (state_map f s) ≡ replies_of m events s
   replies_alike [] s = refl
   replies_alike (event ∷ events) s =
-      ap (λ (o : Outcome Q). o.reply ∷ replies_of n events o.state) (step_alike s event) ∙ ap (λ rs. (step m s event).reply ∷ rs) (replies_alike events (step m s event).state)
+      ap (λ (o : Outcome Q). o.reply ∷ replies_of n events o.state) (step_alike s event)
+      ∙ ap (λ rs. (step m s event).reply ∷ rs) (replies_alike events (step m s event).state)
 
-  pub states_alike : (events : List Event) (s : State P) → state_after n events (state_map f s) ≡ state_map f (state_after m events s)
+  pub states_alike : (events : List Event) (s : State P)
+      → state_after n events (state_map f s) ≡ state_map f (state_after m events s)
   states_alike [] s = refl
   states_alike (event ∷ events) s =
-      ap (λ (o : Outcome Q). state_after n events o.state) (step_alike s event) ∙ states_alike events (step m s event).state
+      ap (λ (o : Outcome Q). state_after n events o.state) (step_alike s event)
+      ∙ states_alike events (step m s event).state
 
 pub steps_alike : (s : State Plain) (event : Event) → StepsAlike s event
 steps_alike s event = record {
-  reply = ap (λ (o : Outcome Retained). o.reply) (step_alike plain_meaning retained_meaning retained_of retaining_carries s event);
-  state = ap (λ (o : Outcome Retained). o.state) (step_alike plain_meaning retained_meaning retained_of retaining_carries s event);
+  reply = ap (λ (o : Outcome Retained). o.reply)
+      (step_alike plain_meaning retained_meaning retained_of retaining_carries s event);
+  state = ap (λ (o : Outcome Retained). o.state)
+      (step_alike plain_meaning retained_meaning retained_of retaining_carries s event);
 }
 
 pub runs_alike : (s : State Plain) (events : List Event) → RunsAlike s events

@@ -8,22 +8,27 @@ use Rattle.kob_broker.specs.State.{State}
 use Rattle.kob_broker.specs.Step.{step, replies_of, state_after}
 
 module _ {P : Type 0} (m : Meaning P) where
-  pub replies_of-append : (xs ys : List Event) (s : State P) → replies_of m (xs ++ ys) s ≡ replies_of m xs s ++ replies_of m ys (state_after m xs s)
+  pub replies_of-append : (xs ys : List Event) (s : State P)
+      → replies_of m (xs ++ ys) s ≡ replies_of m xs s ++ replies_of m ys (state_after m xs s)
   replies_of-append [] ys s = refl
   replies_of-append (x ∷ xs) ys s = ap (λ rs. (step m s x).reply ∷ rs) (replies_of-append xs ys (step m s x).state)
 
-  pub state_after-append : (xs ys : List Event) (s : State P) → state_after m (xs ++ ys) s ≡ state_after m ys (state_after m xs s)
+  pub state_after-append : (xs ys : List Event) (s : State P)
+      → state_after m (xs ++ ys) s ≡ state_after m ys (state_after m xs s)
   state_after-append [] ys s = refl
   state_after-append (x ∷ xs) ys s = state_after-append xs ys (step m s x).state
 
-  pub replies_one_more : (events : List Event) (i : ℕ) (event : Event) (s : State P) → i < length events → event ≡ get_or events i event
-      → replies_of m (take (i + 1) events) s ≡ replies_of m (take i events) s ++ (step m (state_after m (take i events) s) event).reply ∷ []
+  pub replies_one_more : (events : List Event) (i : ℕ) (event : Event) (s : State P) → i < length events
+      → event ≡ get_or events i event
+      → replies_of m (take (i + 1) events) s
+      ≡ replies_of m (take i events) s ++ (step m (state_after m (take i events) s) event).reply ∷ []
   replies_one_more events i event s lt is =
       ap (λ es. replies_of m es s) (take_more events i event lt)
       ∙ replies_of-append (take i events) (get_or events i event ∷ []) s
       ∙ ap (λ e. replies_of m (take i events) s ++ (step m (state_after m (take i events) s) e).reply ∷ []) (sym is)
 
-  pub state_one_more : (events : List Event) (i : ℕ) (event : Event) (s : State P) → i < length events → event ≡ get_or events i event
+  pub state_one_more : (events : List Event) (i : ℕ) (event : Event) (s : State P) → i < length events
+      → event ≡ get_or events i event
       → state_after m (take (i + 1) events) s ≡ (step m (state_after m (take i events) s) event).state
   state_one_more events i event s lt is =
       ap (λ es. state_after m es s) (take_more events i event lt)
@@ -31,8 +36,10 @@ module _ {P : Type 0} (m : Meaning P) where
       ∙ ap (λ e. (step m (state_after m (take i events) s) e).state) (sym is)
 
   -- one event more, served where the run stands
-  pub one_event_more : (events : List Event) (i : ℕ) (event : Event) (s now next : State P) (replies more : List Reply) (reply : Reply)
-      → i < length events → event ≡ get_or events i event → replies ≡ replies_of m (take i events) s → now ≡ state_after m (take i events) s
+  pub one_event_more : (events : List Event) (i : ℕ) (event : Event) (s now next : State P) (replies more : List Reply)
+      (reply : Reply)
+      → i < length events → event ≡ get_or events i event → replies ≡ replies_of m (take i events) s
+      → now ≡ state_after m (take i events) s
       → reply ≡ (step m now event).reply → next ≡ (step m now event).state → more ≡ replies ++ reply ∷ []
       → (more ≡ replies_of m (take (i + 1) events) s) × (next ≡ state_after m (take (i + 1) events) s)
   one_event_more events i event s now next replies more reply lt is before stood told left put = (

@@ -32,7 +32,8 @@ module _ {A : Type 0} (shown : A → Type 0) where
     hidden_by : (x : A) → test x ≡ false → ¬ shown x
     hidden_by x is there = let untrue : true ≡ false = sym (no x there) ∙ is in cc
 
-    holds_step : (x y : A) (ys : List A) (b : Bool) → test y ≡ b → StandsIn x (filter test ys) ↔ (shown x × StandsIn x ys)
+    holds_step : (x y : A) (ys : List A) (b : Bool) → test y ≡ b
+        → StandsIn x (filter test ys) ↔ (shown x × StandsIn x ys)
         → StandsIn x (cond b (y ∷ filter test ys) (filter test ys)) ↔ (shown x × ((x ≡ y) ⊎ StandsIn x ys))
     holds_step x y ys true is rest = (
       λ here. elim here [
@@ -71,28 +72,33 @@ Pair = List ℕ × ℕ
 -- the topics that are listed are those of the listing of all whose name is granted
 listed_step : {P : Type 0} (granted : List ℕ → Bool) (topic : Topic P) (topics : List (Topic P)) (b : Bool)
     → listed_where granted topics ≡ filter (λ (p : Pair). granted p.0) (map listed topics)
-    → map listed (cond b (topic ∷ filter (λ (t : Topic P). granted t.name) topics) (filter (λ (t : Topic P). granted t.name) topics))
-    ≡ cond b (listed topic ∷ filter (λ (p : Pair). granted p.0) (map listed topics)) (filter (λ (p : Pair). granted p.0) (map listed topics))
+    → map listed (cond b (topic ∷ filter (λ (t : Topic P). granted t.name) topics)
+    (filter (λ (t : Topic P). granted t.name) topics))
+    ≡ cond b (listed topic ∷ filter (λ (p : Pair). granted p.0) (map listed topics))
+    (filter (λ (p : Pair). granted p.0) (map listed topics))
 listed_step granted topic topics true rest = ap (λ ps. listed topic ∷ ps) rest
 listed_step granted topic topics false rest = rest
 
 listed_filter : {P : Type 0} (granted : List ℕ → Bool) (topics : List (Topic P))
     → listed_where granted topics ≡ filter (λ (p : Pair). granted p.0) (map listed topics)
 listed_filter granted [] = refl
-listed_filter granted (topic ∷ topics) = listed_step granted topic topics (granted topic.name) (listed_filter granted topics)
+listed_filter granted (topic ∷ topics) =
+    listed_step granted topic topics (granted topic.name) (listed_filter granted topics)
 
 topics_listed : {P : Type 0} (granted : List ℕ → Bool) (topics : List (Topic P))
     → Lists (λ (p : Pair). IsTrue (granted p.0)) (listed_where granted topics) (map listed topics)
 topics_listed granted topics =
     subst (λ ps. Lists (λ (p : Pair). IsTrue (granted p.0)) ps (map listed topics)) (sym (listed_filter granted topics))
-    (lists_passing (λ (p : Pair). IsTrue (granted p.0)) (λ (p : Pair). granted p.0) (λ p is. is) (λ p is. is) (map listed topics))
+    (lists_passing (λ (p : Pair). IsTrue (granted p.0)) (λ (p : Pair). granted p.0) (λ p is. is) (λ p is. is)
+    (map listed topics))
 
 groups_listed : (cluster : Bool) (granted : List ℕ → Bool) (names : List (List ℕ))
     → Lists (λ name. IsTrue cluster ⊎ IsTrue (granted name)) (cond cluster names (filter granted names)) names
 groups_listed true granted names = lists_all (λ name. IsTrue true ⊎ IsTrue (granted name)) names (λ name. inl refl)
 groups_listed false granted names =
     lists_passing (λ name. IsTrue false ⊎ IsTrue (granted name)) granted (λ name is. inr is)
-    (λ name either. elim either [ inl untrue ↦ absurd (let false_is : false ≡ true = untrue in cc) | inr is ↦ is ]) names
+    (λ name either. elim either [ inl untrue ↦ absurd (let false_is : false ≡ true = untrue in cc) | inr is ↦ is ])
+    names
 
 module _ {P : Type 0} (m : Meaning P) where
   pub lists_topics : (s : State P) (event : Event) → ListsTopics m s event

@@ -43,7 +43,8 @@ changed (RemoveBindings made) broker =
     record (state_of broker) { access = without_taken made.filter broker.authorizer.contents }
 changed (Append place partition batch) broker = record (state_of broker) {
   topics = with_partition_at place partition
-      (retained_meaning.append (catalog_log broker.catalog place partition).kept batch) (topics_of broker.catalog);
+      (retained_meaning.append (catalog_log broker.catalog place partition).kept batch)
+      (topics_of broker.catalog);
 }
 changed (Commit made) broker = record (state_of broker) {
   groups = groups.with_commit made.place made.offset (groups_of broker.groups);

@@ -22,5 +22,7 @@ module _ {P : Type 0} where
   abbrev pub offset_commit_after : State P → OffsetCommit → State P
   offset_commit_after s commit =
       record s {
-        groups = with_commit (place_of commit.group commit.topic commit.partition) commit.offset s.groups;
+        groups =
+            with_commit (place_of commit.group commit.topic commit.partition) commit.offset
+            s.groups;
       }

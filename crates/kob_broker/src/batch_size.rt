@@ -16,7 +16,8 @@ pub(crate) fn is_within(records: &[Record], limit: u64) -> bool
 /// What is left of `room` bytes, if the records fit.
 #[tactic(auto, using(std::proofs::lemmas::List::Sums::sum_by_more, std::proofs::lemmas::List::Sums::sum_by_more_le))]
 fn room_after_records(records: &[Record], room: u64) -> Option<u64>
-    ensures { MatchOption result (room < batch_bytes records.now) (λ left. left + batch_bytes records.now ≡ room) }
+    ensures { MatchOption result (room < batch_bytes records.now)
+        (λ left. left + batch_bytes records.now ≡ room) }
 {
     let mut left = room;
     for message in records {
@@ -27,7 +28,8 @@ fn room_after_records(records: &[Record], room: u64) -> Option<u64>
 
 /// What is left of `room` bytes, if the record fits.
 fn room_after_record(message: &Record, room: u64) -> Option<u64>
-    ensures { MatchOption result (room < record_bytes message.now) (λ left. left + record_bytes message.now ≡ room) }
+    ensures { MatchOption result (room < record_bytes message.now)
+        (λ left. left + record_bytes message.now ≡ room) }
 {
     let left = room_after_key(&message.key, room)?;
     let left = left.checked_sub(message.value.len() as u64)?;

@@ -24,7 +24,8 @@ module _ {K X Y : Type 0} (part : X → Y) where
   pub seen_or : (test : K → Bool) (entries : List (K × X)) (other : X)
       → unwrap_or (lookup test (seen entries)) (part other) ≡ part (unwrap_or (lookup test entries) other)
   seen_or test entries other =
-      ap (λ found. unwrap_or found (part other)) (lookup-map_values part test entries) ∙ part_or part (lookup test entries) other
+      ap (λ found. unwrap_or found (part other)) (lookup-map_values part test entries)
+      ∙ part_or part (lookup test entries) other
 
   pub seen_some : (test : K → Bool) (entries : List (K × X)) (x : X) (none : Y) → lookup test entries ≡ Some x
       → unwrap_or (lookup test (seen entries)) none ≡ part x
@@ -44,7 +45,8 @@ module _ {K X Y : Type 0} (part : X → Y) where
   seen_length entries = length-map entries (λ entry. (entry.0, part entry.1))
 
   -- whether a key is there
-  pub seen_has : (test : K → Bool) (entries : List (K × X)) → is_some (lookup test (seen entries)) ≡ is_some (lookup test entries)
+  pub seen_has : (test : K → Bool) (entries : List (K × X))
+      → is_some (lookup test (seen entries)) ≡ is_some (lookup test entries)
   seen_has test entries = ap is_some (lookup-map_values part test entries) ∙ part_some part (lookup test entries)
 
   -- a value that is put in
@@ -55,12 +57,14 @@ module _ {K X Y : Type 0} (part : X → Y) where
     where
       by : (hit : Bool) → seen (insert_entry same entries key x) ≡ insert_entry same (seen entries) key (part x)
           → seen (cond hit ((entry.0, x) ∷ entries) (entry ∷ insert_entry same entries key x))
-          ≡ cond hit ((entry.0, part x) ∷ seen entries) ((entry.0, part entry.1) ∷ insert_entry same (seen entries) key (part x))
+          ≡ cond hit ((entry.0, part x) ∷ seen entries)
+          ((entry.0, part entry.1) ∷ insert_entry same (seen entries) key (part x))
       by true rest = refl
       by false rest = ap (λ es. (entry.0, part entry.1) ∷ es) rest
 
   -- a value that is changed, or put in for a key that is absent
-  pub seen_changed : (same : K → K → Bool) (entries : List (K × X)) (key : K) (fresh inner final : X) (none : Y) (change : Y → Y)
+  pub seen_changed : (same : K → K → Bool) (entries : List (K × X)) (key : K) (fresh inner final : X) (none : Y)
+      (change : Y → Y)
       → part final ≡ change (part inner) → inner ≡ unwrap_or (lookup (same key) entries) fresh → part fresh ≡ none
       → seen (insert_entry same entries key final)
       ≡ insert_entry same (seen entries) key (change (unwrap_or (lookup (same key) (seen entries)) none))
@@ -71,10 +75,12 @@ module _ {K X Y : Type 0} (part : X → Y) where
       ∙ ap (λ other. unwrap_or (lookup (same key) (seen entries)) other) empty))
 
   -- a value that is written and seen as before
-  pub seen_written : (test : K → Bool) (entries : List (K × X)) (old x : X) → lookup test entries ≡ Some old → part x ≡ part old
+  pub seen_written : (test : K → Bool) (entries : List (K × X)) (old x : X) → lookup test entries ≡ Some old
+      → part x ≡ part old
       → seen (set_value test entries x) ≡ seen entries
   seen_written test [] old x found same = refl
-  seen_written test (entry ∷ entries) old x found same = by (test entry.0) found (λ later. seen_written test entries old x later same)
+  seen_written test (entry ∷ entries) old x found same =
+      by (test entry.0) found (λ later. seen_written test entries old x later same)
     where
       by : (hit : Bool) → cond hit (Some entry.1) (lookup test entries) ≡ Some old
           → (lookup test entries ≡ Some old → seen (set_value test entries x) ≡ seen entries)
@@ -90,7 +96,8 @@ module _ {K X Y : Type 0} (part : X → Y) where
       kept : List (K × Y)
       kept = filter (λ e. not (test e.0)) (seen entries)
 
-      by : (hit : Bool) → cond hit (Some entry.1) (lookup test entries) ≡ None → (lookup test entries ≡ None → seen entries ≡ kept)
+      by : (hit : Bool) → cond hit (Some entry.1) (lookup test entries) ≡ None
+          → (lookup test entries ≡ None → seen entries ≡ kept)
           → seen (entry ∷ entries) ≡ cond (not hit) ((entry.0, part entry.1) ∷ kept) kept
       by true none rest = cc
       by false none rest = ap (λ es. (entry.0, part entry.1) ∷ es) (rest none)
@@ -106,7 +113,8 @@ module _ {K X Y : Type 0} (part : X → Y) where
 
       by : (hit : Bool) → test entry.0 ≡ hit → lookup test (cond hit entries (entry ∷ remove_entry test entries)) ≡ None
           → (lookup test (remove_entry test entries) ≡ None → seen (remove_entry test entries) ≡ kept)
-          → seen (cond hit entries (entry ∷ remove_entry test entries)) ≡ cond (not hit) ((entry.0, part entry.1) ∷ kept) kept
+          → seen (cond hit entries (entry ∷ remove_entry test entries))
+          ≡ cond (not hit) ((entry.0, part entry.1) ∷ kept) kept
       by true is gone rest = absent_kept test entries gone
       by false is gone rest =
           ap (λ es. (entry.0, part entry.1) ∷ es)
@@ -117,7 +125,8 @@ module _ {K X : Type 0} (same : K → K → Bool) where
   pub written_inserted : (entries : List (K × X)) (key : K) (old x : X) → lookup (same key) entries ≡ Some old
       → set_value (same key) entries x ≡ insert_entry same entries key x
   written_inserted [] key old x found = cc
-  written_inserted (entry ∷ entries) key old x found = by (same key entry.0) found (λ later. written_inserted entries key old x later)
+  written_inserted (entry ∷ entries) key old x found =
+      by (same key entry.0) found (λ later. written_inserted entries key old x later)
     where
       by : (hit : Bool) → cond hit (Some entry.1) (lookup (same key) entries) ≡ Some old
           → (lookup (same key) entries ≡ Some old → set_value (same key) entries x ≡ insert_entry same entries key x)
@@ -127,10 +136,12 @@ module _ {K X : Type 0} (same : K → K → Bool) where
       by false later rest = ap (λ es. entry ∷ es) (rest later)
 
 -- what is found after a write
-pub found_written : {K X : Type 0} (test : K → Bool) (entries : List (K × X)) (old x : X) → lookup test entries ≡ Some old
+pub found_written : {K X : Type 0} (test : K → Bool) (entries : List (K × X)) (old x : X)
+    → lookup test entries ≡ Some old
     → lookup test (set_value test entries x) ≡ Some x
 found_written test [] old x found = cc
-found_written test (entry ∷ entries) old x found = by (test entry.0) refl found (λ later. found_written test entries old x later)
+found_written test (entry ∷ entries) old x found =
+    by (test entry.0) refl found (λ later. found_written test entries old x later)
   where
     by : (hit : Bool) → test entry.0 ≡ hit → cond hit (Some entry.1) (lookup test entries) ≡ Some old
         → (lookup test entries ≡ Some old → lookup test (set_value test entries x) ≡ Some x)
@@ -140,7 +151,8 @@ found_written test (entry ∷ entries) old x found = by (test entry.0) refl foun
 
 -- what a map's `retain` leaves whose closure keeps all, and changes what is seen of each value
 module _ {K X Y F : Type 0} (part : X → Y) (change : Y → Y) (T : F → K → X → Bool → X → F → Type 0) (f : F)
-    (says : (k : K) (x : X) (b : Bool) (w : X) (g : F) → T f k x b w g → (b ≡ true) × (part w ≡ change (part x)) × (g ≡ f)) where
+    (says : (k : K) (x : X) (b : Bool) (w : X) (g : F) → T f k x b w g
+    → (b ≡ true) × (part w ≡ change (part x)) × (g ≡ f)) where
   pub seen_retained : (entries kept : List (K × X)) → RetainsPairs T f entries kept
       → seen part kept ≡ map (λ entry. (entry.0, change entry.1)) (seen part entries)
   seen_retained [] kept h = ap (seen part) h

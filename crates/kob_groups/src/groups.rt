@@ -1,7 +1,9 @@
 //! Groups in order of their first commit, with their committed offsets.
 
 ghost use Rattle.std.specs.Prelude.{◌≡◌, ◌<◌, true, false, IsErrOf, IfOk, OnErr, OnOk};
-ghost use Rattle.kob_groups.specs.Groups.{committed_at, group_names, has_group, is_full_for, no_groups, place_of, with_commit, without_group, without_offsets, without_topic};
+ghost use Rattle.kob_groups.specs.Groups.{committed_at, group_names, has_group, is_full_for};
+ghost use Rattle.kob_groups.specs.Groups.{no_groups, place_of, with_commit, without_group};
+ghost use Rattle.kob_groups.specs.Groups.{without_offsets, without_topic};
 
 use crate::commit::{CommitFault, PreparedCommit};
 use crate::commits::Commits;
@@ -198,7 +200,8 @@ impl Groups {
         self.by_name.retain(
             |_name: &Text, commits: &mut Commits| -> bool
                 ensures { (result ≡ true)
-                    × (commits_in commits.new ≡ without_offsets topic.entry.now (commits_in commits.old)) }
+                    × (commits_in commits.new
+                    ≡ without_offsets topic.entry.now (commits_in commits.old)) }
             {
                 commits.forget(topic);
                 true

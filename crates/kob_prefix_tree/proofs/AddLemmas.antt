@@ -26,11 +26,13 @@ module _ {A E : Type 0} where
     done_by (Ok a) held = with_serials kind serials held
     done_by (Err e) held = held
 
-    pub at_done : (r : Result A E) (new old : Held) → OnOk r (new ≡ with_serials kind serials old) → OnErr r (new ≡ old) → new ≡ done_by r old
+    pub at_done : (r : Result A E) (new old : Held) → OnOk r (new ≡ with_serials kind serials old)
+        → OnErr r (new ≡ old) → new ≡ done_by r old
     at_done (Ok a) new old put refused = put
     at_done (Err e) new old put refused = refused
 
-    pub put_done : (r : Result A E) (new old : Held) → new ≡ done_by r old → OnOk r (new ≡ with_serials kind serials old)
+    pub put_done : (r : Result A E) (new old : Held) → new ≡ done_by r old
+        → OnOk r (new ≡ with_serials kind serials old)
     put_done (Ok a) new old is = is
     put_done (Err e) new old is = tt
 
@@ -39,10 +41,13 @@ module _ {A E : Type 0} where
     refused_done (Err e) new old is = is
 
     -- what was not bare is not bare after it
-    pub some_done : (r : Result A E) (key : List ℕ) (c d : Contents) → serials ≢ [] → IsNeat c.1 → c ≢ bare → ChangedAt key (done_by r) c d → d ≢ bare
-    some_done (Ok a) key c d some neat used done none = with_some kind serials (held_in key c) some (sym done.at ∙ ap (held_in key) none ∙ held_in_bare key)
+    pub some_done : (r : Result A E) (key : List ℕ) (c d : Contents) → serials ≢ [] → IsNeat c.1 → c ≢ bare
+        → ChangedAt key (done_by r) c d → d ≢ bare
+    some_done (Ok a) key c d some neat used done none =
+        with_some kind serials (held_in key c) some (sym done.at ∙ ap (held_in key) none ∙ held_in_bare key)
     some_done (Err e) key c d some neat used done none =
         let (k, holds) = some_key c.0.0 c.0.1 c.1 neat used in
         let gone : held_in k d ≡ nothing = ap (held_in k) none ∙ held_in_bare k in
-        let other : k ≢ key = λ same. holds (ap (λ x. held_in x c) same ∙ sym done.at ∙ ap (λ x. held_in x d) (sym same) ∙ gone) in
+        let other : k ≢ key =
+        λ same. holds (ap (λ x. held_in x c) same ∙ sym done.at ∙ ap (λ x. held_in x d) (sym same) ∙ gone) in
         holds (sym (done.elsewhere k other) ∙ gone)

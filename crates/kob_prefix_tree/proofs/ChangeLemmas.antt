@@ -32,8 +32,11 @@ no_bytes : (key : List ℕ) → length key ≡ 0 → [] ≡ key
 no_bytes [] e = refl
 no_bytes (x ∷ key) e = absurd (omega arith)
 
-pub changed_own : (f : Held → Held) (key : List ℕ) {h h' : Held} (t : Tree Item) → length key ≡ 0 → h' ≡ f h → IsNeat t → ChangedAt key f (h, t) (h', t)
-changed_own f key {h} {h'} t none is neat = subst (λ k. ChangedAt k f (h, t) (h', t)) (no_bytes key none) (subst (λ x. ChangedAt [] f (h, t) (x, t)) (sym is) (changed_here f h t neat))
+pub changed_own : (f : Held → Held) (key : List ℕ) {h h' : Held} (t : Tree Item) → length key ≡ 0 → h' ≡ f h → IsNeat t
+    → ChangedAt key f (h, t) (h', t)
+changed_own f key {h} {h'} t none is neat =
+    subst (λ k. ChangedAt k f (h, t) (h', t)) (no_bytes key none)
+    (subst (λ x. ChangedAt [] f (h, t) (x, t)) (sym is) (changed_here f h t neat))
 
 pub some_behind : (xs ys : List ℕ) {zs : List ℕ} → zs ≡ xs ++ ys → ys ≢ [] → zs ≢ []
 some_behind [] ys is some none = some (sym is ∙ none)
@@ -53,7 +56,8 @@ held_behind None key = held_in_bare key
 held_behind (Some c) key = refl
 
 -- what stood behind a byte is neat
-pub neat_behind : (byte : ℕ) (t : Tree Item) {c : Contents} → IsNeat t → c ≡ unwrap_or (value_at byte (siblings t)) bare → IsNeat c.1
+pub neat_behind : (byte : ℕ) (t : Tree Item) {c : Contents} → IsNeat t
+    → c ≡ unwrap_or (value_at byte (siblings t)) bare → IsNeat c.1
 neat_behind byte t {c} neat is = subst (λ (x : Contents). IsNeat x.1) (sym is)
     (elim (value_at byte (siblings t)) as (λ o. value_at byte (siblings t) ≡ o → IsNeat (unwrap_or o bare).1) [
       | None ↦ λ e. tt
@@ -62,55 +66,70 @@ neat_behind byte t {c} neat is = subst (λ (x : Contents). IsNeat x.1) (sym is)
 
 -- a node that was found, and one that was not
 abbrev Found : ℕ → Tree Item → Option (Bor (Node Item (Link Item) (Link Item))) → Type 0
-Found byte t o = MatchOption o (value_at byte (siblings t) ≡ None) (λ n. value_at byte (siblings t) ≡ Some (node_contents n.now))
+Found byte t o =
+    MatchOption o (value_at byte (siblings t) ≡ None) (λ n. value_at byte (siblings t) ≡ Some (node_contents n.now))
 
-pub found_one : (byte : ℕ) (t : Tree Item) (o : Option (Bor (Node Item (Link Item) (Link Item)))) → Found byte t o → is_some o ≡ true → (v : Contents) × (value_at byte (siblings t) ≡ Some v)
+pub found_one : (byte : ℕ) (t : Tree Item) (o : Option (Bor (Node Item (Link Item) (Link Item)))) → Found byte t o
+    → is_some o ≡ true → (v : Contents) × (value_at byte (siblings t) ≡ Some v)
 found_one byte t None found some = absurd (true≢false (sym some))
 found_one byte t (Some n) found some = (node_contents n.now, found)
 
-pub found_none : (byte : ℕ) (t : Tree Item) (o : Option (Bor (Node Item (Link Item) (Link Item)))) → Found byte t o → is_some o ≡ false → value_at byte (siblings t) ≡ None
+pub found_none : (byte : ℕ) (t : Tree Item) (o : Option (Bor (Node Item (Link Item) (Link Item)))) → Found byte t o
+    → is_some o ≡ false → value_at byte (siblings t) ≡ None
 found_none byte t None found none = found
 found_none byte t (Some n) found none = absurd (true≢false none)
 
 -- something stands behind the byte, so the place is not bare
-pub not_bare : (byte : ℕ) (c : Contents) (h : Held) (t : Tree Item) → value_at byte (siblings t) ≡ Some c → (h, t) ≢ bare
+pub not_bare : (byte : ℕ) (c : Contents) (h : Held) (t : Tree Item) → value_at byte (siblings t) ≡ Some c
+    → (h, t) ≢ bare
 not_bare byte c h t is e = some_not_none c (sym is ∙ ap (λ (x : Contents). value_at byte (siblings x.1)) e)
 
 module _ (f : Held → Held) (byte : ℕ) (rest : List ℕ) (h : Held) (t t' : Tree Item) where
-  changed_below : IsNeat t' → behind_one (held_in rest) (value_at byte (siblings t')) ≡ f (behind_one (held_in rest) (value_at byte (siblings t)))
-      → ((key : List ℕ) → key ≢ rest → behind_one (held_in key) (value_at byte (siblings t')) ≡ behind_one (held_in key) (value_at byte (siblings t)))
-      → ((b : ℕ) → b ≢ byte → value_at b (siblings t') ≡ value_at b (siblings t)) → ChangedAt (byte ∷ rest) f (h, t) (h, t')
+  changed_below : IsNeat t' → behind_one (held_in rest) (value_at byte (siblings t'))
+      ≡ f (behind_one (held_in rest) (value_at byte (siblings t)))
+      → ((key : List ℕ) → key ≢ rest → behind_one (held_in key) (value_at byte (siblings t'))
+      ≡ behind_one (held_in key) (value_at byte (siblings t)))
+      → ((b : ℕ) → b ≢ byte → value_at b (siblings t') ≡ value_at b (siblings t))
+      → ChangedAt (byte ∷ rest) f (h, t) (h, t')
   changed_below neat at beside others = record {
     neat = neat;
     at = at;
     elsewhere = λ other. elim other as (λ k. k ≢ byte ∷ rest → held_in k (h, t') ≡ held_in k (h, t)) [
       | [] ↦ λ ne. refl
-      | b ∷ key ↦ λ ne. elim (b == byte) as (λ e. b == byte ≡ e → held_in (b ∷ key) (h, t') ≡ held_in (b ∷ key) (h, t)) [
-        | true ↦ λ e.
-            let same = eqb-true b byte e in
-            subst (λ x. behind_one (held_in key) (value_at x (siblings t')) ≡ behind_one (held_in key) (value_at x (siblings t))) (sym same) (beside key (λ is. ne (λ i. same i ∷ is i)))
-        | false ↦ λ e. ap (behind_one (held_in key)) (others b (differ b byte e))
-      ] refl
+      | b ∷ key ↦ λ ne. elim (b == byte) as
+          (λ e. b == byte ≡ e → held_in (b ∷ key) (h, t') ≡ held_in (b ∷ key) (h, t)) [
+            | true ↦ λ e.
+                let same = eqb-true b byte e in
+                subst (λ x. behind_one (held_in key) (value_at x (siblings t'))
+                ≡ behind_one (held_in key) (value_at x (siblings t))) (sym same)
+                (beside key (λ is. ne (λ i. same i ∷ is i)))
+            | false ↦ λ e. ap (behind_one (held_in key)) (others b (differ b byte e))
+          ] refl
     ];
   }
 
-  module _ {c d : Contents} (neat : IsNeat t) (was : c ≡ unwrap_or (value_at byte (siblings t)) bare) (done : ChangedAt rest f c d) where
+  module _ {c d : Contents} (neat : IsNeat t) (was : c ≡ unwrap_or (value_at byte (siblings t)) bare)
+      (done : ChangedAt rest f c d) where
     pub had : (key : List ℕ) → held_in key c ≡ behind_one (held_in key) (value_at byte (siblings t))
     had key = ap (held_in key) was ∙ held_behind (value_at byte (siblings t)) key
 
     -- d stands behind the byte now
-    stands : IsNeat t' → value_at byte (siblings t') ≡ Some d → ((b : ℕ) → b ≢ byte → value_at b (siblings t') ≡ value_at b (siblings t)) → ChangedAt (byte ∷ rest) f (h, t) (h, t')
+    stands : IsNeat t' → value_at byte (siblings t') ≡ Some d
+        → ((b : ℕ) → b ≢ byte → value_at b (siblings t') ≡ value_at b (siblings t))
+        → ChangedAt (byte ∷ rest) f (h, t) (h, t')
     stands neat' is others = changed_below neat'
         (ap (behind_one (held_in rest)) is ∙ done.at ∙ ap f (had rest))
         (λ key ne. ap (behind_one (held_in key)) is ∙ done.elsewhere key ne ∙ had key) others
 
-    pub linked_front : value_at byte (siblings t) ≡ None → d ≢ bare → siblings t' ≡ (byte, d) ∷ siblings t → ChangedAt (byte ∷ rest) f (h, t) (h, t')
+    pub linked_front : value_at byte (siblings t) ≡ None → d ≢ bare → siblings t' ≡ (byte, d) ∷ siblings t
+        → ChangedAt (byte ∷ rest) f (h, t) (h, t')
     linked_front none some is = stands
         (neat_tree t' (subst AllNeat (sym is) (none, (some, (done.neat, neat_list t neat)))))
         (ap (value_at byte) is ∙ at_first byte d (siblings t))
         (λ b ne. ap (value_at b) is ∙ at_past b byte d (siblings t) (λ same. ne (sym same)))
 
-    pub put_back : {v : Contents} → value_at byte (siblings t) ≡ Some v → d ≢ bare → siblings t' ≡ with_value byte d (siblings t) → ChangedAt (byte ∷ rest) f (h, t) (h, t')
+    pub put_back : {v : Contents} → value_at byte (siblings t) ≡ Some v → d ≢ bare
+        → siblings t' ≡ with_value byte d (siblings t) → ChangedAt (byte ∷ rest) f (h, t) (h, t')
     put_back {v} there some is = stands
         (neat_tree t' (subst AllNeat (sym is) (neat_changed byte d (siblings t) (neat_list t neat) some done.neat)))
         (ap (value_at byte) is ∙ at_changed byte d v (siblings t) there)
@@ -118,8 +137,10 @@ module _ (f : Held → Held) (byte : ℕ) (rest : List ℕ) (h : Held) (t t' : T
 
     pub taken_out : d ≡ bare → siblings t' ≡ without byte (siblings t) → ChangedAt (byte ∷ rest) f (h, t) (h, t')
     taken_out none is =
-        let gone : value_at byte (siblings t') ≡ None = ap (value_at byte) is ∙ at_without byte (siblings t) (neat_list t neat) in
-        let left : (key : List ℕ) → behind_one (held_in key) (value_at byte (siblings t')) ≡ held_in key d = λ key. ap (behind_one (held_in key)) gone ∙ sym (held_in_bare key) ∙ ap (held_in key) (sym none) in
+        let gone : value_at byte (siblings t') ≡ None =
+        ap (value_at byte) is ∙ at_without byte (siblings t) (neat_list t neat) in
+        let left : (key : List ℕ) → behind_one (held_in key) (value_at byte (siblings t')) ≡ held_in key d =
+        λ key. ap (behind_one (held_in key)) gone ∙ sym (held_in_bare key) ∙ ap (held_in key) (sym none) in
         changed_below
         (neat_tree t' (subst AllNeat (sym is) (neat_without byte (siblings t) (neat_list t neat))))
         (left rest ∙ done.at ∙ ap f (had rest))
@@ -127,7 +148,8 @@ module _ (f : Held → Held) (byte : ℕ) (rest : List ℕ) (h : Held) (t t' : T
         (λ b ne. ap (value_at b) is ∙ at_without_other byte b (siblings t) ne)
 
 -- nothing stands behind the byte, and nothing is done
-pub unchanged : (f : Held → Held) (byte : ℕ) (rest : List ℕ) (h : Held) (t : Tree Item) → IsNeat t → value_at byte (siblings t) ≡ None → nothing ≡ f nothing → ChangedAt (byte ∷ rest) f (h, t) (h, t)
+pub unchanged : (f : Held → Held) (byte : ℕ) (rest : List ℕ) (h : Held) (t : Tree Item) → IsNeat t
+    → value_at byte (siblings t) ≡ None → nothing ≡ f nothing → ChangedAt (byte ∷ rest) f (h, t) (h, t)
 unchanged f byte rest h t neat none same = record {
   neat = neat;
   at = ap (behind_one (held_in rest)) none ∙ same ∙ ap (λ o. f (behind_one (held_in rest) o)) (sym none);

@@ -56,7 +56,8 @@ joined_one n l last i =
     node n.item n.alloc n.child.first n.child.nodes (if_none (last i) l.first n.next.first) (with_others (last i) l)
 
 joined_more : {X : Type 0} (n : Node X (Link X) (Link X)) (l : Link X) → Leads n.next.nodes
-    → with_others (tree_of n) l ≡ tree_of (with_next n (record { first = n.next.first; nodes = with_others n.next.nodes l }))
+    → with_others (tree_of n) l ≡ tree_of (with_next n
+    (record { first = n.next.first; nodes = with_others n.next.nodes l }))
 joined_more {X = X} n l leads i =
     node n.item n.alloc n.child.first n.child.nodes (there n.next.nodes leads i) (with_others n.next.nodes l)
   where

@@ -1,8 +1,10 @@
--- What a tree's map holds after a change, and which serials a walk gives: for the crates that keep a tree beside a list of their own.
+-- What a tree's map holds after a change, and which serials a walk gives: for the crates that keep a tree beside a list
+-- of their own.
 --     held_empty                              the empty map holds nothing
 --     held_added_same, held_added_other       after `added`, at the key and at any other
 --     held_removed_same, held_removed_other   after `removed`
---     walk_has_prefixed, walk_has_literal     a walk of a name has the prefixed serials of each key that the name begins with, and its literal ones
+--     walk_has_prefixed, walk_has_literal     a walk of a name has the prefixed serials of each key that the name
+-- begins with, and its literal ones
 --     walk_only                               and no others
 use Rattle.std.proofs.Common.{◌≡◌, ◌≢◌, ◌⊎◌, inl, inr, arith, ℕ, true, false, cond, List, [], ◌∷◌, ◌++◌, map as each, None, Some, refl, sym, ap, ◌∙◌, subst}
 use Rattle.std.specs.Option.{unwrap_or}
@@ -24,29 +26,39 @@ itself : (key : List ℕ) → bytes key key ≡ true
 itself key = ap is_eq (tied_itself nat_list_cmp_total key)
 
 apart : (other key : List ℕ) → other ≢ key → bytes other key ≡ false
-apart other key ne = elim (bytes other key) as (λ b. bytes other key ≡ b → b ≡ false) [ true ↦ λ e. absurd (ne (same_bytes other key e)) | false ↦ λ e. refl ] refl
+apart other key ne =
+    elim (bytes other key) as (λ b. bytes other key ≡ b
+    → b ≡ false) [ true ↦ λ e. absurd (ne (same_bytes other key e)) | false ↦ λ e. refl ] refl
 
 pub held_empty : (key : List ℕ) → held map.empty key ≡ nothing
 held_empty key = ap (λ o. unwrap_or o nothing) (map.get-empty (slice_cmp nat_cmp) key)
 
 module _ (m : PrefixMap) (key : List ℕ) (kind : PatternKind) (serial : ℕ) where
-  inserted : (h : Held) (k : List ℕ) → held (map.insert m key h) k ≡ unwrap_or (cond (bytes k key) (Some h) (map.get m k)) nothing
+  inserted : (h : Held) (k : List ℕ) → held (map.insert m key h) k
+      ≡ unwrap_or (cond (bytes k key) (Some h) (map.get m k)) nothing
   inserted h k = ap (λ o. unwrap_or o nothing) (map.get-insert nat_list_cmp_total m key h k)
 
   gone : (k : List ℕ) → held (map.remove m key) k ≡ unwrap_or (cond (bytes k key) None (map.get m k)) nothing
   gone k = ap (λ o. unwrap_or o nothing) (map.get-remove nat_list_cmp_total m key k)
 
   pub held_added_same : held (added m key kind serial) key ≡ with_serial kind serial (held m key)
-  held_added_same = inserted (with_serial kind serial (held m key)) key ∙ ap (λ b. unwrap_or (cond b (Some (with_serial kind serial (held m key))) (map.get m key)) nothing) (itself key)
+  held_added_same =
+      inserted (with_serial kind serial (held m key)) key
+      ∙ ap (λ b. unwrap_or (cond b (Some (with_serial kind serial (held m key))) (map.get m key)) nothing) (itself key)
 
   pub held_added_other : (other : List ℕ) → other ≢ key → held (added m key kind serial) other ≡ held m other
-  held_added_other other ne = inserted (with_serial kind serial (held m key)) other ∙ ap (λ b. unwrap_or (cond b (Some (with_serial kind serial (held m key))) (map.get m other)) nothing) (apart other key ne)
+  held_added_other other ne =
+      inserted (with_serial kind serial (held m key)) other
+      ∙ ap (λ b. unwrap_or (cond b (Some (with_serial kind serial (held m key))) (map.get m other)) nothing)
+      (apart other key ne)
 
   pub held_removed_same : held (removed m key kind serial) key ≡ without_serial kind serial (held m key)
   held_removed_same =
       let left = without_serial kind serial (held m key) in
-      elim (is_nothing left) as (λ b. is_nothing left ≡ b → held (cond b (map.remove m key) (map.insert m key left)) key ≡ left) [
-        | true ↦ λ e. gone key ∙ ap (λ b. unwrap_or (cond b None (map.get m key)) nothing) (itself key) ∙ sym (is_nothing-true left e)
+      elim (is_nothing left) as (λ b. is_nothing left ≡ b
+      → held (cond b (map.remove m key) (map.insert m key left)) key ≡ left) [
+        | true ↦ λ e. gone key ∙ ap (λ b. unwrap_or (cond b None (map.get m key)) nothing) (itself key)
+            ∙ sym (is_nothing-true left e)
         | false ↦ λ e. inserted left key ∙ ap (λ b. unwrap_or (cond b (Some left) (map.get m key)) nothing) (itself key)
       ] refl
 
@@ -55,20 +67,26 @@ module _ (m : PrefixMap) (key : List ℕ) (kind : PatternKind) (serial : ℕ) wh
       let left = without_serial kind serial (held m key) in
       elim (is_nothing left) as (λ b. held (cond b (map.remove m key) (map.insert m key left)) other ≡ held m other) [
         | true ↦ gone other ∙ ap (λ b. unwrap_or (cond b None (map.get m other)) nothing) (apart other key ne)
-        | false ↦ inserted left other ∙ ap (λ b. unwrap_or (cond b (Some left) (map.get m other)) nothing) (apart other key ne)
+        | false ↦ inserted left other ∙ ap (λ b. unwrap_or (cond b (Some left) (map.get m other)) nothing)
+            (apart other key ne)
       ]
 
 -- a value is among those that a function gives for the beginnings of a name
-has_beginning : (f : List ℕ → List ℕ) (begin rest : List ℕ) (x : ℕ) → Contains (f begin) x → Contains (flat_map f (prefixes (begin ++ rest))) x
-has_beginning f [] rest x has = subst (λ ps. Contains (flat_map f ps) x) (sym (prefixes-longer rest)) (Contains-append_left (f []) _ x has)
+has_beginning : (f : List ℕ → List ℕ) (begin rest : List ℕ) (x : ℕ) → Contains (f begin) x
+    → Contains (flat_map f (prefixes (begin ++ rest))) x
+has_beginning f [] rest x has =
+    subst (λ ps. Contains (flat_map f ps) x) (sym (prefixes-longer rest)) (Contains-append_left (f []) _ x has)
 has_beginning f (byte ∷ begin) rest x has =
-    Contains-append_right (f []) _ x (subst (λ ys. Contains ys x) (sym (flat_map-map f (λ prefix. byte ∷ prefix) (prefixes (begin ++ rest)))) (has_beginning (λ prefix. f (byte ∷ prefix)) begin rest x has))
+    Contains-append_right (f []) _ x (subst (λ ys. Contains ys x)
+    (sym (flat_map-map f (λ prefix. byte ∷ prefix) (prefixes (begin ++ rest))))
+    (has_beginning (λ prefix. f (byte ∷ prefix)) begin rest x has))
 
 -- a beginning of a name for which a function gives a value
 abbrev pub BeginningWith : (List ℕ → List ℕ) → List ℕ → ℕ → Type 0
 BeginningWith f name x = (begin : List ℕ) × ((rest : List ℕ) × ((begin ++ rest ≡ name) × Contains (f begin) x))
 
-only_beginnings : (f : List ℕ → List ℕ) (name : List ℕ) (x : ℕ) → Contains (flat_map f (prefixes name)) x → BeginningWith f name x
+only_beginnings : (f : List ℕ → List ℕ) (name : List ℕ) (x : ℕ) → Contains (flat_map f (prefixes name)) x
+    → BeginningWith f name x
 only_beginnings f [] x has =
     elim (Contains-append_cases (f []) [] x has) as (λ _. BeginningWith f [] x) [
       | inl here ↦ ([], ([], (refl, here)))
@@ -78,10 +96,13 @@ only_beginnings f [] x has =
     nothing_there : Contains [] x → ⊥
     nothing_there (k, below, _) = omega (arith, below)
 only_beginnings f (byte ∷ name) x has =
-    elim (Contains-append_cases (f []) (flat_map f (each (λ prefix. byte ∷ prefix) (prefixes name))) x has) as (λ _. BeginningWith f (byte ∷ name) x) [
+    elim (Contains-append_cases (f []) (flat_map f (each (λ prefix. byte ∷ prefix) (prefixes name))) x has) as
+    (λ _. BeginningWith f (byte ∷ name) x) [
       | inl here ↦ ([], (byte ∷ name, (refl, here)))
       | inr there ↦
-          let (begin, (rest, (is, at))) = only_beginnings (λ prefix. f (byte ∷ prefix)) name x (subst (λ ys. Contains ys x) (flat_map-map f (λ prefix. byte ∷ prefix) (prefixes name)) there) in
+          let (begin, (rest, (is, at))) =
+          only_beginnings (λ prefix. f (byte ∷ prefix)) name x
+          (subst (λ ys. Contains ys x) (flat_map-map f (λ prefix. byte ∷ prefix) (prefixes name)) there) in
           (byte ∷ begin, (rest, (ap (λ ys. byte ∷ ys) is, at)))
     ]
 
@@ -89,15 +110,20 @@ module _ (m : PrefixMap) (serial : ℕ) where
   abbrev prefixed : List ℕ → List ℕ
   prefixed key = (held m key).1
 
-  pub walk_has_prefixed : (key rest : List ℕ) → Contains (held m key).1 serial → Contains (walk_of m (key ++ rest)) serial
-  walk_has_prefixed key rest has = Contains-append_left (flat_map prefixed (prefixes (key ++ rest))) _ serial (has_beginning prefixed key rest serial has)
+  pub walk_has_prefixed : (key rest : List ℕ) → Contains (held m key).1 serial
+      → Contains (walk_of m (key ++ rest)) serial
+  walk_has_prefixed key rest has =
+      Contains-append_left (flat_map prefixed (prefixes (key ++ rest))) _ serial
+      (has_beginning prefixed key rest serial has)
 
   pub walk_has_literal : (name : List ℕ) → Contains (held m name).0 serial → Contains (walk_of m name) serial
   walk_has_literal name has = Contains-append_right (flat_map prefixed (prefixes name)) (held m name).0 serial has
 
-  pub walk_only : (name : List ℕ) → Contains (walk_of m name) serial → BeginningWith (λ key. (held m key).1) name serial ⊎ Contains (held m name).0 serial
+  pub walk_only : (name : List ℕ) → Contains (walk_of m name) serial
+      → BeginningWith (λ key. (held m key).1) name serial ⊎ Contains (held m name).0 serial
   walk_only name has =
-      elim (Contains-append_cases (flat_map prefixed (prefixes name)) (held m name).0 serial has) as (λ _. BeginningWith prefixed name serial ⊎ Contains (held m name).0 serial) [
+      elim (Contains-append_cases (flat_map prefixed (prefixes name)) (held m name).0 serial has) as
+      (λ _. BeginningWith prefixed name serial ⊎ Contains (held m name).0 serial) [
         | inl before ↦ inl (only_beginnings prefixed name serial before)
         | inr last ↦ inr last
       ]

@@ -13,18 +13,22 @@ module _ {A : Type 0} (test : A → Bool) where
   pub none_in_first : (xs ys : List A) → list_any test xs ≡ false → list_any test (xs ++ ys) ≡ list_any test ys
   none_in_first xs ys none = list_any-append test xs ys ∙ ap (λ b. b || list_any test ys) none
 
-  pub taken_of_first : (xs ys : List A) → list_any test xs ≡ true → without_first test (xs ++ ys) ≡ without_first test xs ++ ys
+  pub taken_of_first : (xs ys : List A) → list_any test xs ≡ true
+      → without_first test (xs ++ ys) ≡ without_first test xs ++ ys
   taken_of_first [] ys some = absurd (true≢false (sym some))
   taken_of_first (x ∷ xs) ys some =
-      elim (test x) as (λ t. (t || list_any test xs) ≡ true → cond t (xs ++ ys) (x ∷ without_first test (xs ++ ys)) ≡ cond t xs (x ∷ without_first test xs) ++ ys) [
+      elim (test x) as (λ t. (t || list_any test xs) ≡ true
+      → cond t (xs ++ ys) (x ∷ without_first test (xs ++ ys)) ≡ cond t xs (x ∷ without_first test xs) ++ ys) [
         | true ↦ λ _. refl
         | false ↦ λ later. ap (λ zs. x ∷ zs) (taken_of_first xs ys later)
       ] some
 
-  pub taken_of_second : (xs ys : List A) → list_any test xs ≡ false → without_first test (xs ++ ys) ≡ xs ++ without_first test ys
+  pub taken_of_second : (xs ys : List A) → list_any test xs ≡ false
+      → without_first test (xs ++ ys) ≡ xs ++ without_first test ys
   taken_of_second [] ys none = refl
   taken_of_second (x ∷ xs) ys none =
-      elim (test x) as (λ t. (t || list_any test xs) ≡ false → cond t (xs ++ ys) (x ∷ without_first test (xs ++ ys)) ≡ x ∷ (xs ++ without_first test ys)) [
+      elim (test x) as (λ t. (t || list_any test xs) ≡ false
+      → cond t (xs ++ ys) (x ∷ without_first test (xs ++ ys)) ≡ x ∷ (xs ++ without_first test ys)) [
         | true ↦ λ here. absurd (true≢false here)
         | false ↦ λ later. ap (λ zs. x ∷ zs) (taken_of_second xs ys later)
       ] none

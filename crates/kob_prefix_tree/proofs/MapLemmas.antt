@@ -37,13 +37,16 @@ is_nothing-true h e =
     λ i. (no_length h.0 (length h.1) sum i, no_length_right (length h.0) h.1 sum i)
 
 kept-some : (h : Held) → h ≢ nothing → kept h ≡ Some h
-kept-some h some = elim (is_nothing h) as (λ b. is_nothing h ≡ b → cond b None (Some h) ≡ Some h) [ true ↦ λ e. absurd (some (is_nothing-true h e)) | false ↦ λ e. refl ] refl
+kept-some h some =
+    elim (is_nothing h) as (λ b. is_nothing h ≡ b
+    → cond b None (Some h) ≡ Some h) [ true ↦ λ e. absurd (some (is_nothing-true h e)) | false ↦ λ e. refl ] refl
 
 found_of_held : (key : List ℕ) (es : Entries) → AllInUse es → find (slice_cmp nat_cmp) key es ≡ kept (held_at es key)
 found_of_held key [] in_use = refl
 found_of_held key (e ∷ es) in_use =
     let rest = found_of_held key es in_use.1 in
-    elim (bytes key e.0) as (λ b. cond b (Some e.1) (find (slice_cmp nat_cmp) key es) ≡ kept (unwrap_or (cond b (Some e.1) (find (slice_cmp nat_cmp) key es)) nothing)) [
+    elim (bytes key e.0) as (λ b. cond b (Some e.1) (find (slice_cmp nat_cmp) key es)
+    ≡ kept (unwrap_or (cond b (Some e.1) (find (slice_cmp nat_cmp) key es)) nothing)) [
       | true ↦ sym (kept-some e.1 in_use.0)
       | false ↦ rest
     ]
@@ -67,10 +70,14 @@ same_bytes x y e = slice_cmp-IsAntisymmetric nat_cmp-IsAntisymmetric x y (tie (s
     tie Greater e = absurd (true≢false (sym e))
 
 other_bytes : (x y : List ℕ) → bytes x y ≡ false → x ≢ y
-other_bytes x y e same = true≢false (sym (ap is_eq (tied_itself nat_list_cmp_total y)) ∙ subst (λ z. bytes z y ≡ false) same e)
+other_bytes x y e same =
+    true≢false (sym (ap is_eq (tied_itself nat_list_cmp_total y)) ∙ subst (λ z. bytes z y ≡ false) same e)
 
-same_map : (es : Entries) (m : PrefixMap) → ((key : List ℕ) → find (slice_cmp nat_cmp) key es ≡ map.get m key) → map_of es ≡ m
-same_map es m is = map.same_map nat_list_cmp_total (slice_cmp-IsAntisymmetric nat_cmp-IsAntisymmetric) (map_of es) m (λ key. get_of es key ∙ is key)
+same_map : (es : Entries) (m : PrefixMap) → ((key : List ℕ) → find (slice_cmp nat_cmp) key es ≡ map.get m key)
+    → map_of es ≡ m
+same_map es m is =
+    map.same_map nat_list_cmp_total (slice_cmp-IsAntisymmetric nat_cmp-IsAntisymmetric) (map_of es) m
+    (λ key. get_of es key ∙ is key)
 
 some_behind : (xs : List ℕ) (x : ℕ) → xs ++ x ∷ [] ≢ []
 some_behind [] x e = cc
@@ -82,40 +89,56 @@ with_some Prefixed serial h e = some_behind h.1 serial (ap (λ x. x.1) e)
 
 -- entries that took in one serial
 pub map_added : (es new : Entries) (key : List ℕ) (kind : PatternKind) (serial : ℕ) → AllInUse es → AllInUse new
-    → held_at new key ≡ with_serial kind serial (held_at es key) → ((k : List ℕ) → k ≢ key → held_at new k ≡ held_at es k) → map_of new ≡ added (map_of es) key kind serial
+    → held_at new key ≡ with_serial kind serial (held_at es key)
+    → ((k : List ℕ) → k ≢ key → held_at new k ≡ held_at es k) → map_of new ≡ added (map_of es) key kind serial
 map_added es new key kind serial used new_used put elsewhere = same_map new (added (map_of es) key kind serial) (λ k.
-    found_of_held k new new_used ∙ at k ∙ sym (map.get-insert nat_list_cmp_total (map_of es) key (with_serial kind serial (held (map_of es) key)) k))
+    found_of_held k new new_used ∙ at k ∙ sym
+    (map.get-insert nat_list_cmp_total (map_of es) key (with_serial kind serial (held (map_of es) key)) k))
   where
-    at : (k : List ℕ) → kept (held_at new k) ≡ cond (bytes k key) (Some (with_serial kind serial (held (map_of es) key))) (map.get (map_of es) k)
-    at k = elim (bytes k key) as (λ b. bytes k key ≡ b → kept (held_at new k) ≡ cond b (Some (with_serial kind serial (held (map_of es) key))) (map.get (map_of es) k)) [
-      | true ↦ λ e.
-          ap kept (ap (held_at new) (same_bytes k key e) ∙ put ∙ ap (with_serial kind serial) (sym (held_of es key))) ∙ kept-some _ (with_some kind serial (held (map_of es) key))
-      | false ↦ λ e. ap kept (elsewhere k (other_bytes k key e)) ∙ sym (found_of_held k es used) ∙ sym (get_of es k)
-    ] refl
+    at : (k : List ℕ) → kept (held_at new k)
+        ≡ cond (bytes k key) (Some (with_serial kind serial (held (map_of es) key))) (map.get (map_of es) k)
+    at k = elim (bytes k key) as (λ b. bytes k key ≡ b
+        → kept (held_at new k) ≡ cond b (Some (with_serial kind serial (held (map_of es) key)))
+        (map.get (map_of es) k)) [
+          | true ↦ λ e.
+              ap kept (ap (held_at new) (same_bytes k key e) ∙ put
+              ∙ ap (with_serial kind serial) (sym (held_of es key)))
+              ∙ kept-some _ (with_some kind serial (held (map_of es) key))
+          | false ↦ λ e. ap kept (elsewhere k (other_bytes k key e)) ∙ sym (found_of_held k es used) ∙ sym (get_of es k)
+        ] refl
 
 -- entries of which one key holds something else now, or nothing
 pub map_left : (es new : Entries) (key : List ℕ) (left : Held) → AllInUse es → AllInUse new
-    → held_at new key ≡ left → ((k : List ℕ) → k ≢ key → held_at new k ≡ held_at es k) → map_of new ≡ cond (is_nothing left) (map.remove (map_of es) key) (map.insert (map_of es) key left)
-map_left es new key left used new_used taken elsewhere = same_map new now (λ k. found_of_held k new new_used ∙ at k ∙ sym (get_now k))
+    → held_at new key ≡ left → ((k : List ℕ) → k ≢ key → held_at new k ≡ held_at es k)
+    → map_of new ≡ cond (is_nothing left) (map.remove (map_of es) key) (map.insert (map_of es) key left)
+map_left es new key left used new_used taken elsewhere =
+    same_map new now (λ k. found_of_held k new new_used ∙ at k ∙ sym (get_now k))
   where
     now : PrefixMap
     now = cond (is_nothing left) (map.remove (map_of es) key) (map.insert (map_of es) key left)
 
     get_now : (k : List ℕ) → map.get now k ≡ cond (bytes k key) (kept left) (map.get (map_of es) k)
-    get_now k = elim (is_nothing left) as (λ b. map.get (cond b (map.remove (map_of es) key) (map.insert (map_of es) key left)) k ≡ cond (bytes k key) (cond b None (Some left)) (map.get (map_of es) k)) [
-      | true ↦ map.get-remove nat_list_cmp_total (map_of es) key k
-      | false ↦ map.get-insert nat_list_cmp_total (map_of es) key left k
-    ]
+    get_now k =
+        elim (is_nothing left) as (λ b. map.get
+        (cond b (map.remove (map_of es) key) (map.insert (map_of es) key left)) k
+        ≡ cond (bytes k key) (cond b None (Some left)) (map.get (map_of es) k)) [
+          | true ↦ map.get-remove nat_list_cmp_total (map_of es) key k
+          | false ↦ map.get-insert nat_list_cmp_total (map_of es) key left k
+        ]
 
     at : (k : List ℕ) → kept (held_at new k) ≡ cond (bytes k key) (kept left) (map.get (map_of es) k)
-    at k = elim (bytes k key) as (λ b. bytes k key ≡ b → kept (held_at new k) ≡ cond b (kept left) (map.get (map_of es) k)) [
-      | true ↦ λ e. ap kept (ap (held_at new) (same_bytes k key e) ∙ taken)
-      | false ↦ λ e. ap kept (elsewhere k (other_bytes k key e)) ∙ sym (found_of_held k es used) ∙ sym (get_of es k)
-    ] refl
+    at k = elim (bytes k key) as (λ b. bytes k key ≡ b
+        → kept (held_at new k) ≡ cond b (kept left) (map.get (map_of es) k)) [
+          | true ↦ λ e. ap kept (ap (held_at new) (same_bytes k key e) ∙ taken)
+          | false ↦ λ e. ap kept (elsewhere k (other_bytes k key e)) ∙ sym (found_of_held k es used) ∙ sym (get_of es k)
+        ] refl
 
 -- entries that hold at each key what others hold
-pub map_same : (es new : Entries) (key : List ℕ) → AllInUse es → AllInUse new → held_at new key ≡ held_at es key → ((k : List ℕ) → k ≢ key → held_at new k ≡ held_at es k) → map_of new ≡ map_of es
-map_same es new key used new_used same elsewhere = same_map new (map_of es) (λ k. found_of_held k new new_used ∙ ap kept (at k) ∙ sym (found_of_held k es used) ∙ sym (get_of es k))
+pub map_same : (es new : Entries) (key : List ℕ) → AllInUse es → AllInUse new → held_at new key ≡ held_at es key
+    → ((k : List ℕ) → k ≢ key → held_at new k ≡ held_at es k) → map_of new ≡ map_of es
+map_same es new key used new_used same elsewhere =
+    same_map new (map_of es) (λ k. found_of_held k new new_used ∙ ap kept (at k) ∙ sym (found_of_held k es used)
+    ∙ sym (get_of es k))
   where
     at : (k : List ℕ) → held_at new k ≡ held_at es k
     at k = elim (bytes k key) as (λ b. bytes k key ≡ b → held_at new k ≡ held_at es k) [

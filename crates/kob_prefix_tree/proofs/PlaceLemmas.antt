@@ -24,7 +24,9 @@ entries_at (Some c) = Some (entries_in c)
 child_is : (byte : ℕ) (t : Tree Item) → value_at byte (children_of t) ≡ entries_at (value_at byte (siblings t))
 child_is byte leaf = refl
 child_is byte (node item heap c below n after) =
-    elim (item.byte == byte) as (λ b. cond b (Some (entries_of item.literal item.prefixed (children_of below))) (value_at byte (children_of after)) ≡ entries_at (cond b (Some ((item.literal, item.prefixed), below)) (value_at byte (siblings after)))) [
+    elim (item.byte == byte) as (λ b. cond b (Some (entries_of item.literal item.prefixed (children_of below)))
+    (value_at byte (children_of after))
+    ≡ entries_at (cond b (Some ((item.literal, item.prefixed), below)) (value_at byte (siblings after)))) [
       | true ↦ refl
       | false ↦ child_is byte after
     ]
@@ -39,12 +41,21 @@ entries_some (x ∷ l) p t neat some e = cc
 entries_some [] (x ∷ p) t neat some e = cc
 entries_some [] [] leaf neat some e = some refl
 entries_some [] [] (node item heap c below n after) neat some e =
-    some_entries item.byte (entries_of item.literal item.prefixed (children_of below)) (entries_some item.literal item.prefixed below neat.1.1.0 neat.1.0) (entries_below (children_of after)) e
+    some_entries item.byte (entries_of item.literal item.prefixed (children_of below))
+    (entries_some item.literal item.prefixed below neat.1.1.0 neat.1.0) (entries_below (children_of after)) e
 
 pub tidy_of : (t : Tree Item) → IsNeat t → IsTidy (children_of t)
 tidy_of leaf neat = tt
-tidy_of (node item heap c below n after) neat =
-    (child_is item.byte after ∙ ap entries_at neat.0, (entries_some item.literal item.prefixed below neat.1.1.0 neat.1.0, (AllInUse-entries_of item.literal item.prefixed (children_of below) (tidy_of below neat.1.1.0), tidy_of after neat.1.1.1)))
+tidy_of (node item heap c below n after) neat = (
+  child_is item.byte after ∙ ap entries_at neat.0,
+  (
+    entries_some item.literal item.prefixed below neat.1.1.0 neat.1.0,
+    (
+      AllInUse-entries_of item.literal item.prefixed (children_of below) (tidy_of below neat.1.1.0),
+      tidy_of after neat.1.1.1,
+    ),
+  ),
+)
 
 pub in_use : (c : Contents) → IsNeat c.1 → AllInUse (entries_in c)
 in_use c neat = AllInUse-entries_of c.0.0 c.0.1 (children_of c.1) (tidy_of c.1 neat)
@@ -54,20 +65,27 @@ pub held_of_entries : (key : List ℕ) (c : Contents) → IsNeat c.1 → held_at
 held_of_entries [] c neat = held_at-own c.0.0 c.0.1 (children_of c.1)
 held_of_entries (byte ∷ key) c neat =
     let rest = held_of_entries key in
-    held_at-below c.0.0 c.0.1 (children_of c.1) byte key (tidy_of c.1 neat) ∙ ap (λ o. held_behind o key) (child_is byte c.1)
-    ∙ elim (value_at byte (siblings c.1)) as (λ o. value_at byte (siblings c.1) ≡ o → held_behind (entries_at o) key ≡ behind_one (held_in key) o) [
+    held_at-below c.0.0 c.0.1 (children_of c.1) byte key (tidy_of c.1 neat)
+    ∙ ap (λ o. held_behind o key) (child_is byte c.1)
+    ∙ elim (value_at byte (siblings c.1)) as
+    (λ o. value_at byte (siblings c.1) ≡ o → held_behind (entries_at o) key ≡ behind_one (held_in key) o) [
       | None ↦ λ e. refl
       | Some d ↦ λ e. rest d (neat_at byte d (siblings c.1) (neat_list c.1 neat) e).1
     ] refl
 
 -- some key of a place that is not bare holds something
-pub some_key : (l p : List ℕ) (t : Tree Item) → IsNeat t → ((l, p), t) ≢ bare → (key : List ℕ) × (held_in key ((l, p), t) ≢ nothing)
+pub some_key : (l p : List ℕ) (t : Tree Item) → IsNeat t → ((l, p), t) ≢ bare
+    → (key : List ℕ) × (held_in key ((l, p), t) ≢ nothing)
 some_key (x ∷ l) p t neat some = ([], λ e. let e' : x ∷ l ≡ [] = ap (λ h. h.0) e in cc)
 some_key [] (x ∷ p) t neat some = ([], λ e. let e' : x ∷ p ≡ [] = ap (λ h. h.1) e in cc)
 some_key [] [] leaf neat some = absurd (some refl)
 some_key [] [] (node item heap c below n after) neat some =
-    let (key, ne) = some_key item.literal item.prefixed below neat.1.1.0 neat.1.0 in
-    (item.byte ∷ key, λ e. ne (sym (ap (λ b. behind_one (held_in key) (cond b (Some ((item.literal, item.prefixed), below)) (value_at item.byte (siblings after)))) (eq-eqb item.byte item.byte refl)) ∙ e))
+    let (key, ne) = some_key item.literal item.prefixed below neat.1.1.0 neat.1.0 in (
+      item.byte ∷ key,
+      λ e. ne (sym (ap
+          (λ b. behind_one (held_in key) (cond b (Some ((item.literal, item.prefixed), below))
+          (value_at item.byte (siblings after)))) (eq-eqb item.byte item.byte refl)) ∙ e),
+    )
 
 -- the map of a place
 abbrev pub map_at : Contents → PrefixMap
@@ -79,13 +97,16 @@ held_of_map key c neat = held_of (entries_in c) key ∙ held_of_entries key c ne
 held_everywhere : (c : Contents) → IsNeat c.1 → (λ key. held_in key c) ≡ held (map_at c)
 held_everywhere c neat = sym (λ i key. held_of_map key c neat i)
 
-pub walk_of_place : (c : Contents) (name : List ℕ) → IsNeat c.1 → serials_along (λ key. held_in key c) name ≡ walk_of (map_at c) name
+pub walk_of_place : (c : Contents) (name : List ℕ) → IsNeat c.1
+    → serials_along (λ key. held_in key c) name ≡ walk_of (map_at c) name
 walk_of_place c name neat = ap (λ f. serials_along f name) (held_everywhere c neat)
 
-pub longest_of_place : (c : Contents) (name : List ℕ) (n : ℕ) → IsNeat c.1 → IsLongestInUse (λ key. held_in key c) name n → IsLongestInUse (held (map_at c)) name n
+pub longest_of_place : (c : Contents) (name : List ℕ) (n : ℕ) → IsNeat c.1
+    → IsLongestInUse (λ key. held_in key c) name n → IsLongestInUse (held (map_at c)) name n
 longest_of_place c name n neat longest = subst (λ f. IsLongestInUse f name n) (held_everywhere c neat) longest
 
-pub one_behind : (kind : PatternKind) (serial : ℕ) (h : Held) → with_serials kind (serial ∷ []) h ≡ with_serial kind serial h
+pub one_behind : (kind : PatternKind) (serial : ℕ) (h : Held)
+    → with_serials kind (serial ∷ []) h ≡ with_serial kind serial h
 one_behind Literal serial h = refl
 one_behind Prefixed serial h = refl
 
@@ -97,35 +118,47 @@ without_one_of y (x ∷ xs) = λ i. cond (x == y) (all_left xs i) (x ∷ without
     all_left [] = refl
     all_left (z ∷ zs) = refl
 
-without_one : (kind : PatternKind) (serial : ℕ) (h : Held) → without_serials kind (serial ∷ []) h ≡ without_serial kind serial h
+without_one : (kind : PatternKind) (serial : ℕ) (h : Held)
+    → without_serials kind (serial ∷ []) h ≡ without_serial kind serial h
 without_one Literal serial h i = (without_one_of serial h.0 i, h.1)
 without_one Prefixed serial h i = (h.0, without_one_of serial h.1 i)
 
-module _ (old new : Contents) (key : List ℕ) (kind : PatternKind) (serial : ℕ) (neat : IsNeat old.1) (neat' : IsNeat new.1) where
+module _ (old new : Contents) (key : List ℕ) (kind : PatternKind) (serial : ℕ) (neat : IsNeat old.1)
+    (neat' : IsNeat new.1) where
   before : (k : List ℕ) → held_at (entries_in old) k ≡ held_in k old
   before k = held_of_entries k old neat
 
   after : (k : List ℕ) → held_at (entries_in new) k ≡ held_in k new
   after k = held_of_entries k new neat'
 
-  pub added_of : held_in key new ≡ with_serial kind serial (held_in key old) → ((k : List ℕ) → k ≢ key → held_in k new ≡ held_in k old) → map_at new ≡ added (map_at old) key kind serial
-  added_of put elsewhere = map_added (entries_in old) (entries_in new) key kind serial (in_use old neat) (in_use new neat')
-      (after key ∙ put ∙ ap (with_serial kind serial) (sym (before key))) (λ k ne. after k ∙ elsewhere k ne ∙ sym (before k))
+  pub added_of : held_in key new ≡ with_serial kind serial (held_in key old)
+      → ((k : List ℕ) → k ≢ key → held_in k new ≡ held_in k old) → map_at new ≡ added (map_at old) key kind serial
+  added_of put elsewhere =
+      map_added (entries_in old) (entries_in new) key kind serial (in_use old neat) (in_use new neat')
+      (after key ∙ put ∙ ap (with_serial kind serial) (sym (before key)))
+      (λ k ne. after k ∙ elsewhere k ne ∙ sym (before k))
 
-  pub same_of : held_in key new ≡ held_in key old → ((k : List ℕ) → k ≢ key → held_in k new ≡ held_in k old) → map_at new ≡ map_at old
+  pub same_of : held_in key new ≡ held_in key old → ((k : List ℕ) → k ≢ key → held_in k new ≡ held_in k old)
+      → map_at new ≡ map_at old
   same_of same elsewhere = map_same (entries_in old) (entries_in new) key (in_use old neat) (in_use new neat')
       (after key ∙ same ∙ sym (before key)) (λ k ne. after k ∙ elsewhere k ne ∙ sym (before k))
 
   -- at the key f was done, and elsewhere nothing
-  left_of : (f : Held → Held) → held_in key new ≡ f (held_in key old) → ((k : List ℕ) → k ≢ key → held_in k new ≡ held_in k old)
-      → map_at new ≡ cond (is_nothing (f (held (map_at old) key))) (map.remove (map_at old) key) (map.insert (map_at old) key (f (held (map_at old) key)))
-  left_of f taken elsewhere = map_left (entries_in old) (entries_in new) key (f (held (map_at old) key)) (in_use old neat) (in_use new neat')
+  left_of : (f : Held → Held) → held_in key new ≡ f (held_in key old)
+      → ((k : List ℕ) → k ≢ key → held_in k new ≡ held_in k old)
+      → map_at new ≡ cond (is_nothing (f (held (map_at old) key))) (map.remove (map_at old) key)
+      (map.insert (map_at old) key (f (held (map_at old) key)))
+  left_of f taken elsewhere =
+      map_left (entries_in old) (entries_in new) key (f (held (map_at old) key)) (in_use old neat) (in_use new neat')
       (after key ∙ taken ∙ ap f (sym (held_of_map key old neat))) (λ k ne. after k ∙ elsewhere k ne ∙ sym (before k))
 
-  pub removed_all_of : (serials : List ℕ) → held_in key new ≡ without_serials kind serials (held_in key old) → ((k : List ℕ) → k ≢ key → held_in k new ≡ held_in k old)
+  pub removed_all_of : (serials : List ℕ) → held_in key new ≡ without_serials kind serials (held_in key old)
+      → ((k : List ℕ) → k ≢ key → held_in k new ≡ held_in k old)
       → map_at new ≡ removed_all (map_at old) key kind serials
   removed_all_of serials taken elsewhere = left_of (without_serials kind serials) taken elsewhere
 
-  pub removed_of : held_in key new ≡ without_serials kind (serial ∷ []) (held_in key old) → ((k : List ℕ) → k ≢ key → held_in k new ≡ held_in k old)
+  pub removed_of : held_in key new ≡ without_serials kind (serial ∷ []) (held_in key old)
+      → ((k : List ℕ) → k ≢ key → held_in k new ≡ held_in k old)
       → map_at new ≡ removed (map_at old) key kind serial
-  removed_of taken elsewhere = left_of (without_serial kind serial) (taken ∙ without_one kind serial (held_in key old)) elsewhere
+  removed_of taken elsewhere =
+      left_of (without_serial kind serial) (taken ∙ without_one kind serial (held_in key old)) elsewhere

@@ -7,7 +7,8 @@ use Rattle.kob_prefix_tree.specs.declared.siblings.Item.{Item}
 use Rattle.kob_prefix_tree.specs.Siblings.{Contents, bare, siblings, value_at, with_value, without, IsNeat}
 
 ne_eqb : (a b : ℕ) → a ≢ b → a == b ≡ false
-ne_eqb a b ne = elim (a == b) as (λ t. a == b ≡ t → t ≡ false) [ true ↦ λ e. absurd (ne (eqb-true a b e)) | false ↦ λ e. refl ] refl
+ne_eqb a b ne =
+    elim (a == b) as (λ t. a == b ≡ t → t ≡ false) [ true ↦ λ e. absurd (ne (eqb-true a b e)) | false ↦ λ e. refl ] refl
 
 pub differ : (a b : ℕ) → a == b ≡ false → a ≢ b
 differ a b e same = true≢false (sym (eq-eqb a b same) ∙ e)
@@ -16,58 +17,73 @@ module _ {A : Type 0} where
   pub at_first : (byte : ℕ) (v : A) (xs : List (ℕ × A)) → value_at byte ((byte, v) ∷ xs) ≡ Some v
   at_first byte v xs = ap (λ b. cond b (Some v) (value_at byte xs)) (eq-eqb byte byte refl)
 
-  pub at_past : (byte other : ℕ) (v : A) (xs : List (ℕ × A)) → other ≢ byte → value_at byte ((other, v) ∷ xs) ≡ value_at byte xs
+  pub at_past : (byte other : ℕ) (v : A) (xs : List (ℕ × A)) → other ≢ byte
+      → value_at byte ((other, v) ∷ xs) ≡ value_at byte xs
   at_past byte other v xs ne = ap (λ b. cond b (Some v) (value_at byte xs)) (ne_eqb other byte ne)
 
   pub some_not_none : (v : A) → Some v ≢ None
   some_not_none v e = cc
 
   -- the value put there stands there
-  pub at_changed : (byte : ℕ) (v w : A) (xs : List (ℕ × A)) → value_at byte xs ≡ Some w → value_at byte (with_value byte v xs) ≡ Some v
+  pub at_changed : (byte : ℕ) (v w : A) (xs : List (ℕ × A)) → value_at byte xs ≡ Some w
+      → value_at byte (with_value byte v xs) ≡ Some v
   at_changed byte v w [] is = absurd (some_not_none w (sym is))
   at_changed byte v w (x ∷ xs) is =
       let rest = at_changed byte v w xs in
-      elim (x.0 == byte) as (λ b. x.0 == byte ≡ b → cond b (Some x.1) (value_at byte xs) ≡ Some w → value_at byte (cond b ((x.0, v) ∷ xs) (x ∷ with_value byte v xs)) ≡ Some v) [
+      elim (x.0 == byte) as (λ b. x.0 == byte ≡ b → cond b (Some x.1) (value_at byte xs) ≡ Some w
+      → value_at byte (cond b ((x.0, v) ∷ xs) (x ∷ with_value byte v xs)) ≡ Some v) [
         | true ↦ λ e _. ap (λ b. cond b (Some v) (value_at byte xs)) e
         | false ↦ λ e later. ap (λ b. cond b (Some x.1) (value_at byte (with_value byte v xs))) e ∙ rest later
       ] refl is
 
   -- the others stay
-  pub at_changed_other : (byte other : ℕ) (v : A) (xs : List (ℕ × A)) → other ≢ byte → value_at other (with_value byte v xs) ≡ value_at other xs
+  pub at_changed_other : (byte other : ℕ) (v : A) (xs : List (ℕ × A)) → other ≢ byte
+      → value_at other (with_value byte v xs) ≡ value_at other xs
   at_changed_other byte other v [] ne = refl
   at_changed_other byte other v (x ∷ xs) ne =
       let rest = at_changed_other byte other v xs ne in
-      elim (x.0 == byte) as (λ b. x.0 == byte ≡ b → value_at other (cond b ((x.0, v) ∷ xs) (x ∷ with_value byte v xs)) ≡ value_at other (x ∷ xs)) [
-        | true ↦ λ e. let past : x.0 ≢ other = λ same. ne (sym same ∙ eqb-true x.0 byte e) in at_past other x.0 v xs past ∙ sym (at_past other x.0 x.1 xs past)
+      elim (x.0 == byte) as (λ b. x.0 == byte ≡ b
+      → value_at other (cond b ((x.0, v) ∷ xs) (x ∷ with_value byte v xs)) ≡ value_at other (x ∷ xs)) [
+        | true ↦ λ e. let past : x.0 ≢ other =
+            λ same. ne (sym same ∙ eqb-true x.0 byte e) in
+            at_past other x.0 v xs past ∙ sym (at_past other x.0 x.1 xs past)
         | false ↦ λ e. ap (λ o. cond (x.0 == other) (Some x.1) o) rest
       ] refl
 
-  pub at_without_other : (byte other : ℕ) (xs : List (ℕ × A)) → other ≢ byte → value_at other (without byte xs) ≡ value_at other xs
+  pub at_without_other : (byte other : ℕ) (xs : List (ℕ × A)) → other ≢ byte
+      → value_at other (without byte xs) ≡ value_at other xs
   at_without_other byte other [] ne = refl
   at_without_other byte other (x ∷ xs) ne =
       let rest = at_without_other byte other xs ne in
-      elim (x.0 == byte) as (λ b. x.0 == byte ≡ b → value_at other (cond b xs (x ∷ without byte xs)) ≡ value_at other (x ∷ xs)) [
+      elim (x.0 == byte) as (λ b. x.0 == byte ≡ b
+      → value_at other (cond b xs (x ∷ without byte xs)) ≡ value_at other (x ∷ xs)) [
         | true ↦ λ e. sym (at_past other x.0 x.1 xs (λ same. ne (sym same ∙ eqb-true x.0 byte e)))
         | false ↦ λ e. ap (λ o. cond (x.0 == other) (Some x.1) o) rest
       ] refl
 
   -- of two changes at one byte the second counts
-  pub changed_twice : (byte : ℕ) (v w : A) (xs : List (ℕ × A)) → with_value byte v (with_value byte w xs) ≡ with_value byte v xs
+  pub changed_twice : (byte : ℕ) (v w : A) (xs : List (ℕ × A))
+      → with_value byte v (with_value byte w xs) ≡ with_value byte v xs
   changed_twice byte v w [] = refl
   changed_twice byte v w (x ∷ xs) =
       let rest = changed_twice byte v w xs in
-      elim (x.0 == byte) as (λ b. x.0 == byte ≡ b → with_value byte v (cond b ((x.0, w) ∷ xs) (x ∷ with_value byte w xs)) ≡ cond b ((x.0, v) ∷ xs) (x ∷ with_value byte v xs)) [
+      elim (x.0 == byte) as (λ b. x.0 == byte ≡ b
+      → with_value byte v (cond b ((x.0, w) ∷ xs) (x ∷ with_value byte w xs))
+      ≡ cond b ((x.0, v) ∷ xs) (x ∷ with_value byte v xs)) [
         | true ↦ λ e. ap (λ b. cond b ((x.0, v) ∷ xs) ((x.0, w) ∷ with_value byte v xs)) e
-        | false ↦ λ e. ap (λ b. cond b ((x.0, v) ∷ with_value byte w xs) (x ∷ with_value byte v (with_value byte w xs))) e ∙ ap (λ ys. x ∷ ys) rest
+        | false ↦ λ e. ap (λ b. cond b ((x.0, v) ∷ with_value byte w xs)
+            (x ∷ with_value byte v (with_value byte w xs))) e ∙ ap (λ ys. x ∷ ys) rest
       ] refl
 
   pub without_changed : (byte : ℕ) (w : A) (xs : List (ℕ × A)) → without byte (with_value byte w xs) ≡ without byte xs
   without_changed byte w [] = refl
   without_changed byte w (x ∷ xs) =
       let rest = without_changed byte w xs in
-      elim (x.0 == byte) as (λ b. x.0 == byte ≡ b → without byte (cond b ((x.0, w) ∷ xs) (x ∷ with_value byte w xs)) ≡ cond b xs (x ∷ without byte xs)) [
+      elim (x.0 == byte) as (λ b. x.0 == byte ≡ b
+      → without byte (cond b ((x.0, w) ∷ xs) (x ∷ with_value byte w xs)) ≡ cond b xs (x ∷ without byte xs)) [
         | true ↦ λ e. ap (λ b. cond b xs ((x.0, w) ∷ without byte xs)) e
-        | false ↦ λ e. ap (λ b. cond b (with_value byte w xs) (x ∷ without byte (with_value byte w xs))) e ∙ ap (λ ys. x ∷ ys) rest
+        | false ↦ λ e. ap (λ b. cond b (with_value byte w xs) (x ∷ without byte (with_value byte w xs))) e
+            ∙ ap (λ ys. x ∷ ys) rest
       ] refl
 
 -- neat siblings, as a list
@@ -83,7 +99,8 @@ pub neat_tree : (t : Tree Item) → AllNeat (siblings t) → IsNeat t
 neat_tree leaf neat = tt
 neat_tree (node item heap c below n after) neat = (neat.0, (neat.1.0, (neat.1.1.0, neat_tree after neat.1.1.1)))
 
-pub neat_changed : (byte : ℕ) (v : Contents) (ss : List (ℕ × Contents)) → AllNeat ss → v ≢ bare → IsNeat v.1 → AllNeat (with_value byte v ss)
+pub neat_changed : (byte : ℕ) (v : Contents) (ss : List (ℕ × Contents)) → AllNeat ss → v ≢ bare → IsNeat v.1
+    → AllNeat (with_value byte v ss)
 neat_changed byte v [] neat some below = tt
 neat_changed byte v (s ∷ ss) neat some below =
     let rest = neat_changed byte v ss neat.1.1.1 some below in
@@ -111,7 +128,8 @@ at_without byte (s ∷ ss) neat =
       | false ↦ λ e. ap (λ b. cond b (Some s.1) (value_at byte (without byte ss))) e ∙ rest
     ] refl
 
-pub neat_at : (byte : ℕ) (v : Contents) (ss : List (ℕ × Contents)) → AllNeat ss → value_at byte ss ≡ Some v → (v ≢ bare) × IsNeat v.1
+pub neat_at : (byte : ℕ) (v : Contents) (ss : List (ℕ × Contents)) → AllNeat ss → value_at byte ss ≡ Some v
+    → (v ≢ bare) × IsNeat v.1
 neat_at byte v [] neat is = absurd (some_not_none v (sym is))
 neat_at byte v (s ∷ ss) neat is =
     let rest = neat_at byte v ss neat.1.1.1 in

@@ -15,7 +15,8 @@ abbrev pub steps_ahead : Option Ahead → ℕ
 steps_ahead None = 0
 steps_ahead (Some a) = length a.name.now + 1
 
-flat_map-map : (f : List ℕ → List ℕ) (byte : ℕ) (ps : List (List ℕ)) → flat_map f (map (λ prefix. byte ∷ prefix) ps) ≡ flat_map (λ prefix. f (byte ∷ prefix)) ps
+flat_map-map : (f : List ℕ → List ℕ) (byte : ℕ) (ps : List (List ℕ))
+    → flat_map f (map (λ prefix. byte ∷ prefix) ps) ≡ flat_map (λ prefix. f (byte ∷ prefix)) ps
 flat_map-map f byte [] = refl
 flat_map-map f byte (x ∷ ps) = ap (λ ys. f (byte ∷ x) ++ ys) (flat_map-map f byte ps)
 
@@ -24,11 +25,17 @@ prefixes-longer [] = refl
 prefixes-longer (byte ∷ name) = refl
 
 -- a walk begins with the prefixed serials of its place
-pub serials_along-first : (held : List ℕ → Held) (name : List ℕ) → serials_along held name ≡ (held []).1 ++ (flat_map (λ prefix. (held prefix).1) (longer_prefixes name) ++ (held name).0)
-serials_along-first held name = ap (λ ps. flat_map (λ prefix. (held prefix).1) ps ++ (held name).0) (prefixes-longer name) ∙ append_assoc (held []).1 (flat_map (λ prefix. (held prefix).1) (longer_prefixes name)) (held name).0
+pub serials_along-first : (held : List ℕ → Held) (name : List ℕ)
+    → serials_along held name ≡ (held []).1
+    ++ (flat_map (λ prefix. (held prefix).1) (longer_prefixes name) ++ (held name).0)
+serials_along-first held name =
+    ap (λ ps. flat_map (λ prefix. (held prefix).1) ps ++ (held name).0) (prefixes-longer name)
+    ∙ append_assoc (held []).1 (flat_map (λ prefix. (held prefix).1) (longer_prefixes name)) (held name).0
 
 -- a child goes on
-pub serials_beyond-child : (held child : List ℕ → Held) (byte : ℕ) (name : List ℕ) → ((key : List ℕ) → held (byte ∷ key) ≡ child key) → serials_beyond held (byte ∷ name) ≡ (child []).1 ++ serials_beyond child name
+pub serials_beyond-child : (held child : List ℕ → Held) (byte : ℕ) (name : List ℕ)
+    → ((key : List ℕ) → held (byte ∷ key) ≡ child key)
+    → serials_beyond held (byte ∷ name) ≡ (child []).1 ++ serials_beyond child name
 serials_beyond-child held child byte name is =
     (λ i. flat_map-map (λ prefix. (held prefix).1) byte (prefixes name) i ++ (is name i).0)
     ∙ (λ i. flat_map (λ prefix. (is prefix i).1) (prefixes name) ++ (child name).0)
@@ -39,10 +46,12 @@ nothing_along f [] none = refl
 nothing_along f (p ∷ ps) none = ap (λ ys. ys ++ flat_map f ps) (none p) ∙ nothing_along f ps none
 
 -- without a child there is nothing more
-pub serials_beyond-none : (held : List ℕ → Held) (byte : ℕ) (name : List ℕ) → ((key : List ℕ) → held (byte ∷ key) ≡ nothing) → serials_beyond held (byte ∷ name) ≡ []
+pub serials_beyond-none : (held : List ℕ → Held) (byte : ℕ) (name : List ℕ)
+    → ((key : List ℕ) → held (byte ∷ key) ≡ nothing) → serials_beyond held (byte ∷ name) ≡ []
 serials_beyond-none held byte name none =
     (λ i. flat_map-map (λ prefix. (held prefix).1) byte (prefixes name) i ++ (none name i).0)
-    ∙ ap (λ ys. ys ++ []) (nothing_along (λ prefix. (held (byte ∷ prefix)).1) (prefixes name) (λ p. ap (λ (h : Held). h.1) (none p)))
+    ∙ ap (λ ys. ys ++ []) (nothing_along (λ prefix. (held (byte ∷ prefix)).1) (prefixes name)
+    (λ p. ap (λ (h : Held). h.1) (none p)))
 
 -- a walk whose list is used up, at a byte that leads nowhere, and at one that leads to a child
 module _ (serials : Unread) (ahead : Option Ahead) (a : Ahead) (byte : ℕ) (rest : List ℕ)
@@ -53,9 +62,11 @@ module _ (serials : Unread) (ahead : Option Ahead) (a : Ahead) (byte : ℕ) (res
   first_of : left_of (record { serials = serials; ahead = ahead }) ≡ serials_beyond held (byte ∷ rest)
   first_of = (λ i. used i ++ ahead_of (is i)) ∙ ap (serials_beyond held) name
 
-  pub step_none : ((key : List ℕ) → held_in (byte ∷ key) (seen a.place) ≡ nothing) → left_of (record { serials = serials; ahead = ahead }) ≡ []
+  pub step_none : ((key : List ℕ) → held_in (byte ∷ key) (seen a.place) ≡ nothing)
+      → left_of (record { serials = serials; ahead = ahead }) ≡ []
   step_none none = first_of ∙ serials_beyond-none held byte rest none
 
   pub step_child : (child : Contents) → ((key : List ℕ) → held_in (byte ∷ key) (seen a.place) ≡ held_in key child)
-      → left_of (record { serials = serials; ahead = ahead }) ≡ child.0.1 ++ serials_beyond (λ key. held_in key child) rest
+      → left_of (record { serials = serials; ahead = ahead })
+      ≡ child.0.1 ++ serials_beyond (λ key. held_in key child) rest
   step_child child same = first_of ∙ serials_beyond-child held (λ key. held_in key child) byte rest same

@@ -15,80 +15,112 @@ use Rattle.kob_producers.specs.Table.{TableKept, IsRing, recent_in, CanAccept}
 abbrev items : Buffer Sent → List Sent
 items ring = ring.items
 
-found_is : (here : Bool) (ring : Buffer Sent) (o : Option (Buffer Sent)) (p : Option (List Sent)) → p ≡ option_map items o → cond here (Some ring.items) p ≡ option_map items (cond here (Some ring) o)
+found_is : (here : Bool) (ring : Buffer Sent) (o : Option (Buffer Sent)) (p : Option (List Sent))
+    → p ≡ option_map items o → cond here (Some ring.items) p ≡ option_map items (cond here (Some ring) o)
 found_is true ring o p is = refl
 found_is false ring o p is = is
 
-find_shown : (rings : List (ℕ × Buffer Sent)) (q : ℕ) → fin.find nat_cmp q (map (λ entry. (entry.0, entry.1.items)) rings) ≡ option_map items (lookup (nat_eq q) rings)
+find_shown : (rings : List (ℕ × Buffer Sent)) (q : ℕ)
+    → fin.find nat_cmp q (map (λ entry. (entry.0, entry.1.items)) rings) ≡ option_map items (lookup (nat_eq q) rings)
 find_shown [] q = refl
 find_shown (entry ∷ rings) q =
-    ap (λ b. cond b (Some entry.1.items) (fin.find nat_cmp q (map (λ e. (e.0, e.1.items)) rings))) (unsigned_tied q entry.0)
+    ap (λ b. cond b (Some entry.1.items) (fin.find nat_cmp q (map (λ e. (e.0, e.1.items)) rings)))
+    (unsigned_tied q entry.0)
     ∙ found_is (nat_eq q entry.0) entry.1 (lookup (nat_eq q) rings) _ (find_shown rings q)
 
-pub get_shown : (rings : List (ℕ × Buffer Sent)) (q : ℕ) → fin.get (recent_in rings) q ≡ option_map items (lookup (nat_eq q) rings)
-get_shown rings q = fin.get-from_entries nat_cmp_total (map (λ entry. (entry.0, entry.1.items)) rings) q ∙ find_shown rings q
+pub get_shown : (rings : List (ℕ × Buffer Sent)) (q : ℕ)
+    → fin.get (recent_in rings) q ≡ option_map items (lookup (nat_eq q) rings)
+get_shown rings q =
+    fin.get-from_entries nat_cmp_total (map (λ entry. (entry.0, entry.1.items)) rings) q ∙ find_shown rings q
 
 -- what is kept of a producer is what its ring holds
-pub sent_by_shown : (rings : List (ℕ × Buffer Sent)) (q : ℕ) → sent_by (recent_in rings) q ≡ unwrap_or (option_map items (lookup (nat_eq q) rings)) []
+pub sent_by_shown : (rings : List (ℕ × Buffer Sent)) (q : ℕ)
+    → sent_by (recent_in rings) q ≡ unwrap_or (option_map items (lookup (nat_eq q) rings)) []
 sent_by_shown rings q = ap (λ o. unwrap_or o []) (get_shown rings q)
 
-pub sent_by_none : (rings : List (ℕ × Buffer Sent)) (q : ℕ) → lookup (nat_eq q) rings ≡ None → sent_by (recent_in rings) q ≡ []
+pub sent_by_none : (rings : List (ℕ × Buffer Sent)) (q : ℕ) → lookup (nat_eq q) rings ≡ None
+    → sent_by (recent_in rings) q ≡ []
 sent_by_none rings q is = sent_by_shown rings q ∙ ap (λ o. unwrap_or (option_map items o) []) is
 
-pub sent_by_ring : (rings : List (ℕ × Buffer Sent)) (q : ℕ) (ring : Buffer Sent) → lookup (nat_eq q) rings ≡ Some ring → sent_by (recent_in rings) q ≡ ring.items
+pub sent_by_ring : (rings : List (ℕ × Buffer Sent)) (q : ℕ) (ring : Buffer Sent) → lookup (nat_eq q) rings ≡ Some ring
+    → sent_by (recent_in rings) q ≡ ring.items
 sent_by_ring rings q ring is = sent_by_shown rings q ∙ ap (λ o. unwrap_or (option_map items o) []) is
 
 -- tables with the same rings show the same
-pub same_recent : (old new : List (ℕ × Buffer Sent)) → ((q : ℕ) → lookup (nat_eq q) new ≡ lookup (nat_eq q) old) → recent_in new ≡ recent_in old
-same_recent old new same = fin.same_map nat_cmp_total fin.nat_cmp-IsAntisymmetric _ _ (λ q. get_shown new q ∙ ap (option_map items) (same q) ∙ sym (get_shown old q))
+pub same_recent : (old new : List (ℕ × Buffer Sent)) → ((q : ℕ) → lookup (nat_eq q) new ≡ lookup (nat_eq q) old)
+    → recent_in new ≡ recent_in old
+same_recent old new same =
+    fin.same_map nat_cmp_total fin.nat_cmp-IsAntisymmetric _ _
+    (λ q. get_shown new q ∙ ap (option_map items) (same q) ∙ sym (get_shown old q))
 
-written_is : (here : Bool) (ring : Buffer Sent) (o : Option (Buffer Sent)) → option_map items (cond here (Some ring) o) ≡ cond here (Some ring.items) (option_map items o)
+written_is : (here : Bool) (ring : Buffer Sent) (o : Option (Buffer Sent))
+    → option_map items (cond here (Some ring) o) ≡ cond here (Some ring.items) (option_map items o)
 written_is true ring o = refl
 written_is false ring o = refl
 
 -- a ring that is written, or put in
-pub written : (old new : List (ℕ × Buffer Sent)) (k : ℕ) (ring : Buffer Sent) → ((q : ℕ) → lookup (nat_eq q) new ≡ cond (nat_eq k q) (Some ring) (lookup (nat_eq q) old)) → recent_in new ≡ fin.insert (recent_in old) k ring.items
+pub written : (old new : List (ℕ × Buffer Sent)) (k : ℕ) (ring : Buffer Sent)
+    → ((q : ℕ) → lookup (nat_eq q) new ≡ cond (nat_eq k q) (Some ring) (lookup (nat_eq q) old))
+    → recent_in new ≡ fin.insert (recent_in old) k ring.items
 written old new k ring is = fin.same_map nat_cmp_total fin.nat_cmp-IsAntisymmetric _ _ (λ q.
     get_shown new q ∙ ap (option_map items) (is q) ∙ written_is (nat_eq k q) ring (lookup (nat_eq q) old)
     ∙ ap (cond (nat_eq k q) (Some ring.items)) (sym (get_shown old q))
-    ∙ ap (λ b. cond b (Some ring.items) (fin.get (recent_in old) q)) (sym (unsigned_tied k q) ∙ (eq_by_cmp_equiv nat_cmp_total).symm k q)
+    ∙ ap (λ b. cond b (Some ring.items) (fin.get (recent_in old) q))
+    (sym (unsigned_tied k q) ∙ (eq_by_cmp_equiv nat_cmp_total).symm k q)
     ∙ sym (fin.get-insert nat_cmp_total (recent_in old) k ring.items q))
 
 -- what a ring is judged is what the table is
-pub judged_by_ring : (rings : List (ℕ × Buffer Sent)) (recent : Recent) (idem : Idem) (count : ℕ) (ring : Buffer Sent) (j : Judgement) → recent_in rings ≡ recent → Some ring ≡ lookup (nat_eq idem.id) rings
+pub judged_by_ring : (rings : List (ℕ × Buffer Sent)) (recent : Recent) (idem : Idem) (count : ℕ) (ring : Buffer Sent)
+    (j : Judgement) → recent_in rings ≡ recent → Some ring ≡ lookup (nat_eq idem.id) rings
     → j ≡ judge ring.items idem count → j ≡ judge (sent_by recent idem.id) idem count
 judged_by_ring rings recent idem count ring j shown is judged =
-    judged ∙ ap (λ h. judge h idem count) (sym (sent_by_ring rings idem.id ring (sym is))) ∙ ap (λ r. judge (sent_by r idem.id) idem count) shown
+    judged ∙ ap (λ h. judge h idem count) (sym (sent_by_ring rings idem.id ring (sym is)))
+    ∙ ap (λ r. judge (sent_by r idem.id) idem count) shown
 
-pub judged_first : (rings : List (ℕ × Buffer Sent)) (recent : Recent) (idem : Idem) (count : ℕ) (j : Judgement) → recent_in rings ≡ recent → None ≡ lookup (nat_eq idem.id) rings
+pub judged_first : (rings : List (ℕ × Buffer Sent)) (recent : Recent) (idem : Idem) (count : ℕ) (j : Judgement)
+    → recent_in rings ≡ recent → None ≡ lookup (nat_eq idem.id) rings
     → j ≡ judge_first idem.base → j ≡ judge (sent_by recent idem.id) idem count
 judged_first rings recent idem count j shown is judged =
-    judged ∙ ap (λ h. judge h idem count) (sym (sent_by_none rings idem.id (sym is))) ∙ ap (λ r. judge (sent_by r idem.id) idem count) shown
+    judged ∙ ap (λ h. judge h idem count) (sym (sent_by_none rings idem.id (sym is)))
+    ∙ ap (λ r. judge (sent_by r idem.id) idem count) shown
 
-pub reordered : (old new : List (ℕ × Buffer Sent)) (recent : Recent) → recent_in old ≡ recent → ((q : ℕ) → lookup (nat_eq q) new ≡ lookup (nat_eq q) old) → recent_in new ≡ recent
+pub reordered : (old new : List (ℕ × Buffer Sent)) (recent : Recent) → recent_in old ≡ recent
+    → ((q : ℕ) → lookup (nat_eq q) new ≡ lookup (nat_eq q) old) → recent_in new ≡ recent
 reordered old new recent shown same = same_recent old new same ∙ shown
 
 -- a ring with one more batch is written, or put in
-accepted_as : (old new : List (ℕ × Buffer Sent)) (recent : Recent) (idem : Idem) (count offset : ℕ) (before : List Sent) (ring : Buffer Sent) → recent_in old ≡ recent → sent_by (recent_in old) idem.id ≡ before
-    → ring.items ≡ keep_last remembered (before ++ sent idem count offset ∷ []) → ((q : ℕ) → lookup (nat_eq q) new ≡ cond (nat_eq idem.id q) (Some ring) (lookup (nat_eq q) old)) → recent_in new ≡ accepted recent idem count offset
+accepted_as : (old new : List (ℕ × Buffer Sent)) (recent : Recent) (idem : Idem) (count offset : ℕ)
+    (before : List Sent) (ring : Buffer Sent) → recent_in old ≡ recent → sent_by (recent_in old) idem.id ≡ before
+    → ring.items ≡ keep_last remembered (before ++ sent idem count offset ∷ [])
+    → ((q : ℕ) → lookup (nat_eq q) new ≡ cond (nat_eq idem.id q) (Some ring) (lookup (nat_eq q) old))
+    → recent_in new ≡ accepted recent idem count offset
 accepted_as old new recent idem count offset before ring shown was now is =
     written old new idem.id ring is
-    ∙ ap (fin.insert (recent_in old) idem.id) (now ∙ ap (λ l. keep_last remembered (l ++ sent idem count offset ∷ [])) (sym was))
+    ∙ ap (fin.insert (recent_in old) idem.id)
+    (now ∙ ap (λ l. keep_last remembered (l ++ sent idem count offset ∷ [])) (sym was))
     ∙ ap (λ r. accepted r idem count offset) shown
 
-pub accepted_by_ring : (old new : List (ℕ × Buffer Sent)) (recent : Recent) (idem : Idem) (count offset : ℕ) (ring after : Buffer Sent) (s : Sent) → recent_in old ≡ recent → Some ring ≡ lookup (nat_eq idem.id) old
-    → ring.capacity ≡ remembered → s ≡ sent idem count offset → after ≡ buffer (keep_last ring.capacity (ring.items ++ s ∷ [])) ring.capacity
-    → ((q : ℕ) → lookup (nat_eq q) new ≡ cond (nat_eq idem.id q) (Some after) (lookup (nat_eq q) old)) → recent_in new ≡ accepted recent idem count offset
+pub accepted_by_ring : (old new : List (ℕ × Buffer Sent)) (recent : Recent) (idem : Idem) (count offset : ℕ)
+    (ring after : Buffer Sent) (s : Sent) → recent_in old ≡ recent → Some ring ≡ lookup (nat_eq idem.id) old
+    → ring.capacity ≡ remembered → s ≡ sent idem count offset
+    → after ≡ buffer (keep_last ring.capacity (ring.items ++ s ∷ [])) ring.capacity
+    → ((q : ℕ) → lookup (nat_eq q) new ≡ cond (nat_eq idem.id q) (Some after) (lookup (nat_eq q) old))
+    → recent_in new ≡ accepted recent idem count offset
 accepted_by_ring old new recent idem count offset ring after s shown at capacity told pushed is =
     accepted_as old new recent idem count offset ring.items after shown (sent_by_ring old idem.id ring (sym at))
-    (ap items pushed ∙ ap (λ n. keep_last n (ring.items ++ s ∷ [])) capacity ∙ ap (λ x. keep_last remembered (ring.items ++ x ∷ [])) told) is
+    (ap items pushed ∙ ap (λ n. keep_last n (ring.items ++ s ∷ [])) capacity
+    ∙ ap (λ x. keep_last remembered (ring.items ++ x ∷ [])) told) is
 
-pub accepted_first : (old new : List (ℕ × Buffer Sent)) (recent : Recent) (idem : Idem) (count offset : ℕ) (ring after : Buffer Sent) (s : Sent) → recent_in old ≡ recent → None ≡ lookup (nat_eq idem.id) old
-    → ring ≡ buffer [] remembered → s ≡ sent idem count offset → after ≡ buffer (keep_last ring.capacity (ring.items ++ s ∷ [])) ring.capacity
-    → ((q : ℕ) → lookup (nat_eq q) new ≡ cond (nat_eq idem.id q) (Some after) (lookup (nat_eq q) old)) → recent_in new ≡ accepted recent idem count offset
+pub accepted_first : (old new : List (ℕ × Buffer Sent)) (recent : Recent) (idem : Idem) (count offset : ℕ)
+    (ring after : Buffer Sent) (s : Sent) → recent_in old ≡ recent → None ≡ lookup (nat_eq idem.id) old
+    → ring ≡ buffer [] remembered → s ≡ sent idem count offset
+    → after ≡ buffer (keep_last ring.capacity (ring.items ++ s ∷ [])) ring.capacity
+    → ((q : ℕ) → lookup (nat_eq q) new ≡ cond (nat_eq idem.id q) (Some after) (lookup (nat_eq q) old))
+    → recent_in new ≡ accepted recent idem count offset
 accepted_first old new recent idem count offset ring after s shown at fresh told pushed is =
     accepted_as old new recent idem count offset [] after shown (sent_by_none old idem.id (sym at))
-    (ap items pushed ∙ ap (λ r. keep_last r.capacity (r.items ++ s ∷ [])) fresh ∙ ap (λ x. keep_last remembered (x ∷ [])) told) is
+    (ap items pushed ∙ ap (λ r. keep_last r.capacity (r.items ++ s ∷ [])) fresh
+    ∙ ap (λ x. keep_last remembered (x ∷ [])) told) is
 
 shown_some : (o : Option (Buffer Sent)) → is_some (option_map items o) ≡ is_some o
 shown_some None = refl
@@ -98,21 +130,34 @@ by_ready : {b : Bool} (ready : Bool) → b ≡ true → (b || ready) ≡ true
 by_ready ready is = ap (λ x. x || ready) is
 
 -- a producer that has a ring can be put in, and one that has none only with a ring that is ready
-pub can_accept : (rings : List (ℕ × Buffer Sent)) (kept : TableKept) (producer : ℕ) → recent_in rings ≡ kept.recent → is_some (lookup (nat_eq producer) rings) ≡ true → CanAccept kept producer
-can_accept rings kept producer shown there = by_ready kept.ready (ap (λ r. fin.contains_key r producer) (sym shown) ∙ ap is_some (get_shown rings producer) ∙ shown_some (lookup (nat_eq producer) rings) ∙ there)
+pub can_accept : (rings : List (ℕ × Buffer Sent)) (kept : TableKept) (producer : ℕ) → recent_in rings ≡ kept.recent
+    → is_some (lookup (nat_eq producer) rings) ≡ true → CanAccept kept producer
+can_accept rings kept producer shown there =
+    by_ready kept.ready (ap (λ r. fin.contains_key r producer) (sym shown) ∙ ap is_some (get_shown rings producer)
+    ∙ shown_some (lookup (nat_eq producer) rings) ∙ there)
 
-none_accepted : (recent : Recent) (producer : ℕ) (o : Option (List Sent)) (ready : Bool) → fin.get recent producer ≡ o → o ≡ None → ready ≡ false → (is_some (fin.get recent producer) || ready) ≡ true → ⊥
-none_accepted recent producer o ready is none unready can = true≢false (sym can ∙ ap (λ b. b || ready) (ap is_some (is ∙ none)) ∙ unready)
+none_accepted : (recent : Recent) (producer : ℕ) (o : Option (List Sent)) (ready : Bool) → fin.get recent producer ≡ o
+    → o ≡ None → ready ≡ false → (is_some (fin.get recent producer) || ready) ≡ true → ⊥
+none_accepted recent producer o ready is none unready can =
+    true≢false (sym can ∙ ap (λ b. b || ready) (ap is_some (is ∙ none)) ∙ unready)
 
-pub cannot_accept : (rings : List (ℕ × Buffer Sent)) (kept : TableKept) (producer : ℕ) → recent_in rings ≡ kept.recent → kept.ready ≡ false → None ≡ lookup (nat_eq producer) rings → CanAccept kept producer → ⊥
+pub cannot_accept : (rings : List (ℕ × Buffer Sent)) (kept : TableKept) (producer : ℕ) → recent_in rings ≡ kept.recent
+    → kept.ready ≡ false → None ≡ lookup (nat_eq producer) rings → CanAccept kept producer → ⊥
 cannot_accept rings kept producer shown unready none can =
-    none_accepted kept.recent producer _ kept.ready (ap (λ r. fin.get r producer) (sym shown) ∙ get_shown rings producer) (ap (option_map items) (sym none)) unready can
+    none_accepted kept.recent producer _ kept.ready
+    (ap (λ r. fin.get r producer) (sym shown) ∙ get_shown rings producer)
+    (ap (option_map items) (sym none)) unready can
 
-pub ring_capacity : (o : Option (Buffer Sent)) (ring : Buffer Sent) → IfSome o IsRing → Some ring ≡ o → ring.capacity ≡ remembered
-ring_capacity o ring is at = let here : IfSome (Some ring) IsRing = subst (λ x. IfSome x IsRing) (sym at) is in here.capacity
+pub ring_capacity : (o : Option (Buffer Sent)) (ring : Buffer Sent) → IfSome o IsRing → Some ring ≡ o
+    → ring.capacity ≡ remembered
+ring_capacity o ring is at =
+    let here : IfSome (Some ring) IsRing = subst (λ x. IfSome x IsRing) (sym at) is in here.capacity
 
-pub fresh_is : (o : Option (Buffer Sent)) (ring : Buffer Sent) → IfSome o (λ r. r ≡ buffer [] remembered) → Some ring ≡ o → ring ≡ buffer [] remembered
-fresh_is o ring is at = let here : IfSome (Some ring) (λ r. r ≡ buffer [] remembered) = subst (λ x. IfSome x (λ r. r ≡ buffer [] remembered)) (sym at) is in here
+pub fresh_is : (o : Option (Buffer Sent)) (ring : Buffer Sent) → IfSome o (λ r. r ≡ buffer [] remembered)
+    → Some ring ≡ o → ring ≡ buffer [] remembered
+fresh_is o ring is at =
+    let here : IfSome (Some ring) (λ r. r ≡ buffer [] remembered) =
+    subst (λ x. IfSome x (λ r. r ≡ buffer [] remembered)) (sym at) is in here
 
 pub some_is : (o : Option (Buffer Sent)) (ring : Buffer Sent) → Some ring ≡ o → IsSome o
 some_is o ring at = subst (λ x. IsSome x) at refl
@@ -125,8 +170,12 @@ and_right true b is = is
 and_right false b is = absurd (true≢false (sym is))
 
 -- a producer that has no ring can be put in only where there is room for one more
-pub room_for : (rings : List (ℕ × Buffer Sent)) (kept : TableKept) (producer : ℕ) (there : Bool) (room : ℕ) → recent_in rings ≡ kept.recent → (there && nat_lt 0 room) ≡ kept.ready → None ≡ lookup (nat_eq producer) rings
+pub room_for : (rings : List (ℕ × Buffer Sent)) (kept : TableKept) (producer : ℕ) (there : Bool) (room : ℕ)
+    → recent_in rings ≡ kept.recent → (there && nat_lt 0 room) ≡ kept.ready → None ≡ lookup (nat_eq producer) rings
     → CanAccept kept producer → 0 < room
 room_for rings kept producer there room shown ready none can =
-    let unknown : fin.contains_key kept.recent producer ≡ false = ap (λ r. fin.contains_key r producer) (sym shown) ∙ ap is_some (get_shown rings producer) ∙ ap (λ o. is_some (option_map items o)) (sym none) in
-    ltb-true 0 room (and_right there (nat_lt 0 room) (ready ∙ ready_if (fin.contains_key kept.recent producer) kept.ready unknown can))
+    let unknown : fin.contains_key kept.recent producer ≡ false =
+    ap (λ r. fin.contains_key r producer) (sym shown) ∙ ap is_some (get_shown rings producer)
+    ∙ ap (λ o. is_some (option_map items o)) (sym none) in
+    ltb-true 0 room (and_right there (nat_lt 0 room)
+    (ready ∙ ready_if (fin.contains_key kept.recent producer) kept.ready unknown can))

@@ -12,7 +12,8 @@ pub returns : goal.returns
 returns c =
     let binding = c.args.binding.now in
     let test = passes_at (is_equal binding) c.args.entries.now in
-    let held_there : List ℕ = serials_of (digest_place binding).kind (held c.args.digests.now (digest_place binding).key) in
+    let held_there : List ℕ =
+    serials_of (digest_place binding).kind (held c.args.digests.now (digest_place binding).key) in
     let given : left_of c.literal.result ≡ held_there = cc in
     sym (option_map_id c.min.result)
     ∙ min_from_yields_List c.filter.result c.min.result c.min.ensures.ran

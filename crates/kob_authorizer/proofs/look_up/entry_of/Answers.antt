@@ -10,18 +10,22 @@ pub returns-in-Ok : goal.returns-in-Ok
 returns-in-Ok c =
     let entries = c.args.entries.now in
     let facts = c.binary_search_by_key.ensures in
-    let by_serial = facts.position (λ (entry : ℕ × Binding). entry.0) (answers_always _ _ _ (λ f a r g called. search rules)) in
+    let by_serial =
+    facts.position (λ (entry : ℕ × Binding). entry.0) (answers_always _ _ _ (λ f a r g called. search rules)) in
     let found = c.index-entries-place.result in
     ap Some c.index-entries-place.is
     ∙ searched entries c.requires c.args.serial (Ok c.in-Ok.place)
     (subst (λ r. IsSearchInRange r (length entries)) c.in-Ok.is facts.bound)
-    (subst (λ r. IsBinarySearchResult (λ (entry : ℕ × Binding). nat_cmp entry.0 c.args.serial) entries r) c.in-Ok.is by_serial) found
+    (subst (λ r. IsBinarySearchResult (λ (entry : ℕ × Binding). nat_cmp entry.0 c.args.serial) entries r) c.in-Ok.is
+    by_serial) found
 
 pub returns-in-Err : goal.returns-in-Err
 returns-in-Err c =
     let entries = c.args.entries.now in
     let facts = c.binary_search_by_key.ensures in
-    let by_serial = facts.position (λ (entry : ℕ × Binding). entry.0) (answers_always _ _ _ (λ f a r g called. search rules)) in
+    let by_serial =
+    facts.position (λ (entry : ℕ × Binding). entry.0) (answers_always _ _ _ (λ f a r g called. search rules)) in
     searched entries c.requires c.args.serial (Err _)
     (subst (λ r. IsSearchInRange r (length entries)) c.in-Err.is facts.bound)
-    (subst (λ r. IsBinarySearchResult (λ (entry : ℕ × Binding). nat_cmp entry.0 c.args.serial) entries r) c.in-Err.is by_serial)
+    (subst (λ r. IsBinarySearchResult (λ (entry : ℕ × Binding). nat_cmp entry.0 c.args.serial) entries r) c.in-Err.is
+    by_serial)

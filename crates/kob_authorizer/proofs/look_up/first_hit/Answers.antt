@@ -5,4 +5,5 @@ use Rattle.kob_authorizer.proofs.look_up.first_hit.Goals as goal
 
 pub returns : goal.returns
 returns c =
-    c.least_hit.ensures ∙ least_hit_is_first c.args.index.now c.args.entries.now c.args.permission (asked c.args.question.now) c.requires.rising c.requires.indexed
+    c.least_hit.ensures ∙ least_hit_is_first c.args.index.now c.args.entries.now c.args.permission
+    (asked c.args.question.now) c.requires.rising c.requires.indexed

@@ -8,5 +8,6 @@ use Rattle.kob_broker.proofs.create_acls.bindings_of.Given as goal
 abbrev pub invariant-loop-draft : goal.invariant-loop-draft
 invariant-loop-draft l = record {
   made : l.bindings.items ≡ take l.draft-index l.drafts;
-  against : first_reason (flat_map draft_reasons (drop l.draft-index l.drafts)) ≡ first_reason (flat_map draft_reasons l.drafts);
+  against : first_reason (flat_map draft_reasons (drop l.draft-index l.drafts))
+      ≡ first_reason (flat_map draft_reasons l.drafts);
 }

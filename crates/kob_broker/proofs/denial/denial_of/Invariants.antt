@@ -5,4 +5,6 @@ use Rattle.kob_broker.proofs.denial.denial_of.Given as goal
 
 -- the first clause that isn't met is among what is left
 abbrev pub invariant-loop-place : goal.invariant-loop-place
-invariant-loop-place l = unmet l.authorizer.contents l.event l.place (drop l.place l.clause-items) ≡ unmet l.authorizer.contents l.event 0 (rights l.event.request)
+invariant-loop-place l =
+    unmet l.authorizer.contents l.event l.place (drop l.place l.clause-items)
+    ≡ unmet l.authorizer.contents l.event 0 (rights l.event.request)

@@ -30,10 +30,13 @@ returns-else-is_super-clause-meaning c =
     let told : c.is_super.result ≡ is_super c.args.self.now.contents.supers c.args.who.now =
     c.is_super.ensures ∙ ap (λ supers. is_super supers c.args.who.now) c.supers.ensures in
     let stranger : is_super c.args.self.now.contents.supers c.args.who.now ≡ false = sym told ∙ c.if-is_super.false in
-    let verdict : c.verdict.result ≡ verdict_of false (first_serial (hits in_force Deny question)) (first_serial (hits in_force Allow question)) =
-    c.verdict.ensures ∙ ap (λ (es : List (ℕ × Binding)). verdict_of false (first_serial (hits es Deny question)) (first_serial (hits es Allow question))) entries in
+    let verdict : c.verdict.result ≡ verdict_of false (first_serial (hits in_force Deny question))
+    (first_serial (hits in_force Allow question)) =
+    c.verdict.ensures ∙ ap (λ (es : List (ℕ × Binding)). verdict_of false (first_serial (hits es Deny question))
+    (first_serial (hits es Allow question))) entries in
     rw verdict (true_by in_force next c.args.self.now.contents.supers question false _ _ rising stranger refl refl)
 
 pub verdict-requires-clause-rising : goal.verdict-requires-clause-rising
 verdict-requires-clause-rising c =
-    subst AreRising (sym c.as_slice.ensures.value) (are_rising 1 c.self.inside.next c.self.inside.entries.items c.self.invariant.1)
+    subst AreRising (sym c.as_slice.ensures.value)
+    (are_rising 1 c.self.inside.next c.self.inside.entries.items c.self.invariant.1)

@@ -17,9 +17,11 @@ invariant_of-self c =
     rw (← c.into_parts-fresh.ensures.fresh) c.put_last.ensures.items in
     let within = rw (← c.self.view_is) at c.requires.count in
     let numbered = rw (← c.self.view_is) at c.requires.numbered in
-    let rises = put_rises binding_limit c.self.inside.next c.len.result before fresh count within c.self.invariant.1 numbered in
+    let rises =
+    put_rises binding_limit c.self.inside.next c.len.result before fresh count within c.self.invariant.1 numbered in
     let index : fold with_leaf c.self.inside.index (map leaf_of fresh) ≡ c.put_all.new.index =
     ap (fold with_leaf c.self.inside.index) (sym c.into_parts-fresh.ensures.leaves) ∙ sym c.put_all.ensures in
     let indexed : Indexes c.put_all.new.index (before ++ fresh) =
-    subst (λ (i : Index). Indexes i (before ++ fresh)) index (indexes_put_all fresh c.self.inside.index before c.self.invariant.2) in
+    subst (λ (i : Index). Indexes i (before ++ fresh)) index
+    (indexes_put_all fresh c.self.inside.index before c.self.invariant.2) in
     rw items (rises.0, rises.1, indexed)

@@ -16,7 +16,12 @@ invariant_of-self c =
     ap (fold (without_if_taken wanted) c.self.inside.index) (sym c.as_slice.ensures.value) ∙ sym c.take_out.ensures in
     let indexed : Indexes c.take_out.new.index (removed wanted before) =
     subst (λ (i : Index). Indexes i (removed wanted before)) index
-    (indexes_remove_taken wanted 1 c.self.inside.next before c.self.inside.index [] c.self.invariant.1 c.self.invariant.2) in
+    (indexes_remove_taken wanted 1 c.self.inside.next before c.self.inside.index [] c.self.invariant.1
+    c.self.invariant.2) in
     let fewer = c.remove_taken.ensures.bound in
     let within = c.self.invariant.0 in
-    rw c.remove_taken.ensures.items (omega (arith, fewer, within, ap length c.remove_taken.ensures.items), removed_rises before c.self.inside.next wanted c.self.invariant.1, indexed)
+    rw c.remove_taken.ensures.items (
+      omega (arith, fewer, within, ap length c.remove_taken.ensures.items),
+      removed_rises before c.self.inside.next wanted c.self.invariant.1,
+      indexed,
+    )

@@ -13,7 +13,8 @@ invariant_of-self-2 c =
     let count : c.len-place.result ≡ length before = search rules in
     let items : c.push.new.self.items ≡ before ++ (c.len-place.result, binding) ∷ [] =
     c.in_ok-push.ensures.items ∙ ap (λ (b : Binding). before ++ (c.len-place.result, b) ∷ []) c.in_ok-copy.ensures in
-    let tree : c.commit_add.new.self ≡ with_addition c.self.inside.digests (addition digest_place (c.len-place.result, binding)) = search rules in
+    let tree : c.commit_add.new.self ≡ with_addition c.self.inside.digests
+    (addition digest_place (c.len-place.result, binding)) = search rules in
     let indexed : IsIndex digest_place c.commit_add.new.self (before ++ (c.len-place.result, binding) ∷ []) =
     subst (λ (m : PrefixMap). IsIndex digest_place m (before ++ (c.len-place.result, binding) ∷ [])) (sym tree)
     (index_added digest_place c.self.inside.digests before (c.len-place.result, binding) c.self.invariant.1) in

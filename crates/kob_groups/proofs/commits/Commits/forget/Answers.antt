@@ -9,4 +9,5 @@ pub returns : goal.returns
 returns c =
     let test = same_text c.args.topic.now in let entries = c.shift_remove.ensures.entries in
     ap (seen offsets_in) entries
-    ∙ seen_removed offsets_in test c.args.self.now.by_topic.entries (ap (lookup test) (sym entries) ∙ c.shift_remove.ensures.updates.1)
+    ∙ seen_removed offsets_in test c.args.self.now.by_topic.entries
+    (ap (lookup test) (sym entries) ∙ c.shift_remove.ensures.updates.1)

@@ -9,12 +9,14 @@ pub returns-in_err-reserve-in-Some-clause-commits : goal.returns-in_err-reserve-
 returns-in_err-reserve-in-Some-clause-commits c =
     let found = sym c.get_mut.ensures.value ∙ ap option_copied_mut c.in-Some.is in
     ap (seen offsets_in) (c.get_mut.follows.holds c.reserve-in-Some.new.self).0
-    ∙ seen_written offsets_in (same_text c.args.topic.now) c.reserve.new.self.entries _ _ found c.reserve-in-Some.ensures.entries
+    ∙ seen_written offsets_in (same_text c.args.topic.now) c.reserve.new.self.entries _ _ found
+    c.reserve-in-Some.ensures.entries
     ∙ ap (seen offsets_in) c.reserve.ensures.entries
 
 pub returns-in_ok-reserve-in-Some-clause-commits : goal.returns-in_ok-reserve-in-Some-clause-commits
 returns-in_ok-reserve-in-Some-clause-commits c =
     let found = sym c.get_mut.ensures.value ∙ ap option_copied_mut c.in-Some.is in
     ap (seen offsets_in) (c.get_mut.follows.holds c.reserve-in-Some.new.self).0
-    ∙ seen_written offsets_in (same_text c.args.topic.now) c.reserve.new.self.entries _ _ found c.reserve-in-Some.ensures.entries
+    ∙ seen_written offsets_in (same_text c.args.topic.now) c.reserve.new.self.entries _ _ found
+    c.reserve-in-Some.ensures.entries
     ∙ ap (seen offsets_in) c.reserve.ensures.entries

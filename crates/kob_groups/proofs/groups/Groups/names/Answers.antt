@@ -6,5 +6,6 @@ use Rattle.kob_groups.proofs.groups.Groups.names.Goals as goal
 pub returns : goal.returns
 returns c =
     let ended = rw c.in-None.is at c.next.ensures.steps in
-    c.from_vec.ensures ∙ sym (append-nil c.loop-name.names.items) ∙ ap (λ rest. c.loop-name.names.items ++ rest) (sym ended.0)
+    c.from_vec.ensures ∙ sym (append-nil c.loop-name.names.items)
+    ∙ ap (λ rest. c.loop-name.names.items ++ rest) (sym ended.0)
     ∙ c.loop-name.invariant ∙ sym (seen_keys commits_in c.args.self.now.by_name.entries)

@@ -19,4 +19,5 @@ pub returns-clause-removed : goal.returns-clause-removed
 returns-clause-removed c =
     let test = same_text c.args.name.now in let entries = c.shift_remove.ensures.entries in
     ap (seen commits_in) entries
-    ∙ seen_removed commits_in test c.args.self.now.by_name.entries (ap (lookup test) (sym entries) ∙ c.shift_remove.ensures.updates.1)
+    ∙ seen_removed commits_in test c.args.self.now.by_name.entries
+    (ap (lookup test) (sym entries) ∙ c.shift_remove.ensures.updates.1)

@@ -8,7 +8,8 @@ abbrev pub invariant-loop-byte : goal.invariant-loop-byte
 invariant-loop-byte l = record {
   neat : IsNeat l.place.below.now.nodes;
   passed : l.depth + length l.rest ≡ length l.name;
-  deeper : (n : ℕ) → IsLongestInUse (λ key. held_in key (seen l.place)) l.rest n → IsLongestInUse (λ key. held_in key (seen l.fn.self)) l.name (l.depth + n);
+  deeper : (n : ℕ) → IsLongestInUse (λ key. held_in key (seen l.place)) l.rest n
+      → IsLongestInUse (λ key. held_in key (seen l.fn.self)) l.name (l.depth + n);
 }
 
 abbrev pub decreases-loop-byte : goal.decreases-loop-byte

@@ -9,9 +9,15 @@ use Rattle.kob_prefix_tree.proofs.tree.PrefixTree.add.Goals as goal
 
 pub returns : goal.returns
 returns c =
-    let old = contents c.self.inside.root in let new = contents c.add.new.self in let key = c.args.key.now in let kind = c.args.kind in let serial = c.args.serial in let e = c.add.ensures in
-    let one = ap (λ serials. with_serials kind serials (held_in key old)) c.in_ok-serials.ensures ∙ one_behind kind serial (held_in key old) in
+    let old = contents c.self.inside.root in let new = contents c.add.new.self in let key = c.args.key.now in
+    let kind = c.args.kind in let serial = c.args.serial in let e = c.add.ensures in
+    let one =
+    ap (λ serials. with_serials kind serials (held_in key old)) c.in_ok-serials.ensures
+    ∙ one_behind kind serial (held_in key old) in
     record {
-      added = on_ok c.add.result (λ put. added_of old new key kind serial c.self.invariant e.neat (put ∙ one) e.elsewhere ∙ ap (λ m. added m key kind serial) c.self.view_is) e.put;
-      refused = on_err c.add.result (λ same. same_of old new key kind serial c.self.invariant e.neat same e.elsewhere ∙ c.self.view_is) e.refused;
+      added = on_ok c.add.result (λ put. added_of old new key kind serial c.self.invariant e.neat
+          (put ∙ one) e.elsewhere ∙ ap (λ m. added m key kind serial) c.self.view_is) e.put;
+      refused =
+          on_err c.add.result (λ same. same_of old new key kind serial c.self.invariant e.neat same e.elsewhere
+          ∙ c.self.view_is) e.refused;
     }

@@ -9,9 +9,13 @@ use Rattle.kob_prefix_tree.proofs.tree.PrefixTree.literal.Goals as goal
 pub returns-in-None : goal.returns-in-None
 returns-in-None c =
     c.over.ensures ∙ c.nothing.ensures
-    ∙ ap (λ (h : Held). h.0) (sym c.in-None.ensures ∙ ap (held_in c.args.name.now) c.place.ensures ∙ sym (held_of_map c.args.name.now (contents c.self.inside.root) c.self.invariant) ∙ ap (λ (m : PrefixMap). held m c.args.name.now) c.self.view_is)
+    ∙ ap (λ (h : Held). h.0) (sym c.in-None.ensures ∙ ap (held_in c.args.name.now) c.place.ensures
+    ∙ sym (held_of_map c.args.name.now (contents c.self.inside.root) c.self.invariant)
+    ∙ ap (λ (m : PrefixMap). held m c.args.name.now) c.self.view_is)
 
 pub returns-in-Some : goal.returns-in-Some
 returns-in-Some c =
     c.over-in-Some.ensures ∙ c.unread.ensures
-    ∙ ap (λ (h : Held). h.0) (sym c.in-Some.ensures ∙ ap (held_in c.args.name.now) c.place.ensures ∙ sym (held_of_map c.args.name.now (contents c.self.inside.root) c.self.invariant) ∙ ap (λ (m : PrefixMap). held m c.args.name.now) c.self.view_is)
+    ∙ ap (λ (h : Held). h.0) (sym c.in-Some.ensures ∙ ap (held_in c.args.name.now) c.place.ensures
+    ∙ sym (held_of_map c.args.name.now (contents c.self.inside.root) c.self.invariant)
+    ∙ ap (λ (m : PrefixMap). held m c.args.name.now) c.self.view_is)

@@ -8,9 +8,13 @@ use Rattle.kob_prefix_tree.proofs.tree.PrefixTree.remove_all.Goals as goal
 pub returns-clause-found : goal.returns-clause-found
 returns-clause-found c =
     c.remove_all.ensures.found
-    ∙ ap (has_serials c.args.kind c.args.serials.now) (sym (held_of_map c.args.key.now (contents c.self.inside.root) c.self.invariant) ∙ ap (λ m. held m c.args.key.now) c.self.view_is)
+    ∙ ap (has_serials c.args.kind c.args.serials.now)
+    (sym (held_of_map c.args.key.now (contents c.self.inside.root) c.self.invariant)
+    ∙ ap (λ m. held m c.args.key.now) c.self.view_is)
 
 pub returns-clause-removed : goal.returns-clause-removed
 returns-clause-removed c =
-    removed_all_of (contents c.self.inside.root) (contents c.remove_all.new.self) c.args.key.now c.args.kind 0 c.self.invariant c.remove_all.ensures.neat c.args.serials.now c.remove_all.ensures.taken c.remove_all.ensures.elsewhere
+    removed_all_of (contents c.self.inside.root)
+    (contents c.remove_all.new.self) c.args.key.now c.args.kind 0 c.self.invariant c.remove_all.ensures.neat
+    c.args.serials.now c.remove_all.ensures.taken c.remove_all.ensures.elsewhere
     ∙ ap (λ m. removed_all m c.args.key.now c.args.kind c.args.serials.now) c.self.view_is

@@ -11,14 +11,23 @@ returns-in-Some c =
     let new = (c.get_mut.follows.lender c.push_back.new.self).entries in
     let ring = c.in-Some.ring.now in
     let written = (c.get_mut.follows.holds c.push_back.new.self).3 (some_is _ ring c.in-Some.ensures.value) in
-    let recent = accepted_by_ring old new c.args.self.now.recent c.args.idem.now c.args.count c.args.offset ring c.push_back.new.self c.new-sent.result
-    (ap (λ t. t.recent) c.self.view_is) c.in-Some.ensures.value (ring_capacity _ ring (c.self.invariant.0 c.args.idem.now.id) c.in-Some.ensures.value)
+    let recent =
+    accepted_by_ring old new c.args.self.now.recent c.args.idem.now c.args.count c.args.offset ring
+    c.push_back.new.self c.new-sent.result
+    (ap (λ t. t.recent) c.self.view_is) c.in-Some.ensures.value
+    (ring_capacity _ ring (c.self.invariant.0 c.args.idem.now.id) c.in-Some.ensures.value)
     c.new-sent.ensures c.push_back.ensures.items written.0 in
-    record { recent = recent; plain = λ histories keeps. accepted_plain histories c.args.self.now.recent _ c.args.idem.now c.args.count c.args.offset recent keeps }
+    record {
+      recent = recent;
+      plain = λ histories keeps. accepted_plain histories c.args.self.now.recent _
+          c.args.idem.now c.args.count c.args.offset recent keeps;
+    }
 
 pub insert_reserved-requires : goal.insert_reserved-requires
 insert_reserved-requires c =
-    let room = room_for c.self.inside.rings.entries c.args.self.now c.args.idem.now.id (is_some c.self.inside.fresh) (spare c.self.inside.rings)
+    let room =
+    room_for c.self.inside.rings.entries c.args.self.now c.args.idem.now.id (is_some c.self.inside.fresh)
+    (spare c.self.inside.rings)
     (ap (λ t. t.recent) c.self.view_is) (ap (λ t. t.ready) c.self.view_is) c.in_default.ensures.value c.requires in
     subst (λ m. 0 < spare m) (sym c.get_mut.follows.holds-at-none) room
 
@@ -26,13 +35,25 @@ pub returns-in-Some-take : goal.returns-in-Some-take
 returns-in-Some-take c =
     let ring = c.in-Some-take.ring in
     let same = c.get_mut.follows.holds-at-none in
-    let recent = accepted_first c.get_mut.follows.lender-at-none.entries c.insert_reserved.new.rings.entries c.args.self.now.recent c.args.idem.now c.args.count c.args.offset ring c.push_back-in-Some-take.new.self c.new-sent.result
-    (ap (λ m. recent_in m.entries) same ∙ ap (λ t. t.recent) c.self.view_is) (c.in_default.ensures.value ∙ sym (ap (λ m. get_by (nat_eq c.args.idem.now.id) m) same))
+    let recent =
+    accepted_first c.get_mut.follows.lender-at-none.entries c.insert_reserved.new.rings.entries
+    c.args.self.now.recent c.args.idem.now c.args.count c.args.offset ring c.push_back-in-Some-take.new.self
+    c.new-sent.result
+    (ap (λ m. recent_in m.entries) same ∙ ap (λ t. t.recent) c.self.view_is)
+    (c.in_default.ensures.value ∙ sym (ap (λ m. get_by (nat_eq c.args.idem.now.id) m) same))
     (fresh_is _ ring c.self.invariant.1 (sym c.in-Some-take.is ∙ c.take.ensures.value))
     c.new-sent.ensures c.push_back-in-Some-take.ensures.items c.insert_reserved.ensures.0 in
-    record { recent = recent; plain = λ histories keeps. accepted_plain histories c.args.self.now.recent _ c.args.idem.now c.args.count c.args.offset recent keeps }
+    record {
+      recent = recent;
+      plain = λ histories keeps. accepted_plain histories c.args.self.now.recent _
+          c.args.idem.now c.args.count c.args.offset recent keeps;
+    }
 
 pub returns-in_default-take : goal.returns-in_default-take
 returns-in_default-take c =
-    let unready = sym (ap (λ t. t.ready) c.self.view_is) ∙ ap (λ o. is_some o && nat_lt 0 (spare c.self.inside.rings)) (sym c.take.ensures.value ∙ c.in_default-take.is) in
-    absurd (cannot_accept c.self.inside.rings.entries c.args.self.now c.args.idem.now.id (ap (λ t. t.recent) c.self.view_is) unready c.in_default.ensures.value c.requires)
+    let unready =
+    sym (ap (λ t. t.ready) c.self.view_is)
+    ∙ ap (λ o. is_some o && nat_lt 0 (spare c.self.inside.rings))
+    (sym c.take.ensures.value ∙ c.in_default-take.is) in
+    absurd (cannot_accept c.self.inside.rings.entries c.args.self.now c.args.idem.now.id
+    (ap (λ t. t.recent) c.self.view_is) unready c.in_default.ensures.value c.requires)
