@@ -5,7 +5,7 @@ use Rattle.std.specs.List.{enumerate_from, find, cons_option, fold}
 use Rattle.std.specs.Option.{option_map}
 use Rattle.std.proofs.lemmas.List.FromFn.{length-enumerate_from}
 use Rattle.kob_authorizer.proofs.Rising.{rising_append, rising_enumerate_from}
-use Rattle.kob_authorizer.proofs.Serials.{enumerate_from_push, serial_of-append_none, serial_of-append_some}
+use Rattle.kob_authorizer.proofs.Serials.{enumerate_from_push, serial_of_append_none, serial_of_append_some}
 use Rattle.kob_authorizer.specs.AtOnce.{added_at_once, creation, is_among, is_in_force, is_known, new_bindings, serials_in, with_new}
 use Rattle.kob_authorizer.specs.Creation.{Added, Creates, OnlyAdds, add_one, added, placed, serial_of}
 use Rattle.kob_authorizer.specs.Contents.{IsRising}
@@ -36,12 +36,12 @@ known_has_serial n (e ∷ es) fresh b =
     [ true ↦ refl | false ↦ known_has_serial n es fresh b ]
 
 -- numbering two lists is numbering the one and then the other
-enumerate_from-append : (n : ℕ) (xs ys : List Binding)
+enumerate_from_append : (n : ℕ) (xs ys : List Binding)
     → enumerate_from n (xs ++ ys) ≡ enumerate_from n xs ++ enumerate_from (n + length xs) ys
-enumerate_from-append n [] ys = let e : n ≡ n + 0 = omega arith in ap (λ k. enumerate_from k ys) e
-enumerate_from-append n (x ∷ xs) ys =
+enumerate_from_append n [] ys = let e : n ≡ n + 0 = omega arith in ap (λ k. enumerate_from k ys) e
+enumerate_from_append n (x ∷ xs) ys =
     let more : n + 1 + length xs ≡ n + length (x ∷ xs) = omega arith in
-    ap (λ rest. (n, x) ∷ rest) (enumerate_from-append (n + 1) xs ys
+    ap (λ rest. (n, x) ∷ rest) (enumerate_from_append (n + 1) xs ys
     ∙ ap (λ k. enumerate_from (n + 1) xs ++ enumerate_from k ys) more)
 
 -- the new bindings so far stay at the front
@@ -65,9 +65,9 @@ serial_stays n entries fresh bs b serial given =
     let whole : grown n entries fresh ++ enumerate_from (n + length fresh) later.0
     ≡ grown n entries (fold (with_new entries) fresh bs) =
     append_assoc entries (enumerate_from n fresh) (enumerate_from (n + length fresh) later.0)
-    ∙ ap (λ rest. entries ++ rest) (sym (enumerate_from-append n fresh later.0))
+    ∙ ap (λ rest. entries ++ rest) (sym (enumerate_from_append n fresh later.0))
     ∙ ap (λ all. grown n entries all) (sym later.1) in
-    serial_of-append_some b (grown n entries fresh) (enumerate_from (n + length fresh) later.0) serial given
+    serial_of_append_some b (grown n entries fresh) (enumerate_from (n + length fresh) later.0) serial given
     ∙ ap (λ all. serial_of all b) whole
 
 -- the state after fresh bindings, with the serials answered so far
@@ -105,7 +105,7 @@ new_serial n entries fresh b none =
     let itself : same_binding b b ≡ true = (same_binding_decides b b).1 refl in
     let alone : Some (n + length fresh) ≡ serial_of ((n + length fresh, b) ∷ []) b =
     ap (λ t. option_map (λ (e : ℕ × Binding). e.0) (cond t (Some (n + length fresh, b)) None)) (sym itself) in
-    alone ∙ serial_of-append_none b (grown n entries fresh) ((n + length fresh, b) ∷ []) none
+    alone ∙ serial_of_append_none b (grown n entries fresh) ((n + length fresh, b) ∷ []) none
 
 -- the entries with one more fresh binding
 grown_push : (n : ℕ) (entries : List (ℕ × Binding)) (fresh : List Binding) (b : Binding)

@@ -21,7 +21,7 @@ use Rattle.kob_prefix_tree.specs.declared.kind.PatternKind as of_tree
 use Rattle.kob_prefix_tree.specs.declared.kind.PatternKind.TheVariants as in_tree
 use Rattle.kob_authorizer.proofs.FirstHit.{first_serial_found}
 use Rattle.kob_authorizer.proofs.LeastPassing.{LeadToAll, among_mapped, kept_by_filter, least_is_first}
-use Rattle.kob_authorizer.proofs.Verdicts.{is_hit-Decides}
+use Rattle.kob_authorizer.proofs.Verdicts.{is_hit_decides}
 use Rattle.kob_authorizer.specs.Creation.{serial_of}
 use Rattle.kob_authorizer.specs.Decide.{first_serial, hits, is_hit}
 use Rattle.kob_authorizer.specs.Index.{Indexes, entries_on, tree_of}
@@ -79,7 +79,7 @@ module _ (index : Index) (entries : List (ℕ × Binding)) (indexed : Indexes in
       → LeadToAll (is_hit permission question) entries
       (matching_serials (tree_of index question.resource) question.name)
   hits_looked_up permission question entry there is =
-      let hit : Hits permission question entry = (is_hit-Decides permission question entry).0 is in
+      let hit : Hits permission question entry = (is_hit_decides permission question entry).0 is in
       let resource : ResourceKind = question.resource in
       let on : same_resource entry.1.resource resource ≡ true =
       (resource_decides entry.1.resource resource).1 hit.resource in

@@ -10,28 +10,28 @@ use Rattle.kob_names.specs.SameBinding.{same_binding}
 use Rattle.kob_names.specs.Binding.{Binding}
 
 -- a serial found in the first list stays found
-pub serial_of-append_some : (binding : Binding) (xs ys : List (ℕ × Binding)) (serial : ℕ)
+pub serial_of_append_some : (binding : Binding) (xs ys : List (ℕ × Binding)) (serial : ℕ)
     → Some serial ≡ serial_of xs binding → Some serial ≡ serial_of (xs ++ ys) binding
-serial_of-append_some binding [] ys serial = λ h. cc
-serial_of-append_some binding (x ∷ xs) ys serial =
+serial_of_append_some binding [] ys serial = λ h. cc
+serial_of_append_some binding (x ∷ xs) ys serial =
     elim (same_binding x.1 binding) as (λ t.
     Some serial ≡ option_map (λ (e : ℕ × Binding). e.0)
     (cond t (Some x) (find (λ (e : ℕ × Binding). same_binding e.1 binding) xs))
     → Some serial ≡ option_map (λ (e : ℕ × Binding). e.0)
     (cond t (Some x) (find (λ (e : ℕ × Binding). same_binding e.1 binding) (xs ++ ys))))
-    [ true ↦ (λ h. h) | false ↦ serial_of-append_some binding xs ys serial ]
+    [ true ↦ (λ h. h) | false ↦ serial_of_append_some binding xs ys serial ]
 
 -- where the first list has none, it is that of the second
-pub serial_of-append_none : (binding : Binding) (xs ys : List (ℕ × Binding)) → None ≡ serial_of xs binding
+pub serial_of_append_none : (binding : Binding) (xs ys : List (ℕ × Binding)) → None ≡ serial_of xs binding
     → serial_of ys binding ≡ serial_of (xs ++ ys) binding
-serial_of-append_none binding [] ys = λ h. refl
-serial_of-append_none binding (x ∷ xs) ys =
+serial_of_append_none binding [] ys = λ h. refl
+serial_of_append_none binding (x ∷ xs) ys =
     elim (same_binding x.1 binding) as (λ t.
     None ≡ option_map (λ (e : ℕ × Binding). e.0)
     (cond t (Some x) (find (λ (e : ℕ × Binding). same_binding e.1 binding) xs))
     → serial_of ys binding ≡ option_map (λ (e : ℕ × Binding). e.0)
     (cond t (Some x) (find (λ (e : ℕ × Binding). same_binding e.1 binding) (xs ++ ys))))
-    [ true ↦ (λ h. cc) | false ↦ serial_of-append_none binding xs ys ]
+    [ true ↦ (λ h. cc) | false ↦ serial_of_append_none binding xs ys ]
 
 -- numbering keeps the length
 pub length_enumerate_from : {A : Type 0} (n : ℕ) (xs : List A) → length (enumerate_from n xs) ≡ length xs

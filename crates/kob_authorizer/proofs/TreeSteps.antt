@@ -136,9 +136,9 @@ module _ (place : Binding → Place) where
   abbrev stands : PatternKind → List ℕ → ℕ × Binding → Bool
   stands kind key entry = is_place kind key (place entry.1)
 
-  serials_at-append : (xs ys : List (ℕ × Binding)) (kind : PatternKind) (key : List ℕ)
+  serials_at_append : (xs ys : List (ℕ × Binding)) (kind : PatternKind) (key : List ℕ)
       → serials_at place (xs ++ ys) kind key ≡ serials_at place xs kind key ++ serials_at place ys kind key
-  serials_at-append xs ys kind key =
+  serials_at_append xs ys kind key =
       ap (map serial) (filter-append (stands kind key) xs ys)
       ∙ map-append serial (filter (stands kind key) xs) (filter (stands kind key) ys)
 
@@ -156,7 +156,7 @@ module _ (place : Binding → Place) where
       after_added m (place entry.1).key (place entry.1).kind entry.0 kind key
       ∙ ap (λ xs. xs ++ where_so (stands kind key entry) entry.0) (is kind key)
       ∙ ap (λ xs. serials_at place entries kind key ++ xs) one
-      ∙ sym (serials_at-append entries (entry ∷ []) kind key)
+      ∙ sym (serials_at_append entries (entry ∷ []) kind key)
 
   -- the list of a place without the serial of an entry, when none before has it
   taken_out : (done : List (ℕ × Binding)) (entry : ℕ × Binding) (rest : List (ℕ × Binding)) (kind : PatternKind)
@@ -180,6 +180,6 @@ module _ (place : Binding → Place) where
       → IsIndex place (without_addition m (addition place entry)) (done ++ rest)
   index_removed m done entry rest none is kind key =
       after_removed m (place entry.1).key (place entry.1).kind entry.0 kind key
-      ∙ ap (less (stands kind key entry) entry.0) (is kind key ∙ serials_at-append done (entry ∷ rest) kind key)
+      ∙ ap (less (stands kind key entry) entry.0) (is kind key ∙ serials_at_append done (entry ∷ rest) kind key)
       ∙ taken_out done entry rest kind key none (stands kind key entry)
-      ∙ sym (serials_at-append done rest kind key)
+      ∙ sym (serials_at_append done rest kind key)

@@ -18,13 +18,13 @@ use Rattle.kob_authorizer.specs.Decide.{decide, first_serial, hits, is_hit, is_s
 use Rattle.kob_authorizer.specs.Meaning.{Hits, IsEarliest, IsTrueVerdict, NoneHits}
 use Rattle.kob_authorizer.specs.Question.{Question}
 
-itself-Decides : (b : Bool) → Decides b (IsTrue b)
-itself-Decides b = ((λ h. h), (λ h. h))
+itself_decides : (b : Bool) → Decides b (IsTrue b)
+itself_decides b = ((λ h. h), (λ h. h))
 
 -- the test of a hit says whether the binding hits
-pub is_hit-Decides : (wanted : Permission) (question : Question) (entry : ℕ × Binding)
+pub is_hit_decides : (wanted : Permission) (question : Question) (entry : ℕ × Binding)
     → Decides (is_hit wanted question entry) (Hits wanted question entry)
-is_hit-Decides wanted question entry =
+is_hit_decides wanted question entry =
     Decides-like (is_hit wanted question entry)
     (λ parts. record {
       permission = parts.0;
@@ -36,14 +36,14 @@ is_hit-Decides wanted question entry =
     (λ hit. (hit.permission, (hit.resource, (hit.name, (hit.who, hit.operation)))))
     (Decides-and _ _ (permission_decides entry.1.permission wanted)
     (Decides-and _ _ (resource_decides entry.1.resource question.resource)
-    (Decides-and _ _ (itself-Decides (matches entry.1.pattern question.name))
-    (Decides-and _ _ (itself-Decides (covers entry.1 question.principal question.host))
-    (itself-Decides (reaches wanted entry.1.operation question.operation))))))
+    (Decides-and _ _ (itself_decides (matches entry.1.pattern question.name))
+    (Decides-and _ _ (itself_decides (covers entry.1 question.principal question.host))
+    (itself_decides (reaches wanted entry.1.operation question.operation))))))
 
 -- where the test fails the binding does not hit
 no_hit : (wanted : Permission) (question : Question) (entry : ℕ × Binding) → is_hit wanted question entry ≡ false
     → Hits wanted question entry → ⊥
-no_hit wanted question entry fails hit = let passes = (is_hit-Decides wanted question entry).1 hit in cc
+no_hit wanted question entry fails hit = let passes = (is_hit_decides wanted question entry).1 hit in cc
 
 none_step : (wanted : Permission) (question : Question) (entry : ℕ × Binding) (found rest : List (ℕ × Binding))
     (b : Bool) → is_hit wanted question entry ≡ b → first_serial (cond b (entry ∷ found) found) ≡ None
@@ -92,7 +92,7 @@ earliest_step wanted question entry found rest low high serial true is rising fo
     record {
       entry = entry;
       in_force = Contains-append_left (entry ∷ []) rest entry (Contains-push [] entry);
-      hits = (is_hit-Decides wanted question entry).0 is;
+      hits = (is_hit_decides wanted question entry).0 is;
       serial_is = serial_is;
       least = ((λ hit. omega arith), at_least (entry.0 + 1) rest high wanted question serial (omega arith) rising.1);
     }

@@ -46,28 +46,28 @@ use Rattle.kob_broker.specs.State.{State, state_map}
 use Rattle.kob_broker.specs.Step.{step, step_by, replies_of, state_after}
 
 module _ {P Q : Type 0} (f : P → Q) where
-  slice_get-map : (ps : List P) (i : ℕ) → slice_get (map f ps) i ≡ option_map f (slice_get ps i)
-  slice_get-map [] i = refl
-  slice_get-map (p ∷ ps) zero = refl
-  slice_get-map (p ∷ ps) (suc i) = slice_get-map ps i
+  slice_get_map : (ps : List P) (i : ℕ) → slice_get (map f ps) i ≡ option_map f (slice_get ps i)
+  slice_get_map [] i = refl
+  slice_get_map (p ∷ ps) zero = refl
+  slice_get_map (p ∷ ps) (suc i) = slice_get_map ps i
 
-  partition_at-map : (topics : List (Topic P)) (place : Option ℕ) (partition : ℕ)
+  partition_at_map : (topics : List (Topic P)) (place : Option ℕ) (partition : ℕ)
       → partition_at (topics_map f topics) place partition ≡ option_map f (partition_at topics place partition)
-  partition_at-map topics None partition = refl
-  partition_at-map topics (Some place) partition =
+  partition_at_map topics None partition = refl
+  partition_at_map topics (Some place) partition =
       ap (λ (t : Topic Q). slice_get t.partitions partition) (topic_at_mapped f topics place)
-      ∙ slice_get-map (topic_at topics place).partitions partition
+      ∙ slice_get_map (topic_at topics place).partitions partition
 
-  partition_of-map : (name : List ℕ) (partition : ℕ) (topics : List (Topic P))
+  partition_of_map : (name : List ℕ) (partition : ℕ) (topics : List (Topic P))
       → partition_of name partition (topics_map f topics) ≡ option_map f (partition_of name partition topics)
-  partition_of-map name partition topics =
+  partition_of_map name partition topics =
       ap (λ o. partition_at (topics_map f topics) o partition) (place_of_mapped f name topics)
-      ∙ partition_at-map topics (place_of name topics) partition
+      ∙ partition_at_map topics (place_of name topics) partition
 
-  with_partition_at-map : (place partition : ℕ) (p : P) (topics : List (Topic P))
+  with_partition_at_map : (place partition : ℕ) (p : P) (topics : List (Topic P))
       → with_partition_at place partition (f p) (topics_map f topics)
       ≡ topics_map f (with_partition_at place partition p topics)
-  with_partition_at-map place partition p topics =
+  with_partition_at_map place partition p topics =
       let topic = topic_at_mapped f topics place in
       ap (slice_set (topics_map f topics) place)
       (λ i. record {
@@ -79,64 +79,64 @@ module _ {P Q : Type 0} (f : P → Q) where
       ∙ sym (map-set (topic_map f) topics place
       (record (topic_at topics place) { partitions = slice_set (topic_at topics place).partitions partition p }))
 
-  with_partition_found-map : (place : Option ℕ) (partition : ℕ) (p : P) (topics : List (Topic P))
+  with_partition_found_map : (place : Option ℕ) (partition : ℕ) (p : P) (topics : List (Topic P))
       → with_partition_found place partition (f p) (topics_map f topics)
       ≡ topics_map f (with_partition_found place partition p topics)
-  with_partition_found-map None partition p topics = refl
-  with_partition_found-map (Some place) partition p topics = with_partition_at-map place partition p topics
+  with_partition_found_map None partition p topics = refl
+  with_partition_found_map (Some place) partition p topics = with_partition_at_map place partition p topics
 
-  with_partition-map : (name : List ℕ) (partition : ℕ) (p : P) (topics : List (Topic P))
+  with_partition_map : (name : List ℕ) (partition : ℕ) (p : P) (topics : List (Topic P))
       → with_partition name partition (f p) (topics_map f topics)
       ≡ topics_map f (with_partition name partition p topics)
-  with_partition-map name partition p topics =
+  with_partition_map name partition p topics =
       ap (λ o. with_partition_found o partition (f p) (topics_map f topics)) (place_of_mapped f name topics)
-      ∙ with_partition_found-map (place_of name topics) partition p topics
+      ∙ with_partition_found_map (place_of name topics) partition p topics
 
-  without_found-map : (place : Option ℕ) (topics : List (Topic P))
+  without_found_map : (place : Option ℕ) (topics : List (Topic P))
       → without_topic_found place (topics_map f topics) ≡ topics_map f (without_topic_found place topics)
-  without_found-map None topics = refl
-  without_found-map (Some place) topics = sym (map-remove (topic_map f) topics place)
+  without_found_map None topics = refl
+  without_found_map (Some place) topics = sym (map-remove (topic_map f) topics place)
 
-  without_topic-map : (name : List ℕ) (topics : List (Topic P))
+  without_topic_map : (name : List ℕ) (topics : List (Topic P))
       → without_topic name (topics_map f topics) ≡ topics_map f (without_topic name topics)
-  without_topic-map name topics =
+  without_topic_map name topics =
       ap (λ o. without_topic_found o (topics_map f topics)) (place_of_mapped f name topics)
-      ∙ without_found-map (place_of name topics) topics
+      ∙ without_found_map (place_of name topics) topics
 
-  is_some-map : (found : Option P) → is_some (option_map f found) ≡ is_some found
-  is_some-map None = refl
-  is_some-map (Some p) = refl
+  is_some_map : (found : Option P) → is_some (option_map f found) ≡ is_some found
+  is_some_map None = refl
+  is_some_map (Some p) = refl
 
-  replicate-map : (n : ℕ) (p : P) → replicate n (f p) ≡ map f (replicate n p)
-  replicate-map zero p = refl
-  replicate-map (suc n) p = ap (λ ps. f p ∷ ps) (replicate-map n p)
+  replicate_map : (n : ℕ) (p : P) → replicate n (f p) ≡ map f (replicate n p)
+  replicate_map zero p = refl
+  replicate_map (suc n) p = ap (λ ps. f p ∷ ps) (replicate_map n p)
 
-  unless_repeat-map : (judgement : Judgement) (old new : List (Topic P)) (written : List (Topic Q))
+  unless_repeat_map : (judgement : Judgement) (old new : List (Topic P)) (written : List (Topic Q))
       → written ≡ topics_map f new
       → unless_repeat judgement (topics_map f old) written ≡ topics_map f (unless_repeat judgement old new)
-  unless_repeat-map Next old new written is = is
-  unless_repeat-map (Repeat offset) old new written is = refl
-  unless_repeat-map OutOfOrder old new written is = is
-  unless_repeat-map OldEpoch old new written is = is
+  unless_repeat_map Next old new written is = is
+  unless_repeat_map (Repeat offset) old new written is = refl
+  unless_repeat_map OutOfOrder old new written is = is
+  unless_repeat_map OldEpoch old new written is = is
 
-  topic_found-map : (name : List ℕ) (topics : List (Topic P)) (place : Option ℕ)
+  topic_found_map : (name : List ℕ) (topics : List (Topic P)) (place : Option ℕ)
       → topic_found name (topics_map f topics) place ≡ topic_found name topics place
-  topic_found-map name topics None = refl
-  topic_found-map name topics (Some place) =
+  topic_found_map name topics None = refl
+  topic_found_map name topics (Some place) =
       ap (λ n. (name, n) ∷ []) (ap (λ (t : Topic Q). length t.partitions) (topic_at_mapped f topics place)
       ∙ length-map (topic_at topics place).partitions f)
 
-  metadata-map : (access : Contents) (event : Event) (topics : List (Topic P)) (asked : Option (List ℕ))
+  metadata_map : (access : Contents) (event : Event) (topics : List (Topic P)) (asked : Option (List ℕ))
       → metadata_of access event (topics_map f topics) asked ≡ metadata_of access event topics asked
-  metadata-map access event topics None = listed_mapped f _ topics
-  metadata-map access event topics (Some name) =
+  metadata_map access event topics None = listed_mapped f _ topics
+  metadata_map access event topics (Some name) =
       ap (topic_found name (topics_map f topics)) (place_of_mapped f name topics)
-      ∙ topic_found-map name topics (place_of name topics)
+      ∙ topic_found_map name topics (place_of name topics)
 
-  metadata_reasons-map : (topics : List (Topic P)) (asked : Option (List ℕ))
+  metadata_reasons_map : (topics : List (Topic P)) (asked : Option (List ℕ))
       → metadata_reasons (topics_map f topics) asked ≡ metadata_reasons topics asked
-  metadata_reasons-map topics None = refl
-  metadata_reasons-map topics (Some name) = rw (place_of_mapped f name topics) refl
+  metadata_reasons_map topics None = refl
+  metadata_reasons_map topics (Some name) = rw (place_of_mapped f name topics) refl
 
   abbrev pub outcome_map : Outcome P → Outcome Q
   outcome_map o = record { reply = o.reply; state = state_map f o.state }
@@ -182,17 +182,17 @@ module _ {P Q : Type 0} (m : Meaning P) (n : Meaning Q) (f : P → Q) (c : Carri
       let written =
       ap (λ q. with_partition produce.topic produce.partition q (topics_map f topics))
       (sym (c.append p produce.batch))
-      ∙ with_partition-map f produce.topic produce.partition (m.append p produce.batch) topics in
+      ∙ with_partition_map f produce.topic produce.partition (m.append p produce.batch) topics in
       ap (λ j. unless_repeat j (topics_map f topics)
       (with_partition produce.topic produce.partition (n.append (f p) produce.batch) (topics_map f topics)))
       (judged_at_alike (Some p) produce.batch)
-      ∙ unless_repeat-map f (judged_at m (Some p) produce.batch) topics
+      ∙ unless_repeat_map f (judged_at m (Some p) produce.batch) topics
       (with_partition produce.topic produce.partition (m.append p produce.batch) topics) _ written
 
   in_alike : (topics : List (Topic P)) (name : Option (List ℕ × ℕ))
       → partition_in (topics_map f topics) name ≡ option_map f (partition_in topics name)
   in_alike topics None = refl
-  in_alike topics (Some name) = partition_of-map f name.0 name.1 topics
+  in_alike topics (Some name) = partition_of_map f name.0 name.1 topics
 
   named_alike : (s : State P) (request : Request) → named (state_map f s) request ≡ option_map f (named s request)
   named_alike s request = in_alike s.topics (partition_named request)
@@ -202,15 +202,15 @@ module _ {P Q : Type 0} (m : Meaning P) (n : Meaning Q) (f : P → Q) (c : Carri
   reasons_alike s found (Produce produce) =
       rw (
         place_of_mapped f produce.topic s.topics,
-        is_some-map f found,
+        is_some_map f found,
         judged_at_alike found produce.batch,
         end_at_alike found,
       ) refl
   reasons_alike s found (Fetch fetch) =
-      rw (place_of_mapped f fetch.topic s.topics, is_some-map f found, out_of_range_alike found fetch.offset) refl
-  reasons_alike s found (ListOffsets asked) = rw (place_of_mapped f asked.topic s.topics, is_some-map f found) refl
-  reasons_alike s found (Metadata asked) = metadata_reasons-map f s.topics asked.topic
-  reasons_alike s found (OffsetCommit commit) = rw (place_of_mapped f commit.topic s.topics, is_some-map f found) refl
+      rw (place_of_mapped f fetch.topic s.topics, is_some_map f found, out_of_range_alike found fetch.offset) refl
+  reasons_alike s found (ListOffsets asked) = rw (place_of_mapped f asked.topic s.topics, is_some_map f found) refl
+  reasons_alike s found (Metadata asked) = metadata_reasons_map f s.topics asked.topic
+  reasons_alike s found (OffsetCommit commit) = rw (place_of_mapped f commit.topic s.topics, is_some_map f found) refl
   reasons_alike s found (CreateTopics create) =
       rw (place_of_mapped f create.name s.topics, length-map s.topics (topic_map f)) refl
   reasons_alike s found (DeleteTopics delete) = rw (place_of_mapped f delete.name s.topics) refl
@@ -221,7 +221,7 @@ module _ {P Q : Type 0} (m : Meaning P) (n : Meaning Q) (f : P → Q) (c : Carri
   body_alike s found event (Produce produce) = rw (judged_at_alike found produce.batch, end_at_alike found) refl
   body_alike s found event (Fetch fetch) = ap bodies.Records (fetched_alike found fetch)
   body_alike s found event (ListOffsets asked) = ap bodies.Offset (offset_at_alike found asked.which)
-  body_alike s found event (Metadata asked) = ap bodies.Topics (metadata-map f s.access event s.topics asked.topic)
+  body_alike s found event (Metadata asked) = ap bodies.Topics (metadata_map f s.access event s.topics asked.topic)
   body_alike s found event _ = refl
 
   new_topic_alike : (name : List ℕ) (partitions : ℕ)
@@ -230,7 +230,7 @@ module _ {P Q : Type 0} (m : Meaning P) (n : Meaning Q) (f : P → Q) (c : Carri
       λ i. record {
         name = name;
         partitions =
-            (ap (replicate partitions) (sym c.empty) ∙ replicate-map f partitions m.empty) i;
+            (ap (replicate partitions) (sym c.empty) ∙ replicate_map f partitions m.empty) i;
       }
 
   write_alike : (s : State P) (found : Option P) (write : Option Write)
@@ -246,7 +246,7 @@ module _ {P Q : Type 0} (m : Meaning P) (n : Meaning Q) (f : P → Q) (c : Carri
       ∙ sym (map-append (topic_map f) s.topics (new_topic m create.name create.partitions ∷ [])) in
       λ i. record { topics = added i; groups = s.groups; access = s.access; next_producer = s.next_producer }
   write_alike s found (Some (writes.RemoveTopic delete)) = λ i. record {
-    topics = without_topic-map f delete.name s.topics i;
+    topics = without_topic_map f delete.name s.topics i;
     groups = groups.without_topic delete.name s.groups;
     access = s.access;
     next_producer = s.next_producer;

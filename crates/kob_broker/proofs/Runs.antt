@@ -8,15 +8,15 @@ use Rattle.kob_broker.specs.State.{State}
 use Rattle.kob_broker.specs.Step.{step, replies_of, state_after}
 
 module _ {P : Type 0} (m : Meaning P) where
-  pub replies_of-append : (xs ys : List Event) (s : State P)
+  pub replies_of_append : (xs ys : List Event) (s : State P)
       → replies_of m (xs ++ ys) s ≡ replies_of m xs s ++ replies_of m ys (state_after m xs s)
-  replies_of-append [] ys s = refl
-  replies_of-append (x ∷ xs) ys s = ap (λ rs. (step m s x).reply ∷ rs) (replies_of-append xs ys (step m s x).state)
+  replies_of_append [] ys s = refl
+  replies_of_append (x ∷ xs) ys s = ap (λ rs. (step m s x).reply ∷ rs) (replies_of_append xs ys (step m s x).state)
 
-  pub state_after-append : (xs ys : List Event) (s : State P)
+  pub state_after_append : (xs ys : List Event) (s : State P)
       → state_after m (xs ++ ys) s ≡ state_after m ys (state_after m xs s)
-  state_after-append [] ys s = refl
-  state_after-append (x ∷ xs) ys s = state_after-append xs ys (step m s x).state
+  state_after_append [] ys s = refl
+  state_after_append (x ∷ xs) ys s = state_after_append xs ys (step m s x).state
 
   pub replies_one_more : (events : List Event) (i : ℕ) (event : Event) (s : State P) → i < length events
       → event ≡ get_or events i event
@@ -24,7 +24,7 @@ module _ {P : Type 0} (m : Meaning P) where
       ≡ replies_of m (take i events) s ++ (step m (state_after m (take i events) s) event).reply ∷ []
   replies_one_more events i event s lt is =
       ap (λ es. replies_of m es s) (take_more events i event lt)
-      ∙ replies_of-append (take i events) (get_or events i event ∷ []) s
+      ∙ replies_of_append (take i events) (get_or events i event ∷ []) s
       ∙ ap (λ e. replies_of m (take i events) s ++ (step m (state_after m (take i events) s) e).reply ∷ []) (sym is)
 
   pub state_one_more : (events : List Event) (i : ℕ) (event : Event) (s : State P) → i < length events
@@ -32,7 +32,7 @@ module _ {P : Type 0} (m : Meaning P) where
       → state_after m (take (i + 1) events) s ≡ (step m (state_after m (take i events) s) event).state
   state_one_more events i event s lt is =
       ap (λ es. state_after m es s) (take_more events i event lt)
-      ∙ state_after-append (take i events) (get_or events i event ∷ []) s
+      ∙ state_after_append (take i events) (get_or events i event ∷ []) s
       ∙ ap (λ e. (step m (state_after m (take i events) s) e).state) (sym is)
 
   -- one event more, served where the run stands

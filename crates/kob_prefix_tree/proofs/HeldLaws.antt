@@ -19,8 +19,8 @@ use Rattle.std.proofs.lemmas.List.Elements.{Contains-append_left, Contains-appen
 use Rattle.std.proofs.lemmas.List.Folds.{flat_map-map}
 use Rattle.kob_prefix_tree.specs.Walked.{prefixes}
 use Rattle.kob_prefix_tree.specs.PrefixMap.{PrefixMap, held, added, removed, walk_of}
-use Rattle.kob_prefix_tree.proofs.WalkLemmas.{prefixes-longer}
-use Rattle.kob_prefix_tree.proofs.MapLemmas.{bytes, same_bytes, is_nothing-true}
+use Rattle.kob_prefix_tree.proofs.WalkLemmas.{prefixes_longer}
+use Rattle.kob_prefix_tree.proofs.MapLemmas.{bytes, same_bytes, is_nothing_true}
 
 itself : (key : List ℕ) → bytes key key ≡ true
 itself key = ap is_eq (tied_itself nat_list_cmp_total key)
@@ -58,7 +58,7 @@ module _ (m : PrefixMap) (key : List ℕ) (kind : PatternKind) (serial : ℕ) wh
       elim (is_nothing left) as (λ b. is_nothing left ≡ b
       → held (cond b (map.remove m key) (map.insert m key left)) key ≡ left) [
         | true ↦ λ e. gone key ∙ ap (λ b. unwrap_or (cond b None (map.get m key)) nothing) (itself key)
-            ∙ sym (is_nothing-true left e)
+            ∙ sym (is_nothing_true left e)
         | false ↦ λ e. inserted left key ∙ ap (λ b. unwrap_or (cond b (Some left) (map.get m key)) nothing) (itself key)
       ] refl
 
@@ -75,7 +75,7 @@ module _ (m : PrefixMap) (key : List ℕ) (kind : PatternKind) (serial : ℕ) wh
 has_beginning : (f : List ℕ → List ℕ) (begin rest : List ℕ) (x : ℕ) → Contains (f begin) x
     → Contains (flat_map f (prefixes (begin ++ rest))) x
 has_beginning f [] rest x has =
-    subst (λ ps. Contains (flat_map f ps) x) (sym (prefixes-longer rest)) (Contains-append_left (f []) _ x has)
+    subst (λ ps. Contains (flat_map f ps) x) (sym (prefixes_longer rest)) (Contains-append_left (f []) _ x has)
 has_beginning f (byte ∷ begin) rest x has =
     Contains-append_right (f []) _ x (subst (λ ys. Contains ys x)
     (sym (flat_map-map f (λ prefix. byte ∷ prefix) (prefixes (begin ++ rest))))

@@ -31,15 +31,15 @@ no_length_right : (n : ℕ) (xs : List ℕ) → n + length xs ≡ 0 → xs ≡ [
 no_length_right n [] e = refl
 no_length_right n (x ∷ xs) e = absurd (omega arith)
 
-pub is_nothing-true : (h : Held) → is_nothing h ≡ true → h ≡ nothing
-is_nothing-true h e =
+pub is_nothing_true : (h : Held) → is_nothing h ≡ true → h ≡ nothing
+is_nothing_true h e =
     let sum : length h.0 + length h.1 ≡ 0 = eqb-true (length h.0 + length h.1) 0 e in
     λ i. (no_length h.0 (length h.1) sum i, no_length_right (length h.0) h.1 sum i)
 
-kept-some : (h : Held) → h ≢ nothing → kept h ≡ Some h
-kept-some h some =
+kept_some : (h : Held) → h ≢ nothing → kept h ≡ Some h
+kept_some h some =
     elim (is_nothing h) as (λ b. is_nothing h ≡ b
-    → cond b None (Some h) ≡ Some h) [ true ↦ λ e. absurd (some (is_nothing-true h e)) | false ↦ λ e. refl ] refl
+    → cond b None (Some h) ≡ Some h) [ true ↦ λ e. absurd (some (is_nothing_true h e)) | false ↦ λ e. refl ] refl
 
 found_of_held : (key : List ℕ) (es : Entries) → AllInUse es → find (slice_cmp nat_cmp) key es ≡ kept (held_at es key)
 found_of_held key [] in_use = refl
@@ -47,7 +47,7 @@ found_of_held key (e ∷ es) in_use =
     let rest = found_of_held key es in_use.1 in
     elim (bytes key e.0) as (λ b. cond b (Some e.1) (find (slice_cmp nat_cmp) key es)
     ≡ kept (unwrap_or (cond b (Some e.1) (find (slice_cmp nat_cmp) key es)) nothing)) [
-      | true ↦ sym (kept-some e.1 in_use.0)
+      | true ↦ sym (kept_some e.1 in_use.0)
       | false ↦ rest
     ]
 
@@ -103,7 +103,7 @@ map_added es new key kind serial used new_used put elsewhere = same_map new (add
           | true ↦ λ e.
               ap kept (ap (held_at new) (same_bytes k key e) ∙ put
               ∙ ap (with_serial kind serial) (sym (held_of es key)))
-              ∙ kept-some _ (with_some kind serial (held (map_of es) key))
+              ∙ kept_some _ (with_some kind serial (held (map_of es) key))
           | false ↦ λ e. ap kept (elsewhere k (other_bytes k key e)) ∙ sym (found_of_held k es used) ∙ sym (get_of es k)
         ] refl
 

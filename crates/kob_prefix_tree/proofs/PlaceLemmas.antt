@@ -14,7 +14,7 @@ use Rattle.kob_prefix_tree.specs.PrefixMap.{PrefixMap, held, added, removed, rem
 use Rattle.std.specs.FinMap as map
 use Rattle.kob_prefix_tree.specs.Lists.{without_first, without_in_turn}
 use Rattle.kob_prefix_tree.proofs.MapLemmas.{map_of, map_added, map_left, map_same, held_of}
-use Rattle.kob_prefix_tree.proofs.EntriesLemmas.{held_at-own, held_at-below, AllInUse-entries_of}
+use Rattle.kob_prefix_tree.proofs.EntriesLemmas.{held_at_own, held_at_below, all_in_use_entries_of}
 use Rattle.kob_prefix_tree.proofs.SiblingLemmas.{neat_list, neat_at}
 
 abbrev entries_at : Option Contents → Option Entries
@@ -51,21 +51,21 @@ tidy_of (node item heap c below n after) neat = (
   (
     entries_some item.literal item.prefixed below neat.1.1.0 neat.1.0,
     (
-      AllInUse-entries_of item.literal item.prefixed (children_of below) (tidy_of below neat.1.1.0),
+      all_in_use_entries_of item.literal item.prefixed (children_of below) (tidy_of below neat.1.1.0),
       tidy_of after neat.1.1.1,
     ),
   ),
 )
 
 pub in_use : (c : Contents) → IsNeat c.1 → AllInUse (entries_in c)
-in_use c neat = AllInUse-entries_of c.0.0 c.0.1 (children_of c.1) (tidy_of c.1 neat)
+in_use c neat = all_in_use_entries_of c.0.0 c.0.1 (children_of c.1) (tidy_of c.1 neat)
 
 -- what the entries hold at a key is what stands there
 pub held_of_entries : (key : List ℕ) (c : Contents) → IsNeat c.1 → held_at (entries_in c) key ≡ held_in key c
-held_of_entries [] c neat = held_at-own c.0.0 c.0.1 (children_of c.1)
+held_of_entries [] c neat = held_at_own c.0.0 c.0.1 (children_of c.1)
 held_of_entries (byte ∷ key) c neat =
     let rest = held_of_entries key in
-    held_at-below c.0.0 c.0.1 (children_of c.1) byte key (tidy_of c.1 neat)
+    held_at_below c.0.0 c.0.1 (children_of c.1) byte key (tidy_of c.1 neat)
     ∙ ap (λ o. held_behind o key) (child_is byte c.1)
     ∙ elim (value_at byte (siblings c.1)) as
     (λ o. value_at byte (siblings c.1) ≡ o → held_behind (entries_at o) key ≡ behind_one (held_in key) o) [

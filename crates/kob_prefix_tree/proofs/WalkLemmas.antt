@@ -15,41 +15,41 @@ abbrev pub steps_ahead : Option Ahead → ℕ
 steps_ahead None = 0
 steps_ahead (Some a) = length a.name.now + 1
 
-flat_map-map : (f : List ℕ → List ℕ) (byte : ℕ) (ps : List (List ℕ))
+flat_map_map : (f : List ℕ → List ℕ) (byte : ℕ) (ps : List (List ℕ))
     → flat_map f (map (λ prefix. byte ∷ prefix) ps) ≡ flat_map (λ prefix. f (byte ∷ prefix)) ps
-flat_map-map f byte [] = refl
-flat_map-map f byte (x ∷ ps) = ap (λ ys. f (byte ∷ x) ++ ys) (flat_map-map f byte ps)
+flat_map_map f byte [] = refl
+flat_map_map f byte (x ∷ ps) = ap (λ ys. f (byte ∷ x) ++ ys) (flat_map_map f byte ps)
 
-pub prefixes-longer : (name : List ℕ) → prefixes name ≡ [] ∷ longer_prefixes name
-prefixes-longer [] = refl
-prefixes-longer (byte ∷ name) = refl
+pub prefixes_longer : (name : List ℕ) → prefixes name ≡ [] ∷ longer_prefixes name
+prefixes_longer [] = refl
+prefixes_longer (byte ∷ name) = refl
 
 -- a walk begins with the prefixed serials of its place
-pub serials_along-first : (held : List ℕ → Held) (name : List ℕ)
+pub serials_along_first : (held : List ℕ → Held) (name : List ℕ)
     → serials_along held name ≡ (held []).1
     ++ (flat_map (λ prefix. (held prefix).1) (longer_prefixes name) ++ (held name).0)
-serials_along-first held name =
-    ap (λ ps. flat_map (λ prefix. (held prefix).1) ps ++ (held name).0) (prefixes-longer name)
+serials_along_first held name =
+    ap (λ ps. flat_map (λ prefix. (held prefix).1) ps ++ (held name).0) (prefixes_longer name)
     ∙ append_assoc (held []).1 (flat_map (λ prefix. (held prefix).1) (longer_prefixes name)) (held name).0
 
 -- a child goes on
-pub serials_beyond-child : (held child : List ℕ → Held) (byte : ℕ) (name : List ℕ)
+pub serials_beyond_child : (held child : List ℕ → Held) (byte : ℕ) (name : List ℕ)
     → ((key : List ℕ) → held (byte ∷ key) ≡ child key)
     → serials_beyond held (byte ∷ name) ≡ (child []).1 ++ serials_beyond child name
-serials_beyond-child held child byte name is =
-    (λ i. flat_map-map (λ prefix. (held prefix).1) byte (prefixes name) i ++ (is name i).0)
+serials_beyond_child held child byte name is =
+    (λ i. flat_map_map (λ prefix. (held prefix).1) byte (prefixes name) i ++ (is name i).0)
     ∙ (λ i. flat_map (λ prefix. (is prefix i).1) (prefixes name) ++ (child name).0)
-    ∙ serials_along-first child name
+    ∙ serials_along_first child name
 
 nothing_along : (f : List ℕ → List ℕ) (ps : List (List ℕ)) → ((p : List ℕ) → f p ≡ []) → flat_map f ps ≡ []
 nothing_along f [] none = refl
 nothing_along f (p ∷ ps) none = ap (λ ys. ys ++ flat_map f ps) (none p) ∙ nothing_along f ps none
 
 -- without a child there is nothing more
-pub serials_beyond-none : (held : List ℕ → Held) (byte : ℕ) (name : List ℕ)
+pub serials_beyond_none : (held : List ℕ → Held) (byte : ℕ) (name : List ℕ)
     → ((key : List ℕ) → held (byte ∷ key) ≡ nothing) → serials_beyond held (byte ∷ name) ≡ []
-serials_beyond-none held byte name none =
-    (λ i. flat_map-map (λ prefix. (held prefix).1) byte (prefixes name) i ++ (none name i).0)
+serials_beyond_none held byte name none =
+    (λ i. flat_map_map (λ prefix. (held prefix).1) byte (prefixes name) i ++ (none name i).0)
     ∙ ap (λ ys. ys ++ []) (nothing_along (λ prefix. (held (byte ∷ prefix)).1) (prefixes name)
     (λ p. ap (λ (h : Held). h.1) (none p)))
 
@@ -64,9 +64,9 @@ module _ (serials : Unread) (ahead : Option Ahead) (a : Ahead) (byte : ℕ) (res
 
   pub step_none : ((key : List ℕ) → held_in (byte ∷ key) (seen a.place) ≡ nothing)
       → left_of (record { serials = serials; ahead = ahead }) ≡ []
-  step_none none = first_of ∙ serials_beyond-none held byte rest none
+  step_none none = first_of ∙ serials_beyond_none held byte rest none
 
   pub step_child : (child : Contents) → ((key : List ℕ) → held_in (byte ∷ key) (seen a.place) ≡ held_in key child)
       → left_of (record { serials = serials; ahead = ahead })
       ≡ child.0.1 ++ serials_beyond (λ key. held_in key child) rest
-  step_child child same = first_of ∙ serials_beyond-child held (λ key. held_in key child) byte rest same
+  step_child child same = first_of ∙ serials_beyond_child held (λ key. held_in key child) byte rest same
