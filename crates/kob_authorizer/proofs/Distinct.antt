@@ -6,8 +6,8 @@ use Rattle.std.specs.Option.{option_map}
 use Rattle.std.proofs.lemmas.List.Elements.{All-cons}
 use Rattle.std.proofs.lemmas.List.Kept.{AllPairs-filter}
 use Rattle.std.proofs.lemmas.List.Quantifiers.{all_pairs_push}
-use Rattle.kob_authorizer.specs.Creation.{Added, AreDistinct, add_one, added, placed, serial_of}
-use Rattle.kob_authorizer.specs.Deletion.{removed}
+use Rattle.kob_authorizer.specs.Creation.{Added, AreDistinct, add_one, addition, with_binding, serial_of}
+use Rattle.kob_authorizer.specs.Deletion.{bindings_left}
 use Rattle.kob_names.proofs.SameBindings.{same_binding_decides}
 use Rattle.kob_names.specs.Filter.{takes}
 use Rattle.kob_names.specs.SameBinding.{same_binding}
@@ -35,7 +35,7 @@ none_equal (entry ∷ rest) binding none =
     none_step binding entry rest (same_binding entry.1 binding) refl none (none_equal rest binding)
 
 step_distinct : (so_far : Added) (binding : Binding) (o : Option ℕ) → serial_of so_far.entries binding ≡ o
-    → AreDistinct so_far.entries → AreDistinct (placed o so_far binding).entries
+    → AreDistinct so_far.entries → AreDistinct (with_binding o so_far binding).entries
 step_distinct so_far binding (Some serial) is distinct = distinct
 step_distinct so_far binding None is distinct =
     all_pairs_push (λ (one two : ℕ × Binding). one.1 ≢ two.1) so_far.entries (so_far.next, binding) distinct
@@ -50,12 +50,12 @@ fold_distinct (binding ∷ bindings) so_far distinct =
 
 -- adding bindings keeps those in force distinct
 pub added_distinct : (entries : List (ℕ × Binding)) (next : ℕ) (bindings : List Binding) → AreDistinct entries
-    → AreDistinct (added entries next bindings).entries
+    → AreDistinct (addition entries next bindings).entries
 added_distinct entries next bindings = fold_distinct bindings (record { entries = entries; next = next; serials = [] })
 
 -- and so does deleting some
 pub removed_distinct : (entries : List (ℕ × Binding)) (wanted : BindingFilter) → AreDistinct entries
-    → AreDistinct (removed wanted entries)
+    → AreDistinct (bindings_left wanted entries)
 removed_distinct entries wanted =
     AllPairs-filter (λ (one two : ℕ × Binding). one.1 ≢ two.1)
     (λ (entry : ℕ × Binding). not (takes wanted entry.1)) entries

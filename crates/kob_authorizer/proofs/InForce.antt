@@ -4,7 +4,7 @@ use Rattle.std.specs.Prelude.{Contains, Option, Some, None}
 use Rattle.std.specs.List.{find, fold}
 use Rattle.std.specs.Option.{option_map}
 use Rattle.std.proofs.lemmas.List.Elements.{Contains-append_left, Contains-append_right, Contains-push}
-use Rattle.kob_authorizer.specs.Creation.{Added, AreInForce, add_one, added, placed, serial_of}
+use Rattle.kob_authorizer.specs.Creation.{Added, AreInForce, add_one, addition, with_binding, serial_of}
 use Rattle.kob_names.proofs.SameBindings.{same_binding_decides}
 use Rattle.kob_names.specs.SameBinding.{same_binding}
 use Rattle.kob_names.specs.Binding.{Binding}
@@ -58,7 +58,8 @@ one_more_in_force entries (b ∷ bindings) (s ∷ serials) binding serial all th
 
 step_in_force : (so_far : Added) (before : List Binding) (binding : Binding) (o : Option ℕ)
     → serial_of so_far.entries binding ≡ o → AreInForce so_far.entries before so_far.serials
-    → AreInForce (placed o so_far binding).entries (before ++ binding ∷ []) (placed o so_far binding).serials
+    → AreInForce (with_binding o so_far binding).entries (before ++ binding ∷ [])
+    (with_binding o so_far binding).serials
 step_in_force so_far before binding (Some serial) is all =
     one_more_in_force so_far.entries before so_far.serials binding serial all
     (found_in_force so_far.entries binding serial is)
@@ -84,6 +85,6 @@ all_in_force (binding ∷ bindings) so_far before all =
 
 -- after a creation each of its bindings is in force under the serial answered for it
 pub created_in_force : (entries : List (ℕ × Binding)) (next : ℕ) (bindings : List Binding)
-    → AreInForce (added entries next bindings).entries bindings (added entries next bindings).serials
+    → AreInForce (addition entries next bindings).entries bindings (addition entries next bindings).serials
 created_in_force entries next bindings =
     all_in_force bindings (record { entries = entries; next = next; serials = [] }) [] tt

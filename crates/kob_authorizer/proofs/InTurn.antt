@@ -7,9 +7,9 @@ use Rattle.std.proofs.lemmas.List.FromFn.{length-enumerate_from}
 use Rattle.kob_authorizer.proofs.Rising.{rising_append, rising_enumerate_from}
 use Rattle.kob_authorizer.proofs.Serials.{enumerate_from_push, serial_of_append_none, serial_of_append_some}
 use Rattle.kob_authorizer.specs.AtOnce.{added_at_once, creation, is_among, is_in_force, is_known, new_bindings, serials_in, with_new}
-use Rattle.kob_authorizer.specs.Creation.{Added, Creates, OnlyAdds, add_one, added, placed, serial_of}
+use Rattle.kob_authorizer.specs.Creation.{Added, Creates, OnlyAdds, add_one, addition, with_binding, serial_of}
 use Rattle.kob_authorizer.specs.Contents.{IsRising}
-use Rattle.kob_authorizer.specs.Passing.{create_fault, passed}
+use Rattle.kob_authorizer.specs.Passing.{create_fault, limit_fault}
 use Rattle.kob_names.proofs.SameBindings.{same_binding_decides}
 use Rattle.kob_names.specs.SameBinding.{same_binding}
 use Rattle.kob_names.specs.Binding.{Binding}
@@ -120,7 +120,7 @@ state entries next serials = record { entries = entries; next = next; serials = 
 in_turn_step : (n : ℕ) (entries : List (ℕ × Binding)) (b : Binding) (bs fresh : List Binding) (serials : List ℕ)
     (o : Option ℕ) → o ≡ serial_of (grown n entries fresh) b
     → ((later : List Binding) (more : List ℕ) → Ends n entries bs later more)
-    → StepEnds n entries b bs (placed o (reached n entries fresh serials) b) serials (with_new entries fresh b)
+    → StepEnds n entries b bs (with_binding o (reached n entries fresh serials) b) serials (with_new entries fresh b)
 in_turn_step n entries b bs fresh serials (Some serial) is rest =
     let known : is_known entries fresh b ≡ true = sym (known_has_serial n entries fresh b) ∙ ap is_some (sym is) in
     let after : fresh ≡ with_new entries fresh b = ap (λ t. cond t fresh (fresh ++ b ∷ [])) (sym known) in
@@ -159,7 +159,7 @@ in_turn_from n entries (b ∷ bs) fresh serials =
 
 -- adding one after another gives what adding at once gives
 pub in_turn_at_once : (entries : List (ℕ × Binding)) (next : ℕ) (bindings : List Binding)
-    → added entries next bindings ≡ added_at_once entries next bindings
+    → addition entries next bindings ≡ added_at_once entries next bindings
 in_turn_at_once entries next bindings =
     let all : List Binding = new_bindings entries bindings in
     let answered : List ℕ = serials_in (grown next entries all) bindings in
@@ -179,20 +179,20 @@ creation_creates entries next bindings = in_turn_at_once entries next bindings
 
 -- the limit that is passed, by the number of new bindings
 pub fault_by_count : (entries : List (ℕ × Binding)) (next : ℕ) (bindings : List Binding)
-    → create_fault entries next bindings ≡ passed (length entries + length (new_bindings entries bindings))
+    → create_fault entries next bindings ≡ limit_fault (length entries + length (new_bindings entries bindings))
     (next + length (new_bindings entries bindings))
 fault_by_count entries next bindings =
     let all : List Binding = new_bindings entries bindings in
     let fresh : length (enumerate_from next all) ≡ length all = length-enumerate_from next all in
     let whole : length (grown next entries all) ≡ length entries + length all =
     length-append entries (enumerate_from next all) ∙ ap (λ k. length entries + k) fresh in
-    ap (λ (after : Added). passed (length after.entries) after.next) (in_turn_at_once entries next bindings)
-    ∙ ap (λ k. passed k (next + length (enumerate_from next all))) whole
-    ∙ ap (λ k. passed (length entries + length all) (next + k)) fresh
+    ap (λ (after : Added). limit_fault (length after.entries) after.next) (in_turn_at_once entries next bindings)
+    ∙ ap (λ k. limit_fault k (next + length (enumerate_from next all))) whole
+    ∙ ap (λ k. limit_fault (length entries + length all) (next + k)) fresh
 
 -- adding bindings keeps the serials rising
 pub added_rises : (entries : List (ℕ × Binding)) (next : ℕ) (bindings : List Binding) → IsRising 1 entries next
-    → IsRising 1 (added entries next bindings).entries (added entries next bindings).next
+    → IsRising 1 (addition entries next bindings).entries (addition entries next bindings).next
 added_rises entries next bindings rising =
     let fresh : List Binding = new_bindings entries bindings in
     subst (λ (after : Added). IsRising 1 after.entries after.next) (sym (in_turn_at_once entries next bindings))
@@ -201,7 +201,7 @@ added_rises entries next bindings rising =
 
 -- adding bindings leaves the entries and gives serials from the next one on
 pub only_adds : (entries : List (ℕ × Binding)) (next : ℕ) (bindings : List Binding)
-    → OnlyAdds entries next (added entries next bindings)
+    → OnlyAdds entries next (addition entries next bindings)
 only_adds entries next bindings =
     let fresh : List (ℕ × Binding) = enumerate_from next (new_bindings entries bindings) in
     let at_once : OnlyAdds entries next (added_at_once entries next bindings) = record {

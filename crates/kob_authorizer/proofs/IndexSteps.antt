@@ -12,7 +12,7 @@ use Rattle.kob_prefix_tree.specs.PrefixMap.{PrefixMap}
 use Rattle.kob_authorizer.proofs.Rising.{rising_below}
 use Rattle.kob_authorizer.proofs.TreeSteps.{NoneHas, index_added, index_empty, index_removed, none_before, none_has_filter}
 use Rattle.kob_authorizer.specs.Contents.{IsRising}
-use Rattle.kob_authorizer.specs.Deletion.{removed}
+use Rattle.kob_authorizer.specs.Deletion.{bindings_left}
 use Rattle.kob_authorizer.specs.Index.{Indexes, empty_index, entries_on, leaf_of, tree_of, with_leaf, with_tree, without_if_taken, without_leaf}
 use Rattle.kob_authorizer.specs.Places.{IsIndex, addition, digest_place, pattern_place, with_addition, without_addition}
 use Rattle.kob_authorizer.specs.declared.index.Index.{Index}
@@ -126,12 +126,12 @@ rising_without low high (x ∷ done) entry rest rising =
 -- the entries that a filter takes go, one after another
 pub indexes_remove_taken : (wanted : BindingFilter) (low high : ℕ) (rest : List (ℕ × Binding)) (index : Index)
     (done : List (ℕ × Binding)) → IsRising low (done ++ rest) high → Indexes index (done ++ rest)
-    → Indexes (fold (without_if_taken wanted) index rest) (done ++ removed wanted rest)
+    → Indexes (fold (without_if_taken wanted) index rest) (done ++ bindings_left wanted rest)
 indexes_remove_taken wanted low high [] index done rising is = is
 indexes_remove_taken wanted low high (entry ∷ rest) index done rising is =
     elim (takes wanted entry.1) as (λ b. Indexes
     (fold (without_if_taken wanted) (cond b (without_leaf index (leaf_of entry)) index) rest)
-    (done ++ cond (not b) (entry ∷ removed wanted rest) (removed wanted rest))) [
+    (done ++ cond (not b) (entry ∷ bindings_left wanted rest) (bindings_left wanted rest))) [
       | true ↦ indexes_remove_taken wanted low high rest (without_leaf index (leaf_of entry)) done
           (rising_without low high done entry rest rising)
           (indexes_removed index done entry rest (none_before low high done entry rest rising) is)
@@ -140,5 +140,5 @@ indexes_remove_taken wanted low high (entry ∷ rest) index done rising is =
           let kept = indexes_remove_taken wanted low high rest index (done ++ entry ∷ [])
           (subst (λ es. IsRising low es high) (sym joined) rising) (subst (Indexes index) (sym joined) is) in
           subst (Indexes (fold (without_if_taken wanted) index rest))
-          (append_assoc done (entry ∷ []) (removed wanted rest)) kept
+          (append_assoc done (entry ∷ []) (bindings_left wanted rest)) kept
     ]

@@ -2,7 +2,7 @@
 use Rattle.std.proofs.Common.{length-append, ◌≡◌, refl, arith, Bool, true, false, not, cond, ℕ, ◌+◌, ◌≤◌, length, List, [], ◌∷◌, ◌++◌}
 use Rattle.std.specs.List.{enumerate_from, filter}
 use Rattle.kob_authorizer.specs.Contents.{IsRising}
-use Rattle.kob_authorizer.specs.Deletion.{removed}
+use Rattle.kob_authorizer.specs.Deletion.{bindings_left}
 use Rattle.kob_authorizer.specs.LookUp.{AreRising}
 use Rattle.kob_names.specs.Filter.{takes}
 use Rattle.kob_names.specs.Binding.{Binding}
@@ -58,5 +58,5 @@ rising_filter test low high (x ∷ xs) rising =
 
 -- deleting bindings keeps the serials rising
 pub removed_rises : (entries : List (ℕ × Binding)) (next : ℕ) (wanted : BindingFilter) → IsRising 1 entries next
-    → IsRising 1 (removed wanted entries) next
+    → IsRising 1 (bindings_left wanted entries) next
 removed_rises entries next wanted = rising_filter (λ (entry : ℕ × Binding). not (takes wanted entry.1)) 1 next entries

@@ -3,7 +3,7 @@ use Rattle.kob_authorizer.specs.Question.{Question, question_of}
 use Rattle.kob_authorizer.specs.declared.question.Question as program
 
 -- the question, with the texts in place of the references to them
-abbrev pub asked : program.Question → Question
-asked question =
+abbrev pub question_view : program.Question → Question
+question_view question =
     question_of question.principal.now question.host.now question.operation question.resource
     question.name.now

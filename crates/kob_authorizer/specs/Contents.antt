@@ -15,8 +15,8 @@ pub record State : Type 0 where
   pub room : ℕ
 
 -- nothing is in force yet, and 1 is the next serial
-abbrev pub opened : List (List ℕ) → Contents
-opened supers = record { entries = []; supers = supers; next = 1 }
+abbrev pub fresh_contents : List (List ℕ) → Contents
+fresh_contents supers = record { entries = []; supers = supers; next = 1 }
 
 -- the serials rise from low on, and are below high
 abbrev pub IsRising : ℕ → List (ℕ × Binding) → ℕ → Type 0

@@ -28,9 +28,10 @@ serial_of entries binding =
 
 -- a binding that is in force already gets its serial again; another is put last under the next
 -- serial
-abbrev pub placed : Option ℕ → Added → Binding → Added
-placed (Some serial) so_far binding = record so_far { serials = so_far.serials ++ serial ∷ [] }
-placed None so_far binding = record {
+abbrev pub with_binding : Option ℕ → Added → Binding → Added
+with_binding (Some serial) so_far binding =
+    record so_far { serials = so_far.serials ++ serial ∷ [] }
+with_binding None so_far binding = record {
   entries = so_far.entries ++ (so_far.next, binding) ∷ [];
   next = so_far.next + 1;
   serials = so_far.serials ++ so_far.next ∷ [];
@@ -38,11 +39,11 @@ placed None so_far binding = record {
 
 -- one more binding is added
 abbrev pub add_one : Added → Binding → Added
-add_one so_far binding = placed (serial_of so_far.entries binding) so_far binding
+add_one so_far binding = with_binding (serial_of so_far.entries binding) so_far binding
 
 -- the bindings are added one after another
-abbrev pub added : List (ℕ × Binding) → ℕ → List Binding → Added
-added entries next bindings =
+abbrev pub addition : List (ℕ × Binding) → ℕ → List Binding → Added
+addition entries next bindings =
     fold add_one (record { entries = entries; next = next; serials = [] }) bindings
 
 -- each of the bindings is in force under the serial beside it
@@ -66,7 +67,7 @@ AreDistinct entries = AllPairs (λ (one two : ℕ × Binding). one.1 ≢ two.1) 
 
 -- adding the bindings puts these fresh entries last and answers these serials
 abbrev pub Creates : List (ℕ × Binding) → ℕ → List Binding → Creation → Type 0
-Creates entries next bindings made = added entries next bindings ≡ record {
+Creates entries next bindings made = addition entries next bindings ≡ record {
   entries = entries ++ made.fresh;
   next = next + length made.fresh;
   serials = made.serials;

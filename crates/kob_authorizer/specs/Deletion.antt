@@ -12,17 +12,17 @@ pub record Deletion : Type 0 where
   pub taken : List (ℕ × Binding)
 
 -- the entries that a filter takes
-abbrev pub taken : BindingFilter → List (ℕ × Binding) → List (ℕ × Binding)
-taken wanted entries = filter (λ (entry : ℕ × Binding). takes wanted entry.1) entries
+abbrev pub bindings_taken : BindingFilter → List (ℕ × Binding) → List (ℕ × Binding)
+bindings_taken wanted entries = filter (λ (entry : ℕ × Binding). takes wanted entry.1) entries
 
 -- the entries without those that a filter takes
-abbrev pub removed : BindingFilter → List (ℕ × Binding) → List (ℕ × Binding)
-removed wanted entries = filter (λ (entry : ℕ × Binding). not (takes wanted entry.1)) entries
+abbrev pub bindings_left : BindingFilter → List (ℕ × Binding) → List (ℕ × Binding)
+bindings_left wanted entries = filter (λ (entry : ℕ × Binding). not (takes wanted entry.1)) entries
 
 -- the contents without what a filter takes
 abbrev pub without_taken : BindingFilter → Contents → Contents
-without_taken wanted contents = record contents { entries = removed wanted contents.entries }
+without_taken wanted contents = record contents { entries = bindings_left wanted contents.entries }
 
 -- the deletion can be carried out: what it takes is what its filter takes of the entries in force
 abbrev pub CanDelete : Deletion → State → Type 0
-CanDelete made state = made.taken ≡ taken made.filter state.contents.entries
+CanDelete made state = made.taken ≡ bindings_taken made.filter state.contents.entries

@@ -1,10 +1,11 @@
 //! The authorizer: a list of bindings, and the trees that lead into it.
 
 ghost use Rattle.std.specs.Prelude.{◌≡◌, ◌≢◌, ◌≤◌, IfErr, IfOk, None, OnErr, OnOk, Some, length};
-ghost use Rattle.kob_authorizer.specs.Contents.{IsRising, opened};
-ghost use Rattle.kob_authorizer.specs.Creation.{CanCreate, Creates, added, with_creation};
+ghost use Rattle.kob_authorizer.specs.Contents.{IsRising, fresh_contents};
+ghost use Rattle.kob_authorizer.specs.Creation.{CanCreate, Creates, addition, with_creation};
 ghost use Rattle.kob_authorizer.specs.Decide.{decide};
-ghost use Rattle.kob_authorizer.specs.Deletion.{CanDelete, removed, taken, without_taken};
+ghost use Rattle.kob_authorizer.specs.Deletion.{CanDelete, bindings_left, bindings_taken};
+ghost use Rattle.kob_authorizer.specs.Deletion.{without_taken};
 ghost use Rattle.kob_authorizer.specs.Limits.{binding_limit};
 ghost use Rattle.kob_authorizer.specs.Passing.{create_fault};
 ghost use Rattle.kob_authorizer.specs.Meaning.{IsTrueVerdict};
@@ -59,7 +60,7 @@ impl Authorizer {
     /// An authorizer without bindings, whose first new binding gets the serial 1; no memory is
     /// taken.
     pub fn open(alloc: Global, supers: Vec<Principal>) -> Authorizer
-        ensures { result.contents ≡ opened supers.items }
+        ensures { result.contents ≡ fresh_contents supers.items }
     {
         Authorizer {
             entries: Vec::new(alloc),
@@ -131,7 +132,7 @@ impl Authorizer {
     /// serial. `TooMany` comes before `SerialsSpent`, and counts each different new binding once.
     pub fn create(&mut self, alloc: Global, bindings: &[Binding]) -> Result<Vec<u64>, CreateFault>
         ensures added { IfOk result (λ serials.
-            added self.old.contents.entries self.old.contents.next bindings.now ≡ record {
+            addition self.old.contents.entries self.old.contents.next bindings.now ≡ record {
               entries = self.new.contents.entries;
               next = self.new.contents.next;
               serials = serials.items;
@@ -199,7 +200,7 @@ impl Authorizer {
         filter: &BindingFilter,
     ) -> Result<Vec<(u64, Binding)>, AllocError>
         ensures taken { IfOk result (λ entries.
-            entries.items ≡ taken filter.now self.now.contents.entries) }
+            entries.items ≡ bindings_taken filter.now self.now.contents.entries) }
         ensures rising { IfOk result (λ entries. IsRising 1 entries.items self.now.contents.next) }
     {
         copies_taken(alloc, self.entries.as_slice(), filter)
@@ -213,7 +214,7 @@ impl Authorizer {
         filter: &BindingFilter,
     ) -> Result<Vec<(u64, Binding)>, AllocError>
         ensures taken { IfOk result (λ entries.
-            entries.items ≡ taken filter.now self.old.contents.entries) }
+            entries.items ≡ bindings_taken filter.now self.old.contents.entries) }
         ensures rising { IfOk result (λ entries. IsRising 1 entries.items self.old.contents.next) }
         ensures contents { OnOk result
             (self.new.contents ≡ without_taken filter.now self.old.contents) }
@@ -232,7 +233,7 @@ impl Authorizer {
     ) -> Result<PreparedDelete, AllocError>
         ensures filter { IfOk result (λ made. made.filter ≡ filter.now) }
         ensures taken { IfOk result
-            (λ made. made.taken ≡ taken filter.now self.now.contents.entries) }
+            (λ made. made.taken ≡ bindings_taken filter.now self.now.contents.entries) }
         ensures rising { IfOk result (λ made. IsRising 1 made.taken self.now.contents.next) }
         ensures ready { IfOk result (λ made. CanDelete made self.now) }
     {

@@ -1,7 +1,7 @@
 //! A deletion of bindings: what its first step has made, for its second step.
 
 ghost use Rattle.std.specs.Prelude.{◌≡◌, ◌≤◌, IfOk, length};
-ghost use Rattle.kob_authorizer.specs.Deletion.{taken, removed};
+ghost use Rattle.kob_authorizer.specs.Deletion.{bindings_taken, bindings_left};
 
 use kob_names::{Binding, BindingFilter, PlainValue};
 use std::alloc::{AllocError, Global};
@@ -30,7 +30,7 @@ impl PreparedDelete {
         filter: &BindingFilter,
     ) -> Result<PreparedDelete, AllocError>
         ensures filter { IfOk result (λ made. made.filter ≡ filter.now) }
-        ensures taken { IfOk result (λ made. made.taken ≡ taken filter.now entries.now) }
+        ensures taken { IfOk result (λ made. made.taken ≡ bindings_taken filter.now entries.now) }
     {
         let taken = copies_taken(alloc, entries, filter)?;
         let filter = filter.copy(alloc)?;
@@ -61,7 +61,7 @@ pub fn copies_taken(
     entries: &[(u64, Binding)],
     filter: &BindingFilter,
 ) -> Result<Vec<(u64, Binding)>, AllocError>
-    ensures { IfOk result (λ made. made.items ≡ taken filter.now entries.now) }
+    ensures { IfOk result (λ made. made.items ≡ bindings_taken filter.now entries.now) }
 {
     let mut copies = Vec::new(alloc);
     for entry in entries {
@@ -74,7 +74,7 @@ pub fn copies_taken(
 
 /// Takes away the entries that the filter takes.
 pub fn remove_taken(entries: &mut Vec<(u64, Binding)>, filter: &BindingFilter)
-    ensures items { entries.new.items ≡ removed filter.now entries.old.items }
+    ensures items { entries.new.items ≡ bindings_left filter.now entries.old.items }
     ensures bound { length entries.new.items ≤ length entries.old.items }
 {
     entries.retain(|entry| !filter.takes(&entry.1));

@@ -2,9 +2,9 @@
 
 ghost use Rattle.std.specs.Prelude.{List, ℕ};
 ghost use Rattle.kob_authorizer.specs.Contents.{IsRising};
-ghost use Rattle.kob_authorizer.specs.Creation.{AreDistinct, AreInForce, OnlyAdds, added};
+ghost use Rattle.kob_authorizer.specs.Creation.{AreDistinct, AreInForce, OnlyAdds, addition};
 ghost use Rattle.kob_authorizer.specs.Decide.{decide};
-ghost use Rattle.kob_authorizer.specs.Deletion.{removed};
+ghost use Rattle.kob_authorizer.specs.Deletion.{bindings_left};
 ghost use Rattle.kob_authorizer.specs.Meaning.{IsTrueVerdict};
 ghost use Rattle.kob_authorizer.specs.Question.{Question};
 ghost use Rattle.kob_names.specs.Binding.{Binding};
@@ -26,8 +26,8 @@ pub fn verdicts_are_true()
 /// it.
 pub fn created_bindings_are_in_force()
     ensures { (entries : List (ℕ × Binding)) (next : ℕ) (bindings : List Binding)
-        → AreInForce (added entries next bindings).entries bindings
-        (added entries next bindings).serials }
+        → AreInForce (addition entries next bindings).entries bindings
+        (addition entries next bindings).serials }
 {
     // The contract is the law.
 }
@@ -35,7 +35,7 @@ pub fn created_bindings_are_in_force()
 /// A creation leaves what was in force, and gives no serial that was given before.
 pub fn creations_only_add()
     ensures { (entries : List (ℕ × Binding)) (next : ℕ) (bindings : List Binding)
-        → OnlyAdds entries next (added entries next bindings) }
+        → OnlyAdds entries next (addition entries next bindings) }
 {
     // The contract is the law.
 }
@@ -44,10 +44,11 @@ pub fn creations_only_add()
 pub fn serials_keep_rising()
     ensures created { (entries : List (ℕ × Binding)) (next : ℕ) (bindings : List Binding)
         → IsRising 1 entries next
-        → IsRising 1 (added entries next bindings).entries (added entries next bindings).next }
+        → IsRising 1 (addition entries next bindings).entries
+        (addition entries next bindings).next }
     ensures deleted { (entries : List (ℕ × Binding)) (next : ℕ) (filter : BindingFilter)
         → IsRising 1 entries next
-        → IsRising 1 (removed filter entries) next }
+        → IsRising 1 (bindings_left filter entries) next }
 {
     // The contract is the law.
 }
@@ -56,10 +57,10 @@ pub fn serials_keep_rising()
 pub fn bindings_stay_distinct()
     ensures created { (entries : List (ℕ × Binding)) (next : ℕ) (bindings : List Binding)
         → AreDistinct entries
-        → AreDistinct (added entries next bindings).entries }
+        → AreDistinct (addition entries next bindings).entries }
     ensures deleted { (entries : List (ℕ × Binding)) (filter : BindingFilter)
         → AreDistinct entries
-        → AreDistinct (removed filter entries) }
+        → AreDistinct (bindings_left filter entries) }
 {
     // The contract is the law.
 }

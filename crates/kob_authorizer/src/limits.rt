@@ -2,7 +2,7 @@
 
 ghost use Rattle.std.specs.Prelude.{◌≡◌, ◌+◌, ◌≤◌, IfNone};
 ghost use Rattle.kob_authorizer.specs.Limits.{binding_limit, serial_limit};
-ghost use Rattle.kob_authorizer.specs.Passing.{passed};
+ghost use Rattle.kob_authorizer.specs.Passing.{limit_fault};
 
 use crate::fault::CreateFault;
 
@@ -19,7 +19,7 @@ const _: () = prove!(SERIAL_LIMIT == 18_446_744_073_709_551_615);
 /// The limit that `count` new bindings would pass, if any: the one on bindings is tried first.
 pub fn limit_fault(in_force: usize, next: u64, count: usize) -> Option<CreateFault>
     requires { in_force ≤ binding_limit }
-    ensures fault { result ≡ passed (in_force + count) (next + count) }
+    ensures fault { result ≡ limit_fault (in_force + count) (next + count) }
     ensures count { IfNone result (in_force + count ≤ binding_limit) }
     ensures serials { IfNone result (next + count ≤ serial_limit) }
 {

@@ -2,7 +2,7 @@
 
 ghost use Rattle.std.specs.Prelude.{◌≡◌, false};
 ghost use Rattle.std.specs.Option.{option_copied};
-ghost use Rattle.kob_authorizer.specs.Asked.{asked};
+ghost use Rattle.kob_authorizer.specs.Asked.{question_view};
 ghost use Rattle.kob_authorizer.specs.Decide.{first_serial, hits, is_hit, verdict_of};
 ghost use Rattle.kob_authorizer.specs.Index.{Indexes, tree_of};
 ghost use Rattle.kob_authorizer.specs.LookUp.{AreRising, entry_at, least_passing};
@@ -18,8 +18,8 @@ pub fn verdict(entries: &[(u64, Binding)], index: &Index, question: &Question) -
     requires rising { AreRising entries.now }
     requires indexed { Indexes index.now entries.now }
     ensures { result ≡ verdict_of false
-        (first_serial (hits entries.now Permission.Deny (asked question.now)))
-        (first_serial (hits entries.now Permission.Allow (asked question.now))) }
+        (first_serial (hits entries.now Permission.Deny (question_view question.now)))
+        (first_serial (hits entries.now Permission.Allow (question_view question.now))) }
 {
     match first_hit(entries, index, Permission::Deny, question) {
         Some(serial) => Verdict::DeniedBy(serial),
@@ -39,7 +39,7 @@ fn first_hit(
 ) -> Option<u64>
     requires rising { AreRising entries.now }
     requires indexed { Indexes index.now entries.now }
-    ensures { result ≡ first_serial (hits entries.now permission (asked question.now)) }
+    ensures { result ≡ first_serial (hits entries.now permission (question_view question.now)) }
 {
     least_hit(entries, index, permission, question)
 }
@@ -52,7 +52,7 @@ fn least_hit(
     question: &Question,
 ) -> Option<u64>
     requires { AreRising entries.now }
-    ensures { result ≡ least_passing (is_hit permission (asked question.now)) entries.now
+    ensures { result ≡ least_passing (is_hit permission (question_view question.now)) entries.now
         (matching_serials (tree_of index.now question.now.resource) question.now.name.now) }
 {
     let tree = index.tree(question.resource);
@@ -71,7 +71,8 @@ fn is_hit_at(
     question: &Question,
 ) -> bool
     requires { AreRising entries.now }
-    ensures { result ≡ passes_at (is_hit permission (asked question.now)) entries.now serial }
+    ensures { result ≡ passes_at (is_hit permission (question_view question.now)) entries.now
+        serial }
 {
     match entry_of(entries, serial) {
         None => false,

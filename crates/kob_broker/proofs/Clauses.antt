@@ -6,7 +6,7 @@ use Rattle.kob_authorizer.proofs.Verdicts.{true_verdict}
 use Rattle.kob_rights.specs.declared.check.Check.{Check}
 use Rattle.kob_rights.specs.declared.event.Event.{Event}
 use Rattle.kob_names.specs.Granted.{is_granted}
-use Rattle.kob_broker.specs.Denial.{question, verdict, is_met, unmet}
+use Rattle.kob_broker.specs.Denial.{question, verdict, is_met, first_unmet}
 use Rattle.kob_broker.specs.Justice.{SomeGranted, EachGranted, IsBlame, EachBlamed}
 
 or_false : (b c : Bool) → (b || c) ≡ false → (b ≡ false) × (c ≡ false)
@@ -91,9 +91,10 @@ found_later access event clause clauses n found blamed met f = record {
 
 unmet_step : (access : Contents) (event : Event) (clause : List Check) (clauses : List (List Check)) (n found : ℕ)
     (blamed : List Check) (met : Bool)
-    → is_met access event clause ≡ met → cond met (unmet access event (n + 1) clauses) (Some (n, clause))
+    → is_met access event clause ≡ met → cond met (first_unmet access event (n + 1) clauses) (Some (n, clause))
     ≡ Some (found, blamed)
-    → (unmet access event (n + 1) clauses ≡ Some (found, blamed) → Found access event clauses (n + 1) found blamed)
+    → (first_unmet access event (n + 1) clauses ≡ Some (found, blamed)
+    → Found access event clauses (n + 1) found blamed)
     → Found access event (clause ∷ clauses) n found blamed
 unmet_step access event clause clauses n found blamed true is h more =
     found_later access event clause clauses n found blamed is (more h)
@@ -103,7 +104,7 @@ unmet_step access event clause clauses n found blamed false is h more =
     (ap (λ (x : ℕ × List Check). x.1) pair)
 
 pub unmet_found : (access : Contents) (event : Event) (clauses : List (List Check)) (n found : ℕ) (blamed : List Check)
-    → unmet access event n clauses ≡ Some (found, blamed) → Found access event clauses n found blamed
+    → first_unmet access event n clauses ≡ Some (found, blamed) → Found access event clauses n found blamed
 unmet_found access event [] n found blamed h = cc
 unmet_found access event (clause ∷ clauses) n found blamed h =
     unmet_step access event clause clauses n found blamed (is_met access event clause) refl h
@@ -111,14 +112,14 @@ unmet_found access event (clause ∷ clauses) n found blamed h =
 
 all_step : (access : Contents) (event : Event) (clause : List Check) (clauses : List (List Check)) (n : ℕ) (met : Bool)
     → is_met access event clause ≡ met
-    → cond met (unmet access event (n + 1) clauses) (Some (n, clause)) ≡ None
-    → (unmet access event (n + 1) clauses ≡ None → EachGranted access event clauses)
+    → cond met (first_unmet access event (n + 1) clauses) (Some (n, clause)) ≡ None
+    → (first_unmet access event (n + 1) clauses ≡ None → EachGranted access event clauses)
     → EachGranted access event (clause ∷ clauses)
 all_step access event clause clauses n true is h more = (some_granted access event clause is, more h)
 all_step access event clause clauses n false is h more = cc
 
 pub unmet_none : (access : Contents) (event : Event) (clauses : List (List Check)) (n : ℕ)
-    → unmet access event n clauses ≡ None → EachGranted access event clauses
+    → first_unmet access event n clauses ≡ None → EachGranted access event clauses
 unmet_none access event [] n h = tt
 unmet_none access event (clause ∷ clauses) n h =
     all_step access event clause clauses n (is_met access event clause) refl h (unmet_none access event clauses (n + 1))

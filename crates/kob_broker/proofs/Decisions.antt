@@ -12,7 +12,7 @@ use Rattle.kob_rights.specs.declared.request.Request.TheVariants as requests
 use Rattle.kob_broker.specs.declared.broker.Broker.{Broker}
 use Rattle.kob_broker.specs.declared.prepared.Change.TheVariants.{Unchanged}
 use Rattle.kob_broker.specs.declared.prepared.Prepared.{Prepared}
-use Rattle.kob_broker.specs.Change.{Makes, MakesFor, changed, state_of}
+use Rattle.kob_broker.specs.Change.{Makes, MakesFor, state_after_change, state_of}
 use Rattle.kob_broker.specs.Effect.{effect, effect_by, named, refusal}
 use Rattle.kob_broker.specs.Metadata.{metadata_request}
 
@@ -25,7 +25,7 @@ refused_makes broker request prepared reason why reply change event = record {
       reply ∙ ap (λ found. (effect_by retained_meaning found (state_of broker)
       (named (state_of broker) request) event request).reply) (sym why);
   same_state =
-      ap (λ made. changed made broker) change
+      ap (λ made. state_after_change made broker) change
       ∙ ap (λ found. (effect_by retained_meaning found (state_of broker)
       (named (state_of broker) request) event request).state) (sym why);
   ready = rw change tt;

@@ -14,7 +14,7 @@ use Rattle.kob_rights.specs.declared.reason.Reason.{Reason}
 use Rattle.kob_rights.specs.declared.reply.Reply.{Reply}
 use Rattle.kob_rights.specs.declared.reply.Reply.TheVariants.{Denied, Refused, Done}
 use Rattle.kob_rights.specs.declared.request.Request.{Request}
-use Rattle.kob_broker.specs.Denial.{verdict, unmet, denied}
+use Rattle.kob_broker.specs.Denial.{verdict, first_unmet, denial_naming}
 use Rattle.kob_broker.specs.Effect.{after_write, effect_by, named, refusal}
 use Rattle.kob_broker.specs.InForce.{access_after, changed_access}
 use Rattle.kob_broker.specs.Justice.{EachGranted, EachJust, IsDenial, IsJust}
@@ -63,8 +63,8 @@ module _ {P : Type 0} (m : Meaning P) where
   effect_just s event None granted = granted
 
   just_by : (s : State P) (event : Event) (found : Option (ℕ × List Check))
-      → unmet s.access event 0 (rights event.request) ≡ found → IsNumbered s.access
-      → IsJust s.access event (step_by m (option_map (denied s.access event) found) s event).reply
+      → first_unmet s.access event 0 (rights event.request) ≡ found → IsNumbered s.access
+      → IsJust s.access event (step_by m (option_map (denial_naming s.access event) found) s event).reply
   just_by s event None is numbered =
       effect_just s event (refusal m s event.request) (unmet_none s.access event (rights event.request) 0 is)
   just_by s event (Some (place, clause)) is numbered =
@@ -73,7 +73,7 @@ module _ {P : Type 0} (m : Meaning P) where
 
   -- the reply to one event is just
   step_just : (s : State P) (event : Event) → IsNumbered s.access → IsJust s.access event (step m s event).reply
-  step_just s event numbered = just_by s event (unmet s.access event 0 (rights event.request)) refl numbered
+  step_just s event numbered = just_by s event (first_unmet s.access event 0 (rights event.request)) refl numbered
 
   -- the bindings after one event are those that its reply says
   after_access : (s : State P) (found : Option P) (write : Option Write)
@@ -89,14 +89,14 @@ module _ {P : Type 0} (m : Meaning P) where
   effect_access s event None = after_access s (named s event.request) (write_of event.request)
 
   access_by : (s : State P) (event : Event) (found : Option (ℕ × List Check)) →
-      let outcome = step_by m (option_map (denied s.access event) found) s event in
+      let outcome = step_by m (option_map (denial_naming s.access event) found) s event in
       outcome.state.access ≡ access_after outcome.reply event.request s.access
   access_by s event None = effect_access s event (refusal m s event.request)
   access_by s event (Some blamed) = refl
 
   step_access : (s : State P) (event : Event)
       → (step m s event).state.access ≡ access_after (step m s event).reply event.request s.access
-  step_access s event = access_by s event (unmet s.access event 0 (rights event.request))
+  step_access s event = access_by s event (first_unmet s.access event 0 (rights event.request))
 
   step_numbered : (s : State P) (event : Event) → IsNumbered s.access → IsNumbered (step m s event).state.access
   step_numbered s event numbered =

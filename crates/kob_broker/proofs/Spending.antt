@@ -4,7 +4,7 @@ use Rattle.std.specs.List.{flat_map, fold}
 use Rattle.std.specs.Option.{option_map}
 use Rattle.std.proofs.lemmas.Bool.Decides.{nat_tests}
 use Rattle.std.proofs.lemmas.List.Elements.{All-cons, All-nil, All-push, All-replicate, All-weaker}
-use Rattle.kob_authorizer.specs.Creation.{Added, add_one, added, placed, serial_of}
+use Rattle.kob_authorizer.specs.Creation.{Added, add_one, addition, with_binding, serial_of}
 use Rattle.kob_authorizer.specs.Passing.{create_fault}
 use Rattle.kob_authorizer.specs.Limits.{binding_limit, serial_limit}
 use Rattle.kob_authorizer.specs.declared.fault.CreateFault.TheVariants.{TooMany, SerialsSpent}
@@ -29,7 +29,7 @@ use Rattle.kob_rights.specs.declared.reason.Reason.{Reason}
 use Rattle.kob_rights.specs.declared.request.Request.{Request}
 use Rattle.kob_rights.specs.declared.request.Request.TheVariants.{Produce, Metadata, InitProducerId, CreateAcls}
 use Rattle.kob_broker.specs.CreateAcls.{draft_reasons, limit_reasons}
-use Rattle.kob_broker.specs.Denial.{denied, unmet}
+use Rattle.kob_broker.specs.Denial.{denial_naming, first_unmet}
 use Rattle.kob_broker.specs.Effect.{Outcome, after_write, effect_by, named, reasons_against, refusal}
 use Rattle.kob_broker.specs.Named.{end_at}
 use Rattle.kob_broker.specs.Produce.{is_next, judged_at, with_batch}
@@ -91,7 +91,7 @@ grown n more s asked = record {
 
 -- the serials of bindings that are added
 placed_next : (found : Option ℕ) (so_far : Added) (binding : Binding)
-    → (placed found so_far binding).next ≤ so_far.next + 1
+    → (with_binding found so_far binding).next ≤ so_far.next + 1
 placed_next None so_far binding = omega arith
 placed_next (Some serial) so_far binding = omega arith
 
@@ -133,7 +133,7 @@ request_spends n s found (Produce produce) asked short few =
     only_last (is_next (judged_at plain_meaning found produce.batch)) _ (produce_spends found produce n short few)
 request_spends n s found (CreateAcls create) asked short few =
     let access = s.access in
-    let after : Added = added access.entries access.next create.drafts in
+    let after : Added = addition access.entries access.next create.drafts in
     let more = added_next create.drafts (record { entries = access.entries; next = access.next; serials = [] }) in
     let fits : after.next ≤ serial_limit = omega (arith, more, asked.serials, few) in
     spends_append (flat_map draft_reasons create.drafts)
@@ -246,7 +246,7 @@ effect_asked None n s event request asked unspent =
 by_asked : (found : Option (ℕ × List Check)) (n : ℕ) (s : State Plain) (event : Event) → AskedUpTo n s
     → n + asked_by event.request ≤ offset_limit
     → OutcomeAsked (n + asked_by event.request)
-    (step_by plain_meaning (option_map (denied s.access event) found) s event)
+    (step_by plain_meaning (option_map (denial_naming s.access event) found) s event)
 by_asked (Some blamed) n s event asked few = record { reply = tt; state = grown n (asked_by event.request) s asked }
 by_asked None n s event asked few =
     let request = event.request in
@@ -257,7 +257,7 @@ by_asked None n s event asked few =
 
 step_asked : (n : ℕ) (s : State Plain) (event : Event) → AskedUpTo n s → n + asked_by event.request ≤ offset_limit
     → OutcomeAsked (n + asked_by event.request) (step plain_meaning s event)
-step_asked n s event asked few = by_asked (unmet s.access event 0 (rights event.request)) n s event asked few
+step_asked n s event asked few = by_asked (first_unmet s.access event 0 (rights event.request)) n s event asked few
 
 -- and so through a run
 replies_asked : (events : List Event) (n : ℕ) (s : State Plain) → AskedUpTo n s → n + asked_in events ≤ offset_limit

@@ -32,26 +32,27 @@ state_of broker = record {
 }
 
 -- the state after a change
-abbrev pub changed : Change → Broker → State Retained
-changed Unchanged broker = state_of broker
-changed (AddTopic made) broker =
+abbrev pub state_after_change : Change → Broker → State Retained
+state_after_change Unchanged broker = state_of broker
+state_after_change (AddTopic made) broker =
     record (state_of broker) { topics = topics_of broker.catalog ++ topic_map kept_of made ∷ [] }
-changed (RemoveTopic name) broker = delete_topics_after (state_of broker) name
-changed (AddBindings made) broker =
+state_after_change (RemoveTopic name) broker = delete_topics_after (state_of broker) name
+state_after_change (AddBindings made) broker =
     record (state_of broker) { access = with_creation broker.authorizer.contents made }
-changed (RemoveBindings made) broker =
+state_after_change (RemoveBindings made) broker =
     record (state_of broker) { access = without_taken made.filter broker.authorizer.contents }
-changed (Append place partition batch) broker = record (state_of broker) {
+state_after_change (Append place partition batch) broker = record (state_of broker) {
   topics = with_partition_at place partition
       (retained_meaning.append (catalog_log broker.catalog place partition).kept batch)
       (topics_of broker.catalog);
 }
-changed (Commit made) broker = record (state_of broker) {
+state_after_change (Commit made) broker = record (state_of broker) {
   groups = groups.with_commit made.place made.offset (groups_of broker.groups);
 }
-changed (RemoveGroup name) broker =
+state_after_change (RemoveGroup name) broker =
     record (state_of broker) { groups = groups.without_group name (groups_of broker.groups) }
-changed GiveProducer broker = record (state_of broker) { next_producer = broker.next_producer + 1 }
+state_after_change GiveProducer broker =
+    record (state_of broker) { next_producer = broker.next_producer + 1 }
 
 -- there is room for the change, and its place is there
 abbrev pub CanCommit : Change → Broker → Type 0
@@ -72,7 +73,7 @@ abbrev pub reply_of : Prepared → Reply
 reply_of prepared = prepared.reply
 
 abbrev pub state_with : Prepared → Broker → State Retained
-state_with prepared broker = changed prepared.change broker
+state_with prepared broker = state_after_change prepared.change broker
 
 abbrev pub IsReady : Prepared → Broker → Type 0
 IsReady prepared broker = CanCommit prepared.change broker

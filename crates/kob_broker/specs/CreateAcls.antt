@@ -4,7 +4,7 @@ use Rattle.std.specs.List.{flat_map}
 use Rattle.kob_names.specs.BindingRules.{is_bad_cluster}
 use Rattle.kob_names.specs.declared.draft.Draft.{Draft}
 use Rattle.kob_names.specs.Limits.{name_limit}
-use Rattle.kob_authorizer.specs.Creation.{added}
+use Rattle.kob_authorizer.specs.Creation.{addition}
 use Rattle.kob_authorizer.specs.Contents.{Contents}
 use Rattle.kob_authorizer.specs.Passing.{create_fault}
 use Rattle.kob_authorizer.specs.declared.fault.CreateFault.{CreateFault}
@@ -37,7 +37,7 @@ create_acls_reasons access create =
 
 -- the serials of the bindings, in the order of the drafts
 abbrev pub created_serials : Contents → CreateAcls → List ℕ
-created_serials access create = (added access.entries access.next create.drafts).serials
+created_serials access create = (addition access.entries access.next create.drafts).serials
 
 -- a fault that is no want of memory is the reason
 abbrev pub IsUnlessRefused : Option Reason → DraftFault → Type 0

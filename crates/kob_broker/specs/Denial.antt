@@ -27,18 +27,18 @@ abbrev pub is_met : Contents → Event → List Check → Bool
 is_met access event clause = list_any is_granted (map (verdict access event) clause)
 
 -- the first clause that isn't met, with its place
-abbrev pub unmet : Contents → Event → ℕ → List (List Check) → Option (ℕ × List Check)
-unmet access event place [] = None
-unmet access event place (clause ∷ clauses) =
-    if is_met access event clause then unmet access event (place + 1) clauses
+abbrev pub first_unmet : Contents → Event → ℕ → List (List Check) → Option (ℕ × List Check)
+first_unmet access event place [] = None
+first_unmet access event place (clause ∷ clauses) =
+    if is_met access event clause then first_unmet access event (place + 1) clauses
     else Some (place, clause)
 
 -- the reply that names the code of a clause, and the verdicts of its alternatives
-abbrev pub denied : Contents → Event → ℕ × List Check → Reply
-denied access event blamed =
+abbrev pub denial_naming : Contents → Event → ℕ × List Check → Reply
+denial_naming access event blamed =
     Denied (denial_code event.request blamed.0) (map (verdict access event) blamed.1)
 
 -- the denial for the first clause that isn't met
 abbrev pub denial_of : Contents → Event → Option Reply
 denial_of access event =
-    option_map (denied access event) (unmet access event 0 (rights event.request))
+    option_map (denial_naming access event) (first_unmet access event 0 (rights event.request))

@@ -1,6 +1,6 @@
 -- What a request does whose rights are granted: the tables of all kinds.
 use Rattle.std.specs.Prelude.{Bool, ℕ, ◌+◌, List, [], Option, Some, None}
-use Rattle.kob_authorizer.specs.Deletion.{taken, without_taken}
+use Rattle.kob_authorizer.specs.Deletion.{bindings_taken, without_taken}
 use Rattle.kob_catalog.specs.Topics.{Topic, partition_of}
 use Rattle.kob_groups.specs.Groups as groups
 use Rattle.kob_partition.specs.Meaning.{Meaning}
@@ -27,8 +27,8 @@ use Rattle.kob_broker.specs.ListOffsets.{offset_at}
 use Rattle.kob_broker.specs.Metadata.{metadata_reasons, metadata_of}
 use Rattle.kob_broker.specs.Named.{end_at, named_reasons}
 use Rattle.kob_broker.specs.OffsetCommit.{offset_commit_reasons, offset_commit_after}
-use Rattle.kob_broker.specs.OffsetFetch.{offset_fetch_reasons, committed}
-use Rattle.kob_broker.specs.Produce.{produce_reasons, produce_after, produced, judged_at}
+use Rattle.kob_broker.specs.OffsetFetch.{offset_fetch_reasons, offset_committed}
+use Rattle.kob_broker.specs.Produce.{produce_reasons, produce_after, offset_told, judged_at}
 use Rattle.kob_broker.specs.Reasons.{first_reason}
 use Rattle.kob_broker.specs.State.{State, with_bindings}
 
@@ -68,22 +68,24 @@ module _ {P : Type 0} (m : Meaning P) where
   -- what an event is answered whose request is done
   abbrev pub body : State P → Option P → Event → Request → Body
   body s found event (Produce produce) =
-      bodies.Offset (produced (judged_at m found produce.batch) (end_at m found))
+      bodies.Offset (offset_told (judged_at m found produce.batch) (end_at m found))
   body s found event (Fetch fetch) = bodies.Records (fetched_at m found fetch)
   body s found event (ListOffsets asked) = bodies.Offset (offset_at m found asked.which)
   body s found event (Metadata asked) =
       bodies.Topics (metadata_of s.access event s.topics asked.topic)
   body s found event (OffsetCommit commit) = bodies.Committed
-  body s found event (OffsetFetch asked) = bodies.Commit (committed s.groups asked)
+  body s found event (OffsetFetch asked) = bodies.Commit (offset_committed s.groups asked)
   body s found event ListGroups =
       bodies.Groups (groups_shown s.access event (groups.group_names s.groups))
   body s found event (DeleteGroups delete) = bodies.Deleted
   body s found event (CreateTopics create) = bodies.Created
   body s found event (DeleteTopics delete) = bodies.Deleted
   body s found event InitProducerId = bodies.Producer s.next_producer 0
-  body s found event (DescribeAcls asked) = bodies.Bindings (taken asked.filter s.access.entries)
+  body s found event (DescribeAcls asked) =
+      bodies.Bindings (bindings_taken asked.filter s.access.entries)
   body s found event (CreateAcls create) = bodies.Serials (created_serials s.access create)
-  body s found event (DeleteAcls delete) = bodies.Bindings (taken delete.filter s.access.entries)
+  body s found event (DeleteAcls delete) =
+      bodies.Bindings (bindings_taken delete.filter s.access.entries)
 
   -- the state that it leaves; a request of a kind that only reads leaves the state as it was
   abbrev pub after_write : State P → Option P → Option Write → State P

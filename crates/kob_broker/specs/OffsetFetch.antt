@@ -10,5 +10,6 @@ use Rattle.kob_rights.specs.declared.reason.Reason.TheVariants as reasons
 abbrev pub offset_fetch_reasons : OffsetFetch → List (Bool × Reason)
 offset_fetch_reasons asked = (is_some (group_fault asked.group), reasons.BadGroupName) ∷ []
 
-abbrev pub committed : Groups → OffsetFetch → Option ℕ
-committed groups asked = committed_at (place_of asked.group asked.topic asked.partition) groups
+abbrev pub offset_committed : Groups → OffsetFetch → Option ℕ
+offset_committed groups asked =
+    committed_at (place_of asked.group asked.topic asked.partition) groups

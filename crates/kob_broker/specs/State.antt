@@ -1,7 +1,7 @@
 -- What a broker holds, whatever its partitions are.
 use Rattle.std.specs.Prelude.{ℕ, List, [], map}
-use Rattle.kob_authorizer.specs.Contents.{Contents, opened}
-use Rattle.kob_authorizer.specs.Creation.{added}
+use Rattle.kob_authorizer.specs.Contents.{Contents, fresh_contents}
+use Rattle.kob_authorizer.specs.Creation.{addition}
 use Rattle.kob_catalog.specs.Topics.{Topic, topics_map}
 use Rattle.kob_groups.specs.Groups.{Groups, no_groups}
 use Rattle.kob_names.specs.Binding.{Binding}
@@ -18,8 +18,8 @@ pub record State (P : Type 0) : Type 0 where
 -- the bindings are put in force, one after another
 abbrev pub with_bindings : List Binding → Contents → Contents
 with_bindings bindings access = record access {
-  entries = (added access.entries access.next bindings).entries;
-  next = (added access.entries access.next bindings).next;
+  entries = (addition access.entries access.next bindings).entries;
+  next = (addition access.entries access.next bindings).next;
 }
 
 -- no topics and no groups, and the opening bindings in force under serials from 1 on
@@ -27,7 +27,7 @@ abbrev pub open_state : {P : Type 0} → Settings → State P
 open_state settings = record {
   topics = [];
   groups = no_groups;
-  access = with_bindings settings.opening (opened settings.supers);
+  access = with_bindings settings.opening (fresh_contents settings.supers);
   next_producer = 0;
 }
 

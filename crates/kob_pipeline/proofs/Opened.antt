@@ -5,7 +5,7 @@ use Rattle.std.specs.List.{fold}
 use Rattle.std.proofs.lemmas.Bool.{cond-false, le-ltb}
 use Rattle.kob_authorizer.specs.AtOnce.{is_known, new_bindings, with_new}
 use Rattle.kob_authorizer.specs.Limits.{serial_limit}
-use Rattle.kob_authorizer.specs.Passing.{create_fault, passed}
+use Rattle.kob_authorizer.specs.Passing.{create_fault, limit_fault}
 use Rattle.kob_authorizer.specs.declared.fault.CreateFault.{CreateFault}
 use Rattle.kob_authorizer.specs.declared.fault.CreateFault.TheVariants.{TooMany, SerialsSpent}
 use Rattle.kob_authorizer.proofs.InTurn.{fault_by_count}
@@ -25,7 +25,7 @@ not_too_many : (spent : Bool) → cond spent (Some SerialsSpent) None ≡ Some T
 not_too_many true is = cc
 not_too_many false is = cc
 
-few_pass : (count next : ℕ) → count ≤ 100000 → passed count next ≡ Some TooMany → ⊥
+few_pass : (count next : ℕ) → count ≤ 100000 → limit_fault count next ≡ Some TooMany → ⊥
 few_pass count next few is =
     not_too_many (ltb serial_limit next)
     (sym (cond-false (ltb 100000 count) (Some TooMany) (cond (ltb serial_limit next) (Some SerialsSpent) None) (le-ltb 100000 count few)) ∙ is)

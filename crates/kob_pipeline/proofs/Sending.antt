@@ -8,8 +8,8 @@ use Rattle.circular_buffer.specs.Buffer.{keep_last, last_item}
 use Rattle.kob_names.specs.declared.batch.Batch.{Batch}
 use Rattle.kob_names.specs.declared.batch.Idem.{Idem}
 use Rattle.kob_names.specs.declared.record.Record.{Record}
-use Rattle.kob_producers.specs.Judge.{is_same, judge, judge_same, remembered}
-use Rattle.kob_producers.specs.Recent.{sent}
+use Rattle.kob_producers.specs.Judge.{is_same, judge, judge_same, memory_length}
+use Rattle.kob_producers.specs.Recent.{sent_batch}
 use Rattle.kob_producers.specs.Sequence.{last_of, next_sequence}
 use Rattle.kob_producers.specs.declared.judge.Judgement.TheVariants.{Next, Repeat, OutOfOrder}
 use Rattle.kob_producers.specs.declared.sent.Sent.{Sent}
@@ -95,7 +95,7 @@ same_base n base l p None num h =
 judged_same : (p : Producer) (base : ℕ) (x : Sent) (xs : List Sent) (n : ℕ) (l : Sent)
     → slice_get (x ∷ xs) (length xs) ≡ Some l
     → l.epoch ≡ p.epoch
-    → judge (x ∷ xs) (idem_of p base) 1 ≡ judge_same (find (is_same (idem_of p base) 1) (keep_last remembered (x ∷ xs)))
+    → judge (x ∷ xs) (idem_of p base) 1 ≡ judge_same (find (is_same (idem_of p base) 1) (keep_last memory_length (x ∷ xs)))
     base l
 judged_same p base x xs n l at same =
     let here : length (x ∷ xs) - 1 ≡ length xs = omega arith in
@@ -113,7 +113,7 @@ next_base p (x ∷ xs) base h next =
     let l : Sent = get_or (x ∷ xs) (length xs) x in
     let num : IsNumber p (length xs) l = h (length xs) x (omega arith) in
     let e = judged_same p base x xs (length xs) l (last_is x xs) num.epoch in
-    same_base (length xs) base l p (find (is_same (idem_of p base) 1) (keep_last remembered (x ∷ xs))) num
+    same_base (length xs) base l p (find (is_same (idem_of p base) 1) (keep_last memory_length (x ∷ xs))) num
     (sym e ∙ next)
     ∙ ap wrapped (omega arith)
 
@@ -154,7 +154,7 @@ repeat_base p (x ∷ xs) base offset h again =
     let l : Sent = get_or (x ∷ xs) (length xs) x in
     let num : IsNumber p (length xs) l = h (length xs) x (omega arith) in
     let same = judged_same p base x xs (length xs) l (last_is x xs) num.epoch in
-    let f = repeat_found (find (is_same (idem_of p base) 1) (keep_last remembered (x ∷ xs))) base offset l
+    let f = repeat_found (find (is_same (idem_of p base) 1) (keep_last memory_length (x ∷ xs))) base offset l
     (sym same ∙ again) in
     let m : ℕ = length (x ∷ xs) - 5 in
     let r = found_at (is_same (idem_of p base) 1) (drop m (x ∷ xs)) f.0 f.1 in
@@ -180,12 +180,12 @@ history_last_from id start (c ∷ log) b =
     )
 
 pub history_last : (p : Producer) (log : List Batch) (base : ℕ) (message : Record)
-    → (offset : ℕ) × (history p.id (log ++ batch_of p base message ∷ []) ≡ history p.id log ++ sent (idem_of p base) 1
+    → (offset : ℕ) × (history p.id (log ++ batch_of p base message ∷ []) ≡ history p.id log ++ sent_batch (idem_of p base) 1
     offset ∷ [])
 history_last p log base message =
     let r = history_last_from p.id 0 log (batch_of p base message) in
     let own : (p.id == p.id) ≡ true = eq_self p.id in
-    (r.0, r.1 ∙ ap (λ (b : Bool). history p.id log ++ cond b (sent (idem_of p base) 1 r.0 ∷ []) []) own)
+    (r.0, r.1 ∙ ap (λ (b : Bool). history p.id log ++ cond b (sent_batch (idem_of p base) 1 r.0 ∷ []) []) own)
   where
     eq_self : (n : ℕ) → (n == n) ≡ true
     eq_self n = Rattle.std.proofs.lemmas.Bool.eq-eqb n n refl
@@ -195,7 +195,7 @@ not_its id next offset count l None h = refl
 not_its id next offset count l (Some idem) h =
     elim (cases_Bool (id == idem.id)) [
       | inl e ↦ let same : id ≡ idem.id = eqb-true id idem.id e in absurd (omega (arith, same, h))
-      | inr e ↦ cond-false (id == idem.id) (sent idem count offset ∷ []) [] e
+      | inr e ↦ cond-false (id == idem.id) (sent_batch idem count offset ∷ []) [] e
     ]
 
 -- a producer whose id was not given yet has sent nothing

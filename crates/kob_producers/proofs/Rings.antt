@@ -8,8 +8,8 @@ use Rattle.circular_buffer.specs.Buffer.{Buffer, buffer, keep_last}
 use Rattle.kob_names.specs.declared.batch.Idem.{Idem}
 use Rattle.kob_producers.specs.declared.sent.Sent.{Sent}
 use Rattle.kob_producers.specs.declared.judge.Judgement.{Judgement}
-use Rattle.kob_producers.specs.Judge.{judge, judge_first, remembered}
-use Rattle.kob_producers.specs.Recent.{Recent, sent_by, sent, accepted}
+use Rattle.kob_producers.specs.Judge.{judge, judge_first, memory_length}
+use Rattle.kob_producers.specs.Recent.{Recent, sent_by, sent_batch, recent_after}
 use Rattle.kob_producers.specs.Table.{TableKept, IsRing, recent_in, CanAccept}
 
 abbrev items : Buffer Sent → List Sent
@@ -91,36 +91,36 @@ reordered old new recent shown same = same_recent old new same ∙ shown
 -- a ring with one more batch is written, or put in
 accepted_as : (old new : List (ℕ × Buffer Sent)) (recent : Recent) (idem : Idem) (count offset : ℕ)
     (before : List Sent) (ring : Buffer Sent) → recent_in old ≡ recent → sent_by (recent_in old) idem.id ≡ before
-    → ring.items ≡ keep_last remembered (before ++ sent idem count offset ∷ [])
+    → ring.items ≡ keep_last memory_length (before ++ sent_batch idem count offset ∷ [])
     → ((q : ℕ) → lookup (nat_eq q) new ≡ cond (nat_eq idem.id q) (Some ring) (lookup (nat_eq q) old))
-    → recent_in new ≡ accepted recent idem count offset
+    → recent_in new ≡ recent_after recent idem count offset
 accepted_as old new recent idem count offset before ring shown was now is =
     written old new idem.id ring is
     ∙ ap (fin.insert (recent_in old) idem.id)
-    (now ∙ ap (λ l. keep_last remembered (l ++ sent idem count offset ∷ [])) (sym was))
-    ∙ ap (λ r. accepted r idem count offset) shown
+    (now ∙ ap (λ l. keep_last memory_length (l ++ sent_batch idem count offset ∷ [])) (sym was))
+    ∙ ap (λ r. recent_after r idem count offset) shown
 
 pub accepted_by_ring : (old new : List (ℕ × Buffer Sent)) (recent : Recent) (idem : Idem) (count offset : ℕ)
     (ring after : Buffer Sent) (s : Sent) → recent_in old ≡ recent → Some ring ≡ lookup (nat_eq idem.id) old
-    → ring.capacity ≡ remembered → s ≡ sent idem count offset
+    → ring.capacity ≡ memory_length → s ≡ sent_batch idem count offset
     → after ≡ buffer (keep_last ring.capacity (ring.items ++ s ∷ [])) ring.capacity
     → ((q : ℕ) → lookup (nat_eq q) new ≡ cond (nat_eq idem.id q) (Some after) (lookup (nat_eq q) old))
-    → recent_in new ≡ accepted recent idem count offset
+    → recent_in new ≡ recent_after recent idem count offset
 accepted_by_ring old new recent idem count offset ring after s shown at capacity told pushed is =
     accepted_as old new recent idem count offset ring.items after shown (sent_by_ring old idem.id ring (sym at))
     (ap items pushed ∙ ap (λ n. keep_last n (ring.items ++ s ∷ [])) capacity
-    ∙ ap (λ x. keep_last remembered (ring.items ++ x ∷ [])) told) is
+    ∙ ap (λ x. keep_last memory_length (ring.items ++ x ∷ [])) told) is
 
 pub accepted_first : (old new : List (ℕ × Buffer Sent)) (recent : Recent) (idem : Idem) (count offset : ℕ)
     (ring after : Buffer Sent) (s : Sent) → recent_in old ≡ recent → None ≡ lookup (nat_eq idem.id) old
-    → ring ≡ buffer [] remembered → s ≡ sent idem count offset
+    → ring ≡ buffer [] memory_length → s ≡ sent_batch idem count offset
     → after ≡ buffer (keep_last ring.capacity (ring.items ++ s ∷ [])) ring.capacity
     → ((q : ℕ) → lookup (nat_eq q) new ≡ cond (nat_eq idem.id q) (Some after) (lookup (nat_eq q) old))
-    → recent_in new ≡ accepted recent idem count offset
+    → recent_in new ≡ recent_after recent idem count offset
 accepted_first old new recent idem count offset ring after s shown at fresh told pushed is =
     accepted_as old new recent idem count offset [] after shown (sent_by_none old idem.id (sym at))
     (ap items pushed ∙ ap (λ r. keep_last r.capacity (r.items ++ s ∷ [])) fresh
-    ∙ ap (λ x. keep_last remembered (x ∷ [])) told) is
+    ∙ ap (λ x. keep_last memory_length (x ∷ [])) told) is
 
 shown_some : (o : Option (Buffer Sent)) → is_some (option_map items o) ≡ is_some o
 shown_some None = refl
@@ -149,15 +149,15 @@ cannot_accept rings kept producer shown unready none can =
     (ap (option_map items) (sym none)) unready can
 
 pub ring_capacity : (o : Option (Buffer Sent)) (ring : Buffer Sent) → IfSome o IsRing → Some ring ≡ o
-    → ring.capacity ≡ remembered
+    → ring.capacity ≡ memory_length
 ring_capacity o ring is at =
     let here : IfSome (Some ring) IsRing = subst (λ x. IfSome x IsRing) (sym at) is in here.capacity
 
-pub fresh_is : (o : Option (Buffer Sent)) (ring : Buffer Sent) → IfSome o (λ r. r ≡ buffer [] remembered)
-    → Some ring ≡ o → ring ≡ buffer [] remembered
+pub fresh_is : (o : Option (Buffer Sent)) (ring : Buffer Sent) → IfSome o (λ r. r ≡ buffer [] memory_length)
+    → Some ring ≡ o → ring ≡ buffer [] memory_length
 fresh_is o ring is at =
-    let here : IfSome (Some ring) (λ r. r ≡ buffer [] remembered) =
-    subst (λ x. IfSome x (λ r. r ≡ buffer [] remembered)) (sym at) is in here
+    let here : IfSome (Some ring) (λ r. r ≡ buffer [] memory_length) =
+    subst (λ x. IfSome x (λ r. r ≡ buffer [] memory_length)) (sym at) is in here
 
 pub some_is : (o : Option (Buffer Sent)) (ring : Buffer Sent) → Some ring ≡ o → IsSome o
 some_is o ring at = subst (λ x. IsSome x) at refl

@@ -38,9 +38,9 @@ judge_by (Some last) recent idem count =
     else judge_same (find (is_same idem count) recent) idem.base last)
 
 -- how many batches of a producer are looked at for a repeat
-abbrev pub remembered : ℕ
-remembered = 5
+abbrev pub memory_length : ℕ
+memory_length = 5
 
 -- by all batches that the producer sent
 abbrev pub judge : List Sent → Idem → ℕ → Judgement
-judge history idem count = judge_by (last_item history) (keep_last remembered history) idem count
+judge history idem count = judge_by (last_item history) (keep_last memory_length history) idem count

@@ -6,7 +6,7 @@ use Rattle.std.specs.Coded.{Coded, code_by, coded×, coded_ℕ, coded_bool, code
 use Rattle.std.specs.HashMap.{HashMap, get_by}
 use Rattle.circular_buffer.specs.Buffer.{Buffer, buffer}
 use Rattle.kob_producers.specs.declared.sent.Sent.{Sent}
-use Rattle.kob_producers.specs.Judge.{remembered}
+use Rattle.kob_producers.specs.Judge.{memory_length}
 use Rattle.kob_producers.specs.Recent.{Recent}
 
 -- the batches kept of each producer, and whether one that has none yet can be put in
@@ -29,12 +29,12 @@ recent_in rings = map.from_entries (map (λ entry. (entry.0, entry.1.items)) rin
 
 -- a ring for the batches of a producer
 pub record IsRing (ring : Buffer Sent) : Type 0 where
-  pub capacity : ring.capacity ≡ remembered
-  pub within : length ring.items ≤ remembered
+  pub capacity : ring.capacity ≡ memory_length
+  pub within : length ring.items ≤ memory_length
 
 -- a ring for a producer that has no batch yet
 abbrev pub IsFresh : Buffer Sent → Type 0
-IsFresh ring = ring ≡ buffer [] remembered
+IsFresh ring = ring ≡ buffer [] memory_length
 
 -- each producer has a ring
 abbrev pub HasRings : {S : Type 0} → HashMap ℕ (Buffer Sent) S → Type 0

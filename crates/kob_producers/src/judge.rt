@@ -1,7 +1,7 @@
 //! How a batch stands to those that its producer sent before.
 
 ghost use Rattle.std.specs.Prelude.{◌≡◌, ◌≤◌, length, find};
-ghost use Rattle.kob_producers.specs.Judge.{judge, judge_first, is_same, judge_base, remembered};
+ghost use Rattle.kob_producers.specs.Judge.{judge, judge_first, is_same, judge_base, memory_length};
 
 use crate::sent::Sent;
 use crate::sequence::{last_of, next_sequence};
@@ -24,7 +24,7 @@ pub enum Judgement {
 
 /// How a batch stands to those in a producer's ring.
 pub(crate) fn judge_ring(ring: &HeapCircularBuffer<Sent>, idem: &Idem, count: u64) -> Judgement
-    requires { length ring.now.items ≤ remembered }
+    requires { length ring.now.items ≤ memory_length }
     ensures { result ≡ judge ring.now.items idem.now count }
 {
     let last = match ring.back() {

@@ -5,14 +5,14 @@ ghost use Rattle.circular_buffer.specs.Buffer.{keep_last};
 ghost use Rattle.kob_names.specs.declared.batch.Idem.{Idem};
 ghost use Rattle.kob_producers.specs.declared.sent.Sent.{Sent};
 ghost use Rattle.kob_producers.specs.declared.judge.Judgement.TheVariants.{Repeat};
-ghost use Rattle.kob_producers.specs.Judge.{judge, is_same, remembered};
-ghost use Rattle.kob_producers.specs.Recent.{sent};
+ghost use Rattle.kob_producers.specs.Judge.{judge, is_same, memory_length};
+ghost use Rattle.kob_producers.specs.Recent.{sent_batch};
 
 /// A judgement by the last five batches is one by all batches.
 #[tactic(auto, using(crate::proofs::Remembering::judge_kept))]
 pub fn the_last_batches_are_enough()
     ensures { (history : List Sent) (idem : Idem) (count : ℕ)
-        → judge (keep_last remembered history) idem count ≡ judge history idem count }
+        → judge (keep_last memory_length history) idem count ≡ judge history idem count }
 {}
 
 /// A batch that was accepted, and that repeated none of the last five then, is known when it is
@@ -20,6 +20,6 @@ pub fn the_last_batches_are_enough()
 #[tactic(auto, using(crate::proofs::Repeats::accepted_repeats))]
 pub fn an_accepted_batch_is_known_again()
     ensures { (history : List Sent) (idem : Idem) (count offset : ℕ)
-        → find (is_same idem count) (keep_last remembered history) ≡ None
-        → judge (history ++ sent idem count offset ∷ []) idem count ≡ Repeat offset }
+        → find (is_same idem count) (keep_last memory_length history) ≡ None
+        → judge (history ++ sent_batch idem count offset ∷ []) idem count ≡ Repeat offset }
 {}

@@ -15,11 +15,11 @@ pub struct Sent {
 }
 
 impl Sent {
-    ghost use Rattle.kob_producers.specs.Recent.{sent};
+    ghost use Rattle.kob_producers.specs.Recent.{sent_batch};
 
     /// What is kept of a batch of so many records that was accepted at an offset.
     pub(crate) fn new(idem: &Idem, count: u64, offset: u64) -> Self
-        ensures { result ≡ sent idem.now count offset }
+        ensures { result ≡ sent_batch idem.now count offset }
     {
         Sent {
             epoch: idem.epoch,

@@ -49,7 +49,7 @@ impl Model for ProducerTable {
 impl ProducerTable {
     ghost use Rattle.std.specs.FinMap as map;
     ghost use Rattle.kob_producers.specs.declared.sent.Sent.{Sent};
-    ghost use Rattle.kob_producers.specs.Recent.{sent_by, accepted, Keeps, with_sent};
+    ghost use Rattle.kob_producers.specs.Recent.{sent_by, recent_after, Keeps, with_sent};
     ghost use Rattle.kob_producers.specs.Table.{CanAccept};
 
     /// A table with no batches. It takes no memory.
@@ -93,7 +93,7 @@ impl ProducerTable {
     /// producer. It takes no memory.
     pub fn accept(&mut self, idem: &Idem, count: u64, offset: u64)
         requires { CanAccept self.old idem.now.id }
-        ensures recent { self.new.recent ≡ accepted self.old.recent idem.now count offset }
+        ensures recent { self.new.recent ≡ recent_after self.old.recent idem.now count offset }
         ensures plain { (histories : ℕ → List Sent) → Keeps histories self.old.recent
             → Keeps (with_sent histories idem.now count offset) self.new.recent }
     {

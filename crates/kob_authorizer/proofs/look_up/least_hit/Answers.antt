@@ -5,7 +5,7 @@ use Rattle.kob_prefix_tree.specs.Held.{serials_of}
 use Rattle.kob_prefix_tree.specs.PrefixMap.{PrefixMap, held, walk_of}
 use Rattle.kob_prefix_tree.specs.WalkLeft.{left_of}
 use Rattle.kob_names.specs.declared.kinds.PatternKind.TheVariants.{Literal}
-use Rattle.kob_authorizer.specs.Asked.{asked}
+use Rattle.kob_authorizer.specs.Asked.{question_view}
 use Rattle.kob_authorizer.specs.Decide.{is_hit}
 use Rattle.kob_authorizer.specs.Index.{tree_of}
 use Rattle.kob_authorizer.specs.LookUp.{passes_at}
@@ -14,7 +14,7 @@ use Rattle.kob_authorizer.proofs.look_up.least_hit.Goals as goal
 
 pub returns : goal.returns
 returns c =
-    let question = asked c.args.question.now in
+    let question = question_view c.args.question.now in
     let tree : PrefixMap = tree_of c.args.index.now c.args.question.now.resource in
     let test = passes_at (is_hit c.args.permission question) c.args.entries.now in
     let along : List ℕ = walk_of tree question.name in
