@@ -70,8 +70,8 @@ impl Gate for Open {
     }
 }
 
-/// Holds worker 2 at its first request until worker 1 has come to the request of this number, and worker 1 there
-/// until worker 2 has come to its second.
+/// Holds worker 2 at its first request until worker 1 has come to the request of this number, and
+/// worker 1 there until worker 2 has come to its second.
 #[derive(Drop)]
 pub(crate) struct Between {
     number: usize,
@@ -152,6 +152,11 @@ impl<'t> Holding<'t> {
 
     pub(crate) fn gave_up(&self) -> bool {
         self.gave_up.load(Ordering::SeqCst)
+    }
+
+    /// The number of the request that a worker came to last, one more than it made once it is done.
+    pub(crate) fn came_to(&self, worker: usize) -> u64 {
+        self.number_of(worker).load(Ordering::SeqCst)
     }
 
     /// The number of the request that a worker has come to.

@@ -1,7 +1,8 @@
 //! Tests of a broker that threads share, over its public surface.
 //!
-//! They are small functions, and let brokers, journals, fleets' ends and events go by `drop`: where such a value goes at
-//! the end of a function or by `?`, the function's proof takes the value apart anew, and costs ten times as much.
+//! They are small functions, and let brokers, journals, fleets' ends and events go by `drop`: where
+//! such a value goes at the end of a function or by `?`, the function's proof takes the value apart
+//! anew, and costs ten times as much.
 #![tactic(auto)]
 
 #[cfg(test)]
@@ -10,6 +11,8 @@ mod chunks;
 mod fleets;
 #[cfg(test)]
 mod gates;
+#[cfg(test)]
+mod left;
 #[cfg(test)]
 mod making;
 #[cfg(test)]
@@ -20,3 +23,9 @@ mod plans;
 mod revoked;
 #[cfg(test)]
 mod sessions;
+#[cfg(test)]
+mod sweeps;
+#[cfg(test)]
+mod two_services;
+#[cfg(test)]
+mod withdrawn;

@@ -1,26 +1,22 @@
 //! Pipelines: what reaches an inbox, also where calls are lost, workers restart and rights go.
 
-ghost use Rattle.std.specs.Prelude.{◌≤◌, IsTrue, length};
+ghost use Rattle.std.specs.Prelude.{◌≤◌, IfOk, IfSome, IsTrue, length};
 ghost use Rattle.std.specs.List.{All};
+ghost use Rattle.kob_pipeline.specs.Pipelines.{IsPipeline};
 
 use crate::gates::{Hold, Holding, Open};
+use crate::left::{Due, call_laws, is_due};
 use crate::plans::{Act, Cast, plan, sweeping};
-use kob_broker::Broker;
-use kob_inbox::InboxRow;
-use kob_names::{Host, Principal, Text, Verdict};
 use kob_pipeline::{ConsumerStep, Loss, PipelineEnd, PipelineFault, Plan, pipeline};
-use kob_rights::{Body, Code, Event, Fetch, OffsetFetch, Reply, Request};
-use kob_router::event_id;
 use kob_shared::Gate;
 use std::alloc::Global;
 use std::sync::Wait;
 use std::test::Fail;
 use std::thread::Threads;
-use uuid::Uuid;
 
-const TICK: Act = Act::Tick(Loss::None);
+pub(crate) const TICK: Act = Act::Tick(Loss::None);
 
-const STEP: ConsumerStep = ConsumerStep::Tick(Loss::None);
+pub(crate) const STEP: ConsumerStep = ConsumerStep::Tick(Loss::None);
 
 /// Whether a plan meets the conditions of the call.
 fn is_runnable(plan: &Plan) -> bool
@@ -42,129 +38,51 @@ fn run<R: Threads + Wait + Sync, G: Gate + Sync>(
     alloc: Global,
     plan: &Plan,
     gate: &G,
-) -> Option<Result<PipelineEnd, PipelineFault>> {
+) -> Option<Result<PipelineEnd, PipelineFault>>
+    ensures { IfSome result (λ ran. IfOk ran (IsPipeline plan.now)) }
+{
     if !is_runnable(plan) {
         return None;
     }
     Some(pipeline(rt, alloc, plan, gate))
 }
 
-/// What a pipeline is to leave.
-#[derive(Clone, Copy)]
-struct Due<'t> {
-    entries: usize,
-    /// The numbers of the ids of the topic's records, in order.
-    topic: &'t [u128],
-    /// Those of every inbox.
-    inbox: &'t [u128],
-    /// What the group `g` has committed.
-    commit: Option<u64>,
-    /// Whether the last reply to worker 2 denies its right to the group.
-    denied: bool,
-}
-
-fn has_ids(rows: &[InboxRow], ids: &[u128]) -> bool {
-    if rows.len() != ids.len() {
-        return false;
-    }
-    for (row, id) in rows.iter().zip(ids) {
-        if row.id != Uuid::from_u128(*id) {
-            return false;
-        }
-    }
-    true
-}
-
-fn have_ids(end: &PipelineEnd, ids: &[u128]) -> bool {
-    for inbox in &end.inboxes {
-        if !has_ids(&inbox.rows, ids) {
-            return false;
-        }
-    }
-    true
-}
-
-/// What `User:root` is answered.
-fn answer(alloc: Global, broker: &mut Broker, request: Request) -> Option<Reply> {
-    let principal = Principal::parse(alloc, "User:root").ok()?;
-    let host = Host::parse(alloc, "h").ok()?;
-    let event = Event {
-        principal,
-        host,
-        request,
+/// What a plan leaves, of which the laws speak. None where there is a fault, or a hold was given
+/// up.
+pub(crate) fn play<R: Threads + Wait + Sync>(
+    rt: &R,
+    alloc: Global,
+    plan: &Plan,
+    gate: &Holding<'_>,
+) -> Option<PipelineEnd> {
+    let ran = run(rt, alloc, plan, gate);
+    let Some(Ok(end)) = ran else {
+        drop(ran);
+        return None;
     };
-    broker.serve(alloc, &event).ok()
-}
-
-/// What the group `g` has committed.
-fn commit(alloc: Global, broker: &mut Broker) -> Option<Reply> {
-    let request = Request::OffsetFetch(OffsetFetch {
-        group: Text::copied(alloc, "g").ok()?,
-        topic: Text::copied(alloc, "outbox.event.orders").ok()?,
-        partition: 0,
-    });
-    answer(alloc, broker, request)
-}
-
-fn is_committed(alloc: Global, broker: &mut Broker, due: Option<u64>) -> bool {
-    match commit(alloc, broker) {
-        Some(Reply::Done(Body::Commit(found))) => found == due,
-        _ => false,
+    call_laws(plan, &end);
+    if gate.gave_up() {
+        drop(end);
+        return None;
     }
+    Some(end)
 }
 
-/// What the topic holds.
-fn records(alloc: Global, broker: &mut Broker) -> Option<Reply> {
-    let request = Request::Fetch(Fetch {
-        topic: Text::copied(alloc, "outbox.event.orders").ok()?,
-        partition: 0,
-        offset: 0,
-        max: 100,
-    });
-    answer(alloc, broker, request)
-}
-
-fn are_records(alloc: Global, broker: &mut Broker, ids: &[u128]) -> bool {
-    let Some(Reply::Done(Body::Records(found))) = records(alloc, broker) else {
+/// Whether a plan, at this gate, leaves what it is to leave.
+pub(crate) fn is_left<R: Threads + Wait + Sync>(
+    rt: &R,
+    alloc: Global,
+    plan: &Plan,
+    gate: &Holding<'_>,
+    due: Due<'_>,
+) -> bool {
+    let Some(end) = play(rt, alloc, plan, gate) else {
         return false;
     };
-    let found = found.as_slice();
-    if found.len() != ids.len() {
-        return false;
-    }
-    for (entry, id) in found.iter().zip(ids) {
-        if event_id(&entry.1) != Some(Uuid::from_u128(*id)) {
-            return false;
-        }
-    }
-    true
-}
-
-/// Whether the last reply to worker 2 denies its right to the group, since no binding allows it.
-fn is_denied(end: &PipelineEnd) -> bool {
-    let Some(notes) = end.transcripts.get(2) else {
-        return false;
-    };
-    let receipts = notes.receipts();
-    if receipts.len() == 0 {
-        return false;
-    }
-    match &receipts[receipts.len() - 1].reply {
-        Reply::Denied { code, verdicts } => {
-            matches!(code, Code::GroupAuthorizationFailed)
-                && matches!(verdicts.as_slice(), [Verdict::NoAllow])
-        }
-        _ => false,
-    }
-}
-
-/// Whether a pipeline left what it was to leave.
-fn is_due(alloc: Global, end: &mut PipelineEnd, due: Due<'_>) -> bool {
-    end.journal.len() == due.entries
-        && have_ids(end, due.inbox)
-        && are_records(alloc, &mut end.broker, due.topic)
-        && is_committed(alloc, &mut end.broker, due.commit)
-        && is_denied(end) == due.denied
+    let mut end = end;
+    let is_due = is_due(alloc, &mut end, due);
+    drop(end);
+    is_due
 }
 
 /// Whether a plan, under these holds, leaves what it is to leave, and no hold was given up.
@@ -177,20 +95,13 @@ fn is_played<R: Threads + Wait + Sync>(
 ) -> Result<bool, Fail> {
     let plan = plan(alloc, cast)?;
     let gate = Holding::at(holds);
-    let ran = run(rt, alloc, &plan, &gate);
+    let is_left = is_left(rt, alloc, &plan, &gate, due);
     drop(plan);
-    let Some(Ok(end)) = ran else {
-        drop(ran);
-        return Ok(false);
-    };
-    let mut end = end;
-    let is_due = is_due(alloc, &mut end, due);
-    drop(end);
-    Ok(is_due && !gate.gave_up())
+    Ok(is_left)
 }
 
 /// Worker 2 begins once the service has come to this number.
-fn after(comes_to: u64) -> Hold {
+pub(crate) fn after(comes_to: u64) -> Hold {
     Hold {
         worker: 2,
         number: 1,
@@ -200,7 +111,7 @@ fn after(comes_to: u64) -> Hold {
 }
 
 /// Two events, each sent at once.
-const TWO: [Act; 4] = [Act::Note(0xA), TICK, Act::Note(0xB), TICK];
+pub(crate) const TWO: [Act; 4] = [Act::Note(0xA), TICK, Act::Note(0xB), TICK];
 
 #[test]
 fn pipeline_two_events(rt: HostRuntime) -> Result<(), Fail> {
@@ -214,6 +125,7 @@ fn pipeline_two_events(rt: HostRuntime) -> Result<(), Fail> {
         entries: 8,
         topic: &[0xA, 0xB],
         inbox: &[0xA, 0xB],
+        mark: 2,
         commit: Some(2),
         denied: false,
     };
@@ -239,6 +151,7 @@ fn two_consumers(rt: HostRuntime) -> Result<(), Fail> {
         entries: 11,
         topic: &[0xA, 0xB],
         inbox: &[0xA, 0xB],
+        mark: 2,
         commit: Some(2),
         denied: false,
     };
@@ -279,6 +192,7 @@ fn reply_lost(rt: HostRuntime) -> Result<(), Fail> {
         entries: 9,
         topic: &[0xA, 0xB],
         inbox: &[0xA, 0xB],
+        mark: 2,
         commit: Some(2),
         denied: false,
     };
@@ -293,6 +207,7 @@ fn reply_lost_then_restart(rt: HostRuntime) -> Result<(), Fail> {
         entries: 10,
         topic: &[0xA, 0xB, 0xB],
         inbox: &[0xA, 0xB],
+        mark: 2,
         commit: Some(3),
         denied: false,
     };
@@ -307,6 +222,7 @@ fn request_lost(rt: HostRuntime) -> Result<(), Fail> {
         entries: 8,
         topic: &[0xA, 0xB],
         inbox: &[0xA, 0xB],
+        mark: 2,
         commit: Some(2),
         denied: false,
     };
@@ -327,6 +243,7 @@ fn consumer_restart(rt: HostRuntime) -> Result<(), Fail> {
         entries: 10,
         topic: &[0xA, 0xB],
         inbox: &[0xA, 0xB],
+        mark: 2,
         commit: Some(2),
         denied: false,
     };
@@ -359,6 +276,7 @@ fn revoked_while_consuming(rt: HostRuntime) -> Result<(), Fail> {
         entries: 9,
         topic: &[0xA, 0xB],
         inbox: &[0xA, 0xB],
+        mark: 2,
         commit: None,
         denied: true,
     };
@@ -366,8 +284,8 @@ fn revoked_while_consuming(rt: HostRuntime) -> Result<(), Fail> {
     Ok(())
 }
 
-/// How a plan of 500,000 sweeps and so many consumers is refused: 1 for want of room in the journal,
-/// 2 for too many workers, 0 else.
+/// How a plan of 500,000 sweeps and so many consumers is refused: 1 for want of room in the
+/// journal, 2 for too many workers, 0 else.
 fn refusal<R: Threads + Wait + Sync>(
     rt: &R,
     alloc: Global,

@@ -16,8 +16,8 @@ use std::alloc::{AllocError, Global};
 use std::test::Fail;
 use uuid::Uuid;
 
-/// The topic of all events.
-const TOPIC: &str = "outbox.event.orders";
+/// The topic of a service's events, which tell of orders.
+pub(crate) const ORDERS: &str = "outbox.event.orders";
 
 /// What a service is to do.
 #[derive(Clone, Copy)]
@@ -38,15 +38,18 @@ struct Grant {
     name: &'static str,
 }
 
-/// What the service and the consumers of the groups `g` and `g2` may do.
+/// What lets a service send.
+const WRITE: Grant = Grant {
+    who: "User:svc",
+    operation: Operation::Write,
+    resource: ResourceKind::Topic,
+    kind: PatternKind::Prefixed,
+    name: "outbox.event.",
+};
+
+/// What a service and the consumers of the groups `g` and `g2` may do.
 const GRANTS: [Grant; 5] = [
-    Grant {
-        who: "User:svc",
-        operation: Operation::Write,
-        resource: ResourceKind::Topic,
-        kind: PatternKind::Prefixed,
-        name: "outbox.event.",
-    },
+    WRITE,
     Grant {
         who: "User:svc",
         operation: Operation::IdempotentWrite,
@@ -91,25 +94,32 @@ fn draft(alloc: Global, grant: &Grant) -> Result<Draft, Fail> {
     })
 }
 
-fn drafts(alloc: Global) -> Result<Items<Draft>, Fail> {
+fn drafts(alloc: Global, grants: &[Grant]) -> Result<Items<Draft>, Fail> {
     let mut drafts = Vec::new(alloc);
-    for grant in &GRANTS {
+    for grant in grants {
         drafts.push(draft(alloc, grant)?)?;
     }
     Ok(Items::from_vec(drafts))
 }
 
-fn grants(alloc: Global) -> Result<Event, Fail> {
-    let drafts = drafts(alloc)?;
-    event(
-        alloc,
-        "User:root",
-        Request::CreateAcls(CreateAcls { drafts }),
-    )
+fn giving(alloc: Global, grants: &[Grant]) -> Result<Request, Fail> {
+    let drafts = drafts(alloc, grants)?;
+    Ok(Request::CreateAcls(CreateAcls { drafts }))
 }
 
-fn creation(alloc: Global) -> Result<Event, Fail> {
-    let name = Text::copied(alloc, TOPIC)?;
+/// CREATE_ACLS of what lets a service send.
+pub(crate) fn write_given(alloc: Global) -> Result<Request, Fail> {
+    giving(alloc, &[WRITE])
+}
+
+/// All grants are given.
+pub(crate) fn grants(alloc: Global) -> Result<Event, Fail> {
+    event(alloc, "User:root", giving(alloc, &GRANTS)?)
+}
+
+/// A topic with one partition is created.
+pub(crate) fn creation(alloc: Global, topic: &str) -> Result<Event, Fail> {
+    let name = Text::copied(alloc, topic)?;
     let request = Request::CreateTopics(CreateTopics {
         name,
         partitions: 1,
@@ -120,12 +130,12 @@ fn creation(alloc: Global) -> Result<Event, Fail> {
 /// The topic is created, and the grants are given.
 fn first(alloc: Global) -> Result<Items<Event>, Fail> {
     let mut first = Vec::new(alloc);
-    first.push(creation(alloc)?)?;
+    first.push(creation(alloc, ORDERS)?)?;
     first.push(grants(alloc)?)?;
     Ok(Items::from_vec(first))
 }
 
-fn root_alone(alloc: Global) -> Result<Settings, Fail> {
+pub(crate) fn root_alone(alloc: Global) -> Result<Settings, Fail> {
     let mut supers = Vec::new(alloc);
     supers.push(Principal::parse(alloc, "User:root")?)?;
     Ok(Settings {
@@ -142,29 +152,31 @@ fn change(alloc: Global) -> Result<Change, AllocError> {
     })
 }
 
-fn order(alloc: Global, id: u128) -> Result<OutboxEvent, AllocError> {
+/// An event about the thing `42` of a kind.
+fn note(alloc: Global, kind: &str, id: u128) -> Result<OutboxEvent, AllocError> {
     Ok(OutboxEvent {
         id: Uuid::from_u128(id),
-        aggregate_type: String::from_str(alloc, "orders")?,
+        aggregate_type: String::from_str(alloc, kind)?,
         aggregate_id: String::from_str(alloc, "42")?,
         event_type: String::from_str(alloc, "OrderPaid")?,
         payload: String::from_str(alloc, "{}")?,
     })
 }
 
-fn step(alloc: Global, act: Act) -> Result<ServiceStep, AllocError> {
+fn step(alloc: Global, kind: &str, act: Act) -> Result<ServiceStep, AllocError> {
     match act {
-        Act::Note(id) => Ok(ServiceStep::Record(change(alloc)?, order(alloc, id)?)),
+        Act::Note(id) => Ok(ServiceStep::Record(change(alloc)?, note(alloc, kind, id)?)),
         Act::Tick(loss) => Ok(ServiceStep::Tick(loss)),
         Act::Restart => Ok(ServiceStep::Restart),
         Act::Sweep => Ok(ServiceStep::Sweep),
     }
 }
 
-fn steps(alloc: Global, acts: &[Act]) -> Result<Vec<ServiceStep>, AllocError> {
+/// What a service is to do whose events tell of this kind of things.
+fn steps(alloc: Global, kind: &str, acts: &[Act]) -> Result<Vec<ServiceStep>, AllocError> {
     let mut steps = Vec::new(alloc);
     for act in acts {
-        steps.push(step(alloc, *act)?)?;
+        steps.push(step(alloc, kind, *act)?)?;
     }
     Ok(steps)
 }
@@ -189,23 +201,40 @@ fn service(alloc: Global, steps: Vec<ServiceStep>) -> Result<Service, Fail> {
     })
 }
 
-fn subscription(alloc: Global, group: &str) -> Result<Subscription, Fail> {
-    let group = Text::copied(alloc, group)?;
+fn assignment(alloc: Global, topics: &[&str]) -> Result<Items<Place>, Fail> {
     let mut assignment = Vec::new(alloc);
-    assignment.push(Place {
-        topic: Text::copied(alloc, TOPIC)?,
-        partition: 0,
-    })?;
+    for topic in topics {
+        assignment.push(Place {
+            topic: Text::copied(alloc, topic)?,
+            partition: 0,
+        })?;
+    }
+    Ok(Items::from_vec(assignment))
+}
+
+/// How a group reads the first partitions of these topics.
+pub(crate) fn subscription(
+    alloc: Global,
+    group: &str,
+    topics: &[&str],
+    max: u64,
+) -> Result<Subscription, Fail> {
+    let group = Text::copied(alloc, group)?;
+    let assignment = assignment(alloc, topics)?;
     Ok(Subscription {
         group,
-        assignment: Items::from_vec(assignment),
-        max: 10,
+        assignment,
+        max,
     })
 }
 
-fn consumer(alloc: Global, group: &str, acts: &[ConsumerStep]) -> Result<ConsumerPlan, Fail> {
+/// A consumer that takes these steps.
+pub(crate) fn consuming(
+    alloc: Global,
+    subscription: Subscription,
+    acts: &[ConsumerStep],
+) -> Result<ConsumerPlan, Fail> {
     let (principal, host) = at_host(alloc, "User:con")?;
-    let subscription = subscription(alloc, group)?;
     let mut steps = Vec::new(alloc);
     for act in acts {
         steps.push(*act)?;
@@ -216,6 +245,11 @@ fn consumer(alloc: Global, group: &str, acts: &[ConsumerStep]) -> Result<Consume
         subscription,
         steps,
     })
+}
+
+fn consumer(alloc: Global, group: &str, acts: &[ConsumerStep]) -> Result<ConsumerPlan, Fail> {
+    let subscription = subscription(alloc, group, &[ORDERS], 10)?;
+    consuming(alloc, subscription, acts)
 }
 
 fn revocation(alloc: Global) -> Result<Request, Fail> {
@@ -247,10 +281,15 @@ pub(crate) struct Cast<'t> {
     pub(crate) revoked: bool,
 }
 
+/// A service that does this, and whose events tell of this kind of things.
+pub(crate) fn acting(alloc: Global, kind: &str, acts: &[Act]) -> Result<Service, Fail> {
+    let steps = steps(alloc, kind, acts)?;
+    service(alloc, steps)
+}
+
 fn services(alloc: Global, acts: &[Act]) -> Result<Vec<Service>, Fail> {
-    let steps = steps(alloc, acts)?;
     let mut services = Vec::new(alloc);
-    services.push(service(alloc, steps)?)?;
+    services.push(acting(alloc, "orders", acts)?)?;
     Ok(services)
 }
 
@@ -272,11 +311,20 @@ fn administrators(alloc: Global, revoked: bool) -> Result<Vec<Script>, Fail> {
 
 /// The plan of a cast.
 pub(crate) fn plan(alloc: Global, cast: Cast<'_>) -> Result<Plan, Fail> {
+    let administrators = administrators(alloc, cast.revoked)?;
+    plan_with(alloc, cast, administrators)
+}
+
+/// The plan of a cast with other administrators.
+pub(crate) fn plan_with(
+    alloc: Global,
+    cast: Cast<'_>,
+    administrators: Vec<Script>,
+) -> Result<Plan, Fail> {
     let settings = root_alone(alloc)?;
     let first = first(alloc)?;
     let services = services(alloc, cast.service)?;
     let consumers = consumers(alloc, cast)?;
-    let administrators = administrators(alloc, cast.revoked)?;
     Ok(Plan {
         settings,
         first,
@@ -306,7 +354,7 @@ fn idle_consumers(alloc: Global, count: usize) -> Result<Vec<ConsumerPlan>, Fail
 pub(crate) fn sweeping(alloc: Global, count: usize) -> Result<Plan, Fail> {
     let settings = root_alone(alloc)?;
     let mut first = Vec::new(alloc);
-    first.push(creation(alloc)?)?;
+    first.push(creation(alloc, ORDERS)?)?;
     let steps = sweeps(alloc, 500_000)?;
     let mut services = Vec::new(alloc);
     services.push(service(alloc, steps)?)?;
