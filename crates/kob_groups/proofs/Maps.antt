@@ -63,8 +63,8 @@ module _ {K X Y : Type 0} (part : X → Y) where
       by false rest = ap (λ es. (entry.0, part entry.1) ∷ es) rest
 
   -- a value that is changed, or put in for a key that is absent
-  pub seen_changed : (same : K → K → Bool) (entries : List (K × X)) (key : K) (fresh inner final : X) (none : Y)
-      (change : Y → Y)
+  pub seen_changed : (same : K → K → Bool) (entries : List (K × X)) (key : K) (fresh inner final : X)
+      (none : Y) (change : Y → Y)
       → part final ≡ change (part inner) → inner ≡ unwrap_or (lookup (same key) entries) fresh → part fresh ≡ none
       → seen (insert_entry same entries key final)
       ≡ insert_entry same (seen entries) key (change (unwrap_or (lookup (same key) (seen entries)) none))
@@ -76,8 +76,7 @@ module _ {K X Y : Type 0} (part : X → Y) where
 
   -- a value that is written and seen as before
   pub seen_written : (test : K → Bool) (entries : List (K × X)) (old x : X) → lookup test entries ≡ Some old
-      → part x ≡ part old
-      → seen (set_value test entries x) ≡ seen entries
+      → part x ≡ part old → seen (set_value test entries x) ≡ seen entries
   seen_written test [] old x found same = refl
   seen_written test (entry ∷ entries) old x found same =
       by (test entry.0) found (λ later. seen_written test entries old x later same)
@@ -111,7 +110,8 @@ module _ {K X Y : Type 0} (part : X → Y) where
       kept : List (K × Y)
       kept = filter (λ e. not (test e.0)) (seen entries)
 
-      by : (hit : Bool) → test entry.0 ≡ hit → lookup test (cond hit entries (entry ∷ remove_entry test entries)) ≡ None
+      by : (hit : Bool) → test entry.0 ≡ hit
+          → lookup test (cond hit entries (entry ∷ remove_entry test entries)) ≡ None
           → (lookup test (remove_entry test entries) ≡ None → seen (remove_entry test entries) ≡ kept)
           → seen (cond hit entries (entry ∷ remove_entry test entries))
           ≡ cond (not hit) ((entry.0, part entry.1) ∷ kept) kept
@@ -137,8 +137,7 @@ module _ {K X : Type 0} (same : K → K → Bool) where
 
 -- what is found after a write
 pub found_written : {K X : Type 0} (test : K → Bool) (entries : List (K × X)) (old x : X)
-    → lookup test entries ≡ Some old
-    → lookup test (set_value test entries x) ≡ Some x
+    → lookup test entries ≡ Some old → lookup test (set_value test entries x) ≡ Some x
 found_written test [] old x found = cc
 found_written test (entry ∷ entries) old x found =
     by (test entry.0) refl found (λ later. found_written test entries old x later)

@@ -65,7 +65,8 @@ module _ {K V : Type 0} (same : K → K → Bool) (decides : (a b : K) → Decid
       ap (λ o. unwrap_or o other) (stored entries k q v ∙ ap (λ b. cond b (Some v) (lookup (same q) entries)) is)
       ∙ chosen one (lookup (same q) entries)
     where
-      chosen : (b : Bool) (found : Option V) → unwrap_or (cond b (Some v) found) other ≡ cond b v (unwrap_or found other)
+      chosen : (b : Bool) (found : Option V)
+          → unwrap_or (cond b (Some v) found) other ≡ cond b v (unwrap_or found other)
       chosen true found = refl
       chosen false found = refl
 
@@ -95,12 +96,14 @@ same_place a b =
 commit_read : (groups : Groups) (place : CommitPlace) (offset : ℕ) (q : CommitPlace) (one : Bool)
     → same_text place.group q.group ≡ one
     → committed_at q (with_commit place offset groups)
-    ≡ cond (one && (same_text place.topic q.topic && nat_eq place.partition q.partition)) (Some offset) (committed_at q groups)
+    ≡ cond (one && (same_text place.topic q.topic && nat_eq place.partition q.partition)) (Some offset)
+    (committed_at q groups)
 commit_read groups place offset q true is =
     let seen : Commits → Option ℕ = λ commits. lookup (nat_eq q.partition) (offsets_on q.topic commits) in
     ap seen (stored_or same_text texts_decided groups place.group q.group _ [] true is)
     ∙ offset_read (commits_of place.group groups) place.topic q.topic place.partition q.partition offset _ refl
-    ∙ ap (λ name. cond (same_text place.topic q.topic && nat_eq place.partition q.partition) (Some offset) (seen (commits_of name groups)))
+    ∙ ap (λ name. cond (same_text place.topic q.topic && nat_eq place.partition q.partition) (Some offset)
+    (seen (commits_of name groups)))
     (as_told place.group q.group is)
 commit_read groups place offset q false is =
     ap (λ commits. lookup (nat_eq q.partition) (offsets_on q.topic commits))
@@ -115,13 +118,14 @@ read_committed groups place offset q = commit_read groups place offset q (same_t
 left : {X : Type 0} (entries : List (List ℕ × List X)) (name q : List ℕ) (gone : Bool) → same_text name q ≡ gone
     → unwrap_or (lookup (same_text q) (filter (λ entry. not (same_text name entry.0)) entries)) []
     ≡ cond gone [] (unwrap_or (lookup (same_text q) entries) [])
-left entries name q gone is =
+left {X} entries name q gone is =
     ap (λ o. unwrap_or o [])
     (lookup-filter-keys (same_text q) (λ k. not (same_text name k)) (not gone)
     (λ k hit. ap (λ t. not (same_text name t)) (sym (as_told q k hit)) ∙ ap not is) entries)
     ∙ shut gone (lookup (same_text q) entries)
   where
-    shut : (b : Bool) (found : Option (List X)) → unwrap_or (cond (not b) found None) [] ≡ cond b [] (unwrap_or found [])
+    shut : (b : Bool) (found : Option (List X))
+        → unwrap_or (cond (not b) found None) [] ≡ cond b [] (unwrap_or found [])
     shut true found = refl
     shut false found = refl
 
@@ -129,10 +133,12 @@ left entries name q gone is =
 pub read_without_group : (groups : Groups) (name : List ℕ) (q : CommitPlace)
     → committed_at q (without_group name groups) ≡ cond (same_text name q.group) None (committed_at q groups)
 read_without_group groups name q =
-    ap (λ commits. lookup (nat_eq q.partition) (offsets_on q.topic commits)) (left groups name q.group (same_text name q.group) refl)
+    ap (λ commits. lookup (nat_eq q.partition) (offsets_on q.topic commits))
+    (left groups name q.group (same_text name q.group) refl)
     ∙ none_of (same_text name q.group)
   where
-    none_of : (gone : Bool) → lookup (nat_eq q.partition) (offsets_on q.topic (cond gone [] (commits_of q.group groups)))
+    none_of : (gone : Bool)
+        → lookup (nat_eq q.partition) (offsets_on q.topic (cond gone [] (commits_of q.group groups)))
         ≡ cond gone None (committed_at q groups)
     none_of true = refl
     none_of false = refl
@@ -143,14 +149,19 @@ pub read_without_topic : (groups : Groups) (name : List ℕ) (q : CommitPlace)
 read_without_topic groups name q =
     ap (λ found. lookup (nat_eq q.partition) (offsets_on q.topic (unwrap_or found [])))
     (lookup-map_values (without_offsets name) (same_text q.group) groups)
-    ∙ ap (λ commits. lookup (nat_eq q.partition) (offsets_on q.topic commits)) (mapped (lookup (same_text q.group) groups))
-    ∙ ap (lookup (nat_eq q.partition)) (left (commits_of q.group groups) name q.topic (same_text name q.topic) refl)
+    ∙ ap (λ commits. lookup (nat_eq q.partition) (offsets_on q.topic commits))
+    (mapped (lookup (same_text q.group) groups))
+    ∙ ap (lookup (nat_eq q.partition))
+    (left (commits_of q.group groups) name q.topic (same_text name q.topic) refl)
     ∙ none_of (same_text name q.topic)
   where
-    mapped : (found : Option Commits) → unwrap_or (option_map (without_offsets name) found) [] ≡ without_offsets name (unwrap_or found [])
+    mapped : (found : Option Commits)
+        → unwrap_or (option_map (without_offsets name) found) [] ≡ without_offsets name (unwrap_or found [])
     mapped None = refl
     mapped (Some commits) = refl
-    none_of : (gone : Bool) → lookup (nat_eq q.partition) (cond gone [] (offsets_on q.topic (commits_of q.group groups)))
+
+    none_of : (gone : Bool)
+        → lookup (nat_eq q.partition) (cond gone [] (offsets_on q.topic (commits_of q.group groups)))
         ≡ cond gone None (committed_at q groups)
     none_of true = refl
     none_of false = refl

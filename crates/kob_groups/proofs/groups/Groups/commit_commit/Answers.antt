@@ -9,11 +9,11 @@ use Rattle.kob_groups.proofs.groups.Groups.commit_commit.Goals as goal
 
 pub returns-in-Some : goal.returns-in-Some
 returns-in-Some c =
-    let entries = c.args.self.now.by_name.entries in let made = c.args.made in let old = c.in-Some.commits.now in
-    let final = c.put.new.self in
+    let entries = c.args.self.now.by_name.entries in let made = c.args.made in
+    let old = c.in-Some.commits.now in let final = c.put.new.self in
     let found = sym c.get_mut.ensures.value ∙ ap option_copied_mut c.in-Some.is in
-    ap (seen commits_in) ((c.get_mut.follows.holds final).0
-    ∙ written_inserted same_text entries made.place.group old final found)
+    ap (seen commits_in)
+    ((c.get_mut.follows.holds final).0 ∙ written_inserted same_text entries made.place.group old final found)
     ∙ seen_changed commits_in same_text entries made.place.group made.commits old final []
     (with_offset made.place.topic made.place.partition made.offset) c.put.ensures
     (sym (ap (λ o. unwrap_or o made.commits) found))
@@ -24,8 +24,9 @@ returns-in-None c =
     let entries = c.args.self.now.by_name.entries in let made = c.args.made in let final = c.put-in-None.new.self in
     let absent = sym c.get_mut.ensures.value ∙ ap option_copied_mut c.in-None.is in
     let inserted = rw c.unwrap.ensures at c.insert.ensures.entries in
-    ap (seen commits_in) (inserted ∙ ap (λ
-    (m : IndexMap _ _ _). insert_entry same_text m.entries made.place.group final) c.get_mut.follows.holds-at-none)
+    ap (seen commits_in)
+    (inserted
+    ∙ ap (λ (m : IndexMap _ _ _). insert_entry same_text m.entries made.place.group final) c.get_mut.follows.holds-at-none)
     ∙ seen_changed commits_in same_text entries made.place.group made.commits made.commits final []
     (with_offset made.place.topic made.place.partition made.offset) c.put-in-None.ensures
     (sym (ap (λ o. unwrap_or o made.commits) absent))

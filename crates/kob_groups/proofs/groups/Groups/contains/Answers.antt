@@ -6,4 +6,5 @@ use Rattle.kob_groups.proofs.groups.Groups.contains.Goals as goal
 
 pub returns : goal.returns
 returns c =
-    c.contains_key.ensures ∙ sym (seen_has commits_in (same_text c.args.name.now) c.args.self.now.by_name.entries)
+    c.contains_key.ensures
+    ∙ sym (seen_has commits_in (same_text c.args.name.now) c.args.self.now.by_name.entries)

@@ -6,5 +6,5 @@ use Rattle.kob_groups.proofs.groups.Groups.forget_topic.Goals as goal
 
 pub returns : goal.returns
 returns c =
-    seen_retained commits_in (without_offsets c.args.topic.now) _ _
-    (λ k v b w g call. search rules) _ _ c.retain.ensures.filtered
+    seen_retained commits_in (without_offsets c.args.topic.now) _ _ (λ k v b w g call. search rules) _ _
+    c.retain.ensures.filtered

@@ -7,8 +7,7 @@ use Rattle.kob_groups.proofs.groups.Groups.is_full_for.Goals as goal
 pub returns-then-not-contains_key : goal.returns-then-not-contains_key
 returns-then-not-contains_key c =
     let entries = c.args.self.now.by_name.entries in
-    let absent =
-    sym c.if-not-contains_key.true ∙ c.contains_key.ensures
+    let absent = sym c.if-not-contains_key.true ∙ c.contains_key.ensures
     ∙ sym (seen_has commits_in (same_text c.args.group.now) entries) in
     ap (nat_le 10000) (c.len.ensures.len ∙ sym (seen_length commits_in entries))
     ∙ ap (λ there. not there && nat_le 10000 (length (seen commits_in entries))) absent
@@ -16,8 +15,7 @@ returns-then-not-contains_key c =
 pub returns-else-not-contains_key : goal.returns-else-not-contains_key
 returns-else-not-contains_key c =
     let entries = c.args.self.now.by_name.entries in
-    let there =
-    sym c.if-not-contains_key.false ∙ c.contains_key.ensures
+    let there = sym c.if-not-contains_key.false ∙ c.contains_key.ensures
     ∙ sym (seen_has commits_in (same_text c.args.group.now) entries) in
-    ap not c.if-not-contains_key.false ∙ ap
-    (λ known. not known && nat_le 10000 (length (seen commits_in entries))) there
+    ap not c.if-not-contains_key.false
+    ∙ ap (λ known. not known && nat_le 10000 (length (seen commits_in entries))) there

@@ -30,12 +30,10 @@ returns-in_ok-offsets-in-Some-clause-ready c =
     let fresh = c.new-commits.result in let offsets = c.in_ok-offsets-in-Some.offsets in
     let now = ap (lookup (same_text c.args.place.group)) holds.0
     ∙ found_written (same_text c.args.place.group) c.reserve.new.self.entries _ c.reserve-in-Some.new.self found in
-    record {
+    let topic = c.args.place.topic in record {
       groups = subst (λ n. 0 < n) (sym holds.6) c.in_ok-reserve.ensures.ok;
       topics = subst (λ o. 0 < spare (unwrap_or o fresh).by_topic) (sym now) c.in_ok-offsets-in-Some.ensures.topics;
-      offsets =
-          subst (λ o. 0 < spare (unwrap_or (get same_text (unwrap_or o fresh).by_topic c.args.place.topic) offsets))
-          (sym now)
+      offsets = subst (λ o. 0 < spare (unwrap_or (get same_text (unwrap_or o fresh).by_topic topic) offsets)) (sym now)
           c.in_ok-offsets-in-Some.ensures.offsets;
       no_commits = c.new-commits.ensures;
       no_offsets = c.in_ok-offsets-in-Some.ensures.empty;
@@ -43,16 +41,14 @@ returns-in_ok-offsets-in-Some-clause-ready c =
 
 pub returns-in_ok-offsets-in-None-clause-ready : goal.returns-in_ok-offsets-in-None-clause-ready
 returns-in_ok-offsets-in-None-clause-ready c =
-    let absent =
-    ap (λ (m : _). get same_text m c.args.place.group) c.get_mut.follows.holds-at-none
+    let absent = ap (λ (m : _). get same_text m c.args.place.group) c.get_mut.follows.holds-at-none
     ∙ sym c.get_mut.ensures.value ∙ ap option_copied_mut c.in-None.is in
     let fresh = c.in_ok-commits-in-None.commits in let offsets = c.in_ok-offsets-in-None.offsets in
-    let no_topics = ap (lookup (same_text c.args.place.topic)) c.in_ok-commits-in-None.ensures.empty in record {
+    let topic = c.args.place.topic in
+    let no_topics = ap (lookup (same_text topic)) c.in_ok-commits-in-None.ensures.empty in record {
       groups = subst (λ m. 0 < spare m) (sym c.get_mut.follows.holds-at-none) c.in_ok-reserve.ensures.ok;
       topics = subst (λ o. 0 < spare (unwrap_or o fresh).by_topic) (sym absent) c.in_ok-commits-in-None.ensures.room;
-      offsets =
-          subst (λ o. 0 < spare (unwrap_or (get same_text (unwrap_or o fresh).by_topic c.args.place.topic) offsets))
-          (sym absent)
+      offsets = subst (λ o. 0 < spare (unwrap_or (get same_text (unwrap_or o fresh).by_topic topic) offsets)) (sym absent)
           (subst (λ o. 0 < spare (unwrap_or o offsets)) (sym no_topics) c.in_ok-offsets-in-None.ensures.spare);
       no_commits = c.in_ok-commits-in-None.ensures.empty;
       no_offsets = c.in_ok-offsets-in-None.ensures.empty;
