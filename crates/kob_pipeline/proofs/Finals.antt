@@ -1,7 +1,7 @@
 -- What all workers left, told of each service, each consumer and each administrator.
 use Rattle.std.proofs.Common.{◌≡◌, ℕ, zero, suc, ◌+◌, List, [], ◌∷◌, ◌++◌, length, length-append, map, arith, refl, sym, ap, ◌∙◌, subst}
 use Rattle.std.specs.Prelude.{Some, slice_get, option_map}
-use Rattle.std.specs.List.{AllZip}
+use Rattle.std.specs.List.{AllZip, flat_map}
 use Rattle.std.proofs.lemmas.List.{length-map}
 use Rattle.std.proofs.lemmas.Option.{slice_get-map}
 use Rattle.kob_shared.specs.Fleets.{events_of_script}
@@ -40,84 +40,119 @@ Left w d = IsLeft w d.notes d.end
 
 -- ---- one worker
 
-service_end : (s : Service) (noted : Noted) (end : WorkerEnd) → IsServiceLeft s noted end → IsKeptByStore end → (left : OutboxEnd) × (end ≡ Outbox left) × IsServiceRun s noted left
-service_end s noted (Outbox left) is kept = (left, refl, is)
+-- what a worker leaves of its own kind is one thing, and it leaves none of the other kind
+record LeftOne {E F : Type 0} (own : WorkerEnd → List E) (other : WorkerEnd → List F) (Run : E → Type 0)
+    (end : WorkerEnd) : Type 0 where
+  left : E
+  here : own end ≡ left ∷ []
+  none : other end ≡ []
+  run : Run left
+
+service_end : (s : Service) (noted : Noted) (end : WorkerEnd) → IsServiceLeft s noted end → IsKeptByStore end
+    → LeftOne outbox_of inbox_of (IsServiceRun s noted) end
+service_end s noted (Outbox left) is kept = record { left = left; here = refl; none = refl; run = is }
 service_end s noted StoreRefused is kept = absurd kept
 service_end s noted (Inbox left) is kept = absurd is
 service_end s noted Nothing is kept = absurd is
 
-consumer_end : (c : ConsumerPlan) (noted : Noted) (end : WorkerEnd) → IsConsumptionLeft c noted end → IsKeptByStore end → (left : InboxEnd) × (end ≡ Inbox left) × IsConsumption c noted left
-consumer_end c noted (Inbox left) is kept = (left, refl, is)
+consumer_end : (c : ConsumerPlan) (noted : Noted) (end : WorkerEnd) → IsConsumptionLeft c noted end
+    → IsKeptByStore end → LeftOne inbox_of outbox_of (IsConsumption c noted) end
+consumer_end c noted (Inbox left) is kept = record { left = left; here = refl; none = refl; run = is }
 consumer_end c noted StoreRefused is kept = absurd kept
 consumer_end c noted (Outbox left) is kept = absurd is
 consumer_end c noted Nothing is kept = absurd is
 
-administrator_end : (s : Script) (noted : Noted) (end : WorkerEnd) → IsAdministratorLeft (events_of_script s) noted end → (end ≡ Nothing) × (noted.events ≡ events_of_script s)
+administrator_end : (s : Script) (noted : Noted) (end : WorkerEnd)
+    → IsAdministratorLeft (events_of_script s) noted end
+    → (end ≡ Nothing) × (noted.events ≡ events_of_script s)
 administrator_end s noted Nothing is = (refl, is)
 administrator_end s noted StoreRefused is = absurd is
 administrator_end s noted (Outbox left) is = absurd is
 administrator_end s noted (Inbox left) is = absurd is
 
--- ---- the first workers are services
+-- ---- the first workers are of one kind: services, or consumers where no services are left
 
-outboxes_more : (d : Done WorkerEnd) (ds : List (Done WorkerEnd)) (left : OutboxEnd) → d.end ≡ Outbox left → outboxes_of (d ∷ ds) ≡ left ∷ outboxes_of ds
-outboxes_more d ds left is = ap (λ (e : WorkerEnd). outbox_of e ++ outboxes_of ds) is
+-- each worker of the kind leaves one thing
+abbrev LeavesOne : {P E F : Type 0} → (P → Planned) → (WorkerEnd → List E) → (WorkerEnd → List F)
+    → (P → Noted → E → Type 0) → Type 0
+LeavesOne {P} made own other Run =
+    (p : P) (noted : Noted) (end : WorkerEnd) → IsLeft (made p) noted end → IsKeptByStore end
+    → LeftOne own other (Run p noted) end
 
-inboxes_more : (d : Done WorkerEnd) (ds : List (Done WorkerEnd)) (left : InboxEnd) → d.end ≡ Inbox left → inboxes_of (d ∷ ds) ≡ left ∷ inboxes_of ds
-inboxes_more d ds left is = ap (λ (e : WorkerEnd). inbox_of e ++ inboxes_of ds) is
+-- what all workers left of a kind
+abbrev all_left : {E : Type 0} → (WorkerEnd → List E) → List (Done WorkerEnd) → List E
+all_left own done = flat_map (λ (d : Done WorkerEnd). own d.end) done
 
--- a service with what it left
-record ServedAt (done : List (Done WorkerEnd)) (k : ℕ) (s : Service) : Type 0 where
+-- a worker of the kind, with what it left
+record LeftAt {P E : Type 0} (own : WorkerEnd → List E) (Run : P → Noted → E → Type 0)
+    (done : List (Done WorkerEnd)) (k : ℕ) (p : P) : Type 0 where
   one : Done WorkerEnd
-  left : OutboxEnd
+  left : E
   here : slice_get done k ≡ Some one
-  outbox : slice_get (outboxes_of done) k ≡ Some left
-  run : IsServiceRun s one.notes left
+  kept : slice_get (all_left own done) k ≡ Some left
+  run : Run p one.notes left
 
-service_at : (ss : List Service) (rest : List Planned) (done : List (Done WorkerEnd)) → AllZip Left (map Serving ss ++ rest) done → HasNoRefusal done → (k : ℕ) (s : Service) → slice_get ss k ≡ Some s → ServedAt done k s
-service_at [] rest done all kept k s is = absurd (cc)
-service_at (x ∷ ss) rest [] all kept k s is = absurd all
-service_at (x ∷ ss) rest (d ∷ ds) all kept zero s is =
-    let same : x ≡ s = cc in
-    let end = service_end x d.notes d.end all.0 kept.0 in
+left_at : {P E F : Type 0} (made : P → Planned) (own : WorkerEnd → List E) (other : WorkerEnd → List F)
+    (Run : P → Noted → E → Type 0) → LeavesOne made own other Run
+    → (ps : List P) (rest : List Planned) (done : List (Done WorkerEnd)) → AllZip Left (map made ps ++ rest) done
+    → HasNoRefusal done → (k : ℕ) (p : P) → slice_get ps k ≡ Some p → LeftAt own Run done k p
+left_at made own other Run each [] rest done all kept k p is = absurd (cc)
+left_at made own other Run each (x ∷ ps) rest [] all kept k p is = absurd all
+left_at {P} {E} made own other Run each (x ∷ ps) rest (d ∷ ds) all kept zero p is =
+    let same : x ≡ p = cc in
+    let end = each x d.notes d.end all.0 kept.0 in
     record {
       one = d;
-      left = end.0;
+      left = end.left;
       here = refl;
-      outbox = ap (λ (os : List OutboxEnd). slice_get os 0) (outboxes_more d ds end.0 end.1);
-      run = subst (λ (t : Service). IsServiceRun t d.notes end.0) same end.2;
+      kept = ap (λ (es : List E). slice_get (es ++ all_left own ds) 0) end.here;
+      run = subst (λ (q : P). Run q d.notes end.left) same end.run;
     }
-service_at (x ∷ ss) rest (d ∷ ds) all kept (suc k) s is =
-    let end = service_end x d.notes d.end all.0 kept.0 in
-    let later = service_at ss rest ds all.1 kept.1 k s is in
+left_at {P} {E} made own other Run each (x ∷ ps) rest (d ∷ ds) all kept (suc k) p is =
+    let end = each x d.notes d.end all.0 kept.0 in
+    let later = left_at made own other Run each ps rest ds all.1 kept.1 k p is in
     record {
       one = later.one;
       left = later.left;
       here = later.here;
-      outbox = ap (λ (os : List OutboxEnd). slice_get os (suc k)) (outboxes_more d ds end.0 end.1) ∙ later.outbox;
+      kept = ap (λ (es : List E). slice_get (es ++ all_left own ds) (suc k)) end.here ∙ later.kept;
       run = later.run;
     }
 
--- what is left behind the services
-record BehindServices (ss : List Service) (rest : List Planned) (done : List (Done WorkerEnd)) : Type 0 where
+-- what is left behind the workers of the kind
+record Behind {P E F : Type 0} (own : WorkerEnd → List E) (other : WorkerEnd → List F) (ps : List P)
+    (rest : List Planned) (done : List (Done WorkerEnd)) : Type 0 where
   front : List (Done WorkerEnd)
   later : List (Done WorkerEnd)
   whole : done ≡ front ++ later
-  counted : length front ≡ length ss
+  counted : length front ≡ length ps
   all : AllZip Left rest later
   kept : HasNoRefusal later
-  outboxes : length (outboxes_of done) ≡ length ss + length (outboxes_of later)
-  inboxes : inboxes_of done ≡ inboxes_of later
+  owned : length (all_left own done) ≡ length ps + length (all_left own later)
+  others : all_left other done ≡ all_left other later
 
-behind_services : (ss : List Service) (rest : List Planned) (done : List (Done WorkerEnd)) → AllZip Left (map Serving ss ++ rest) done → HasNoRefusal done → BehindServices ss rest done
-behind_services [] rest done all kept = record { front = []; later = done; whole = refl; counted = refl; all = all; kept = kept; outboxes = omega arith; inboxes = refl }
-behind_services (x ∷ ss) rest [] all kept = absurd all
-behind_services (x ∷ ss) rest (d ∷ ds) all kept =
-    let end = service_end x d.notes d.end all.0 kept.0 in
-    let below = behind_services ss rest ds all.1 kept.1 in
-    let one = ap length (outboxes_more d ds end.0 end.1) in
+behind : {P E F : Type 0} (made : P → Planned) (own : WorkerEnd → List E) (other : WorkerEnd → List F)
+    (Run : P → Noted → E → Type 0) → LeavesOne made own other Run
+    → (ps : List P) (rest : List Planned) (done : List (Done WorkerEnd)) → AllZip Left (map made ps ++ rest) done
+    → HasNoRefusal done → Behind own other ps rest done
+behind made own other Run each [] rest done all kept = record {
+  front = [];
+  later = done;
+  whole = refl;
+  counted = refl;
+  all = all;
+  kept = kept;
+  owned = omega arith;
+  others = refl;
+}
+behind made own other Run each (x ∷ ps) rest [] all kept = absurd all
+behind {P} {E} {F} made own other Run each (x ∷ ps) rest (d ∷ ds) all kept =
+    let end = each x d.notes d.end all.0 kept.0 in
+    let below = behind made own other Run each ps rest ds all.1 kept.1 in
+    let one : length (all_left own (d ∷ ds)) ≡ length (end.left ∷ all_left own ds) =
+    ap (λ (es : List E). length (es ++ all_left own ds)) end.here in
     let before = below.counted in
-    let after = below.outboxes in
+    let after = below.owned in
     record {
       front = d ∷ below.front;
       later = below.later;
@@ -125,69 +160,8 @@ behind_services (x ∷ ss) rest (d ∷ ds) all kept =
       counted = omega (arith, before);
       all = below.all;
       kept = below.kept;
-      outboxes = omega (arith, one, after);
-      inboxes = ap (λ (e : WorkerEnd). inbox_of e ++ inboxes_of ds) end.1 ∙ below.inboxes;
-    }
-
--- ---- then come consumers
-
-record ConsumedAt (done : List (Done WorkerEnd)) (k : ℕ) (c : ConsumerPlan) : Type 0 where
-  one : Done WorkerEnd
-  left : InboxEnd
-  here : slice_get done k ≡ Some one
-  inbox : slice_get (inboxes_of done) k ≡ Some left
-  run : IsConsumption c one.notes left
-
-consumer_at : (cs : List ConsumerPlan) (rest : List Planned) (done : List (Done WorkerEnd)) → AllZip Left (map Consuming cs ++ rest) done → HasNoRefusal done → (k : ℕ) (c : ConsumerPlan) → slice_get cs k ≡ Some c → ConsumedAt done k c
-consumer_at [] rest done all kept k c is = absurd (cc)
-consumer_at (x ∷ cs) rest [] all kept k c is = absurd all
-consumer_at (x ∷ cs) rest (d ∷ ds) all kept zero c is =
-    let same : x ≡ c = cc in
-    let end = consumer_end x d.notes d.end all.0 kept.0 in
-    record {
-      one = d;
-      left = end.0;
-      here = refl;
-      inbox = ap (λ (os : List InboxEnd). slice_get os 0) (inboxes_more d ds end.0 end.1);
-      run = subst (λ (t : ConsumerPlan). IsConsumption t d.notes end.0) same end.2;
-    }
-consumer_at (x ∷ cs) rest (d ∷ ds) all kept (suc k) c is =
-    let end = consumer_end x d.notes d.end all.0 kept.0 in
-    let later = consumer_at cs rest ds all.1 kept.1 k c is in
-    record {
-      one = later.one;
-      left = later.left;
-      here = later.here;
-      inbox = ap (λ (os : List InboxEnd). slice_get os (suc k)) (inboxes_more d ds end.0 end.1) ∙ later.inbox;
-      run = later.run;
-    }
-
-record BehindConsumers (cs : List ConsumerPlan) (rest : List Planned) (done : List (Done WorkerEnd)) : Type 0 where
-  front : List (Done WorkerEnd)
-  later : List (Done WorkerEnd)
-  whole : done ≡ front ++ later
-  counted : length front ≡ length cs
-  all : AllZip Left rest later
-  outboxes : outboxes_of done ≡ outboxes_of later
-  inboxes : length (inboxes_of done) ≡ length cs + length (inboxes_of later)
-
-behind_consumers : (cs : List ConsumerPlan) (rest : List Planned) (done : List (Done WorkerEnd)) → AllZip Left (map Consuming cs ++ rest) done → HasNoRefusal done → BehindConsumers cs rest done
-behind_consumers [] rest done all kept = record { front = []; later = done; whole = refl; counted = refl; all = all; outboxes = refl; inboxes = omega arith }
-behind_consumers (x ∷ cs) rest [] all kept = absurd all
-behind_consumers (x ∷ cs) rest (d ∷ ds) all kept =
-    let end = consumer_end x d.notes d.end all.0 kept.0 in
-    let below = behind_consumers cs rest ds all.1 kept.1 in
-    let one = ap length (inboxes_more d ds end.0 end.1) in
-    let before = below.counted in
-    let after = below.inboxes in
-    record {
-      front = d ∷ below.front;
-      later = below.later;
-      whole = ap (λ (es : List (Done WorkerEnd)). d ∷ es) below.whole;
-      counted = omega (arith, before);
-      all = below.all;
-      outboxes = ap (λ (e : WorkerEnd). outbox_of e ++ outboxes_of ds) end.1 ∙ below.outboxes;
-      inboxes = omega (arith, one, after);
+      owned = omega (arith, one, after);
+      others = ap (λ (fs : List F). fs ++ all_left other ds) end.none ∙ below.others;
     }
 
 -- ---- and last administrators
@@ -258,13 +232,17 @@ pipeline_left opening plan end same left =
     let cs = plan.consumers.items in
     let ads = plan.administrators.items in
     let done = left.done in
-    let behind = behind_services ss (map Consuming cs ++ map Administering ads) done left.each left.unrefused in
-    let last = behind_consumers cs (map Administering ads) behind.later behind.all behind.kept in
+    let behind_services =
+    behind Serving outbox_of inbox_of IsServiceRun service_end ss (map Consuming cs ++ map Administering ads) done
+    left.each left.unrefused in
+    let last =
+    behind Consuming inbox_of outbox_of IsConsumption consumer_end cs (map Administering ads) behind_services.later
+    behind_services.all behind_services.kept in
     let none = leave_none ads last.later last.all in
     let outboxes_none = ap length none.outboxes in
     let inboxes_none = ap length none.inboxes in
-    let outboxes_behind = ap length last.outboxes in
-    let inboxes_all = ap length behind.inboxes in
+    let outboxes_behind = ap length last.others in
+    let inboxes_all = ap length behind_services.others in
     record {
       legal = subst (λ o. IsLegal o end.journal (state_of end.broker)) same left.legal;
       begins = left.begins;
@@ -275,39 +253,58 @@ pipeline_left opening plan end same left =
           ∙ (let a = length-map done (λ (d : Done WorkerEnd). d.notes) in
           let b = length_all_zip Left (planned_workers plan) done left.each in
           let c = planned_count ss cs ads in omega (arith, a, b, c));
-      outboxes = ap length left.outboxes ∙ (let a = behind.outboxes in omega (arith, a, outboxes_behind, outboxes_none));
-      inboxes = ap length left.inboxes ∙ inboxes_all ∙ (let a = last.inboxes in omega (arith, a, inboxes_none));
+      outboxes =
+          ap length left.outboxes
+          ∙ (let a = behind_services.owned in omega (arith, a, outboxes_behind, outboxes_none));
+      inboxes =
+          ap length left.inboxes ∙ inboxes_all ∙ (let a = last.owned in omega (arith, a, inboxes_none));
       services = λ k s is.
-          let at = service_at ss (map Consuming cs ++ map Administering ads) done left.each left.unrefused k s is in
+          let at =
+          left_at Serving outbox_of inbox_of IsServiceRun service_end ss (map Consuming cs ++ map Administering ads) done
+          left.each left.unrefused k s is in
           record {
             noted = at.one.notes;
             left = at.left;
-            transcript = transcript_at end.transcripts.items left.worker_0 done (k + 1) k at.one left.transcripts (omega arith) at.here;
-            outbox = ap (λ (os : List OutboxEnd). slice_get os k) left.outboxes ∙ at.outbox;
+            transcript =
+                transcript_at end.transcripts.items left.worker_0 done (k + 1) k at.one left.transcripts
+                (omega arith) at.here;
+            outbox = ap (λ (os : List OutboxEnd). slice_get os k) left.outboxes ∙ at.kept;
             run = at.run;
           };
       consumers = λ k c is.
-          let at = consumer_at cs (map Administering ads) behind.later behind.all behind.kept k c is in
-          let number = behind.counted in
-          let here = ap (λ (ds : List (Done WorkerEnd)). slice_get ds (length ss + k)) behind.whole ∙ at_behind behind.front behind.later (length ss + k) k (omega (arith, number)) ∙ at.here in
+          let at =
+          left_at Consuming inbox_of outbox_of IsConsumption consumer_end cs (map Administering ads)
+          behind_services.later behind_services.all behind_services.kept k c is in
+          let number = behind_services.counted in
+          let here =
+          ap (λ (ds : List (Done WorkerEnd)). slice_get ds (length ss + k)) behind_services.whole
+          ∙ at_behind behind_services.front behind_services.later (length ss + k) k (omega (arith, number))
+          ∙ at.here in
           record {
             noted = at.one.notes;
             left = at.left;
-            transcript = transcript_at end.transcripts.items left.worker_0 done (length ss + k + 1) (length ss + k) at.one left.transcripts (omega arith) here;
-            inbox = ap (λ (os : List InboxEnd). slice_get os k) (left.inboxes ∙ behind.inboxes) ∙ at.inbox;
+            transcript =
+                transcript_at end.transcripts.items left.worker_0 done (length ss + k + 1) (length ss + k) at.one
+                left.transcripts (omega arith) here;
+            inbox = ap (λ (os : List InboxEnd). slice_get os k) (left.inboxes ∙ behind_services.others) ∙ at.kept;
             run = at.run;
           };
       administrators = λ k s is.
           let at = administrator_at ads last.later last.all k s is in
-          let number = behind.counted in
+          let number = behind_services.counted in
           let also = last.counted in
           let n = length ss + length cs + k in
           let here =
-          ap (λ (ds : List (Done WorkerEnd)). slice_get ds n) behind.whole ∙ at_behind behind.front behind.later n (length cs + k) (omega (arith, number))
-          ∙ ap (λ (ds : List (Done WorkerEnd)). slice_get ds (length cs + k)) last.whole ∙ at_behind last.front last.later (length cs + k) k (omega (arith, also)) ∙ at.here in
+          ap (λ (ds : List (Done WorkerEnd)). slice_get ds n) behind_services.whole
+          ∙ at_behind behind_services.front behind_services.later n (length cs + k) (omega (arith, number))
+          ∙ ap (λ (ds : List (Done WorkerEnd)). slice_get ds (length cs + k)) last.whole
+          ∙ at_behind last.front last.later (length cs + k) k (omega (arith, also))
+          ∙ at.here in
           record {
             noted = at.one.notes;
-            transcript = transcript_at end.transcripts.items left.worker_0 done (length ss + length cs + k + 1) n at.one left.transcripts (omega arith) here;
+            transcript =
+                transcript_at end.transcripts.items left.worker_0 done (length ss + length cs + k + 1) n at.one
+                left.transcripts (omega arith) here;
             events = at.events;
           };
     }

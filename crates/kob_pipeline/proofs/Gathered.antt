@@ -1,6 +1,6 @@
 -- What workers left, one worker more at a time.
-use Rattle.std.proofs.Common.{◌≡◌, List, [], ◌∷◌, ◌++◌, length, map, refl, sym, ap, ◌∙◌, subst, append_assoc, append-nil}
-use Rattle.std.proofs.lemmas.List.{map-append}
+use Rattle.std.proofs.Common.{◌≡◌, List, [], ◌∷◌, ◌++◌, length, map, sym, ap, ◌∙◌}
+use Rattle.std.proofs.lemmas.List.{flat_map_more, map-append}
 use Rattle.kob_shared.specs.Fleets.{EachIsAnswered, IsAnswered}
 use Rattle.kob_shared.specs.Noted.{Noted}
 use Rattle.kob_shared.specs.Runs.{events_in, notes_of, told_in}
@@ -8,16 +8,7 @@ use Rattle.kob_shared.specs.declared.work.Done.{Done}
 use Rattle.kob_pipeline.specs.declared.end.InboxEnd.{InboxEnd}
 use Rattle.kob_pipeline.specs.declared.end.OutboxEnd.{OutboxEnd}
 use Rattle.kob_pipeline.specs.declared.end.WorkerEnd.{WorkerEnd}
-use Rattle.kob_pipeline.specs.declared.end.WorkerEnd.TheVariants.{Outbox, Inbox, Nothing}
 use Rattle.kob_pipeline.specs.Leavings.{HasNoRefusal, IsKeptByStore, inbox_of, inboxes_of, outbox_of, outboxes_of}
-
-pub outboxes_push : (done : List (Done WorkerEnd)) (one : Done WorkerEnd) → outboxes_of (done ++ one ∷ []) ≡ outboxes_of done ++ outbox_of one.end
-outboxes_push [] one = append-nil (outbox_of one.end)
-outboxes_push (d ∷ done) one = ap (λ (os : List OutboxEnd). outbox_of d.end ++ os) (outboxes_push done one) ∙ sym (append_assoc (outbox_of d.end) (outboxes_of done) (outbox_of one.end))
-
-pub inboxes_push : (done : List (Done WorkerEnd)) (one : Done WorkerEnd) → inboxes_of (done ++ one ∷ []) ≡ inboxes_of done ++ inbox_of one.end
-inboxes_push [] one = append-nil (inbox_of one.end)
-inboxes_push (d ∷ done) one = ap (λ (os : List InboxEnd). inbox_of d.end ++ os) (inboxes_push done one) ∙ sym (append_assoc (inbox_of d.end) (inboxes_of done) (inbox_of one.end))
 
 pub unrefused_push : (done : List (Done WorkerEnd)) (one : Done WorkerEnd) → HasNoRefusal done → IsKeptByStore one.end → HasNoRefusal (done ++ one ∷ [])
 unrefused_push [] one kept here = (here, tt)
@@ -47,25 +38,11 @@ pub gathers_more : (first : Noted) (done : List (Done WorkerEnd)) (one : Done Wo
 gathers_more first done one notes os ps is js was answered kept outbox inbox = record {
   transcripts = notes_push first done one notes was.transcripts;
   answered = answered_push notes one.notes was.answered answered;
-  outboxes = outbox ∙ ap (λ (xs : List OutboxEnd). xs ++ outbox_of one.end) was.outboxes ∙ sym (outboxes_push done one);
-  inboxes = inbox ∙ ap (λ (xs : List InboxEnd). xs ++ inbox_of one.end) was.inboxes ∙ sym (inboxes_push done one);
+  outboxes =
+      outbox ∙ ap (λ (xs : List OutboxEnd). xs ++ outbox_of one.end) was.outboxes
+      ∙ flat_map_more (λ (d : Done WorkerEnd). outbox_of d.end) [] done one;
+  inboxes =
+      inbox ∙ ap (λ (xs : List InboxEnd). xs ++ inbox_of one.end) was.inboxes
+      ∙ flat_map_more (λ (d : Done WorkerEnd). inbox_of d.end) [] done one;
   unrefused = unrefused_push done one was.unrefused kept;
 }
-
-pub gathers_outbox : (first : Noted) (done : List (Done WorkerEnd)) (one : Done WorkerEnd) (left : OutboxEnd) (notes : List Noted) (os ps : List OutboxEnd) (is : List InboxEnd) → Gathers first done notes os is
-    → IsAnswered (length one.notes.events) one.notes.told → one.end ≡ Outbox left → ps ≡ os ++ left ∷ [] → Gathers first (done ++ one ∷ []) (notes ++ one.notes ∷ []) ps is
-gathers_outbox first done one left notes os ps is was answered end pushed =
-    gathers_more first done one notes os ps is is was answered (subst IsKeptByStore (sym end) tt)
-    (pushed ∙ ap (λ (e : WorkerEnd). os ++ outbox_of e) (sym end)) (sym (append-nil is) ∙ ap (λ (e : WorkerEnd). is ++ inbox_of e) (sym end))
-
-pub gathers_inbox : (first : Noted) (done : List (Done WorkerEnd)) (one : Done WorkerEnd) (left : InboxEnd) (notes : List Noted) (os : List OutboxEnd) (is js : List InboxEnd) → Gathers first done notes os is
-    → IsAnswered (length one.notes.events) one.notes.told → one.end ≡ Inbox left → js ≡ is ++ left ∷ [] → Gathers first (done ++ one ∷ []) (notes ++ one.notes ∷ []) os js
-gathers_inbox first done one left notes os is js was answered end pushed =
-    gathers_more first done one notes os os is js was answered (subst IsKeptByStore (sym end) tt)
-    (sym (append-nil os) ∙ ap (λ (e : WorkerEnd). os ++ outbox_of e) (sym end)) (pushed ∙ ap (λ (e : WorkerEnd). is ++ inbox_of e) (sym end))
-
-pub gathers_nothing : (first : Noted) (done : List (Done WorkerEnd)) (one : Done WorkerEnd) (notes : List Noted) (os : List OutboxEnd) (is : List InboxEnd) → Gathers first done notes os is
-    → IsAnswered (length one.notes.events) one.notes.told → one.end ≡ Nothing → Gathers first (done ++ one ∷ []) (notes ++ one.notes ∷ []) os is
-gathers_nothing first done one notes os is was answered end =
-    gathers_more first done one notes os os is is was answered (subst IsKeptByStore (sym end) tt)
-    (sym (append-nil os) ∙ ap (λ (e : WorkerEnd). os ++ outbox_of e) (sym end)) (sym (append-nil is) ∙ ap (λ (e : WorkerEnd). is ++ inbox_of e) (sym end))

@@ -1,4 +1,5 @@
--- What the laws of delivery see of a broker's state, where each partition is the list of its batches.
+-- What the laws of delivery see of a broker's state, where each partition is the list of its
+-- batches.
 use Rattle.std.specs.Prelude.{List, [], Option, None, Some}
 use Rattle.kob_names.specs.declared.batch.Batch.{Batch}
 use Rattle.kob_names.specs.declared.settings.Settings.{Settings}
@@ -24,7 +25,8 @@ view_of s = record {
   next_producer = s.next_producer;
 }
 
--- the state of a broker that these settings open, over all accepted batches, after the journal's events
+-- the state of a broker that these settings open, over all accepted batches, after the journal's
+-- events
 abbrev pub plain_after : Settings → List Entry → State Plain
 plain_after settings journal =
     state_after plain_meaning (events_of journal) (open_state settings)

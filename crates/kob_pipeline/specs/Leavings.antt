@@ -1,6 +1,6 @@
 -- What workers left, by kinds.
-use Rattle.std.specs.Prelude.{List, [], ◌∷◌, ◌++◌}
-use Rattle.std.specs.List.{AllByRecursion}
+use Rattle.std.specs.Prelude.{List, [], ◌∷◌}
+use Rattle.std.specs.List.{AllByRecursion, flat_map}
 use Rattle.kob_shared.specs.declared.work.Done.{Done}
 use Rattle.kob_pipeline.specs.declared.end.InboxEnd.{InboxEnd}
 use Rattle.kob_pipeline.specs.declared.end.OutboxEnd.{OutboxEnd}
@@ -19,13 +19,11 @@ inbox_of end = []
 
 -- all outboxes, in the workers' order
 abbrev pub outboxes_of : List (Done WorkerEnd) → List OutboxEnd
-outboxes_of [] = []
-outboxes_of (one ∷ done) = outbox_of one.end ++ outboxes_of done
+outboxes_of done = flat_map (λ (one : Done WorkerEnd). outbox_of one.end) done
 
 -- all inboxes, in the workers' order
 abbrev pub inboxes_of : List (Done WorkerEnd) → List InboxEnd
-inboxes_of [] = []
-inboxes_of (one ∷ done) = inbox_of one.end ++ inboxes_of done
+inboxes_of done = flat_map (λ (one : Done WorkerEnd). inbox_of one.end) done
 
 -- the database of this worker did not refuse
 abbrev pub IsKeptByStore : WorkerEnd → Type 0

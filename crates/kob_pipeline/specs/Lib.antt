@@ -15,6 +15,7 @@ pub mod Faults
 pub mod Leavings
 pub mod Losses
 pub mod Pipelines
+pub mod Plans
 pub mod Services
 pub mod Steps
 pub mod Workers

@@ -10,8 +10,8 @@ use Rattle.kob_pipeline.specs.declared.plan.Service.{Service}
 use Rattle.kob_pipeline.specs.declared.plan.ServiceStep.{ServiceStep}
 use Rattle.kob_pipeline.specs.declared.plan.ServiceStep.TheVariants as steps
 
--- an outbox accepts the event after events with these ids: its texts fit, its id is a new one, and a
--- number is left
+-- an outbox accepts the event after events with these ids: its texts fit, its id is a new one, and
+-- a number is left
 abbrev pub is_accepted : List (List ℕ) → Change → OutboxEvent → Bool
 is_accepted ids change event =
     is_none (first_bad change event)

@@ -1,5 +1,8 @@
 //! Desks for the workers of a plan.
 
+ghost use Rattle.std.specs.Prelude.{◌≡◌, IfOk};
+ghost use Rattle.kob_shared.specs.Noted.{nothing};
+
 use kob_names::{Host, PlainValue, Principal};
 use kob_shared::{Desk, SharedBroker};
 use std::alloc::{AllocError, Global};
@@ -11,7 +14,17 @@ pub(crate) fn desk_at<'a>(
     worker: usize,
     principal: &Principal,
     host: &Host,
-) -> Result<Desk<'a>, AllocError> {
+) -> Result<Desk<'a>, AllocError>
+    ensures { IfOk result (λ desk. desk ≡ record {
+      seat = record {
+        worker = worker;
+        principal = principal.now;
+        host = host.now;
+        seen = 0;
+      };
+      noted = nothing;
+    }) }
+{
     let principal = principal.copy(alloc)?;
     let host = host.copy(alloc)?;
     Ok(Desk::open(alloc, shared.session(worker, principal, host)))

@@ -1,4 +1,5 @@
-//! Services, consumers and administrators that run at once over one broker, and what then reaches an inbox.
+//! Services, consumers and administrators that run at once over one broker, and what then reaches
+//! an inbox.
 #![tactic(auto)]
 
 mod consumer_worker;

@@ -1,7 +1,8 @@
 //! Pipelines.
 
-ghost use Rattle.std.specs.Prelude.{◌≡◌, ◌+◌, ◌<◌, ◌≤◌, ◌↔◌, ◌++◌, length, map, IfErr, IfOk, IsErrOf};
-ghost use Rattle.std.specs.List.{All, AllZip};
+ghost use Rattle.std.specs.Prelude.{◌≡◌, ◌+◌, ◌<◌, ◌≤◌, ◌↔◌, ◌++◌, length, map, IfErr, IfOk};
+ghost use Rattle.std.specs.Prelude.{IsErrOf};
+ghost use Rattle.std.specs.List.{AllZip};
 ghost use Rattle.kob_broker.specs.Change.{state_of};
 ghost use Rattle.kob_broker.specs.State.{settings_of};
 ghost use Rattle.kob_shared.specs.Fleets.{Follows};
@@ -10,6 +11,7 @@ ghost use Rattle.kob_shared.specs.Openings.{opened_by};
 ghost use Rattle.kob_pipeline.specs.Counts.{entries_planned, workers_planned};
 ghost use Rattle.kob_pipeline.specs.Faults.{IsLater, IsTornOnlyWhere, NamesWorkerWithin};
 ghost use Rattle.kob_pipeline.specs.Pipelines.{IsPipeline};
+ghost use Rattle.kob_pipeline.specs.Plans.{IsRunnable};
 ghost use Rattle.kob_pipeline.specs.Ends.{IsEnd};
 ghost use Rattle.kob_pipeline.specs.Workers.{IsLeft, planned_as};
 
@@ -31,6 +33,7 @@ use std::thread::Threads;
 /// Opens a broker with the plan's settings, serves the first events as worker 0, and then lets each
 /// service, consumer and administrator make its steps in a thread of its own, with a database of
 /// its own. The gate is asked before each request, also one that is lost, and once after the last.
+/// `Plan::is_runnable` tells whether a plan may be run.
 ///
 /// `TooManyWorkers` comes first, then `JournalFull`, both before anything begins. After any fault
 /// nothing is given back but what `Torn` holds.
@@ -40,11 +43,10 @@ pub fn pipeline<R: Threads + Wait + Sync, G: Gate + Sync>(
     plan: &Plan,
     gate: &G,
 ) -> Result<PipelineEnd, PipelineFault>
-    requires partitions { All (λ s. (1 ≤ s.target.partitions) × (s.target.partitions ≤ 1000))
-        plan.now.services.items }
-    requires few { length plan.now.settings.opening ≤ 100000 }
+    requires { IsRunnable plan.now }
     ensures ok { IfOk result (IsPipeline plan.now) }
-    ensures workers { IsErrOf result PipelineFault.TooManyWorkers ↔ (64 < workers_planned plan.now) }
+    ensures workers { IsErrOf result PipelineFault.TooManyWorkers
+        ↔ (64 < workers_planned plan.now) }
     ensures full { IsErrOf result PipelineFault.JournalFull
         ↔ ((workers_planned plan.now ≤ 64) × (1000000 < entries_planned plan.now)) }
     ensures torn { IfErr result (IsTornOnlyWhere (settings_of (opened_by plan.now.settings))) }
@@ -66,9 +68,7 @@ fn run_plan<R: Threads + Wait + Sync, G: Gate + Sync>(
     plan: &Plan,
     gate: &G,
 ) -> Result<PipelineEnd, PipelineFault>
-    requires partitions { All (λ s. (1 ≤ s.target.partitions) × (s.target.partitions ≤ 1000))
-        plan.now.services.items }
-    requires few { length plan.now.settings.opening ≤ 100000 }
+    requires runnable { IsRunnable plan.now }
     requires workers { workers_planned plan.now ≤ 64 }
     ensures ok { IfOk result (IsPipeline plan.now) }
     ensures torn { IfErr result (IsTornOnlyWhere (settings_of (opened_by plan.now.settings))) }

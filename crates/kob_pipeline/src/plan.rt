@@ -1,5 +1,8 @@
 //! Plans: who takes part in a pipeline, and what each does.
 
+ghost use Rattle.std.specs.Prelude.{◌↔◌, IsTrue};
+ghost use Rattle.kob_pipeline.specs.Plans.{IsRunnable};
+
 use kob_broker::Settings;
 use kob_inbox::Subscription;
 use kob_names::{Host, Items, Principal};
@@ -72,4 +75,18 @@ pub struct Plan {
     pub services: Vec<Service>,
     pub consumers: Vec<ConsumerPlan>,
     pub administrators: Vec<Script>,
+}
+
+impl Plan {
+    /// Whether `pipeline` may be called with the plan.
+    pub fn is_runnable(&self) -> bool
+        ensures { IsTrue result ↔ IsRunnable self.now }
+    {
+        for service in &self.services {
+            if service.target.partitions < 1 || service.target.partitions > 1_000 {
+                return false;
+            }
+        }
+        self.settings.opening.len() <= 100_000
+    }
 }
