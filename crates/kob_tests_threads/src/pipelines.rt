@@ -1,8 +1,5 @@
 //! Pipelines: what reaches an inbox, also where calls are lost, workers restart and rights go.
 
-ghost use Rattle.std.specs.Prelude.{◌≤◌, IsTrue, length};
-ghost use Rattle.std.specs.List.{All};
-
 use crate::gates::{Hold, Holding, Open};
 use crate::plans::{Act, Cast, plan, sweeping};
 use kob_broker::Broker;
@@ -22,20 +19,6 @@ const TICK: Act = Act::Tick(Loss::None);
 
 const STEP: ConsumerStep = ConsumerStep::Tick(Loss::None);
 
-/// Whether a plan meets the conditions of the call.
-fn is_runnable(plan: &Plan) -> bool
-    ensures partitions { IsTrue result → All (λ s. (1 ≤ s.target.partitions)
-        × (s.target.partitions ≤ 1000)) plan.now.services.items }
-    ensures few { IsTrue result → length plan.now.settings.opening ≤ 100000 }
-{
-    for service in &plan.services {
-        if service.target.partitions < 1 || service.target.partitions > 1_000 {
-            return false;
-        }
-    }
-    plan.settings.opening.len() <= 100_000
-}
-
 /// Runs a plan. None where it is none that may be run.
 fn run<R: Threads + Wait + Sync, G: Gate + Sync>(
     rt: &R,
@@ -43,7 +26,7 @@ fn run<R: Threads + Wait + Sync, G: Gate + Sync>(
     plan: &Plan,
     gate: &G,
 ) -> Option<Result<PipelineEnd, PipelineFault>> {
-    if !is_runnable(plan) {
+    if !plan.is_runnable() {
         return None;
     }
     Some(pipeline(rt, alloc, plan, gate))
