@@ -1,6 +1,6 @@
 //! An event's whole way: services record events, their routers send them, consumers take them in,
-//! while calls are lost, a router starts again, and an administrator takes a right away and gives it
-//! back.
+//! while calls are lost, a router starts again, and an administrator takes a right away and gives
+//! it back.
 #![tactic(auto)]
 
 mod bindings;
@@ -12,13 +12,13 @@ mod steps;
 
 use crate::fault::ExampleFault;
 use crate::order::Order;
-use crate::plan::{is_runnable, plan_of};
+use crate::plan::plan_of;
 use crate::report::report;
 use kob_pipeline::pipeline;
 
 fn main(rt: HostRuntime) -> Result<(), ExampleFault> {
     let plan = plan_of(rt.alloc())?;
-    if !is_runnable(&plan) {
+    if !plan.is_runnable() {
         return Err(ExampleFault::BadPlan);
     }
     let order = Order::new();

@@ -1,8 +1,5 @@
 //! Who takes part.
 
-ghost use Rattle.std.specs.Prelude.{◌≡◌, ◌≤◌, IsTrue, length};
-ghost use Rattle.std.specs.List.{All};
-
 use crate::bindings::{opening, restoration, revocation};
 use crate::fault::ExampleFault;
 use crate::steps::{of_orders, of_payments};
@@ -171,18 +168,4 @@ pub(crate) fn plan_of(alloc: Global) -> Result<Plan, ExampleFault> {
         consumers,
         administrators,
     })
-}
-
-/// Whether a plan meets the conditions of `pipeline`.
-pub(crate) fn is_runnable(plan: &Plan) -> bool
-    ensures partitions { IsTrue result → All (λ s. (1 ≤ s.target.partitions)
-        × (s.target.partitions ≤ 1000)) plan.now.services.items }
-    ensures few { IsTrue result → length plan.now.settings.opening ≤ 100000 }
-{
-    for service in &plan.services {
-        if service.target.partitions < 1 || service.target.partitions > 1_000 {
-            return false;
-        }
-    }
-    plan.settings.opening.len() <= 100_000
 }

@@ -1,7 +1,6 @@
 //! Pipelines: what reaches an inbox, also where calls are lost, workers restart and rights go.
 
-ghost use Rattle.std.specs.Prelude.{◌≤◌, IfOk, IfSome, IsTrue, length};
-ghost use Rattle.std.specs.List.{All};
+ghost use Rattle.std.specs.Prelude.{IfOk, IfSome};
 ghost use Rattle.kob_pipeline.specs.Pipelines.{IsPipeline};
 
 use crate::gates::{Hold, Holding, Open};
@@ -18,20 +17,6 @@ pub(crate) const TICK: Act = Act::Tick(Loss::None);
 
 pub(crate) const STEP: ConsumerStep = ConsumerStep::Tick(Loss::None);
 
-/// Whether a plan meets the conditions of the call.
-fn is_runnable(plan: &Plan) -> bool
-    ensures partitions { IsTrue result → All (λ s. (1 ≤ s.target.partitions)
-        × (s.target.partitions ≤ 1000)) plan.now.services.items }
-    ensures few { IsTrue result → length plan.now.settings.opening ≤ 100000 }
-{
-    for service in &plan.services {
-        if service.target.partitions < 1 || service.target.partitions > 1_000 {
-            return false;
-        }
-    }
-    plan.settings.opening.len() <= 100_000
-}
-
 /// Runs a plan. None where it is none that may be run.
 fn run<R: Threads + Wait + Sync, G: Gate + Sync>(
     rt: &R,
@@ -41,7 +26,7 @@ fn run<R: Threads + Wait + Sync, G: Gate + Sync>(
 ) -> Option<Result<PipelineEnd, PipelineFault>>
     ensures { IfSome result (λ ran. IfOk ran (IsPipeline plan.now)) }
 {
-    if !is_runnable(plan) {
+    if !plan.is_runnable() {
         return None;
     }
     Some(pipeline(rt, alloc, plan, gate))

@@ -1,7 +1,0 @@
-use Rattle.std.proofs.Common.{◌≤◌, take}
-use Rattle.std.specs.List.{All}
-use Rattle.kob_example.proofs.plan.is_runnable.Given as goal
-
-abbrev pub invariant-loop-service : goal.invariant-loop-service
-invariant-loop-service l =
-    All (λ s. (1 ≤ s.target.partitions) × (s.target.partitions ≤ 1000)) (take l.service-index l.plan.services.items)
