@@ -257,7 +257,8 @@ module _ (t : Subscription) (q : Place) where
       (committed_in s v arrived asked body heard count d.2
       (ap (λ (y : Place). standing (cursor_of s.cursors y)) d.1 ∙ d.3) d.4 hears k)
   taking_served s v w arrived place (Fetch asked) (Done body) heard count d hears step k =
-      taking_shown (after_answer t s (Fetch asked) heard count) v w (arrived ++ taken_by (Fetch asked) heard count) step.1
+      taking_shown (after_answer t s (Fetch asked) heard count) v w
+      (arrived ++ taken_by (Fetch asked) heard count) step.1
       (elim hears [
         | inl e ↦ taking_silent s v arrived (Fetch asked) heard count (heard_none heard e) k
         | inr e ↦ fetched_in s v arrived asked body heard count d.1

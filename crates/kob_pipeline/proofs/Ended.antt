@@ -19,26 +19,34 @@ use Rattle.kob_pipeline.specs.Ends.{IsEnd}
 use Rattle.kob_pipeline.specs.Leavings.{HasNoRefusal, inboxes_of, outboxes_of}
 use Rattle.kob_pipeline.specs.Workers.{IsLeft, Planned, planned_as}
 
-all_planned : (workers : List Worker) (done : List (Done WorkerEnd)) → AllZip (λ w d. IsLeft (planned_as w) d.notes d.end) workers done → AllZip (λ w d. IsLeft w d.notes d.end) (map planned_as workers) done
+all_planned : (workers : List Worker) (done : List (Done WorkerEnd))
+    → AllZip (λ w d. IsLeft (planned_as w) d.notes d.end) workers done
+    → AllZip (λ w d. IsLeft w d.notes d.end) (map planned_as workers) done
 all_planned [] [] all = tt
 all_planned [] (d ∷ done) all = absurd all
 all_planned (w ∷ workers) [] all = absurd all
 all_planned (w ∷ workers) (d ∷ done) all = (all.0, all_planned workers done all.1)
 
 -- the journal is what was noted
-pub ended : (opening : Settings) (first : Noted) (workers : List Worker) (done : List (Done WorkerEnd)) (found : Record) (end : PipelineEnd)
-    → IsLegal (opened_by found.opening) found.journal found.broker → (found.opening ≡ opening) × IsAsNoted (notes_of first done) found → Follows 0 first.told
+pub ended : (opening : Settings) (first : Noted) (workers : List Worker) (done : List (Done WorkerEnd))
+    (found : Record) (end : PipelineEnd)
+    → IsLegal (opened_by found.opening) found.journal found.broker
+    → (found.opening ≡ opening) × IsAsNoted (notes_of first done) found → Follows 0 first.told
     → AllZip (λ w d. IsLeft (planned_as w) d.notes d.end) workers done → HasNoRefusal done
     → EachIsAnswered (events_in end.transcripts.items) (told_in end.transcripts.items)
     → state_of end.broker ≡ found.broker → end.journal ≡ found.journal → end.transcripts.items ≡ notes_of first done
-    → end.outboxes.items ≡ outboxes_of done → end.inboxes.items ≡ inboxes_of done → IsEnd opening first.events (map planned_as workers) end
-ended opening first workers done found end legal kept follows each unrefused answered broker journal transcripts outboxes inboxes =
+    → end.outboxes.items ≡ outboxes_of done → end.inboxes.items ≡ inboxes_of done
+    → IsEnd opening first.events (map planned_as workers) end
+ended opening first workers done found end legal kept follows each unrefused answered broker journal transcripts
+    outboxes inboxes =
     let notes = notes_of first done in
     let each_answered = subst (λ (ns : List Noted). EachIsAnswered (events_in ns) (told_in ns)) transcripts answered in
-    let here : IsKept (events_in notes) (told_in notes) end.journal = subst (λ (h : List Entry). IsKept (events_in notes) (told_in notes) h) (sym journal) kept.1 in
+    let here : IsKept (events_in notes) (told_in notes) end.journal =
+    subst (λ (h : List Entry). IsKept (events_in notes) (told_in notes) h) (sym journal) kept.1 in
     record {
       legal = subst (λ s. IsLegal (opened_by opening) end.journal s) (sym broker)
-          (subst (λ (h : List Entry). IsLegal (opened_by opening) h found.broker) (sym journal) (subst (λ o. IsLegal (opened_by o) found.journal found.broker) kept.0 legal));
+          (subst (λ (h : List Entry). IsLegal (opened_by opening) h found.broker) (sym journal)
+          (subst (λ o. IsLegal (opened_by o) found.journal found.broker) kept.0 legal));
       begins = begins_with first.events first.told end.journal (each_answered.0).counted follows
           (here.mine 0 (omega arith));
       answered = answered;
@@ -53,7 +61,11 @@ ended opening first workers done found end legal kept follows each unrefused ans
     }
 
 -- it is not
-pub torn : (opening : Settings) (first : Noted) (done : List (Done WorkerEnd)) (found : Record) (d : Difference) (notes : List Noted) → IsTear opening (notes_of first done) found d → notes ≡ notes_of first done
-    → DifferAt d.worker found.journal (claims_of (events_in notes) (told_in notes) d.worker) d.place ⊎ ((d.worker ≡ 0) × (found.opening ≢ opening))
+pub torn : (opening : Settings) (first : Noted) (done : List (Done WorkerEnd)) (found : Record) (d : Difference)
+    (notes : List Noted) → IsTear opening (notes_of first done) found d → notes ≡ notes_of first done
+    → DifferAt d.worker found.journal (claims_of (events_in notes) (told_in notes) d.worker) d.place
+    ⊎ ((d.worker ≡ 0) × (found.opening ≢ opening))
 torn opening first done found d notes tear same =
-    subst (λ (ns : List Noted). DifferAt d.worker found.journal (claims_of (events_in ns) (told_in ns) d.worker) d.place ⊎ ((d.worker ≡ 0) × (found.opening ≢ opening))) (sym same) tear
+    subst (λ (ns : List Noted). DifferAt d.worker found.journal
+    (claims_of (events_in ns) (told_in ns) d.worker) d.place ⊎ ((d.worker ≡ 0) × (found.opening ≢ opening)))
+    (sym same) tear

@@ -171,7 +171,8 @@ record AdministeredAt (done : List (Done WorkerEnd)) (k : ℕ) (s : Script) : Ty
   here : slice_get done k ≡ Some one
   events : one.notes.events ≡ events_of_script s
 
-administrator_at : (ss : List Script) (done : List (Done WorkerEnd)) → AllZip Left (map Administering ss) done → (k : ℕ) (s : Script) → slice_get ss k ≡ Some s → AdministeredAt done k s
+administrator_at : (ss : List Script) (done : List (Done WorkerEnd)) → AllZip Left (map Administering ss) done
+    → (k : ℕ) (s : Script) → slice_get ss k ≡ Some s → AdministeredAt done k s
 administrator_at [] done all k s is = absurd (cc)
 administrator_at (x ∷ ss) [] all k s is = absurd all
 administrator_at (x ∷ ss) (d ∷ ds) all zero s is =
@@ -186,7 +187,8 @@ record LeaveNone (done : List (Done WorkerEnd)) : Type 0 where
   outboxes : outboxes_of done ≡ []
   inboxes : inboxes_of done ≡ []
 
-leave_none : (ss : List Script) (done : List (Done WorkerEnd)) → AllZip Left (map Administering ss) done → LeaveNone done
+leave_none : (ss : List Script) (done : List (Done WorkerEnd)) → AllZip Left (map Administering ss) done
+    → LeaveNone done
 leave_none [] [] all = record { outboxes = refl; inboxes = refl }
 leave_none [] (d ∷ ds) all = absurd all
 leave_none (x ∷ ss) [] all = absurd all
@@ -200,19 +202,27 @@ leave_none (x ∷ ss) (d ∷ ds) all =
 
 -- ---- by numbers
 
-at_behind : {A : Type 0} (front later : List A) (m k : ℕ) → m ≡ length front + k → slice_get (front ++ later) m ≡ slice_get later k
+at_behind : {A : Type 0} (front later : List A) (m k : ℕ) → m ≡ length front + k
+    → slice_get (front ++ later) m ≡ slice_get later k
 at_behind [] later m k is = ap (slice_get later) (omega (arith, is))
 at_behind (x ∷ front) later zero k is = absurd (omega (arith, is))
 at_behind (x ∷ front) later (suc m) k is = at_behind front later m k (omega (arith, is))
 
-note_at : (first : Noted) (done : List (Done WorkerEnd)) (k : ℕ) (one : Done WorkerEnd) → slice_get done k ≡ Some one → slice_get (notes_of first done) (suc k) ≡ Some one.notes
-note_at first done k one is = slice_get-map (λ (d : Done WorkerEnd). d.notes) done k ∙ ap (option_map (λ (d : Done WorkerEnd). d.notes)) is
+note_at : (first : Noted) (done : List (Done WorkerEnd)) (k : ℕ) (one : Done WorkerEnd) → slice_get done k ≡ Some one
+    → slice_get (notes_of first done) (suc k) ≡ Some one.notes
+note_at first done k one is =
+    slice_get-map (λ (d : Done WorkerEnd). d.notes) done k ∙ ap (option_map (λ (d : Done WorkerEnd). d.notes)) is
 
 -- the transcript of the worker behind so many others
-transcript_at : (notes : List Noted) (first : Noted) (done : List (Done WorkerEnd)) (worker k : ℕ) (one : Done WorkerEnd) → notes ≡ notes_of first done → worker ≡ suc k → slice_get done k ≡ Some one → slice_get notes worker ≡ Some one.notes
-transcript_at notes first done worker k one same number is = ap (λ (ns : List Noted). slice_get ns worker) same ∙ ap (slice_get (notes_of first done)) number ∙ note_at first done k one is
+transcript_at : (notes : List Noted) (first : Noted) (done : List (Done WorkerEnd)) (worker k : ℕ)
+    (one : Done WorkerEnd) → notes ≡ notes_of first done → worker ≡ suc k → slice_get done k ≡ Some one
+    → slice_get notes worker ≡ Some one.notes
+transcript_at notes first done worker k one same number is =
+    ap (λ (ns : List Noted). slice_get ns worker) same ∙ ap (slice_get (notes_of first done)) number
+    ∙ note_at first done k one is
 
-planned_count : (ss : List Service) (cs : List ConsumerPlan) (ads : List Script) → length (map Serving ss ++ (map Consuming cs ++ map Administering ads)) ≡ length ss + length cs + length ads
+planned_count : (ss : List Service) (cs : List ConsumerPlan) (ads : List Script)
+    → length (map Serving ss ++ (map Consuming cs ++ map Administering ads)) ≡ length ss + length cs + length ads
 planned_count ss cs ads =
     let a = length-map ss Serving in
     let b = length-map cs Consuming in
@@ -221,12 +231,16 @@ planned_count ss cs ads =
     let e = length-append (map Consuming cs) (map Administering ads) in omega (arith, a, b, c, d, e)
 
 -- how many workers there are
-pub workers_counted : (plan : Plan) (workers : List Worker) → map planned_as workers ≡ planned_workers plan → length workers ≡ workers_planned plan
+pub workers_counted : (plan : Plan) (workers : List Worker) → map planned_as workers ≡ planned_workers plan
+    → length workers ≡ workers_planned plan
 workers_counted plan workers same =
-    sym (length-map workers planned_as) ∙ ap length same ∙ planned_count plan.services.items plan.consumers.items plan.administrators.items
+    sym (length-map workers planned_as) ∙ ap length same
+    ∙ planned_count plan.services.items plan.consumers.items plan.administrators.items
 
 -- what each worker left by its number, from what all left
-pub pipeline_left : (opening : Settings) (plan : Plan) (end : PipelineEnd) → opened_by opening ≡ opened_by plan.settings → IsEnd opening plan.first (planned_workers plan) end → IsPipeline plan end
+pub pipeline_left : (opening : Settings) (plan : Plan) (end : PipelineEnd)
+    → opened_by opening ≡ opened_by plan.settings → IsEnd opening plan.first (planned_workers plan) end
+    → IsPipeline plan end
 pipeline_left opening plan end same left =
     let ss = plan.services.items in
     let cs = plan.consumers.items in
@@ -260,7 +274,8 @@ pipeline_left opening plan end same left =
           ap length left.inboxes ∙ inboxes_all ∙ (let a = last.owned in omega (arith, a, inboxes_none));
       services = λ k s is.
           let at =
-          left_at Serving outbox_of inbox_of IsServiceRun service_end ss (map Consuming cs ++ map Administering ads) done
+          left_at Serving outbox_of inbox_of IsServiceRun service_end ss
+          (map Consuming cs ++ map Administering ads) done
           left.each left.unrefused k s is in
           record {
             noted = at.one.notes;
@@ -310,8 +325,11 @@ pipeline_left opening plan end same left =
     }
 
 -- the same, from what the parts of the call say
-pub pipeline_ended : (opening : Settings) (plan : Plan) (events : List Event) (planned : List Planned) (end : PipelineEnd) → opening ≡ settings_of (opened_by plan.settings) → events ≡ plan.first → planned ≡ planned_workers plan
+pub pipeline_ended : (opening : Settings) (plan : Plan) (events : List Event) (planned : List Planned)
+    (end : PipelineEnd) → opening ≡ settings_of (opened_by plan.settings) → events ≡ plan.first
+    → planned ≡ planned_workers plan
     → IsEnd opening events planned end → IsPipeline plan end
 pipeline_ended opening plan events planned end stored first workers left =
     pipeline_left opening plan end (ap opened_by stored ∙ sym (opened_again plan.settings))
-    (subst (λ (ws : List Planned). IsEnd opening plan.first ws end) workers (subst (λ (es : List Event). IsEnd opening es planned end) first left))
+    (subst (λ (ws : List Planned). IsEnd opening plan.first ws end) workers
+    (subst (λ (es : List Event). IsEnd opening es planned end) first left))

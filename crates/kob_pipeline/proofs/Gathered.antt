@@ -10,21 +10,26 @@ use Rattle.kob_pipeline.specs.declared.end.OutboxEnd.{OutboxEnd}
 use Rattle.kob_pipeline.specs.declared.end.WorkerEnd.{WorkerEnd}
 use Rattle.kob_pipeline.specs.Leavings.{HasNoRefusal, IsKeptByStore, inbox_of, inboxes_of, outbox_of, outboxes_of}
 
-pub unrefused_push : (done : List (Done WorkerEnd)) (one : Done WorkerEnd) → HasNoRefusal done → IsKeptByStore one.end → HasNoRefusal (done ++ one ∷ [])
+pub unrefused_push : (done : List (Done WorkerEnd)) (one : Done WorkerEnd) → HasNoRefusal done → IsKeptByStore one.end
+    → HasNoRefusal (done ++ one ∷ [])
 unrefused_push [] one kept here = (here, tt)
 unrefused_push (d ∷ done) one kept here = (kept.0, unrefused_push done one kept.1 here)
 
-pub notes_push : (first : Noted) (done : List (Done WorkerEnd)) (one : Done WorkerEnd) (notes : List Noted) → notes ≡ notes_of first done → notes ++ one.notes ∷ [] ≡ notes_of first (done ++ one ∷ [])
+pub notes_push : (first : Noted) (done : List (Done WorkerEnd)) (one : Done WorkerEnd) (notes : List Noted)
+    → notes ≡ notes_of first done → notes ++ one.notes ∷ [] ≡ notes_of first (done ++ one ∷ [])
 notes_push first done one notes same =
     ap (λ (ns : List Noted). ns ++ one.notes ∷ []) same
     ∙ ap (λ (ns : List Noted). first ∷ ns) (sym (map-append (λ (d : Done WorkerEnd). d.notes) done (one ∷ [])))
 
-pub answered_push : (notes : List Noted) (one : Noted) → EachIsAnswered (events_in notes) (told_in notes) → IsAnswered (length one.events) one.told → EachIsAnswered (events_in (notes ++ one ∷ [])) (told_in (notes ++ one ∷ []))
+pub answered_push : (notes : List Noted) (one : Noted) → EachIsAnswered (events_in notes) (told_in notes)
+    → IsAnswered (length one.events) one.told
+    → EachIsAnswered (events_in (notes ++ one ∷ [])) (told_in (notes ++ one ∷ []))
 answered_push [] one each here = (here, tt)
 answered_push (n ∷ notes) one each here = (each.0, answered_push notes one each.1 here)
 
 -- what was gathered of the workers so far
-pub record Gathers (first : Noted) (done : List (Done WorkerEnd)) (notes : List Noted) (os : List OutboxEnd) (is : List InboxEnd) : Type 0 where
+pub record Gathers (first : Noted) (done : List (Done WorkerEnd)) (notes : List Noted) (os : List OutboxEnd)
+    (is : List InboxEnd) : Type 0 where
   pub transcripts : notes ≡ notes_of first done
   pub answered : EachIsAnswered (events_in notes) (told_in notes)
   pub outboxes : os ≡ outboxes_of done
@@ -32,8 +37,10 @@ pub record Gathers (first : Noted) (done : List (Done WorkerEnd)) (notes : List 
   pub unrefused : HasNoRefusal done
 
 -- one worker more
-pub gathers_more : (first : Noted) (done : List (Done WorkerEnd)) (one : Done WorkerEnd) (notes : List Noted) (os ps : List OutboxEnd) (is js : List InboxEnd) → Gathers first done notes os is
-    → IsAnswered (length one.notes.events) one.notes.told → IsKeptByStore one.end → ps ≡ os ++ outbox_of one.end → js ≡ is ++ inbox_of one.end
+pub gathers_more : (first : Noted) (done : List (Done WorkerEnd)) (one : Done WorkerEnd) (notes : List Noted)
+    (os ps : List OutboxEnd) (is js : List InboxEnd) → Gathers first done notes os is
+    → IsAnswered (length one.notes.events) one.notes.told → IsKeptByStore one.end → ps ≡ os ++ outbox_of one.end
+    → js ≡ is ++ inbox_of one.end
     → Gathers first (done ++ one ∷ []) (notes ++ one.notes ∷ []) ps js
 gathers_more first done one notes os ps is js was answered kept outbox inbox = record {
   transcripts = notes_push first done one notes was.transcripts;

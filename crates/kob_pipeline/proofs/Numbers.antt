@@ -19,19 +19,23 @@ numbered_push : (events : List Event) (e : Event) → IsNumbered events → 0 < 
 numbered_push [] e is positive = (positive, tt)
 numbered_push (x ∷ events) e is positive = (is.0, numbered_push events e is.1 positive)
 
-kept_or_not : (b : Bool) (e : Event) (events : List Event) → 0 < e.seq → IsNumbered events → IsNumbered (cond b (e ∷ events) events)
+kept_or_not : (b : Bool) (e : Event) (events : List Event) → 0 < e.seq → IsNumbered events
+    → IsNumbered (cond b (e ∷ events) events)
 kept_or_not true e events here is = (here, is)
 kept_or_not false e events here is = is
 
 numbered_filter : (test : Event → Bool) (events : List Event) → IsNumbered events → IsNumbered (filter test events)
 numbered_filter test [] is = tt
-numbered_filter test (e ∷ events) is = kept_or_not (test e) e (filter test events) is.0 (numbered_filter test events is.1)
+numbered_filter test (e ∷ events) is =
+    kept_or_not (test e) e (filter test events) is.0 (numbered_filter test events is.1)
 
-advanced_numbered : (s : State) (hand : Option Hand) → IsNumbered s.outbox.events → IsNumbered (after_acknowledgement s hand).outbox.events
+advanced_numbered : (s : State) (hand : Option Hand) → IsNumbered s.outbox.events
+    → IsNumbered (after_acknowledgement s hand).outbox.events
 advanced_numbered s None is = is
 advanced_numbered s (Some hand) is = is
 
-called_numbered : (s : State) (call : _) (marks : Bool) → IsNumbered s.outbox.events → IsNumbered (after s (Called call marks)).outbox.events
+called_numbered : (s : State) (call : _) (marks : Bool) → IsNumbered s.outbox.events
+    → IsNumbered (after s (Called call marks)).outbox.events
 called_numbered s call true is = advanced_numbered s s.hand is
 called_numbered s call false is = is
 
@@ -43,9 +47,11 @@ move_numbered s Restarted is = is
 move_numbered s (Took hand) is = is
 move_numbered s (Called call marks) is = called_numbered s call marks is
 
-pub run_numbered : (route : Dispatching) (moves : List Move) (old new : State) → IsRouterRun route old moves new → IsNumbered old.outbox.events → IsNumbered new.outbox.events
+pub run_numbered : (route : Dispatching) (moves : List Move) (old new : State) → IsRouterRun route old moves new
+    → IsNumbered old.outbox.events → IsNumbered new.outbox.events
 run_numbered route [] old new run is = subst (λ (s : State). IsNumbered s.outbox.events) (sym run) is
-run_numbered route (move ∷ moves) old new run is = run_numbered route moves (after old move) new run.1 (move_numbered old move is)
+run_numbered route (move ∷ moves) old new run is =
+    run_numbered route moves (after old move) new run.1 (move_numbered old move is)
 
 -- none is left out
 pub all_later : (events : List Event) → IsNumbered events → later_than 0 events ≡ events

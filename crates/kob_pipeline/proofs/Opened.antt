@@ -11,7 +11,8 @@ use Rattle.kob_authorizer.specs.declared.fault.CreateFault.TheVariants.{TooMany,
 use Rattle.kob_authorizer.proofs.InTurn.{fault_by_count}
 use Rattle.kob_names.specs.Binding.{Binding}
 
-one_more : (known : Bool) (fresh : List Binding) (b : Binding) → length (cond known fresh (fresh ++ b ∷ [])) ≤ length fresh + 1
+one_more : (known : Bool) (fresh : List Binding) (b : Binding)
+    → length (cond known fresh (fresh ++ b ∷ [])) ≤ length fresh + 1
 one_more true fresh b = omega arith
 one_more false fresh b = let e = length-append fresh (b ∷ []) in omega (arith, e)
 
@@ -28,9 +29,11 @@ not_too_many false is = cc
 few_pass : (count next : ℕ) → count ≤ 100000 → limit_fault count next ≡ Some TooMany → ⊥
 few_pass count next few is =
     not_too_many (ltb serial_limit next)
-    (sym (cond-false (ltb 100000 count) (Some TooMany) (cond (ltb serial_limit next) (Some SerialsSpent) None) (le-ltb 100000 count few)) ∙ is)
+    (sym (cond-false (ltb 100000 count) (Some TooMany) (cond (ltb serial_limit next) (Some SerialsSpent) None)
+    (le-ltb 100000 count few)) ∙ is)
 
 pub few_open : (bs : List Binding) → length bs ≤ 100000 → create_fault [] 1 bs ≡ Some TooMany → ⊥
 few_open bs few is =
     let count = few_new [] bs in
-    few_pass (0 + length (new_bindings [] bs)) (1 + length (new_bindings [] bs)) (omega (arith, count, few)) (sym (fault_by_count [] 1 bs) ∙ is)
+    few_pass (0 + length (new_bindings [] bs)) (1 + length (new_bindings [] bs)) (omega (arith, count, few))
+    (sym (fault_by_count [] 1 bs) ∙ is)

@@ -28,7 +28,8 @@ named_stopped count (Stale worker length) named = named
 named_stopped count (Full worker) named = named
 
 -- a fleet of no more workers names one of them
-pub named_fleet : (low high : ℕ) (s : FleetStop) → low ≤ high → IsNamedWithin low s → NamesWorkerWithin high (as_fault s)
+pub named_fleet : (low high : ℕ) (s : FleetStop) → low ≤ high → IsNamedWithin low s
+    → NamesWorkerWithin high (as_fault s)
 named_fleet low high s less named = named_stopped high s (fleets.named_more low high s less named)
 
 -- memory and the store name no worker, and are no tear

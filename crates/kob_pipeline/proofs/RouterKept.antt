@@ -154,7 +154,8 @@ module _ (route : Dispatching) (q : Place) where
         sent = k.sent;
         ahead = k.ahead;
         rest = k.rest ++ row ∷ [];
-        kept = subst (λ (w : List Event). IsKept (rows ++ row ∷ []) (after_record s.outbox change event) k.sent w) (sym e)
+        kept = subst (λ (w : List Event). IsKept (rows ++ row ∷ []) (after_record s.outbox change event) k.sent w)
+            (sym e)
             (kept_recorded rows s.outbox k.sent wait change event k.kept may);
         tells = all_last (TellsItsId route) rows row k.tells (tells (next_seq s.outbox) event);
         holds = subst (λ (w : List Event). InHand route s.hand w) (sym e) (in_hand_more route s.hand wait row k.holds);

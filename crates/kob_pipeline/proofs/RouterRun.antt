@@ -35,7 +35,8 @@ use Rattle.kob_pipeline.proofs.RouterServed.{KeptIn, heard_none, kept_after_no_a
 pub same_events : (moves : List Move) (c d : Contents) → c.ids ≡ d.ids → events_of c moves ≡ events_of d moves
 same_events [] c d e = refl
 same_events (Recorded change event ∷ moves) c d e =
-    ap (λ (ids : List (List ℕ)). stored_event (suc (length ids)) event ∷ events_of (after_record c change event) moves) e
+    ap (λ (ids : List (List ℕ)). stored_event (suc (length ids)) event ∷ events_of (after_record c change event) moves)
+    e
     ∙ ap (λ (es : List Event). stored_event (next_seq d) event ∷ es)
     (same_events moves (after_record c change event) (after_record d change event)
     (ap (λ (ids : List (List ℕ)). ids ++ id_text event.id ∷ []) e))

@@ -72,7 +72,8 @@ given_by_produce old asked (Some (Denied code verdicts)) = refl
 given_by_produce old asked (Some (Refused code reason)) = refl
 given_by_produce old asked (Some (Done body)) = refl
 
-given_unheard : (old : Option Producer) (heard : Option Reply) → NotDone heard → producer_after old InitProducerId heard ≡ old
+given_unheard : (old : Option Producer) (heard : Option Reply) → NotDone heard
+    → producer_after old InitProducerId heard ≡ old
 given_unheard old None n = refl
 given_unheard old (Some (Denied code verdicts)) n = refl
 given_unheard old (Some (Refused code reason)) n = refl
@@ -213,7 +214,8 @@ module _ (route : Dispatching) (q : Place) where
       same_producer rows s v (producer_after s.producer InitProducerId heard) (given_unheard s.producer heard n) k
   kept_after_no_answer rows s v (Produce asked) heard true may n k = absurd (not_both heard n (may.1 refl))
   kept_after_no_answer rows s v (Produce asked) heard false may n k =
-      same_producer rows s v (producer_after s.producer (Produce asked) heard) (given_by_produce s.producer asked heard) k
+      same_producer rows s v (producer_after s.producer (Produce asked) heard)
+      (given_by_produce s.producer asked heard) k
   kept_after_no_answer rows s v _ heard marks may n k = absurd may
 
   -- an INIT_PRODUCER_ID that was answered
@@ -227,7 +229,8 @@ module _ (route : Dispatching) (q : Place) where
   given_id rows s v body heard none is (inr e) k =
       let p : Producer = record { id = v.next_producer; epoch = 0 } in
       let known : producer_after s.producer InitProducerId heard ≡ Some p =
-      ap (producer_after s.producer InitProducerId) e ∙ ap (λ (b : Body). producer_after s.producer InitProducerId (Some (Done b))) is in
+      ap (producer_after s.producer InitProducerId) e
+      ∙ ap (λ (b : Body). producer_after s.producer InitProducerId (Some (Done b))) is in
       let k' : KeptIn route q rows (holding_id s None) v = subst
       (λ (o : Option Producer). KeptIn route q rows (holding_id s o) v) none k in
       subst (λ (o : Option Producer). KeptIn route q rows (holding_id s o) (with_producer v)) (sym known)

@@ -85,7 +85,8 @@ module _ (route : Dispatching) (q : Place) where
       × IsLogged route q rows log next (sent_batch ++ r ∷ [])
   sent_one rows c log next r sent_batch None rest k f l w =
       let at = first_is rest r f in
-      let logged : IsLogged route q rows log next sent = subst (IsLogged route q rows log next) (append-nil sent_batch) l in (
+      let logged : IsLogged route q rows log next sent =
+      subst (IsLogged route q rows log next) (append-nil sent_batch) l in (
         at.0,
         kept_marked rows c sent_batch at.0 r (subst (IsKept rows c sent_batch) at.1 k),
         elim w [ inl e ↦ logged_elsewhere route q rows log next sent_batch r e logged | inr e ↦ absurd cc ],
@@ -136,7 +137,8 @@ module _ (route : Dispatching) (q : Place) where
   log_more rows c log next r x b sent_batch None rest tail k w l at is =
       let new : list_any (bytes_eq r.id) (ids_of sent_batch) ≡ false =
       first_is_new rows c sent_batch tail r (subst (IsKept rows c sent_batch) w k) in
-      logged_first route q rows log next sent_batch r b x (subst (IsLogged route q rows log next) (append-nil sent_batch) l) at is
+      logged_first route q rows log next sent_batch r b x
+      (subst (IsLogged route q rows log next) (append-nil sent_batch) l) at is
       new
   log_more rows c log next r x b sent_batch (Some y) rest tail k w l at is =
       let e : y ≡ r = cc in

@@ -95,7 +95,8 @@ same_base n base l p None num h =
 judged_same : (p : Producer) (base : ℕ) (x : Sent) (xs : List Sent) (n : ℕ) (l : Sent)
     → slice_get (x ∷ xs) (length xs) ≡ Some l
     → l.epoch ≡ p.epoch
-    → judge (x ∷ xs) (idem_of p base) 1 ≡ judge_same (find (is_same (idem_of p base) 1) (keep_last memory_length (x ∷ xs)))
+    → judge (x ∷ xs) (idem_of p base) 1 ≡ judge_same
+    (find (is_same (idem_of p base) 1) (keep_last memory_length (x ∷ xs)))
     base l
 judged_same p base x xs n l at same =
     let here : length (x ∷ xs) - 1 ≡ length xs = omega arith in
@@ -180,7 +181,8 @@ history_last_from id start (c ∷ log) b =
     )
 
 pub history_last : (p : Producer) (log : List Batch) (base : ℕ) (message : Record)
-    → (offset : ℕ) × (history p.id (log ++ batch_of p base message ∷ []) ≡ history p.id log ++ sent_batch (idem_of p base) 1
+    → (offset : ℕ) × (history p.id (log ++ batch_of p base message ∷ [])
+    ≡ history p.id log ++ sent_batch (idem_of p base) 1
     offset ∷ [])
 history_last p log base message =
     let r = history_last_from p.id 0 log (batch_of p base message) in
@@ -212,7 +214,8 @@ no_history id next l log h = go 0 log h
         (not_its id next start (length b.records) l b.idem h.0)
         ∙ go (start + length b.records) log h.1
 
-pub sequence_used_here : (ss : List Sequence) (q : Place) → sequence_of (after_use ss q) q ≡ next_sequence (sequence_of ss q)
+pub sequence_used_here : (ss : List Sequence) (q : Place)
+    → sequence_of (after_use ss q) q ≡ next_sequence (sequence_of ss q)
 sequence_used_here [] q = rw (same_here q) refl
 sequence_used_here (s ∷ ss) q =
     elim (cases_Bool (same_place s.place q)) [

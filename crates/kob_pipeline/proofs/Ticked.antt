@@ -22,13 +22,18 @@ use Rattle.kob_pipeline.specs.Consumers as consuming
 use Rattle.kob_pipeline.specs.Steps.{Leads, standing}
 
 -- the calls behind those that were made before
-fresh_calls : (before now these fresh : List Call) → fresh ≡ drop (length before) now → now ≡ before ++ these → fresh ≡ these
-fresh_calls before now these fresh cut made = cut ∙ ap (drop (length before)) made ∙ drop_at before these (length before) refl
+fresh_calls : (before now these fresh : List Call) → fresh ≡ drop (length before) now → now ≡ before ++ these
+    → fresh ≡ these
+fresh_calls before now these fresh cut made =
+    cut ∙ ap (drop (length before)) made ∙ drop_at before these (length before) refl
 
-pub service_ticks : (route : Dispatching) (old new : routers.State) (before now fresh : List Call) (u v : ℕ) (tick : Tick) (loss : Loss) (ls ms : List Loss)
-    → router_ticks.Ticks router_ticks.IsOneTick route (record { state = old; calls = before; unmade = u }) (record { state = new; calls = now; unmade = v }) tick
+pub service_ticks : (route : Dispatching) (old new : routers.State) (before now fresh : List Call) (u v : ℕ)
+    (tick : Tick) (loss : Loss) (ls ms : List Loss)
+    → router_ticks.Ticks router_ticks.IsOneTick route (record { state = old; calls = before; unmade = u })
+    (record { state = new; calls = now; unmade = v }) tick
     → u ≡ 0 → v ≡ 0 → services.GoesOn tick → fresh ≡ drop (length before) now → ms ≡ ls ++ losses_of loss fresh
-    → Leads (services.IsServiceStep route) routers.calls_of (standing old before ls) (service_steps.Tick loss) (standing new now ms)
+    → Leads (services.IsServiceStep route) routers.calls_of (standing old before ls) (service_steps.Tick loss)
+    (standing new now ms)
 service_ticks route old new before now fresh u v tick loss ls ms t none also go cut lost = record {
   moves = t.moves;
   losses = losses_of loss fresh;
@@ -39,7 +44,9 @@ service_ticks route old new before now fresh u v tick loss ls ms t none also go 
       few = t.few;
       tick = tick;
       goes_on = go;
-      answer = subst (λ n. router_ticks.IsAnswer route tick t.moves new n 0) none (subst (λ n. router_ticks.IsAnswer route tick t.moves new u n) also t.answer);
+      answer =
+          subst (λ n. router_ticks.IsAnswer route tick t.moves new n 0) none
+          (subst (λ n. router_ticks.IsAnswer route tick t.moves new u n) also t.answer);
       lost = ap (losses_of loss) (fresh_calls before now (routers.calls_of t.moves) fresh cut t.calls);
     };
   };
@@ -47,10 +54,13 @@ service_ticks route old new before now fresh u v tick loss ls ms t none also go 
   lost = lost;
 }
 
-pub consumer_ticks_on : (t : Subscription) (old new : consumers.State) (before now fresh : List Call) (u v : ℕ) (tick : heard.Tick) (loss : Loss) (ls ms : List Loss)
-    → consumer_ticks.Ticks t (record { state = old; calls = before; unmade = u }) (record { state = new; calls = now; unmade = v }) tick
+pub consumer_ticks_on : (t : Subscription) (old new : consumers.State) (before now fresh : List Call) (u v : ℕ)
+    (tick : heard.Tick) (loss : Loss) (ls ms : List Loss)
+    → consumer_ticks.Ticks t (record { state = old; calls = before; unmade = u })
+    (record { state = new; calls = now; unmade = v }) tick
     → u ≡ 0 → v ≡ 0 → consuming.GoesOn tick → fresh ≡ drop (length before) now → ms ≡ ls ++ losses_of loss fresh
-    → Leads (consuming.IsConsumerStep t) consumers.calls_of (standing old before ls) (consumer_steps.Tick loss) (standing new now ms)
+    → Leads (consuming.IsConsumerStep t) consumers.calls_of (standing old before ls) (consumer_steps.Tick loss)
+    (standing new now ms)
 consumer_ticks_on t old new before now fresh u v tick loss ls ms k none also go cut lost = record {
   moves = k.moves;
   losses = losses_of loss fresh;

@@ -30,21 +30,27 @@ use Rattle.kob_pipeline.proofs.Stepping.{steps_run}
 use Rattle.kob_pipeline.proofs.Ticked.{served_by_loss}
 
 -- the steps of a service are a router's run
-service_run : (route : Dispatching) (old new : routers.State) (steps : List ServiceStep) (moves : List routers.Move) (ls : List Loss) → Steps (IsServiceStep route) old steps moves ls new → routers.IsRouterRun route old moves new
+service_run : (route : Dispatching) (old new : routers.State) (steps : List ServiceStep) (moves : List routers.Move)
+    (ls : List Loss) → Steps (IsServiceStep route) old steps moves ls new → routers.IsRouterRun route old moves new
 service_run route old new steps moves ls all =
-    steps_run (IsServiceStep route) (routers.IsRouterRun route) (λ s t same. same) (λ a b c xs ys one two. run_append route xs ys a b c one two)
+    steps_run (IsServiceStep route) (routers.IsRouterRun route) (λ s t same. same)
+    (λ a b c xs ys one two. run_append route xs ys a b c one two)
     (λ a t xs ms b done. done.run) old new steps moves ls all
 
 -- the steps of a consumer are a consumer's run
-consumer_run : (t : Subscription) (old new : consumers.State) (steps : List ConsumerStep) (moves : List consumers.Move) (ls : List Loss) → Steps (IsConsumerStep t) old steps moves ls new → consumers.IsConsumerRun t old moves new
+consumer_run : (t : Subscription) (old new : consumers.State) (steps : List ConsumerStep) (moves : List consumers.Move)
+    (ls : List Loss) → Steps (IsConsumerStep t) old steps moves ls new → consumers.IsConsumerRun t old moves new
 consumer_run t old new steps moves ls all =
-    steps_run (IsConsumerStep t) (consumers.IsConsumerRun t) (λ s u same. same) (λ a b c xs ys one two. consumer_run_append t xs ys a b c one two)
+    steps_run (IsConsumerStep t) (consumers.IsConsumerRun t) (λ s u same. same)
+    (λ a b c xs ys one two. consumer_run_append t xs ys a b c one two)
     (λ a u xs ms b done. done.run) old new steps moves ls all
 
-pub service_run_of : (s : Service) (noted : Noted) (left : OutboxEnd) (calls : List Call) (ls : List Loss) → IsOutboxLeft s calls ls left → AreServedByLoss ls calls (served_by_notes noted.events noted.told)
+pub service_run_of : (s : Service) (noted : Noted) (left : OutboxEnd) (calls : List Call) (ls : List Loss)
+    → IsOutboxLeft s calls ls left → AreServedByLoss ls calls (served_by_notes noted.events noted.told)
     → All (λ e. (e.principal ≡ s.principal) × (e.host ≡ s.host)) noted.events → IsServiceRun s noted left
 service_run_of s noted left calls ls is told own =
-    let lost = subst (λ (cs : List Call). AreServedByLoss ls cs (served_by_notes noted.events noted.told)) is.made told in
+    let lost =
+    subst (λ (cs : List Call). AreServedByLoss ls cs (served_by_notes noted.events noted.told)) is.made told in
     record {
       moves = is.moves;
       losses = ls;
@@ -58,10 +64,12 @@ service_run_of s noted left calls ls is told own =
       mark = is.mark;
     }
 
-pub consumption_of : (c : ConsumerPlan) (noted : Noted) (left : InboxEnd) (calls : List Call) (ls : List Loss) → IsInboxLeft c calls ls left → AreServedByLoss ls calls (served_by_notes noted.events noted.told)
+pub consumption_of : (c : ConsumerPlan) (noted : Noted) (left : InboxEnd) (calls : List Call) (ls : List Loss)
+    → IsInboxLeft c calls ls left → AreServedByLoss ls calls (served_by_notes noted.events noted.told)
     → All (λ e. (e.principal ≡ c.principal) × (e.host ≡ c.host)) noted.events → IsConsumption c noted left
 consumption_of c noted left calls ls is told own =
-    let lost = subst (λ (cs : List Call). AreServedByLoss ls cs (served_by_notes noted.events noted.told)) is.made told in
+    let lost =
+    subst (λ (cs : List Call). AreServedByLoss ls cs (served_by_notes noted.events noted.told)) is.made told in
     record {
       moves = is.moves;
       losses = ls;
@@ -79,15 +87,19 @@ behind_none : {A : Type 0} (before now these : List A) → before ≡ [] → now
 behind_none before now these none is = is ∙ ap (λ xs. xs ++ these) none
 
 -- what the steps of a service leave, from nothing on
-pub outbox_left : (s : Service) (begun new : routers.State) (before now : List Call) (ls ms fs : List Loss) (left : OutboxEnd) → begun ≡ routers.start → before ≡ [] → ls ≡ [] → fs ≡ ms
-    → Leads (Steps (IsServiceStep (dispatch_of s.target))) routers.calls_of (standing begun before ls) s.steps.items (standing new now ms)
-    → map stored_row left.rows.items ≡ later_than 0 new.outbox.events → left.mark ≡ new.outbox.mark → IsOutboxLeft s now fs left
+pub outbox_left : (s : Service) (begun new : routers.State) (before now : List Call) (ls ms fs : List Loss)
+    (left : OutboxEnd) → begun ≡ routers.start → before ≡ [] → ls ≡ [] → fs ≡ ms
+    → Leads (Steps (IsServiceStep (dispatch_of s.target))) routers.calls_of (standing begun before ls) s.steps.items
+    (standing new now ms)
+    → map stored_row left.rows.items ≡ later_than 0 new.outbox.events → left.mark ≡ new.outbox.mark
+    → IsOutboxLeft s now fs left
 outbox_left s begun new before now ls ms fs left start none unlost same leads rows mark =
     let route = dispatch_of s.target in
     let lost : leads.losses ≡ fs = sym (same ∙ behind_none ls ms leads.losses unlost leads.lost) in
     let steps : Steps (IsServiceStep route) routers.start s.steps.items leads.moves fs new =
     subst (λ (xs : List Loss). Steps (IsServiceStep route) routers.start s.steps.items leads.moves xs new) lost
-    (subst (λ (b : routers.State). Steps (IsServiceStep route) b s.steps.items leads.moves leads.losses new) start leads.done) in
+    (subst (λ (b : routers.State). Steps (IsServiceStep route) b s.steps.items leads.moves leads.losses new) start
+    leads.done) in
     let run = service_run route routers.start new s.steps.items leads.moves fs steps in
     record {
       moves = leads.moves;
@@ -99,8 +111,10 @@ outbox_left s begun new before now ls ms fs left start none unlost same leads ro
     }
 
 -- what the steps of a consumer leave, from nothing on
-pub inbox_left : (c : ConsumerPlan) (begun new : consumers.State) (before now : List Call) (ls ms fs : List Loss) (left : InboxEnd) → begun ≡ consumers.start → before ≡ [] → ls ≡ [] → fs ≡ ms
-    → Leads (Steps (IsConsumerStep c.subscription)) consumers.calls_of (standing begun before ls) c.steps.items (standing new now ms)
+pub inbox_left : (c : ConsumerPlan) (begun new : consumers.State) (before now : List Call) (ls ms fs : List Loss)
+    (left : InboxEnd) → begun ≡ consumers.start → before ≡ [] → ls ≡ [] → fs ≡ ms
+    → Leads (Steps (IsConsumerStep c.subscription)) consumers.calls_of (standing begun before ls) c.steps.items
+    (standing new now ms)
     → map placed_intake left.rows.items ≡ enumerate_from 1 new.inbox → IsInboxLeft c now fs left
 inbox_left c begun new before now ls ms fs left start none unlost same leads rows =
     let t = c.subscription in
@@ -110,17 +124,20 @@ inbox_left c begun new before now ls ms fs left start none unlost same leads row
       state = new;
       steps =
           subst (λ (xs : List Loss). Steps (IsConsumerStep t) consumers.start c.steps.items leads.moves xs new) lost
-          (subst (λ (b : consumers.State). Steps (IsConsumerStep t) b c.steps.items leads.moves leads.losses new) start leads.done);
+          (subst (λ (b : consumers.State). Steps (IsConsumerStep t) b c.steps.items leads.moves leads.losses new) start
+          leads.done);
       made = behind_none before now (consumers.calls_of leads.moves) none leads.calls;
       rows = rows;
     }
 
 -- what three facts of a result give together
-pub if_ok_three : {V E : Type 0} (P Q R S : V → Type 0) (r : Result V E) → ((v : V) → P v → Q v → R v → S v) → IfOk r P → IfOk r Q → IfOk r R → IfOk r S
+pub if_ok_three : {V E : Type 0} (P Q R S : V → Type 0) (r : Result V E) → ((v : V) → P v → Q v → R v → S v) → IfOk r P
+    → IfOk r Q → IfOk r R → IfOk r S
 if_ok_three P Q R S (Ok v) all p q r = all v p q r
 if_ok_three P Q R S (Err e) all p q r = tt
 
 -- the same of two
-pub if_ok_two : {V E : Type 0} (P Q S : V → Type 0) (r : Result V E) → ((v : V) → P v → Q v → S v) → IfOk r P → IfOk r Q → IfOk r S
+pub if_ok_two : {V E : Type 0} (P Q S : V → Type 0) (r : Result V E) → ((v : V) → P v → Q v → S v) → IfOk r P
+    → IfOk r Q → IfOk r S
 if_ok_two P Q S (Ok v) all p q = all v p q
 if_ok_two P Q S (Err e) all p q = tt

@@ -25,8 +25,8 @@ fn writes_at<R: Wait>(
     Ok(receipt.place == place)
 }
 
-/// Worker 1 creates the topic, and then workers 2 and 1 write in turn: whether they are told the places one after
-/// another.
+/// Worker 1 creates the topic, and then workers 2 and 1 write in turn: whether they are told the
+/// places one after another.
 fn take_turns<R: Wait>(
     rt: &R,
     alloc: Global,
@@ -50,7 +50,8 @@ fn write_in_turn<R: Wait>(rt: &R, alloc: Global, shared: &SharedBroker) -> Resul
     take_turns(rt, alloc, &mut first, &mut second)
 }
 
-/// Whether the entry at a place is the one that was due there: the topic's creation, and then the offsets in order.
+/// Whether the entry at a place is the one that was due there: the topic's creation, and then the
+/// offsets in order.
 fn is_due(place: usize, entry: &Entry) -> bool {
     let answered = match place.checked_sub(1) {
         None => matches!(&entry.reply, Reply::Done(Body::Created)),

@@ -30,7 +30,8 @@ fn both(alloc: Global) -> Result<Vec<Script>, Fail> {
     Ok(scripts)
 }
 
-/// Four PRODUCE requests of `User:svc`, and one DELETE_ACLS of `User:root` where the gate lets it in.
+/// Four PRODUCE requests of `User:svc`, and one DELETE_ACLS of `User:root` where the gate lets it
+/// in.
 fn revoke_at<R: Threads + Wait + Sync>(
     rt: &R,
     alloc: Global,
@@ -42,8 +43,8 @@ fn revoke_at<R: Threads + Wait + Sync>(
     run(rt, opening, first, scripts, gate, alloc)
 }
 
-/// Whether the reply to the service's request at a place from 0 is due, if its right goes before the request of this
-/// number.
+/// Whether the reply to the service's request at a place from 0 is due, if its right goes before
+/// the request of this number.
 fn is_due(reply: &Reply, place: usize, is_before: bool) -> bool {
     if is_before {
         offset_of(reply) == Some(place as u64)
@@ -80,7 +81,8 @@ fn is_revoked(end: &FleetEnd, number: usize) -> bool {
     }
 }
 
-/// Whether the right is gone from the service's request of this number on, if the gate lets the revocation in there.
+/// Whether the right is gone from the service's request of this number on, if the gate lets the
+/// revocation in there.
 fn ends_revoked<R: Threads + Wait + Sync>(
     rt: &R,
     alloc: Global,
@@ -93,7 +95,8 @@ fn ends_revoked<R: Threads + Wait + Sync>(
     Ok(revoked)
 }
 
-/// Whether a right that is revoked before the service's request of this number, from 1, is gone from there on.
+/// Whether a right that is revoked before the service's request of this number, from 1, is gone
+/// from there on.
 fn is_gone_from<R: Threads + Wait + Sync>(
     rt: &R,
     alloc: Global,

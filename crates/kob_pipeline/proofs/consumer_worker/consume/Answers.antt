@@ -11,5 +11,6 @@ returns-in_ok-notes-in-Ok g c =
     let calls = c.leave.new.line.calls.items in
     let told = c.in_ok-notes-in-Ok.ensures in
     consumption_of c.args.consumer.now notes c.in-Ok.left calls c.in-Ok.losses.items c.in-Ok.ensures
-    (subst (λ (ls : List Loss). AreServedByLoss ls calls (served_by_notes notes.events notes.told)) c.deref.ensures.value told.served)
+    (subst (λ (ls : List Loss). AreServedByLoss ls calls (served_by_notes notes.events notes.told))
+    c.deref.ensures.value told.served)
     told.own

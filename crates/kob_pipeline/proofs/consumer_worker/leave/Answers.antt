@@ -24,11 +24,17 @@ returns g c =
     let old = standing (state_of at_first.consumer at_first.inbox) before at_first.losses.items in
     let new = standing (state_of at_last.consumer at_last.inbox) now at_last.losses.items in
     let leads : Leads (Steps (IsConsumerStep consumer.subscription)) calls_of old consumer.steps.items new =
-    subst (λ (t : Subscription). Leads (Steps (IsConsumerStep t)) calls_of old consumer.steps.items new) opened.subscription
-    (subst (λ (steps : List ConsumerStep). Leads (Steps (IsConsumerStep at_first.consumer.subscription)) calls_of old steps new) c.deref.ensures.value c.in_ok-run.ensures) in
-    if_ok_two (λ (left : InboxEnd × Vec Loss _). map placed_intake left.0.rows.items ≡ enumerate_from 1 at_last.inbox) (λ (left : InboxEnd × Vec Loss _). left.1.items ≡ at_last.losses.items)
+    subst (λ (t : Subscription). Leads (Steps (IsConsumerStep t)) calls_of old consumer.steps.items new)
+    opened.subscription
+    (subst (λ (steps : List ConsumerStep). Leads
+    (Steps (IsConsumerStep at_first.consumer.subscription)) calls_of old steps new) c.deref.ensures.value
+    c.in_ok-run.ensures) in
+    if_ok_two (λ (left : InboxEnd × Vec Loss _). map placed_intake left.0.rows.items ≡ enumerate_from 1 at_last.inbox)
+    (λ (left : InboxEnd × Vec Loss _). left.1.items ≡ at_last.losses.items)
     (λ (left : InboxEnd × Vec Loss _). IsInboxLeft consumer now left.1.items left.0) c.close.result
     (λ left rows lost.
-    inbox_left consumer (state_of at_first.consumer at_first.inbox) (state_of at_last.consumer at_last.inbox) before now at_first.losses.items at_last.losses.items left.1.items left.0
+    inbox_left consumer (state_of at_first.consumer at_first.inbox)
+    (state_of at_last.consumer at_last.inbox) before now at_first.losses.items at_last.losses.items left.1.items
+    left.0
     opened.state c.requires.calls opened.losses lost leads rows)
     c.close.ensures.rows c.close.ensures.losses

@@ -5,10 +5,13 @@ use Rattle.kob_pipeline.proofs.losses.note_losses.Goals as goal
 
 pub loop-call-preserved : goal.loop-call-preserved
 loop-call-preserved c =
-    losses_push c.loop-call.losses.items _ (c.args.losses.now.items ++ losses_of c.args.loss c.args.calls.now) c.loop-call.next c.args.calls.now c.loop-call._call-index
+    losses_push c.loop-call.losses.items _
+    (c.args.losses.now.items ++ losses_of c.args.loss c.args.calls.now) c.loop-call.next c.args.calls.now
+    c.loop-call._call-index
     (omega arith) c.in_ok-push.ensures.items c.loop-call.invariant
 
 pub returns : goal.returns
 returns c =
-    losses_all c.loop-call.losses.items (c.args.losses.now.items ++ losses_of c.args.loss c.args.calls.now) c.loop-call.next c.args.calls.now c.loop-call._call-index
+    losses_all c.loop-call.losses.items (c.args.losses.now.items ++ losses_of c.args.loss c.args.calls.now)
+    c.loop-call.next c.args.calls.now c.loop-call._call-index
     (omega arith) c.loop-call.invariant

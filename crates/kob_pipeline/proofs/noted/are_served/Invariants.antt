@@ -7,5 +7,6 @@ use Rattle.kob_pipeline.proofs.noted.are_served.Given as goal
 abbrev pub invariant-loop-k : goal.invariant-loop-k
 invariant-loop-k l =
     (l.next ≤ length l.events)
-    × (AreServedByLoss (drop l.k l.losses) (drop l.k l.calls) (served_by_notes (drop l.next l.events) (drop l.next l.told))
+    × (AreServedByLoss (drop l.k l.losses) (drop l.k l.calls)
+    (served_by_notes (drop l.next l.events) (drop l.next l.told))
     → AreServedByLoss l.losses l.calls (served_by_notes l.events l.told))

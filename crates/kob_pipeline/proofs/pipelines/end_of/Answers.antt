@@ -7,9 +7,11 @@ returns-clause-ok c =
     let parts = c.into_parts-broker.ensures in
     let left = c.in_ok-transcripts.ensures in
     ended c.args.opening.now ran.first c.args.workers.now ran.done.items ran.found _ c.requires.sound.legal
-    c.in_default.ensures c.requires.first c.requires.each left.stores left.answered parts.broker parts.journal left.transcripts left.outboxes left.inboxes
+    c.in_default.ensures c.requires.first c.requires.each left.stores left.answered parts.broker parts.journal
+    left.transcripts left.outboxes left.inboxes
 
 pub returns-in-Some-clause-torn : goal.returns-in-Some-clause-torn
 returns-in-Some-clause-torn c =
     let ran = c.args.ran in
-    torn c.args.opening.now ran.first ran.done.items ran.found c.in-Some.difference c.in_ok-transcripts.field-0.transcripts.items c.in-Some.ensures c.in_ok-transcripts.ensures.transcripts
+    torn c.args.opening.now ran.first ran.done.items ran.found c.in-Some.difference
+    c.in_ok-transcripts.field-0.transcripts.items c.in-Some.ensures c.in_ok-transcripts.ensures.transcripts

@@ -14,7 +14,8 @@ returns-in_err-ran-clause-named g c =
     let plan = c.args.plan.now in
     let count = workers_counted plan c.in_ok-workers.workers.items c.in_ok-workers.ensures in
     let same = ap length c.deref.ensures.value in
-    rw (given.1, given.2) (named_fleet (length c.deref.result.now) (workers_planned plan) _ (omega (arith, count, same)) c.in_err-ran.ensures.named)
+    rw (given.1, given.2) (named_fleet (length c.deref.result.now) (workers_planned plan) _
+    (omega (arith, count, same)) c.in_err-ran.ensures.named)
 
 pub returns-clause-ok : goal.returns-clause-ok
 returns-clause-ok g c =
@@ -24,6 +25,7 @@ returns-clause-ok g c =
     let planned = map planned_as c.deref-2.result.now in
     IfOk-weaker c.end_of.result (IsEnd opening events planned) (IsPipeline plan)
     (λ end is.
-    pipeline_ended opening plan events planned end c.in_ok-broker.ensures.opening (c.in_ok-ran.ensures.first.0 ∙ c.in_ok-broker.ensures.first)
+    pipeline_ended opening plan events planned end c.in_ok-broker.ensures.opening
+    (c.in_ok-ran.ensures.first.0 ∙ c.in_ok-broker.ensures.first)
     (ap (map planned_as) c.deref-2.ensures.value ∙ c.in_ok-workers.ensures) is)
     c.end_of.ensures.ok

@@ -9,4 +9,5 @@ pub returns-clause-rows : goal.returns-clause-rows
 returns-clause-rows c =
     let rows = c.in_ok-rows.rows in
     let many = length-map rows.items stored_row in
-    whole_read (map stored_row rows.items) (later_than 0 c.args.outbox.now.events) 4294967295 c.in_ok-rows.ensures.rows (omega (arith, many, c.if-len.false, c.len.ensures, rows.ok.0))
+    whole_read (map stored_row rows.items) (later_than 0 c.args.outbox.now.events) 4294967295 c.in_ok-rows.ensures.rows
+    (omega (arith, many, c.if-len.false, c.len.ensures, rows.ok.0))

@@ -7,7 +7,9 @@ abbrev pub invariant-loop-service : goal.invariant-loop-service
 invariant-loop-service l = map planned_as l.workers.items ≡ map Serving (take l.service-index l.plan.services.items)
 
 abbrev pub invariant-loop-consumer : goal.invariant-loop-consumer
-invariant-loop-consumer l = map planned_as l.workers.items ≡ map Serving l.plan.services.items ++ map Consuming (take l.consumer-index l.plan.consumers.items)
+invariant-loop-consumer l =
+    map planned_as l.workers.items ≡ map Serving l.plan.services.items
+    ++ map Consuming (take l.consumer-index l.plan.consumers.items)
 
 abbrev pub invariant-loop-script : goal.invariant-loop-script
 invariant-loop-script l =

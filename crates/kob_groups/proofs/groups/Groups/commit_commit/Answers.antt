@@ -26,7 +26,8 @@ returns-in-None c =
     let inserted = rw c.unwrap.ensures at c.insert.ensures.entries in
     ap (seen commits_in)
     (inserted
-    ∙ ap (λ (m : IndexMap _ _ _). insert_entry same_text m.entries made.place.group final) c.get_mut.follows.holds-at-none)
+    ∙ ap (λ (m : IndexMap _ _ _). insert_entry same_text m.entries made.place.group final)
+    c.get_mut.follows.holds-at-none)
     ∙ seen_changed commits_in same_text entries made.place.group made.commits made.commits final []
     (with_offset made.place.topic made.place.partition made.offset) c.put-in-None.ensures
     (sym (ap (λ o. unwrap_or o made.commits) absent))

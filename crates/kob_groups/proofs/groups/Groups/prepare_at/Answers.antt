@@ -48,7 +48,8 @@ returns-in_ok-offsets-in-None-clause-ready c =
     let no_topics = ap (lookup (same_text topic)) c.in_ok-commits-in-None.ensures.empty in record {
       groups = subst (λ m. 0 < spare m) (sym c.get_mut.follows.holds-at-none) c.in_ok-reserve.ensures.ok;
       topics = subst (λ o. 0 < spare (unwrap_or o fresh).by_topic) (sym absent) c.in_ok-commits-in-None.ensures.room;
-      offsets = subst (λ o. 0 < spare (unwrap_or (get same_text (unwrap_or o fresh).by_topic topic) offsets)) (sym absent)
+      offsets =
+          subst (λ o. 0 < spare (unwrap_or (get same_text (unwrap_or o fresh).by_topic topic) offsets)) (sym absent)
           (subst (λ o. 0 < spare (unwrap_or o offsets)) (sym no_topics) c.in_ok-offsets-in-None.ensures.spare);
       no_commits = c.in_ok-commits-in-None.ensures.empty;
       no_offsets = c.in_ok-offsets-in-None.ensures.empty;

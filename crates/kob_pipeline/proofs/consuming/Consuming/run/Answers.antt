@@ -20,12 +20,17 @@ loop-step-preserved g c =
     let t = first.consumer.subscription in
     let old = standing (state_of first.consumer first.inbox) c.args.line.now.calls.items first.losses.items in
     let mid = standing (state_of was.self.consumer was.self.inbox) was.line.calls.items was.self.losses.items in
-    let new = standing (state_of c.step.new.self.consumer c.step.new.self.inbox) c.step.new.line.calls.items c.step.new.self.losses.items in
+    let new =
+    standing (state_of c.step.new.self.consumer c.step.new.self.inbox) c.step.new.line.calls.items
+    c.step.new.self.losses.items in
     let within : was.step-index < length steps = omega arith in
     let step = get_or steps was.step-index (Tick None) in
-    let is = sym (get_or_from_slice_get steps was.step-index step step (slice_get-get_or steps was.step-index (Tick None) within)) in (
+    let is =
+    sym (get_or_from_slice_get steps was.step-index step step
+    (slice_get-get_or steps was.step-index (Tick None) within)) in (
       made.made,
       made.same ∙ was.invariant.1,
-      leads_more (IsConsumerStep t) calls_of old mid new steps was.step-index step consumer_calls_append within is was.invariant.2
+      leads_more (IsConsumerStep t) calls_of old mid new steps was.step-index step consumer_calls_append within is
+          was.invariant.2
           (subst (λ (s : Subscription). Leads (IsConsumerStep s) calls_of mid step new) was.invariant.1 made.done),
     )

@@ -15,6 +15,8 @@ returns-in-Restart-clause-done g c =
     let t = was.consumer.subscription in
     let old = state_of was.consumer was.inbox in
     let new = state_of c.restart.new.self was.inbox in
-    leads_as (IsConsumerStep t) calls_of (standing old calls was.losses.items) (standing new calls was.losses.items) c.args.step.now steps.Restart c.in-Restart.is
-    (leads_still (IsConsumerStep t) calls_of old new steps.Restart (Restarted ∷ []) calls was.losses.items was.losses.items
+    leads_as (IsConsumerStep t) calls_of (standing old calls was.losses.items)
+    (standing new calls was.losses.items) c.args.step.now steps.Restart c.in-Restart.is
+    (leads_still (IsConsumerStep t) calls_of old new steps.Restart
+    (Restarted ∷ []) calls was.losses.items was.losses.items
     (record { run = (tt, c.restart.ensures.done was.inbox); own = (refl, refl) }) refl refl)

@@ -15,7 +15,8 @@ pub returns-in-Ok-clause-first : goal.returns-in-Ok-clause-first
 returns-in-Ok-clause-first c =
     let was = c.args.self.now in
     let hand = option_map hand_of was.router.hand in
-    subst (IsFirst hand) (sym c.in-Ok.ensures.ok) (first_recorded hand was.outbox c.args.change.now c.args.event.now c.requires)
+    subst (IsFirst hand) (sym c.in-Ok.ensures.ok)
+    (first_recorded hand was.outbox c.args.change.now c.args.event.now c.requires)
 
 pub returns-in-Ok-clause-done : goal.returns-in-Ok-clause-done
 returns-in-Ok-clause-done c = λ calls.
@@ -24,7 +25,8 @@ returns-in-Ok-clause-done c = λ calls.
     let made = c.in-Ok.ensures in
     let change = c.args.change.now in
     let event = c.args.event.now in
-    leads_still (IsServiceStep route) calls_of (state_of was.router was.outbox) (state_of was.router c.record.new.self) (steps.Record change event)
+    leads_still (IsServiceStep route) calls_of (state_of was.router was.outbox) (state_of was.router c.record.new.self)
+    (steps.Record change event)
     (Recorded change event ∷ []) calls was.losses.items was.losses.items
     (record {
       run = (record { fits = made.good; fresh = made.fresh; room = made.room }, ap (state_of was.router) made.ok);
@@ -36,10 +38,18 @@ pub returns-in-Err-BadField-clause-done : goal.returns-in-Err-BadField-clause-do
 returns-in-Err-BadField-clause-done c = λ calls.
     let was = c.args.self.now in
     let route = dispatch_of was.router.target in
-    leads_still (IsServiceStep route) calls_of (state_of was.router was.outbox) (state_of was.router c.record.new.self) (steps.Record c.args.change.now c.args.event.now)
+    leads_still (IsServiceStep route) calls_of (state_of was.router was.outbox) (state_of was.router c.record.new.self)
+    (steps.Record c.args.change.now c.args.event.now)
     [] calls was.losses.items was.losses.items
     (record {
       run = ap (state_of was.router) c.in-Err-BadField.ensures.err;
-      own = (inr (refl, λ may. let bad = (c.in-Err-BadField.ensures.bad c.in-Err-BadField.field-0-0).0 (ap Err c.in-Err-BadField.field-0-is) in let good = may.fits in absurd (cc)), refl);
+      own = (
+        inr (
+          refl,
+          λ may. let bad = (c.in-Err-BadField.ensures.bad c.in-Err-BadField.field-0-0).0
+              (ap Err c.in-Err-BadField.field-0-is) in let good = may.fits in absurd (cc),
+        ),
+        refl,
+      );
     })
     refl refl

@@ -18,12 +18,16 @@ loop-step-preserved g c =
     let route = dispatch_of first.router.target in
     let old = standing (state_of first.router first.outbox) c.args.line.now.calls.items first.losses.items in
     let mid = standing (state_of was.self.router was.self.outbox) was.line.calls.items was.self.losses.items in
-    let new = standing (state_of c.step.new.self.router c.step.new.self.outbox) c.step.new.line.calls.items c.step.new.self.losses.items in
+    let new =
+    standing (state_of c.step.new.self.router c.step.new.self.outbox) c.step.new.line.calls.items
+    c.step.new.self.losses.items in
     let within : was.step-index < length steps = omega arith in
     let step = c.step-item.result in (
       made.made,
       made.first,
       made.same ∙ was.invariant.2,
-      leads_more (IsServiceStep route) calls_of old mid new steps was.step-index step calls_append within c.step-item.is was.invariant.3
-          (subst (λ (t : Target). Leads (IsServiceStep (dispatch_of t)) calls_of mid step new) was.invariant.2 made.done),
+      leads_more (IsServiceStep route) calls_of old mid new steps was.step-index step calls_append
+          within c.step-item.is was.invariant.3
+          (subst (λ (t : Target). Leads (IsServiceStep (dispatch_of t)) calls_of mid step new) was.invariant.2
+          made.done),
     )

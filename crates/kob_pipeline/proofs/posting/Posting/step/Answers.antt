@@ -16,6 +16,8 @@ returns-in-Restart-clause-done g c =
     let route = dispatch_of was.router.target in
     let old = state_of was.router was.outbox in
     let new = state_of c.restart.new.self was.outbox in
-    leads_as (IsServiceStep route) calls_of (standing old calls was.losses.items) (standing new calls was.losses.items) c.args.step.now steps.Restart c.in-Restart.is
-    (leads_still (IsServiceStep route) calls_of old new steps.Restart (Restarted ∷ []) calls was.losses.items was.losses.items
+    leads_as (IsServiceStep route) calls_of (standing old calls was.losses.items)
+    (standing new calls was.losses.items) c.args.step.now steps.Restart c.in-Restart.is
+    (leads_still (IsServiceStep route) calls_of old new steps.Restart
+    (Restarted ∷ []) calls was.losses.items was.losses.items
     (record { run = (tt, c.restart.ensures.done was.outbox); own = (refl, refl) }) refl refl)

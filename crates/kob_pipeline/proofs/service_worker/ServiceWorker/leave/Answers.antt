@@ -26,12 +26,19 @@ returns g c =
     let old = standing (state_of at_first.router at_first.outbox) before at_first.losses.items in
     let new = standing (state_of at_last.router at_last.outbox) now at_last.losses.items in
     let leads : Leads (Steps (IsServiceStep (dispatch_of service.target))) calls_of old service.steps.items new =
-    subst (λ (t : Target). Leads (Steps (IsServiceStep (dispatch_of t))) calls_of old service.steps.items new) opened.target
-    (subst (λ (steps : List ServiceStep). Leads (Steps (IsServiceStep (dispatch_of at_first.router.target))) calls_of old steps new) c.deref.ensures.value c.in_ok-run.ensures) in
+    subst (λ (t : Target). Leads (Steps (IsServiceStep (dispatch_of t))) calls_of old service.steps.items new)
+    opened.target
+    (subst (λ (steps : List ServiceStep). Leads
+    (Steps (IsServiceStep (dispatch_of at_first.router.target))) calls_of old steps new) c.deref.ensures.value
+    c.in_ok-run.ensures) in
     subst (λ (s : Service). IfOk c.close.result (λ left. IsOutboxLeft s now left.1.items left.0)) c.self.view_is
-    (if_ok_three (λ (left : OutboxEnd × Vec Loss _). map stored_row left.0.rows.items ≡ later_than 0 at_last.outbox.events) (λ (left : OutboxEnd × Vec Loss _). left.0.mark ≡ at_last.outbox.mark)
-    (λ (left : OutboxEnd × Vec Loss _). left.1.items ≡ at_last.losses.items) (λ (left : OutboxEnd × Vec Loss _). IsOutboxLeft service now left.1.items left.0) c.close.result
+    (if_ok_three (λ (left : OutboxEnd × Vec Loss _). map stored_row left.0.rows.items
+    ≡ later_than 0 at_last.outbox.events) (λ (left : OutboxEnd × Vec Loss _). left.0.mark ≡ at_last.outbox.mark)
+    (λ (left : OutboxEnd × Vec Loss _). left.1.items ≡ at_last.losses.items)
+    (λ (left : OutboxEnd × Vec Loss _). IsOutboxLeft service now left.1.items left.0) c.close.result
     (λ left rows mark lost.
-    outbox_left service (state_of at_first.router at_first.outbox) (state_of at_last.router at_last.outbox) before now at_first.losses.items at_last.losses.items left.1.items left.0
+    outbox_left service (state_of at_first.router at_first.outbox)
+    (state_of at_last.router at_last.outbox) before now at_first.losses.items at_last.losses.items left.1.items
+    left.0
     opened.state c.requires.calls opened.losses lost leads rows mark)
     c.close.ensures.rows c.close.ensures.mark c.close.ensures.losses)

@@ -13,5 +13,7 @@ returns-in_ok-notes-in-Ok g c =
     let calls = c.leave.new.line.calls.items in
     let told = c.in_ok-notes-in-Ok.ensures in
     service_run_of c.args.self.now notes c.in-Ok.left calls c.in-Ok.losses.items c.in-Ok.ensures
-    (subst (λ (ls : List Loss). AreServedByLoss ls calls (served_by_notes notes.events notes.told)) c.deref.ensures.value told.served)
-    (subst (λ (s : Service). All (λ e. (e.principal ≡ s.principal) × (e.host ≡ s.host)) notes.events) c.self.view_is told.own)
+    (subst (λ (ls : List Loss). AreServedByLoss ls calls (served_by_notes notes.events notes.told))
+    c.deref.ensures.value told.served)
+    (subst (λ (s : Service). All (λ e. (e.principal ≡ s.principal) × (e.host ≡ s.host)) notes.events) c.self.view_is
+    told.own)
