@@ -20,10 +20,10 @@ pub enum Column {
 }
 
 /// The most bytes of a text that is neither a state nor a payload.
-pub const MOST_NAME_BYTES: usize = 255;
+pub const NAME_BYTES_LIMIT: usize = 255;
 
 /// The most bytes of a business row's state and of an event's payload.
-pub const MOST_TEXT_BYTES: usize = 1_048_576;
+pub const TEXT_BYTES_LIMIT: usize = 1_048_576;
 
 fn fits(most: usize, text: &str) -> bool
     ensures { result ≡ fits_in most text.now }
@@ -35,19 +35,19 @@ fn fits(most: usize, text: &str) -> bool
 pub(crate) fn bad_field(change: &Change, event: &OutboxEvent) -> Option<Column>
     ensures { result ≡ first_bad change.now event.now }
 {
-    if !fits(MOST_NAME_BYTES, &change.kind) {
+    if !fits(NAME_BYTES_LIMIT, &change.kind) {
         Some(Column::Kind)
-    } else if !fits(MOST_NAME_BYTES, &change.id) {
+    } else if !fits(NAME_BYTES_LIMIT, &change.id) {
         Some(Column::Id)
-    } else if !fits(MOST_TEXT_BYTES, &change.state) {
+    } else if !fits(TEXT_BYTES_LIMIT, &change.state) {
         Some(Column::State)
-    } else if !fits(MOST_NAME_BYTES, &event.aggregate_type) {
+    } else if !fits(NAME_BYTES_LIMIT, &event.aggregate_type) {
         Some(Column::AggregateType)
-    } else if !fits(MOST_NAME_BYTES, &event.aggregate_id) {
+    } else if !fits(NAME_BYTES_LIMIT, &event.aggregate_id) {
         Some(Column::AggregateId)
-    } else if !fits(MOST_NAME_BYTES, &event.event_type) {
+    } else if !fits(NAME_BYTES_LIMIT, &event.event_type) {
         Some(Column::Type)
-    } else if !fits(MOST_TEXT_BYTES, &event.payload) {
+    } else if !fits(TEXT_BYTES_LIMIT, &event.payload) {
         Some(Column::Payload)
     } else {
         None

@@ -20,7 +20,7 @@ mod writes;
 pub use change::Change;
 pub use event::{OutboxEvent, Row};
 pub use fault::{MarkFault, OutboxFault, RecordFault};
-pub use fields::{Column, MOST_NAME_BYTES, MOST_TEXT_BYTES};
+pub use fields::{Column, NAME_BYTES_LIMIT, TEXT_BYTES_LIMIT};
 pub use laws::{a_record_writes_one_business_row, a_sweep_keeps_what_waits};
 pub use numbers::number;
 pub use outbox::Outbox;

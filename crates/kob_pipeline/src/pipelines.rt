@@ -7,6 +7,7 @@ ghost use Rattle.kob_broker.specs.Change.{state_of};
 ghost use Rattle.kob_broker.specs.State.{settings_of};
 ghost use Rattle.kob_shared.specs.Fleets.{Follows};
 ghost use Rattle.kob_shared.specs.Journals.{IsSound};
+ghost use Rattle.kob_shared.specs.Limits.{entry_limit, worker_limit};
 ghost use Rattle.kob_shared.specs.Openings.{opened_by};
 ghost use Rattle.kob_pipeline.specs.Counts.{entries_planned, workers_planned};
 ghost use Rattle.kob_pipeline.specs.Faults.{IsLater, IsTornOnlyWhere, NamesWorkerWithin};
@@ -46,9 +47,10 @@ pub fn pipeline<R: Threads + Wait + Sync, G: Gate + Sync>(
     requires { IsRunnable plan.now }
     ensures ok { IfOk result (IsPipeline plan.now) }
     ensures workers { IsErrOf result PipelineFault.TooManyWorkers
-        ↔ (64 < workers_planned plan.now) }
+        ↔ (worker_limit < workers_planned plan.now) }
     ensures full { IsErrOf result PipelineFault.JournalFull
-        ↔ ((workers_planned plan.now ≤ 64) × (1000000 < entries_planned plan.now)) }
+        ↔ ((workers_planned plan.now ≤ worker_limit)
+        × (entry_limit < entries_planned plan.now)) }
     ensures torn { IfErr result (IsTornOnlyWhere (settings_of (opened_by plan.now.settings))) }
     ensures named { IfErr result (NamesWorkerWithin (workers_planned plan.now)) }
 {
@@ -69,7 +71,7 @@ fn run_plan<R: Threads + Wait + Sync, G: Gate + Sync>(
     gate: &G,
 ) -> Result<PipelineEnd, PipelineFault>
     requires runnable { IsRunnable plan.now }
-    requires workers { workers_planned plan.now ≤ 64 }
+    requires workers { workers_planned plan.now ≤ worker_limit }
     ensures ok { IfOk result (IsPipeline plan.now) }
     ensures torn { IfErr result (IsTornOnlyWhere (settings_of (opened_by plan.now.settings))) }
     ensures later { IfErr result IsLater }

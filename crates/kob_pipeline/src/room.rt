@@ -3,31 +3,32 @@
 ghost use Rattle.std.specs.Prelude.{◌≡◌, ◌+◌, ◌*◌, ◌<◌, ◌≤◌, ◌↔◌, IsTrue, MatchOption, vec_len};
 ghost use Rattle.std.specs.List.{sum_by};
 ghost use Rattle.kob_pipeline.specs.Counts.{entries_planned, workers_planned};
+ghost use Rattle.kob_shared.specs.Limits.{entry_limit, worker_limit};
 
 use crate::plan::{ConsumerPlan, Plan, Service};
-use kob_shared::{MOST_ENTRIES, MOST_WORKERS, Script};
+use kob_shared::{ENTRY_LIMIT, Script, WORKER_LIMIT};
 
 /// Whether there are no more workers than a fleet may have.
 pub(crate) fn has_few_workers(plan: &Plan) -> bool
-    ensures { IsTrue result ↔ (workers_planned plan.now ≤ 64) }
+    ensures { IsTrue result ↔ (workers_planned plan.now ≤ worker_limit) }
 {
     let services = plan.services.len();
     let consumers = plan.consumers.len();
     let administrators = plan.administrators.len();
-    services <= MOST_WORKERS
-        && consumers <= MOST_WORKERS - services
-        && administrators <= MOST_WORKERS - services - consumers
+    services <= WORKER_LIMIT
+        && consumers <= WORKER_LIMIT - services
+        && administrators <= WORKER_LIMIT - services - consumers
 }
 
 /// Whether a journal has room for the first events, the administrators' requests and two calls for
 /// each step of a service or a consumer.
 pub(crate) fn has_room(plan: &Plan) -> bool
-    ensures { IsTrue result ↔ (entries_planned plan.now ≤ 1000000) }
+    ensures { IsTrue result ↔ (entries_planned plan.now ≤ entry_limit) }
 {
-    if plan.first.len() > MOST_ENTRIES {
+    if plan.first.len() > ENTRY_LIMIT {
         return false;
     }
-    let room = MOST_ENTRIES - plan.first.len();
+    let room = ENTRY_LIMIT - plan.first.len();
     let Some(room) = room_after_scripts(room, &plan.administrators) else {
         return false;
     };

@@ -17,7 +17,7 @@ use crate::faults::{CallFault, ServeFault};
 use crate::fleet_stop::FleetStop;
 use crate::journal::Receipt;
 use crate::notes::Notes;
-use crate::recorded::{MOST_ENTRIES, Recorded};
+use crate::recorded::{ENTRY_LIMIT, Recorded};
 use crate::session::SharedBroker;
 use crate::work::{Done, Gate, Work};
 use kob_broker::{Broker, Settings};
@@ -119,7 +119,7 @@ fn begin(alloc: Global, broker: Broker, first: Vec<Event>) -> Result<(Recorded, 
     ensures named { IfErr result (IsNamedWithin 0) }
     ensures full { IfErr result (IsFullOnlyPast entry_limit (vec_len first)) }
 {
-    let mut recorded = Recorded::open(alloc, broker, MOST_ENTRIES)?;
+    let mut recorded = Recorded::open(alloc, broker, ENTRY_LIMIT)?;
     let told = serve_first(alloc, &mut recorded, first.as_slice())?;
     Ok((recorded, Notes::new(first, told)))
 }

@@ -16,7 +16,7 @@ use crate::fleet::{Ran, find_tear, run_fleet};
 use crate::fleet_fault::FleetFault;
 use crate::journal::Journal;
 use crate::notes::Notes;
-use crate::recorded::MOST_ENTRIES;
+use crate::recorded::ENTRY_LIMIT;
 use crate::script::{Script, Transcript};
 use crate::work::{Done, Gate};
 use kob_broker::{Broker, Settings};
@@ -26,9 +26,9 @@ use std::sync::Wait;
 use std::thread::Threads;
 
 /// More workers are refused.
-pub const MOST_WORKERS: usize = 64;
+pub const WORKER_LIMIT: usize = 64;
 
-const _: () = prove!(MOST_WORKERS == 64);
+const _: () = prove!(WORKER_LIMIT == 64);
 
 /// What a fleet leaves: the broker, the journal, and what each worker was told, worker 0 first.
 #[derive(Drop)]
@@ -42,10 +42,10 @@ pub struct FleetEnd {
 fn has_room(first: &[Event], scripts: &[Script]) -> bool
     ensures { IsTrue result ↔ (entries_asked first.now scripts.now ≤ entry_limit) }
 {
-    if first.len() > MOST_ENTRIES {
+    if first.len() > ENTRY_LIMIT {
         return false;
     }
-    let mut room = MOST_ENTRIES - first.len();
+    let mut room = ENTRY_LIMIT - first.len();
     for script in scripts {
         let requests = script.requests.len();
         if requests > room {
@@ -133,7 +133,7 @@ pub fn run_scripts<R: Threads + Wait + Sync, G: Gate + Sync>(
         (IsTornOnlyWhere (settings_of (state_of broker)) (asked_of_all first.items scripts.items)) }
     ensures named { IfErr result (NamesWorkerWithin (vec_len scripts)) }
 {
-    if scripts.len() > MOST_WORKERS {
+    if scripts.len() > WORKER_LIMIT {
         return Err(FleetFault::TooManyWorkers);
     }
     if !has_room(first.as_slice(), scripts.as_slice()) {
