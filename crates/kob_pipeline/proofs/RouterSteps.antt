@@ -77,26 +77,26 @@ sent_why route ss h q n ahead at (inr w) =
 
 module _ (route : Dispatching) (q : Place) where
   -- the row in hand counts as sent
-  sent_one : (rows : List Event) (c : Contents) (log : List Batch) (next : ℕ) (r : Event) (sent_batch : List Event)
+  sent_one : (rows : List Event) (c : Contents) (log : List Batch) (next : ℕ) (r : Event) (sent : List Event)
       (ahead : Option Event) (rest : List Event)
-      → IsKept rows c sent_batch (here ahead ++ rest) → slice_get (here ahead ++ rest) 0 ≡ Some r
-      → IsLogged route q rows log next (sent_batch ++ here ahead) → (goes_to q (route r) ≡ false) ⊎ (ahead ≡ Some r)
-      → (tail : List Event) × IsKept rows (record c { mark = r.seq }) (sent_batch ++ r ∷ []) tail
-      × IsLogged route q rows log next (sent_batch ++ r ∷ [])
-  sent_one rows c log next r sent_batch None rest k f l w =
+      → IsKept rows c sent (here ahead ++ rest) → slice_get (here ahead ++ rest) 0 ≡ Some r
+      → IsLogged route q rows log next (sent ++ here ahead) → (goes_to q (route r) ≡ false) ⊎ (ahead ≡ Some r)
+      → (tail : List Event) × IsKept rows (record c { mark = r.seq }) (sent ++ r ∷ []) tail
+      × IsLogged route q rows log next (sent ++ r ∷ [])
+  sent_one rows c log next r sent None rest k f l w =
       let at = first_is rest r f in
       let logged : IsLogged route q rows log next sent =
-      subst (IsLogged route q rows log next) (append-nil sent_batch) l in (
+      subst (IsLogged route q rows log next) (append-nil sent) l in (
         at.0,
-        kept_marked rows c sent_batch at.0 r (subst (IsKept rows c sent_batch) at.1 k),
-        elim w [ inl e ↦ logged_elsewhere route q rows log next sent_batch r e logged | inr e ↦ absurd cc ],
+        kept_marked rows c sent at.0 r (subst (IsKept rows c sent) at.1 k),
+        elim w [ inl e ↦ logged_elsewhere route q rows log next sent r e logged | inr e ↦ absurd cc ],
       )
-  sent_one rows c log next r sent_batch (Some x) rest k f l w =
+  sent_one rows c log next r sent (Some x) rest k f l w =
       let e : x ≡ r = same_some x r f in (
         rest,
-        subst (λ (y : Event). IsKept rows (record c { mark = y.seq }) (sent_batch ++ y ∷ []) rest) e
-            (kept_marked rows c sent_batch rest x k),
-        subst (λ (y : Event). IsLogged route q rows log next (sent_batch ++ y ∷ [])) e l,
+        subst (λ (y : Event). IsKept rows (record c { mark = y.seq }) (sent ++ y ∷ []) rest) e
+            (kept_marked rows c sent rest x k),
+        subst (λ (y : Event). IsLogged route q rows log next (sent ++ y ∷ [])) e l,
       )
 
   -- the mark moves to the row in hand
@@ -130,20 +130,20 @@ module _ (route : Dispatching) (q : Place) where
       }
 
   log_more : (rows : List Event) (c : Contents) (log : List Batch) (next : ℕ) (r : Event) (x : Record) (b : Batch)
-      (sent_batch : List Event) (ahead : Option Event) (rest tail : List Event)
-      → IsKept rows c sent_batch (here ahead ++ rest) → here ahead ++ rest ≡ r ∷ tail
-      → IsLogged route q rows log next (sent_batch ++ here ahead) → Contains rows r → IsBatchOf route q r x next b
-      → IsLogged route q rows (log ++ b ∷ []) next (sent_batch ++ r ∷ [])
-  log_more rows c log next r x b sent_batch None rest tail k w l at is =
-      let new : list_any (bytes_eq r.id) (ids_of sent_batch) ≡ false =
-      first_is_new rows c sent_batch tail r (subst (IsKept rows c sent_batch) w k) in
-      logged_first route q rows log next sent_batch r b x
-      (subst (IsLogged route q rows log next) (append-nil sent_batch) l) at is
+      (sent : List Event) (ahead : Option Event) (rest tail : List Event)
+      → IsKept rows c sent (here ahead ++ rest) → here ahead ++ rest ≡ r ∷ tail
+      → IsLogged route q rows log next (sent ++ here ahead) → Contains rows r → IsBatchOf route q r x next b
+      → IsLogged route q rows (log ++ b ∷ []) next (sent ++ r ∷ [])
+  log_more rows c log next r x b sent None rest tail k w l at is =
+      let new : list_any (bytes_eq r.id) (ids_of sent) ≡ false =
+      first_is_new rows c sent tail r (subst (IsKept rows c sent) w k) in
+      logged_first route q rows log next sent r b x
+      (subst (IsLogged route q rows log next) (append-nil sent) l) at is
       new
-  log_more rows c log next r x b sent_batch (Some y) rest tail k w l at is =
+  log_more rows c log next r x b sent (Some y) rest tail k w l at is =
       let e : y ≡ r = cc in
-      logged_again route q rows log next sent_batch r b x
-      (subst (λ (z : Event). IsLogged route q rows log next (sent_batch ++ z ∷ [])) e l) at is
+      logged_again route q rows log next sent r b x
+      (subst (λ (z : Event). IsLogged route q rows log next (sent ++ z ∷ [])) e l) at is
 
   -- a router whose row was put on the log, or goes elsewhere
   abbrev pub IsServed : List Event → Contents → Producer → List Sequence → Hand → List Batch → ℕ → Type 0
