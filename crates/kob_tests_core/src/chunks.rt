@@ -1,6 +1,6 @@
-//! Chunk lists at the edges of their chunks, and at length.
+//! Chunk lists at the edges of their chunks, with chunks given back, and at length.
 
-use kob_chunks::ChunkList;
+use kob_chunks::{CHUNK_SIZE, ChunkList};
 use std::alloc::{AllocError, Global};
 use std::test::Fail;
 
@@ -36,6 +36,33 @@ fn counted(list: &ChunkList<u64>) -> Option<u64> {
     Some(place)
 }
 
+/// So many pushed numbers, a count of chunks to give back, and the length and the first item then.
+const DROPPED: [(u64, usize, usize, Option<u64>); 6] = [
+    (257, 0, 257, Some(0)),
+    (257, 1, 1, Some(256)),
+    (256, 1, 0, None),
+    (0, 0, 0, None),
+    (1_000, 3, 232, Some(768)),
+    (1_024, 4, 0, None),
+];
+
+/// Gives back so many chunks, if they are whole.
+fn give_back(list: &mut ChunkList<u64>, chunks: usize) -> bool {
+    if list.len() / CHUNK_SIZE < chunks {
+        return false;
+    }
+    list.drop_front_chunks(chunks);
+    true
+}
+
+/// Whether the list has that length and that first item, and a number pushed now stands last.
+fn goes_on(list: &mut ChunkList<u64>, len: usize, first: Option<u64>) -> Result<bool, AllocError> {
+    let stands = list.len() == len && gives(list, &[(0, first), (len, None)]);
+    list.reserve_one()?;
+    list.push_reserved(7);
+    Ok(stands && gives(list, &[(len, Some(7))]))
+}
+
 #[test]
 fn chunk_edges(rt: HostRuntime) -> Result<(), Fail> {
     let list = numbers_below(rt.alloc(), 257)?;
@@ -47,6 +74,13 @@ fn chunk_edges(rt: HostRuntime) -> Result<(), Fail> {
         (257, None),
     ];
     assert!(rt; gives(&list, &edges));
+    for (count, chunks, len, first) in DROPPED {
+        let mut list = numbers_below(rt.alloc(), count)?;
+        let given = give_back(&mut list, chunks);
+        assert!(rt; given);
+        let holds = goes_on(&mut list, len, first)?;
+        assert!(rt; holds);
+    }
     Ok(())
 }
 

@@ -1,8 +1,8 @@
-//! The log of a partition: an idempotent producer's batches, and a batch across the edge of a
-//! chunk.
+//! The log of a partition: an idempotent producer's batches, a batch across the edge of a chunk, and
+//! a start that is moved up.
 
 use kob_names::{Batch, Bytes, Idem, Items, Record};
-use kob_partition::{AppendFault, PartitionLog};
+use kob_partition::{AdvanceFault, AppendFault, FetchFault, PartitionLog};
 use std::alloc::{AllocError, Global};
 use std::test::Fail;
 
@@ -108,5 +108,62 @@ fn batch_across_chunk_edge(rt: HostRuntime) -> Result<(), Fail> {
     }
     let fetched = fetches_across(rt.alloc(), &log)?;
     assert!(rt; fetched);
+    Ok(())
+}
+
+/// Offsets to move the start to in a log of 300 records, and the answers.
+const ADVANCES: [(u64, Result<u64, AdvanceFault>); 7] = [
+    (0, Ok(0)),
+    (255, Ok(255)),
+    (260, Ok(260)),
+    (301, Err(AdvanceFault::OutOfRange)),
+    (100, Ok(260)),
+    (260, Ok(260)),
+    (300, Ok(300)),
+];
+
+/// Whether what is fetched from an offset on is, to the record before the end, all that is read from
+/// the start on, and out of range elsewhere.
+fn reads_from(alloc: Global, log: &PartitionLog, offset: u64) -> Result<bool, AllocError> {
+    match log.fetch(alloc, offset, 1_000) {
+        Ok(records) => Ok(log.start() <= offset && are_at(records.as_slice(), offset, log.end())),
+        Err(FetchFault::OutOfRange) => Ok(offset < log.start() || log.end() < offset),
+        Err(FetchFault::Memory) => Err(AllocError),
+    }
+}
+
+#[test]
+fn start_moved_up(rt: HostRuntime) -> Result<(), Fail> {
+    let mut log = PartitionLog::new(rt.alloc());
+    append_plain(rt.alloc(), &mut log, 300)?;
+    for (offset, wanted) in ADVANCES {
+        let answer = log.advance(offset);
+        assert!(rt; answer == wanted);
+        for from in [0, 254, 255, 259, 260, 299, 300, 301] {
+            let holds = reads_from(rt.alloc(), &log, from)?;
+            assert!(rt; holds);
+        }
+    }
+    Ok(())
+}
+
+/// Batches of one record, each with its base and its offset: after 259 records and those of the
+/// bases 0 to 4 the start is moved above all, and they come again, and one more.
+const REPEATS: [(u64, u64); 4] = [(0, 259), (3, 262), (4, 263), (5, 264)];
+
+#[test]
+fn repeats_below_start(rt: HostRuntime) -> Result<(), Fail> {
+    let mut log = PartitionLog::new(rt.alloc());
+    append_plain(rt.alloc(), &mut log, 259)?;
+    for base in 0..5 {
+        let answer = appended(rt.alloc(), &mut log, 0, base)?;
+        assert!(rt; answer == Ok(base.saturating_add(259)));
+    }
+    assert!(rt; log.advance(264) == Ok(264));
+    for (base, offset) in REPEATS {
+        let holds = answers(rt.alloc(), &mut log, (0, base), &Ok(offset))?;
+        assert!(rt; holds);
+    }
+    assert_eq!(rt; log.end(), 265);
     Ok(())
 }
