@@ -1,6 +1,7 @@
 //! The topics in order of creation, each with the logs of its partitions.
 #![tactic(auto)]
 
+mod advance;
 mod catalog;
 mod decider;
 mod fault;
