@@ -1,8 +1,8 @@
 //! Lines that ask for something of partitions and their producers.
 
 ghost use Rattle.kob_script.specs.PartitionLines.{before_in, before_of, delete_records};
-ghost use Rattle.kob_script.specs.PartitionLines.{delete_records_line, fetch, fetch_line, init_producer};
-ghost use Rattle.kob_script.specs.PartitionLines.{init_producer_line, list_offsets};
+ghost use Rattle.kob_script.specs.PartitionLines.{delete_records_line, fetch, fetch_line};
+ghost use Rattle.kob_script.specs.PartitionLines.{init_producer, init_producer_line, list_offsets};
 ghost use Rattle.kob_script.specs.PartitionLines.{list_offsets_line, produce, produce_line};
 ghost use Rattle.kob_script.specs.PartitionLines.{which_in, which_of};
 ghost use Rattle.kob_script.specs.Reading.{Gives};
