@@ -7,7 +7,7 @@ use Rattle.kob_rights.specs.declared.check.Check.{Check}
 use Rattle.kob_rights.specs.declared.code.Code.{Code}
 use Rattle.kob_rights.specs.declared.code.Code.TheVariants.{TopicAuthorizationFailed, GroupAuthorizationFailed, ClusterAuthorizationFailed}
 use Rattle.kob_rights.specs.declared.request.Request.{Request}
-use Rattle.kob_rights.specs.declared.request.Request.TheVariants.{Produce, Fetch, ListOffsets, Metadata, OffsetCommit, OffsetFetch, ListGroups, DeleteGroups, CreateTopics, DeleteTopics, InitProducerId, DescribeAcls, CreateAcls, DeleteAcls}
+use Rattle.kob_rights.specs.declared.request.Request.TheVariants.{Produce, Fetch, ListOffsets, Metadata, OffsetCommit, OffsetFetch, ListGroups, DeleteGroups, CreateTopics, DeleteTopics, DeleteRecords, InitProducerId, DescribeAcls, CreateAcls, DeleteAcls}
 
 -- an idempotent producer needs a right on the cluster first
 abbrev pub produce_rights : Option Idem → List ℕ → List (List Check)
@@ -34,6 +34,7 @@ rights ListGroups = []
 rights (DeleteGroups delete) = (on_group Delete delete.group ∷ []) ∷ []
 rights (CreateTopics create) = (on_cluster Create ∷ on_topic Create create.name ∷ []) ∷ []
 rights (DeleteTopics delete) = (on_topic Delete delete.name ∷ []) ∷ []
+rights (DeleteRecords delete) = (on_topic Delete delete.topic ∷ []) ∷ []
 rights InitProducerId = (on_cluster IdempotentWrite ∷ []) ∷ []
 rights (DescribeAcls asked) = (on_cluster Describe ∷ []) ∷ []
 rights (CreateAcls create) = (on_cluster Alter ∷ []) ∷ []
@@ -62,6 +63,7 @@ denial_code ListGroups clause = TopicAuthorizationFailed
 denial_code (DeleteGroups delete) clause = GroupAuthorizationFailed
 denial_code (CreateTopics create) clause = TopicAuthorizationFailed
 denial_code (DeleteTopics delete) clause = TopicAuthorizationFailed
+denial_code (DeleteRecords delete) clause = TopicAuthorizationFailed
 denial_code InitProducerId clause = ClusterAuthorizationFailed
 denial_code (DescribeAcls asked) clause = ClusterAuthorizationFailed
 denial_code (CreateAcls create) clause = ClusterAuthorizationFailed

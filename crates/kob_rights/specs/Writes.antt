@@ -4,6 +4,7 @@ use Rattle.kob_rights.specs.declared.on_acls.CreateAcls.{CreateAcls}
 use Rattle.kob_rights.specs.declared.on_acls.DeleteAcls.{DeleteAcls}
 use Rattle.kob_rights.specs.declared.on_groups.DeleteGroups.{DeleteGroups}
 use Rattle.kob_rights.specs.declared.on_groups.OffsetCommit.{OffsetCommit}
+use Rattle.kob_rights.specs.declared.on_partitions.DeleteRecords.{DeleteRecords}
 use Rattle.kob_rights.specs.declared.on_partitions.Produce.{Produce}
 use Rattle.kob_rights.specs.declared.on_topics.CreateTopics.{CreateTopics}
 use Rattle.kob_rights.specs.declared.on_topics.DeleteTopics.{DeleteTopics}
@@ -17,6 +18,7 @@ pub data Write : Type 0 where
   RemoveGroup : DeleteGroups → Write
   AddTopic : CreateTopics → Write
   RemoveTopic : DeleteTopics → Write
+  AdvanceStart : DeleteRecords → Write
   GiveProducerId : Write
   AddBindings : CreateAcls → Write
   RemoveBindings : DeleteAcls → Write
@@ -28,6 +30,7 @@ write_of (requests.OffsetCommit commit) = Some (CommitOffset commit)
 write_of (requests.DeleteGroups delete) = Some (RemoveGroup delete)
 write_of (requests.CreateTopics create) = Some (AddTopic create)
 write_of (requests.DeleteTopics delete) = Some (RemoveTopic delete)
+write_of (requests.DeleteRecords delete) = Some (AdvanceStart delete)
 write_of requests.InitProducerId = Some GiveProducerId
 write_of (requests.CreateAcls create) = Some (AddBindings create)
 write_of (requests.DeleteAcls delete) = Some (RemoveBindings delete)

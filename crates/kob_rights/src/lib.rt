@@ -18,7 +18,7 @@ pub use code::Code;
 pub use event::Event;
 pub use on_acls::{CreateAcls, DeleteAcls, DescribeAcls};
 pub use on_groups::{DeleteGroups, OffsetCommit, OffsetFetch};
-pub use on_partitions::{Fetch, ListOffsets, Produce, Which};
+pub use on_partitions::{Before, DeleteRecords, Fetch, ListOffsets, Produce, Which};
 pub use on_topics::{CreateTopics, DeleteTopics, Metadata};
 pub use reason::Reason;
 pub use reply::{Body, Reply};

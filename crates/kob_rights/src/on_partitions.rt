@@ -11,6 +11,14 @@ pub enum Which {
     End,
 }
 
+/// Before which offset a partition's records go. Kafka's DeleteRecords API writes -1 for the end,
+/// its high watermark.
+#[derive(Clone, Copy, Debug, PartialEq, Eq)]
+pub enum Before {
+    Offset(u64),
+    End,
+}
+
 /// PRODUCE of one batch to one partition.
 #[derive(Debug, Drop)]
 pub struct Produce {
@@ -36,7 +44,26 @@ pub struct ListOffsets {
     pub which: Which,
 }
 
+/// DELETE_RECORDS of one partition: its records before an offset go, and it starts there. An offset
+/// at or below its start changes nothing.
+#[derive(Debug, Drop)]
+pub struct DeleteRecords {
+    pub topic: Text,
+    pub partition: u64,
+    pub before: Before,
+}
+
 impl PlainValue for Which {
+    fn copy(&self, _alloc: Global) -> Result<Self, AllocError> {
+        Ok(*self)
+    }
+
+    fn same(&self, other: &Self) -> bool {
+        self == other
+    }
+}
+
+impl PlainValue for Before {
     fn copy(&self, _alloc: Global) -> Result<Self, AllocError> {
         Ok(*self)
     }
@@ -97,5 +124,22 @@ impl PlainValue for ListOffsets {
         self.topic.same(&other.topic)
             && self.partition == other.partition
             && self.which.same(&other.which)
+    }
+}
+
+impl PlainValue for DeleteRecords {
+    fn copy(&self, alloc: Global) -> Result<Self, AllocError> {
+        let topic = self.topic.copy(alloc)?;
+        Ok(DeleteRecords {
+            topic,
+            partition: self.partition,
+            before: self.before,
+        })
+    }
+
+    fn same(&self, other: &Self) -> bool {
+        self.topic.same(&other.topic)
+            && self.partition == other.partition
+            && self.before.same(&other.before)
     }
 }

@@ -20,6 +20,8 @@ pub enum Body {
     Bindings(Items<(u64, Binding)>),
     /// The first offset of a batch, or the offset that was asked for.
     Offset(u64),
+    /// Where a partition starts after a DELETE_RECORDS.
+    Start(u64),
     /// The committed offset, or none.
     Commit(Option<u64>),
     /// Records with their offsets, in order.
@@ -56,6 +58,7 @@ impl PlainValue for Body {
             Body::Created => Ok(Body::Created),
             Body::Serials(serials) => Ok(Body::Serials(serials.copy(alloc)?)),
             Body::Offset(offset) => Ok(Body::Offset(*offset)),
+            Body::Start(start) => Ok(Body::Start(*start)),
             Body::Records(records) => Ok(Body::Records(records.copy(alloc)?)),
             Body::Deleted => Ok(Body::Deleted),
             Body::Committed => Ok(Body::Committed),
@@ -75,6 +78,7 @@ impl PlainValue for Body {
             (Body::Created, Body::Created) => true,
             (Body::Serials(one), Body::Serials(two)) => one.same(two),
             (Body::Offset(one), Body::Offset(two)) => one == two,
+            (Body::Start(one), Body::Start(two)) => one == two,
             (Body::Records(one), Body::Records(two)) => one.same(two),
             (Body::Deleted, Body::Deleted) => true,
             (Body::Committed, Body::Committed) => true,

@@ -2,7 +2,7 @@
 
 use crate::on_acls::{CreateAcls, DeleteAcls, DescribeAcls};
 use crate::on_groups::{DeleteGroups, OffsetCommit, OffsetFetch};
-use crate::on_partitions::{Fetch, ListOffsets, Produce};
+use crate::on_partitions::{DeleteRecords, Fetch, ListOffsets, Produce};
 use crate::on_topics::{CreateTopics, DeleteTopics, Metadata};
 use kob_names::PlainValue;
 use std::alloc::{AllocError, Global};
@@ -21,6 +21,7 @@ pub enum Request {
     DeleteGroups(DeleteGroups),
     CreateTopics(CreateTopics),
     DeleteTopics(DeleteTopics),
+    DeleteRecords(DeleteRecords),
     /// INIT_PRODUCER_ID: an id for an idempotent producer.
     InitProducerId,
     DescribeAcls(DescribeAcls),
@@ -41,6 +42,7 @@ impl PlainValue for Request {
             Request::DeleteGroups(asked) => Ok(Request::DeleteGroups(asked.copy(alloc)?)),
             Request::CreateTopics(asked) => Ok(Request::CreateTopics(asked.copy(alloc)?)),
             Request::DeleteTopics(asked) => Ok(Request::DeleteTopics(asked.copy(alloc)?)),
+            Request::DeleteRecords(asked) => Ok(Request::DeleteRecords(asked.copy(alloc)?)),
             Request::InitProducerId => Ok(Request::InitProducerId),
             Request::DescribeAcls(asked) => Ok(Request::DescribeAcls(asked.copy(alloc)?)),
             Request::CreateAcls(asked) => Ok(Request::CreateAcls(asked.copy(alloc)?)),
@@ -60,6 +62,7 @@ impl PlainValue for Request {
             (Request::DeleteGroups(one), Request::DeleteGroups(two)) => one.same(two),
             (Request::CreateTopics(one), Request::CreateTopics(two)) => one.same(two),
             (Request::DeleteTopics(one), Request::DeleteTopics(two)) => one.same(two),
+            (Request::DeleteRecords(one), Request::DeleteRecords(two)) => one.same(two),
             (Request::InitProducerId, Request::InitProducerId) => true,
             (Request::DescribeAcls(one), Request::DescribeAcls(two)) => one.same(two),
             (Request::CreateAcls(one), Request::CreateAcls(two)) => one.same(two),

@@ -47,6 +47,7 @@ sent route s request.ListGroups is = absurd is
 sent route s (request.DeleteGroups asked) is = absurd is
 sent route s (request.CreateTopics asked) is = absurd is
 sent route s (request.DeleteTopics asked) is = absurd is
+sent route s (request.DeleteRecords asked) is = absurd is
 sent route s request.InitProducerId is = absurd is
 sent route s (request.DescribeAcls asked) is = absurd is
 sent route s (request.CreateAcls asked) is = absurd is

@@ -3,7 +3,7 @@ use Rattle.std.specs.List.{find}
 use Rattle.std.specs.Prelude.{ℕ, List, [], ◌∷◌, Option, codes}
 use Rattle.std.specs.Str.{bytes_eq}
 use Rattle.kob_script.specs.declared.command.Command.{Command}
-use Rattle.kob_script.specs.declared.command.Command.TheVariants.{CreateTopic, DeleteTopic, Metadata, Produce, Fetch, ListOffsets, InitProducer, Commit, Committed, Groups, DeleteGroup, CreateAcl, DescribeAcls, DeleteAcls}
+use Rattle.kob_script.specs.declared.command.Command.TheVariants.{CreateTopic, DeleteTopic, Metadata, Produce, Fetch, ListOffsets, DeleteRecords, InitProducer, Commit, Committed, Groups, DeleteGroup, CreateAcl, DescribeAcls, DeleteAcls}
 
 abbrev pub command_word : Command → List ℕ
 command_word CreateTopic = codes "create-topic"
@@ -12,6 +12,7 @@ command_word Metadata = codes "metadata"
 command_word Produce = codes "produce"
 command_word Fetch = codes "fetch"
 command_word ListOffsets = codes "list-offsets"
+command_word DeleteRecords = codes "delete-records"
 command_word InitProducer = codes "init-producer"
 command_word Commit = codes "commit"
 command_word Committed = codes "committed"
@@ -23,8 +24,8 @@ command_word DeleteAcls = codes "delete-acls"
 
 abbrev pub commands : List Command
 commands =
-    CreateTopic ∷ DeleteTopic ∷ Metadata ∷ Produce ∷ Fetch ∷ ListOffsets ∷ InitProducer
-    ∷ Commit ∷ Committed ∷ Groups ∷ DeleteGroup ∷ CreateAcl ∷ DescribeAcls ∷ DeleteAcls ∷ []
+    CreateTopic ∷ DeleteTopic ∷ Metadata ∷ Produce ∷ Fetch ∷ ListOffsets ∷ DeleteRecords
+    ∷ InitProducer ∷ Commit ∷ Committed ∷ Groups ∷ DeleteGroup ∷ CreateAcl ∷ DescribeAcls ∷ DeleteAcls ∷ []
 
 -- the first of these with a word
 abbrev pub command_among : List Command → List ℕ → Option Command

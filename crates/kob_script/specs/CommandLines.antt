@@ -8,11 +8,11 @@ use Rattle.kob_script.specs.AclLines.{create_acl_line, describe_acls_line, delet
 use Rattle.kob_script.specs.Askers.{AskerWords}
 use Rattle.kob_script.specs.Command.{command_named}
 use Rattle.kob_script.specs.declared.command.Command.{Command}
-use Rattle.kob_script.specs.declared.command.Command.TheVariants.{CreateTopic, DeleteTopic, Metadata, Produce, Fetch, ListOffsets, InitProducer, Commit, Committed, Groups, DeleteGroup, CreateAcl, DescribeAcls, DeleteAcls}
+use Rattle.kob_script.specs.declared.command.Command.TheVariants.{CreateTopic, DeleteTopic, Metadata, Produce, Fetch, ListOffsets, DeleteRecords, InitProducer, Commit, Committed, Groups, DeleteGroup, CreateAcl, DescribeAcls, DeleteAcls}
 use Rattle.kob_script.specs.declared.fault.FaultKind.{FaultKind}
 use Rattle.kob_script.specs.declared.fault.FaultKind.TheVariants.{BadLine}
 use Rattle.kob_script.specs.GroupLines.{commit_line, committed_line, groups_line, delete_group_line}
-use Rattle.kob_script.specs.PartitionLines.{produce_line, fetch_line, list_offsets_line, init_producer_line}
+use Rattle.kob_script.specs.PartitionLines.{produce_line, fetch_line, list_offsets_line, delete_records_line, init_producer_line}
 use Rattle.kob_script.specs.Reading.{◌>>=◌}
 use Rattle.kob_script.specs.TopicLines.{create_topic_line, delete_topic_line, metadata_line}
 use Rattle.kob_script.specs.Word.{Word}
@@ -25,6 +25,7 @@ command_line Metadata asker arguments = metadata_line asker arguments
 command_line Produce asker arguments = produce_line asker arguments
 command_line Fetch asker arguments = fetch_line asker arguments
 command_line ListOffsets asker arguments = list_offsets_line asker arguments
+command_line DeleteRecords asker arguments = delete_records_line asker arguments
 command_line InitProducer asker arguments = init_producer_line asker arguments
 command_line Commit asker arguments = commit_line asker arguments
 command_line Committed asker arguments = committed_line asker arguments

@@ -4,7 +4,7 @@ use Rattle.std.specs.Fmt.{decimal}
 use Rattle.kob_names.specs.Binding.{Binding}
 use Rattle.kob_names.specs.declared.record.Record.{Record}
 use Rattle.kob_rights.specs.declared.reply.Body.{Body}
-use Rattle.kob_rights.specs.declared.reply.Body.TheVariants.{Created, Deleted, Committed, Serials, Bindings, Offset, Commit, Records, Topics, Groups, Producer}
+use Rattle.kob_rights.specs.declared.reply.Body.TheVariants.{Created, Deleted, Committed, Serials, Bindings, Offset, Start, Commit, Records, Topics, Groups, Producer}
 use Rattle.kob_words.specs.PrintedBinding.{binding_text}
 use Rattle.kob_words.specs.PrintedText.{bytes_text}
 
@@ -44,6 +44,7 @@ body_text (Serials serials) = codes "serials" ++ flat_map serial_item serials
 body_text (Bindings bindings) =
     codes "bindings " ++ decimal (length bindings) ++ flat_map binding_item bindings
 body_text (Offset offset) = codes "offset " ++ decimal offset
+body_text (Start offset) = codes "start " ++ decimal offset
 body_text (Commit commit) = codes "commit " ++ commit_text commit
 body_text (Records records) = codes "records" ++ flat_map record_item records
 body_text (Topics topics) = codes "topics" ++ flat_map topic_item topics

@@ -9,7 +9,9 @@ use crate::asker::AskerWords;
 use crate::command::{Command, command_named};
 use crate::fault::{FaultKind, LineError};
 use crate::group_lines::{commit_line, committed_line, delete_group_line, groups_line};
-use crate::partition_lines::{fetch_line, init_producer_line, list_offsets_line, produce_line};
+use crate::partition_lines::{
+    delete_records_line, fetch_line, init_producer_line, list_offsets_line, produce_line,
+};
 use crate::topic_lines::{create_topic_line, delete_topic_line, metadata_line};
 use crate::word::Word;
 use kob_acl_cli::CliArgs;
@@ -32,6 +34,7 @@ fn command_line(
         Command::Produce => produce_line(alloc, asker, words),
         Command::Fetch => fetch_line(alloc, asker, words),
         Command::ListOffsets => list_offsets_line(alloc, asker, words),
+        Command::DeleteRecords => delete_records_line(alloc, asker, words),
         Command::InitProducer => init_producer_line(alloc, asker, words),
         Command::Commit => commit_line(alloc, asker, words),
         Command::Committed => committed_line(alloc, asker, words),

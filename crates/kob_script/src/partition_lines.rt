@@ -1,7 +1,8 @@
 //! Lines that ask for something of partitions and their producers.
 
-ghost use Rattle.kob_script.specs.PartitionLines.{fetch, fetch_line, init_producer};
-ghost use Rattle.kob_script.specs.PartitionLines.{init_producer_line, list_offsets};
+ghost use Rattle.kob_script.specs.PartitionLines.{before_in, before_of, delete_records};
+ghost use Rattle.kob_script.specs.PartitionLines.{delete_records_line, fetch, fetch_line};
+ghost use Rattle.kob_script.specs.PartitionLines.{init_producer, init_producer_line, list_offsets};
 ghost use Rattle.kob_script.specs.PartitionLines.{list_offsets_line, produce, produce_line};
 ghost use Rattle.kob_script.specs.PartitionLines.{which_in, which_of};
 ghost use Rattle.kob_script.specs.Reading.{Gives};
@@ -9,9 +10,9 @@ ghost use Rattle.kob_script.specs.Reading.{Gives};
 use crate::asker::{AskerWithName, AskerWords};
 use crate::batch::{batch_of, idem_parts};
 use crate::fault::{FaultKind, LineError};
-use crate::number::number_of;
+use crate::number::{number_in, number_of};
 use crate::word::Word;
-use kob_rights::{Event, Fetch, ListOffsets, Produce, Request, Which};
+use kob_rights::{Before, DeleteRecords, Event, Fetch, ListOffsets, Produce, Request, Which};
 use std::alloc::Global;
 
 #[tactic(auto, unfolding(crate::specs::PartitionLines::produce))]
@@ -97,6 +98,42 @@ fn list_offsets(
     })))
 }
 
+fn before_of(word: &Word<'_>) -> Result<Before, LineError>
+    ensures { Gives result (before_of word.now) }
+{
+    before_in(word.decoded())
+}
+
+fn before_in(name: &[u8]) -> Result<Before, LineError>
+    ensures { Gives result (before_in name.now) }
+{
+    if name == b"-1".as_slice() {
+        return Ok(Before::End);
+    }
+    let offset = number_in(name)?;
+    Ok(Before::Offset(offset))
+}
+
+#[tactic(auto, unfolding(crate::specs::PartitionLines::delete_records))]
+fn delete_records(
+    alloc: Global,
+    asker: &AskerWords<'_, '_>,
+    topic: &Word<'_>,
+    partition: &Word<'_>,
+    before: &Word<'_>,
+) -> Result<Event, LineError>
+    ensures { Gives result (delete_records asker.now topic.now partition.now before.now) }
+{
+    let AskerWithName { asker, name } = asker.with_name(alloc, topic)?;
+    let partition = number_of(partition)?;
+    let before = before_of(before)?;
+    Ok(asker.asks(Request::DeleteRecords(DeleteRecords {
+        topic: name,
+        partition,
+        before,
+    })))
+}
+
 #[tactic(auto, unfolding(crate::specs::PartitionLines::init_producer))]
 fn init_producer(alloc: Global, asker: &AskerWords<'_, '_>) -> Result<Event, LineError>
     ensures { Gives result (init_producer asker.now) }
@@ -146,6 +183,20 @@ pub fn list_offsets_line(
 {
     match words {
         [topic, partition, which] => list_offsets(alloc, asker, topic, partition, which),
+        _ => Err(LineError::Fault(FaultKind::BadLine)),
+    }
+}
+
+/// `delete-records TOPIC PARTITION`, then the offset to delete up to, or `-1` for the end
+pub fn delete_records_line(
+    alloc: Global,
+    asker: &AskerWords<'_, '_>,
+    words: &[Word<'_>],
+) -> Result<Event, LineError>
+    ensures { Gives result (delete_records_line asker.now words.now) }
+{
+    match words {
+        [topic, partition, before] => delete_records(alloc, asker, topic, partition, before),
         _ => Err(LineError::Fault(FaultKind::BadLine)),
     }
 }

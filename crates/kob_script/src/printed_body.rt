@@ -3,7 +3,7 @@
 ghost use Rattle.std.specs.Prelude.{◌≡◌, ◌++◌, OnOk};
 ghost use Rattle.kob_rights.specs.declared.reply.Body.TheVariants.{Serials, Bindings, Offset};
 ghost use Rattle.kob_rights.specs.declared.reply.Body.TheVariants.{Commit, Records, Topics, Groups};
-ghost use Rattle.kob_rights.specs.declared.reply.Body.TheVariants.{Producer};
+ghost use Rattle.kob_rights.specs.declared.reply.Body.TheVariants.{Producer, Start};
 ghost use Rattle.kob_script.specs.PrintedBody.{topic_item, record_item, body_text};
 
 use kob_names::{Binding, Record, Text};
@@ -23,6 +23,7 @@ pub fn push_body(alloc: Global, out: &mut Vec<u8>, body: &Body) -> Result<(), Al
         Body::Serials(serials) => push_serials(alloc, out, serials.as_slice()),
         Body::Bindings(bindings) => push_bindings(alloc, out, bindings.as_slice()),
         Body::Offset(offset) => push_offset(alloc, out, *offset),
+        Body::Start(start) => push_start(alloc, out, *start),
         Body::Commit(commit) => push_commit(alloc, out, *commit),
         Body::Records(records) => push_records(alloc, out, records.as_slice()),
         Body::Topics(topics) => push_topics(alloc, out, topics.as_slice()),
@@ -66,6 +67,14 @@ fn push_offset(alloc: Global, out: &mut Vec<u8>, offset: u64) -> Result<(), Allo
 {
     out.extend_from_slice(b"offset ")?;
     push_number(alloc, out, offset)
+}
+
+#[tactic(auto, using(kob_words::proofs::Appending::appending))]
+fn push_start(alloc: Global, out: &mut Vec<u8>, start: u64) -> Result<(), AllocError>
+    ensures { OnOk result (out.new.items ≡ out.old.items ++ body_text (Start start)) }
+{
+    out.extend_from_slice(b"start ")?;
+    push_number(alloc, out, start)
 }
 
 #[tactic(auto, using(kob_words::proofs::Appending::appending))]
