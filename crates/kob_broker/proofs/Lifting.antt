@@ -24,6 +24,9 @@ use Rattle.kob_rights.specs.Writes.{Write, write_of}
 use Rattle.kob_rights.specs.Writes as writes
 use Rattle.kob_rights.specs.declared.event.Event.{Event}
 use Rattle.kob_rights.specs.declared.on_partitions.Fetch.{Fetch as FetchAsked}
+use Rattle.kob_rights.specs.declared.on_partitions.DeleteRecords.{DeleteRecords as DeleteAsked}
+use Rattle.kob_rights.specs.declared.on_partitions.Before.{Before}
+use Rattle.kob_rights.specs.declared.on_partitions.Before.TheVariants.{Offset as BeforeOffset, End as BeforeEnd}
 use Rattle.kob_rights.specs.declared.on_partitions.Produce.{Produce as ProduceAsked}
 use Rattle.kob_rights.specs.declared.on_partitions.Which.{Which}
 use Rattle.kob_rights.specs.declared.on_partitions.Which.TheVariants.{Start, End}
@@ -32,7 +35,8 @@ use Rattle.kob_rights.specs.declared.reply.Body.TheVariants as bodies
 use Rattle.kob_rights.specs.declared.reply.Reply.{Reply}
 use Rattle.kob_rights.specs.declared.reply.Reply.TheVariants.{Done}
 use Rattle.kob_rights.specs.declared.request.Request.{Request}
-use Rattle.kob_rights.specs.declared.request.Request.TheVariants.{Produce, Fetch, ListOffsets, Metadata, OffsetCommit, CreateTopics, DeleteTopics}
+use Rattle.kob_rights.specs.declared.request.Request.TheVariants.{Produce, Fetch, ListOffsets, Metadata, OffsetCommit, CreateTopics, DeleteTopics, DeleteRecords}
+use Rattle.kob_broker.specs.DeleteRecords.{offset_before, start_after, with_start}
 use Rattle.kob_broker.specs.Denial.{denial_of}
 use Rattle.kob_broker.specs.Effect.{Outcome, named, partition_in, reasons_against, body, after, after_write, refusal, effect_by, effect}
 use Rattle.kob_broker.specs.Fetch.{fetched_at, is_out_of_range}
@@ -164,6 +168,25 @@ module _ {P Q : Type 0} (m : Meaning P) (n : Meaning Q) (f : P → Q) (c : Carri
   offset_at_alike found Start = start_at_alike found
   offset_at_alike found End = end_at_alike found
 
+  before_alike : (found : Option P) (before : Before)
+      → offset_before n (option_map f found) before ≡ offset_before m found before
+  before_alike found (BeforeOffset offset) = refl
+  before_alike found BeforeEnd = end_at_alike found
+
+  start_after_alike : (found : Option P) (before : Before)
+      → start_after n (option_map f found) before ≡ start_after m found before
+  start_after_alike found before = rw (start_at_alike found, before_alike found before) refl
+
+  with_start_alike : (found : Option P) (delete : DeleteAsked) (topics : List (Topic P))
+      → with_start n (option_map f found) delete (topics_map f topics) ≡ topics_map f (with_start m found delete topics)
+  with_start_alike None delete topics = refl
+  with_start_alike (Some p) delete topics =
+      let offset = offset_before m (Some p) delete.before in
+      ap (λ o. with_partition delete.topic delete.partition (n.advance (f p) o) (topics_map f topics))
+      (before_alike (Some p) delete.before)
+      ∙ ap (λ q. with_partition delete.topic delete.partition q (topics_map f topics)) (sym (c.advance p offset))
+      ∙ with_partition_map f delete.topic delete.partition (m.advance p offset) topics
+
   out_of_range_alike : (found : Option P) (offset : ℕ)
       → is_out_of_range n (option_map f found) offset ≡ is_out_of_range m found offset
   out_of_range_alike None offset = refl
@@ -214,6 +237,13 @@ module _ {P Q : Type 0} (m : Meaning P) (n : Meaning Q) (f : P → Q) (c : Carri
   reasons_alike s found (CreateTopics create) =
       rw (place_of_mapped f create.name s.topics, length-map s.topics (topic_map f)) refl
   reasons_alike s found (DeleteTopics delete) = rw (place_of_mapped f delete.name s.topics) refl
+  reasons_alike s found (DeleteRecords delete) =
+      rw (
+        place_of_mapped f delete.topic s.topics,
+        is_some_map f found,
+        end_at_alike found,
+        before_alike found delete.before,
+      ) refl
   reasons_alike s found _ = refl
 
   body_alike : (s : State P) (found : Option P) (event : Event) (request : Request)
@@ -222,6 +252,7 @@ module _ {P Q : Type 0} (m : Meaning P) (n : Meaning Q) (f : P → Q) (c : Carri
   body_alike s found event (Fetch fetch) = ap bodies.Records (fetched_alike found fetch)
   body_alike s found event (ListOffsets asked) = ap bodies.Offset (offset_at_alike found asked.which)
   body_alike s found event (Metadata asked) = ap bodies.Topics (metadata_map f s.access event s.topics asked.topic)
+  body_alike s found event (DeleteRecords delete) = ap bodies.Start (start_after_alike found delete.before)
   body_alike s found event _ = refl
 
   new_topic_alike : (name : List ℕ) (partitions : ℕ)
@@ -248,6 +279,12 @@ module _ {P Q : Type 0} (m : Meaning P) (n : Meaning Q) (f : P → Q) (c : Carri
   write_alike s found (Some (writes.RemoveTopic delete)) = λ i. record {
     topics = without_topic_map f delete.name s.topics i;
     groups = groups.without_topic delete.name s.groups;
+    access = s.access;
+    next_producer = s.next_producer;
+  }
+  write_alike s found (Some (writes.AdvanceStart delete)) = λ i. record {
+    topics = with_start_alike found delete s.topics i;
+    groups = s.groups;
     access = s.access;
     next_producer = s.next_producer;
   }

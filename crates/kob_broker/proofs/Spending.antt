@@ -24,11 +24,13 @@ use Rattle.kob_rights.specs.Writes.{Write, write_of}
 use Rattle.kob_rights.specs.Writes as writes
 use Rattle.kob_rights.specs.declared.check.Check.{Check}
 use Rattle.kob_rights.specs.declared.event.Event.{Event}
+use Rattle.kob_rights.specs.declared.on_partitions.DeleteRecords.{DeleteRecords as DeleteAsked}
 use Rattle.kob_rights.specs.declared.on_partitions.Produce.{Produce as ProduceAsked}
 use Rattle.kob_rights.specs.declared.reason.Reason.{Reason}
 use Rattle.kob_rights.specs.declared.request.Request.{Request}
 use Rattle.kob_rights.specs.declared.request.Request.TheVariants.{Produce, Metadata, InitProducerId, CreateAcls}
 use Rattle.kob_broker.specs.CreateAcls.{draft_reasons, limit_reasons}
+use Rattle.kob_broker.specs.DeleteRecords.{offset_before, with_start}
 use Rattle.kob_broker.specs.Denial.{denial_naming, first_unmet}
 use Rattle.kob_broker.specs.Effect.{Outcome, after_write, effect_by, named, reasons_against, refusal}
 use Rattle.kob_broker.specs.Named.{end_at}
@@ -186,6 +188,14 @@ batch_up_to None produce n topics short all = all
 batch_up_to (Some partition) produce n topics short all =
     put_up_to (batch_judged plain_meaning partition produce.batch) partition produce n topics short all
 
+start_up_to : (found : Option Plain) (delete : DeleteAsked) (n : ℕ) (topics : List (Topic Plain))
+    → IfSome found (UpTo n) → All (EachOf (UpTo n)) topics
+    → All (EachOf (UpTo n)) (with_start plain_meaning found delete topics)
+start_up_to None delete n topics short all = all
+start_up_to (Some partition) delete n topics short all =
+    once_written (UpTo n) (place_of delete.topic topics) delete.partition
+    (plain_meaning.advance partition (offset_before plain_meaning (Some partition) delete.before)) topics short all
+
 after_asked : (n : ℕ) (s : State Plain) (found : Option Plain) (write : Option Write) → AskedUpTo n s
     → IfSome found (UpTo n)
     → AskedUpTo (n + asked_of write) (after_write plain_meaning s found write)
@@ -213,6 +223,13 @@ after_asked n s found (Some (writes.RemoveTopic delete)) asked short =
       producers = all.producers;
       serials = all.serials;
     }
+after_asked n s found (Some (writes.AdvanceStart delete)) asked short =
+    grown n 0 (record s { topics = with_start plain_meaning found delete s.topics })
+    (record {
+      topics = start_up_to found delete n s.topics short asked.topics;
+      producers = asked.producers;
+      serials = asked.serials;
+    })
 after_asked n s found (Some writes.GiveProducerId) asked short =
     let all = grown n 1 s asked in
     record { topics = all.topics; producers = omega (arith, asked.producers); serials = all.serials }

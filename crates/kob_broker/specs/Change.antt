@@ -1,5 +1,5 @@
 -- What a prepared change does, and when there is room for it.
-use Rattle.std.specs.Prelude.{◌≡◌, true, ◌<◌, ◌+◌, ◌++◌, [], ◌∷◌}
+use Rattle.std.specs.Prelude.{◌≡◌, true, ◌<◌, ◌≤◌, ◌+◌, ◌++◌, [], ◌∷◌}
 use Rattle.kob_authorizer.specs.Creation.{CanCreate, with_creation}
 use Rattle.kob_authorizer.specs.Deletion.{CanDelete, without_taken}
 use Rattle.kob_catalog.specs.Creation.{CanAdd}
@@ -15,7 +15,7 @@ use Rattle.kob_rights.specs.declared.reply.Reply.{Reply}
 use Rattle.kob_rights.specs.declared.request.Request.{Request}
 use Rattle.kob_broker.specs.declared.broker.Broker.{Broker}
 use Rattle.kob_broker.specs.declared.prepared.Change.{Change}
-use Rattle.kob_broker.specs.declared.prepared.Change.TheVariants.{Unchanged, AddTopic, RemoveTopic, AddBindings, RemoveBindings, Append, Commit, RemoveGroup, GiveProducer}
+use Rattle.kob_broker.specs.declared.prepared.Change.TheVariants.{Unchanged, AddTopic, RemoveTopic, AddBindings, RemoveBindings, Append, AdvanceStart, Commit, RemoveGroup, GiveProducer}
 use Rattle.kob_broker.specs.declared.prepared.Prepared.{Prepared}
 use Rattle.kob_broker.specs.Limits.{producer_limit}
 use Rattle.kob_broker.specs.DeleteTopics.{delete_topics_after}
@@ -46,6 +46,11 @@ state_after_change (Append place partition batch) broker = record (state_of brok
       (retained_meaning.append (catalog_log broker.catalog place partition).kept batch)
       (topics_of broker.catalog);
 }
+state_after_change (AdvanceStart place partition offset) broker = record (state_of broker) {
+  topics = with_partition_at place partition
+      (retained_meaning.advance (catalog_log broker.catalog place partition).kept offset)
+      (topics_of broker.catalog);
+}
 state_after_change (Commit made) broker = record (state_of broker) {
   groups = groups.with_commit made.place made.offset (groups_of broker.groups);
 }
@@ -64,6 +69,9 @@ CanCommit (RemoveBindings made) broker = CanDelete made broker.authorizer
 CanCommit (Append place partition batch) broker =
     HasPartition broker.catalog.logs place partition
     × CanAppend (catalog_log broker.catalog place partition) batch
+CanCommit (AdvanceStart place partition offset) broker =
+    HasPartition broker.catalog.logs place partition
+    × (offset ≤ (catalog_log broker.catalog place partition).kept.end)
 CanCommit (Commit made) broker = groups_kept.CanCommit made broker.groups
 CanCommit (RemoveGroup name) broker = groups.has_group name (groups_of broker.groups) ≡ true
 CanCommit GiveProducer broker = broker.next_producer < producer_limit

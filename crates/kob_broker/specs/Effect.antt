@@ -15,10 +15,11 @@ use Rattle.kob_rights.specs.declared.reply.Body.TheVariants as bodies
 use Rattle.kob_rights.specs.declared.reply.Reply.{Reply}
 use Rattle.kob_rights.specs.declared.reply.Reply.TheVariants.{Refused, Done}
 use Rattle.kob_rights.specs.declared.request.Request.{Request}
-use Rattle.kob_rights.specs.declared.request.Request.TheVariants.{Produce, Fetch, ListOffsets, Metadata, OffsetCommit, OffsetFetch, ListGroups, DeleteGroups, CreateTopics, DeleteTopics, InitProducerId, DescribeAcls, CreateAcls, DeleteAcls}
+use Rattle.kob_rights.specs.declared.request.Request.TheVariants.{Produce, Fetch, ListOffsets, Metadata, OffsetCommit, OffsetFetch, ListGroups, DeleteGroups, CreateTopics, DeleteTopics, DeleteRecords, InitProducerId, DescribeAcls, CreateAcls, DeleteAcls}
 use Rattle.kob_broker.specs.CreateAcls.{create_acls_reasons, created_serials}
 use Rattle.kob_broker.specs.CreateTopics.{create_topics_reasons, create_topics_after}
 use Rattle.kob_broker.specs.DeleteGroups.{delete_groups_reasons}
+use Rattle.kob_broker.specs.DeleteRecords.{delete_records_reasons, delete_records_after, start_after}
 use Rattle.kob_broker.specs.DeleteTopics.{delete_topics_reasons, delete_topics_after}
 use Rattle.kob_broker.specs.Fetch.{fetch_reasons, fetched_at}
 use Rattle.kob_broker.specs.InitProducerId.{init_producer_reasons}
@@ -60,6 +61,7 @@ module _ {P : Type 0} (m : Meaning P) where
   reasons_against s found (DeleteGroups delete) = delete_groups_reasons s.groups delete
   reasons_against s found (CreateTopics create) = create_topics_reasons m s create
   reasons_against s found (DeleteTopics delete) = delete_topics_reasons s delete
+  reasons_against s found (DeleteRecords delete) = delete_records_reasons m s found delete
   reasons_against s found InitProducerId = init_producer_reasons s.next_producer
   reasons_against s found (DescribeAcls asked) = []
   reasons_against s found (CreateAcls create) = create_acls_reasons s.access create
@@ -80,6 +82,7 @@ module _ {P : Type 0} (m : Meaning P) where
   body s found event (DeleteGroups delete) = bodies.Deleted
   body s found event (CreateTopics create) = bodies.Created
   body s found event (DeleteTopics delete) = bodies.Deleted
+  body s found event (DeleteRecords delete) = bodies.Start (start_after m found delete.before)
   body s found event InitProducerId = bodies.Producer s.next_producer 0
   body s found event (DescribeAcls asked) =
       bodies.Bindings (bindings_taken asked.filter s.access.entries)
@@ -96,6 +99,7 @@ module _ {P : Type 0} (m : Meaning P) where
       record s { groups = groups.without_group delete.group s.groups }
   after_write s found (Some (writes.AddTopic create)) = create_topics_after m s create
   after_write s found (Some (writes.RemoveTopic delete)) = delete_topics_after s delete.name
+  after_write s found (Some (writes.AdvanceStart delete)) = delete_records_after m s found delete
   after_write s found (Some writes.GiveProducerId) =
       record s { next_producer = s.next_producer + 1 }
   after_write s found (Some (writes.AddBindings create)) =

@@ -10,6 +10,7 @@ pub mod CreateAcls
 pub mod Produce
 pub mod Fetch
 pub mod ListOffsets
+pub mod DeleteRecords
 pub mod Metadata
 pub mod OffsetCommit
 pub mod OffsetFetch

@@ -84,6 +84,7 @@ impl Broker {
             Request::DeleteGroups(asked) => self.prepare_delete_groups(alloc, asked),
             Request::CreateTopics(asked) => self.prepare_create_topics(alloc, asked),
             Request::DeleteTopics(asked) => self.prepare_delete_topics(alloc, asked),
+            Request::DeleteRecords(asked) => Ok(self.prepare_delete_records(asked)),
             Request::InitProducerId => Ok(self.prepare_init_producer_id()),
             Request::DescribeAcls(asked) => self.prepare_describe_acls(alloc, asked),
             Request::CreateAcls(asked) => self.prepare_create_acls(alloc, asked),
@@ -124,6 +125,9 @@ impl Broker {
             }
             Change::Append(place, partition, batch) => {
                 self.catalog.commit_append(place, partition, batch);
+            }
+            Change::AdvanceStart(place, partition, offset) => {
+                self.catalog.commit_advance(place, partition, offset);
             }
             Change::Commit(made) => self.groups.commit_commit(made),
             Change::RemoveGroup(name) => {

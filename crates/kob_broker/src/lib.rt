@@ -7,6 +7,7 @@ mod create_acls;
 mod create_topics;
 mod delete_acls;
 mod delete_groups;
+mod delete_records;
 mod delete_topics;
 mod denial;
 mod describing;

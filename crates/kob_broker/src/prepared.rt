@@ -24,6 +24,8 @@ pub(crate) enum Change {
     RemoveBindings(PreparedDelete),
     /// A batch to put last in a partition of the topic at a place.
     Append(usize, usize, Batch),
+    /// The start of a partition of the topic at a place moves up to an offset.
+    AdvanceStart(usize, usize, u64),
     /// An offset to commit.
     Commit(PreparedCommit),
     /// The group of that name goes, and its commits.
