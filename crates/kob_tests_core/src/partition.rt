@@ -1,5 +1,5 @@
-//! The log of a partition: an idempotent producer's batches, a batch across the edge of a chunk, and
-//! a start that is moved up.
+//! The log of a partition: an idempotent producer's batches, a batch across the edge of a chunk,
+//! and a start that is moved up.
 
 use kob_names::{Batch, Bytes, Idem, Items, Record};
 use kob_partition::{AdvanceFault, AppendFault, FetchFault, PartitionLog};
@@ -122,8 +122,7 @@ const ADVANCES: [(u64, Result<u64, AdvanceFault>); 7] = [
     (300, Ok(300)),
 ];
 
-/// Whether what is fetched from an offset on is, to the record before the end, all that is read from
-/// the start on, and out of range elsewhere.
+/// Whether all records from an offset on are fetched, if it is between start and end, and else none.
 fn reads_from(alloc: Global, log: &PartitionLog, offset: u64) -> Result<bool, AllocError> {
     match log.fetch(alloc, offset, 1_000) {
         Ok(records) => Ok(log.start() <= offset && are_at(records.as_slice(), offset, log.end())),
