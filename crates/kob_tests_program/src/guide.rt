@@ -6,6 +6,33 @@ use std::test::Fail;
 
 // The files under examples/, as `tools/guide --write` puts them here.
 
+pub(crate) const DELETE_RECORDS_TXT: &str = "super User:root
+User:root h create-topic orders 1
+User:root h create-acl allow User:ops * Delete Topic literal orders
+User:root h init-producer
+User:root h produce orders 0 0:0:0 42=paid 43=paid
+User:root h produce orders 0 0:0:2 42=sent
+User:ops h delete-records orders 0 2
+User:root h fetch orders 0 0 10
+User:root h fetch orders 0 2 10
+User:root h produce orders 0 0:0:0 42=paid 43=paid
+User:ops h delete-records orders 0 -1
+User:root h list-offsets orders 0 -2
+";
+
+pub(crate) const DELETE_RECORDS_OUT: &str = "1 ok created
+2 ok serials 1
+3 ok producer 0 0
+4 ok offset 0
+5 ok offset 2
+6 ok start 2
+7 refused 1 OFFSET_OUT_OF_RANGE OutOfRange
+8 ok records 2:42=sent
+9 ok offset 0
+10 ok start 3
+11 ok offset 3
+";
+
 pub(crate) const DENY_BEATS_ALLOW_TXT: &str = "super User:root
 User:root h create-topic outbox.event.payments 1
 User:root h create-acl allow User:svc * Write Topic literal outbox.event.payments
@@ -101,12 +128,13 @@ binding 1 ALLOW User:svc 10.0.0.2 Write Topic PREFIXED outbox.event.
 
 // End of the files.
 
-const EXAMPLES: [(&str, &str, &str); 5] = [
+const EXAMPLES: [(&str, &str, &str); 6] = [
     (
         "deny_beats_allow",
         DENY_BEATS_ALLOW_TXT,
         DENY_BEATS_ALLOW_OUT,
     ),
+    ("delete_records", DELETE_RECORDS_TXT, DELETE_RECORDS_OUT),
     ("hidden_listing", HIDDEN_LISTING_TXT, HIDDEN_LISTING_OUT),
     (
         "idempotent_repeat",

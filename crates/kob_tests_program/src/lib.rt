@@ -6,6 +6,8 @@ mod acl;
 #[cfg(test)]
 mod acl_lines;
 #[cfg(test)]
+mod deletions;
+#[cfg(test)]
 mod full;
 #[cfg(test)]
 mod groups;

@@ -15,8 +15,8 @@ fn output(alloc: Global, lines: &[u8]) -> Result<Vec<u8>, RunFault> {
     Ok(written)
 }
 
-/// Whether the output for the lines ends so.
-fn ends_in(alloc: Global, lines: &[u8], end: &str) -> Result<bool, RunFault> {
+/// Whether the output for the lines, after those two requests, ends so.
+pub(crate) fn ends_in(alloc: Global, lines: &[u8], end: &str) -> Result<bool, RunFault> {
     let written = output(alloc, lines)?;
     Ok(written.as_slice().ends_with(end.as_bytes()))
 }

@@ -44,6 +44,11 @@ fn first_fault_is_printed(rt: HostRuntime) -> Result<(), Fail> {
         ("User:a h groups\nsuper %2", "fault line 2 BadEscape\n"),
         ("a h list-offsets %ff x -3\n", "fault line 1 BadLine\n"),
         ("User:a h produce t 0 %2d\n", "fault line 1 BadLine\n"),
+        ("User:a h delete-records t 0\n", "fault line 1 BadLine\n"),
+        (
+            "User:a h delete-records t 0 1 1\n",
+            "fault line 1 BadLine\n",
+        ),
         ("User:a h Groups\n", "fault line 1 BadLine\n"),
         ("a h create-topic %ff 1\n", "fault line 1 BadText\n"),
         ("super a\nx", "fault line 1 BadPrincipal\n"),
@@ -57,6 +62,15 @@ fn first_fault_is_printed(rt: HostRuntime) -> Result<(), Fail> {
             "User:a h fetch t 00 7 18446744073709551616\n",
             "fault line 1 BadNumber\n",
         ),
+        (
+            "User:a h delete-records t 0 -2\n",
+            "fault line 1 BadNumber\n",
+        ),
+        (
+            "User:a h delete-records t 0 18446744073709551616\n",
+            "fault line 1 BadNumber\n",
+        ),
+        ("a h delete-records t x -2\n", "fault line 1 BadPrincipal\n"),
         (
             "User:a h create-acl allow User:b * Read Topic any t\n",
             "fault line 1 BadWord\n",
@@ -95,6 +109,10 @@ fn spellings_read_alike(rt: HostRuntime) -> Result<(), Fail> {
         (
             "User:a h list-offsets t 007 %2d1\n",
             "User:a h list-offsets t 7 -1\n",
+        ),
+        (
+            "User:a h delete-records t 0 %2d1\nUser:a h delete-records t 00 007\n",
+            "User:a h delete-records t 0 -1\nUser:a h delete-records t 0 7\n",
         ),
         (
             "User:a h produce t 0 %30:1:02 k=v=w =x v%3dw - %2D\n",
@@ -182,6 +200,7 @@ fn replies(alloc: Global) -> Result<Vec<Reply>, Fail> {
     replies.push(Reply::Done(Body::Groups(Items::from_vec(Vec::new(alloc)))))?;
     replies.push(Reply::Done(Body::Commit(None)))?;
     replies.push(Reply::Done(Body::Producer { id: 2, epoch: 0 }))?;
+    replies.push(Reply::Done(Body::Start(260)))?;
     replies.push(denied(alloc)?)?;
     replies.push(Reply::Refused {
         code: Code::InvalidRequest,
@@ -197,8 +216,9 @@ binding 7 DENY User:a%20b * DescribeConfigs TransactionalId PREFIXED 50%25%3d%c3
 4 ok groups\n\
 5 ok commit -1\n\
 6 ok producer 2 0\n\
-7 denied 29 TOPIC_AUTHORIZATION_FAILED no-allow,deny:12\n\
-8 refused 42 INVALID_REQUEST NoRecords\n";
+7 ok start 260\n\
+8 denied 29 TOPIC_AUTHORIZATION_FAILED no-allow,deny:12\n\
+9 refused 42 INVALID_REQUEST NoRecords\n";
 
 #[test]
 fn replies_are_printed(rt: HostRuntime) -> Result<(), Fail> {
