@@ -156,6 +156,7 @@ impl Authorizer {
               serials = serials.items;
             }) }
         ensures supers { self.new.contents.supers ≡ self.old.contents.supers }
+        ensures everyone { self.new.contents.everyone ≡ self.old.contents.everyone }
         ensures allowed { OnOk result (create_fault
             self.old.contents.entries self.old.contents.next bindings.now ≡ None) }
         ensures fault { IfErr result (λ fault. fault ≢ CreateFault.Memory
