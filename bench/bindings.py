@@ -7,14 +7,15 @@ binding.
 PROGRAM is the program that serves scripts, as `rt run` in crates/kob_run builds it: crates/kob_run/out/kob_run if none
 is given. It is given scripts on its standard input: a super user creates bindings one by one, each for a principal of
 its own, on as many names or all on one name. Then, on many names, principals write to ten of the names in turn, spread
-over them all, each matched by one binding. No topic exists, so a write ends right after the decision.
+over them all, each matched by one binding; or to ten other names, which no binding matches, so that they are open to
+everyone. No topic exists, so a write ends right after the decision.
 
 The seconds are processor time of the program, the least of several runs. From each time that of the script without the
 lines in question is taken away; what is left has the reading of a line and the printing of a reply in it. The bytes are
 by how much the most that the program had in memory grows from 50,000 to 100,000 bindings, line and reply with it.
 
 What is to be seen: a creation costs about the same among 1,000 and among 100,000, on many names and on one; a decision
-about a name that few bindings match costs at most 1.5 times as much among 100,000 as among 10.
+about a name that few bindings match, or none, costs at most 1.5 times as much among 100,000 as among 10.
 """
 
 import argparse
@@ -44,9 +45,15 @@ def decisions(count):
         yield f"User:u{place:06} h produce t{place:06} 0 - v\n"
 
 
+def open_decisions():
+    """Lines that ask for the right to write to a name that no binding matches."""
+    for question in range(DECISIONS):
+        yield f"User:u{question % NAMES_ASKED:06} h produce o{question % NAMES_ASKED:06} 0 - v\n"
+
+
 def run(program, lines):
     """The processor time and the most bytes in memory of one run over the lines, which must be granted one and all."""
-    script = "".join(("super User:root\n", *lines)).encode()
+    script = "".join(("everyone on\nsuper User:root\n", *lines)).encode()
     with tempfile.TemporaryFile() as given, tempfile.TemporaryFile() as printed:
         given.write(script)
         given.seek(0)
@@ -67,13 +74,14 @@ def least(program, lines, runs):
 
 
 def measure(program, empty, count, one_name):
-    """The seconds per creation, and on many names per decision."""
+    """The seconds per creation, and on many names per decision by a binding and per decision by none."""
     made = list(creations(count, one_name))
     seconds = least(program, made, RUNS[count])[0]
     creation = (seconds - empty) / count
     if one_name:
-        return creation, None
-    return creation, (least(program, made + list(decisions(count)), 5)[0] - seconds) / DECISIONS
+        return creation, None, None
+    asked = (list(decisions(count)), list(open_decisions()))
+    return creation, *((least(program, made + lines, 5)[0] - seconds) / DECISIONS for lines in asked)
 
 
 def bytes_each(program, count, one_name):
@@ -90,20 +98,21 @@ def main():
         sys.exit(f"{program} is not there: build it by `rt run` in crates/kob_run")
     few, some, many = RUNS
     empty = least(program, [], RUNS[few])[0]
-    print(f"{'bindings':>9}  {'on':<10}  {'s per creation':>14}  {'s per decision':>14}")
+    print(f"{'bindings':>9}  {'on':<10}  {'s per creation':>14}  {'s per decision':>14}  {'s per open one':>14}")
     rows = {}
     for one_name in (False, True):
         for count in RUNS:
-            creation, decision = rows[one_name, count] = measure(program, empty, count, one_name)
-            asked = "" if decision is None else f"{decision:.9f}"
+            creation, *asked = rows[one_name, count] = measure(program, empty, count, one_name)
+            decisions_told = "  ".join("" if seconds is None else f"{seconds:14.9f}" for seconds in asked)
             on = "one name" if one_name else "many names"
-            print(f"{count:>9,}  {on:<10}  {creation:14.9f}  {asked:>14}")
+            print(f"{count:>9,}  {on:<10}  {creation:14.9f}  {decisions_told}")
     for one_name, on in ((False, "many names"), (True, "one name")):
         growth = rows[one_name, many][0] / rows[one_name, some][0]
         print(f"a creation among {many:,} costs {growth:.2f} times one among {some:,}, on {on}")
         print(f"a binding takes {bytes_each(program, many, one_name):.0f} bytes, on {on}")
-    growth = rows[False, many][1] / rows[False, few][1]
-    print(f"a decision among {many:,} costs {growth:.2f} times one among {few:,}")
+    for column, what in ((1, "a decision"), (2, "a decision on what no binding matches")):
+        growth = rows[False, many][column] / rows[False, few][column]
+        print(f"{what} among {many:,} costs {growth:.2f} times one among {few:,}")
 
 
 if __name__ == "__main__":

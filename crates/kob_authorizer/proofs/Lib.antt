@@ -7,7 +7,9 @@ pub mod IndexSteps
 pub mod InTurn
 pub mod LeastPassing
 pub mod Matching
+pub mod Resources
 pub mod Rising
 pub mod Serials
 pub mod TreeSteps
+pub mod Unmatched
 pub mod Verdicts

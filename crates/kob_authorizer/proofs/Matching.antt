@@ -1,13 +1,13 @@
 -- The serials that the trees give lead to every binding that is sought.
 use Rattle.std.proofs.Common.{◌≡◌, inl, inr, refl, sym, ◌∙◌, subst, Bool, true, ℕ, List, ◌++◌, drop, length}
-use Rattle.std.specs.Prelude.{Contains, codes, nat_eq}
+use Rattle.std.specs.Prelude.{Contains, IsTrue, codes, nat_eq}
 use Rattle.std.specs.List.{filter, starts_with}
 use Rattle.std.proofs.lemmas.Bool.{and_from, or_cases}
 use Rattle.std.proofs.lemmas.Bool.Decides.{Decides-eqb}
 use Rattle.std.proofs.lemmas.List.Elements.{Contains-append_left, Contains-append_right}
 use Rattle.std.proofs.lemmas.Slice.Eq.{bytes_eq-Decides, starts_is}
 use Rattle.kob_names.proofs.SameBindings.{resource_decides, same_binding_decides}
-use Rattle.kob_names.specs.Access.{matches_by}
+use Rattle.kob_names.specs.Access.{matches, matches_by}
 use Rattle.kob_names.specs.Same.{same_resource, same_text}
 use Rattle.kob_names.specs.Binding.{Binding}
 use Rattle.kob_names.specs.declared.kinds.PatternKind.{PatternKind}
@@ -74,20 +74,26 @@ looked_up_by m Prefixed key name serial matched has =
     (walk_has_prefixed m serial key (drop (length key) name) has))
 
 module _ (index : Index) (entries : List (ℕ × Binding)) (indexed : Indexes index entries) where
-  -- every hit is looked up
+  -- every binding that matches is looked up
+  pub looked_up : (resource : ResourceKind) (name : List ℕ) (entry : ℕ × Binding) → Contains entries entry
+      → entry.1.resource ≡ resource → IsTrue (matches entry.1.pattern name)
+      → Contains (matching_serials (tree_of index resource) name) entry.0
+  looked_up resource name entry there of_kind matched =
+      let on : same_resource entry.1.resource resource ≡ true =
+      (resource_decides entry.1.resource resource).1 of_kind in
+      let among : Contains (entries_on resource entries) entry =
+      kept_by_filter (λ (e : ℕ × Binding). same_resource e.1.resource resource) entries entry there on in
+      looked_up_by (tree_of index resource) entry.1.pattern.kind entry.1.pattern.name name entry.0 matched
+      (at_its_place pattern_place (tree_of index resource) (entries_on resource entries) entry
+      (indexed.patterns resource) among)
+
+  -- so every hit is
   hits_looked_up : (permission : Permission) (question : Question)
       → LeadToAll (is_hit permission question) entries
       (matching_serials (tree_of index question.resource) question.name)
   hits_looked_up permission question entry there is =
       let hit : Hits permission question entry = (is_hit_decides permission question entry).0 is in
-      let resource : ResourceKind = question.resource in
-      let on : same_resource entry.1.resource resource ≡ true =
-      (resource_decides entry.1.resource resource).1 hit.resource in
-      let among : Contains (entries_on resource entries) entry =
-      kept_by_filter (λ (e : ℕ × Binding). same_resource e.1.resource resource) entries entry there on in
-      looked_up_by (tree_of index resource) entry.1.pattern.kind entry.1.pattern.name question.name entry.0 hit.name
-      (at_its_place pattern_place (tree_of index resource) (entries_on resource entries) entry
-      (indexed.patterns resource) among)
+      looked_up question.resource question.name entry there hit.resource hit.name
 
 -- so the least serial of the hits that were looked up is that of the first hit in force
 pub least_hit_is_first : (index : Index) (entries : List (ℕ × Binding)) (permission : Permission) (question : Question)

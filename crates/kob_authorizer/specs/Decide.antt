@@ -1,6 +1,6 @@
 -- The verdict on a question, read off the list of bindings in force (Kafka documentation,
--- "Authorization and ACLs").
-use Rattle.std.specs.Prelude.{Bool, true, false, ◌&&◌, List, [], ◌∷◌, ℕ, Option, Some, None}
+-- "Authorization and ACLs"; `allow.everyone.if.no.acl.found` among the settings of a broker).
+use Rattle.std.specs.Prelude.{Bool, true, false, ◌&&◌, not, List, [], ◌∷◌, ℕ, Option, Some, None}
 use Rattle.std.specs.List.{filter, list_any}
 use Rattle.kob_names.specs.Access.{covers, matches, reaches}
 use Rattle.kob_names.specs.Same.{same_permission, same_resource, same_text}
@@ -9,7 +9,8 @@ use Rattle.kob_names.specs.declared.kinds.Permission.{Permission}
 use Rattle.kob_names.specs.declared.kinds.Permission.TheVariants.{Allow, Deny}
 use Rattle.kob_names.specs.declared.verdict.Verdict.{Verdict}
 use Rattle.kob_names.specs.declared.verdict.Verdict.TheVariants.{Super, AllowedBy}
-use Rattle.kob_names.specs.declared.verdict.Verdict.TheVariants.{DeniedBy, NoAllow}
+use Rattle.kob_names.specs.declared.verdict.Verdict.TheVariants.{DeniedBy, NoAllow, NoAclFound}
+use Rattle.kob_authorizer.specs.Contents.{Contents}
 use Rattle.kob_authorizer.specs.Question.{Question}
 
 -- the binding has this permission and speaks of what is asked
@@ -42,8 +43,28 @@ verdict_of false (Some serial) allow = DeniedBy serial
 verdict_of false None (Some serial) = AllowedBy serial
 verdict_of false None None = NoAllow
 
--- the access decision, by the bindings in force and the super users
-abbrev pub decide : List (ℕ × Binding) → List (List ℕ) → Question → Verdict
-decide entries supers question =
+-- the decision by the bindings in force and the super users alone
+abbrev pub decide_by_bindings : List (ℕ × Binding) → List (List ℕ) → Question → Verdict
+decide_by_bindings entries supers question =
     verdict_of (is_super supers question.principal)
     (first_serial (hits entries Deny question)) (first_serial (hits entries Allow question))
+
+-- the binding is for the kind of resource, and its pattern matches the name
+abbrev pub is_match : Question → ℕ × Binding → Bool
+is_match question entry =
+    same_resource entry.1.resource question.resource && matches entry.1.pattern question.name
+
+-- no binding matches the resource, whatever its principal, host, operation and permission
+abbrev pub is_unmatched : List (ℕ × Binding) → Question → Bool
+is_unmatched entries question = not (list_any (is_match question) entries)
+
+-- what is open to everyone is granted where no allow is found
+abbrev pub unless_open : Bool → Verdict → Verdict
+unless_open true NoAllow = NoAclFound
+unless_open opened verdict = verdict
+
+-- the access decision: where the switch is on, what no binding matches is open to everyone
+abbrev pub decide : Contents → Question → Verdict
+decide contents question =
+    unless_open (contents.everyone && is_unmatched contents.entries question)
+    (decide_by_bindings contents.entries contents.supers question)

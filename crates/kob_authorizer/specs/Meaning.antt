@@ -7,7 +7,8 @@ use Rattle.kob_names.specs.declared.kinds.Permission.{Permission}
 use Rattle.kob_names.specs.declared.kinds.Permission.TheVariants.{Allow, Deny}
 use Rattle.kob_names.specs.declared.verdict.Verdict.{Verdict}
 use Rattle.kob_names.specs.declared.verdict.Verdict.TheVariants.{Super, AllowedBy}
-use Rattle.kob_names.specs.declared.verdict.Verdict.TheVariants.{DeniedBy, NoAllow}
+use Rattle.kob_names.specs.declared.verdict.Verdict.TheVariants.{DeniedBy, NoAllow, NoAclFound}
+use Rattle.kob_authorizer.specs.Contents.{Contents}
 use Rattle.kob_authorizer.specs.Question.{Question}
 
 -- the binding has this permission and is for the kind of resource; its pattern matches the name,
@@ -33,14 +34,36 @@ pub record IsEarliest (permission : Permission) (question : Question)
   pub serial_is : entry.0 ≡ serial
   pub least : AllByRecursion (λ other. Hits permission question other → serial ≤ other.0) entries
 
+-- the binding is for the kind of resource, and its pattern matches the name
+pub record Matches (question : Question) (entry : ℕ × Binding) : Type 0 where
+  pub resource : entry.1.resource ≡ question.resource
+  pub name : IsTrue (matches entry.1.pattern question.name)
+
+-- no binding matches the resource, whatever its principal, host, operation and permission
+abbrev pub NoneMatches : Question → List (ℕ × Binding) → Type 0
+NoneMatches question entries = AllByRecursion (λ entry. ¬ Matches question entry) entries
+
+-- a binding in force matches the resource
+pub record SomeMatches (question : Question) (entries : List (ℕ × Binding)) : Type 0 where
+  pub entry : ℕ × Binding
+  pub in_force : Contains entries entry
+  pub matches : Matches question entry
+
 -- what is so where the verdict is given
-abbrev pub IsTrueVerdict : List (ℕ × Binding) → List (List ℕ) → Question → Verdict → Type 0
-IsTrueVerdict entries supers question Super = Contains supers question.principal
-IsTrueVerdict entries supers question (DeniedBy serial) =
-    ¬ Contains supers question.principal × IsEarliest Deny question entries serial
-IsTrueVerdict entries supers question (AllowedBy serial) =
-    ¬ Contains supers question.principal
-    × (NoneHits Deny question entries × IsEarliest Allow question entries serial)
-IsTrueVerdict entries supers question NoAllow =
-    ¬ Contains supers question.principal
-    × (NoneHits Deny question entries × NoneHits Allow question entries)
+abbrev pub IsTrueVerdict : Contents → Question → Verdict → Type 0
+IsTrueVerdict contents question Super = Contains contents.supers question.principal
+IsTrueVerdict contents question (DeniedBy serial) =
+    ¬ Contains contents.supers question.principal
+    × IsEarliest Deny question contents.entries serial
+IsTrueVerdict contents question (AllowedBy serial) =
+    ¬ Contains contents.supers question.principal
+    × (NoneHits Deny question contents.entries
+    × IsEarliest Allow question contents.entries serial)
+IsTrueVerdict contents question NoAllow =
+    ¬ Contains contents.supers question.principal
+    × (NoneHits Deny question contents.entries
+    × (NoneHits Allow question contents.entries
+    × (IsTrue contents.everyone → SomeMatches question contents.entries)))
+IsTrueVerdict contents question NoAclFound =
+    ¬ Contains contents.supers question.principal
+    × (IsTrue contents.everyone × NoneMatches question contents.entries)

@@ -21,16 +21,19 @@ use kob_names::{Binding, BindingFilter, Host, Operation, Principal, ResourceKind
 use std::alloc::{AllocError, Global};
 use std::marker::Model;
 
-/// The bindings in force, each with its serial, and the super users.
+/// The bindings in force, each with its serial, the super users, and whether what no binding
+/// matches is open to everyone.
 ///
-/// Contracts see the contents (the bindings in rising serials, the super users, and the serial that
-/// the next new binding gets) and, beside them, for how many more bindings there is room already.
+/// Contracts see the contents (the bindings in rising serials, the super users, the switch, and the
+/// serial that the next new binding gets) and, beside them, for how many more bindings there is room
+/// already.
 /// The rules are those of Kafka's documentation, "Authorization and ACLs", and of KIP-290.
 #[derive(Drop)]
 pub struct Authorizer {
     entries: Vec<(u64, Binding)>,
     index: Index,
     supers: Vec<Principal>,
+    everyone: bool,
     next: u64,
 }
 
@@ -46,6 +49,7 @@ impl Model for Authorizer {
       contents = record {
         entries = authorizer.entries.items;
         supers = authorizer.supers.items;
+        everyone = authorizer.everyone;
         next = authorizer.next;
       };
       room = vec_capacity authorizer.entries - vec_len authorizer.entries;
@@ -58,14 +62,16 @@ impl Model for Authorizer {
 
 impl Authorizer {
     /// An authorizer without bindings, whose first new binding gets the serial 1; no memory is
-    /// taken.
-    pub fn open(alloc: Global, supers: Vec<Principal>) -> Authorizer
-        ensures { result.contents ≡ fresh_contents supers.items }
+    /// taken. With `everyone` a resource that no binding matches is open to everyone (Kafka's
+    /// `allow.everyone.if.no.acl.found`).
+    pub fn open(alloc: Global, supers: Vec<Principal>, everyone: bool) -> Authorizer
+        ensures { result.contents ≡ fresh_contents supers.items everyone }
     {
         Authorizer {
             entries: Vec::new(alloc),
             index: Index::new(),
             supers,
+            everyone,
             next: 1,
         }
     }
@@ -75,6 +81,13 @@ impl Authorizer {
         ensures { result.now ≡ self.now.contents.supers }
     {
         self.supers.as_slice()
+    }
+
+    /// Whether what no binding matches is open to everyone; no memory is taken.
+    pub fn everyone(&self) -> bool
+        ensures { result ≡ self.now.contents.everyone }
+    {
+        self.everyone
     }
 
     /// The bindings in force with their serials, in rising serials; no memory is taken.
@@ -107,9 +120,9 @@ impl Authorizer {
         resource: ResourceKind,
         name: &str,
     ) -> Verdict
-        ensures verdict { result ≡ decide self.now.contents.entries self.now.contents.supers
+        ensures verdict { result ≡ decide self.now.contents
             (question_of who.now host.now operation resource name.now) }
-        ensures meaning { IsTrueVerdict self.now.contents.entries self.now.contents.supers
+        ensures meaning { IsTrueVerdict self.now.contents
             (question_of who.now host.now operation resource name.now) result }
     {
         let question = Question {
@@ -122,7 +135,12 @@ impl Authorizer {
         if is_super(self.supers(), who) {
             Verdict::Super
         } else {
-            verdict(self.entries.as_slice(), &self.index, &question)
+            verdict(
+                self.entries.as_slice(),
+                &self.index,
+                self.everyone,
+                &question,
+            )
         }
     }
 
@@ -138,6 +156,7 @@ impl Authorizer {
               serials = serials.items;
             }) }
         ensures supers { self.new.contents.supers ≡ self.old.contents.supers }
+        ensures everyone { self.new.contents.everyone ≡ self.old.contents.everyone }
         ensures allowed { OnOk result (create_fault
             self.old.contents.entries self.old.contents.next bindings.now ≡ None) }
         ensures fault { IfErr result (λ fault. fault ≢ CreateFault.Memory

@@ -1,23 +1,46 @@
 //! Laws of the definitions. These functions do nothing: their contracts are the laws.
 
-ghost use Rattle.std.specs.Prelude.{List, ℕ};
-ghost use Rattle.kob_authorizer.specs.Contents.{IsRising};
+ghost use Rattle.std.specs.Prelude.{◌≡◌, ◌↔◌, Contains, IsTrue, List, ℕ, false};
+ghost use Rattle.kob_authorizer.specs.Contents.{Contents, IsRising};
 ghost use Rattle.kob_authorizer.specs.Creation.{AreDistinct, AreInForce, OnlyAdds, addition};
-ghost use Rattle.kob_authorizer.specs.Decide.{decide};
+ghost use Rattle.kob_authorizer.specs.Decide.{decide, decide_by_bindings};
 ghost use Rattle.kob_authorizer.specs.Deletion.{bindings_left};
-ghost use Rattle.kob_authorizer.specs.Meaning.{IsTrueVerdict};
+ghost use Rattle.kob_authorizer.specs.Meaning.{IsTrueVerdict, NoneHits, NoneMatches};
 ghost use Rattle.kob_authorizer.specs.Question.{Question};
 ghost use Rattle.kob_names.specs.Binding.{Binding};
+ghost use Rattle.kob_names.specs.Granted.{is_granted};
 ghost use Rattle.kob_names.specs.declared.filter.BindingFilter.{BindingFilter};
+ghost use Rattle.kob_names.specs.declared.kinds.Permission.TheVariants.{Allow, Deny};
 
 /// Each verdict says what is so of the whole list: a deny that is named is the one with the least
 /// serial of all that hit, an allow is named only where no deny hits, and no allow is said to be
-/// there only where neither hits.
+/// there only where neither hits, and where a binding matches the resource if what none matches is
+/// open to everyone. It is said to be open only where none does.
 pub fn verdicts_are_true()
-    ensures { (entries : List (ℕ × Binding)) (next : ℕ) (supers : List (List ℕ))
-        (question : Question)
-        → IsRising 1 entries next
-        → IsTrueVerdict entries supers question (decide entries supers question) }
+    ensures { (contents : Contents) (question : Question)
+        → IsRising 1 contents.entries contents.next
+        → IsTrueVerdict contents question (decide contents question) }
+{
+    // The contract is the law.
+}
+
+/// Where nothing is open to everyone, super users and bindings alone decide.
+pub fn bindings_decide_where_nothing_is_open()
+    ensures { (contents : Contents) (question : Question) → contents.everyone ≡ false
+        → decide contents question
+        ≡ decide_by_bindings contents.entries contents.supers question }
+{
+    // The contract is the law.
+}
+
+/// Where what no binding matches is open to everyone, one who is no super user and of whom no
+/// binding speaks is granted exactly what no binding matches, whomever it speaks of.
+pub fn everyone_is_granted_what_no_binding_matches()
+    ensures { (contents : Contents) (question : Question) → IsTrue contents.everyone
+        → ¬ Contains contents.supers question.principal
+        → NoneHits Deny question contents.entries → NoneHits Allow question contents.entries
+        → IsTrue (is_granted (decide contents question))
+        ↔ NoneMatches question contents.entries }
 {
     // The contract is the law.
 }

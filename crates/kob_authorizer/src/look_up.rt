@@ -1,9 +1,10 @@
 //! The search for bindings by the serials that the trees give; no other binding is looked at.
 
-ghost use Rattle.std.specs.Prelude.{◌≡◌, false};
+ghost use Rattle.std.specs.Prelude.{◌≡◌, ◌&&◌, ◌==◌, false, length};
 ghost use Rattle.std.specs.Option.{option_copied};
 ghost use Rattle.kob_authorizer.specs.Asked.{question_view};
-ghost use Rattle.kob_authorizer.specs.Decide.{first_serial, hits, is_hit, verdict_of};
+ghost use Rattle.kob_authorizer.specs.Decide.{first_serial, hits, is_hit, is_unmatched};
+ghost use Rattle.kob_authorizer.specs.Decide.{unless_open, verdict_of};
 ghost use Rattle.kob_authorizer.specs.Index.{Indexes, tree_of};
 ghost use Rattle.kob_authorizer.specs.LookUp.{AreRising, entry_at, least_passing};
 ghost use Rattle.kob_authorizer.specs.LookUp.{matching_serials, passes_at};
@@ -13,21 +14,40 @@ use crate::question::Question;
 use kob_names::{Binding, Permission, Verdict};
 
 /// The verdict for one who is no super user: a deny wins over every allow, and without either the
-/// answer is no.
-pub fn verdict(entries: &[(u64, Binding)], index: &Index, question: &Question) -> Verdict
+/// answer is no, unless no binding matches what is then open to `everyone`.
+pub fn verdict(
+    entries: &[(u64, Binding)],
+    index: &Index,
+    everyone: bool,
+    question: &Question,
+) -> Verdict
     requires rising { AreRising entries.now }
     requires indexed { Indexes index.now entries.now }
-    ensures { result ≡ verdict_of false
+    ensures { result ≡ unless_open
+        (everyone && is_unmatched entries.now (question_view question.now))
+        (verdict_of false
         (first_serial (hits entries.now Permission.Deny (question_view question.now)))
-        (first_serial (hits entries.now Permission.Allow (question_view question.now))) }
+        (first_serial (hits entries.now Permission.Allow (question_view question.now)))) }
 {
     match first_hit(entries, index, Permission::Deny, question) {
         Some(serial) => Verdict::DeniedBy(serial),
         None => match first_hit(entries, index, Permission::Allow, question) {
             Some(serial) => Verdict::AllowedBy(serial),
+            None if everyone && is_unmatched(index, question) => Verdict::NoAclFound,
             None => Verdict::NoAllow,
         },
     }
+}
+
+/// Whether no binding matches the resource, whatever else it says: the trees give no serial for the
+/// name. No binding is looked at.
+fn is_unmatched(index: &Index, question: &Question) -> bool
+    ensures { result ≡ (length (matching_serials (tree_of index.now question.now.resource)
+        question.now.name.now) == 0) }
+{
+    let tree = index.tree(question.resource);
+    tree.walk(question.name.as_bytes()).next().is_none()
+        && tree.literal("*".as_bytes()).next().is_none()
 }
 
 /// The least serial of those bindings that speak of what is asked, with this permission.

@@ -25,7 +25,7 @@ blames : (access : Contents) (event : Event) (check : Check) → IsNumbered acce
     → is_granted (verdict access event check) ≡ false → IsBlame access event check (verdict access event check)
 blames access event check numbered ungranted = record {
   not_granted = ungranted;
-  says = true_verdict access.entries access.next access.supers (question event check) numbered;
+  says = true_verdict access (question event check) numbered;
 }
 
 blamed_step : (access : Contents) (event : Event) (check : Check) (checks : List Check) → IsNumbered access

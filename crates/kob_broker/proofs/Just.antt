@@ -94,7 +94,7 @@ module _ {P : Type 0} (m : Meaning P) where
   access_by s event None = effect_access s event (refusal m s event.request)
   access_by s event (Some blamed) = refl
 
-  step_access : (s : State P) (event : Event)
+  pub step_access : (s : State P) (event : Event)
       → (step m s event).state.access ≡ access_after (step m s event).reply event.request s.access
   step_access s event = access_by s event (first_unmet s.access event 0 (rights event.request))
 

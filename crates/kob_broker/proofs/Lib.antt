@@ -14,3 +14,4 @@ pub mod EachPartition
 pub mod PartitionOffsets
 pub mod Offsets
 pub mod Spending
+pub mod Switch

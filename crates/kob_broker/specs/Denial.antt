@@ -1,5 +1,5 @@
--- Which requests are denied, and how: by the event, the super users and the bindings in force
--- alone.
+-- Which requests are denied, and how: by the event, the super users, the switch and the bindings in
+-- force alone.
 use Rattle.std.specs.Prelude.{ℕ, ◌+◌, List, [], ◌∷◌, Bool, Option, Some, None, map, if◌then◌else◌}
 use Rattle.std.specs.Option.{option_map}
 use Rattle.std.specs.List.{list_any}
@@ -20,7 +20,7 @@ question event check =
     question_of event.principal event.host check.operation check.resource check.name
 
 abbrev pub verdict : Contents → Event → Check → Verdict
-verdict access event check = decide access.entries access.supers (question event check)
+verdict access event check = decide access (question event check)
 
 -- one of the alternatives is granted
 abbrev pub is_met : Contents → Event → List Check → Bool

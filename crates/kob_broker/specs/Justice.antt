@@ -36,7 +36,7 @@ EachGranted access event clauses = AllByRecursion (SomeGranted access event) cla
 pub record IsBlame (access : Contents) (event : Event) (check : Check)
     (blamed : Verdict) : Type 0 where
   pub not_granted : is_granted blamed ≡ false
-  pub says : IsTrueVerdict access.entries access.supers (question event check) blamed
+  pub says : IsTrueVerdict access (question event check) blamed
 
 -- a verdict for each alternative, in order
 abbrev pub EachBlamed : Contents → Event → List Check → List Verdict → Type 0

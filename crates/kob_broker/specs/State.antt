@@ -8,7 +8,7 @@ use Rattle.kob_names.specs.Binding.{Binding}
 use Rattle.kob_names.specs.declared.settings.Settings.{Settings}
 
 -- the topics in order of creation, the groups with their committed offsets, the bindings in force
--- with the super users, and the producer id that is given next
+-- with the super users and the switch, and the producer id that is given next
 pub record State (P : Type 0) : Type 0 where
   pub topics : List (Topic P)
   pub groups : Groups
@@ -27,7 +27,7 @@ abbrev pub open_state : {P : Type 0} → Settings → State P
 open_state settings = record {
   topics = [];
   groups = no_groups;
-  access = with_bindings settings.opening (fresh_contents settings.supers);
+  access = with_bindings settings.opening (fresh_contents settings.supers settings.everyone);
   next_producer = 0;
 }
 
@@ -44,6 +44,10 @@ state_map f s = record {
 abbrev pub bindings_in_force : {P : Type 0} → State P → List Binding
 bindings_in_force s = map (λ (entry : ℕ × Binding). entry.1) s.access.entries
 
--- the super users, and the bindings in force as the opening list of another broker
+-- the super users and the switch, and the bindings in force as the opening list of another broker
 abbrev pub settings_of : {P : Type 0} → State P → Settings
-settings_of s = record { supers = s.access.supers; opening = bindings_in_force s }
+settings_of s = record {
+  supers = s.access.supers;
+  opening = bindings_in_force s;
+  everyone = s.access.everyone;
+}

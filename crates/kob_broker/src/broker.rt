@@ -42,8 +42,12 @@ impl Broker {
         ensures many { IsErrOf result OpenFault.TooMany → create_fault [] 1 settings.opening
             ≡ Some limits.TooMany }
     {
-        let Settings { supers, opening } = settings;
-        let mut authorizer = Authorizer::open(alloc, supers.into_vec());
+        let Settings {
+            supers,
+            opening,
+            everyone,
+        } = settings;
+        let mut authorizer = Authorizer::open(alloc, supers.into_vec(), everyone);
         match authorizer.create(alloc, opening.as_slice()) {
             Ok(_) => Ok(Broker {
                 catalog: Catalog::new(alloc),
@@ -56,14 +60,19 @@ impl Broker {
         }
     }
 
-    /// The super users, and the bindings in force now as the opening list, in rising serials.
+    /// The super users and the switch, and the bindings in force now as the opening list, in rising
+    /// serials.
     /// Opened with these, a broker has new serials from 1 on. The error is want of memory.
     pub fn opening(&self, alloc: Global) -> Result<Settings, AllocError>
         ensures { IfOk result (λ settings. settings ≡ settings_of (state_of self.now)) }
     {
         let supers = Items::copied(alloc, self.authorizer.supers())?;
         let opening = bindings_of(alloc, self.authorizer.entries())?;
-        Ok(Settings { supers, opening })
+        Ok(Settings {
+            supers,
+            opening,
+            everyone: self.authorizer.everyone(),
+        })
     }
 
     /// Decides on the request of an event whose rights are granted.

@@ -48,8 +48,7 @@ pub(crate) fn describes_cluster(authorizer: &Authorizer, event: &Event) -> bool
 
 /// Whether the event's principal may describe what has that name.
 fn describes(authorizer: &Authorizer, event: &Event, resource: ResourceKind, name: &str) -> bool
-    ensures { result ≡ is_granted (decide authorizer.now.contents.entries
-        authorizer.now.contents.supers
+    ensures { result ≡ is_granted (decide authorizer.now.contents
         (question_of event.now.principal event.now.host Operation.Describe resource name.now)) }
 {
     let verdict = authorizer.authorize(

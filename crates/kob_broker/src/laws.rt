@@ -4,13 +4,17 @@
 //! what a log keeps of them (`retained`), which is what `Broker::run` speaks of.
 
 ghost use Rattle.std.specs.List.{All};
-ghost use Rattle.std.specs.Prelude.{◌≡◌, ◌≤◌, ◌+◌, List, length};
+ghost use Rattle.std.specs.Prelude.{◌≡◌, ◌≤◌, ◌+◌, List, false, length};
+ghost use Rattle.kob_authorizer.specs.Contents.{Contents};
+ghost use Rattle.kob_authorizer.specs.Decide.{decide_by_bindings};
 ghost use Rattle.kob_names.specs.declared.settings.Settings.{Settings};
 ghost use Rattle.kob_rights.specs.Offsets.{OffsetsWithin};
+ghost use Rattle.kob_rights.specs.declared.check.Check.{Check};
 ghost use Rattle.kob_rights.specs.declared.event.Event.{Event};
 ghost use Rattle.kob_partition.specs.Batches.{Plain};
 ghost use Rattle.kob_partition.specs.Limits.{offset_limit};
 ghost use Rattle.kob_partition.specs.Retained.{Retained, plain_meaning, retained_meaning};
+ghost use Rattle.kob_broker.specs.Denial.{question, verdict};
 ghost use Rattle.kob_broker.specs.Justice.{EachJust, LeavesUnlessDone, SameDenial};
 ghost use Rattle.kob_broker.specs.Listings.{ListsGroups, ListsTopics};
 ghost use Rattle.kob_broker.specs.Plainly.{OpensAlike, RunsAlike, StepsAlike};
@@ -39,7 +43,7 @@ pub fn only_done_requests_change_the_state()
     // The contract is the law.
 }
 
-/// Whether an event is denied, and how, depends on the event, the super users and the bindings in
+/// Whether an event is denied, and how, depends on the event, the settings and the bindings in
 /// force alone: two brokers that agree there give equal denials, whatever topics and groups they
 /// hold, and however their partitions are kept.
 pub fn denials_depend_on_bindings_alone()
@@ -49,6 +53,21 @@ pub fn denials_depend_on_bindings_alone()
         → SameDenial (step retained_meaning s event).reply (step retained_meaning t event).reply }
     ensures either { (s : State Plain) (t : State Retained) (event : Event) → s.access ≡ t.access
         → SameDenial (step plain_meaning s event).reply (step retained_meaning t event).reply }
+{
+    // The contract is the law.
+}
+
+/// Where nothing is open to everyone, each verdict on a right is by super users and bindings alone;
+/// and whether anything is stays as it was, whatever a broker serves.
+pub fn verdicts_are_by_bindings_where_nothing_is_open()
+    ensures verdicts { (access : Contents) (event : Event) (check : Check)
+        → access.everyone ≡ false
+        → verdict access event check
+        ≡ decide_by_bindings access.entries access.supers (question event check) }
+    ensures plain { (s : State Plain) (event : Event)
+        → (step plain_meaning s event).state.access.everyone ≡ s.access.everyone }
+    ensures retained { (s : State Retained) (event : Event)
+        → (step retained_meaning s event).state.access.everyone ≡ s.access.everyone }
 {
     // The contract is the law.
 }

@@ -41,6 +41,7 @@ fn settings(alloc: Global) -> Result<Settings, ExampleFault> {
     Ok(Settings {
         supers: Items::from_vec(supers),
         opening,
+        everyone: false,
     })
 }
 

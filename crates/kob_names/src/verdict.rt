@@ -17,15 +17,18 @@ pub enum Verdict {
     DeniedBy(u64),
     /// No allow grants it.
     NoAllow,
+    /// No binding matches the resource, which is then open to everyone.
+    NoAclFound,
 }
 
 impl Verdict {
-    /// Whether the right is granted: to a super user, and by an allow.
+    /// Whether the right is granted: to a super user, by an allow, and where no binding matches what
+    /// is open to everyone.
     pub fn is_granted(self) -> bool
         ensures { result ≡ is_granted self }
     {
         match self {
-            Verdict::Super | Verdict::AllowedBy(_) => true,
+            Verdict::Super | Verdict::AllowedBy(_) | Verdict::NoAclFound => true,
             Verdict::DeniedBy(_) | Verdict::NoAllow => false,
         }
     }

@@ -1,5 +1,5 @@
 -- A script is read line by line.
-use Rattle.std.proofs.Common.{◌≡◌, ◌+◌, ℕ, List, [], ◌∷◌, Option, None, Result, Ok, Err, sym, subst, refl}
+use Rattle.std.proofs.Common.{◌≡◌, ◌+◌, ℕ, false, List, [], ◌∷◌, Option, None, Result, Ok, Err, sym, subst, refl}
 use Rattle.kob_acl_cli.specs.declared.args.CliArgs.{CliArgs}
 use Rattle.kob_script.specs.ClapAnswer.{IsAnswerTo}
 use Rattle.kob_script.specs.declared.fault.Fault as fault
@@ -43,11 +43,14 @@ line_fails old line new (Fault kind) fails = subst (ByWords old (Err kind)) (sym
 abbrev pub Leads : List ℕ → Script → ℕ → List (List ℕ) → Type 0
 Leads text s number rest = (read : Result Script fault.Fault) → LinesFrom s number rest read → ReadsAs text read
 
-pub lines_begin : (text : List ℕ) (growing : Growing) → growing.supers.items ≡ [] → growing.events.items ≡ []
-    → Leads text (grown growing) 1 (lines_in text)
-lines_begin text growing nobody nothing =
+pub lines_begin : (text : List ℕ) (growing : Growing) → growing.supers.items ≡ [] → growing.everyone ≡ false
+    → growing.events.items ≡ [] → Leads text (grown growing) 1 (lines_in text)
+lines_begin text growing nobody closed nothing =
     let same : grown growing ≡ empty_script =
-    λ i. record { settings = record { supers = nobody i; opening = [] }; events = nothing i } in
+    λ i. record {
+      settings = record { supers = nobody i; opening = []; everyone = closed i };
+      events = nothing i;
+    } in
     λ read may. subst (λ (s : Script). LinesFrom s 1 (lines_in text) read) same may
 
 pub line_keeps : (text : List ℕ) (s next : Script) (number : ℕ) (rest : List (List ℕ)) (line : List ℕ)

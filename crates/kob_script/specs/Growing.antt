@@ -13,7 +13,11 @@ use Rattle.kob_script.specs.Reading.{Fails}
 -- the script so far, in which no binding is opened
 abbrev pub grown : Growing → Script
 grown growing = record {
-  settings = record { supers = growing.supers.items; opening = [] };
+  settings = record {
+    supers = growing.supers.items;
+    opening = [];
+    everyone = growing.everyone;
+  };
   events = growing.events.items;
 }
 

@@ -2,7 +2,7 @@
 use Rattle.std.specs.Prelude.{◌+◌, ℕ, List, [], ◌∷◌, ◌++◌, codes}
 use Rattle.std.specs.Fmt.{decimal}
 use Rattle.kob_names.specs.declared.verdict.Verdict.{Verdict}
-use Rattle.kob_names.specs.declared.verdict.Verdict.TheVariants.{Super, AllowedBy, DeniedBy, NoAllow}
+use Rattle.kob_names.specs.declared.verdict.Verdict.TheVariants.{Super, AllowedBy, DeniedBy, NoAllow, NoAclFound}
 use Rattle.kob_rights.specs.Code.{code_number, code_name}
 use Rattle.kob_rights.specs.declared.code.Code.{Code}
 use Rattle.kob_rights.specs.declared.reply.Reply.{Reply}
@@ -16,6 +16,7 @@ verdict_text (DeniedBy serial) = codes "deny:" ++ decimal serial
 verdict_text NoAllow = codes "no-allow"
 verdict_text (AllowedBy serial) = codes "allow:" ++ decimal serial
 verdict_text Super = codes "super"
+verdict_text NoAclFound = codes "no-acl-found"
 
 -- with commas between them
 unfoldable pub verdicts_text : List Verdict → List ℕ

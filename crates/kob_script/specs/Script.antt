@@ -13,10 +13,10 @@ use Rattle.kob_script.specs.Word.{Word}
 use Rattle.kob_script.specs.Words.{words_of}
 
 -- the script with a setting more; after a request it is late
-abbrev pub with_setting : Script → List Word → Result Script FaultKind
-with_setting s arguments =
+abbrev pub with_setting : Script → Word → List Word → Result Script FaultKind
+with_setting s first arguments =
     if nat_lt 0 (length s.events) then Err LateSetting
-    else (settings_with s.settings arguments
+    else (settings_with s.settings first arguments
     >>= λ settings. Ok (record { settings = settings; events = s.events }))
 
 -- the script with what a line asks for, by clap's answer to it
@@ -30,7 +30,8 @@ with_events answer s words =
 abbrev pub with_words : Option CliArgs → Script → List Word → Result Script FaultKind
 with_words answer s [] = Ok s
 with_words answer s (first ∷ arguments) =
-    if is_setting first then with_setting s arguments else with_events answer s (first ∷ arguments)
+    if is_setting first then with_setting s first arguments
+    else with_events answer s (first ∷ arguments)
 
 unfoldable pub with_line : Option CliArgs → Script → List ℕ → Result Script FaultKind
 with_line answer s line = words_of line >>= with_words answer s

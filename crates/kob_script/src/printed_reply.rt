@@ -99,6 +99,7 @@ fn push_verdict(alloc: Global, out: &mut Vec<u8>, verdict: Verdict) -> Result<()
             push_number(alloc, out, serial)
         }
         Verdict::Super => out.extend_from_slice(b"super"),
+        Verdict::NoAclFound => out.extend_from_slice(b"no-acl-found"),
     }
 }
 

@@ -8,7 +8,7 @@ ghost use Rattle.kob_script.specs.ScriptReadings.{HasNoAclLine, LineReadsAs, May
 use crate::clap_answer::answer_to;
 use crate::command_lines::events_of;
 use crate::fault::{Fault, FaultKind, LineError, ScriptError};
-use crate::setting::{is_setting, super_of};
+use crate::setting::{everyone_of, is_setting, is_super, super_of};
 use crate::word::Word;
 use crate::words::words_of;
 use bstr::ByteSlice;
@@ -28,6 +28,7 @@ pub struct Script {
 #[derive(Drop)]
 struct Growing {
     supers: Vec<Principal>,
+    everyone: bool,
     events: Vec<Event>,
 }
 
@@ -42,6 +43,7 @@ pub fn read_script(alloc: Global, text: &[u8]) -> Result<Script, ScriptError>
 {
     let mut script = Growing {
         supers: Vec::new(alloc),
+        everyone: false,
         events: Vec::new(alloc),
     };
     let mut number: u64 = 0;
@@ -58,11 +60,16 @@ pub fn read_script(alloc: Global, text: &[u8]) -> Result<Script, ScriptError>
 fn finished(alloc: Global, script: Growing) -> Script
     ensures { result ≡ grown script }
 {
-    let Growing { supers, events } = script;
+    let Growing {
+        supers,
+        everyone,
+        events,
+    } = script;
     Script {
         settings: Settings {
             supers: Items::from_vec(supers),
             opening: Items::from_vec(Vec::new(alloc)),
+            everyone,
         },
         events: Items::from_vec(events),
     }
@@ -95,19 +102,31 @@ fn add_words(
 {
     match words {
         [] => Ok(()),
-        [first, arguments @ ..] if is_setting(first) => add_setting(alloc, script, arguments),
+        [first, arguments @ ..] if is_setting(first) => add_setting(
+            alloc, script, first, arguments,
+        ),
         _ => add_events(alloc, script, words, answer),
     }
 }
 
-fn add_setting(alloc: Global, script: &mut Growing, arguments: &[Word<'_>]) -> Result<(), LineError>
-    ensures { GivesNext script.new result (with_setting (grown script.old) arguments.now) }
+fn add_setting(
+    alloc: Global,
+    script: &mut Growing,
+    first: &Word<'_>,
+    arguments: &[Word<'_>],
+) -> Result<(), LineError>
+    ensures { GivesNext script.new result (with_setting (grown script.old) first.now
+        arguments.now) }
 {
     if !script.events.is_empty() {
         return Err(LineError::Fault(FaultKind::LateSetting));
     }
-    let principal = super_of(alloc, arguments)?;
-    script.supers.push(principal)?;
+    if is_super(first) {
+        let principal = super_of(alloc, arguments)?;
+        script.supers.push(principal)?;
+    } else {
+        script.everyone = everyone_of(arguments)?;
+    }
     Ok(())
 }
 

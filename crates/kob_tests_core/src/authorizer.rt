@@ -36,11 +36,12 @@ fn on_write<'a>(
     }
 }
 
-/// An authorizer with the super user `User:root`.
-fn opened(alloc: Global) -> Result<Authorizer, Fail> {
+/// An authorizer with the super user `User:root`; with `everyone` what no binding matches is open to
+/// everyone.
+fn opened(alloc: Global, everyone: bool) -> Result<Authorizer, Fail> {
     let mut supers = Vec::new(alloc);
     supers.push(Principal::parse(alloc, "User:root")?)?;
-    Ok(Authorizer::open(alloc, supers))
+    Ok(Authorizer::open(alloc, supers, everyone))
 }
 
 /// Puts the rules in force by one call, and answers their serials.
@@ -137,7 +138,7 @@ fn tells_stars_apart(alloc: Global, authorizer: &mut Authorizer) -> Result<bool,
 }
 
 fn opened_tells_stars_apart(alloc: Global) -> Result<bool, Fail> {
-    let mut authorizer = opened(alloc)?;
+    let mut authorizer = opened(alloc, false)?;
     tells_stars_apart(alloc, &mut authorizer)
 }
 
@@ -181,7 +182,7 @@ fn names_earliest_deny(alloc: Global, authorizer: &mut Authorizer) -> Result<boo
 }
 
 fn opened_names_earliest_deny(alloc: Global) -> Result<bool, Fail> {
-    let mut authorizer = opened(alloc)?;
+    let mut authorizer = opened(alloc, false)?;
     names_earliest_deny(alloc, &mut authorizer)
 }
 
@@ -260,7 +261,7 @@ fn first_wrong(alloc: Global, authorizer: &mut Authorizer) -> Result<Option<usiz
 }
 
 fn first_wrong_once_opened(alloc: Global) -> Result<Option<usize>, Fail> {
-    let mut authorizer = opened(alloc)?;
+    let mut authorizer = opened(alloc, false)?;
     first_wrong(alloc, &mut authorizer)
 }
 
@@ -268,5 +269,72 @@ fn first_wrong_once_opened(alloc: Global) -> Result<Option<usize>, Fail> {
 fn deny_beats_longer_allow(rt: HostRuntime) -> Result<(), Fail> {
     let wrong = first_wrong_once_opened(rt.alloc())?;
     assert_eq!(rt; wrong, None, "the place of a step with another answer");
+    Ok(())
+}
+
+fn describe_by_bob(kind: PatternKind, name: &str) -> Rule<'_> {
+    Rule {
+        permission: Permission::Allow,
+        principal: "User:bob",
+        operation: Operation::Describe,
+        resource: ResourceKind::Topic,
+        kind,
+        name,
+    }
+}
+
+/// Whether alice's question about a topic is answered so.
+fn alice_hears(
+    alloc: Global,
+    authorizer: &Authorizer,
+    topic: &str,
+    verdict: Verdict,
+) -> Result<bool, Fail> {
+    let found = verdict_on(alloc, authorizer, "User:alice", Operation::Describe, topic)?;
+    Ok(found == verdict)
+}
+
+/// Whether `u` is closed to alice and open to bob by his binding, and `v` is open to her.
+fn is_closed_by_other(alloc: Global, authorizer: &mut Authorizer) -> Result<bool, Fail> {
+    let literal = [describe_by_bob(PatternKind::Literal, "u")];
+    let created = gets(alloc, authorizer, &literal, &[1])?;
+    let closed = alice_hears(alloc, authorizer, "u", Verdict::NoAllow)?;
+    let bob = verdict_on(alloc, authorizer, "User:bob", Operation::Describe, "u")?;
+    let other = alice_hears(alloc, authorizer, "v", Verdict::NoAclFound)?;
+    Ok(created && closed && bob == Verdict::AllowedBy(1) && other)
+}
+
+/// Whether `v` is closed by a pattern of this kind and name, and open again without it.
+fn is_closed_while_bound(
+    alloc: Global,
+    authorizer: &mut Authorizer,
+    kind: PatternKind,
+    name: &str,
+) -> Result<bool, Fail> {
+    create(alloc, authorizer, &[describe_by_bob(kind, name)])?;
+    let closed = alice_hears(alloc, authorizer, "v", Verdict::NoAllow)?;
+    let filter = named(alloc, FilterPattern::Any, name)?;
+    authorizer.delete(alloc, &filter)?;
+    let again = alice_hears(alloc, authorizer, "v", Verdict::NoAclFound)?;
+    Ok(closed && again)
+}
+
+fn is_open_until_bound(alloc: Global, authorizer: &mut Authorizer) -> Result<bool, Fail> {
+    let open = alice_hears(alloc, authorizer, "u", Verdict::NoAclFound)?;
+    let by_other = is_closed_by_other(alloc, authorizer)?;
+    let by_star = is_closed_while_bound(alloc, authorizer, PatternKind::Literal, "*")?;
+    let by_prefix = is_closed_while_bound(alloc, authorizer, PatternKind::Prefixed, "v")?;
+    Ok(open && by_other && by_star && by_prefix)
+}
+
+fn opened_is_open_until_bound(alloc: Global) -> Result<bool, Fail> {
+    let mut authorizer = opened(alloc, true)?;
+    is_open_until_bound(alloc, &mut authorizer)
+}
+
+#[test]
+fn open_to_all_until_bound(rt: HostRuntime) -> Result<(), Fail> {
+    let holds = opened_is_open_until_bound(rt.alloc())?;
+    assert!(rt; holds);
     Ok(())
 }

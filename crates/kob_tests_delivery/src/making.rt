@@ -85,6 +85,7 @@ fn root_alone(alloc: Global) -> Result<Settings, Fail> {
     Ok(Settings {
         supers: Items::from_vec(supers),
         opening: Items::from_vec(Vec::new(alloc)),
+        everyone: false,
     })
 }
 

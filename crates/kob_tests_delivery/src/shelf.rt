@@ -83,6 +83,7 @@ fn settings(alloc: Global) -> Option<Settings> {
     Some(Settings {
         supers: Items::from_vec(supers),
         opening: Items::from_vec(opening),
+        everyone: false,
     })
 }
 

@@ -16,6 +16,8 @@ mod guide;
 #[cfg(test)]
 mod limits;
 #[cfg(test)]
+mod open;
+#[cfg(test)]
 mod played;
 #[cfg(test)]
 mod rows;

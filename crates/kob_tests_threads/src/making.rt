@@ -29,6 +29,7 @@ pub(crate) fn broker(alloc: Global, opening: Vec<Binding>) -> Result<Broker, Fai
     let settings = Settings {
         supers: Items::from_vec(supers),
         opening: Items::from_vec(opening),
+        everyone: false,
     };
     Ok(opened(alloc, settings)?)
 }

@@ -141,6 +141,7 @@ pub(crate) fn root_alone(alloc: Global) -> Result<Settings, Fail> {
     Ok(Settings {
         supers: Items::from_vec(supers),
         opening: Items::from_vec(Vec::new(alloc)),
+        everyone: false,
     })
 }
 

@@ -1,4 +1,4 @@
-use Rattle.std.proofs.Common.{◌≡◌, ◌+◌, arith, ap, suc, length, Ok, Err}
+use Rattle.std.proofs.Common.{◌≡◌, ◌+◌, arith, refl, false, ap, suc, length, Ok, Err}
 use Rattle.kob_script.specs.Growing.{fault_at, grown}
 use Rattle.kob_script.proofs.Lines.{lines_begin, line_keeps, line_stops, lines_end}
 use Rattle.kob_script.proofs.PlainScripts.{reads_plain}
@@ -10,7 +10,8 @@ loop-line-init c =
     record {
       few = rw same (omega (arith, c.lines-line-items.ensures.len));
       leads = rw (same, c.lines-line-items.ensures.value)
-          (lines_begin c.args.text.now (record { supers = c.new.result; events = c.new-2.result }) c.new.ensures.items
+          (lines_begin c.args.text.now
+          (record { supers = c.new.result; everyone = false; events = c.new-2.result }) c.new.ensures.items refl
           c.new-2.ensures.items);
     }
 

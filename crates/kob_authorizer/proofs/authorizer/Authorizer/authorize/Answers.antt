@@ -1,9 +1,9 @@
-use Rattle.std.proofs.Common.{◌≡◌, refl, sym, ◌∙◌, ap, subst, false, List, ℕ}
+use Rattle.std.proofs.Common.{◌≡◌, refl, sym, ◌∙◌, ap, subst, false, ◌&&◌, List, ℕ}
 use Rattle.kob_authorizer.proofs.Rising.{are_rising}
 use Rattle.kob_authorizer.proofs.Verdicts.{found_super, true_by}
 use Rattle.kob_authorizer.proofs.authorizer.Authorizer.authorize.Goals as goal
 use Rattle.kob_authorizer.specs.Contents.{IsRising, State}
-use Rattle.kob_authorizer.specs.Decide.{first_serial, hits, is_super, verdict_of}
+use Rattle.kob_authorizer.specs.Decide.{first_serial, hits, is_super, is_unmatched, unless_open, verdict_of}
 use Rattle.kob_authorizer.specs.LookUp.{AreRising}
 use Rattle.kob_authorizer.specs.Question.{Question, question_of}
 use Rattle.kob_names.specs.Binding.{Binding}
@@ -30,11 +30,18 @@ returns-else-is_super-clause-meaning c =
     let told : c.is_super.result ≡ is_super c.args.self.now.contents.supers c.args.who.now =
     c.is_super.ensures ∙ ap (λ supers. is_super supers c.args.who.now) c.supers.ensures in
     let stranger : is_super c.args.self.now.contents.supers c.args.who.now ≡ false = sym told ∙ c.if-is_super.false in
-    let verdict : c.verdict.result ≡ verdict_of false (first_serial (hits in_force Deny question))
-    (first_serial (hits in_force Allow question)) =
-    c.verdict.ensures ∙ ap (λ (es : List (ℕ × Binding)). verdict_of false (first_serial (hits es Deny question))
-    (first_serial (hits es Allow question))) entries in
-    rw verdict (true_by in_force next c.args.self.now.contents.supers question false _ _ rising stranger refl refl)
+    let on : c.self.inside.everyone ≡ c.args.self.now.contents.everyone =
+    ap (λ (s : State). s.contents.everyone) c.self.view_is in
+    let verdict : c.verdict.result ≡ unless_open
+    (c.args.self.now.contents.everyone && is_unmatched in_force question)
+    (verdict_of false (first_serial (hits in_force Deny question)) (first_serial (hits in_force Allow question))) =
+    c.verdict.ensures
+    ∙ ap (λ (es : List (ℕ × Binding)). unless_open (c.self.inside.everyone && is_unmatched es question)
+    (verdict_of false (first_serial (hits es Deny question)) (first_serial (hits es Allow question)))) entries
+    ∙ ap (λ on. unless_open (on && is_unmatched in_force question)
+    (verdict_of false (first_serial (hits in_force Deny question)) (first_serial (hits in_force Allow question)))) on in
+    rw verdict
+    (true_by c.args.self.now.contents question false _ _ _ _ rising stranger refl refl refl refl)
 
 pub verdict-requires-clause-rising : goal.verdict-requires-clause-rising
 verdict-requires-clause-rising c =
