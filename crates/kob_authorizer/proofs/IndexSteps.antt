@@ -1,5 +1,5 @@
 -- What an entry that comes or goes does to the index.
-use Rattle.std.proofs.Common.{◌≡◌, refl, sym, subst, arith, Bool, true, false, cond, ℕ, ◌+◌, ◌≤◌, not, List, [], ◌∷◌, ◌++◌, map, append-nil, append_assoc}
+use Rattle.std.proofs.Common.{◌≡◌, refl, sym, ◌∙◌, subst, arith, Bool, true, false, cond, ℕ, ◌+◌, ◌≤◌, not, List, [], ◌∷◌, ◌++◌, map, append-nil, append_assoc}
 use Rattle.std.specs.List.{fold}
 use Rattle.std.proofs.lemmas.List.Elements.{filter-append}
 use Rattle.kob_names.specs.Filter.{takes}
@@ -10,11 +10,11 @@ use Rattle.kob_names.specs.declared.kinds.ResourceKind.{ResourceKind}
 use Rattle.kob_names.specs.declared.kinds.ResourceKind.TheVariants.{Topic, Group, Cluster, TransactionalId}
 use Rattle.kob_prefix_tree.specs.PrefixMap.{PrefixMap}
 use Rattle.kob_authorizer.proofs.Rising.{rising_below}
-use Rattle.kob_authorizer.proofs.TreeSteps.{NoneHas, index_added, index_empty, index_removed, none_before, none_has_filter}
+use Rattle.kob_authorizer.proofs.TreeSteps.{index_added, index_empty, index_removed, none_before}
 use Rattle.kob_authorizer.specs.Contents.{IsRising}
-use Rattle.kob_authorizer.specs.Deletion.{bindings_left}
-use Rattle.kob_authorizer.specs.Index.{Indexes, empty_index, entries_on, leaf_of, tree_of, with_leaf, with_tree, without_if_taken, without_leaf}
-use Rattle.kob_authorizer.specs.Places.{IsIndex, addition, digest_place, pattern_place, with_addition, without_addition}
+use Rattle.kob_authorizer.specs.Deletion.{bindings_left, bindings_taken}
+use Rattle.kob_authorizer.specs.Index.{Indexes, empty_index, entries_on, leaf_of, tree_of, with_leaf, with_tree, without_digest}
+use Rattle.kob_authorizer.specs.Places.{IsIndex, addition, digest_place, pattern_place, with_addition}
 use Rattle.kob_authorizer.specs.declared.index.Index.{Index}
 
 -- a change of the tree of one kind of resource leaves the others
@@ -84,37 +84,6 @@ indexes_put_all (entry ∷ fresh) index entries is =
     (indexes_put_all fresh (with_leaf index (leaf_of entry)) (entries ++ entry ∷ [])
     (indexes_put index entries entry is))
 
--- an entry goes from among others
-pub indexes_removed : (index : Index) (done : List (ℕ × Binding)) (entry : ℕ × Binding) (rest : List (ℕ × Binding))
-    → NoneHas entry.0 done → Indexes index (done ++ entry ∷ rest)
-    → Indexes (without_leaf index (leaf_of entry)) (done ++ rest)
-indexes_removed index done entry rest none is = record {
-  patterns = λ resource.
-      (let change : PrefixMap → PrefixMap = λ m. without_addition m (addition pattern_place entry) in
-      let old : List (ℕ × Binding) = entries_on resource done in
-      let later : List (ℕ × Binding) = entries_on resource rest in
-      let both : (b : Bool) → IsIndex pattern_place (tree_of index resource) (old ++ cond b (entry ∷ later) later)
-      → IsIndex pattern_place (cond b (change (tree_of index resource)) (tree_of index resource)) (old ++ later) =
-      λ b. elim b as (λ b. IsIndex pattern_place (tree_of index resource) (old ++ cond b (entry ∷ later) later)
-      → IsIndex pattern_place (cond b (change (tree_of index resource)) (tree_of index resource)) (old ++ later)) [
-        | true ↦ index_removed pattern_place (tree_of index resource) old entry later
-            (none_has_filter (is_on resource) entry.0 done none)
-        | false ↦ λ same. same
-      ] in
-      let before : IsIndex pattern_place (tree_of index resource)
-      (old ++ cond (is_on resource entry) (entry ∷ later) later) =
-      subst (IsIndex pattern_place (tree_of index resource)) (filter-append (is_on resource) done (entry ∷ rest))
-      (is.patterns resource) in
-      let tree_is =
-      tree_after index change (without_addition index.digests (addition digest_place entry)) entry.1.resource
-      resource in
-      subst (λ m. IsIndex pattern_place m (entries_on resource (done ++ rest))) (sym tree_is)
-      (subst (λ es. IsIndex pattern_place (cond (is_on resource entry) (change (tree_of index resource))
-      (tree_of index resource)) es) (sym (filter-append (is_on resource) done rest))
-      (both (is_on resource entry) before)));
-  digests = index_removed digest_place index.digests done entry rest none is.digests;
-}
-
 -- serials still rise where one is left out
 rising_without : (low high : ℕ) (done : List (ℕ × Binding)) (entry : ℕ × Binding) (rest : List (ℕ × Binding))
     → IsRising low (done ++ entry ∷ rest) high → IsRising low (done ++ rest) high
@@ -123,22 +92,38 @@ rising_without low high [] entry rest rising =
 rising_without low high (x ∷ done) entry rest rising =
     (rising.0, rising_without (x.0 + 1) high done entry rest rising.1)
 
--- the entries that a filter takes go, one after another
-pub indexes_remove_taken : (wanted : BindingFilter) (low high : ℕ) (rest : List (ℕ × Binding)) (index : Index)
-    (done : List (ℕ × Binding)) → IsRising low (done ++ rest) high → Indexes index (done ++ rest)
-    → Indexes (fold (without_if_taken wanted) index rest) (done ++ bindings_left wanted rest)
-indexes_remove_taken wanted low high [] index done rising is = is
-indexes_remove_taken wanted low high (entry ∷ rest) index done rising is =
-    elim (takes wanted entry.1) as (λ b. Indexes
-    (fold (without_if_taken wanted) (cond b (without_leaf index (leaf_of entry)) index) rest)
+-- the digests of the entries that a filter takes go, one after another
+pub digests_removed : (wanted : BindingFilter) (low high : ℕ) (rest : List (ℕ × Binding)) (index : Index)
+    (done : List (ℕ × Binding)) → IsRising low (done ++ rest) high
+    → IsIndex digest_place index.digests (done ++ rest)
+    → IsIndex digest_place (fold without_digest index (bindings_taken wanted rest)).digests
+    (done ++ bindings_left wanted rest)
+digests_removed wanted low high [] index done rising is = is
+digests_removed wanted low high (entry ∷ rest) index done rising is =
+    elim (takes wanted entry.1) as (λ b. IsIndex digest_place
+    (fold without_digest index (cond b (entry ∷ bindings_taken wanted rest) (bindings_taken wanted rest))).digests
     (done ++ cond (not b) (entry ∷ bindings_left wanted rest) (bindings_left wanted rest))) [
-      | true ↦ indexes_remove_taken wanted low high rest (without_leaf index (leaf_of entry)) done
+      | true ↦ digests_removed wanted low high rest (without_digest index entry) done
           (rising_without low high done entry rest rising)
-          (indexes_removed index done entry rest (none_before low high done entry rest rising) is)
+          (index_removed digest_place index.digests done entry rest (none_before low high done entry rest rising) is)
       | false ↦
           let joined : (done ++ entry ∷ []) ++ rest ≡ done ++ entry ∷ rest = append_assoc done (entry ∷ []) rest in
-          let kept = indexes_remove_taken wanted low high rest index (done ++ entry ∷ [])
-          (subst (λ es. IsRising low es high) (sym joined) rising) (subst (Indexes index) (sym joined) is) in
-          subst (Indexes (fold (without_if_taken wanted) index rest))
+          let kept = digests_removed wanted low high rest index (done ++ entry ∷ [])
+          (subst (λ es. IsRising low es high) (sym joined) rising)
+          (subst (IsIndex digest_place index.digests) (sym joined) is) in
+          subst (IsIndex digest_place (fold without_digest index (bindings_taken wanted rest)).digests)
           (append_assoc done (entry ∷ []) (bindings_left wanted rest)) kept
     ]
+
+-- the trees of the patterns know nothing of digests
+pub patterns_stay : (taken : List (ℕ × Binding)) (index : Index) (resource : ResourceKind)
+    → tree_of (fold without_digest index taken) resource ≡ tree_of index resource
+patterns_stay [] index resource = refl
+patterns_stay (entry ∷ taken) index resource =
+    patterns_stay taken (without_digest index entry) resource ∙ same resource
+  where
+    same : (resource : ResourceKind) → tree_of (without_digest index entry) resource ≡ tree_of index resource
+    same Topic = refl
+    same Group = refl
+    same Cluster = refl
+    same TransactionalId = refl

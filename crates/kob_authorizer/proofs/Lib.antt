@@ -7,6 +7,8 @@ pub mod IndexSteps
 pub mod InTurn
 pub mod LeastPassing
 pub mod Matching
+pub mod Passes
+pub mod RemovalSteps
 pub mod Rising
 pub mod Serials
 pub mod TreeSteps

@@ -1,11 +1,9 @@
 -- The trees beside the list of bindings.
-use Rattle.std.specs.Prelude.{List, ℕ, if◌then◌else◌}
+use Rattle.std.specs.Prelude.{List, ℕ}
 use Rattle.std.specs.FinMap as finite
 use Rattle.std.specs.List.{filter}
-use Rattle.kob_names.specs.Filter.{takes}
 use Rattle.kob_names.specs.Same.{same_resource}
 use Rattle.kob_names.specs.Binding.{Binding}
-use Rattle.kob_names.specs.declared.filter.BindingFilter.{BindingFilter}
 use Rattle.kob_names.specs.declared.kinds.ResourceKind.{ResourceKind}
 use Rattle.kob_names.specs.declared.kinds.ResourceKind.TheVariants.{Topic, Group}
 use Rattle.kob_names.specs.declared.kinds.ResourceKind.TheVariants.{Cluster, TransactionalId}
@@ -55,18 +53,10 @@ with_leaf index leaf =
       digests = with_addition index.digests leaf.digest;
     }
 
--- an entry is indexed no more
-abbrev pub without_leaf : Index → Leaf → Index
-without_leaf index leaf =
-    let tree = without_addition (tree_of index leaf.resource) leaf.pattern in
-    record (with_tree index leaf.resource tree) {
-      digests = without_addition index.digests leaf.digest;
-    }
-
--- an entry that a filter takes is indexed no more
-abbrev pub without_if_taken : BindingFilter → Index → ℕ × Binding → Index
-without_if_taken wanted index entry =
-    if takes wanted entry.1 then without_leaf index (leaf_of entry) else index
+-- the digest of an entry is indexed no more
+abbrev pub without_digest : Index → ℕ × Binding → Index
+without_digest index entry =
+    record index { digests = without_addition index.digests (addition digest_place entry) }
 
 -- the entries on one kind of resource
 abbrev pub entries_on : ResourceKind → List (ℕ × Binding) → List (ℕ × Binding)

@@ -13,3 +13,4 @@ pub mod Meaning
 pub mod Passing
 pub mod Places
 pub mod Question
+pub mod Removal

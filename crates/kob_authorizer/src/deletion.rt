@@ -2,24 +2,32 @@
 
 ghost use Rattle.std.specs.Prelude.{◌≡◌, ◌≤◌, IfOk, length};
 ghost use Rattle.kob_authorizer.specs.Deletion.{bindings_taken, bindings_left};
+ghost use Rattle.kob_authorizer.specs.Removal.{removals_of};
 
+use crate::removal::{Removal, removals_of};
 use kob_names::{Binding, BindingFilter, PlainValue};
 use std::alloc::{AllocError, Global};
 use std::marker::Model;
 
-/// A deletion that needs no more memory: its filter, and the entries that it takes away.
+/// A deletion that needs no more memory: its filter, the entries that it takes away, and
+/// their serials by place.
 #[derive(Drop)]
 pub struct PreparedDelete {
     filter: BindingFilter,
     taken: Vec<(u64, Binding)>,
+    removals: Vec<Removal>,
 }
 
 impl Model for PreparedDelete {
+    ghost use Rattle.std.specs.Prelude.{◌≡◌};
     ghost use Rattle.kob_authorizer.specs.Deletion.{Deletion};
+    ghost use Rattle.kob_authorizer.specs.Removal.{removals_of};
 
     ghost Value = { Deletion };
 
     ghost view = { λ prepared. record { filter = prepared.filter; taken = prepared.taken.items } };
+
+    ghost invariant = { λ prepared. prepared.removals.items ≡ removals_of prepared.taken.items };
 }
 
 impl PreparedDelete {
@@ -33,8 +41,13 @@ impl PreparedDelete {
         ensures taken { IfOk result (λ made. made.taken ≡ bindings_taken filter.now entries.now) }
     {
         let taken = copies_taken(alloc, entries, filter)?;
+        let removals = removals_of(alloc, taken.as_slice())?;
         let filter = filter.copy(alloc)?;
-        Ok(PreparedDelete { filter, taken })
+        Ok(PreparedDelete {
+            filter,
+            taken,
+            removals,
+        })
     }
 
     /// What the deletion takes away, in rising serials; no memory is taken.
@@ -44,13 +57,18 @@ impl PreparedDelete {
         self.taken.as_slice()
     }
 
-    /// The filter and the entries.
-    pub(crate) fn into_parts(self) -> (BindingFilter, Vec<(u64, Binding)>)
+    /// The filter, the entries, and what they take out of the trees of the patterns.
+    pub(crate) fn into_parts(self) -> (BindingFilter, Vec<(u64, Binding)>, Vec<Removal>)
         ensures filter { result.0 ≡ self.filter }
         ensures taken { result.1.items ≡ self.taken }
+        ensures removals { result.2.items ≡ removals_of self.taken }
     {
-        let PreparedDelete { filter, taken } = self;
-        (filter, taken)
+        let PreparedDelete {
+            filter,
+            taken,
+            removals,
+        } = self;
+        (filter, taken, removals)
     }
 }
 

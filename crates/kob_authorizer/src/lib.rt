@@ -14,6 +14,7 @@ mod laws;
 mod limits;
 mod look_up;
 mod question;
+mod removal;
 
 pub use authorizer::Authorizer;
 pub use creation::PreparedCreate;

@@ -162,9 +162,19 @@ impl PrefixTree {
     pub fn literal(&self, name: &[u8]) -> Walk<'_>
         ensures { left_of result ≡ serials_of PatternKind.Literal (held self.now name.now) }
     {
-        match self.root.place().at(name) {
+        self.listed(name, PatternKind::Literal)
+    }
+
+    /// The serials of the key's list of one kind, in order. It takes no memory.
+    pub fn listed(&self, key: &[u8], kind: PatternKind) -> Walk<'_>
+        ensures { left_of result ≡ serials_of kind (held self.now key.now) }
+    {
+        match self.root.place().at(key) {
             None => Walk::over(Unread::nothing()),
-            Some(place) => Walk::over(place.literal.unread()),
+            Some(place) => match kind {
+                PatternKind::Literal => Walk::over(place.literal.unread()),
+                PatternKind::Prefixed => Walk::over(place.prefixed.unread()),
+            },
         }
     }
 
