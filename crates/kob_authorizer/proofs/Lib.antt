@@ -5,6 +5,7 @@ pub mod Halving
 pub mod InForce
 pub mod IndexSteps
 pub mod InTurn
+pub mod Keys
 pub mod LeastPassing
 pub mod Matching
 pub mod Passes

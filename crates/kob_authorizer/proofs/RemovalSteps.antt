@@ -16,13 +16,13 @@ use Rattle.kob_prefix_tree.specs.Lists.{without_in_turn}
 use Rattle.kob_prefix_tree.specs.PrefixMap.{PrefixMap, held, removed_all}
 use Rattle.kob_prefix_tree.specs.declared.kind.PatternKind.{PatternKind}
 use Rattle.kob_prefix_tree.specs.declared.kind.PatternKind.TheVariants.{Literal, Prefixed}
-use Rattle.kob_authorizer.proofs.IndexSteps.{digests_removed, indexes_empty, indexes_put_all, patterns_stay}
+use Rattle.kob_authorizer.proofs.IndexSteps.{keys_removed, indexes_empty, indexes_put_all, patterns_stay}
 use Rattle.kob_authorizer.proofs.Passes.{none_sought, one_more_there, pass_again, pass_leaves, serials_there, stands_at}
 use Rattle.kob_authorizer.proofs.TreeSteps.{and_false, and_true, apart}
 use Rattle.kob_authorizer.specs.Contents.{IsRising}
 use Rattle.kob_authorizer.specs.Deletion.{bindings_left, bindings_taken}
-use Rattle.kob_authorizer.specs.Index.{Indexes, tree_of, with_tree, without_digest}
-use Rattle.kob_authorizer.specs.Places.{IsIndex, digest_place, kind_in_tree, same_kind}
+use Rattle.kob_authorizer.specs.Index.{Indexes, tree_of, with_tree, without_key}
+use Rattle.kob_authorizer.specs.Places.{IsIndex, addition, key_place, kind_in_tree, same_kind}
 use Rattle.kob_authorizer.specs.Removal.{Removal, begins_with, index_of, is_first_there, removal_of, removals_of, serials_beside, with_removal, without_removal}
 use Rattle.kob_authorizer.specs.declared.index.Index.{Index}
 
@@ -230,15 +230,15 @@ module _ (resource : ResourceKind) (kind : PatternKind) (key : List ℕ) where
       ∙ after_entries taken before left leaves again firsts index is
       ∙ all (serials_there resource kind key taken) refl
 
--- the digests know nothing of the trees of the patterns
-digests_stay : (rs : List Removal) (index : Index) → (fold without_removal index rs).digests ≡ index.digests
-digests_stay [] index = refl
-digests_stay (removal ∷ rs) index =
-    digests_stay rs (without_removal index removal) ∙ same removal.resource
+-- the keys know nothing of the trees of the patterns
+keys_stay : (rs : List Removal) (index : Index) → (fold without_removal index rs).keys ≡ index.keys
+keys_stay [] index = refl
+keys_stay (removal ∷ rs) index =
+    keys_stay rs (without_removal index removal) ∙ same removal.resource
     (removed_all (tree_of index removal.resource) removal.pattern.name (kind_in_tree removal.pattern.kind)
     removal.serials)
   where
-    same : (resource : ResourceKind) (tree : PrefixMap) → (with_tree index resource tree).digests ≡ index.digests
+    same : (resource : ResourceKind) (tree : PrefixMap) → (with_tree index resource tree).keys ≡ index.keys
     same Topic tree = refl
     same Group tree = refl
     same Cluster tree = refl
@@ -247,17 +247,17 @@ digests_stay (removal ∷ rs) index =
 -- the index after a deletion is that of the entries that stay
 pub indexes_deleted : (wanted : BindingFilter) (low high : ℕ) (entries : List (ℕ × Binding)) (index : Index)
     → IsRising low entries high → Indexes index entries
-    → Indexes (fold without_removal (fold without_digest index (bindings_taken wanted entries))
+    → Indexes (fold without_removal (fold without_key index (map (addition key_place) (bindings_taken wanted entries)))
     (removals_of (bindings_taken wanted entries))) (bindings_left wanted entries)
 indexes_deleted wanted low high entries index rising is =
     let taken : List (ℕ × Binding) = bindings_taken wanted entries in
-    let after : Index = fold without_digest index taken in
+    let after : Index = fold without_key index (map (addition key_place) taken) in
     record {
       patterns = λ resource kind key.
           place_after resource kind key wanted low high entries after rising
-          (ap (λ (m : PrefixMap). serials_of kind (held m key)) (patterns_stay taken index resource)
+          (ap (λ (m : PrefixMap). serials_of kind (held m key)) (patterns_stay (map (addition key_place) taken) index resource)
           ∙ is.patterns resource kind key);
-      digests = subst (λ (m : PrefixMap). IsIndex digest_place m (bindings_left wanted entries))
-          (sym (digests_stay (removals_of taken) after))
-          (digests_removed wanted low high entries index [] rising is.digests);
+      keys = subst (λ (m : PrefixMap). IsIndex key_place m (bindings_left wanted entries))
+          (sym (keys_stay (removals_of taken) after))
+          (keys_removed wanted low high entries index [] rising is.keys);
     }

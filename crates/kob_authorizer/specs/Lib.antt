@@ -4,9 +4,9 @@ pub mod Contents
 pub mod Creation
 pub mod Decide
 pub mod Deletion
-pub mod Digest
 pub mod Fresh
 pub mod Index
+pub mod Key
 pub mod Limits
 pub mod LookUp
 pub mod Meaning

@@ -1,10 +1,11 @@
 //! A deletion of bindings: what its first step has made, for its second step.
 
-ghost use Rattle.std.specs.Prelude.{◌≡◌, ◌≤◌, IfOk, length};
+ghost use Rattle.std.specs.Prelude.{◌≡◌, ◌≤◌, IfOk, length, map};
 ghost use Rattle.kob_authorizer.specs.Deletion.{bindings_taken, bindings_left};
+ghost use Rattle.kob_authorizer.specs.Places.{addition, key_place};
 ghost use Rattle.kob_authorizer.specs.Removal.{removals_of};
 
-use crate::removal::{Removal, removals_of};
+use crate::removal::{KeyRemoval, Removal, key_removals, removals_of};
 use kob_names::{Binding, BindingFilter, PlainValue};
 use std::alloc::{AllocError, Global};
 use std::marker::Model;
@@ -15,19 +16,23 @@ use std::marker::Model;
 pub struct PreparedDelete {
     filter: BindingFilter,
     taken: Vec<(u64, Binding)>,
+    keys: Vec<KeyRemoval>,
     removals: Vec<Removal>,
 }
 
 impl Model for PreparedDelete {
-    ghost use Rattle.std.specs.Prelude.{◌≡◌};
+    ghost use Rattle.std.specs.Prelude.{◌≡◌, map};
     ghost use Rattle.kob_authorizer.specs.Deletion.{Deletion};
+    ghost use Rattle.kob_authorizer.specs.Places.{addition, key_place};
     ghost use Rattle.kob_authorizer.specs.Removal.{removals_of};
 
     ghost Value = { Deletion };
 
     ghost view = { λ prepared. record { filter = prepared.filter; taken = prepared.taken.items } };
 
-    ghost invariant = { λ prepared. prepared.removals.items ≡ removals_of prepared.taken.items };
+    ghost invariant = { λ prepared.
+        (prepared.keys.items ≡ map (addition key_place) prepared.taken.items)
+        × (prepared.removals.items ≡ removals_of prepared.taken.items) };
 }
 
 impl PreparedDelete {
@@ -41,11 +46,13 @@ impl PreparedDelete {
         ensures taken { IfOk result (λ made. made.taken ≡ bindings_taken filter.now entries.now) }
     {
         let taken = copies_taken(alloc, entries, filter)?;
+        let keys = key_removals(alloc, taken.as_slice())?;
         let removals = removals_of(alloc, taken.as_slice())?;
         let filter = filter.copy(alloc)?;
         Ok(PreparedDelete {
             filter,
             taken,
+            keys,
             removals,
         })
     }
@@ -57,20 +64,30 @@ impl PreparedDelete {
         self.taken.as_slice()
     }
 
-    /// The filter, the entries, and what they take out of the trees of the patterns.
-    pub(crate) fn into_parts(self) -> (BindingFilter, Vec<(u64, Binding)>, Vec<Removal>)
+    /// The filter, the entries, and what goes from the trees with them.
+    pub(crate) fn into_parts(self) -> DeletionParts
         ensures filter { result.0 ≡ self.filter }
         ensures taken { result.1.items ≡ self.taken }
-        ensures removals { result.2.items ≡ removals_of self.taken }
+        ensures keys { result.2.items ≡ map (addition key_place) self.taken }
+        ensures removals { result.3.items ≡ removals_of self.taken }
     {
         let PreparedDelete {
             filter,
             taken,
+            keys,
             removals,
         } = self;
-        (filter, taken, removals)
+        (filter, taken, keys, removals)
     }
 }
+
+/// A deletion's filter, its entries, and what goes from the trees of keys and patterns with them.
+type DeletionParts = (
+    BindingFilter,
+    Vec<(u64, Binding)>,
+    Vec<KeyRemoval>,
+    Vec<Removal>,
+);
 
 /// Copies of the entries that the filter takes.
 #[tactic(auto, using(std::proofs::lemmas::List::Elements::filter_more))]

@@ -1,9 +1,13 @@
-//! What a deletion takes out of the trees of the patterns, all serials of a place at once.
+//! What a deletion takes out of the trees: of those of the patterns all serials of a place at once,
+//! of that of the keys one serial at a time, since few bindings stand at one key.
 
-ghost use Rattle.std.specs.Prelude.{◌≡◌, IfOk};
+ghost use Rattle.std.specs.Prelude.{◌≡◌, IfOk, map};
+ghost use Rattle.kob_prefix_tree.specs.declared.kind.PatternKind.TheVariants as in_tree;
+ghost use Rattle.kob_authorizer.specs.Places.{addition, key_place};
 ghost use Rattle.kob_authorizer.specs.Removal.{is_first_there, removal_of, removals_of};
 
 use crate::index::Index;
+use crate::key::binding_key;
 use kob_names::{Binding, Pattern, PlainValue, ResourceKind};
 use std::alloc::{AllocError, Global};
 use std::marker::Model;
@@ -84,4 +88,59 @@ fn is_first_there(index: &Index, entry: &(u64, Binding)) -> bool
         None => false,
         Some(first) => first == entry.0,
     }
+}
+
+/// A key, and the serial that goes from it. Contracts see what was added for it.
+#[derive(Drop)]
+pub struct KeyRemoval {
+    key: Vec<u8>,
+    serial: u64,
+}
+
+impl Model for KeyRemoval {
+    ghost use Rattle.kob_prefix_tree.specs.Addition.{Addition};
+    ghost use Rattle.kob_prefix_tree.specs.declared.kind.PatternKind.TheVariants as in_tree;
+
+    ghost Value = { Addition };
+
+    ghost view = { λ removal. record {
+      key = removal.key.items;
+      kind = in_tree.Literal;
+      serial = removal.serial;
+    } };
+}
+
+impl KeyRemoval {
+    /// The key of an entry, and its serial.
+    fn of(alloc: Global, entry: &(u64, Binding)) -> Result<KeyRemoval, AllocError>
+        ensures { IfOk result (λ made. made ≡ addition key_place entry.now) }
+    {
+        let key = binding_key(alloc, &entry.1)?;
+        Ok(KeyRemoval {
+            key,
+            serial: entry.0,
+        })
+    }
+
+    /// The key and the serial.
+    pub fn into_parts(self) -> (Vec<u8>, u64)
+        ensures key { result.0.items ≡ self.key }
+        ensures serial { result.1 ≡ self.serial }
+        ensures kind { self.kind ≡ in_tree.Literal }
+    {
+        let KeyRemoval { key, serial } = self;
+        (key, serial)
+    }
+}
+
+/// What goes from the tree of the keys with these entries.
+#[tactic(auto, using(std::proofs::lemmas::List::map_more))]
+pub fn key_removals(alloc: Global, taken: &[(u64, Binding)]) -> Result<Vec<KeyRemoval>, AllocError>
+    ensures { IfOk result (λ made. made.items ≡ map (addition key_place) taken.now) }
+{
+    let mut removals = Vec::with_capacity(alloc, taken.len())?;
+    for entry in taken {
+        removals.push(KeyRemoval::of(alloc, entry)?)?;
+    }
+    Ok(removals)
 }
