@@ -113,7 +113,8 @@ keys_removed wanted low high (entry ∷ rest) index done rising is =
           let kept = keys_removed wanted low high rest index (done ++ entry ∷ [])
           (subst (λ es. IsRising low es high) (sym joined) rising)
           (subst (IsIndex key_place index.keys) (sym joined) is) in
-          subst (IsIndex key_place (fold without_key index (map (addition key_place) (bindings_taken wanted rest))).keys)
+          subst (IsIndex key_place
+          (fold without_key index (map (addition key_place) (bindings_taken wanted rest))).keys)
           (append_assoc done (entry ∷ []) (bindings_left wanted rest)) kept
     ]
 

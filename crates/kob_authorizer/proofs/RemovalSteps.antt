@@ -247,7 +247,8 @@ keys_stay (removal ∷ rs) index =
 -- the index after a deletion is that of the entries that stay
 pub indexes_deleted : (wanted : BindingFilter) (low high : ℕ) (entries : List (ℕ × Binding)) (index : Index)
     → IsRising low entries high → Indexes index entries
-    → Indexes (fold without_removal (fold without_key index (map (addition key_place) (bindings_taken wanted entries)))
+    → Indexes (fold without_removal
+    (fold without_key index (map (addition key_place) (bindings_taken wanted entries)))
     (removals_of (bindings_taken wanted entries))) (bindings_left wanted entries)
 indexes_deleted wanted low high entries index rising is =
     let taken : List (ℕ × Binding) = bindings_taken wanted entries in
@@ -255,7 +256,8 @@ indexes_deleted wanted low high entries index rising is =
     record {
       patterns = λ resource kind key.
           place_after resource kind key wanted low high entries after rising
-          (ap (λ (m : PrefixMap). serials_of kind (held m key)) (patterns_stay (map (addition key_place) taken) index resource)
+          (ap (λ (m : PrefixMap). serials_of kind (held m key))
+          (patterns_stay (map (addition key_place) taken) index resource)
           ∙ is.patterns resource kind key);
       keys = subst (λ (m : PrefixMap). IsIndex key_place m (bindings_left wanted entries))
           (sym (keys_stay (removals_of taken) after))
