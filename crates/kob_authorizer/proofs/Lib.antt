@@ -5,8 +5,11 @@ pub mod Halving
 pub mod InForce
 pub mod IndexSteps
 pub mod InTurn
+pub mod Keys
 pub mod LeastPassing
 pub mod Matching
+pub mod Passes
+pub mod RemovalSteps
 pub mod Resources
 pub mod Rising
 pub mod Serials

@@ -27,7 +27,7 @@ use Rattle.kob_authorizer.specs.Decide.{first_serial, hits, is_hit}
 use Rattle.kob_authorizer.specs.Index.{Indexes, entries_on, tree_of}
 use Rattle.kob_authorizer.specs.LookUp.{AreRising, is_equal, least_passing, matching_serials}
 use Rattle.kob_authorizer.specs.Meaning.{Hits}
-use Rattle.kob_authorizer.specs.Places.{IsIndex, Place, digest_place, is_place, kind_in_tree, pattern_place, same_kind}
+use Rattle.kob_authorizer.specs.Places.{IsIndex, Place, key_place, is_place, kind_in_tree, pattern_place, same_kind}
 use Rattle.kob_authorizer.specs.Question.{Question}
 use Rattle.kob_authorizer.specs.declared.index.Index.{Index}
 
@@ -105,20 +105,20 @@ least_hit_is_first index entries permission question rising indexed =
     (matching_serials (tree_of index question.resource) question.name) rising
     (hits_looked_up index entries indexed permission question)
 
--- every entry with an equal binding is looked up by the digest
-equals_looked_up : (m : PrefixMap) (entries : List (ℕ × Binding)) (binding : Binding) → IsIndex digest_place m entries
-    → LeadToAll (is_equal binding) entries (serials_of (digest_place binding).kind (held m (digest_place binding).key))
+-- every entry with an equal binding is looked up by the key
+equals_looked_up : (m : PrefixMap) (entries : List (ℕ × Binding)) (binding : Binding) → IsIndex key_place m entries
+    → LeadToAll (is_equal binding) entries (serials_of (key_place binding).kind (held m (key_place binding).key))
 equals_looked_up m entries binding indexed entry there is =
-    subst (λ (b : Binding). Contains (serials_of (digest_place b).kind (held m (digest_place b).key)) entry.0)
+    subst (λ (b : Binding). Contains (serials_of (key_place b).kind (held m (key_place b).key)) entry.0)
     ((same_binding_decides entry.1 binding).0 is)
-    (at_its_place digest_place m entries entry indexed there)
+    (at_its_place key_place m entries entry indexed there)
 
 -- so the least serial of the equal ones that were looked up is that of the first equal one
 pub least_equal_is_first : (m : PrefixMap) (entries : List (ℕ × Binding)) (binding : Binding) → AreRising entries
-    → IsIndex digest_place m entries → least_passing (is_equal binding) entries
-    (serials_of (digest_place binding).kind (held m (digest_place binding).key)) ≡ serial_of entries binding
+    → IsIndex key_place m entries → least_passing (is_equal binding) entries
+    (serials_of (key_place binding).kind (held m (key_place binding).key)) ≡ serial_of entries binding
 least_equal_is_first m entries binding rising indexed =
     least_is_first (is_equal binding) entries
-    (serials_of (digest_place binding).kind (held m (digest_place binding).key)) rising
+    (serials_of (key_place binding).kind (held m (key_place binding).key)) rising
     (equals_looked_up m entries binding indexed)
     ∙ first_serial_found (is_equal binding) entries

@@ -43,16 +43,16 @@ without_serials Literal Prefixed s h = refl
 without_serials Prefixed Literal s h = refl
 without_serials Prefixed Prefixed s h = refl
 
-and_true : (b : Bool) → b ≡ (b && true)
+pub and_true : (b : Bool) → b ≡ (b && true)
 and_true true = refl
 and_true false = refl
 
-and_false : (b : Bool) → false ≡ (b && false)
+pub and_false : (b : Bool) → false ≡ (b && false)
 and_false true = refl
 and_false false = refl
 
 -- keys that differ in the test differ
-apart : (key other : List ℕ) → same_text key other ≡ false → other ≢ key
+pub apart : (key other : List ℕ) → same_text key other ≡ false → other ≢ key
 apart key other differ same = let equal = (bytes_eq-Decides key other).1 (sym same) in cc
 
 module _ (m : PrefixMap) (key : List ℕ) (kind : PatternKind) (s : ℕ) where

@@ -1,16 +1,15 @@
 -- The trees beside the list of bindings.
-use Rattle.std.specs.Prelude.{List, ℕ, if◌then◌else◌}
+use Rattle.std.specs.Prelude.{List, ℕ}
 use Rattle.std.specs.FinMap as finite
 use Rattle.std.specs.List.{filter}
-use Rattle.kob_names.specs.Filter.{takes}
 use Rattle.kob_names.specs.Same.{same_resource}
 use Rattle.kob_names.specs.Binding.{Binding}
-use Rattle.kob_names.specs.declared.filter.BindingFilter.{BindingFilter}
 use Rattle.kob_names.specs.declared.kinds.ResourceKind.{ResourceKind}
 use Rattle.kob_names.specs.declared.kinds.ResourceKind.TheVariants.{Topic, Group}
 use Rattle.kob_names.specs.declared.kinds.ResourceKind.TheVariants.{Cluster, TransactionalId}
+use Rattle.kob_prefix_tree.specs.Addition.{Addition}
 use Rattle.kob_prefix_tree.specs.PrefixMap.{PrefixMap}
-use Rattle.kob_authorizer.specs.Places.{IsIndex, addition, digest_place, pattern_place}
+use Rattle.kob_authorizer.specs.Places.{IsIndex, addition, key_place, pattern_place}
 use Rattle.kob_authorizer.specs.Places.{with_addition, without_addition}
 use Rattle.kob_authorizer.specs.declared.index.Index.{Index}
 use Rattle.kob_authorizer.specs.declared.index.Leaf.{Leaf}
@@ -36,7 +35,7 @@ empty_index = record {
   groups = finite.empty;
   cluster = finite.empty;
   transactional_ids = finite.empty;
-  digests = finite.empty;
+  keys = finite.empty;
 }
 
 -- what an entry puts into the trees
@@ -44,7 +43,7 @@ abbrev pub leaf_of : ℕ × Binding → Leaf
 leaf_of entry = record {
   resource = entry.1.resource;
   pattern = addition pattern_place entry;
-  digest = addition digest_place entry;
+  key = addition key_place entry;
 }
 
 -- one more entry is indexed
@@ -52,21 +51,12 @@ abbrev pub with_leaf : Index → Leaf → Index
 with_leaf index leaf =
     let tree = with_addition (tree_of index leaf.resource) leaf.pattern in
     record (with_tree index leaf.resource tree) {
-      digests = with_addition index.digests leaf.digest;
+      keys = with_addition index.keys leaf.key;
     }
 
--- an entry is indexed no more
-abbrev pub without_leaf : Index → Leaf → Index
-without_leaf index leaf =
-    let tree = without_addition (tree_of index leaf.resource) leaf.pattern in
-    record (with_tree index leaf.resource tree) {
-      digests = without_addition index.digests leaf.digest;
-    }
-
--- an entry that a filter takes is indexed no more
-abbrev pub without_if_taken : BindingFilter → Index → ℕ × Binding → Index
-without_if_taken wanted index entry =
-    if takes wanted entry.1 then without_leaf index (leaf_of entry) else index
+-- the serial of a key is indexed no more
+abbrev pub without_key : Index → Addition → Index
+without_key index taken_one = record index { keys = without_addition index.keys taken_one }
 
 -- the entries on one kind of resource
 abbrev pub entries_on : ResourceKind → List (ℕ × Binding) → List (ℕ × Binding)
@@ -74,9 +64,9 @@ entries_on resource entries =
     filter (λ (entry : ℕ × Binding). same_resource entry.1.resource resource) entries
 
 -- the trees hold exactly the serials of the entries: by the pattern, in the tree of the kind of
--- resource, and by the digest
+-- resource, and by the key
 pub record Indexes (index : Index) (entries : List (ℕ × Binding)) : Type 0 where
   pub patterns :
       (resource : ResourceKind)
       → IsIndex pattern_place (tree_of index resource) (entries_on resource entries)
-  pub digests : IsIndex digest_place index.digests entries
+  pub keys : IsIndex key_place index.keys entries

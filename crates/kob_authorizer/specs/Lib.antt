@@ -4,12 +4,13 @@ pub mod Contents
 pub mod Creation
 pub mod Decide
 pub mod Deletion
-pub mod Digest
 pub mod Fresh
 pub mod Index
+pub mod Key
 pub mod Limits
 pub mod LookUp
 pub mod Meaning
 pub mod Passing
 pub mod Places
 pub mod Question
+pub mod Removal

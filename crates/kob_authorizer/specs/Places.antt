@@ -10,7 +10,7 @@ use Rattle.kob_prefix_tree.specs.Held.{serials_of}
 use Rattle.kob_prefix_tree.specs.PrefixMap.{PrefixMap, held, added, removed}
 use Rattle.kob_prefix_tree.specs.declared.kind.PatternKind as of_tree
 use Rattle.kob_prefix_tree.specs.declared.kind.PatternKind.TheVariants as in_tree
-use Rattle.kob_authorizer.specs.Digest.{digest_key}
+use Rattle.kob_authorizer.specs.Key.{binding_key}
 
 -- a key of a tree, and one of its two lists
 pub record Place : Type 0 where
@@ -33,9 +33,9 @@ abbrev pub pattern_place : Binding → Place
 pattern_place binding =
     record { kind = kind_in_tree binding.pattern.kind; key = binding.pattern.name }
 
--- among the digests it stands at the digits of its own
-abbrev pub digest_place : Binding → Place
-digest_place binding = record { kind = in_tree.Literal; key = digest_key binding }
+-- among the keys it stands at its own
+abbrev pub key_place : Binding → Place
+key_place binding = record { kind = in_tree.Literal; key = binding_key binding }
 
 -- the serial of an entry on its way to its place
 abbrev pub addition : (Binding → Place) → ℕ × Binding → Addition

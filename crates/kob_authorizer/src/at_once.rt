@@ -7,7 +7,7 @@ ghost use Rattle.kob_authorizer.specs.AtOnce.{is_among, is_in_force, is_known};
 ghost use Rattle.kob_authorizer.specs.AtOnce.{new_bindings, serials_in};
 ghost use Rattle.kob_authorizer.specs.Creation.{serial_of};
 ghost use Rattle.kob_authorizer.specs.LookUp.{AreRising};
-ghost use Rattle.kob_authorizer.specs.Places.{IsIndex, digest_place};
+ghost use Rattle.kob_authorizer.specs.Places.{IsIndex, key_place};
 
 use crate::equals::serial_of;
 use crate::fresh::Fresh;
@@ -20,16 +20,16 @@ use std::alloc::{AllocError, Global};
 pub fn new_bindings(
     alloc: Global,
     entries: &[(u64, Binding)],
-    digests: &PrefixTree,
+    keys: &PrefixTree,
     bindings: &[Binding],
 ) -> Result<Fresh, AllocError>
     requires rising { AreRising entries.now }
-    requires indexed { IsIndex digest_place digests.now entries.now }
+    requires indexed { IsIndex key_place keys.now entries.now }
     ensures { IfOk result (λ made. made ≡ new_bindings entries.now bindings.now) }
 {
     let mut fresh = Fresh::new(alloc);
     for binding in bindings {
-        if !is_known(entries, digests, &fresh, binding) {
+        if !is_known(entries, keys, &fresh, binding) {
             fresh.push(alloc, binding)?;
         }
     }
@@ -37,26 +37,21 @@ pub fn new_bindings(
 }
 
 /// Whether an equal binding is in force or among the new ones.
-fn is_known(
-    entries: &[(u64, Binding)],
-    digests: &PrefixTree,
-    fresh: &Fresh,
-    binding: &Binding,
-) -> bool
+fn is_known(entries: &[(u64, Binding)], keys: &PrefixTree, fresh: &Fresh, binding: &Binding) -> bool
     requires rising { AreRising entries.now }
-    requires indexed { IsIndex digest_place digests.now entries.now }
+    requires indexed { IsIndex key_place keys.now entries.now }
     ensures { result ≡ is_known entries.now fresh.now binding.now }
 {
-    is_in_force(entries, digests, binding) || is_among(fresh, binding)
+    is_in_force(entries, keys, binding) || is_among(fresh, binding)
 }
 
 #[tactic(auto, using(crate::proofs::Serials::serial_in_force))]
-fn is_in_force(entries: &[(u64, Binding)], digests: &PrefixTree, binding: &Binding) -> bool
+fn is_in_force(entries: &[(u64, Binding)], keys: &PrefixTree, binding: &Binding) -> bool
     requires rising { AreRising entries.now }
-    requires indexed { IsIndex digest_place digests.now entries.now }
+    requires indexed { IsIndex key_place keys.now entries.now }
     ensures { result ≡ is_in_force entries.now binding.now }
 {
-    serial_of(entries, digests, binding).is_some()
+    serial_of(entries, keys, binding).is_some()
 }
 
 #[tactic(auto, using(crate::proofs::Serials::place_among))]
@@ -70,20 +65,20 @@ fn is_among(fresh: &Fresh, binding: &Binding) -> bool
 pub fn serials_in(
     alloc: Global,
     entries: &[(u64, Binding)],
-    digests: &PrefixTree,
+    keys: &PrefixTree,
     next: u64,
     fresh: &Fresh,
     bindings: &[Binding],
 ) -> Result<Vec<u64>, AllocError>
     requires rising { AreRising entries.now }
-    requires indexed { IsIndex digest_place digests.now entries.now }
+    requires indexed { IsIndex key_place keys.now entries.now }
     requires serials { next + length fresh.now ≤ serial_limit }
     ensures { IfOk result (λ made.
         made.items ≡ serials_in (entries.now ++ enumerate_from next fresh.now) bindings.now) }
 {
     bindings
         .iter()
-        .filter_map(|binding| serial_in_either(entries, digests, next, fresh, binding))
+        .filter_map(|binding| serial_in_either(entries, keys, next, fresh, binding))
         .collect(alloc)
 }
 
@@ -91,17 +86,17 @@ pub fn serials_in(
 /// which get the serials from `next` on.
 fn serial_in_either(
     entries: &[(u64, Binding)],
-    digests: &PrefixTree,
+    keys: &PrefixTree,
     next: u64,
     fresh: &Fresh,
     binding: &Binding,
 ) -> Option<u64>
     requires rising { AreRising entries.now }
-    requires indexed { IsIndex digest_place digests.now entries.now }
+    requires indexed { IsIndex key_place keys.now entries.now }
     requires serials { next + length fresh.now ≤ serial_limit }
     ensures { result ≡ serial_of (entries.now ++ enumerate_from next fresh.now) binding.now }
 {
-    match serial_of(entries, digests, binding) {
+    match serial_of(entries, keys, binding) {
         Some(serial) => Some(serial),
         None => serial_among(next, fresh, binding),
     }

@@ -14,7 +14,7 @@ ghost use Rattle.kob_authorizer.specs.Question.{question_of};
 use crate::creation::{PreparedCreate, put_last};
 use crate::deletion::{PreparedDelete, copies_taken, remove_taken};
 use crate::fault::CreateFault;
-use crate::index::{Index, put_all, take_out};
+use crate::index::{Index, put_all, remove_all, remove_keys};
 use crate::look_up::verdict;
 use crate::question::{Question, is_super};
 use kob_names::{Binding, BindingFilter, Host, Operation, Principal, ResourceKind, Verdict};
@@ -267,8 +267,9 @@ impl Authorizer {
         ensures contents { self.new.contents ≡ without_taken prepared.filter self.old.contents }
         ensures taken { result.items ≡ prepared.taken }
     {
-        let (filter, taken) = prepared.into_parts();
-        take_out(&mut self.index, self.entries.as_slice(), &filter);
+        let (filter, taken, keys, removals) = prepared.into_parts();
+        remove_keys(&mut self.index, keys);
+        remove_all(&mut self.index, removals);
         remove_taken(&mut self.entries, &filter);
         taken
     }

@@ -1,25 +1,38 @@
 //! A deletion of bindings: what its first step has made, for its second step.
 
-ghost use Rattle.std.specs.Prelude.{◌≡◌, ◌≤◌, IfOk, length};
+ghost use Rattle.std.specs.Prelude.{◌≡◌, ◌≤◌, IfOk, length, map};
 ghost use Rattle.kob_authorizer.specs.Deletion.{bindings_taken, bindings_left};
+ghost use Rattle.kob_authorizer.specs.Places.{addition, key_place};
+ghost use Rattle.kob_authorizer.specs.Removal.{removals_of};
 
+use crate::removal::{KeyRemoval, Removal, key_removals, removals_of};
 use kob_names::{Binding, BindingFilter, PlainValue};
 use std::alloc::{AllocError, Global};
 use std::marker::Model;
 
-/// A deletion that needs no more memory: its filter, and the entries that it takes away.
+/// A deletion that needs no more memory: its filter, the entries that it takes away, and
+/// their serials by place.
 #[derive(Drop)]
 pub struct PreparedDelete {
     filter: BindingFilter,
     taken: Vec<(u64, Binding)>,
+    keys: Vec<KeyRemoval>,
+    removals: Vec<Removal>,
 }
 
 impl Model for PreparedDelete {
+    ghost use Rattle.std.specs.Prelude.{◌≡◌, map};
     ghost use Rattle.kob_authorizer.specs.Deletion.{Deletion};
+    ghost use Rattle.kob_authorizer.specs.Places.{addition, key_place};
+    ghost use Rattle.kob_authorizer.specs.Removal.{removals_of};
 
     ghost Value = { Deletion };
 
     ghost view = { λ prepared. record { filter = prepared.filter; taken = prepared.taken.items } };
+
+    ghost invariant = { λ prepared.
+        (prepared.keys.items ≡ map (addition key_place) prepared.taken.items)
+        × (prepared.removals.items ≡ removals_of prepared.taken.items) };
 }
 
 impl PreparedDelete {
@@ -33,8 +46,15 @@ impl PreparedDelete {
         ensures taken { IfOk result (λ made. made.taken ≡ bindings_taken filter.now entries.now) }
     {
         let taken = copies_taken(alloc, entries, filter)?;
+        let keys = key_removals(alloc, taken.as_slice())?;
+        let removals = removals_of(alloc, taken.as_slice())?;
         let filter = filter.copy(alloc)?;
-        Ok(PreparedDelete { filter, taken })
+        Ok(PreparedDelete {
+            filter,
+            taken,
+            keys,
+            removals,
+        })
     }
 
     /// What the deletion takes away, in rising serials; no memory is taken.
@@ -44,15 +64,30 @@ impl PreparedDelete {
         self.taken.as_slice()
     }
 
-    /// The filter and the entries.
-    pub(crate) fn into_parts(self) -> (BindingFilter, Vec<(u64, Binding)>)
+    /// The filter, the entries, and what goes from the trees with them.
+    pub(crate) fn into_parts(self) -> DeletionParts
         ensures filter { result.0 ≡ self.filter }
         ensures taken { result.1.items ≡ self.taken }
+        ensures keys { result.2.items ≡ map (addition key_place) self.taken }
+        ensures removals { result.3.items ≡ removals_of self.taken }
     {
-        let PreparedDelete { filter, taken } = self;
-        (filter, taken)
+        let PreparedDelete {
+            filter,
+            taken,
+            keys,
+            removals,
+        } = self;
+        (filter, taken, keys, removals)
     }
 }
+
+/// A deletion's filter, its entries, and what goes from the trees of keys and patterns with them.
+type DeletionParts = (
+    BindingFilter,
+    Vec<(u64, Binding)>,
+    Vec<KeyRemoval>,
+    Vec<Removal>,
+);
 
 /// Copies of the entries that the filter takes.
 #[tactic(auto, using(std::proofs::lemmas::List::Elements::filter_more))]

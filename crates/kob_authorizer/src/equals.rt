@@ -1,36 +1,39 @@
-//! The search for an equal binding, by its digest; no other binding is looked at.
+//! The search for an equal binding, by its key; no other binding is looked at.
 
 ghost use Rattle.std.specs.Prelude.{◌≡◌};
 ghost use Rattle.kob_prefix_tree.specs.Held.{serials_of};
 ghost use Rattle.kob_prefix_tree.specs.PrefixMap.{held};
 ghost use Rattle.kob_authorizer.specs.Creation.{serial_of};
 ghost use Rattle.kob_authorizer.specs.LookUp.{AreRising, is_equal, least_passing, passes_at};
-ghost use Rattle.kob_authorizer.specs.Places.{IsIndex, digest_place};
+ghost use Rattle.kob_authorizer.specs.Places.{IsIndex, key_place};
 
-use crate::digest::digest_key;
+use crate::key::SEPARATOR;
 use crate::look_up::entry_of;
 use kob_names::Binding;
 use kob_prefix_tree::PrefixTree;
 
 /// The serial of the first entry with an equal binding.
-pub fn serial_of(entries: &[(u64, Binding)], digests: &PrefixTree, binding: &Binding) -> Option<u64>
+pub fn serial_of(entries: &[(u64, Binding)], keys: &PrefixTree, binding: &Binding) -> Option<u64>
     requires rising { AreRising entries.now }
-    requires indexed { IsIndex digest_place digests.now entries.now }
+    requires indexed { IsIndex key_place keys.now entries.now }
     ensures { result ≡ serial_of entries.now binding.now }
 {
-    least_equal(entries, digests, binding)
+    least_equal(entries, keys, binding)
 }
 
-/// The least serial that the tree gives for the binding's digest, whose binding is equal.
-fn least_equal(entries: &[(u64, Binding)], digests: &PrefixTree, binding: &Binding) -> Option<u64>
+/// The least serial that the tree gives for the binding's key, whose binding is equal.
+#[tactic(auto, unfolding(crate::specs::Key::binding_key))]
+fn least_equal(entries: &[(u64, Binding)], keys: &PrefixTree, binding: &Binding) -> Option<u64>
     requires { AreRising entries.now }
     ensures { result ≡ least_passing (is_equal binding.now) entries.now
-        (serials_of (digest_place binding.now).kind
-        (held digests.now (digest_place binding.now).key)) }
+        (serials_of (key_place binding.now).kind
+        (held keys.now (key_place binding.now).key)) }
 {
-    let key = digest_key(binding);
-    digests
-        .literal(&key)
+    let texts = binding.parts();
+    let principal = texts.principal.as_str().as_bytes();
+    let host = texts.host.as_str().as_bytes();
+    let name = texts.pattern.name.as_str().as_bytes();
+    keys.literal_joined(principal, host, name, SEPARATOR)
         .filter(|serial| is_equal_at(entries, *serial, binding))
         .min()
 }

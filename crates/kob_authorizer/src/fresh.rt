@@ -7,27 +7,27 @@ ghost use Rattle.kob_authorizer.specs.Limits.{serial_limit};
 ghost use Rattle.kob_authorizer.specs.Creation.{serial_of};
 ghost use Rattle.kob_authorizer.specs.Fresh.{bindings_of};
 
-use crate::digest::digest_key;
 use crate::equals::serial_of;
+use crate::key::binding_key;
 use kob_names::{Binding, PlainValue};
 use kob_prefix_tree::{PatternKind, PrefixTree};
 use std::alloc::{AllocError, Global};
 use std::marker::Model;
 
-/// New bindings in order, among which an equal one is found by its digest.
+/// New bindings in order, among which an equal one is found by its key.
 ///
 /// Contracts see the list of the bindings. Inside, each has its place in the list for a serial.
 #[derive(Drop)]
 pub struct Fresh {
     entries: Vec<(u64, Binding)>,
-    digests: PrefixTree,
+    keys: PrefixTree,
 }
 
 impl Model for Fresh {
     ghost use Rattle.std.specs.Prelude.{List, ◌≡◌};
     ghost use Rattle.std.specs.List.{enumerate_from};
     ghost use Rattle.kob_names.specs.Binding.{Binding};
-    ghost use Rattle.kob_authorizer.specs.Places.{IsIndex, digest_place};
+    ghost use Rattle.kob_authorizer.specs.Places.{IsIndex, key_place};
     ghost use Rattle.kob_authorizer.specs.Fresh.{bindings_of};
 
     ghost Value = { List Binding };
@@ -36,7 +36,7 @@ impl Model for Fresh {
 
     ghost invariant = { λ fresh.
         (fresh.entries.items ≡ enumerate_from 0 (bindings_of fresh.entries.items))
-        × IsIndex digest_place fresh.digests fresh.entries.items };
+        × IsIndex key_place fresh.keys fresh.entries.items };
 }
 
 impl Fresh {
@@ -46,7 +46,7 @@ impl Fresh {
     {
         Fresh {
             entries: Vec::new(alloc),
-            digests: PrefixTree::new(),
+            keys: PrefixTree::new(),
         }
     }
 
@@ -62,7 +62,7 @@ impl Fresh {
         ensures place { result ≡ serial_of (enumerate_from 0 self.now) binding.now }
         ensures below { IfSome result (λ place. place < length self.now) }
     {
-        serial_of(self.entries.as_slice(), &self.digests, binding)
+        serial_of(self.entries.as_slice(), &self.keys, binding)
     }
 
     /// Puts a copy of the binding last.
@@ -70,13 +70,13 @@ impl Fresh {
         ensures { OnOk result (self.new ≡ self.old ++ binding.now ∷ []) }
     {
         let place = self.entries.len() as u64;
-        let key = digest_key(binding);
+        let key = binding_key(alloc, binding)?;
         let copy = binding.copy(alloc)?;
         let prepared = self
-            .digests
-            .prepare_add(alloc, &key, PatternKind::Literal, place)?;
+            .keys
+            .prepare_add(alloc, key.as_slice(), PatternKind::Literal, place)?;
         self.entries.push((place, copy))?;
-        self.digests.commit_add(prepared);
+        self.keys.commit_add(prepared);
         Ok(())
     }
 
@@ -85,10 +85,7 @@ impl Fresh {
         requires { next + length self ≤ serial_limit }
         ensures { IfOk result (λ made. made.items ≡ enumerate_from next self) }
     {
-        let Fresh {
-            entries,
-            digests: _,
-        } = self;
+        let Fresh { entries, keys: _ } = self;
         renumbered(alloc, next, entries)
     }
 }

@@ -1,24 +1,27 @@
-//! The trees that lead from names and digests to the serials of bindings.
+//! The trees that lead from names and keys to the serials of bindings.
 
 ghost use Rattle.std.specs.Prelude.{◌≡◌, IfOk, map};
 ghost use Rattle.std.specs.List.{fold};
+ghost use Rattle.kob_prefix_tree.specs.WalkLeft.{left_of};
 ghost use Rattle.kob_authorizer.specs.Index.{empty_index, leaf_of, tree_of, with_leaf};
-ghost use Rattle.kob_authorizer.specs.Index.{without_if_taken, without_leaf};
+ghost use Rattle.kob_authorizer.specs.Index.{without_key};
 ghost use Rattle.kob_authorizer.specs.Places.{kind_in_tree};
+ghost use Rattle.kob_authorizer.specs.Removal.{index_of, serials_beside, without_removal};
 
-use crate::digest::digest_key;
-use kob_names::{Binding, BindingFilter, PatternKind, ResourceKind};
-use kob_prefix_tree::{PrefixTree, Prepared};
+use crate::key::binding_key;
+use crate::removal::{KeyRemoval, Removal};
+use kob_names::{Binding, PatternKind, ResourceKind};
+use kob_prefix_tree::{PrefixTree, Prepared, Walk};
 use std::alloc::{AllocError, Global};
 
-/// One tree for the patterns on each kind of resource, and one for the digests of the bindings.
+/// One tree for the patterns on each kind of resource, and one for the keys of the bindings.
 #[derive(Drop)]
 pub struct Index {
     topics: PrefixTree,
     groups: PrefixTree,
     cluster: PrefixTree,
     transactional_ids: PrefixTree,
-    digests: PrefixTree,
+    keys: PrefixTree,
 }
 
 /// What an entry puts into the trees, made ahead.
@@ -26,7 +29,7 @@ pub struct Index {
 pub struct Leaf {
     resource: ResourceKind,
     pattern: Prepared,
-    digest: Prepared,
+    key: Prepared,
 }
 
 impl Index {
@@ -39,7 +42,7 @@ impl Index {
             groups: PrefixTree::new(),
             cluster: PrefixTree::new(),
             transactional_ids: PrefixTree::new(),
-            digests: PrefixTree::new(),
+            keys: PrefixTree::new(),
         }
     }
 
@@ -55,11 +58,11 @@ impl Index {
         }
     }
 
-    /// The tree of the digests.
-    pub fn digests(&self) -> &PrefixTree
-        ensures { result.now ≡ self.now.digests }
+    /// The tree of the keys.
+    pub fn keys(&self) -> &PrefixTree
+        ensures { result.now ≡ self.now.keys }
     {
-        &self.digests
+        &self.keys
     }
 
     /// The first step of putting an entry in: all that needs memory.
@@ -71,13 +74,13 @@ impl Index {
         let name = binding.pattern.name.as_str().as_bytes();
         let kind = kind_in_tree(binding.pattern.kind);
         let pattern = tree.prepare_add(alloc, name, kind, entry.0)?;
-        let key = digest_key(&entry.1);
+        let key = binding_key(alloc, &entry.1)?;
         let kind = kob_prefix_tree::PatternKind::Literal;
-        let digest = self.digests.prepare_add(alloc, &key, kind, entry.0)?;
+        let key = self.keys.prepare_add(alloc, key.as_slice(), kind, entry.0)?;
         Ok(Leaf {
             resource: binding.resource,
             pattern,
-            digest,
+            key,
         })
     }
 
@@ -104,9 +107,9 @@ impl Index {
         let Leaf {
             resource,
             pattern,
-            digest,
+            key,
         } = leaf;
-        self.digests.commit_add(digest);
+        self.keys.commit_add(key);
         match resource {
             ResourceKind::Topic => self.topics.commit_add(pattern),
             ResourceKind::Group => self.groups.commit_add(pattern),
@@ -115,22 +118,49 @@ impl Index {
         }
     }
 
-    /// Takes an entry out; no memory is taken.
-    pub fn remove(&mut self, entry: &(u64, Binding))
-        ensures { self.new ≡ without_leaf self.old (leaf_of entry.now) }
+    /// The index of some entries alone.
+    pub fn of(alloc: Global, entries: &[(u64, Binding)]) -> Result<Index, AllocError>
+        ensures { IfOk result (λ made. made ≡ index_of entries.now) }
+    {
+        let mut index = Index::new();
+        let leaves = index.prepare_all(alloc, entries)?;
+        put_all(&mut index, leaves);
+        Ok(index)
+    }
+
+    /// The serials that stand where the pattern of this entry does, in order.
+    pub fn serials_beside(&self, entry: &(u64, Binding)) -> Walk<'_>
+        ensures { left_of result ≡ serials_beside self.now entry.now }
     {
         let binding = entry.1.parts();
-        let key = digest_key(&entry.1);
-        let literal = kob_prefix_tree::PatternKind::Literal;
-        self.digests.remove(&key, literal, entry.0);
         let name = binding.pattern.name.as_str().as_bytes();
         let kind = kind_in_tree(binding.pattern.kind);
-        let _found = match binding.resource {
-            ResourceKind::Topic => self.topics.remove(name, kind, entry.0),
-            ResourceKind::Group => self.groups.remove(name, kind, entry.0),
-            ResourceKind::Cluster => self.cluster.remove(name, kind, entry.0),
-            ResourceKind::TransactionalId => self.transactional_ids.remove(name, kind, entry.0),
+        self.tree(binding.resource).listed(name, kind)
+    }
+
+    /// Takes the serials of one place out, in one pass; no memory is taken.
+    pub fn remove(&mut self, removal: Removal)
+        ensures { self.new ≡ without_removal self.old removal }
+    {
+        let (resource, pattern, serials) = removal.into_parts();
+        let name = pattern.name.as_str().as_bytes();
+        let kind = kind_in_tree(pattern.kind);
+        let serials = serials.as_slice();
+        let _found = match resource {
+            ResourceKind::Topic => self.topics.remove_all(name, kind, serials),
+            ResourceKind::Group => self.groups.remove_all(name, kind, serials),
+            ResourceKind::Cluster => self.cluster.remove_all(name, kind, serials),
+            ResourceKind::TransactionalId => self.transactional_ids.remove_all(name, kind, serials),
         };
+    }
+
+    /// Takes the serial of one key out; no memory is taken.
+    pub fn remove_key(&mut self, removal: KeyRemoval)
+        ensures { self.new ≡ without_key self.old removal }
+    {
+        let (key, serial) = removal.into_parts();
+        let literal = kob_prefix_tree::PatternKind::Literal;
+        self.keys.remove(key.as_slice(), literal, serial);
     }
 }
 
@@ -144,15 +174,23 @@ pub fn put_all(index: &mut Index, leaves: Vec<Leaf>)
     }
 }
 
-/// Takes the entries out that the filter takes; no memory is taken.
-#[tactic(auto, using(std::proofs::lemmas::List::Sums::fold_more))]
-pub fn take_out(index: &mut Index, entries: &[(u64, Binding)], filter: &BindingFilter)
-    ensures { index.new ≡ fold (without_if_taken filter.now) index.old entries.now }
+/// Takes serials out, one place after another; no memory is taken.
+#[tactic(auto, using(std::proofs::lemmas::List::Sums::fold_push))]
+pub fn remove_all(index: &mut Index, removals: Vec<Removal>)
+    ensures { index.new ≡ fold without_removal index.old removals.items }
 {
-    for entry in entries {
-        if filter.takes(&entry.1) {
-            index.remove(entry);
-        }
+    for removal in removals {
+        index.remove(removal);
+    }
+}
+
+/// Takes the serials of keys out, one after another; no memory is taken.
+#[tactic(auto, using(std::proofs::lemmas::List::Sums::fold_push))]
+pub fn remove_keys(index: &mut Index, removals: Vec<KeyRemoval>)
+    ensures { index.new ≡ fold without_key index.old removals.items }
+{
+    for removal in removals {
+        index.remove_key(removal);
     }
 }
 

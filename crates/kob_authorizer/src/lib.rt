@@ -5,15 +5,16 @@ mod at_once;
 mod authorizer;
 mod creation;
 mod deletion;
-mod digest;
 mod equals;
 mod fault;
 mod fresh;
 mod index;
+mod key;
 mod laws;
 mod limits;
 mod look_up;
 mod question;
+mod removal;
 
 pub use authorizer::Authorizer;
 pub use creation::PreparedCreate;

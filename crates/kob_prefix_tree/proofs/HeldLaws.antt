@@ -3,6 +3,7 @@
 --     held_empty                              the empty map holds nothing
 --     held_added_same, held_added_other       after `added`, at the key and at any other
 --     held_removed_same, held_removed_other   after `removed`
+--     held_removed_all_same, held_removed_all_other   after `removed_all`
 --     walk_has_prefixed, walk_has_literal     a walk of a name has the prefixed serials of each key that the name
 -- begins with, and its literal ones
 --     walk_only                               and no others
@@ -14,11 +15,11 @@ use Rattle.std.specs.Cmp.{tied_itself}
 use Rattle.std.specs.Cmp.Lexicographic.{slice_cmp, nat_list_cmp_total}
 use Rattle.std.specs.FinMap as map
 use Rattle.kob_prefix_tree.specs.declared.kind.PatternKind.{PatternKind}
-use Rattle.kob_prefix_tree.specs.Held.{Held, nothing, is_nothing, with_serial, without_serial}
+use Rattle.kob_prefix_tree.specs.Held.{Held, nothing, is_nothing, with_serial, without_serial, without_serials}
 use Rattle.std.proofs.lemmas.List.Elements.{Contains-append_left, Contains-append_right, Contains-append_cases}
 use Rattle.std.proofs.lemmas.List.Folds.{flat_map-map}
 use Rattle.kob_prefix_tree.specs.Walked.{prefixes}
-use Rattle.kob_prefix_tree.specs.PrefixMap.{PrefixMap, held, added, removed, walk_of}
+use Rattle.kob_prefix_tree.specs.PrefixMap.{PrefixMap, held, added, removed, removed_all, walk_of}
 use Rattle.kob_prefix_tree.proofs.WalkLemmas.{prefixes_longer}
 use Rattle.kob_prefix_tree.proofs.MapLemmas.{bytes, same_bytes, is_nothing_true}
 
@@ -33,7 +34,7 @@ apart other key ne =
 pub held_empty : (key : List ℕ) → held map.empty key ≡ nothing
 held_empty key = ap (λ o. unwrap_or o nothing) (map.get-empty (slice_cmp nat_cmp) key)
 
-module _ (m : PrefixMap) (key : List ℕ) (kind : PatternKind) (serial : ℕ) where
+module _ (m : PrefixMap) (key : List ℕ) where
   inserted : (h : Held) (k : List ℕ) → held (map.insert m key h) k
       ≡ unwrap_or (cond (bytes k key) (Some h) (map.get m k)) nothing
   inserted h k = ap (λ o. unwrap_or o nothing) (map.get-insert nat_list_cmp_total m key h k)
@@ -41,20 +42,12 @@ module _ (m : PrefixMap) (key : List ℕ) (kind : PatternKind) (serial : ℕ) wh
   gone : (k : List ℕ) → held (map.remove m key) k ≡ unwrap_or (cond (bytes k key) None (map.get m k)) nothing
   gone k = ap (λ o. unwrap_or o nothing) (map.get-remove nat_list_cmp_total m key k)
 
-  pub held_added_same : held (added m key kind serial) key ≡ with_serial kind serial (held m key)
-  held_added_same =
-      inserted (with_serial kind serial (held m key)) key
-      ∙ ap (λ b. unwrap_or (cond b (Some (with_serial kind serial (held m key))) (map.get m key)) nothing) (itself key)
+  -- the map where this is left at the key
+  abbrev leaving : Held → PrefixMap
+  leaving left = cond (is_nothing left) (map.remove m key) (map.insert m key left)
 
-  pub held_added_other : (other : List ℕ) → other ≢ key → held (added m key kind serial) other ≡ held m other
-  held_added_other other ne =
-      inserted (with_serial kind serial (held m key)) other
-      ∙ ap (λ b. unwrap_or (cond b (Some (with_serial kind serial (held m key))) (map.get m other)) nothing)
-      (apart other key ne)
-
-  pub held_removed_same : held (removed m key kind serial) key ≡ without_serial kind serial (held m key)
-  held_removed_same =
-      let left = without_serial kind serial (held m key) in
+  left_same : (left : Held) → held (leaving left) key ≡ left
+  left_same left =
       elim (is_nothing left) as (λ b. is_nothing left ≡ b
       → held (cond b (map.remove m key) (map.insert m key left)) key ≡ left) [
         | true ↦ λ e. gone key ∙ ap (λ b. unwrap_or (cond b None (map.get m key)) nothing) (itself key)
@@ -62,14 +55,40 @@ module _ (m : PrefixMap) (key : List ℕ) (kind : PatternKind) (serial : ℕ) wh
         | false ↦ λ e. inserted left key ∙ ap (λ b. unwrap_or (cond b (Some left) (map.get m key)) nothing) (itself key)
       ] refl
 
-  pub held_removed_other : (other : List ℕ) → other ≢ key → held (removed m key kind serial) other ≡ held m other
-  held_removed_other other ne =
-      let left = without_serial kind serial (held m key) in
+  left_other : (left : Held) (other : List ℕ) → other ≢ key → held (leaving left) other ≡ held m other
+  left_other left other ne =
       elim (is_nothing left) as (λ b. held (cond b (map.remove m key) (map.insert m key left)) other ≡ held m other) [
         | true ↦ gone other ∙ ap (λ b. unwrap_or (cond b None (map.get m other)) nothing) (apart other key ne)
         | false ↦ inserted left other ∙ ap (λ b. unwrap_or (cond b (Some left) (map.get m other)) nothing)
             (apart other key ne)
       ]
+
+  module _ (kind : PatternKind) (serial : ℕ) where
+    pub held_added_same : held (added m key kind serial) key ≡ with_serial kind serial (held m key)
+    held_added_same =
+        inserted (with_serial kind serial (held m key)) key
+        ∙ ap (λ b. unwrap_or (cond b (Some (with_serial kind serial (held m key))) (map.get m key)) nothing)
+        (itself key)
+
+    pub held_added_other : (other : List ℕ) → other ≢ key → held (added m key kind serial) other ≡ held m other
+    held_added_other other ne =
+        inserted (with_serial kind serial (held m key)) other
+        ∙ ap (λ b. unwrap_or (cond b (Some (with_serial kind serial (held m key))) (map.get m other)) nothing)
+        (apart other key ne)
+
+    pub held_removed_same : held (removed m key kind serial) key ≡ without_serial kind serial (held m key)
+    held_removed_same = left_same (without_serial kind serial (held m key))
+
+    pub held_removed_other : (other : List ℕ) → other ≢ key → held (removed m key kind serial) other ≡ held m other
+    held_removed_other = left_other (without_serial kind serial (held m key))
+
+  module _ (kind : PatternKind) (serials : List ℕ) where
+    pub held_removed_all_same : held (removed_all m key kind serials) key ≡ without_serials kind serials (held m key)
+    held_removed_all_same = left_same (without_serials kind serials (held m key))
+
+    pub held_removed_all_other : (other : List ℕ) → other ≢ key
+        → held (removed_all m key kind serials) other ≡ held m other
+    held_removed_all_other = left_other (without_serials kind serials (held m key))
 
 -- a value is among those that a function gives for the beginnings of a name
 has_beginning : (f : List ℕ → List ℕ) (begin rest : List ℕ) (x : ℕ) → Contains (f begin) x

@@ -3,6 +3,7 @@ pub mod Cells
 pub mod Contents
 pub mod Entries
 pub mod Held
+pub mod Joined
 pub mod Lists
 pub mod Nodes
 pub mod Owned

@@ -2,6 +2,7 @@
 ghost use Rattle.std.specs.Prelude.{◌≡◌, ◌+◌, ◌≤◌, length, OnOk, OnErr, IfOk};
 ghost use Rattle.std.specs.FinMap as map;
 ghost use Rattle.kob_prefix_tree.specs.Held.{has_serial, has_serials, serials_of};
+ghost use Rattle.kob_prefix_tree.specs.Joined.{joined};
 ghost use Rattle.kob_prefix_tree.specs.PrefixMap.{held, added, removed, removed_all};
 ghost use Rattle.kob_prefix_tree.specs.PrefixMap.{walk_of, IsLevels};
 ghost use Rattle.kob_prefix_tree.specs.WalkLeft.{left_of};
@@ -162,7 +163,29 @@ impl PrefixTree {
     pub fn literal(&self, name: &[u8]) -> Walk<'_>
         ensures { left_of result ≡ serials_of PatternKind.Literal (held self.now name.now) }
     {
-        match self.root.place().at(name) {
+        self.listed(name, PatternKind::Literal)
+    }
+
+    /// The serials of the key's list of one kind, in order. It takes no memory.
+    pub fn listed(&self, key: &[u8], kind: PatternKind) -> Walk<'_>
+        ensures { left_of result ≡ serials_of kind (held self.now key.now) }
+    {
+        match self.root.place().at(key) {
+            None => Walk::over(Unread::nothing()),
+            Some(place) => match kind {
+                PatternKind::Literal => Walk::over(place.literal.unread()),
+                PatternKind::Prefixed => Walk::over(place.prefixed.unread()),
+            },
+        }
+    }
+
+    /// The literal serials of the key that three texts make with a byte between them. It takes no
+    /// memory.
+    pub fn literal_joined(&self, first: &[u8], second: &[u8], third: &[u8], between: u8) -> Walk<'_>
+        ensures { left_of result ≡ serials_of PatternKind.Literal
+            (held self.now (joined between first.now second.now third.now)) }
+    {
+        match self.root.place().at_joined(first, second, third, between) {
             None => Walk::over(Unread::nothing()),
             Some(place) => Walk::over(place.literal.unread()),
         }

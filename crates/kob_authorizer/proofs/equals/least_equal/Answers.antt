@@ -4,17 +4,19 @@ use Rattle.std.proofs.lemmas.Iterator.Consumers.{YieldsList-from_filter, YieldsL
 use Rattle.kob_prefix_tree.specs.Held.{serials_of}
 use Rattle.kob_prefix_tree.specs.PrefixMap.{held}
 use Rattle.kob_prefix_tree.specs.WalkLeft.{left_of}
+use Rattle.kob_authorizer.specs.Key.{binding_key}
 use Rattle.kob_authorizer.specs.LookUp.{is_equal, passes_at}
-use Rattle.kob_authorizer.specs.Places.{digest_place}
+use Rattle.kob_authorizer.specs.Places.{key_place}
 use Rattle.kob_authorizer.proofs.equals.least_equal.Goals as goal
 
 pub returns : goal.returns
+unfolding binding_key
 returns c =
     let binding = c.args.binding.now in
     let test = passes_at (is_equal binding) c.args.entries.now in
     let held_there : List ℕ =
-    serials_of (digest_place binding).kind (held c.args.digests.now (digest_place binding).key) in
-    let given : left_of c.literal.result ≡ held_there = cc in
+    serials_of (key_place binding).kind (held c.args.keys.now (key_place binding).key) in
+    let given : left_of c.literal_joined.result ≡ held_there = cc in
     sym (option_map_id c.min.result)
     ∙ min_from_yields_List c.filter.result c.min.result c.min.ensures.ran
     (YieldsList-from_filter _ test

@@ -1,7 +1,7 @@
 use Rattle.std.proofs.Common.{refl}
 use Rattle.kob_authorizer.proofs.TreeSteps.{index_empty}
-use Rattle.kob_authorizer.specs.Places.{digest_place}
+use Rattle.kob_authorizer.specs.Places.{key_place}
 use Rattle.kob_authorizer.proofs.fresh.Fresh.new.Goals as goal
 
 pub invariant_of-result : goal.invariant_of-result
-invariant_of-result c = rw (c.new.ensures.items, c.new-2.ensures) (refl, index_empty digest_place)
+invariant_of-result c = rw (c.new.ensures.items, c.new-2.ensures) (refl, index_empty key_place)

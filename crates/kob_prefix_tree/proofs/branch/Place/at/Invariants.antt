@@ -1,10 +1,11 @@
-use Rattle.std.proofs.Common.{◌≡◌, length}
+use Rattle.std.proofs.Common.{◌≡◌, ◌++◌, length, List, ℕ}
 use Rattle.kob_prefix_tree.specs.Contents.{seen}
 use Rattle.kob_prefix_tree.specs.Siblings.{held_in}
 use Rattle.kob_prefix_tree.proofs.branch.Place.at.Given as goal
 
 abbrev pub invariant-loop-byte : goal.invariant-loop-byte
-invariant-loop-byte l = held_in l.key (seen l.fn.self) ≡ held_in l.rest (seen l.place)
+invariant-loop-byte l =
+    (more : List ℕ) → held_in (l.key ++ more) (seen l.fn.self) ≡ held_in (l.rest ++ more) (seen l.place)
 
 abbrev pub decreases-loop-byte : goal.decreases-loop-byte
 decreases-loop-byte l = length l.rest

@@ -1,0 +1,146 @@
+//! What a deletion takes out of the trees: of those of the patterns all serials of a place at once,
+//! of that of the keys one serial at a time, since few bindings stand at one key.
+
+ghost use Rattle.std.specs.Prelude.{◌≡◌, IfOk, map};
+ghost use Rattle.kob_prefix_tree.specs.declared.kind.PatternKind.TheVariants as in_tree;
+ghost use Rattle.kob_authorizer.specs.Places.{addition, key_place};
+ghost use Rattle.kob_authorizer.specs.Removal.{is_first_there, removal_of, removals_of};
+
+use crate::index::Index;
+use crate::key::binding_key;
+use kob_names::{Binding, Pattern, PlainValue, ResourceKind};
+use std::alloc::{AllocError, Global};
+use std::marker::Model;
+
+/// A pattern on a kind of resource, and the serials that go from its place. Contracts see its
+/// parts.
+#[derive(Drop)]
+pub struct Removal {
+    resource: ResourceKind,
+    pattern: Pattern,
+    serials: Vec<u64>,
+}
+
+impl Model for Removal {
+    ghost use Rattle.kob_authorizer.specs.Removal as seen;
+
+    ghost Value = { seen.Removal };
+
+    ghost view = { λ removal. record {
+      resource = removal.resource;
+      pattern = removal.pattern;
+      serials = removal.serials.items;
+    } };
+}
+
+impl Removal {
+    /// All that stands in the index where this entry does.
+    fn of(alloc: Global, index: &Index, entry: &(u64, Binding)) -> Result<Removal, AllocError>
+        ensures { IfOk result (λ made. made ≡ removal_of index.now entry.now) }
+    {
+        let serials = index.serials_beside(entry).collect(alloc)?;
+        let binding = entry.1.parts();
+        let pattern = binding.pattern.copy(alloc)?;
+        Ok(Removal {
+            resource: binding.resource,
+            pattern,
+            serials,
+        })
+    }
+
+    /// The kind of resource, the pattern and the serials.
+    pub fn into_parts(self) -> (ResourceKind, Pattern, Vec<u64>)
+        ensures resource { result.0 ≡ self.resource }
+        ensures pattern { result.1 ≡ self.pattern }
+        ensures serials { result.2.items ≡ self.serials }
+    {
+        let Removal {
+            resource,
+            pattern,
+            serials,
+        } = self;
+        (resource, pattern, serials)
+    }
+}
+
+/// All that goes from the trees of the patterns with these entries, each place once.
+///
+/// The entries are indexed by themselves, so that each place gives its serials at once.
+#[tactic(auto, using(std::proofs::lemmas::List::Sums::fold_more))]
+pub fn removals_of(alloc: Global, taken: &[(u64, Binding)]) -> Result<Vec<Removal>, AllocError>
+    ensures { IfOk result (λ made. made.items ≡ removals_of taken.now) }
+{
+    let index = Index::of(alloc, taken)?;
+    let mut removals = Vec::new(alloc);
+    for entry in taken {
+        if is_first_there(&index, entry) {
+            removals.push(Removal::of(alloc, &index, entry)?)?;
+        }
+    }
+    Ok(removals)
+}
+
+/// Whether no other entry stands before this one where it does.
+fn is_first_there(index: &Index, entry: &(u64, Binding)) -> bool
+    ensures { result ≡ is_first_there index.now entry.now }
+{
+    match index.serials_beside(entry).next() {
+        None => false,
+        Some(first) => first == entry.0,
+    }
+}
+
+/// A key, and the serial that goes from it. Contracts see what was added for it.
+#[derive(Drop)]
+pub struct KeyRemoval {
+    key: Vec<u8>,
+    serial: u64,
+}
+
+impl Model for KeyRemoval {
+    ghost use Rattle.kob_prefix_tree.specs.Addition.{Addition};
+    ghost use Rattle.kob_prefix_tree.specs.declared.kind.PatternKind.TheVariants as in_tree;
+
+    ghost Value = { Addition };
+
+    ghost view = { λ removal. record {
+      key = removal.key.items;
+      kind = in_tree.Literal;
+      serial = removal.serial;
+    } };
+}
+
+impl KeyRemoval {
+    /// The key of an entry, and its serial.
+    fn of(alloc: Global, entry: &(u64, Binding)) -> Result<KeyRemoval, AllocError>
+        ensures { IfOk result (λ made. made ≡ addition key_place entry.now) }
+    {
+        let key = binding_key(alloc, &entry.1)?;
+        Ok(KeyRemoval {
+            key,
+            serial: entry.0,
+        })
+    }
+
+    /// The key and the serial.
+    pub fn into_parts(self) -> (Vec<u8>, u64)
+        ensures key { result.0.items ≡ self.key }
+        ensures serial { result.1 ≡ self.serial }
+        ensures kind { self.kind ≡ in_tree.Literal }
+    {
+        let KeyRemoval { key, serial } = self;
+        (key, serial)
+    }
+}
+
+/// What goes from the tree of the keys with these entries.
+#[tactic(auto, using(std::proofs::lemmas::List::map_more))]
+pub fn key_removals(alloc: Global, taken: &[(u64, Binding)]) -> Result<Vec<KeyRemoval>, AllocError>
+    ensures { IfOk result (λ made. made.items ≡ map (addition key_place) taken.now) }
+{
+    let mut removals = Vec::with_capacity(alloc, taken.len())?;
+    for entry in taken {
+        removals.push(KeyRemoval::of(alloc, entry)?)?;
+    }
+    Ok(removals)
+}
