@@ -20,7 +20,7 @@ fn deny_read(kind: PatternKind, name: &str) -> Rule<'_> {
     }
 }
 
-fn on_write<'a>(
+pub fn on_write<'a>(
     permission: Permission,
     principal: &'a str,
     kind: PatternKind,
@@ -38,14 +38,18 @@ fn on_write<'a>(
 
 /// An authorizer with the super user `User:root`; with `everyone` what no binding matches is open to
 /// everyone.
-fn opened(alloc: Global, everyone: bool) -> Result<Authorizer, Fail> {
+pub fn opened(alloc: Global, everyone: bool) -> Result<Authorizer, Fail> {
     let mut supers = Vec::new(alloc);
     supers.push(Principal::parse(alloc, "User:root")?)?;
     Ok(Authorizer::open(alloc, supers, everyone))
 }
 
 /// Puts the rules in force by one call, and answers their serials.
-fn create(alloc: Global, authorizer: &mut Authorizer, rules: &[Rule]) -> Result<Vec<u64>, Fail> {
+pub fn create(
+    alloc: Global,
+    authorizer: &mut Authorizer,
+    rules: &[Rule],
+) -> Result<Vec<u64>, Fail> {
     let mut bindings = Vec::new(alloc);
     for rule in rules {
         bindings.push(bound(alloc, rule)?)?;
@@ -54,7 +58,7 @@ fn create(alloc: Global, authorizer: &mut Authorizer, rules: &[Rule]) -> Result<
 }
 
 /// The verdict on an operation on a topic.
-fn verdict_on(
+pub fn verdict_on(
     alloc: Global,
     authorizer: &Authorizer,
     who: &str,
@@ -67,7 +71,11 @@ fn verdict_on(
 }
 
 /// A filter by the name alone.
-fn named(alloc: Global, pattern: FilterPattern, name: &str) -> Result<BindingFilter, AllocError> {
+pub fn named(
+    alloc: Global,
+    pattern: FilterPattern,
+    name: &str,
+) -> Result<BindingFilter, AllocError> {
     let name = Text::copied(alloc, name)?;
     Ok(BindingFilter {
         resource: None,
@@ -92,7 +100,7 @@ fn serials_matching(
 }
 
 /// Whether the rules, put in force by one call, get just these serials.
-fn gets(
+pub fn gets(
     alloc: Global,
     authorizer: &mut Authorizer,
     rules: &[Rule],
@@ -103,7 +111,7 @@ fn gets(
 }
 
 /// Whether the bindings whose patterns match the name have just these serials.
-fn matches(
+pub fn matches(
     alloc: Global,
     authorizer: &Authorizer,
     name: &str,
@@ -269,171 +277,5 @@ fn first_wrong_once_opened(alloc: Global) -> Result<Option<usize>, Fail> {
 fn deny_beats_longer_allow(rt: HostRuntime) -> Result<(), Fail> {
     let wrong = first_wrong_once_opened(rt.alloc())?;
     assert_eq!(rt; wrong, None, "the place of a step with another answer");
-    Ok(())
-}
-
-fn describe_by_bob(kind: PatternKind, name: &str) -> Rule<'_> {
-    Rule {
-        permission: Permission::Allow,
-        principal: "User:bob",
-        operation: Operation::Describe,
-        resource: ResourceKind::Topic,
-        kind,
-        name,
-    }
-}
-
-/// Whether alice's question about a topic is answered so.
-fn alice_hears(
-    alloc: Global,
-    authorizer: &Authorizer,
-    topic: &str,
-    verdict: Verdict,
-) -> Result<bool, Fail> {
-    let found = verdict_on(alloc, authorizer, "User:alice", Operation::Describe, topic)?;
-    Ok(found == verdict)
-}
-
-/// Whether `u` is closed to alice and open to bob by his binding, and `v` is open to her.
-fn is_closed_by_other(alloc: Global, authorizer: &mut Authorizer) -> Result<bool, Fail> {
-    let literal = [describe_by_bob(PatternKind::Literal, "u")];
-    let created = gets(alloc, authorizer, &literal, &[1])?;
-    let closed = alice_hears(alloc, authorizer, "u", Verdict::NoAllow)?;
-    let bob = verdict_on(alloc, authorizer, "User:bob", Operation::Describe, "u")?;
-    let other = alice_hears(alloc, authorizer, "v", Verdict::NoAclFound)?;
-    Ok(created && closed && bob == Verdict::AllowedBy(1) && other)
-}
-
-/// Whether `v` is closed by a pattern of this kind and name, and open again without it.
-fn is_closed_while_bound(
-    alloc: Global,
-    authorizer: &mut Authorizer,
-    kind: PatternKind,
-    name: &str,
-) -> Result<bool, Fail> {
-    create(alloc, authorizer, &[describe_by_bob(kind, name)])?;
-    let closed = alice_hears(alloc, authorizer, "v", Verdict::NoAllow)?;
-    let filter = named(alloc, FilterPattern::Any, name)?;
-    authorizer.delete(alloc, &filter)?;
-    let again = alice_hears(alloc, authorizer, "v", Verdict::NoAclFound)?;
-    Ok(closed && again)
-}
-
-fn is_open_until_bound(alloc: Global, authorizer: &mut Authorizer) -> Result<bool, Fail> {
-    let open = alice_hears(alloc, authorizer, "u", Verdict::NoAclFound)?;
-    let by_other = is_closed_by_other(alloc, authorizer)?;
-    let by_star = is_closed_while_bound(alloc, authorizer, PatternKind::Literal, "*")?;
-    let by_prefix = is_closed_while_bound(alloc, authorizer, PatternKind::Prefixed, "v")?;
-    Ok(open && by_other && by_star && by_prefix)
-}
-
-fn opened_is_open_until_bound(alloc: Global) -> Result<bool, Fail> {
-    let mut authorizer = opened(alloc, true)?;
-    is_open_until_bound(alloc, &mut authorizer)
-}
-
-#[test]
-fn open_to_all_until_bound(rt: HostRuntime) -> Result<(), Fail> {
-    let holds = opened_is_open_until_bound(rt.alloc())?;
-    assert!(rt; holds);
-    Ok(())
-}
-
-fn allow_on_n(principal: &'static str, operation: Operation) -> Rule<'static> {
-    Rule {
-        permission: Permission::Allow,
-        principal,
-        operation,
-        resource: ResourceKind::Topic,
-        kind: PatternKind::Literal,
-        name: "n",
-    }
-}
-
-/// Two principals who may each read and write one topic.
-fn rules_on_one_name() -> [Rule<'static>; 4] {
-    [
-        allow_on_n("User:a", Operation::Read),
-        allow_on_n("User:b", Operation::Read),
-        allow_on_n("User:a", Operation::Write),
-        allow_on_n("User:b", Operation::Write),
-    ]
-}
-
-/// Deletes what is for the principal and the operation, and answers the serials that went.
-fn delete_of(
-    alloc: Global,
-    authorizer: &mut Authorizer,
-    principal: Option<&str>,
-    operation: Option<Operation>,
-) -> Result<Vec<u64>, Fail> {
-    let principal = match principal {
-        None => None,
-        Some(text) => Some(Principal::parse(alloc, text)?),
-    };
-    let filter = BindingFilter {
-        resource: None,
-        name: None,
-        pattern: FilterPattern::Any,
-        principal,
-        host: None,
-        operation,
-        permission: None,
-    };
-    let gone = authorizer.delete(alloc, &filter)?;
-    Ok(gone.iter().map(|entry| entry.0).collect(alloc)?)
-}
-
-/// Every second binding of a name goes, and comes again under a new serial.
-fn deletes_every_second(alloc: Global) -> Result<bool, Fail> {
-    let mut authorizer = opened(alloc, false)?;
-    let created = gets(alloc, &mut authorizer, &rules_on_one_name(), &[1, 2, 3, 4])?;
-    let gone = delete_of(alloc, &mut authorizer, Some("User:a"), None)?;
-    let left = matches(alloc, &authorizer, "n", &[2, 4])?;
-    let of_a = verdict_on(alloc, &authorizer, "User:a", Operation::Read, "n")?;
-    let of_b = verdict_on(alloc, &authorizer, "User:b", Operation::Write, "n")?;
-    let again = gets(alloc, &mut authorizer, &rules_on_one_name(), &[5, 2, 6, 4])?;
-    let granted = of_a == Verdict::NoAllow && of_b == Verdict::AllowedBy(4);
-    Ok(created && gone.as_slice() == [1, 3].as_slice() && left && granted && again)
-}
-
-/// The later half of the bindings of a name goes.
-fn deletes_later_half(alloc: Global) -> Result<bool, Fail> {
-    let mut authorizer = opened(alloc, false)?;
-    let created = gets(alloc, &mut authorizer, &rules_on_one_name(), &[1, 2, 3, 4])?;
-    let gone = delete_of(alloc, &mut authorizer, None, Some(Operation::Write))?;
-    let left = matches(alloc, &authorizer, "n", &[1, 2])?;
-    let write = verdict_on(alloc, &authorizer, "User:b", Operation::Write, "n")?;
-    let read = verdict_on(alloc, &authorizer, "User:b", Operation::Read, "n")?;
-    let granted = write == Verdict::NoAllow && read == Verdict::AllowedBy(2);
-    Ok(created && gone.as_slice() == [3, 4].as_slice() && left && granted)
-}
-
-#[test]
-fn bindings_of_one_name_deleted(rt: HostRuntime) -> Result<(), Fail> {
-    let every_second = deletes_every_second(rt.alloc())?;
-    assert!(rt; every_second);
-    let later_half = deletes_later_half(rt.alloc())?;
-    assert!(rt; later_half);
-    Ok(())
-}
-
-/// Bindings whose texts are the same letters when they are put together are told apart.
-fn tells_splits_apart(alloc: Global) -> Result<bool, Fail> {
-    let (allow, literal) = (Permission::Allow, PatternKind::Literal);
-    let rules = [
-        on_write(allow, "User:a", literal, "*b"),
-        on_write(allow, "User:a*", literal, "b"),
-    ];
-    let mut authorizer = opened(alloc, false)?;
-    let created = gets(alloc, &mut authorizer, &rules, &[1, 2])?;
-    let again = gets(alloc, &mut authorizer, &rules, &[1, 2])?;
-    Ok(created && again)
-}
-
-#[test]
-fn splits_of_letters_told_apart(rt: HostRuntime) -> Result<(), Fail> {
-    let holds = tells_splits_apart(rt.alloc())?;
-    assert!(rt; holds);
     Ok(())
 }

@@ -8,6 +8,10 @@ mod chunks;
 #[cfg(test)]
 mod names;
 #[cfg(test)]
+mod one_name;
+#[cfg(test)]
+mod open_to_all;
+#[cfg(test)]
 mod partition;
 #[cfg(test)]
 mod producers;
