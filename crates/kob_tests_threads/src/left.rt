@@ -136,7 +136,7 @@ pub(crate) fn are_records(alloc: Global, broker: &mut Broker, topic: &str, ids: 
 }
 
 /// Whether the service's mark is this.
-fn is_marked(end: &PipelineEnd, mark: u64) -> bool {
+pub(crate) fn is_marked(end: &PipelineEnd, mark: u64) -> bool {
     match end.outboxes.get(0) {
         Some(left) => left.mark == mark,
         None => false,

@@ -8,6 +8,8 @@
 #[cfg(test)]
 mod chunks;
 #[cfg(test)]
+mod deleted;
+#[cfg(test)]
 mod fleets;
 #[cfg(test)]
 mod gates;
