@@ -35,8 +35,12 @@ fn carrying(alloc: Global, id: u64) -> Result<Record, AllocError> {
 
 #[test]
 fn an_id_is_one_in_every_form(rt: HostRuntime) -> Result<(), Fail> {
-    let alloc = rt.alloc();
-    let mut inbox = Inbox::open_in_memory(alloc)?;
+    let mut inbox = Inbox::open_in_memory(rt.alloc())?;
+    ids_in_each_form(&rt, rt.alloc(), &mut inbox)?;
+    two_are_taken(&rt, &mut inbox)
+}
+
+fn ids_in_each_form(rt: &impl Abort, alloc: Global, inbox: &mut Inbox) -> Result<(), Fail> {
     let cases: [(&[(&str, &[u8])], TakeIn); 12] = [
         (
             &[("id", b"00000000-0000-0000-0000-00000000000A")],
@@ -77,6 +81,10 @@ fn an_id_is_one_in_every_form(rt: HostRuntime) -> Result<(), Fail> {
             "at {at}"
         );
     }
+    Ok(())
+}
+
+fn two_are_taken(rt: &impl Abort, inbox: &mut Inbox) -> Result<(), Fail> {
     let rows = inbox.taken()?;
     assert_eq!(rt; rows.len(), 2);
     assert_eq!(rt; (rows[0].place, rows[0].offset), (1, 0));
@@ -91,12 +99,17 @@ fn is_row(row: &InboxRow, place: u64, topic: &str, partition: u64, offset: u64) 
     at == (place, partition, offset) && row.topic.as_str() == topic
 }
 
+const GREATEST: u64 = 9_223_372_036_854_775_807;
+
 #[test]
 fn rows_keep_what_was_said(rt: HostRuntime) -> Result<(), Fail> {
-    const GREATEST: u64 = 9_223_372_036_854_775_807;
-    let alloc = rt.alloc();
-    let mut inbox = Inbox::open_in_memory(alloc)?;
+    let mut inbox = Inbox::open_in_memory(rt.alloc())?;
     assert_eq!(rt; inbox.taken()?.len(), 0);
+    take_in_far_and_hollow(&rt, rt.alloc(), &mut inbox)?;
+    far_and_hollow_are_kept(&rt, &mut inbox)
+}
+
+fn take_in_far_and_hollow(rt: &impl Abort, alloc: Global, inbox: &mut Inbox) -> Result<(), Fail> {
     let mut bare = carrying(alloc, 1)?;
     bare.key = None;
     bare.value = Bytes::copied(alloc, [0, 255].as_slice())?;
@@ -110,6 +123,10 @@ fn rows_keep_what_was_said(rt: HostRuntime) -> Result<(), Fail> {
     assert_eq!(rt; inbox.take_in("", 0, 0, &hollow)?, TakeIn::Taken);
     let far = inbox.take_in("orders", GREATEST + 1, 0, &carrying(alloc, 3)?);
     assert_eq!(rt; far, Err(InboxFault::Store));
+    Ok(())
+}
+
+fn far_and_hollow_are_kept(rt: &impl Abort, inbox: &mut Inbox) -> Result<(), Fail> {
     let rows = inbox.taken()?;
     assert_eq!(rt; rows.len(), 2);
     assert!(rt; is_row(&rows[0], 1, "ö", GREATEST, GREATEST));
@@ -123,8 +140,11 @@ fn rows_keep_what_was_said(rt: HostRuntime) -> Result<(), Fail> {
 
 #[test]
 fn ten_thousand_events(rt: HostRuntime) -> Result<(), Fail> {
-    let alloc = rt.alloc();
-    let mut inbox = Inbox::open_in_memory(alloc)?;
+    let mut inbox = Inbox::open_in_memory(rt.alloc())?;
+    many_events(&rt, rt.alloc(), &mut inbox)
+}
+
+fn many_events(rt: &impl Abort, alloc: Global, inbox: &mut Inbox) -> Result<(), Fail> {
     for id in 0..10_000u64 {
         let message = carrying(alloc, id)?;
         assert_eq!(rt; inbox.take_in("orders", 0, id, &message)?, TakeIn::Taken);

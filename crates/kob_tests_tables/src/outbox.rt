@@ -48,16 +48,17 @@ fn texts(
     Ok((change, event))
 }
 
-#[test]
-fn outbox_mark_and_sweep(rt: HostRuntime) -> Result<(), Fail> {
-    let alloc = rt.alloc();
-    let mut outbox = Outbox::open_in_memory(alloc)?;
-    let paid = change(alloc, "42", "paid")?;
-    let void = change(alloc, "42", "void")?;
-    let first = event(alloc, 0xA, "first")?;
+/// Two rows, of which the first is swept; only the second is left.
+fn sweep_the_first(
+    rt: &impl Abort,
+    outbox: &mut Outbox,
+    paid: &Change,
+    first: &OutboxEvent,
+    second: &OutboxEvent,
+) -> Result<(), Fail> {
     assert_eq!(rt; outbox.mark()?, 0);
-    assert_eq!(rt; outbox.record(&paid, &first)?, 1);
-    assert_eq!(rt; outbox.record(&paid, &event(alloc, 0xB, "second")?)?, 2);
+    assert_eq!(rt; outbox.record(paid, first)?, 1);
+    assert_eq!(rt; outbox.record(paid, second)?, 2);
     outbox.set_mark(1)?;
     assert_eq!(rt; outbox.sweep()?, 1);
     let rows = outbox.after(0, 10)?;
@@ -65,13 +66,84 @@ fn outbox_mark_and_sweep(rt: HostRuntime) -> Result<(), Fail> {
     assert_eq!(rt; rows[0].seq, 2);
     assert_eq!(rt; rows[0].event.id, Uuid::from_u128(0xB));
     assert_eq!(rt; rows[0].event.payload.as_str(), "second");
-    assert_eq!(rt; outbox.record(&void, &first), Err(RecordFault::DuplicateId));
+    Ok(())
+}
+
+#[test]
+fn outbox_mark_and_sweep(rt: HostRuntime) -> Result<(), Fail> {
+    let alloc = rt.alloc();
+    let first = event(alloc, 0xA, "first")?;
+    let second = event(alloc, 0xB, "second")?;
+    let mut outbox = Outbox::open_in_memory(alloc)?;
+    sweep_the_first(
+        &rt,
+        &mut outbox,
+        &change(alloc, "42", "paid")?,
+        &first,
+        &second,
+    )?;
+    let third = event(alloc, 0xC, "third")?;
+    after_the_sweep(
+        &rt,
+        &mut outbox,
+        &change(alloc, "42", "void")?,
+        &first,
+        &third,
+    )
+}
+
+/// The id of the row that is gone counts as taken, and the mark has its bounds.
+fn after_the_sweep(
+    rt: &impl Abort,
+    outbox: &mut Outbox,
+    void: &Change,
+    first: &OutboxEvent,
+    third: &OutboxEvent,
+) -> Result<(), Fail> {
+    assert_eq!(rt; outbox.record(void, first), Err(RecordFault::DuplicateId));
     assert_eq!(rt; outbox.business("order", "42")?.as_deref(), Some("paid"));
-    assert_eq!(rt; outbox.record(&void, &event(alloc, 0xC, "third")?)?, 3);
+    assert_eq!(rt; outbox.record(void, third)?, 3);
     assert_eq!(rt; outbox.set_mark(0), Err(MarkFault::Backwards));
     assert_eq!(rt; outbox.set_mark(9), Err(MarkFault::Ahead));
     assert_eq!(rt; outbox.mark()?, 1);
     outbox.is_in_order();
+    Ok(())
+}
+
+/// A text of a column at its limit is recorded, and each that is no text of it refused by its name.
+fn text_has_its_limit(
+    rt: &impl Abort,
+    alloc: Global,
+    outbox: &mut Outbox,
+    at: usize,
+    column: Column,
+    most: usize,
+) -> Result<(), Fail> {
+    let longest = "a".repeat(alloc, most)?;
+    let (change, event) = texts(alloc, at as u128, at, &longest)?;
+    assert_eq!(rt; outbox.record(&change, &event)?, at as u64 + 1);
+    let too_long = "a".repeat(alloc, most + 1)?;
+    let wide = "é".repeat(alloc, most / 2 + 1)?;
+    for text in [too_long.as_str(), wide.as_str(), "\0", "a\0"] {
+        refused_text(rt, alloc, outbox, at, text, column)?;
+    }
+    let (change, event) = texts(alloc, at as u128, 6, "a\0")?;
+    let named = outbox.record(&change, &event);
+    assert_eq!(rt; named, Err(RecordFault::BadField(Column::Payload)));
+    Ok(())
+}
+
+fn refused_text(
+    rt: &impl Abort,
+    alloc: Global,
+    outbox: &mut Outbox,
+    at: usize,
+    text: &str,
+    column: Column,
+) -> Result<(), Fail> {
+    let (change, event) = texts(alloc, 100, at, text)?;
+    let recorded = outbox.record(&change, &event);
+    assert_eq!(rt; recorded, Err(RecordFault::BadField(column)), "at {at}");
     Ok(())
 }
 
@@ -89,22 +161,7 @@ fn each_text_has_its_limit(rt: HostRuntime) -> Result<(), Fail> {
         (Column::Payload, 1_048_576),
     ];
     for (at, (column, most)) in columns.into_iter().enumerate() {
-        let longest = "a".repeat(alloc, most)?;
-        let too_long = "a".repeat(alloc, most + 1)?;
-        let wide = "é".repeat(alloc, most / 2 + 1)?;
-        let (change, event) = texts(alloc, at as u128, at, &longest)?;
-        assert_eq!(rt; outbox.record(&change, &event)?, at as u64 + 1);
-        for text in [too_long.as_str(), wide.as_str(), "\0", "a\0"] {
-            let (change, event) = texts(alloc, 100, at, text)?;
-            assert_eq!(rt;
-                outbox.record(&change, &event),
-                Err(RecordFault::BadField(column)),
-                "at {at}"
-            );
-        }
-        let (change, event) = texts(alloc, at as u128, 6, "a\0")?;
-        let named = outbox.record(&change, &event);
-        assert_eq!(rt; named, Err(RecordFault::BadField(Column::Payload)));
+        text_has_its_limit(&rt, alloc, &mut outbox, at, column, most)?;
     }
     let (change, event) = texts(alloc, 100, 0, "")?;
     assert_eq!(rt; outbox.record(&change, &event)?, 8);
@@ -113,8 +170,13 @@ fn each_text_has_its_limit(rt: HostRuntime) -> Result<(), Fail> {
 
 #[test]
 fn rows_come_in_order(rt: HostRuntime) -> Result<(), Fail> {
-    let alloc = rt.alloc();
-    let mut outbox = Outbox::open_in_memory(alloc)?;
+    let mut outbox = Outbox::open_in_memory(rt.alloc())?;
+    six_rows(&rt, rt.alloc(), &mut outbox)?;
+    rows_after_each(&rt, &mut outbox)
+}
+
+/// Six rows of two orders, of which the first two are swept.
+fn six_rows(rt: &impl Abort, alloc: Global, outbox: &mut Outbox) -> Result<(), Fail> {
     for id in 1..=5u64 {
         let change = change(alloc, "42", if id < 5 { "paid" } else { "void" })?;
         assert_eq!(rt; outbox.record(&change, &event(alloc, id as u128, "")?)?, id);
@@ -123,6 +185,10 @@ fn rows_come_in_order(rt: HostRuntime) -> Result<(), Fail> {
     outbox.set_mark(2)?;
     assert_eq!(rt; outbox.sweep()?, 2);
     assert_eq!(rt; outbox.sweep()?, 0);
+    Ok(())
+}
+
+fn rows_after_each(rt: &impl Abort, outbox: &mut Outbox) -> Result<(), Fail> {
     let cases: [(u64, u32, &[u64]); 7] = [
         (0, 0, &[]),
         (0, 1, &[3]),
@@ -147,11 +213,19 @@ fn rows_come_in_order(rt: HostRuntime) -> Result<(), Fail> {
 
 #[test]
 fn ten_thousand_rows(rt: HostRuntime) -> Result<(), Fail> {
-    let alloc = rt.alloc();
-    let mut outbox = Outbox::open_in_memory(alloc)?;
-    let paid = change(alloc, "42", "paid")?;
+    let paid = change(rt.alloc(), "42", "paid")?;
+    let mut outbox = Outbox::open_in_memory(rt.alloc())?;
+    many_rows(&rt, rt.alloc(), &mut outbox, &paid)
+}
+
+fn many_rows(
+    rt: &impl Abort,
+    alloc: Global,
+    outbox: &mut Outbox,
+    paid: &Change,
+) -> Result<(), Fail> {
     for id in 1..=10_000u64 {
-        let seq = outbox.record(&paid, &event(alloc, id as u128, "paid")?)?;
+        let seq = outbox.record(paid, &event(alloc, id as u128, "paid")?)?;
         assert_eq!(rt; seq, id);
     }
     assert_eq!(rt; outbox.after(0, 20_000)?.len(), 10_000);
@@ -159,7 +233,7 @@ fn ten_thousand_rows(rt: HostRuntime) -> Result<(), Fail> {
     assert_eq!(rt; outbox.sweep()?, 20);
     assert_eq!(rt; outbox.after(0, 20_000)?.len(), 9_980);
     let first = event(alloc, 1, "paid")?;
-    assert_eq!(rt; outbox.record(&paid, &first), Err(RecordFault::DuplicateId));
+    assert_eq!(rt; outbox.record(paid, &first), Err(RecordFault::DuplicateId));
     Ok(())
 }
 
@@ -190,14 +264,19 @@ fn refused_growth_leaves_all(rt: HostRuntime) -> Result<(), Fail> {
     let paid = change(alloc, "42", "paid").or_else(|_| change(alloc, "42", "paid"))?;
     let void = change(alloc, "42", "void").or_else(|_| change(alloc, "42", "void"))?;
     let mut outbox = Outbox::open_in_memory(alloc).or_else(|_| Outbox::open_in_memory(alloc))?;
+    let one = record_after_refusal(&rt, &mut outbox, &paid, &first, (0, 0))?;
+    let two = record_after_refusal(&rt, &mut outbox, &void, &second, (0, 1))?;
+    assert_eq!(rt; (one, two), (1, 2));
+    swept_after_refusal(&rt, &mut outbox)?;
     assert_eq!(rt;
-        record_after_refusal(&rt, &mut outbox, &paid, &first, (0, 0))?,
-        1
+        record_after_refusal(&rt, &mut outbox, &paid, &first, (1, 1)),
+        Err(RecordFault::DuplicateId)
     );
-    assert_eq!(rt;
-        record_after_refusal(&rt, &mut outbox, &void, &second, (0, 1))?,
-        2
-    );
+    Ok(())
+}
+
+/// Marks and sweeps the first of two rows; a call that memory refuses works when it is made again.
+fn swept_after_refusal(rt: &impl Abort, outbox: &mut Outbox) -> Result<(), Fail> {
     let marked = outbox.set_mark(1).or_else(|_| outbox.set_mark(1));
     assert_eq!(rt; marked, Ok(()));
     let swept = outbox.sweep().or_else(|_| outbox.sweep());
@@ -208,9 +287,5 @@ fn refused_growth_leaves_all(rt: HostRuntime) -> Result<(), Fail> {
         .business("order", "42")
         .or_else(|_| outbox.business("order", "42"))?;
     assert_eq!(rt; state.as_deref(), Some("void"));
-    assert_eq!(rt;
-        record_after_refusal(&rt, &mut outbox, &paid, &first, (1, 1)),
-        Err(RecordFault::DuplicateId)
-    );
     Ok(())
 }
