@@ -110,43 +110,6 @@ fn after_the_sweep(
     Ok(())
 }
 
-/// A text of a column at its limit is recorded, and each that is no text of it refused by its name.
-fn text_has_its_limit(
-    rt: &impl Abort,
-    alloc: Global,
-    outbox: &mut Outbox,
-    at: usize,
-    column: Column,
-    most: usize,
-) -> Result<(), Fail> {
-    let longest = "a".repeat(alloc, most)?;
-    let (change, event) = texts(alloc, at as u128, at, &longest)?;
-    assert_eq!(rt; outbox.record(&change, &event)?, at as u64 + 1);
-    let too_long = "a".repeat(alloc, most + 1)?;
-    let wide = "é".repeat(alloc, most / 2 + 1)?;
-    for text in [too_long.as_str(), wide.as_str(), "\0", "a\0"] {
-        refused_text(rt, alloc, outbox, at, text, column)?;
-    }
-    let (change, event) = texts(alloc, at as u128, 6, "a\0")?;
-    let named = outbox.record(&change, &event);
-    assert_eq!(rt; named, Err(RecordFault::BadField(Column::Payload)));
-    Ok(())
-}
-
-fn refused_text(
-    rt: &impl Abort,
-    alloc: Global,
-    outbox: &mut Outbox,
-    at: usize,
-    text: &str,
-    column: Column,
-) -> Result<(), Fail> {
-    let (change, event) = texts(alloc, 100, at, text)?;
-    let recorded = outbox.record(&change, &event);
-    assert_eq!(rt; recorded, Err(RecordFault::BadField(column)), "at {at}");
-    Ok(())
-}
-
 #[test]
 fn each_text_has_its_limit(rt: HostRuntime) -> Result<(), Fail> {
     let alloc = rt.alloc();
@@ -161,7 +124,22 @@ fn each_text_has_its_limit(rt: HostRuntime) -> Result<(), Fail> {
         (Column::Payload, 1_048_576),
     ];
     for (at, (column, most)) in columns.into_iter().enumerate() {
-        text_has_its_limit(&rt, alloc, &mut outbox, at, column, most)?;
+        let longest = "a".repeat(alloc, most)?;
+        let too_long = "a".repeat(alloc, most + 1)?;
+        let wide = "é".repeat(alloc, most / 2 + 1)?;
+        let (change, event) = texts(alloc, at as u128, at, &longest)?;
+        assert_eq!(rt; outbox.record(&change, &event)?, at as u64 + 1);
+        for text in [too_long.as_str(), wide.as_str(), "\0", "a\0"] {
+            let (change, event) = texts(alloc, 100, at, text)?;
+            assert_eq!(rt;
+                outbox.record(&change, &event),
+                Err(RecordFault::BadField(column)),
+                "at {at}"
+            );
+        }
+        let (change, event) = texts(alloc, at as u128, 6, "a\0")?;
+        let named = outbox.record(&change, &event);
+        assert_eq!(rt; named, Err(RecordFault::BadField(Column::Payload)));
     }
     let (change, event) = texts(alloc, 100, 0, "")?;
     assert_eq!(rt; outbox.record(&change, &event)?, 8);
