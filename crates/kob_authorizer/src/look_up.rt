@@ -1,4 +1,5 @@
-//! The search for bindings by the serials that the trees give; no other binding is looked at.
+//! The search for bindings by the serials that the trees give; no other binding is looked at. Those
+//! for a decision are of who asks and of `User:*`, from the host and from every host.
 
 ghost use Rattle.std.specs.Prelude.{◌≡◌, ◌&&◌, ◌==◌, false, length};
 ghost use Rattle.std.specs.Option.{option_copied};
@@ -6,12 +7,16 @@ ghost use Rattle.kob_authorizer.specs.Asked.{question_view};
 ghost use Rattle.kob_authorizer.specs.Decide.{first_serial, hits, is_hit, is_unmatched};
 ghost use Rattle.kob_authorizer.specs.Decide.{unless_open, verdict_of};
 ghost use Rattle.kob_authorizer.specs.Index.{Indexes, tree_of};
-ghost use Rattle.kob_authorizer.specs.LookUp.{AreRising, entry_at, least_passing};
-ghost use Rattle.kob_authorizer.specs.LookUp.{matching_serials, passes_at};
+ghost use Rattle.kob_authorizer.specs.LookUp.{AreRising, entry_at, least_passing, lesser};
+ghost use Rattle.kob_authorizer.specs.LookUp.{matching_serials, passes_at, serials_from};
+ghost use Rattle.kob_prefix_tree.specs.Part.{part_of};
+ghost use Rattle.kob_prefix_tree.specs.PrefixMap.{held};
 
 use crate::index::Index;
+use crate::key::SEPARATOR;
 use crate::question::Question;
 use kob_names::{Binding, Permission, Verdict};
+use kob_prefix_tree::{Part, PatternKind};
 
 /// The verdict for one who is no super user: a deny wins over every allow, and without either the
 /// answer is no, unless no binding matches what is then open to `everyone`.
@@ -42,8 +47,8 @@ pub fn verdict(
 /// Whether no binding matches the resource, whatever else it says: the trees give no serial for the
 /// name. No binding is looked at.
 fn is_unmatched(index: &Index, question: &Question) -> bool
-    ensures { result ≡ (length (matching_serials (tree_of index.now question.now.resource)
-        question.now.name.now) == 0) }
+    ensures { result ≡ (length (matching_serials
+        (held (tree_of index.now question.now.resource)) question.now.name.now) == 0) }
 {
     let tree = index.tree(question.resource);
     tree.walk(question.name.as_bytes()).next().is_none()
@@ -61,25 +66,63 @@ fn first_hit(
     requires indexed { Indexes index.now entries.now }
     ensures { result ≡ first_serial (hits entries.now permission (question_view question.now)) }
 {
-    least_hit(entries, index, permission, question)
+    let of_who = index
+        .keys()
+        .behind(question.principal.as_str().as_bytes(), SEPARATOR);
+    let of_everyone = index.keys().behind("User:*".as_bytes(), SEPARATOR);
+    lesser(
+        least_hit_of(entries, of_who, permission, question),
+        least_hit_of(entries, of_everyone, permission, question),
+    )
 }
 
-/// The least serial that the trees give for the name, whose binding is a hit.
-fn least_hit(
+/// The least serial among the keys of one principal, from the host and from every host, whose
+/// binding is a hit.
+fn least_hit_of(
     entries: &[(u64, Binding)],
-    index: &Index,
+    keys: Part<'_>,
     permission: Permission,
     question: &Question,
 ) -> Option<u64>
     requires { AreRising entries.now }
     ensures { result ≡ least_passing (is_hit permission (question_view question.now)) entries.now
-        (matching_serials (tree_of index.now question.now.resource) question.now.name.now) }
+        (serials_from (part_of keys.entry) (question_view question.now)) }
 {
-    let tree = index.tree(question.resource);
-    tree.walk(question.name.as_bytes())
-        .chain(tree.literal("*".as_bytes()))
+    let from_host = keys.behind(question.host.as_str().as_bytes(), SEPARATOR);
+    let from_everywhere = keys.behind("*".as_bytes(), SEPARATOR);
+    lesser(
+        least_hit_at(entries, from_host, permission, question),
+        least_hit_at(entries, from_everywhere, permission, question),
+    )
+}
+
+/// The least serial that the names of some keys give for the name, whose binding is a hit.
+fn least_hit_at(
+    entries: &[(u64, Binding)],
+    names: Part<'_>,
+    permission: Permission,
+    question: &Question,
+) -> Option<u64>
+    requires { AreRising entries.now }
+    ensures { result ≡ least_passing (is_hit permission (question_view question.now)) entries.now
+        (matching_serials (part_of names.entry) question.now.name.now) }
+{
+    names
+        .walk(question.name.as_bytes())
+        .chain(names.listed("*".as_bytes(), PatternKind::Literal))
         .filter(|serial| is_hit_at(entries, *serial, permission, question))
         .min()
+}
+
+/// The lesser serial, where there are two.
+fn lesser(one: Option<u64>, other: Option<u64>) -> Option<u64>
+    ensures { result ≡ lesser one other }
+{
+    match (one, other) {
+        (Some(one), Some(other)) => Some(one.min(other)),
+        (Some(one), None) => Some(one),
+        (None, other) => other,
+    }
 }
 
 /// Whether the binding with this serial speaks of what is asked, with this permission.
