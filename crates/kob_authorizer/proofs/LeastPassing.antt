@@ -10,7 +10,8 @@ use Rattle.std.proofs.lemmas.List.Sums.{fold-append}
 use Rattle.kob_names.specs.Binding.{Binding}
 use Rattle.kob_authorizer.specs.Contents.{IsRising}
 use Rattle.kob_authorizer.specs.Decide.{first_serial}
-use Rattle.kob_authorizer.specs.LookUp.{AreRising, least_passing, lesser, passes_at}
+use Rattle.kob_authorizer.specs.Hits.{lesser}
+use Rattle.kob_authorizer.specs.LookUp.{AreRising, least_passing, passes_at}
 
 -- an element of a list is its first one, or in the rest
 pub first_or_rest : {A : Type 0} (x : A) (xs : List A) (y : A) → Contains (x ∷ xs) y → (x ≡ y) ⊎ Contains xs y

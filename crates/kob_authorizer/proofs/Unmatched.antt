@@ -1,5 +1,5 @@
 -- Where the trees give no serial for a name, no binding matches it, and the other way round.
-use Rattle.std.proofs.Common.{◌≡◌, inl, inr, refl, sym, ap, ◌∙◌, subst, arith, Bool, true, false, not, ◌||◌, ◌==◌, ℕ, cond, length, List, [], ◌∷◌, ◌++◌, map}
+use Rattle.std.proofs.Common.{◌≡◌, inl, inr, refl, sym, ap, ◌∙◌, subst, arith, Bool, true, false, not, ◌||◌, ◌==◌, ℕ, cond, length, List, [], ◌∷◌, map}
 use Rattle.std.specs.Prelude.{Contains, codes, nat_eq}
 use Rattle.std.specs.List.{filter, list_any, starts_with}
 use Rattle.std.proofs.lemmas.Bool.{and_parts, ne_eqb}
@@ -21,7 +21,7 @@ use Rattle.kob_authorizer.proofs.Resources.{none_among, none_matches, some_match
 use Rattle.kob_authorizer.specs.Decide.{is_match, is_unmatched}
 use Rattle.kob_authorizer.specs.Index.{Indexes, entries_on, tree_of}
 use Rattle.kob_authorizer.specs.LookUp.{matching_serials}
-use Rattle.kob_authorizer.specs.Meaning.{Matches, SomeMatches}
+use Rattle.kob_authorizer.specs.Meaning.{SomeMatches}
 use Rattle.kob_authorizer.specs.Places.{is_place, kind_in_tree, pattern_place, same_kind}
 use Rattle.kob_authorizer.specs.Question.{Question}
 use Rattle.kob_authorizer.specs.declared.index.Index.{Index}

@@ -1,15 +1,18 @@
 -- What is found by serials that the trees gave.
-use Rattle.std.specs.Prelude.{Bool, ◌&&◌, ◌==◌, List, ◌∷◌, ◌++◌, ℕ, Option, None, Some, codes, min}
+use Rattle.std.specs.Prelude.{Bool, ◌&&◌, ◌==◌, List, ◌∷◌, ◌++◌, ℕ, Option, codes, min}
 use Rattle.std.specs.List.{filter, find, list_any, reduce}
 use Rattle.kob_names.specs.SameBinding.{same_binding}
 use Rattle.kob_names.specs.Binding.{Binding}
 use Rattle.kob_names.specs.declared.kinds.PatternKind.TheVariants.{Literal}
+use Rattle.kob_names.specs.declared.kinds.Permission.TheVariants.{Allow, Deny}
 use Rattle.kob_prefix_tree.specs.Held.{Held, serials_of}
 use Rattle.kob_prefix_tree.specs.PrefixMap.{PrefixMap, held}
 use Rattle.kob_prefix_tree.specs.Walked.{serials_along}
 use Rattle.kob_authorizer.specs.Contents.{IsRising}
+use Rattle.kob_authorizer.specs.Decide.{is_hit}
 use Rattle.kob_authorizer.specs.Places.{kind_in_tree}
 use Rattle.kob_authorizer.specs.Question.{Question}
+use Rattle.kob_authorizer.specs.declared.hits.Hits.{Hits}
 
 -- the serials rise
 abbrev pub AreRising : List (ℕ × Binding) → Type 0
@@ -41,12 +44,6 @@ serials_for keys question =
     serials_from (behind question.principal (held keys)) question
     ++ serials_from (behind (codes "User:*") (held keys)) question
 
--- the lesser serial, where there are two
-abbrev pub lesser : Option ℕ → Option ℕ → Option ℕ
-lesser None other = other
-lesser (Some one) None = Some one
-lesser (Some one) (Some other) = Some (min one other)
-
 -- an entry with this serial passes the test
 abbrev pub passes_at : (ℕ × Binding → Bool) → List (ℕ × Binding) → ℕ → Bool
 passes_at test entries serial =
@@ -55,6 +52,14 @@ passes_at test entries serial =
 -- the least of these serials whose entry passes the test
 abbrev pub least_passing : (ℕ × Binding → Bool) → List (ℕ × Binding) → List ℕ → Option ℕ
 least_passing test entries serials = reduce min (filter (passes_at test entries) serials)
+
+-- the least of these serials whose entries are denies that speak of what is asked, and the least of
+-- those whose entries are such allows
+abbrev pub least_hits : List (ℕ × Binding) → Question → List ℕ → Hits
+least_hits entries question serials = record {
+  deny = least_passing (is_hit Deny question) entries serials;
+  allow = least_passing (is_hit Allow question) entries serials;
+}
 
 -- the entry's binding is equal
 abbrev pub is_equal : Binding → ℕ × Binding → Bool
