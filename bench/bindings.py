@@ -8,14 +8,17 @@ PROGRAM is the program that serves scripts, as `rt run` in crates/kob_run builds
 is given. It is given scripts on its standard input: a super user creates bindings one by one, each for a principal of
 its own, on as many names or all on one name. Then, on many names, principals write to ten of the names in turn, spread
 over them all, each matched by one binding; or to ten other names, which no binding matches, so that they are open to
-everyone. No topic exists, so a write ends right after the decision.
+everyone. And one principal with a right of its own writes to the name, and lists 10,000 topics, among as many bindings
+of other principals, half of them on that name and half on `*`. But for the listing no topic exists, so a write ends
+right after the decision.
 
 The seconds are processor time of the program, the least of several runs. From each time that of the script without the
 lines in question is taken away; what is left has the reading of a line and the printing of a reply in it. The bytes are
 by how much the most that the program had in memory grows from 50,000 to 100,000 bindings, line and reply with it.
 
 What is to be seen: a creation costs about the same among 1,000 and among 100,000, on many names and on one; a decision
-about a name that few bindings match, or none, costs at most 1.5 times as much among 100,000 as among 10.
+about a name that few bindings match, or none, costs at most 1.5 times as much among 100,000 as among 10, and one about
+a name that others' bindings match at most twice as much; the listing takes less than a second.
 """
 
 import argparse
@@ -28,6 +31,7 @@ import tempfile
 RUNS = {10: 100, 1_000: 50, 100_000: 5}
 DECISIONS = 200_000
 NAMES_ASKED = 10
+TOPICS_LISTED = 10_000
 TOP = pathlib.Path(__file__).resolve().parent.parent
 
 
@@ -43,6 +47,24 @@ def decisions(count):
     for question in range(DECISIONS):
         place = question % NAMES_ASKED * count // NAMES_ASKED
         yield f"User:u{place:06} h produce t{place:06} 0 - v\n"
+
+
+def of_others(count):
+    """Lines that create bindings of other principals, on one name and on every name, and then one of User:asker."""
+    for place in range(count):
+        name = ("orders", "*")[place % 2]
+        yield f"User:root h create-acl ALLOW User:u{place:06} * Write Topic LITERAL {name}\n"
+    yield "User:root h create-acl ALLOW User:asker * Write Topic PREFIXED o\n"
+
+
+def measure_among_others(program, count):
+    """The seconds per decision for one principal among bindings of others, and for one listing of many topics."""
+    made = list(of_others(count))
+    topics = [f"User:root h create-topic o{place:06} 1\n" for place in range(TOPICS_LISTED)]
+    asked = ["User:asker h produce orders 0 - v\n"] * DECISIONS
+    listing = ["User:asker h metadata\n"]
+    decision = (least(program, made + asked, 5)[0] - least(program, made, 5)[0]) / DECISIONS
+    return decision, least(program, made + topics + listing, 5)[0] - least(program, made + topics, 5)[0]
 
 
 def open_decisions():
@@ -110,6 +132,10 @@ def main():
         growth = rows[one_name, many][0] / rows[one_name, some][0]
         print(f"a creation among {many:,} costs {growth:.2f} times one among {some:,}, on {on}")
         print(f"a binding takes {bytes_each(program, many, one_name):.0f} bytes, on {on}")
+    alone, among = (measure_among_others(program, count) for count in (few, many))
+    print(f"a decision among {few} bindings of others on its name and on * takes {alone[0]:.9f} s")
+    print(f"among {many:,} it takes {among[0]:.9f} s, {among[0] / alone[0]:.2f} times as much")
+    print(f"a listing of {TOPICS_LISTED:,} topics takes {alone[1]:.3f} s and {among[1]:.3f} s")
     for column, what in ((1, "a decision"), (2, "a decision on what no binding matches")):
         growth = rows[False, many][column] / rows[False, few][column]
         print(f"{what} among {many:,} costs {growth:.2f} times one among {few:,}")

@@ -72,7 +72,7 @@ def decisions_spread_over_10000_names(n):
     return before, asked(n)
 
 
-@workload(100)
+@workload(20_000)
 def decisions_on_one_name_of_1000_principals(n):
     before, asked = decisions(1_000, "LITERAL orders", "orders")
     return before, asked(n)

@@ -1,14 +1,16 @@
 -- The least serial that passes, among serials that lead to every entry that passes, is that of the first entry that
 -- passes.
-use Rattle.std.proofs.Common.{◌≡◌, ◌⊎◌, inl, inr, refl, sym, ap, ◌∙◌, subst, arith, Bool, true, false, cond, ◌&&◌, ◌||◌, ◌==◌, ℕ, ◌+◌, ◌≤◌, min, List, [], ◌∷◌, map}
+use Rattle.std.proofs.Common.{◌≡◌, ◌⊎◌, inl, inr, refl, sym, ap, ◌∙◌, subst, arith, Bool, true, false, cond, ◌&&◌, ◌||◌, ◌==◌, ℕ, ◌+◌, ◌≤◌, min, List, [], ◌∷◌, ◌++◌, map, append-nil}
 use Rattle.std.specs.Prelude.{All, Contains, Some, None}
 use Rattle.std.specs.List.{filter, fold, reduce}
 use Rattle.std.proofs.Math.Nat.{le-min, min-le_left, min-le_right}
 use Rattle.std.proofs.lemmas.Bool.{eq-eqb, eqb-true}
-use Rattle.std.proofs.lemmas.List.Elements.{All-cons, All-contains, All-head, All-nil, All-tail, All-weaker, Contains-append_cases, Contains-append_left, Contains-append_right, Contains-push, Contains-push_cases, filter_passes}
+use Rattle.std.proofs.lemmas.List.Elements.{All-cons, All-contains, All-head, All-nil, All-tail, All-weaker, Contains-append_cases, Contains-append_left, Contains-append_right, Contains-push, Contains-push_cases, filter-append, filter_passes}
+use Rattle.std.proofs.lemmas.List.Sums.{fold-append}
 use Rattle.kob_names.specs.Binding.{Binding}
 use Rattle.kob_authorizer.specs.Contents.{IsRising}
 use Rattle.kob_authorizer.specs.Decide.{first_serial}
+use Rattle.kob_authorizer.specs.Hits.{lesser}
 use Rattle.kob_authorizer.specs.LookUp.{AreRising, least_passing, passes_at}
 
 -- an element of a list is its first one, or in the rest
@@ -78,6 +80,20 @@ least_is low (x ∷ xs) has all =
     let at_least = fold_not_below low x xs (All-head (λ y. low ≤ y) x xs all) (All-tail (λ y. low ≤ y) x xs all) in
     let same : fold min x xs ≡ low = omega (arith, at_most, at_least) in
     ap Some same
+
+-- the least of a list and of one more
+least_with : (x y : ℕ) (ys : List ℕ) → min x (fold min y ys) ≡ fold min (min x y) ys
+least_with x y [] = refl
+least_with x y (z ∷ zs) =
+    let regrouped : min x (min y z) ≡ min (min x y) z = omega arith in
+    least_with x (min y z) zs ∙ ap (λ low. fold min low zs) regrouped
+
+-- the least of two lists is the lesser of their least
+lesser_of_two : (xs ys : List ℕ) → lesser (reduce min xs) (reduce min ys) ≡ reduce min (xs ++ ys)
+lesser_of_two [] ys = refl
+lesser_of_two (x ∷ xs) [] = ap (λ zs. Some (fold min x zs)) (sym (append-nil xs))
+lesser_of_two (x ∷ xs) (y ∷ ys) =
+    ap Some (least_with (fold min x xs) y ys ∙ sym (fold-append min x xs (y ∷ ys)))
 
 none_kept : (test : ℕ → Bool) (xs : List ℕ) → ((x : ℕ) → test x ≡ false) → filter test xs ≡ []
 none_kept test [] none = refl
@@ -176,3 +192,10 @@ module _ (test : ℕ × Binding → Bool) where
             (All-weaker (λ x. passes_at test entries x ≡ true) (λ x. serial ≤ x) first.least passing
             (filter_passes (passes_at test entries) serials)))
       ] refl
+
+  -- of two lists of serials the least is the lesser of their least
+  pub least_of_two : (entries : List (ℕ × Binding)) (xs ys : List ℕ)
+      → lesser (least_passing test entries xs) (least_passing test entries ys) ≡ least_passing test entries (xs ++ ys)
+  least_of_two entries xs ys =
+      lesser_of_two (filter (passes_at test entries) xs) (filter (passes_at test entries) ys)
+      ∙ ap (reduce min) (sym (filter-append (passes_at test entries) xs ys))

@@ -6,6 +6,7 @@ pub mod InForce
 pub mod IndexSteps
 pub mod InTurn
 pub mod Keys
+pub mod LeastHits
 pub mod LeastPassing
 pub mod Matching
 pub mod Passes

@@ -1,8 +1,8 @@
 -- The serials that the trees give lead to every binding that is sought.
-use Rattle.std.proofs.Common.{◌≡◌, inl, inr, refl, sym, ◌∙◌, subst, Bool, true, ℕ, List, ◌++◌, drop, length}
+use Rattle.std.proofs.Common.{◌≡◌, inl, inr, refl, sym, ◌∙◌, subst, Bool, true, ◌||◌, ℕ, List, ◌++◌, drop, length}
 use Rattle.std.specs.Prelude.{Contains, IsTrue, codes, nat_eq}
 use Rattle.std.specs.List.{filter, starts_with}
-use Rattle.std.proofs.lemmas.Bool.{and_from, or_cases}
+use Rattle.std.proofs.lemmas.Bool.{and_from, and_parts, or_cases}
 use Rattle.std.proofs.lemmas.Bool.Decides.{Decides-eqb}
 use Rattle.std.proofs.lemmas.List.Elements.{Contains-append_left, Contains-append_right}
 use Rattle.std.proofs.lemmas.Slice.Eq.{bytes_eq-Decides, starts_is}
@@ -14,9 +14,10 @@ use Rattle.kob_names.specs.declared.kinds.PatternKind.{PatternKind}
 use Rattle.kob_names.specs.declared.kinds.PatternKind.TheVariants.{Literal, Prefixed}
 use Rattle.kob_names.specs.declared.kinds.Permission.{Permission}
 use Rattle.kob_names.specs.declared.kinds.ResourceKind.{ResourceKind}
-use Rattle.kob_prefix_tree.proofs.HeldLaws.{walk_has_literal, walk_has_prefixed}
-use Rattle.kob_prefix_tree.specs.Held.{serials_of}
-use Rattle.kob_prefix_tree.specs.PrefixMap.{PrefixMap, held, walk_of}
+use Rattle.kob_prefix_tree.proofs.HeldLaws.{along_has_literal, along_has_prefixed}
+use Rattle.kob_prefix_tree.specs.Held.{Held, serials_of}
+use Rattle.kob_prefix_tree.specs.PrefixMap.{PrefixMap, held}
+use Rattle.kob_prefix_tree.specs.Walked.{serials_along}
 use Rattle.kob_prefix_tree.specs.declared.kind.PatternKind as of_tree
 use Rattle.kob_prefix_tree.specs.declared.kind.PatternKind.TheVariants as in_tree
 use Rattle.kob_authorizer.proofs.FirstHit.{first_serial_found}
@@ -25,7 +26,8 @@ use Rattle.kob_authorizer.proofs.Verdicts.{is_hit_decides}
 use Rattle.kob_authorizer.specs.Creation.{serial_of}
 use Rattle.kob_authorizer.specs.Decide.{first_serial, hits, is_hit}
 use Rattle.kob_authorizer.specs.Index.{Indexes, entries_on, tree_of}
-use Rattle.kob_authorizer.specs.LookUp.{AreRising, is_equal, least_passing, matching_serials}
+use Rattle.kob_authorizer.specs.Key.{binding_key}
+use Rattle.kob_authorizer.specs.LookUp.{AreRising, behind, is_equal, least_passing, matching_serials, serials_for, serials_from}
 use Rattle.kob_authorizer.specs.Meaning.{Hits}
 use Rattle.kob_authorizer.specs.Places.{IsIndex, Place, key_place, is_place, kind_in_tree, pattern_place, same_kind}
 use Rattle.kob_authorizer.specs.Question.{Question}
@@ -53,56 +55,81 @@ at_its_place place m entries entry is there =
     (kept_by_filter test entries entry there (stands_itself (place entry.1))))
 
 -- the serials at a pattern that matches a name are looked up for it
-looked_up_by : (m : PrefixMap) (kind : PatternKind) (key name : List ℕ) (serial : ℕ) → matches_by kind key name ≡ true
-    → Contains (serials_of (kind_in_tree kind) (held m key)) serial → Contains (matching_serials m name) serial
-looked_up_by m Literal key name serial matched has =
+looked_up_by : (held_at : List ℕ → Held) (kind : PatternKind) (key name : List ℕ) (serial : ℕ)
+    → matches_by kind key name ≡ true → Contains (serials_of (kind_in_tree kind) (held_at key)) serial
+    → Contains (matching_serials held_at name) serial
+looked_up_by held_at Literal key name serial matched has =
     elim (or_cases (same_text key name) (same_text key (codes "*")) matched) as
-    (λ _. Contains (matching_serials m name) serial) [
+    (λ _. Contains (matching_serials held_at name) serial) [
       | inl equal ↦
-          Contains-append_left (walk_of m name) (held m (codes "*")).0 serial
-          (walk_has_literal m serial name (subst (λ k. Contains (held m k).0 serial)
+          Contains-append_left (serials_along held_at name) (held_at (codes "*")).0 serial
+          (along_has_literal held_at serial name (subst (λ k. Contains (held_at k).0 serial)
           ((bytes_eq-Decides key name).0 equal) has))
       | inr star ↦
-          Contains-append_right (walk_of m name) (held m (codes "*")).0 serial
-          (subst (λ k. Contains (held m k).0 serial) ((bytes_eq-Decides key (codes "*")).0 star) has)
+          Contains-append_right (serials_along held_at name) (held_at (codes "*")).0 serial
+          (subst (λ k. Contains (held_at k).0 serial) ((bytes_eq-Decides key (codes "*")).0 star) has)
     ]
-looked_up_by m Prefixed key name serial matched has =
+looked_up_by held_at Prefixed key name serial matched has =
     let whole : name ≡ key ++ drop (length key) name =
     (starts_is Decides-eqb name key (starts_with nat_eq name key) refl).0 matched in
-    Contains-append_left (walk_of m name) (held m (codes "*")).0 serial
-    (subst (λ n. Contains (walk_of m n) serial) (sym whole)
-    (walk_has_prefixed m serial key (drop (length key) name) has))
+    Contains-append_left (serials_along held_at name) (held_at (codes "*")).0 serial
+    (subst (λ n. Contains (serials_along held_at n) serial) (sym whole)
+    (along_has_prefixed held_at serial key (drop (length key) name) has))
+
+-- what is given for a text is among what is given for two, of which it is one
+among_two : (given : List ℕ → List ℕ) (text one two : List ℕ) (serial : ℕ)
+    → (same_text text one || same_text text two) ≡ true → Contains (given text) serial
+    → Contains (given one ++ given two) serial
+among_two given text one two serial is_one has =
+    elim (or_cases (same_text text one) (same_text text two) is_one) as
+    (λ _. Contains (given one ++ given two) serial) [
+      | inl first ↦
+          Contains-append_left (given one) (given two) serial
+          (subst (λ t. Contains (given t) serial) ((bytes_eq-Decides text one).0 first) has)
+      | inr second ↦
+          Contains-append_right (given one) (given two) serial
+          (subst (λ t. Contains (given t) serial) ((bytes_eq-Decides text two).0 second) has)
+    ]
 
 module _ (index : Index) (entries : List (ℕ × Binding)) (indexed : Indexes index entries) where
   -- every binding that matches is looked up
   pub looked_up : (resource : ResourceKind) (name : List ℕ) (entry : ℕ × Binding) → Contains entries entry
       → entry.1.resource ≡ resource → IsTrue (matches entry.1.pattern name)
-      → Contains (matching_serials (tree_of index resource) name) entry.0
+      → Contains (matching_serials (held (tree_of index resource)) name) entry.0
   looked_up resource name entry there of_kind matched =
       let on : same_resource entry.1.resource resource ≡ true =
       (resource_decides entry.1.resource resource).1 of_kind in
       let among : Contains (entries_on resource entries) entry =
       kept_by_filter (λ (e : ℕ × Binding). same_resource e.1.resource resource) entries entry there on in
-      looked_up_by (tree_of index resource) entry.1.pattern.kind entry.1.pattern.name name entry.0 matched
+      looked_up_by (held (tree_of index resource)) entry.1.pattern.kind entry.1.pattern.name name entry.0 matched
       (at_its_place pattern_place (tree_of index resource) (entries_on resource entries) entry
       (indexed.patterns resource) among)
 
-  -- so every hit is
+  -- every hit is looked up among the keys of who asks and of `User:*`
   hits_looked_up : (permission : Permission) (question : Question)
-      → LeadToAll (is_hit permission question) entries
-      (matching_serials (tree_of index question.resource) question.name)
+      → LeadToAll (is_hit permission question) entries (serials_for index.keys question)
+  unfolding binding_key
   hits_looked_up permission question entry there is =
       let hit : Hits permission question entry = (is_hit_decides permission question entry).0 is in
-      looked_up question.resource question.name entry there hit.resource hit.name
+      let binding : Binding = entry.1 in
+      let covered =
+      and_parts (same_text binding.principal question.principal || same_text binding.principal (codes "User:*"))
+      (same_text binding.host question.host || same_text binding.host (codes "*")) hit.who in
+      let of_principal : List ℕ → List ℕ → Held = λ principal. behind principal (held index.keys) in
+      among_two (λ principal. serials_from (of_principal principal) question) binding.principal question.principal
+      (codes "User:*") entry.0 covered.0
+      (among_two (λ host. matching_serials (behind host (of_principal binding.principal)) question.name) binding.host
+      question.host (codes "*") entry.0 covered.1
+      (looked_up_by (behind binding.host (of_principal binding.principal)) binding.pattern.kind binding.pattern.name
+      question.name entry.0 hit.name (at_its_place key_place index.keys entries entry indexed.keys there)))
 
--- so the least serial of the hits that were looked up is that of the first hit in force
+-- so the lesser of the least hits of who asks and of `User:*` is the first hit in force
 pub least_hit_is_first : (index : Index) (entries : List (ℕ × Binding)) (permission : Permission) (question : Question)
     → AreRising entries → Indexes index entries
-    → least_passing (is_hit permission question) entries
-    (matching_serials (tree_of index question.resource) question.name) ≡ first_serial (hits entries permission question)
+    → least_passing (is_hit permission question) entries (serials_for index.keys question)
+    ≡ first_serial (hits entries permission question)
 least_hit_is_first index entries permission question rising indexed =
-    least_is_first (is_hit permission question) entries
-    (matching_serials (tree_of index question.resource) question.name) rising
+    least_is_first (is_hit permission question) entries (serials_for index.keys question) rising
     (hits_looked_up index entries indexed permission question)
 
 -- every entry with an equal binding is looked up by the key

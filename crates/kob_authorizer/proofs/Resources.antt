@@ -1,11 +1,10 @@
 -- Whether a binding in force matches a resource, by the test and by what it means.
-use Rattle.std.proofs.Common.{◌≡◌, inl, inr, refl, sym, ap, ◌∙◌, subst, arith, Bool, true, false, ◌||◌, ℕ, List, [], ◌∷◌}
+use Rattle.std.proofs.Common.{◌≡◌, inl, inr, refl, subst, arith, Bool, true, false, ◌||◌, ℕ, List, [], ◌∷◌}
 use Rattle.std.specs.Prelude.{Contains}
 use Rattle.std.specs.Bool.{Decides}
 use Rattle.std.specs.List.{list_any}
 use Rattle.std.proofs.lemmas.Bool.Decides.{Decides-and, Decides-like}
 use Rattle.std.proofs.lemmas.List.Elements.{Contains-append_left, Contains-append_right, Contains-push}
-use Rattle.kob_names.specs.Access.{matches}
 use Rattle.kob_names.proofs.SameBindings.{resource_decides}
 use Rattle.kob_names.specs.Binding.{Binding}
 use Rattle.kob_authorizer.proofs.LeastPassing.{first_or_rest}

@@ -1,5 +1,5 @@
 -- Where the trees give no serial for a name, no binding matches it, and the other way round.
-use Rattle.std.proofs.Common.{◌≡◌, inl, inr, refl, sym, ap, ◌∙◌, subst, arith, Bool, true, false, not, ◌||◌, ◌==◌, ℕ, cond, length, List, [], ◌∷◌, ◌++◌, map}
+use Rattle.std.proofs.Common.{◌≡◌, inl, inr, refl, sym, ap, ◌∙◌, subst, arith, Bool, true, false, not, ◌||◌, ◌==◌, ℕ, cond, length, List, [], ◌∷◌, map}
 use Rattle.std.specs.Prelude.{Contains, codes, nat_eq}
 use Rattle.std.specs.List.{filter, list_any, starts_with}
 use Rattle.std.proofs.lemmas.Bool.{and_parts, ne_eqb}
@@ -21,7 +21,7 @@ use Rattle.kob_authorizer.proofs.Resources.{none_among, none_matches, some_match
 use Rattle.kob_authorizer.specs.Decide.{is_match, is_unmatched}
 use Rattle.kob_authorizer.specs.Index.{Indexes, entries_on, tree_of}
 use Rattle.kob_authorizer.specs.LookUp.{matching_serials}
-use Rattle.kob_authorizer.specs.Meaning.{Matches, SomeMatches}
+use Rattle.kob_authorizer.specs.Meaning.{SomeMatches}
 use Rattle.kob_authorizer.specs.Places.{is_place, kind_in_tree, pattern_place, same_kind}
 use Rattle.kob_authorizer.specs.Question.{Question}
 use Rattle.kob_authorizer.specs.declared.index.Index.{Index}
@@ -107,7 +107,7 @@ module _ (index : Index) (entries : List (ℕ × Binding)) (indexed : Indexes in
   star false = (bytes_eq-Decides (codes "*") (codes "*")).1 refl
 
   -- each serial that is given for the name is of a binding that matches it
-  of_given : (serial : ℕ) → Contains (matching_serials tree question.name) serial → SomeMatches question entries
+  of_given : (serial : ℕ) → Contains (matching_serials (held tree) question.name) serial → SomeMatches question entries
   of_given serial has =
       elim (Contains-append_cases (walk_of tree question.name) (held tree (codes "*")).0 serial has) as
       (λ _. SomeMatches question entries) [
@@ -126,12 +126,12 @@ module _ (index : Index) (entries : List (ℕ × Binding)) (indexed : Indexes in
 
   -- and each binding that matches gives its serial
   given_for : (some : SomeMatches question entries)
-      → Contains (matching_serials tree question.name) some.entry.0
+      → Contains (matching_serials (held tree) question.name) some.entry.0
   given_for some =
       looked_up index entries indexed question.resource question.name some.entry some.in_force some.matches.resource
       some.matches.name
 
-  none_by : (serials : List ℕ) (found : Bool) → matching_serials tree question.name ≡ serials
+  none_by : (serials : List ℕ) (found : Bool) → matching_serials (held tree) question.name ≡ serials
       → list_any (is_match question) entries ≡ found → (length serials == 0) ≡ not found
   none_by [] false is found = refl
   none_by [] true is found =
@@ -147,6 +147,6 @@ module _ (index : Index) (entries : List (ℕ × Binding)) (indexed : Indexes in
       let some = of_given serial (subst (λ xs. Contains xs serial) (sym is) here) in
       absurd (none_among question entries some.entry (none_matches question entries found) some.in_force some.matches)
 
-  pub none_given : (length (matching_serials tree question.name) == 0) ≡ is_unmatched entries question
+  pub none_given : (length (matching_serials (held tree) question.name) == 0) ≡ is_unmatched entries question
   none_given =
-      none_by (matching_serials tree question.name) (list_any (is_match question) entries) refl refl
+      none_by (matching_serials (held tree) question.name) (list_any (is_match question) entries) refl refl

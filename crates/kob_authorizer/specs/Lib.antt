@@ -5,6 +5,7 @@ pub mod Creation
 pub mod Decide
 pub mod Deletion
 pub mod Fresh
+pub mod Hits
 pub mod Index
 pub mod Key
 pub mod Limits

@@ -33,9 +33,10 @@ abbrev pub pattern_place : Binding → Place
 pattern_place binding =
     record { kind = kind_in_tree binding.pattern.kind; key = binding.pattern.name }
 
--- among the keys it stands at its own
+-- among the keys it stands at its own, in the list of its pattern's kind
 abbrev pub key_place : Binding → Place
-key_place binding = record { kind = in_tree.Literal; key = binding_key binding }
+key_place binding =
+    record { kind = kind_in_tree binding.pattern.kind; key = binding_key binding }
 
 -- the serial of an entry on its way to its place
 abbrev pub addition : (Binding → Place) → ℕ × Binding → Addition

@@ -7,7 +7,7 @@ ghost use Rattle.kob_authorizer.specs.Creation.{serial_of};
 ghost use Rattle.kob_authorizer.specs.LookUp.{AreRising, is_equal, least_passing, passes_at};
 ghost use Rattle.kob_authorizer.specs.Places.{IsIndex, key_place};
 
-use crate::key::SEPARATOR;
+use crate::key::{SEPARATOR, kind_in_tree};
 use crate::look_up::entry_of;
 use kob_names::Binding;
 use kob_prefix_tree::PrefixTree;
@@ -33,7 +33,10 @@ fn least_equal(entries: &[(u64, Binding)], keys: &PrefixTree, binding: &Binding)
     let principal = texts.principal.as_str().as_bytes();
     let host = texts.host.as_str().as_bytes();
     let name = texts.pattern.name.as_str().as_bytes();
-    keys.literal_joined(principal, host, name, SEPARATOR)
+    let kind = kind_in_tree(texts.pattern.kind);
+    keys.behind(principal, SEPARATOR)
+        .behind(host, SEPARATOR)
+        .listed(name, kind)
         .filter(|serial| is_equal_at(entries, *serial, binding))
         .min()
 }

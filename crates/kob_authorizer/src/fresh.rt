@@ -8,9 +8,9 @@ ghost use Rattle.kob_authorizer.specs.Creation.{serial_of};
 ghost use Rattle.kob_authorizer.specs.Fresh.{bindings_of};
 
 use crate::equals::serial_of;
-use crate::key::binding_key;
+use crate::key::{binding_key, kind_in_tree};
 use kob_names::{Binding, PlainValue};
-use kob_prefix_tree::{PatternKind, PrefixTree};
+use kob_prefix_tree::PrefixTree;
 use std::alloc::{AllocError, Global};
 use std::marker::Model;
 
@@ -71,10 +71,9 @@ impl Fresh {
     {
         let place = self.entries.len() as u64;
         let key = binding_key(alloc, binding)?;
+        let kind = kind_in_tree(binding.parts().pattern.kind);
         let copy = binding.copy(alloc)?;
-        let prepared = self
-            .keys
-            .prepare_add(alloc, key.as_slice(), PatternKind::Literal, place)?;
+        let prepared = self.keys.prepare_add(alloc, key.as_slice(), kind, place)?;
         self.entries.push((place, copy))?;
         self.keys.commit_add(prepared);
         Ok(())

@@ -5,12 +5,11 @@ ghost use Rattle.std.specs.List.{fold};
 ghost use Rattle.kob_prefix_tree.specs.WalkLeft.{left_of};
 ghost use Rattle.kob_authorizer.specs.Index.{empty_index, leaf_of, tree_of, with_leaf};
 ghost use Rattle.kob_authorizer.specs.Index.{without_key};
-ghost use Rattle.kob_authorizer.specs.Places.{kind_in_tree};
 ghost use Rattle.kob_authorizer.specs.Removal.{index_of, serials_beside, without_removal};
 
-use crate::key::binding_key;
+use crate::key::{binding_key, kind_in_tree};
 use crate::removal::{KeyRemoval, Removal};
-use kob_names::{Binding, PatternKind, ResourceKind};
+use kob_names::{Binding, ResourceKind};
 use kob_prefix_tree::{PrefixTree, Prepared, Walk};
 use std::alloc::{AllocError, Global};
 
@@ -75,7 +74,6 @@ impl Index {
         let kind = kind_in_tree(binding.pattern.kind);
         let pattern = tree.prepare_add(alloc, name, kind, entry.0)?;
         let key = binding_key(alloc, &entry.1)?;
-        let kind = kob_prefix_tree::PatternKind::Literal;
         let key = self.keys.prepare_add(alloc, key.as_slice(), kind, entry.0)?;
         Ok(Leaf {
             resource: binding.resource,
@@ -158,9 +156,8 @@ impl Index {
     pub fn remove_key(&mut self, removal: KeyRemoval)
         ensures { self.new ≡ without_key self.old removal }
     {
-        let (key, serial) = removal.into_parts();
-        let literal = kob_prefix_tree::PatternKind::Literal;
-        self.keys.remove(key.as_slice(), literal, serial);
+        let (key, kind, serial) = removal.into_parts();
+        self.keys.remove(key.as_slice(), kind, serial);
     }
 }
 
@@ -191,15 +188,5 @@ pub fn remove_keys(index: &mut Index, removals: Vec<KeyRemoval>)
 {
     for removal in removals {
         index.remove_key(removal);
-    }
-}
-
-/// The list of a tree that is for this kind of pattern.
-fn kind_in_tree(kind: PatternKind) -> kob_prefix_tree::PatternKind
-    ensures { result ≡ kind_in_tree kind }
-{
-    match kind {
-        PatternKind::Literal => kob_prefix_tree::PatternKind::Literal,
-        PatternKind::Prefixed => kob_prefix_tree::PatternKind::Prefixed,
     }
 }

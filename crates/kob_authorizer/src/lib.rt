@@ -8,6 +8,7 @@ mod deletion;
 mod equals;
 mod fault;
 mod fresh;
+mod hits;
 mod index;
 mod key;
 mod laws;

@@ -1,17 +1,23 @@
-//! The search for bindings by the serials that the trees give; no other binding is looked at.
+//! The search for bindings by the serials that the trees give; no other binding is looked at. Those
+//! for a decision are of who asks and of `User:*`, from the host and from every host.
 
-ghost use Rattle.std.specs.Prelude.{◌≡◌, ◌&&◌, ◌==◌, false, length};
+ghost use Rattle.std.specs.Prelude.{◌≡◌, ◌∷◌, [], ◌&&◌, ◌==◌, false, length};
 ghost use Rattle.std.specs.Option.{option_copied};
 ghost use Rattle.kob_authorizer.specs.Asked.{question_view};
-ghost use Rattle.kob_authorizer.specs.Decide.{first_serial, hits, is_hit, is_unmatched};
+ghost use Rattle.kob_authorizer.specs.Decide.{first_serial, hits, is_unmatched};
 ghost use Rattle.kob_authorizer.specs.Decide.{unless_open, verdict_of};
 ghost use Rattle.kob_authorizer.specs.Index.{Indexes, tree_of};
-ghost use Rattle.kob_authorizer.specs.LookUp.{AreRising, entry_at, least_passing};
-ghost use Rattle.kob_authorizer.specs.LookUp.{matching_serials, passes_at};
+ghost use Rattle.kob_authorizer.specs.LookUp.{AreRising, entry_at, least_hits};
+ghost use Rattle.kob_authorizer.specs.LookUp.{matching_serials, serials_from};
+ghost use Rattle.kob_prefix_tree.specs.Part.{part_of};
+ghost use Rattle.kob_prefix_tree.specs.PrefixMap.{held};
 
+use crate::hits::Hits;
 use crate::index::Index;
+use crate::key::SEPARATOR;
 use crate::question::Question;
 use kob_names::{Binding, Permission, Verdict};
+use kob_prefix_tree::{Part, PatternKind};
 
 /// The verdict for one who is no super user: a deny wins over every allow, and without either the
 /// answer is no, unless no binding matches what is then open to `everyone`.
@@ -29,9 +35,10 @@ pub fn verdict(
         (first_serial (hits entries.now Permission.Deny (question_view question.now)))
         (first_serial (hits entries.now Permission.Allow (question_view question.now)))) }
 {
-    match first_hit(entries, index, Permission::Deny, question) {
+    let hits = first_hits(entries, index, question);
+    match hits.deny {
         Some(serial) => Verdict::DeniedBy(serial),
-        None => match first_hit(entries, index, Permission::Allow, question) {
+        None => match hits.allow {
             Some(serial) => Verdict::AllowedBy(serial),
             None if everyone && is_unmatched(index, question) => Verdict::NoAclFound,
             None => Verdict::NoAllow,
@@ -42,61 +49,68 @@ pub fn verdict(
 /// Whether no binding matches the resource, whatever else it says: the trees give no serial for the
 /// name. No binding is looked at.
 fn is_unmatched(index: &Index, question: &Question) -> bool
-    ensures { result ≡ (length (matching_serials (tree_of index.now question.now.resource)
-        question.now.name.now) == 0) }
+    ensures { result ≡ (length (matching_serials
+        (held (tree_of index.now question.now.resource)) question.now.name.now) == 0) }
 {
     let tree = index.tree(question.resource);
     tree.walk(question.name.as_bytes()).next().is_none()
         && tree.literal("*".as_bytes()).next().is_none()
 }
 
-/// The least serial of those bindings that speak of what is asked, with this permission.
-fn first_hit(
-    entries: &[(u64, Binding)],
-    index: &Index,
-    permission: Permission,
-    question: &Question,
-) -> Option<u64>
+/// The least serials of those bindings that speak of what is asked, a deny and an allow.
+fn first_hits(entries: &[(u64, Binding)], index: &Index, question: &Question) -> Hits
     requires rising { AreRising entries.now }
     requires indexed { Indexes index.now entries.now }
-    ensures { result ≡ first_serial (hits entries.now permission (question_view question.now)) }
+    ensures deny { result.deny
+        ≡ first_serial (hits entries.now Permission.Deny (question_view question.now)) }
+    ensures allow { result.allow
+        ≡ first_serial (hits entries.now Permission.Allow (question_view question.now)) }
 {
-    least_hit(entries, index, permission, question)
+    let of_who = index
+        .keys()
+        .behind(question.principal.as_str().as_bytes(), SEPARATOR);
+    let of_everyone = index.keys().behind("User:*".as_bytes(), SEPARATOR);
+    hits_of(entries, of_who, question).or_lesser(hits_of(entries, of_everyone, question))
 }
 
-/// The least serial that the trees give for the name, whose binding is a hit.
-fn least_hit(
-    entries: &[(u64, Binding)],
-    index: &Index,
-    permission: Permission,
-    question: &Question,
-) -> Option<u64>
+/// The least serials of the hits among the keys of one principal, from the host that is asked from
+/// and from every host.
+fn hits_of(entries: &[(u64, Binding)], keys: Part<'_>, question: &Question) -> Hits
     requires { AreRising entries.now }
-    ensures { result ≡ least_passing (is_hit permission (question_view question.now)) entries.now
-        (matching_serials (tree_of index.now question.now.resource) question.now.name.now) }
+    ensures { result ≡ least_hits entries.now (question_view question.now)
+        (serials_from (part_of keys.entry) (question_view question.now)) }
 {
-    let tree = index.tree(question.resource);
-    tree.walk(question.name.as_bytes())
-        .chain(tree.literal("*".as_bytes()))
-        .filter(|serial| is_hit_at(entries, *serial, permission, question))
-        .min()
+    let from_host = keys.behind(question.host.as_str().as_bytes(), SEPARATOR);
+    let from_everywhere = keys.behind("*".as_bytes(), SEPARATOR);
+    hits_at(entries, from_host, question).or_lesser(hits_at(entries, from_everywhere, question))
 }
 
-/// Whether the binding with this serial speaks of what is asked, with this permission.
-#[tactic(auto, using(crate::proofs::Halving::passes_some, crate::proofs::Halving::passes_none))]
-fn is_hit_at(
-    entries: &[(u64, Binding)],
-    serial: u64,
-    permission: Permission,
-    question: &Question,
-) -> bool
+/// The least serials of the hits that some patterns' names give for the name.
+fn hits_at(entries: &[(u64, Binding)], names: Part<'_>, question: &Question) -> Hits
     requires { AreRising entries.now }
-    ensures { result ≡ passes_at (is_hit permission (question_view question.now)) entries.now
-        serial }
+    ensures { result ≡ least_hits entries.now (question_view question.now)
+        (matching_serials (part_of names.entry) question.now.name.now) }
+{
+    names
+        .walk(question.name.as_bytes())
+        .chain(names.listed("*".as_bytes(), PatternKind::Literal))
+        .fold(
+            Hits::none(),
+            |hits, serial| hits.or_lesser(hit_with(entries, serial, question)),
+        )
+}
+
+/// The serial, where its binding is a hit.
+fn hit_with(entries: &[(u64, Binding)], serial: u64, question: &Question) -> Hits
+    requires { AreRising entries.now }
+    ensures { result ≡ least_hits entries.now (question_view question.now) (serial ∷ []) }
 {
     match entry_of(entries, serial) {
-        None => false,
-        Some(entry) => question.is_hit(permission, entry),
+        None => Hits::none(),
+        Some(entry) => Hits {
+            deny: question.is_hit(Permission::Deny, entry).then_some(serial),
+            allow: question.is_hit(Permission::Allow, entry).then_some(serial),
+        },
     }
 }
 

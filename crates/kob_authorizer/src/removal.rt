@@ -2,13 +2,13 @@
 //! of that of the keys one serial at a time, since few bindings stand at one key.
 
 ghost use Rattle.std.specs.Prelude.{◌≡◌, IfOk, map};
-ghost use Rattle.kob_prefix_tree.specs.declared.kind.PatternKind.TheVariants as in_tree;
 ghost use Rattle.kob_authorizer.specs.Places.{addition, key_place};
 ghost use Rattle.kob_authorizer.specs.Removal.{is_first_there, removal_of, removals_of};
 
 use crate::index::Index;
-use crate::key::binding_key;
+use crate::key::{binding_key, kind_in_tree};
 use kob_names::{Binding, Pattern, PlainValue, ResourceKind};
+use kob_prefix_tree::PatternKind;
 use std::alloc::{AllocError, Global};
 use std::marker::Model;
 
@@ -90,46 +90,47 @@ fn is_first_there(index: &Index, entry: &(u64, Binding)) -> bool
     }
 }
 
-/// A key, and the serial that goes from it. Contracts see what was added for it.
+/// A key, and the serial that goes from its list of one kind. Contracts see what was added for it.
 #[derive(Drop)]
 pub struct KeyRemoval {
     key: Vec<u8>,
+    kind: PatternKind,
     serial: u64,
 }
 
 impl Model for KeyRemoval {
     ghost use Rattle.kob_prefix_tree.specs.Addition.{Addition};
-    ghost use Rattle.kob_prefix_tree.specs.declared.kind.PatternKind.TheVariants as in_tree;
 
     ghost Value = { Addition };
 
     ghost view = { λ removal. record {
       key = removal.key.items;
-      kind = in_tree.Literal;
+      kind = removal.kind;
       serial = removal.serial;
     } };
 }
 
 impl KeyRemoval {
-    /// The key of an entry, and its serial.
+    /// The key of an entry, the kind of its pattern, and its serial.
     fn of(alloc: Global, entry: &(u64, Binding)) -> Result<KeyRemoval, AllocError>
         ensures { IfOk result (λ made. made ≡ addition key_place entry.now) }
     {
         let key = binding_key(alloc, &entry.1)?;
         Ok(KeyRemoval {
             key,
+            kind: kind_in_tree(entry.1.parts().pattern.kind),
             serial: entry.0,
         })
     }
 
-    /// The key and the serial.
-    pub fn into_parts(self) -> (Vec<u8>, u64)
+    /// The key, the kind and the serial.
+    pub fn into_parts(self) -> (Vec<u8>, PatternKind, u64)
         ensures key { result.0.items ≡ self.key }
-        ensures serial { result.1 ≡ self.serial }
-        ensures kind { self.kind ≡ in_tree.Literal }
+        ensures kind { result.1 ≡ self.kind }
+        ensures serial { result.2 ≡ self.serial }
     {
-        let KeyRemoval { key, serial } = self;
-        (key, serial)
+        let KeyRemoval { key, kind, serial } = self;
+        (key, kind, serial)
     }
 }
 

@@ -4,9 +4,9 @@
 --     held_added_same, held_added_other       after `added`, at the key and at any other
 --     held_removed_same, held_removed_other   after `removed`
 --     held_removed_all_same, held_removed_all_other   after `removed_all`
---     walk_has_prefixed, walk_has_literal     a walk of a name has the prefixed serials of each key that the name
--- begins with, and its literal ones
---     walk_only                               and no others
+--     along_has_prefixed, along_has_literal   a walk of a name has the prefixed serials of each key that the name
+-- begins with, and its literal ones, in the whole tree and in a part of it
+--     walk_only                               and in the tree no others
 use Rattle.std.proofs.Common.{◌≡◌, ◌≢◌, ◌⊎◌, inl, inr, arith, ℕ, true, false, cond, List, [], ◌∷◌, ◌++◌, map as each, None, Some, refl, sym, ap, ◌∙◌, subst}
 use Rattle.std.specs.Option.{unwrap_or}
 use Rattle.std.specs.List.{Contains, flat_map}
@@ -18,7 +18,7 @@ use Rattle.kob_prefix_tree.specs.declared.kind.PatternKind.{PatternKind}
 use Rattle.kob_prefix_tree.specs.Held.{Held, nothing, is_nothing, with_serial, without_serial, without_serials}
 use Rattle.std.proofs.lemmas.List.Elements.{Contains-append_left, Contains-append_right, Contains-append_cases}
 use Rattle.std.proofs.lemmas.List.Folds.{flat_map-map}
-use Rattle.kob_prefix_tree.specs.Walked.{prefixes}
+use Rattle.kob_prefix_tree.specs.Walked.{prefixes, serials_along}
 use Rattle.kob_prefix_tree.specs.PrefixMap.{PrefixMap, held, added, removed, removed_all, walk_of}
 use Rattle.kob_prefix_tree.proofs.WalkLemmas.{prefixes_longer}
 use Rattle.kob_prefix_tree.proofs.MapLemmas.{bytes, same_bytes, is_nothing_true}
@@ -125,18 +125,21 @@ only_beginnings f (byte ∷ name) x has =
           (byte ∷ begin, (rest, (ap (λ ys. byte ∷ ys) is, at)))
     ]
 
+module _ (held_at : List ℕ → Held) (serial : ℕ) where
+  pub along_has_prefixed : (key rest : List ℕ) → Contains (held_at key).1 serial
+      → Contains (serials_along held_at (key ++ rest)) serial
+  along_has_prefixed key rest has =
+      Contains-append_left (flat_map (λ prefix. (held_at prefix).1) (prefixes (key ++ rest))) _ serial
+      (has_beginning (λ prefix. (held_at prefix).1) key rest serial has)
+
+  pub along_has_literal : (name : List ℕ) → Contains (held_at name).0 serial
+      → Contains (serials_along held_at name) serial
+  along_has_literal name has =
+      Contains-append_right (flat_map (λ prefix. (held_at prefix).1) (prefixes name)) (held_at name).0 serial has
+
 module _ (m : PrefixMap) (serial : ℕ) where
   abbrev prefixed : List ℕ → List ℕ
   prefixed key = (held m key).1
-
-  pub walk_has_prefixed : (key rest : List ℕ) → Contains (held m key).1 serial
-      → Contains (walk_of m (key ++ rest)) serial
-  walk_has_prefixed key rest has =
-      Contains-append_left (flat_map prefixed (prefixes (key ++ rest))) _ serial
-      (has_beginning prefixed key rest serial has)
-
-  pub walk_has_literal : (name : List ℕ) → Contains (held m name).0 serial → Contains (walk_of m name) serial
-  walk_has_literal name has = Contains-append_right (flat_map prefixed (prefixes name)) (held m name).0 serial has
 
   pub walk_only : (name : List ℕ) → Contains (walk_of m name) serial
       → BeginningWith (λ key. (held m key).1) name serial ⊎ Contains (held m name).0 serial

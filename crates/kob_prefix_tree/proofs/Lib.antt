@@ -10,6 +10,7 @@ pub mod LevelsLemmas
 pub mod ListLemmas
 pub mod MapLemmas
 pub mod Moves
+pub mod PartLemmas
 pub mod PlaceLemmas
 pub mod Read
 pub mod SiblingLemmas

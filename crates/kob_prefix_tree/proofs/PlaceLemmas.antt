@@ -9,8 +9,8 @@ use Rattle.kob_prefix_tree.specs.Entries.{Entries, held_at, held_behind, behind,
 use Rattle.kob_prefix_tree.specs.declared.kind.PatternKind.{PatternKind}
 use Rattle.kob_prefix_tree.specs.declared.kind.PatternKind.TheVariants.{Literal, Prefixed}
 use Rattle.kob_prefix_tree.specs.Held.{is_nothing, with_serial, with_serials, without_serial, without_serials}
-use Rattle.kob_prefix_tree.specs.Walked.{serials_along, IsLongestInUse}
-use Rattle.kob_prefix_tree.specs.PrefixMap.{PrefixMap, held, added, removed, removed_all, walk_of}
+use Rattle.kob_prefix_tree.specs.Walked.{IsLongestInUse}
+use Rattle.kob_prefix_tree.specs.PrefixMap.{PrefixMap, held, added, removed, removed_all}
 use Rattle.std.specs.FinMap as map
 use Rattle.kob_prefix_tree.specs.Lists.{without_first, without_in_turn}
 use Rattle.kob_prefix_tree.proofs.MapLemmas.{map_of, map_added, map_left, map_same, held_of}
@@ -94,12 +94,8 @@ map_at c = map_of (entries_in c)
 pub held_of_map : (key : List ℕ) (c : Contents) → IsNeat c.1 → held (map_at c) key ≡ held_in key c
 held_of_map key c neat = held_of (entries_in c) key ∙ held_of_entries key c neat
 
-held_everywhere : (c : Contents) → IsNeat c.1 → (λ key. held_in key c) ≡ held (map_at c)
+pub held_everywhere : (c : Contents) → IsNeat c.1 → (λ key. held_in key c) ≡ held (map_at c)
 held_everywhere c neat = sym (λ i key. held_of_map key c neat i)
-
-pub walk_of_place : (c : Contents) (name : List ℕ) → IsNeat c.1
-    → serials_along (λ key. held_in key c) name ≡ walk_of (map_at c) name
-walk_of_place c name neat = ap (λ f. serials_along f name) (held_everywhere c neat)
 
 pub longest_of_place : (c : Contents) (name : List ℕ) (n : ℕ) → IsNeat c.1
     → IsLongestInUse (λ key. held_in key c) name n → IsLongestInUse (held (map_at c)) name n

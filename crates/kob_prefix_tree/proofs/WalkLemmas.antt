@@ -45,6 +45,11 @@ nothing_along : (f : List ℕ → List ℕ) (ps : List (List ℕ)) → ((p : Lis
 nothing_along f [] none = refl
 nothing_along f (p ∷ ps) none = ap (λ ys. ys ++ flat_map f ps) (none p) ∙ nothing_along f ps none
 
+-- where nothing is held nothing is given
+pub serials_along_nothing : (name : List ℕ) → serials_along (λ key. nothing) name ≡ []
+serials_along_nothing name =
+    ap (λ ys. ys ++ []) (nothing_along (λ prefix. []) (prefixes name) (λ prefix. refl))
+
 -- without a child there is nothing more
 pub serials_beyond_none : (held : List ℕ → Held) (byte : ℕ) (name : List ℕ)
     → ((key : List ℕ) → held (byte ∷ key) ≡ nothing) → serials_beyond held (byte ∷ name) ≡ []

@@ -3,10 +3,10 @@ pub mod Cells
 pub mod Contents
 pub mod Entries
 pub mod Held
-pub mod Joined
 pub mod Lists
 pub mod Nodes
 pub mod Owned
+pub mod Part
 pub mod Path
 pub mod PrefixMap
 pub mod SerialsLeft

@@ -5,7 +5,6 @@ ghost use Rattle.std.specs.Prelude.{IfSome, IsTrue, OnErr, OnOk, MatchOption};
 ghost use Rattle.kob_prefix_tree.specs.Held.{nothing, with_serials, without_serials, has_serials};
 ghost use Rattle.kob_prefix_tree.specs.Siblings.{bare, held_in, IsNeat};
 ghost use Rattle.kob_prefix_tree.specs.Contents.{contents, node_contents, seen};
-ghost use Rattle.kob_prefix_tree.specs.Joined.{joined};
 ghost use Rattle.kob_prefix_tree.specs.Path.{key_of};
 ghost use Rattle.kob_prefix_tree.specs.Walked.{IsLongestInUse};
 
@@ -206,24 +205,6 @@ impl<'a> Place<'a> {
             rest = others;
         }
         Some(place)
-    }
-
-    /// The place of three texts with a byte between them.
-    pub(crate) fn at_joined(
-        self,
-        first: &[u8],
-        second: &[u8],
-        third: &[u8],
-        between: u8,
-    ) -> Option<Place<'a>>
-        ensures { MatchOption result
-            (held_in (joined between first.now second.now third.now) (seen self.entry) ≡ nothing)
-            (λ p. held_in (joined between first.now second.now third.now) (seen self.entry)
-            ≡ held_in [] (seen p)) }
-    {
-        let behind_first = self.at(first)?.child(between)?;
-        let behind_second = behind_first.at(second)?.child(between)?;
-        behind_second.at(third)
     }
 
     /// How many bytes of a name lead on.

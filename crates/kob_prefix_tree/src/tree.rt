@@ -1,8 +1,8 @@
 //! The tree, seen as a finite map from keys to serials.
-ghost use Rattle.std.specs.Prelude.{◌≡◌, ◌+◌, ◌≤◌, length, OnOk, OnErr, IfOk};
+ghost use Rattle.std.specs.Prelude.{◌≡◌, ◌∷◌, ◌++◌, ◌+◌, ◌≤◌, length, OnOk, OnErr, IfOk};
 ghost use Rattle.std.specs.FinMap as map;
 ghost use Rattle.kob_prefix_tree.specs.Held.{has_serial, has_serials, serials_of};
-ghost use Rattle.kob_prefix_tree.specs.Joined.{joined};
+ghost use Rattle.kob_prefix_tree.specs.Part.{part_of};
 ghost use Rattle.kob_prefix_tree.specs.PrefixMap.{held, added, removed, removed_all};
 ghost use Rattle.kob_prefix_tree.specs.PrefixMap.{walk_of, IsLevels};
 ghost use Rattle.kob_prefix_tree.specs.WalkLeft.{left_of};
@@ -10,7 +10,8 @@ ghost use Rattle.kob_prefix_tree.specs.WalkLeft.{left_of};
 use crate::branch::Branch;
 use crate::kind::PatternKind;
 use crate::link::Link;
-use crate::serials::{Serials, Unread};
+use crate::part::Part;
+use crate::serials::Serials;
 use crate::siblings::{Item, path_of};
 use crate::walk::Walk;
 use std::alloc::{AllocError, Global};
@@ -156,7 +157,7 @@ impl PrefixTree {
     pub fn walk<'a>(&'a self, name: &'a [u8]) -> Walk<'a>
         ensures { left_of result ≡ walk_of self.now name.now }
     {
-        Walk::along(self.root.place(), name)
+        self.whole().walk(name)
     }
 
     /// The literal serials of the name alone. It takes no memory.
@@ -170,25 +171,21 @@ impl PrefixTree {
     pub fn listed(&self, key: &[u8], kind: PatternKind) -> Walk<'_>
         ensures { left_of result ≡ serials_of kind (held self.now key.now) }
     {
-        match self.root.place().at(key) {
-            None => Walk::over(Unread::nothing()),
-            Some(place) => match kind {
-                PatternKind::Literal => Walk::over(place.literal.unread()),
-                PatternKind::Prefixed => Walk::over(place.prefixed.unread()),
-            },
-        }
+        self.whole().listed(key, kind)
     }
 
-    /// The literal serials of the key that three texts make with a byte between them. It takes no
-    /// memory.
-    pub fn literal_joined(&self, first: &[u8], second: &[u8], third: &[u8], between: u8) -> Walk<'_>
-        ensures { left_of result ≡ serials_of PatternKind.Literal
-            (held self.now (joined between first.now second.now third.now)) }
+    /// The part of the keys that begin with a text and the byte behind it. It takes no memory.
+    pub fn behind(&self, text: &[u8], byte: u8) -> Part<'_>
+        ensures { part_of result ≡ (λ key. held self.now (text.now ++ byte ∷ key)) }
     {
-        match self.root.place().at_joined(first, second, third, between) {
-            None => Walk::over(Unread::nothing()),
-            Some(place) => Walk::over(place.literal.unread()),
-        }
+        self.whole().behind(text, byte)
+    }
+
+    /// The part of all keys.
+    fn whole(&self) -> Part<'_>
+        ensures { part_of result ≡ held self.now }
+    {
+        Part::of(self.root.place())
     }
 
     /// The places that a walk of the name enters, the start counted as one. It takes no memory.

@@ -14,6 +14,8 @@ mod open_to_all;
 #[cfg(test)]
 mod partition;
 #[cfg(test)]
+mod principals;
+#[cfg(test)]
 mod producers;
 #[cfg(test)]
 mod rules;

@@ -1,22 +1,31 @@
-use Rattle.std.proofs.Common.{◌≡◌, sym, ap, ◌∙◌, List, ℕ, rules}
+use Rattle.std.proofs.Common.{◌≡◌, sym, ap, ◌∙◌, ◌∷◌, ◌++◌, List, ℕ, rules}
 use Rattle.std.proofs.lemmas.Iterator.Adapters.{option_map_id}
 use Rattle.std.proofs.lemmas.Iterator.Consumers.{YieldsList-from_filter, YieldsList-from_first, min_from_yields_List}
+use Rattle.kob_names.specs.Binding.{Binding}
 use Rattle.kob_prefix_tree.specs.Held.{serials_of}
 use Rattle.kob_prefix_tree.specs.PrefixMap.{held}
 use Rattle.kob_prefix_tree.specs.WalkLeft.{left_of}
 use Rattle.kob_authorizer.specs.Key.{binding_key}
 use Rattle.kob_authorizer.specs.LookUp.{is_equal, passes_at}
-use Rattle.kob_authorizer.specs.Places.{key_place}
+use Rattle.kob_authorizer.specs.Places.{key_place, kind_in_tree}
 use Rattle.kob_authorizer.proofs.equals.least_equal.Goals as goal
 
 pub returns : goal.returns
 unfolding binding_key
 returns c =
-    let binding = c.args.binding.now in
+    let binding : Binding = c.args.binding.now in
     let test = passes_at (is_equal binding) c.args.entries.now in
     let held_there : List ℕ =
     serials_of (key_place binding).kind (held c.args.keys.now (key_place binding).key) in
-    let given : left_of c.literal_joined.result ≡ held_there = cc in
+    let principal : c.as_bytes-principal.result.now ≡ binding.principal = cc in
+    let host : c.as_bytes-host.result.now ≡ binding.host = cc in
+    let name : c.as_bytes-name.result.now ≡ binding.pattern.name = cc in
+    let kind : c.kind_in_tree-kind.result ≡ kind_in_tree binding.pattern.kind = cc in
+    let given : left_of c.listed.result ≡ held_there =
+    c.listed.ensures
+    ∙ (λ i. serials_of (kind i) ((c.behind-2.ensures ∙ (λ j key. c.behind.ensures j (host j ++ 255 ∷ key))) i (name i)))
+    ∙ (λ i. serials_of (key_place binding).kind
+    (held c.args.keys.now (principal i ++ 255 ∷ (binding.host ++ 255 ∷ binding.pattern.name)))) in
     sym (option_map_id c.min.result)
     ∙ min_from_yields_List c.filter.result c.min.result c.min.ensures.ran
     (YieldsList-from_filter _ test

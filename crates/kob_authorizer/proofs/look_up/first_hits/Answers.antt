@@ -1,0 +1,40 @@
+use Rattle.std.proofs.Common.{◌≡◌, ap, ◌∙◌, ◌∷◌, ◌++◌, List, ℕ, codes}
+use Rattle.kob_names.specs.Binding.{Binding}
+use Rattle.kob_names.specs.declared.kinds.Permission.TheVariants.{Allow, Deny}
+use Rattle.kob_prefix_tree.specs.Held.{Held}
+use Rattle.kob_prefix_tree.specs.Part.{part_of}
+use Rattle.kob_prefix_tree.specs.PrefixMap.{PrefixMap, held}
+use Rattle.kob_authorizer.specs.Asked.{question_view}
+use Rattle.kob_authorizer.specs.Hits.{lesser_hits}
+use Rattle.kob_authorizer.specs.LookUp.{behind, least_hits, serials_for, serials_from}
+use Rattle.kob_authorizer.specs.Question.{Question}
+use Rattle.kob_authorizer.specs.declared.hits.Hits.{Hits}
+use Rattle.kob_authorizer.specs.declared.index.Index.{Index}
+use Rattle.kob_authorizer.proofs.LeastHits.{hits_of_two}
+use Rattle.kob_authorizer.proofs.Matching.{least_hit_is_first}
+use Rattle.kob_authorizer.proofs.look_up.first_hits.Goals as goal
+
+pub returns : goal.returns
+returns c =
+    let question : Question = question_view c.args.question.now in
+    let entries : List (ℕ × Binding) = c.args.entries.now in
+    let index : Index = c.args.index.now in
+    let keys : PrefixMap = index.keys in
+    let least : (List ℕ → Held) → Hits = λ part. least_hits entries question (serials_from part question) in
+    let who : c.as_bytes.result.now ≡ question.principal = cc in
+    let everyone : c.as_bytes-2.result.now ≡ codes "User:*" = cc in
+    let of_who : part_of c.behind-of_who.result ≡ behind question.principal (held keys) =
+    c.behind-of_who.ensures ∙ (λ i key. held (c.keys.ensures i) (who i ++ 255 ∷ key)) in
+    let of_everyone : part_of c.behind-of_everyone.result ≡ behind (codes "User:*") (held keys) =
+    c.behind-of_everyone.ensures ∙ (λ i key. held (c.keys-2.ensures i) (everyone i ++ 255 ∷ key)) in
+    let found : c.or_lesser.result ≡ least_hits entries question (serials_for keys question) =
+    c.or_lesser.ensures
+    ∙ (λ i. lesser_hits ((c.hits_of.ensures ∙ ap least of_who) i) ((c.hits_of-2.ensures ∙ ap least of_everyone) i))
+    ∙ hits_of_two entries question (serials_from (behind question.principal (held keys)) question)
+    (serials_from (behind (codes "User:*") (held keys)) question) in
+    record {
+      deny = ap (λ (h : Hits). h.deny) found
+          ∙ least_hit_is_first index entries Deny question c.requires.rising c.requires.indexed;
+      allow = ap (λ (h : Hits). h.allow) found
+          ∙ least_hit_is_first index entries Allow question c.requires.rising c.requires.indexed;
+    }

@@ -1,0 +1,13 @@
+use Rattle.std.proofs.Common.{◌++◌, ap, sym, ◌∙◌, Option}
+use Rattle.kob_prefix_tree.specs.declared.branch.Place.{Place}
+use Rattle.kob_prefix_tree.specs.Contents.{seen}
+use Rattle.kob_prefix_tree.specs.Part.{held_from}
+use Rattle.kob_prefix_tree.specs.Siblings.{held_in}
+use Rattle.kob_prefix_tree.proofs.PartLemmas.{from_match}
+use Rattle.kob_prefix_tree.proofs.part.Part.at.Goals as goal
+
+pub returns : goal.returns
+returns c more =
+    let place : Place = c.in_ok-self.field-0 in
+    from_match c.at.result (λ others. held_in (c.args.key.now ++ others) (seen place)) c.at.ensures more
+    ∙ ap (λ (p : Option Place). held_from p (c.args.key.now ++ more)) (sym c.in_ok-self.was)

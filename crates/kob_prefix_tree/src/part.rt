@@ -1,0 +1,71 @@
+//! The part of a tree whose keys begin in one way.
+ghost use Rattle.std.specs.Prelude.{◌≡◌, ◌∷◌, ◌++◌, List, ℕ};
+ghost use Rattle.kob_prefix_tree.specs.Held.{serials_of};
+ghost use Rattle.kob_prefix_tree.specs.Part.{held_from, part_of};
+ghost use Rattle.kob_prefix_tree.specs.Walked.{serials_along};
+ghost use Rattle.kob_prefix_tree.specs.WalkLeft.{left_of};
+
+use crate::branch::Place;
+use crate::kind::PatternKind;
+use crate::serials::Unread;
+use crate::walk::Walk;
+
+/// What a tree holds behind the beginning that some of its keys have in common, to be read: it
+/// takes no memory. A key of the part is what follows that beginning.
+#[derive(Clone, Copy, Drop)]
+pub struct Part<'a> {
+    place: Option<Place<'a>>,
+}
+
+impl<'a> Part<'a> {
+    pub(crate) fn of(place: Place<'a>) -> Part<'a>
+        ensures { part_of result ≡ held_from (Some place.entry) }
+    {
+        Part { place: Some(place) }
+    }
+
+    /// The part of the keys that begin with a text and the byte behind it.
+    #[tactic(auto, using(crate::proofs::PartLemmas::from_match))]
+    pub fn behind(self, text: &[u8], byte: u8) -> Part<'a>
+        ensures { part_of result ≡ (λ key. part_of self.entry (text.now ++ byte ∷ key)) }
+    {
+        match self.at(text) {
+            None => Part { place: None },
+            Some(place) => Part {
+                place: place.child(byte),
+            },
+        }
+    }
+
+    /// The prefixed serials of the keys with which the name begins, the shortest key first, and
+    /// then the literal ones of the name.
+    pub fn walk(self, name: &'a [u8]) -> Walk<'a>
+        ensures { left_of result ≡ serials_along (part_of self.entry) name.now }
+    {
+        match self.place {
+            None => Walk::over(Unread::nothing()),
+            Some(place) => Walk::along(place, name),
+        }
+    }
+
+    /// The serials of the key's list of one kind, in order.
+    pub fn listed(self, key: &[u8], kind: PatternKind) -> Walk<'a>
+        ensures { left_of result ≡ serials_of kind (part_of self.entry key.now) }
+    {
+        match self.at(key) {
+            None => Walk::over(Unread::nothing()),
+            Some(place) => match kind {
+                PatternKind::Literal => Walk::over(place.literal.unread()),
+                PatternKind::Prefixed => Walk::over(place.prefixed.unread()),
+            },
+        }
+    }
+
+    /// The place of a key, from which longer keys go on.
+    fn at(self, key: &[u8]) -> Option<Place<'a>>
+        ensures { (more : List ℕ)
+            → held_from result more ≡ part_of self.entry (key.now ++ more) }
+    {
+        self.place?.at(key)
+    }
+}
