@@ -14,6 +14,7 @@ pub mod RemovalSteps
 pub mod Resources
 pub mod Rising
 pub mod Serials
+pub mod SuperUsers
 pub mod TreeSteps
 pub mod Unmatched
 pub mod Verdicts

@@ -15,3 +15,4 @@ pub mod Passing
 pub mod Places
 pub mod Question
 pub mod Removal
+pub mod SuperUsers

@@ -16,7 +16,8 @@ use crate::deletion::{PreparedDelete, copies_taken, remove_taken};
 use crate::fault::CreateFault;
 use crate::index::{Index, put_all, remove_all, remove_keys};
 use crate::look_up::verdict;
-use crate::question::{Question, is_super};
+use crate::question::Question;
+use crate::super_users::SuperUsers;
 use kob_names::{Binding, BindingFilter, Host, Operation, Principal, ResourceKind, Verdict};
 use std::alloc::{AllocError, Global};
 use std::marker::Model;
@@ -32,7 +33,7 @@ use std::marker::Model;
 pub struct Authorizer {
     entries: Vec<(u64, Binding)>,
     index: Index,
-    supers: Vec<Principal>,
+    supers: SuperUsers,
     everyone: bool,
     next: u64,
 }
@@ -48,7 +49,7 @@ impl Model for Authorizer {
     ghost view = { λ authorizer. record {
       contents = record {
         entries = authorizer.entries.items;
-        supers = authorizer.supers.items;
+        supers = authorizer.supers;
         everyone = authorizer.everyone;
         next = authorizer.next;
       };
@@ -61,19 +62,25 @@ impl Model for Authorizer {
 }
 
 impl Authorizer {
-    /// An authorizer without bindings, whose first new binding gets the serial 1; no memory is
-    /// taken. With `everyone` a resource that no binding matches is open to everyone (Kafka's
-    /// `allow.everyone.if.no.acl.found`).
-    pub fn open(alloc: Global, supers: Vec<Principal>, everyone: bool) -> Authorizer
-        ensures { result.contents ≡ fresh_contents supers.items everyone }
+    /// An authorizer without bindings, whose first new binding gets the serial 1. With `everyone` a
+    /// resource that no binding matches is open to everyone (Kafka's
+    /// `allow.everyone.if.no.acl.found`). The error is want of memory, which the super users take.
+    pub fn open(
+        alloc: Global,
+        supers: Vec<Principal>,
+        everyone: bool,
+    ) -> Result<Authorizer, AllocError>
+        ensures { IfOk result (λ authorizer.
+            authorizer.contents ≡ fresh_contents supers.items everyone) }
     {
-        Authorizer {
+        let supers = SuperUsers::new(alloc, supers)?;
+        Ok(Authorizer {
             entries: Vec::new(alloc),
             index: Index::new(),
             supers,
             everyone,
             next: 1,
-        }
+        })
     }
 
     /// The super users, in the order in which they were given; no memory is taken.
@@ -132,7 +139,7 @@ impl Authorizer {
             resource,
             name,
         };
-        if is_super(self.supers(), who) {
+        if self.supers.contains(who) {
             Verdict::Super
         } else {
             verdict(

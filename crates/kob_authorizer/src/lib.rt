@@ -16,6 +16,7 @@ mod limits;
 mod look_up;
 mod question;
 mod removal;
+mod super_users;
 
 pub use authorizer::Authorizer;
 pub use creation::PreparedCreate;

@@ -47,7 +47,9 @@ impl Broker {
             opening,
             everyone,
         } = settings;
-        let mut authorizer = Authorizer::open(alloc, supers.into_vec(), everyone);
+        let Ok(mut authorizer) = Authorizer::open(alloc, supers.into_vec(), everyone) else {
+            return Err(OpenFault::Memory);
+        };
         match authorizer.create(alloc, opening.as_slice()) {
             Ok(_) => Ok(Broker {
                 catalog: Catalog::new(alloc),

@@ -3,6 +3,7 @@
 use kob_catalog::{Catalog, CreateFault, PartitionFault};
 use kob_names::{Batch, Bytes, Items, Record, Text, TopicName};
 use std::alloc::{AllocError, Global};
+use std::process::Abort;
 use std::test::Fail;
 
 /// A batch of one record without a key.
@@ -52,17 +53,33 @@ fn topics_created_and_refused(rt: HostRuntime) -> Result<(), Fail> {
 
 #[test]
 fn one_partition_is_written(rt: HostRuntime) -> Result<(), Fail> {
-    let alloc = rt.alloc();
-    let mut catalog = Catalog::new(alloc);
+    let mut catalog = Catalog::new(rt.alloc());
+    create_two(&rt, rt.alloc(), &mut catalog)?;
+    write_last(&rt, rt.alloc(), &mut catalog)?;
+    ends_are_told(&rt, rt.alloc(), &catalog)
+}
+
+/// Creates the topics `a` and `b` with two partitions each.
+fn create_two(rt: &impl Abort, alloc: Global, catalog: &mut Catalog) -> Result<(), Fail> {
     for name in ["a", "b"] {
         let name = TopicName::parse(alloc, name)?;
         assert_eq!(rt; catalog.create(alloc, &name, 2), Ok(()));
     }
+    Ok(())
+}
+
+/// Appends one record to the last partition of `b`.
+fn write_last(rt: &impl Abort, alloc: Global, catalog: &mut Catalog) -> Result<(), Fail> {
     let name = Text::copied(alloc, "b")?;
+    let batch = batch(alloc, b"x")?;
     let log = catalog.partition_mut(&name, 1)?;
-    assert_eq!(rt; log.append(batch(alloc, b"x")?), Ok(0));
+    assert_eq!(rt; log.append(batch), Ok(0));
     let fetched = catalog.partition(&name, 1)?.fetch(alloc, 0, 10)?;
     assert_eq!(rt; fetched.len(), 1);
+    Ok(())
+}
+
+fn ends_are_told(rt: &impl Abort, alloc: Global, catalog: &Catalog) -> Result<(), Fail> {
     let ends = [
         ("a", 0, Ok(0)),
         ("a", 1, Ok(0)),
@@ -73,7 +90,7 @@ fn one_partition_is_written(rt: HostRuntime) -> Result<(), Fail> {
         ("c", 0, Err(PartitionFault::UnknownTopic)),
     ];
     for (topic, partition, end) in ends {
-        assert_eq!(rt; end_of(alloc, &catalog, topic, partition)?, end);
+        assert_eq!(rt; end_of(alloc, catalog, topic, partition)?, end);
     }
     Ok(())
 }

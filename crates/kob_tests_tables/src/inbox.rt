@@ -109,20 +109,29 @@ fn rows_keep_what_was_said(rt: HostRuntime) -> Result<(), Fail> {
     far_and_hollow_are_kept(&rt, &mut inbox)
 }
 
-fn take_in_far_and_hollow(rt: &impl Abort, alloc: Global, inbox: &mut Inbox) -> Result<(), Fail> {
+/// A record without a key.
+fn bare(alloc: Global) -> Result<Record, AllocError> {
     let mut bare = carrying(alloc, 1)?;
     bare.key = None;
     bare.value = Bytes::copied(alloc, [0, 255].as_slice())?;
-    assert_eq!(rt;
-        inbox.take_in("ö", GREATEST, GREATEST, &bare)?,
-        TakeIn::Taken
-    );
+    Ok(bare)
+}
+
+/// A record whose key and value are empty.
+fn hollow(alloc: Global) -> Result<Record, AllocError> {
     let mut hollow = carrying(alloc, 2)?;
     hollow.key = Some(Bytes::copied(alloc, [].as_slice())?);
     hollow.value = Bytes::copied(alloc, [].as_slice())?;
-    assert_eq!(rt; inbox.take_in("", 0, 0, &hollow)?, TakeIn::Taken);
-    let far = inbox.take_in("orders", GREATEST + 1, 0, &carrying(alloc, 3)?);
-    assert_eq!(rt; far, Err(InboxFault::Store));
+    Ok(hollow)
+}
+
+fn take_in_far_and_hollow(rt: &impl Abort, alloc: Global, inbox: &mut Inbox) -> Result<(), Fail> {
+    let far = inbox.take_in("ö", GREATEST, GREATEST, &bare(alloc)?);
+    assert_eq!(rt; far, Ok(TakeIn::Taken));
+    let empty = inbox.take_in("", 0, 0, &hollow(alloc)?);
+    assert_eq!(rt; empty, Ok(TakeIn::Taken));
+    let beyond = inbox.take_in("orders", GREATEST + 1, 0, &carrying(alloc, 3)?);
+    assert_eq!(rt; beyond, Err(InboxFault::Store));
     Ok(())
 }
 

@@ -9,16 +9,16 @@ use Rattle.kob_authorizer.specs.Question.{Question, question_of}
 use Rattle.kob_names.specs.Binding.{Binding}
 use Rattle.kob_names.specs.declared.kinds.Permission.TheVariants.{Allow, Deny}
 
-pub returns-then-is_super-clause-meaning : goal.returns-then-is_super-clause-meaning
-returns-then-is_super-clause-meaning c =
+pub returns-then-contains-clause-meaning : goal.returns-then-contains-clause-meaning
+returns-then-contains-clause-meaning c =
     let in_force : List (List ℕ) = c.args.self.now.contents.supers in
-    let told : c.is_super.result ≡ is_super in_force c.args.who.now =
-    c.is_super.ensures ∙ ap (λ supers. is_super supers c.args.who.now) c.supers.ensures in
-    found_super in_force c.args.who.now (sym told ∙ c.if-is_super.true)
+    let told : c.contains.result ≡ is_super in_force c.args.who.now =
+    c.contains.ensures ∙ ap (λ (s : State). is_super s.contents.supers c.args.who.now) c.self.view_is in
+    found_super in_force c.args.who.now (sym told ∙ c.if-contains.true)
 
 -- the serials in force rise, so the first binding that hits has the least
-pub returns-else-is_super-clause-meaning : goal.returns-else-is_super-clause-meaning
-returns-else-is_super-clause-meaning c =
+pub returns-else-contains-clause-meaning : goal.returns-else-contains-clause-meaning
+returns-else-contains-clause-meaning c =
     let question : Question =
     question_of c.args.who.now c.args.host.now c.args.operation c.args.resource c.args.name.now in
     let in_force : List (ℕ × Binding) = c.args.self.now.contents.entries in
@@ -27,9 +27,9 @@ returns-else-is_super-clause-meaning c =
     c.as_slice.ensures.value ∙ ap (λ (s : State). s.contents.entries) c.self.view_is in
     let rising : IsRising 1 in_force next =
     subst (λ (s : State). IsRising 1 s.contents.entries s.contents.next) c.self.view_is c.self.invariant.1 in
-    let told : c.is_super.result ≡ is_super c.args.self.now.contents.supers c.args.who.now =
-    c.is_super.ensures ∙ ap (λ supers. is_super supers c.args.who.now) c.supers.ensures in
-    let stranger : is_super c.args.self.now.contents.supers c.args.who.now ≡ false = sym told ∙ c.if-is_super.false in
+    let told : c.contains.result ≡ is_super c.args.self.now.contents.supers c.args.who.now =
+    c.contains.ensures ∙ ap (λ (s : State). is_super s.contents.supers c.args.who.now) c.self.view_is in
+    let stranger : is_super c.args.self.now.contents.supers c.args.who.now ≡ false = sym told ∙ c.if-contains.false in
     let on : c.self.inside.everyone ≡ c.args.self.now.contents.everyone =
     ap (λ (s : State). s.contents.everyone) c.self.view_is in
     let verdict : c.verdict.result ≡ unless_open

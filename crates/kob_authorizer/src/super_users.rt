@@ -1,0 +1,74 @@
+//! The super users, and a tree of their texts by which one is found.
+
+ghost use Rattle.std.specs.Prelude.{◌≡◌, ◌==◌, not, IfOk, length};
+ghost use Rattle.kob_prefix_tree.specs.Held.{serials_of};
+ghost use Rattle.kob_prefix_tree.specs.PrefixMap.{held};
+ghost use Rattle.kob_authorizer.specs.Decide.{is_super};
+ghost use Rattle.kob_authorizer.specs.SuperUsers.{holds_text, texts_of};
+
+use kob_names::Principal;
+use kob_prefix_tree::{PatternKind, PrefixTree};
+use std::alloc::{AllocError, Global};
+use std::marker::Model;
+
+/// The super users in the order in which they were given. Whether one is among them costs as much
+/// as its text is long, however many there are. Contracts see the list.
+#[derive(Drop)]
+pub struct SuperUsers {
+    listed: Vec<Principal>,
+    texts: PrefixTree,
+}
+
+impl Model for SuperUsers {
+    ghost use Rattle.std.specs.Prelude.{◌≡◌, List, ℕ};
+    ghost use Rattle.kob_authorizer.specs.SuperUsers.{texts_of};
+
+    ghost Value = { List (List ℕ) };
+
+    ghost view = { λ users. users.listed.items };
+
+    ghost invariant = { λ users. users.texts ≡ texts_of users.listed.items };
+}
+
+impl SuperUsers {
+    /// These super users. The error is want of memory.
+    pub fn new(alloc: Global, listed: Vec<Principal>) -> Result<SuperUsers, AllocError>
+        ensures { IfOk result (λ users. users ≡ listed.items) }
+    {
+        let texts = texts_of(alloc, listed.as_slice())?;
+        Ok(SuperUsers { listed, texts })
+    }
+
+    /// The super users; no memory is taken.
+    pub fn as_slice(&self) -> &[Principal]
+        ensures { result.now ≡ self.now }
+    {
+        self.listed.as_slice()
+    }
+
+    /// Whether the principal is equal to a super user; no memory is taken.
+    pub fn contains(&self, who: &Principal) -> bool
+        ensures { result ≡ is_super self.now who.now }
+    {
+        holds_text(&self.texts, who)
+    }
+}
+
+/// A tree of the texts of these users. The error is want of memory.
+#[tactic(auto, using(std::proofs::lemmas::List::Sums::fold_more))]
+fn texts_of(alloc: Global, users: &[Principal]) -> Result<PrefixTree, AllocError>
+    ensures { IfOk result (λ texts. texts ≡ texts_of users.now) }
+{
+    let mut texts = PrefixTree::new();
+    for user in users {
+        texts.add(alloc, user.as_str().as_bytes(), PatternKind::Literal, 0)?;
+    }
+    Ok(texts)
+}
+
+/// Whether the tree holds the text of the principal.
+fn holds_text(texts: &PrefixTree, who: &Principal) -> bool
+    ensures { result ≡ holds_text texts.now who.now }
+{
+    texts.literal(who.as_str().as_bytes()).next().is_some()
+}
