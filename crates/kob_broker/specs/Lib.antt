@@ -1,6 +1,7 @@
 pub mod Limits
 pub mod State
 pub mod Denial
+pub mod Verdicts
 pub mod Reasons
 pub mod BatchSize
 pub mod Named

@@ -24,6 +24,7 @@ mod open_fault;
 mod prepared;
 mod produce;
 mod stopped;
+mod verdicts;
 
 pub use broker::Broker;
 pub use kob_names::Settings;
