@@ -21,6 +21,7 @@ mod metadata;
 mod offset_commit;
 mod offset_fetch;
 mod open_fault;
+mod placed;
 mod prepared;
 mod produce;
 mod stopped;
