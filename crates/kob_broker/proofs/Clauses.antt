@@ -3,7 +3,7 @@ use Rattle.std.proofs.Common.{◌≡◌, ℕ, ◌+◌, List, [], ◌∷◌, Some
 use Rattle.std.specs.Prelude.{slice_get, map, ◌||◌, ◌⊎◌}
 use Rattle.kob_authorizer.specs.Contents.{Contents, IsRising}
 use Rattle.kob_authorizer.proofs.Verdicts.{true_verdict}
-use Rattle.kob_rights.specs.declared.check.Check.{Check}
+use Rattle.kob_rights.specs.Check.{Check}
 use Rattle.kob_rights.specs.declared.event.Event.{Event}
 use Rattle.kob_names.specs.Granted.{is_granted}
 use Rattle.kob_broker.specs.Denial.{question, verdict, is_met, first_unmet}

@@ -3,6 +3,7 @@ use Rattle.std.proofs.Common.{◌≡◌, Some, sym, ap, subst, ◌∙◌}
 use Rattle.std.specs.Prelude.{Result, Ok, Err, IfOk, List, ℕ, Option}
 use Rattle.kob_partition.specs.Retained.{retained_meaning}
 use Rattle.kob_rights.specs.Reason.{code_of}
+use Rattle.kob_names.specs.declared.batch.Batch.{Batch}
 use Rattle.kob_rights.specs.declared.event.Event.{Event}
 use Rattle.kob_rights.specs.declared.on_topics.Metadata.{Metadata}
 use Rattle.kob_rights.specs.declared.reason.Reason.{Reason}
@@ -10,11 +11,13 @@ use Rattle.kob_rights.specs.declared.reply.Reply.TheVariants.{Refused}
 use Rattle.kob_rights.specs.declared.request.Request.{Request}
 use Rattle.kob_rights.specs.declared.request.Request.TheVariants as requests
 use Rattle.kob_broker.specs.declared.broker.Broker.{Broker}
+use Rattle.kob_broker.specs.declared.placed.Placed.{Placed}
 use Rattle.kob_broker.specs.declared.prepared.Change.TheVariants.{Unchanged}
 use Rattle.kob_broker.specs.declared.prepared.Prepared.{Prepared}
 use Rattle.kob_broker.specs.Change.{Makes, MakesFor, state_after_change, state_of}
 use Rattle.kob_broker.specs.Effect.{effect, effect_by, named, refusal}
 use Rattle.kob_broker.specs.Metadata.{metadata_request}
+use Rattle.kob_broker.specs.Placed.{prepared_for}
 
 -- a refusal for the first reason that holds
 pub refused_makes : (broker : Broker) (request : Request) (prepared : Prepared) (reason : Reason)
@@ -30,6 +33,13 @@ refused_makes broker request prepared reason why reply change event = record {
       (named (state_of broker) request) event request).state) (sym why);
   ready = rw change tt;
 }
+
+-- what is prepared for an equal batch
+pub placed_makes : (broker : Broker) (request : Request) (batch own : Batch) (placed : Placed) (prepared : Prepared)
+    → own ≡ batch → prepared ≡ prepared_for own placed → MakesFor request broker (prepared_for batch placed)
+    → MakesFor request broker prepared
+placed_makes broker request batch own placed prepared same is makes =
+    subst (MakesFor request broker) (sym (is ∙ ap (λ (b : Batch). prepared_for b placed) same)) makes
 
 -- what makes the effect of a request for whoever asks makes it for the event that has it
 pub made_for : (broker : Broker) (request : Request) (event : Event) (prepared : Prepared) → event.request ≡ request

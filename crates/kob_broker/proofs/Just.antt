@@ -8,7 +8,7 @@ use Rattle.kob_authorizer.proofs.Rising.{removed_rises}
 use Rattle.kob_rights.specs.Writes.{Write, write_of}
 use Rattle.kob_rights.specs.Writes as writes
 use Rattle.kob_rights.specs.Table.{rights, denial_code}
-use Rattle.kob_rights.specs.declared.check.Check.{Check}
+use Rattle.kob_rights.specs.Check.{Check}
 use Rattle.kob_rights.specs.declared.event.Event.{Event}
 use Rattle.kob_rights.specs.declared.reason.Reason.{Reason}
 use Rattle.kob_rights.specs.declared.reply.Reply.{Reply}

@@ -22,7 +22,7 @@ use Rattle.kob_producers.specs.declared.judge.Judgement.TheVariants.{Next, Repea
 use Rattle.kob_rights.specs.Table.{rights}
 use Rattle.kob_rights.specs.Writes.{Write, write_of}
 use Rattle.kob_rights.specs.Writes as writes
-use Rattle.kob_rights.specs.declared.check.Check.{Check}
+use Rattle.kob_rights.specs.Check.{Check}
 use Rattle.kob_rights.specs.declared.event.Event.{Event}
 use Rattle.kob_rights.specs.declared.on_partitions.DeleteRecords.{DeleteRecords as DeleteAsked}
 use Rattle.kob_rights.specs.declared.on_partitions.Produce.{Produce as ProduceAsked}

@@ -5,7 +5,7 @@ use Rattle.kob_names.specs.declared.verdict.Verdict.{Verdict}
 use Rattle.kob_authorizer.specs.Contents.{Contents}
 use Rattle.kob_authorizer.specs.Meaning.{IsTrueVerdict}
 use Rattle.kob_rights.specs.Table.{rights, denial_code}
-use Rattle.kob_rights.specs.declared.check.Check.{Check}
+use Rattle.kob_rights.specs.Check.{Check}
 use Rattle.kob_rights.specs.declared.code.Code.{Code}
 use Rattle.kob_rights.specs.declared.event.Event.{Event}
 use Rattle.kob_rights.specs.declared.reason.Reason.{Reason}

@@ -1,6 +1,7 @@
 pub mod Limits
 pub mod State
 pub mod Denial
+pub mod Verdicts
 pub mod Reasons
 pub mod BatchSize
 pub mod Named
@@ -20,6 +21,7 @@ pub mod InitProducerId
 pub mod Effect
 pub mod Step
 pub mod Change
+pub mod Placed
 pub mod InForce
 pub mod Justice
 pub mod Listings

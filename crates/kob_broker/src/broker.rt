@@ -116,6 +116,43 @@ impl Broker {
         }
     }
 
+    /// The first step for an event that is given away: the same as [`prepare`](Broker::prepare), but
+    /// a batch is moved and not copied.
+    pub fn prepare_owned(&mut self, alloc: Global, event: Event) -> Result<Prepared, AllocError>
+        ensures state { state_of self.new ≡ state_of self.old }
+        ensures ok { IfOk result (Makes (step retained_meaning (state_of self.new) event) self.new) }
+    {
+        if let Some(denial) = denial_of(alloc, &self.authorizer, &event)? {
+            return Ok(Prepared::new(denial, Change::Unchanged));
+        }
+        self.prepare_effect_owned(alloc, event)
+    }
+
+    /// Decides on the request of an event that is given away, whose rights are granted.
+    #[tactic(auto, using(crate::proofs::Decisions::made_for_ok))]
+    fn prepare_effect_owned(&mut self, alloc: Global, event: Event) -> Result<Prepared, AllocError>
+        ensures state { state_of self.new ≡ state_of self.old }
+        ensures ok { IfOk result
+            (Makes (effect retained_meaning (state_of self.new) event event.request) self.new) }
+    {
+        let Event {
+            principal,
+            host,
+            request,
+        } = event;
+        match request {
+            Request::Produce(asked) => self.prepare_produce_owned(asked),
+            request => {
+                let event = Event {
+                    principal,
+                    host,
+                    request,
+                };
+                self.prepare_effect(alloc, &event)
+            }
+        }
+    }
+
     /// The second step, where nothing has changed since the first: the change is made, and the
     /// reply given. No memory is taken.
     pub fn commit(&mut self, prepared: Prepared) -> Reply
@@ -158,6 +195,19 @@ impl Broker {
         ensures kept { OnErr result (state_of self.new ≡ state_of self.old) }
     {
         let prepared = self.prepare(alloc, event)?;
+        Ok(self.commit(prepared))
+    }
+
+    /// Serves one event that is given away: the same as [`serve`](Broker::serve), but the batch of a
+    /// PRODUCE is moved into the log and not copied.
+    pub fn serve_owned(&mut self, alloc: Global, event: Event) -> Result<Reply, AllocError>
+        ensures reply { IfOk result (λ reply. reply
+            ≡ (step retained_meaning (state_of self.old) event).reply) }
+        ensures state { OnOk result (state_of self.new
+            ≡ (step retained_meaning (state_of self.old) event).state) }
+        ensures kept { OnErr result (state_of self.new ≡ state_of self.old) }
+    {
+        let prepared = self.prepare_owned(alloc, event)?;
         Ok(self.commit(prepared))
     }
 

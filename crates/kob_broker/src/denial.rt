@@ -1,64 +1,78 @@
 //! Which events are denied.
 
 ghost use Rattle.std.specs.Prelude.{◌≡◌, map, IfOk, IfSome, is_none};
-ghost use Rattle.std.specs.List.{list_any};
-ghost use Rattle.kob_names.specs.Granted.{is_granted};
-ghost use Rattle.kob_broker.specs.Denial.{verdict, is_met, denial_of};
+ghost use Rattle.std.specs.Option.{option_map};
+ghost use Rattle.kob_broker.specs.Denial.{denial_of, is_met, verdict};
+ghost use Rattle.kob_broker.specs.Verdicts.{verdicts_view};
+ghost use Rattle.kob_rights.specs.Rights.{check_view, clause_view};
 
+use crate::verdicts::Verdicts;
 use kob_authorizer::Authorizer;
-use kob_names::{Items, Verdict};
-use kob_rights::{Check, Event, Reply};
+use kob_names::Verdict;
+use kob_rights::{Check, Clause, Code, Event, Reply, Rights};
 use std::alloc::{AllocError, Global};
 
-/// The verdicts of a clause's alternatives, in order.
-fn verdicts_of(
-    alloc: Global,
-    authorizer: &Authorizer,
-    event: &Event,
-    clause: &[Check],
-) -> Result<Vec<Verdict>, AllocError>
-    ensures { IfOk result (λ verdicts. verdicts.items
-        ≡ map (verdict authorizer.now.contents event.now) clause.now) }
+fn verdict(authorizer: &Authorizer, event: &Event, check: &Check<'_>) -> Verdict
+    ensures { result ≡ verdict authorizer.now.contents event.now (check_view check.now) }
 {
-    let mut verdicts = Vec::new(alloc);
-    for check in clause {
-        verdicts.push(authorizer.authorize(
-            &event.principal,
-            &event.host,
-            check.operation,
-            check.resource,
-            check.name.as_str(),
-        ))?;
-    }
-    Ok(verdicts)
+    authorizer.authorize(
+        &event.principal,
+        &event.host,
+        check.operation,
+        check.resource,
+        check.name,
+    )
 }
 
-fn is_any_granted(verdicts: &[Verdict]) -> bool
-    ensures { result ≡ list_any is_granted verdicts.now }
+fn verdicts_of(authorizer: &Authorizer, event: &Event, clause: &Clause<'_>) -> Verdicts
+    ensures { verdicts_view result
+        ≡ map (verdict authorizer.now.contents event.now) (clause_view clause.now) }
 {
-    verdicts.iter().any(|verdict| verdict.is_granted())
+    match clause {
+        Clause::Only(check) => Verdicts::Only(verdict(authorizer, event, check)),
+        Clause::Either(first, second) => Verdicts::Either(
+            verdict(authorizer, event, first),
+            verdict(authorizer, event, second),
+        ),
+    }
 }
 
 /// The verdicts of a clause of which no alternative is granted.
-fn blamed(
-    alloc: Global,
-    authorizer: &Authorizer,
-    event: &Event,
-    clause: &[Check],
-) -> Result<Option<Vec<Verdict>>, AllocError>
-    ensures met { IfOk result
-        (λ blamed. is_met authorizer.now.contents event.now clause.now ≡ is_none blamed) }
-    ensures verdicts { IfOk result (λ blamed. IfSome blamed (λ verdicts.
-        verdicts.items ≡ map (verdict authorizer.now.contents event.now) clause.now)) }
+fn blamed(authorizer: &Authorizer, event: &Event, clause: &Clause<'_>) -> Option<Verdicts>
+    ensures met { is_met authorizer.now.contents event.now (clause_view clause.now)
+        ≡ is_none result }
+    ensures verdicts { IfSome result (λ verdicts. verdicts_view verdicts
+        ≡ map (verdict authorizer.now.contents event.now) (clause_view clause.now)) }
 {
-    let verdicts = verdicts_of(alloc, authorizer, event, clause)?;
-    if is_any_granted(&verdicts) {
-        return Ok(None);
+    let verdicts = verdicts_of(authorizer, event, clause);
+    if verdicts.is_any_granted() {
+        return None;
     }
-    Ok(Some(verdicts))
+    Some(verdicts)
 }
 
-/// The denial of the event, where it is denied.
+/// The code and the verdicts of the first clause of which no alternative is granted.
+fn first_blamed(authorizer: &Authorizer, event: &Event) -> Option<(Code, Verdicts)>
+    ensures { option_map (λ blamed. Reply.Denied blamed.0 (verdicts_view blamed.1)) result
+        ≡ denial_of authorizer.now.contents event.now }
+{
+    match event.request.rights() {
+        Rights::Free => None,
+        Rights::One(clause) => {
+            let verdicts = blamed(authorizer, event, &clause)?;
+            Some((event.request.denial_code(0), verdicts))
+        }
+        Rights::Both(first, second) => {
+            if let Some(verdicts) = blamed(authorizer, event, &first) {
+                return Some((event.request.denial_code(0), verdicts));
+            }
+            let verdicts = blamed(authorizer, event, &second)?;
+            Some((event.request.denial_code(1), verdicts))
+        }
+    }
+}
+
+/// The denial of the event, where it is denied; memory is taken for a denial alone.
 pub(crate) fn denial_of(
     alloc: Global,
     authorizer: &Authorizer,
@@ -66,15 +80,9 @@ pub(crate) fn denial_of(
 ) -> Result<Option<Reply>, AllocError>
     ensures { IfOk result (λ denial. denial ≡ denial_of authorizer.now.contents event.now) }
 {
-    let rights = event.request.rights(alloc)?;
-    for (place, clause) in rights.as_slice().iter().enumerate() {
-        let blamed = blamed(alloc, authorizer, event, clause.as_slice())?;
-        if let Some(verdicts) = blamed {
-            return Ok(Some(Reply::Denied {
-                code: event.request.denial_code(place),
-                verdicts: Items::from_vec(verdicts),
-            }));
-        }
-    }
-    Ok(None)
+    let Some((code, verdicts)) = first_blamed(authorizer, event) else {
+        return Ok(None);
+    };
+    let verdicts = verdicts.listed(alloc)?;
+    Ok(Some(Reply::Denied { code, verdicts }))
 }

@@ -9,7 +9,7 @@ ghost use Rattle.kob_authorizer.specs.Contents.{Contents};
 ghost use Rattle.kob_authorizer.specs.Decide.{decide_by_bindings};
 ghost use Rattle.kob_names.specs.declared.settings.Settings.{Settings};
 ghost use Rattle.kob_rights.specs.Offsets.{OffsetsWithin};
-ghost use Rattle.kob_rights.specs.declared.check.Check.{Check};
+ghost use Rattle.kob_rights.specs.Check.{Check};
 ghost use Rattle.kob_rights.specs.declared.event.Event.{Event};
 ghost use Rattle.kob_partition.specs.Batches.{Plain};
 ghost use Rattle.kob_partition.specs.Limits.{offset_limit};

@@ -21,9 +21,11 @@ mod metadata;
 mod offset_commit;
 mod offset_fetch;
 mod open_fault;
+mod placed;
 mod prepared;
 mod produce;
 mod stopped;
+mod verdicts;
 
 pub use broker::Broker;
 pub use kob_names::Settings;

@@ -2,6 +2,7 @@
 
 ghost use Rattle.std.specs.Prelude.{◌≡◌, ◌<◌, IfOk, length};
 ghost use Rattle.kob_broker.specs.Change.{MakesFor, state_of};
+ghost use Rattle.kob_broker.specs.Placed.{prepared_for};
 ghost use Rattle.kob_broker.specs.Produce.{batch_reasons, is_bad_sequence, is_unknown_producer};
 ghost use Rattle.kob_broker.specs.Reasons.{first_reason};
 ghost use Rattle.kob_rights.specs.declared.request.Request.TheVariants as requests;
@@ -9,6 +10,7 @@ ghost use Rattle.kob_rights.specs.declared.request.Request.TheVariants as reques
 use crate::batch_size::is_within;
 use crate::broker::Broker;
 use crate::limits::{BATCH_BYTE_LIMIT, EPOCH_LIMIT, RECORD_LIMIT, SEQUENCE_LIMIT};
+use crate::placed::Placed;
 use crate::prepared::{Change, Prepared};
 use kob_names::{Batch, Idem, PlainValue};
 use kob_partition::{AppendFault, Placement};
@@ -24,28 +26,52 @@ impl Broker {
         ensures state { state_of self.new ≡ state_of self.old }
         ensures ok { IfOk result (MakesFor (requests.Produce produce.now) self.new) }
     {
+        match self.place(produce)? {
+            Placed::Nowhere(prepared) => Ok(prepared),
+            placed => Ok(placed.with_batch(produce.batch.copy(alloc)?)),
+        }
+    }
+
+    /// The same of a request that is given away: its batch is moved.
+    pub(crate) fn prepare_produce_owned(&mut self, produce: Produce) -> Result<Prepared, AllocError>
+        ensures state { state_of self.new ≡ state_of self.old }
+        ensures ok { IfOk result (MakesFor (requests.Produce produce) self.new) }
+    {
+        Ok(self.place(&produce)?.with_batch(produce.batch))
+    }
+
+    /// Where the batch goes, with room for it there; it is not copied.
+    fn place(&mut self, produce: &Produce) -> Result<Placed, AllocError>
+        ensures state { state_of self.new ≡ state_of self.old }
+        ensures ok { IfOk result (λ placed. MakesFor (requests.Produce produce.now) self.new
+            (prepared_for produce.now.batch placed)) }
+    {
         let Some(place) = self.catalog.place_of(&produce.topic) else {
-            return Ok(Prepared::refused(Reason::UnknownTopic));
+            return Ok(Placed::Nowhere(Prepared::refused(Reason::UnknownTopic)));
         };
         let partition = produce.partition as usize;
         let Some(_) = self.catalog.partition_at(place, partition) else {
-            return Ok(Prepared::refused(Reason::UnknownPartition));
+            return Ok(Placed::Nowhere(Prepared::refused(Reason::UnknownPartition)));
         };
         if let Some(reason) = against_batch(&produce.batch, self.next_producer) {
-            return Ok(Prepared::refused(reason));
+            return Ok(Placed::Nowhere(Prepared::refused(reason)));
         }
-        let batch = produce.batch.copy(alloc)?;
-        match self.catalog.prepare_append(place, partition, &batch) {
-            Ok(Placement::New(offset)) => Ok(Prepared::done(
-                Body::Offset(offset),
-                Change::Append(place, partition, batch),
-            )),
+        match self
+            .catalog
+            .prepare_append(place, partition, &produce.batch)
+        {
+            Ok(Placement::New(offset)) => Ok(Placed::Last(place, partition, offset)),
             Ok(Placement::Repeated(offset)) => {
-                Ok(Prepared::done(Body::Offset(offset), Change::Unchanged))
+                let body = Body::Offset(offset);
+                Ok(Placed::Nowhere(Prepared::done(body, Change::Unchanged)))
             }
-            Err(AppendFault::OldEpoch) => Ok(Prepared::refused(Reason::OldEpoch)),
-            Err(AppendFault::OutOfOrder) => Ok(Prepared::refused(Reason::OutOfOrder)),
-            Err(AppendFault::OffsetsSpent) => Ok(Prepared::refused(Reason::OffsetsSpent)),
+            Err(AppendFault::OldEpoch) => Ok(Placed::Nowhere(Prepared::refused(Reason::OldEpoch))),
+            Err(AppendFault::OutOfOrder) => Ok(Placed::Nowhere(Prepared::refused(
+                Reason::OutOfOrder,
+            ))),
+            Err(AppendFault::OffsetsSpent) => Ok(Placed::Nowhere(Prepared::refused(
+                Reason::OffsetsSpent,
+            ))),
             Err(AppendFault::Memory) => Err(AllocError),
         }
     }

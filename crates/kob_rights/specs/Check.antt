@@ -1,8 +1,13 @@
 -- One alternative of a clause: an operation on a resource.
 use Rattle.std.specs.Prelude.{List, ℕ, codes}
 use Rattle.kob_names.specs.declared.kinds.Operation.{Operation}
+use Rattle.kob_names.specs.declared.kinds.ResourceKind.{ResourceKind}
 use Rattle.kob_names.specs.declared.kinds.ResourceKind.TheVariants.{Topic, Group, Cluster}
-use Rattle.kob_rights.specs.declared.check.Check.{Check}
+
+pub record Check : Type 0 where
+  pub operation : Operation
+  pub resource : ResourceKind
+  pub name : List ℕ
 
 -- the one name of the cluster
 abbrev pub cluster_name : List ℕ

@@ -1,4 +1,5 @@
 pub mod Check
+pub mod Rights
 pub mod Code
 pub mod Reason
 pub mod Table

@@ -2,8 +2,7 @@
 use Rattle.std.specs.Prelude.{ℕ, zero, suc, List, [], ◌∷◌, Option, Some, None}
 use Rattle.kob_names.specs.declared.batch.Idem.{Idem}
 use Rattle.kob_names.specs.declared.kinds.Operation.TheVariants.{Read, Write, Create, Delete, Alter, Describe, IdempotentWrite}
-use Rattle.kob_rights.specs.Check.{on_topic, on_group, on_cluster}
-use Rattle.kob_rights.specs.declared.check.Check.{Check}
+use Rattle.kob_rights.specs.Check.{Check, on_topic, on_group, on_cluster}
 use Rattle.kob_rights.specs.declared.code.Code.{Code}
 use Rattle.kob_rights.specs.declared.code.Code.TheVariants.{TopicAuthorizationFailed, GroupAuthorizationFailed, ClusterAuthorizationFailed}
 use Rattle.kob_rights.specs.declared.request.Request.{Request}

@@ -1,157 +1,104 @@
-//! The rights of a request: clauses of alternatives.
+//! The rights of a request: clauses of alternatives, which borrow the request's names.
 
-ghost use Rattle.std.specs.Prelude.{◌≡◌, List, [], ◌∷◌, ◌++◌, IfOk};
+ghost use Rattle.std.specs.Prelude.{◌≡◌, [], ◌∷◌};
 ghost use Rattle.kob_rights.specs.Check.{on_topic, on_group, on_cluster};
+ghost use Rattle.kob_rights.specs.Rights.{check_view, rights_view};
 
-use kob_names::{Items, Operation, PlainValue, ResourceKind, Text};
-use std::alloc::{AllocError, Global};
+use kob_names::{Operation, ResourceKind, Text};
 
 /// One alternative of a clause: an operation on a resource, by the name as it was sent.
-#[derive(Debug, Drop)]
-pub struct Check {
+#[derive(Clone, Copy)]
+pub struct Check<'a> {
     pub operation: Operation,
     pub resource: ResourceKind,
-    pub name: Text,
+    pub name: &'a str,
 }
 
 /// Alternatives, tried in order; one of them has to be granted.
-pub type Clause = Items<Check>;
+#[derive(Clone, Copy)]
+pub enum Clause<'a> {
+    Only(Check<'a>),
+    Either(Check<'a>, Check<'a>),
+}
 
 /// Clauses, tried in order; each of them has to be granted.
-pub type Rights = Items<Clause>;
+#[derive(Clone, Copy)]
+pub enum Rights<'a> {
+    /// Nothing has to be granted.
+    Free,
+    One(Clause<'a>),
+    Both(Clause<'a>, Clause<'a>),
+}
 
-impl Check {
+impl<'a> Check<'a> {
     /// The operation on the topic of that name.
-    pub(crate) fn on_topic(
-        alloc: Global,
-        operation: Operation,
-        name: &Text,
-    ) -> Result<Check, AllocError>
-        ensures { IfOk result (λ check. check ≡ on_topic operation name.now) }
+    pub(crate) fn on_topic(operation: Operation, name: &'a Text) -> Check<'a>
+        ensures { check_view result ≡ on_topic operation name.now }
     {
-        let name = name.copy(alloc)?;
-        Ok(Check {
+        Check {
             operation,
             resource: ResourceKind::Topic,
-            name,
-        })
+            name: name.as_str(),
+        }
     }
 
     /// The operation on the group of that name.
-    pub(crate) fn on_group(
-        alloc: Global,
-        operation: Operation,
-        name: &Text,
-    ) -> Result<Check, AllocError>
-        ensures { IfOk result (λ check. check ≡ on_group operation name.now) }
+    pub(crate) fn on_group(operation: Operation, name: &'a Text) -> Check<'a>
+        ensures { check_view result ≡ on_group operation name.now }
     {
-        let name = name.copy(alloc)?;
-        Ok(Check {
+        Check {
             operation,
             resource: ResourceKind::Group,
-            name,
-        })
+            name: name.as_str(),
+        }
     }
 
     /// The operation on the cluster.
-    pub(crate) fn on_cluster(alloc: Global, operation: Operation) -> Result<Check, AllocError>
-        ensures { IfOk result (λ check. check ≡ on_cluster operation) }
+    pub(crate) fn on_cluster(operation: Operation) -> Check<'a>
+        ensures { check_view result ≡ on_cluster operation }
     {
-        let name = Text::copied(alloc, "kafka-cluster")?;
-        Ok(Check {
+        Check {
             operation,
             resource: ResourceKind::Cluster,
-            name,
-        })
+            name: "kafka-cluster",
+        }
     }
 }
 
-/// The clause of one alternative.
-pub(crate) fn only(alloc: Global, check: Check) -> Result<Clause, AllocError>
-    ensures { IfOk result (λ clause. clause ≡ check ∷ []) }
-{
-    let mut alternatives = Vec::new(alloc);
-    alternatives.push(check)?;
-    Ok(Items::from_vec(alternatives))
-}
+impl<'a> Rights<'a> {
+    /// One right, on the topic of that name.
+    pub(crate) fn on_topic(operation: Operation, name: &'a Text) -> Rights<'a>
+        ensures { rights_view result ≡ (on_topic operation name.now ∷ []) ∷ [] }
+    {
+        Rights::One(Clause::Only(Check::on_topic(operation, name)))
+    }
 
-/// The clause of two alternatives.
-pub(crate) fn either(alloc: Global, first: Check, second: Check) -> Result<Clause, AllocError>
-    ensures { IfOk result (λ clause. clause ≡ first ∷ second ∷ []) }
-{
-    let mut alternatives = Vec::new(alloc);
-    alternatives.push(first)?;
-    alternatives.push(second)?;
-    Ok(Items::from_vec(alternatives))
-}
+    /// One right, on the group of that name.
+    pub(crate) fn on_group(operation: Operation, name: &'a Text) -> Rights<'a>
+        ensures { rights_view result ≡ (on_group operation name.now ∷ []) ∷ [] }
+    {
+        Rights::One(Clause::Only(Check::on_group(operation, name)))
+    }
 
-/// The rights of one clause.
-pub(crate) fn one_clause(alloc: Global, clause: Clause) -> Result<Rights, AllocError>
-    ensures { IfOk result (λ rights. rights ≡ clause ∷ []) }
-{
-    let mut clauses = Vec::new(alloc);
-    clauses.push(clause)?;
-    Ok(Items::from_vec(clauses))
-}
+    /// One right, on the cluster.
+    pub(crate) fn on_cluster(operation: Operation) -> Rights<'a>
+        ensures { rights_view result ≡ (on_cluster operation ∷ []) ∷ [] }
+    {
+        Rights::One(Clause::Only(Check::on_cluster(operation)))
+    }
 
-/// The rights of two clauses.
-pub(crate) fn two_clauses(
-    alloc: Global,
-    first: Clause,
-    second: Clause,
-) -> Result<Rights, AllocError>
-    ensures { IfOk result (λ rights. rights ≡ first ∷ second ∷ []) }
-{
-    let mut clauses = Vec::new(alloc);
-    clauses.push(first)?;
-    clauses.push(second)?;
-    Ok(Items::from_vec(clauses))
-}
-
-/// The rights of one clause of one alternative on a group.
-pub(crate) fn right_on_group(
-    alloc: Global,
-    operation: Operation,
-    name: &Text,
-) -> Result<Rights, AllocError>
-    ensures { IfOk result (λ rights. rights ≡ (on_group operation name.now ∷ []) ∷ []) }
-{
-    let check = Check::on_group(alloc, operation, name)?;
-    one_clause(alloc, only(alloc, check)?)
-}
-
-/// The rights of a clause on a group and a clause on a topic, for the same operation.
-pub(crate) fn right_on_group_and_topic(
-    alloc: Global,
-    operation: Operation,
-    group: &Text,
-    topic: &Text,
-) -> Result<Rights, AllocError>
-    ensures { IfOk result
-        (λ rights. rights ≡ (on_group operation group.now ∷ [])
-        ∷ (on_topic operation topic.now ∷ []) ∷ []) }
-{
-    let on_group = Check::on_group(alloc, operation, group)?;
-    let on_topic = Check::on_topic(alloc, operation, topic)?;
-    two_clauses(alloc, only(alloc, on_group)?, only(alloc, on_topic)?)
-}
-
-/// The rights of one clause of one alternative on a topic.
-pub(crate) fn right_on_topic(
-    alloc: Global,
-    operation: Operation,
-    name: &Text,
-) -> Result<Rights, AllocError>
-    ensures { IfOk result (λ rights. rights ≡ (on_topic operation name.now ∷ []) ∷ []) }
-{
-    let check = Check::on_topic(alloc, operation, name)?;
-    one_clause(alloc, only(alloc, check)?)
-}
-
-/// The rights of one clause of one alternative on the cluster.
-pub(crate) fn right_on_cluster(alloc: Global, operation: Operation) -> Result<Rights, AllocError>
-    ensures { IfOk result (λ rights. rights ≡ (on_cluster operation ∷ []) ∷ []) }
-{
-    let check = Check::on_cluster(alloc, operation)?;
-    one_clause(alloc, only(alloc, check)?)
+    /// Two rights for the same operation, on a group and then on a topic.
+    pub(crate) fn on_group_and_topic(
+        operation: Operation,
+        group: &'a Text,
+        topic: &'a Text,
+    ) -> Rights<'a>
+        ensures { rights_view result ≡ (on_group operation group.now ∷ [])
+            ∷ (on_topic operation topic.now ∷ []) ∷ [] }
+    {
+        Rights::Both(
+            Clause::Only(Check::on_group(operation, group)),
+            Clause::Only(Check::on_topic(operation, topic)),
+        )
+    }
 }

@@ -11,6 +11,8 @@ mod consuming;
 #[cfg(test)]
 mod deliveries;
 #[cfg(test)]
+mod given;
+#[cfg(test)]
 mod lent_line;
 #[cfg(test)]
 mod making;
