@@ -16,6 +16,10 @@ mod partition;
 #[cfg(test)]
 mod producers;
 #[cfg(test)]
+mod refused;
+#[cfg(test)]
 mod rules;
+#[cfg(test)]
+mod spared;
 #[cfg(test)]
 mod tree;
