@@ -1,7 +1,8 @@
 /* Loaded into a built program (LD_PRELOAD), this refuses growths of it that `.ci/refuse` names, and counts.
  *
  * A growth is a call of malloc or realloc, or the start of a thread. Each setting is an environment variable:
- *   REFUSING_COUNTS  a file of three numbers of 8 bytes, which are kept: growths, those refused, those after the mark
+ *   REFUSING_COUNTS  a file of four numbers of 8 bytes, which are kept: growths, those refused, those after the mark, and
+ *                    whether there was a mark
  *   REFUSING_FIRST   the first growth that is refused, from 1; 0: none
  *   REFUSING_TIMES   how many are refused from there on
  *   REFUSING_BYTES   those of at least so many bytes are refused as well; 0: none
@@ -18,12 +19,11 @@ extern number strtoul(const char *text, char **end, int base);
 extern int open(const char *path, int flags, ...);
 extern void *mmap(void *at, number length, int protection, int flags, int file, long offset);
 
-enum { READ_AND_WRITE = 2, READABLE_AND_WRITABLE = 3, SHARED = 1, NO_THREAD = 11, GROWTHS = 0, REFUSED = 1, MARKED = 2 };
+enum { READ_AND_WRITE = 2, READABLE_AND_WRITABLE = 3, SHARED = 1, NO_THREAD = 11, GROWTHS = 0, REFUSED = 1, AFTER_MARK = 2, MARKED = 3 };
 static const number MARK = 7654321;
 
 static number *counts;
 static number first, times, least;
-static _Atomic int is_marked;
 
 static number setting(const char *name) {
     const char *text = getenv(name);
@@ -33,7 +33,7 @@ static number setting(const char *name) {
 __attribute__((constructor)) static void begin(void) {
     const char *path = getenv("REFUSING_COUNTS");
     int file = path ? open(path, READ_AND_WRITE) : -1;
-    void *kept = file < 0 ? 0 : mmap(0, 24, READABLE_AND_WRITABLE, SHARED, file, 0);
+    void *kept = file < 0 ? 0 : mmap(0, 32, READABLE_AND_WRITABLE, SHARED, file, 0);
     first = setting("REFUSING_FIRST");
     times = setting("REFUSING_TIMES");
     least = setting("REFUSING_BYTES");
@@ -44,12 +44,13 @@ static int is_refused(number bytes) {
     if (!counts)
         return 0;
     number growth = 1 + __atomic_fetch_add(&counts[GROWTHS], 1, __ATOMIC_SEQ_CST);
-    if (is_marked)
-        __atomic_fetch_add(&counts[MARKED], 1, __ATOMIC_SEQ_CST);
+    int is_after = __atomic_load_n(&counts[MARKED], __ATOMIC_SEQ_CST) != 0;
+    if (is_after)
+        __atomic_fetch_add(&counts[AFTER_MARK], 1, __ATOMIC_SEQ_CST);
     if (bytes == MARK)
-        is_marked = 1;
+        __atomic_store_n(&counts[MARKED], 1, __ATOMIC_SEQ_CST);
     int in_turn = first && growth >= first && growth - first < times;
-    if (!in_turn && !is_marked && !(least && bytes >= least))
+    if (!in_turn && !is_after && !(least && bytes >= least))
         return 0;
     __atomic_fetch_add(&counts[REFUSED], 1, __ATOMIC_SEQ_CST);
     return 1;
