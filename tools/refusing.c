@@ -1,12 +1,12 @@
 /* Loaded into a built program (LD_PRELOAD), this refuses growths of it that `.ci/refuse` names, and counts.
  *
  * A growth is a call of malloc or realloc, or the start of a thread. Each setting is an environment variable:
- *   REFUSING_COUNTS  a file of four numbers of 8 bytes, which are kept: growths, those refused, those after the mark, and
- *                    whether there was a mark
+ *   REFUSING_COUNTS  a file of four numbers of 8 bytes, which are kept: growths, those refused, those after the cue, and
+ *                    whether there was a cue
  *   REFUSING_FIRST   the first growth that is refused, from 1; 0: none
  *   REFUSING_TIMES   how many are refused from there on
  *   REFUSING_BYTES   those of at least so many bytes are refused as well; 0: none
- * A growth of just MARK bytes is the mark, by which a test asks that all that come after it are refused.
+ * A growth of just CUE bytes is the cue, by which a test asks that all that come after it are refused.
  * No header is read, so the compiler of the kit is enough.
  */
 typedef unsigned long number;
@@ -19,8 +19,8 @@ extern number strtoul(const char *text, char **end, int base);
 extern int open(const char *path, int flags, ...);
 extern void *mmap(void *at, number length, int protection, int flags, int file, long offset);
 
-enum { READ_AND_WRITE = 2, READABLE_AND_WRITABLE = 3, SHARED = 1, NO_THREAD = 11, GROWTHS = 0, REFUSED = 1, AFTER_MARK = 2, MARKED = 3 };
-static const number MARK = 7654321;
+enum { READ_AND_WRITE = 2, READABLE_AND_WRITABLE = 3, SHARED = 1, NO_THREAD = 11, GROWTHS = 0, REFUSED = 1, AFTER_CUE = 2, CUED = 3 };
+static const number CUE = 7654321;
 
 static number *counts;
 static number first, times, least;
@@ -44,11 +44,11 @@ static int is_refused(number bytes) {
     if (!counts)
         return 0;
     number growth = 1 + __atomic_fetch_add(&counts[GROWTHS], 1, __ATOMIC_SEQ_CST);
-    int is_after = __atomic_load_n(&counts[MARKED], __ATOMIC_SEQ_CST) != 0;
+    int is_after = __atomic_load_n(&counts[CUED], __ATOMIC_SEQ_CST) != 0;
     if (is_after)
-        __atomic_fetch_add(&counts[AFTER_MARK], 1, __ATOMIC_SEQ_CST);
-    if (bytes == MARK)
-        __atomic_store_n(&counts[MARKED], 1, __ATOMIC_SEQ_CST);
+        __atomic_fetch_add(&counts[AFTER_CUE], 1, __ATOMIC_SEQ_CST);
+    if (bytes == CUE)
+        __atomic_store_n(&counts[CUED], 1, __ATOMIC_SEQ_CST);
     int in_turn = first && growth >= first && growth - first < times;
     if (!in_turn && !is_after && !(least && bytes >= least))
         return 0;

@@ -13,11 +13,11 @@ use std::test::Fail;
 
 /// The size of the growth by which `.ci/refuse` knows that all that come after it are to be
 /// refused.
-const MARK: usize = 7_654_321;
+const CUE: usize = 7_654_321;
 
 /// No memory is taken from here on, and where `.ci/refuse` runs the test, none is given.
 fn spare(alloc: Global) -> bool {
-    Vec::<u8>::with_capacity(alloc, MARK).is_ok()
+    Vec::<u8>::with_capacity(alloc, CUE).is_ok()
 }
 
 /// Whether ten prepared bindings are put in force and decide.
