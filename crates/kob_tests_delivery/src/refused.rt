@@ -1,12 +1,9 @@
 //! A router that want of memory stops. `.ci/refuse` runs it with each growth refused in turn.
 
-ghost use Rattle.std.specs.Prelude.{option_map};
-ghost use Rattle.kob_router.specs.Tick.{IsFirst, hand_of};
-
 use crate::access::allow;
 use crate::lent_line::LentLine;
 use crate::making::{broker, creation, default_route, outbox};
-use crate::runs::{Step, Told, ids_of, take};
+use crate::runs::{STEPS, Step, Told, ids_of, run};
 use kob_broker::Broker;
 use kob_names::{Host, Principal};
 use kob_outbox::Outbox;
@@ -14,37 +11,29 @@ use kob_router::Router;
 use std::alloc::Global;
 use std::test::Fail;
 
-/// Ticks until nothing waits, at most so many times: whether it comes to that with moves and
-/// repeats alone, but for want of memory.
-fn comes_to_the_end(
-    alloc: Global,
-    outbox: &mut Outbox,
-    router: &mut Router,
-    line: &mut LentLine<'_>,
-    most: usize,
-) -> bool
-    requires { IsFirst (option_map hand_of router.old.hand) outbox.old }
-{
-    for _ in 0..most {
-        match take(alloc, outbox, router, line, Step::Tick) {
-            Told::Idle => return true,
-            Told::Moved(_) | Told::Repeat | Told::Memory => {}
-            _ => return false,
+/// Whether ticks came to the end, with moves and repeats alone, but for want of memory.
+fn come_to_the_end(told: &[Told; STEPS]) -> bool {
+    for told in told {
+        if !matches!(
+            told,
+            Told::Moved(_) | Told::Repeat | Told::Memory | Told::Idle
+        ) {
+            return false;
         }
     }
-    false
+    told[STEPS - 1] == Told::Idle
 }
 
-/// Whether all rows of an outbox were sent when a router comes to the end.
+/// Whether a router that ticks over an outbox comes to the end.
 fn sends_all(alloc: Global, outbox: &mut Outbox, broker: &mut Broker) -> Result<bool, Fail> {
     let principal = Principal::parse(alloc, "User:svc")?;
     let host = Host::parse(alloc, "h")?;
     let mut router = Router::new(alloc, default_route(alloc)?, 1);
     let mut line = LentLine::new(alloc, broker, principal, host, Vec::new(alloc));
-    let ended = comes_to_the_end(alloc, outbox, &mut router, &mut line, 16);
+    let told = run(alloc, outbox, &mut router, &mut line, &[Step::Tick; STEPS]);
     drop(line);
     drop(router);
-    Ok(ended)
+    Ok(come_to_the_end(&told))
 }
 
 /// The topic and the rights to it, each twice, so that one refused growth takes none of them.

@@ -94,7 +94,7 @@ pub(crate) fn end_of(
 }
 
 /// Takes the steps one after another.
-fn run(
+pub(crate) fn run(
     alloc: Global,
     outbox: &mut Outbox,
     router: &mut Router,
@@ -110,7 +110,7 @@ fn run(
     told
 }
 
-pub(crate) fn take(
+fn take(
     alloc: Global,
     outbox: &mut Outbox,
     router: &mut Router,
