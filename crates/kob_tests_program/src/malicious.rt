@@ -1,7 +1,8 @@
 //! Texts that were made to do harm, as the program meets them: each ends in a line that names its
 //! fault, and nothing runs.
 
-use crate::runs::plays;
+use crate::resumed::FIRST_SCRIPT;
+use crate::runs::{plays, run};
 use kob_text::Ended;
 use std::test::Fail;
 
@@ -41,6 +42,19 @@ const TEXTS: [(&str, &str); 8] = [
 fn malicious_texts_name_their_fault(rt: HostRuntime) -> Result<(), Fail> {
     for (text, output) in TEXTS {
         assert!(rt; plays(rt.alloc(), text, output, Ended::Fault)?, "{output}");
+    }
+    Ok(())
+}
+
+#[test]
+fn each_prefix_of_the_first_script_ends(rt: HostRuntime) -> Result<(), Fail> {
+    let script = FIRST_SCRIPT.as_bytes();
+    for end in 0..=script.len() {
+        let (ended, _) = run(rt.alloc(), &script[..end])?;
+        assert!(rt;
+            ended == Ended::Clean || ended == Ended::Fault,
+            "the first {end} bytes"
+        );
     }
     Ok(())
 }

@@ -1,12 +1,29 @@
-//! Scripts on a broker that goes on where want of memory stopped it, and scripts as the program runs
-//! them. `.ci/refuse` runs them with each growth refused in turn.
+//! Scripts on a broker that goes on where want of memory stopped it, and as the program runs them.
+//! `.ci/refuse` runs them with each growth refused in turn.
 
-use crate::guide::{DENY_BEATS_ALLOW_OUT, DENY_BEATS_ALLOW_TXT};
 use kob_broker::{Broker, Stopped};
 use kob_rights::{Event, Reply};
 use kob_script::{Script, print_replies, read_script};
 use kob_text::{Ended, RunFault, run_text};
 use std::alloc::Global;
+
+// The stored run of the program.
+pub(crate) const FIRST_SCRIPT: &str = "super User:root
+User:root 10.0.0.1 create-topic outbox.event.orders 1
+User:root 10.0.0.1 create-acl allow User:svc * Write Topic literal outbox.event.orders
+User:svc 10.0.0.2 produce outbox.event.orders 0 - 42=paid
+User:bob 10.0.0.3 produce outbox.event.orders 0 - 42=void
+User:root 10.0.0.1 fetch outbox.event.orders 0 0 10
+User:svc 10.0.0.2 fetch outbox.event.orders 0 0 10
+";
+
+pub(crate) const FIRST_OUTPUT: &str = "1 ok created
+2 ok serials 1
+3 ok offset 0
+4 denied 29 TOPIC_AUTHORIZATION_FAILED no-allow
+5 ok records 0:42=paid
+6 denied 29 TOPIC_AUTHORIZATION_FAILED no-allow
+";
 
 /// The replies to all events: where memory stops the run, a second one goes on from there.
 fn replies(alloc: Global, broker: &mut Broker, events: &[Event]) -> Option<Vec<Reply>> {
@@ -44,7 +61,7 @@ fn goes_on(alloc: Global, script: &str, output: &str) -> bool {
 
 #[test]
 fn first_script_goes_on(rt: HostRuntime) {
-    assert!(rt; goes_on(rt.alloc(), DENY_BEATS_ALLOW_TXT, DENY_BEATS_ALLOW_OUT));
+    assert!(rt; goes_on(rt.alloc(), FIRST_SCRIPT, FIRST_OUTPUT));
 }
 
 // One creation of ten bindings, a batch of a new producer across the edge of a chunk, changes of
@@ -132,7 +149,10 @@ fn is_told(alloc: Global, script: &str, output: &str) -> Option<bool> {
 
 #[test]
 fn first_script_is_told(rt: HostRuntime) {
-    let (script, output) = (DENY_BEATS_ALLOW_TXT, DENY_BEATS_ALLOW_OUT);
-    let told = is_told(rt.alloc(), script, output).or_else(|| is_told(rt.alloc(), script, output));
+    let told = is_told(rt.alloc(), FIRST_SCRIPT, FIRST_OUTPUT).or_else(|| is_told(
+        rt.alloc(),
+        FIRST_SCRIPT,
+        FIRST_OUTPUT,
+    ));
     assert_eq!(rt; told, Some(true));
 }
