@@ -18,6 +18,10 @@ mod principals;
 #[cfg(test)]
 mod producers;
 #[cfg(test)]
+mod refused;
+#[cfg(test)]
 mod rules;
+#[cfg(test)]
+mod spared;
 #[cfg(test)]
 mod tree;

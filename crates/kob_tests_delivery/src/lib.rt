@@ -21,6 +21,8 @@ mod plays;
 #[cfg(test)]
 mod reader;
 #[cfg(test)]
+mod refused;
+#[cfg(test)]
 mod routes;
 #[cfg(test)]
 mod runs;

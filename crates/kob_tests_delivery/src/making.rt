@@ -89,7 +89,7 @@ fn root_alone(alloc: Global) -> Result<Settings, Fail> {
     })
 }
 
-fn creation(alloc: Global) -> Option<Event> {
+pub(crate) fn creation(alloc: Global) -> Option<Event> {
     let name = Text::copied(alloc, "outbox.event.orders").ok()?;
     let request = Request::CreateTopics(CreateTopics {
         name,

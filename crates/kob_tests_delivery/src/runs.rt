@@ -94,7 +94,7 @@ pub(crate) fn end_of(
 }
 
 /// Takes the steps one after another.
-fn run(
+pub(crate) fn run(
     alloc: Global,
     outbox: &mut Outbox,
     router: &mut Router,
@@ -160,7 +160,7 @@ fn repeated(calls: &[Call]) -> usize {
 }
 
 /// The event ids of the first four records of the topic, 0 where there is none.
-fn ids_of(alloc: Global, broker: &mut Broker) -> [u128; 4] {
+pub(crate) fn ids_of(alloc: Global, broker: &mut Broker) -> [u128; 4] {
     match fetched(alloc, broker) {
         Some(reply) => {
             let ids = ids_in(&reply);

@@ -16,12 +16,18 @@ mod guide;
 #[cfg(test)]
 mod limits;
 #[cfg(test)]
+mod malicious;
+#[cfg(test)]
 mod open;
 #[cfg(test)]
 mod played;
+#[cfg(test)]
+mod resumed;
 #[cfg(test)]
 mod rows;
 #[cfg(test)]
 mod runs;
 #[cfg(test)]
 mod script;
+#[cfg(test)]
+mod spared;

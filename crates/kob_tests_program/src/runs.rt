@@ -73,7 +73,7 @@ impl Write for Narrow {
     }
 }
 
-fn run(alloc: Global, script: &[u8]) -> Result<(Ended, Vec<u8>), RunFault> {
+pub(crate) fn run(alloc: Global, script: &[u8]) -> Result<(Ended, Vec<u8>), RunFault> {
     let mut written = Vec::new(alloc);
     let mut reader = script;
     let ended = run_text(alloc, &mut reader, &mut written)?;

@@ -32,7 +32,11 @@ fn metadata_script(alloc: Global, requests: usize) -> Result<Script, Fail> {
 }
 
 /// So many scripts of `User:root`, each of so many METADATA requests.
-fn scripts_of(alloc: Global, workers: usize, requests: usize) -> Result<Vec<Script>, Fail> {
+pub(crate) fn scripts_of(
+    alloc: Global,
+    workers: usize,
+    requests: usize,
+) -> Result<Vec<Script>, Fail> {
     let mut scripts = Vec::new(alloc);
     for _ in 0..workers {
         scripts.push(metadata_script(alloc, requests)?)?;
@@ -52,7 +56,7 @@ fn meet<R: Threads + Wait + Sync>(
 }
 
 /// Whether each of so many workers was told two replies, and nothing else happened.
-fn tells_two_each(end: &FleetEnd, workers: usize) -> bool
+pub(crate) fn tells_two_each(end: &FleetEnd, workers: usize) -> bool
     requires { workers ≤ 64 }
 {
     for told in end.transcripts.iter().skip(1) {

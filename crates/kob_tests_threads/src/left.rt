@@ -49,7 +49,7 @@ pub(crate) fn has_ids(rows: &[InboxRow], ids: &[u128]) -> bool {
 }
 
 /// Whether an inbox holds the first of these ids, in order, each once.
-fn begins(rows: &[InboxRow], ids: &[u128]) -> bool {
+pub(crate) fn begins(rows: &[InboxRow], ids: &[u128]) -> bool {
     if rows.len() > ids.len() {
         return false;
     }
@@ -154,7 +154,7 @@ fn waits(left: &OutboxEnd, id: u128) -> bool {
 }
 
 /// Whether each recorded event waits past the mark or is among those of the topic.
-fn none_is_lost(end: &PipelineEnd, topic: &[u128]) -> bool {
+pub(crate) fn none_is_lost(end: &PipelineEnd, topic: &[u128]) -> bool {
     let Some(left) = end.outboxes.get(0) else {
         return false;
     };

@@ -1,0 +1,130 @@
+//! Calls that take no memory. `.ci/refuse` runs them with every growth refused from `spare` on.
+
+use crate::authorizer::{named, opened};
+use crate::refused::{ALL, NEW, SERIALS, WITHOUT_TWO, asker, batch, stands, ten_bindings};
+use kob_authorizer::Authorizer;
+use kob_chunks::ChunkList;
+use kob_names::{Batch, Binding, FilterPattern, Host, Principal};
+use kob_partition::{PartitionLog, Placement};
+use kob_prefix_tree::{PatternKind, PrefixTree};
+use kob_producers::Judgement;
+use std::alloc::{AllocError, Global};
+use std::test::Fail;
+
+/// The size of the growth by which `.ci/refuse` knows that all that come after it are to be
+/// refused.
+const CUE: usize = 7_654_321;
+
+/// No memory is taken from here on, and where `.ci/refuse` runs the test, none is given.
+fn spare(alloc: Global) -> bool {
+    Vec::<u8>::with_capacity(alloc, CUE).is_ok()
+}
+
+/// Whether ten prepared bindings are put in force and decide.
+fn commits_creation(
+    alloc: Global,
+    authorizer: &mut Authorizer,
+    asker: &(Principal, Host),
+    bindings: &[Binding],
+) -> Result<bool, Fail> {
+    let prepared = authorizer.prepare_create(alloc, bindings)?;
+    spare(alloc);
+    let serials = authorizer.commit_create(prepared);
+    Ok(serials.as_slice() == SERIALS && stands(authorizer, asker, 9, ALL))
+}
+
+fn creates_ten(alloc: Global, authorizer: &mut Authorizer) -> Result<bool, Fail> {
+    let asker = asker(alloc).ok_or("memory")?;
+    let bindings = ten_bindings(alloc).ok_or("memory")?;
+    commits_creation(alloc, authorizer, &asker, &bindings)
+}
+
+#[test]
+fn bindings_are_committed(rt: HostRuntime) -> Result<(), Fail> {
+    let mut authorizer = opened(rt.alloc(), false)?;
+    assert!(rt; creates_ten(rt.alloc(), &mut authorizer)?);
+    Ok(())
+}
+
+/// Whether the two bindings that name `orders` are taken away.
+fn commits_deletion(alloc: Global, authorizer: &mut Authorizer) -> Result<bool, Fail> {
+    let asker = asker(alloc).ok_or("memory")?;
+    let bindings = ten_bindings(alloc).ok_or("memory")?;
+    authorizer.create(alloc, &bindings)?;
+    let filter = named(alloc, FilterPattern::Any, "orders")?;
+    let prepared = authorizer.prepare_delete(alloc, &filter)?;
+    spare(alloc);
+    let taken = authorizer.commit_delete(prepared);
+    Ok(taken.len() == 2 && stands(authorizer, &asker, 7, WITHOUT_TWO))
+}
+
+#[test]
+fn deletions_are_committed(rt: HostRuntime) -> Result<(), Fail> {
+    let mut authorizer = opened(rt.alloc(), false)?;
+    assert!(rt; commits_deletion(rt.alloc(), &mut authorizer)?);
+    Ok(())
+}
+
+/// Whether a prepared batch of a new producer is put into the log, and the start moved up to it.
+fn commits_batch(alloc: Global, log: &mut PartitionLog, batch: Batch) -> bool {
+    let Ok(Placement::New(offset)) = log.prepare_append(&batch) else {
+        return false;
+    };
+    spare(alloc);
+    log.commit_append(batch);
+    offset == 200
+        && log.judge(&NEW, 100) == Judgement::Repeat(200)
+        && log.advance(299).is_ok()
+        && log.start() == 299
+        && log.end() == 300
+}
+
+fn appends(alloc: Global, log: &mut PartitionLog) -> Result<bool, Fail> {
+    log.append(batch(alloc, None, 200)?)?;
+    let batch = batch(alloc, Some(NEW), 100)?;
+    Ok(commits_batch(alloc, log, batch))
+}
+
+#[test]
+fn a_batch_is_committed(rt: HostRuntime) -> Result<(), Fail> {
+    let mut log = PartitionLog::new(rt.alloc());
+    assert!(rt; appends(rt.alloc(), &mut log)?);
+    Ok(())
+}
+
+/// Whether a tree takes in what is prepared, is walked, and lets all go.
+fn changes_tree(alloc: Global, tree: &mut PrefixTree) -> Result<bool, AllocError> {
+    tree.add(alloc, b"ab", PatternKind::Prefixed, 1)?;
+    let prepared = tree.prepare_add(alloc, b"abc", PatternKind::Literal, 2)?;
+    spare(alloc);
+    tree.commit_add(prepared);
+    let found = tree.walk(b"abc").eq([1, 2]) && tree.literal(b"abc").eq([2]);
+    let gone = tree.remove(b"ab", PatternKind::Prefixed, 1)
+        && tree.remove_all(b"abc", PatternKind::Literal, &[2]);
+    Ok(found && gone && tree.levels(b"abc") == 1)
+}
+
+#[test]
+fn a_tree_is_changed(rt: HostRuntime) -> Result<(), Fail> {
+    let mut tree = PrefixTree::new();
+    assert!(rt; changes_tree(rt.alloc(), &mut tree)?);
+    Ok(())
+}
+
+/// Whether a list of 256 items takes one more and gives its first chunk back.
+fn changes_list(alloc: Global, list: &mut ChunkList<u64>) -> Result<bool, AllocError> {
+    list.reserve(257)?;
+    spare(alloc);
+    for item in 0..257 {
+        list.push_reserved(item);
+    }
+    list.drop_front_chunks(1);
+    Ok(list.get(0) == Some(&256) && list.len() == 1)
+}
+
+#[test]
+fn a_list_is_changed(rt: HostRuntime) -> Result<(), Fail> {
+    let mut list = ChunkList::new(rt.alloc());
+    assert!(rt; changes_list(rt.alloc(), &mut list)?);
+    Ok(())
+}

@@ -1,0 +1,83 @@
+//! Changes that are committed without memory. `.ci/refuse` runs them with every growth refused from
+//! `spare` on.
+
+use kob_broker::Broker;
+use kob_rights::{Event, Reply};
+use kob_script::{Script, read_script};
+use std::alloc::Global;
+
+/// The size of the growth by which `.ci/refuse` knows that all that come after it are to be
+/// refused.
+const CUE: usize = 7_654_321;
+
+/// No memory is taken from here on, and where `.ci/refuse` runs the test, none is given.
+fn spare(alloc: Global) -> bool {
+    Vec::<u8>::with_capacity(alloc, CUE).is_ok()
+}
+
+/// Whether the last of the events, once it is prepared, is done.
+fn does_last(alloc: Global, broker: &mut Broker, events: &[Event]) -> Option<bool> {
+    let (last, before) = events.split_last()?;
+    broker.run(alloc, before).ok()?;
+    let prepared = broker.prepare(alloc, last).ok()?;
+    spare(alloc);
+    let reply = broker.commit(prepared);
+    Some(matches!(&reply, Reply::Done(_)))
+}
+
+fn is_done(alloc: Global, lines: &str) -> Option<bool> {
+    let script = format!(in alloc; "super User:r\nUser:r h create-topic t 1\n{lines}").ok()?;
+    let Script { settings, events } = read_script(alloc, script.as_bytes()).ok()?;
+    let mut broker = Broker::open(alloc, settings).ok()?;
+    let done = does_last(alloc, &mut broker, events.as_slice());
+    drop(broker);
+    done
+}
+
+#[test]
+fn a_topic_is_created(rt: HostRuntime) {
+    assert_eq!(rt; is_done(rt.alloc(), ""), Some(true));
+}
+
+#[test]
+fn a_topic_is_deleted(rt: HostRuntime) {
+    let lines = "User:r h commit g t 0 1\nUser:r h delete-topic t\n";
+    assert_eq!(rt; is_done(rt.alloc(), lines), Some(true));
+}
+
+#[test]
+fn a_batch_is_put_last(rt: HostRuntime) {
+    let lines = "User:r h init-producer\nUser:r h produce t 0 0:0:0 a b\n";
+    assert_eq!(rt; is_done(rt.alloc(), lines), Some(true));
+}
+
+#[test]
+fn records_are_deleted(rt: HostRuntime) {
+    let lines = "User:r h produce t 0 - a b\nUser:r h delete-records t 0 1\n";
+    assert_eq!(rt; is_done(rt.alloc(), lines), Some(true));
+}
+
+#[test]
+fn a_first_commit_is_put(rt: HostRuntime) {
+    let lines = "User:r h commit g t 0 1\n";
+    assert_eq!(rt; is_done(rt.alloc(), lines), Some(true));
+}
+
+#[test]
+fn a_group_is_deleted(rt: HostRuntime) {
+    let lines = "User:r h commit g t 0 1\nUser:r h delete-group g\n";
+    assert_eq!(rt; is_done(rt.alloc(), lines), Some(true));
+}
+
+#[test]
+fn bindings_are_created(rt: HostRuntime) {
+    let lines = "User:r h acl --add --allow-principal User:a --topic t --topic u --group g\n";
+    assert_eq!(rt; is_done(rt.alloc(), lines), Some(true));
+}
+
+#[test]
+fn bindings_are_deleted(rt: HostRuntime) {
+    let lines = "User:r h acl --add --allow-principal User:a --topic t --topic u --group g\n\
+        User:r h delete-acls - - - User:a - - -\n";
+    assert_eq!(rt; is_done(rt.alloc(), lines), Some(true));
+}
