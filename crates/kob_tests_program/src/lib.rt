@@ -25,3 +25,5 @@ mod rows;
 mod runs;
 #[cfg(test)]
 mod script;
+#[cfg(test)]
+mod writing;
