@@ -1,4 +1,4 @@
 pub mod Interrupted
 pub mod Outputs
 pub mod Parts
-pub mod Replies
+pub mod PrintedReplies
