@@ -85,68 +85,85 @@ fn write_to<W: Write>(alloc: Global, script: &[u8], writer: &mut W) -> Result<En
 
 /// A writer that takes so many calls of so many bytes has their bytes of the output, and the run
 /// fails unless they are all.
-fn check_front(alloc: Global, width: usize, calls: usize) -> Result<bool, Fail> {
+fn leaves_a_front(alloc: Global, width: u16, calls: u16) -> bool {
     let output = DENY_BEATS_ALLOW_OUT.as_bytes();
-    let mut writer = Narrow::new(alloc, width, calls);
+    let mut writer = Narrow::new(alloc, width.into(), calls.into());
     let ended = write_to(alloc, DENY_BEATS_ALLOW_TXT.as_bytes(), &mut writer);
-    let count = output.len().min(width * calls);
+    let count = output.len().min(usize::from(width) * usize::from(calls));
     let end = if count < output.len() {
         Err(RunFault::WriteFailed)
     } else {
         Ok(Ended::Clean)
     };
-    Ok(ended == end && writer.taken.as_slice() == &output[..count])
+    ended == end && writer.taken.as_slice() == &output[..count]
 }
 
 #[test]
 fn failed_writes_leave_a_front(rt: HostRuntime) -> Result<(), Fail> {
-    for width in [1, 7, 1_000] {
-        for calls in 0..DENY_BEATS_ALLOW_OUT.len() + 2 {
-            assert!(rt; check_front(rt.alloc(), width, calls)?);
+    for (width, most) in [(1, 300), (7, 40), (1_000, 3)] {
+        for calls in 0..most {
+            assert!(rt; leaves_a_front(rt.alloc(), width, calls));
         }
+    }
+    Ok(())
+}
+
+/// Asks for a short reply, or twice for one that is longer than a piece, and puts down the reply.
+fn ask(
+    alloc: Global,
+    script: &mut Vec<u8>,
+    output: &mut Vec<u8>,
+    number: u32,
+    value: &[u8],
+) -> Result<(), Fail> {
+    if number == 5_000 || number == 5_001 {
+        let line = format!(in alloc; "{number} ok records 0:")?;
+        script.extend_from_slice(b"User:r h fetch t 0 0 1\n")?;
+        output.extend_from_slice(line.as_bytes())?;
+        output.extend_from_slice(value)?;
+        output.extend_from_slice(b"\n")?;
+    } else {
+        let line = format!(in alloc; "{number} ok groups\n")?;
+        script.extend_from_slice(b"User:r h groups\n")?;
+        output.extend_from_slice(line.as_bytes())?;
     }
     Ok(())
 }
 
 /// A script of a record of 70,000 bytes that is fetched twice between 10,000 short requests, and
 /// its output.
-fn long_output(alloc: Global) -> Result<(Vec<u8>, Vec<u8>), Fail> {
-    let mut script = Vec::new(alloc);
-    let mut output = Vec::new(alloc);
-    let value = String::from_utf8(vec![in alloc; b'v'; 70_000]?).unwrap();
-    script.extend_from_slice(b"super User:r\nUser:r h create-topic t 1\n")?;
-    script.extend_from_slice(b"User:r h produce t 0 - ")?;
-    script.extend_from_slice(value.as_bytes())?;
+fn write_long(alloc: Global, script: &mut Vec<u8>, output: &mut Vec<u8>) -> Result<(), Fail> {
+    let value = vec![in alloc; b'v'; 70_000]?;
+    script.extend_from_slice(b"super User:r\nUser:r h create-topic t 1\nUser:r h produce t 0 - ")?;
+    script.extend_from_slice(value.as_slice())?;
     script.extend_from_slice(b"\n")?;
     output.extend_from_slice(b"1 ok created\n2 ok offset 0\n")?;
     for number in 3..10_003 {
-        if number == 5_000 || number == 5_001 {
-            script.extend_from_slice(b"User:r h fetch t 0 0 1\n")?;
-            let line = format!(in alloc; "{number} ok records 0:{}\n", value.as_str())?;
-            output.extend_from_slice(line.as_bytes())?;
-        } else {
-            script.extend_from_slice(b"User:r h groups\n")?;
-            let line = format!(in alloc; "{number} ok groups\n")?;
-            output.extend_from_slice(line.as_bytes())?;
-        }
+        ask(alloc, script, output, number, value.as_slice())?;
     }
-    Ok((script, output))
+    Ok(())
+}
+
+/// A writer that takes so many calls has a front of the output, and the run fails unless it is all;
+/// at once it is given no more than a piece or one reply.
+fn takes_pieces(alloc: Global, script: &[u8], output: &[u8], calls: usize) -> bool {
+    let mut writer = Narrow::new(alloc, output.len(), calls);
+    let ended = write_to(alloc, script, &mut writer);
+    let end = if writer.taken.len() < output.len() {
+        Err(RunFault::WriteFailed)
+    } else {
+        Ok(Ended::Clean)
+    };
+    ended == end && output.starts_with(writer.taken.as_slice()) && writer.widest < 70_030
 }
 
 #[test]
 fn long_output_is_written_in_pieces(rt: HostRuntime) -> Result<(), Fail> {
-    let (script, output) = long_output(rt.alloc())?;
+    let mut script = Vec::new(rt.alloc());
+    let mut output = Vec::new(rt.alloc());
+    write_long(rt.alloc(), &mut script, &mut output)?;
     for calls in 0..10 {
-        let mut writer = Narrow::new(rt.alloc(), output.len(), calls);
-        let ended = write_to(rt.alloc(), script.as_slice(), &mut writer);
-        assert!(rt; output.as_slice().starts_with(writer.taken.as_slice()));
-        assert!(rt; writer.widest <= 70_000 + 30);
-        let end = if writer.taken.len() < output.len() {
-            Err(RunFault::WriteFailed)
-        } else {
-            Ok(Ended::Clean)
-        };
-        assert_eq!(rt; ended, end);
+        assert!(rt; takes_pieces(rt.alloc(), script.as_slice(), output.as_slice(), calls));
     }
     Ok(())
 }

@@ -1,23 +1,25 @@
 -- What is an output, and that a front of one was written.
-use Rattle.std.proofs.Common.{◌≡◌, ◌∙◌, ◌<◌, ◌≤◌, ◌++◌, ℕ, List, length, take, Option, Some, None, Result, Ok, Err, ap, refl, sym, subst, inl, inr, append-nil, take-append-drop, drop_of_length-le}
+use Rattle.std.proofs.Common.{◌≡◌, ◌∙◌, ◌<◌, ◌≤◌, ◌++◌, ℕ, List, length, take, Option, Some, None, Result, Ok, Err, ap, refl, sym, subst, append-nil}
 use Rattle.std.specs.Option.{IfSome}
-use Rattle.std.specs.Result.{IfOk, IfErr, IsErrOf}
+use Rattle.std.specs.Result.{IfOk, IfErr, OnErr, IsErrOf}
 use Rattle.std.proofs.KnownBytes.{Appends-nil}
-use Rattle.std.proofs.lemmas.Bool.{cases_lt}
 use Rattle.std.specs.Io.KnownBytes.{Appends, Keeps}
 use Rattle.kob_script.specs.declared.fault.Fault as fault
 use Rattle.kob_text.specs.declared.fault.RunFault.{RunFault}
 use Rattle.kob_text.specs.declared.fault.RunFault.TheVariants as run_fault
 use Rattle.kob_text.specs.declared.output.Ended.{Ended}
 use Rattle.kob_text.specs.declared.output.Ended.TheVariants.{Clean, Fault, Stopped}
-use Rattle.kob_text.specs.Output.{HasOutput, IsOutput, replies_to}
+use Rattle.kob_rights.specs.declared.event.Event.{Event}
+use Rattle.kob_rights.specs.declared.reply.Reply.{Reply}
+use Rattle.kob_text.specs.Output.{HasOutput, IsOutput, Writes, replies_to}
+use Rattle.kob_text.specs.Runs.{IsTextOfRun, WritesRun, WritesPartOfRun}
 use Rattle.kob_script.specs.declared.script.Script.{Script}
 use Rattle.kob_script.specs.PrintedFault.{fault_text}
 use Rattle.kob_script.specs.PrintedReply.{text_of_replies, stopped_text}
 use Rattle.kob_script.specs.Script.{script_of}
 use Rattle.kob_script.specs.ScriptReadings.{HasNoAclLine}
 use Rattle.kob_text.specs.Transfer.{AppendsFront, AppendsPart}
-use Rattle.kob_text.proofs.Parts.{front_of_part, part_of_front}
+use Rattle.kob_text.proofs.Parts.{front_of_part}
 
 some_output : (read : Result Script fault.Fault) (held : Option (List ℕ)) → HasOutput read (AppendsFront held held)
 some_output (Ok s) held = (Clean, text_of_replies (replies_to s.settings s.events), refl, (0, Appends-nil held))
@@ -62,27 +64,38 @@ front_of_end (Err run_fault.Memory) (Some all) bytes a b is part keeps no_read n
 front_of_end (Err run_fault.ReadFailed) (Some all) bytes a b is part keeps no_read no_length = absurd (no_read refl)
 front_of_end (Err run_fault.TooLong) (Some all) bytes a b is part keeps no_read no_length = absurd (no_length refl)
 
-take_all : {A : Type 0} (xs : List A) (n : ℕ) → length xs ≤ n → take n xs ≡ xs
-take_all xs n past =
-    sym (append-nil (take n xs)) ∙ ap (λ rest. take n xs ++ rest) (sym (drop_of_length-le xs past))
-    ∙ take-append-drop n xs
+-- what holds of the bytes that were read holds of the known ones
+pub of_input : (input : Option (List ℕ)) (bytes : List ℕ) (Q : List ℕ → Type 0) → IfSome input (λ all. bytes ≡ all)
+    → Q bytes → IfSome input Q
+of_input (Some all) bytes Q is holds = subst Q is holds
+of_input None bytes Q is holds = tt
 
--- the text of the first replies is a front of an output, and a part of it a part of that output
-pub part_of_replies : (a b : Option (List ℕ)) (s : Script) (done : ℕ) → done ≤ length s.events
-    → AppendsPart a b (text_of_replies (replies_to s.settings (take done s.events)))
-    → HasOutput (Ok s) (AppendsPart a b)
-part_of_replies a b s done within part =
-    elim (cases_lt done (length s.events)) [
-      | inl fewer ↦ (
-        Stopped,
-        text_of_replies (replies_to s.settings (take done s.events)) ++ stopped_text done,
-        (done, fewer, refl),
-        part_of_front a b (text_of_replies (replies_to s.settings (take done s.events))) (stopped_text done) part,
-      )
-      | inr all ↦ (
-        Clean,
-        text_of_replies (replies_to s.settings (take done s.events)),
-        ap (λ events. text_of_replies (replies_to s.settings events)) (take_all s.events done all),
-        part,
-      )
-    ]
+pub ok_of_input : {T E : Type 0} (r : Result T E) (input : Option (List ℕ)) (bytes : List ℕ) (Q : T → List ℕ → Type 0)
+    → IfSome input (λ all. bytes ≡ all) → IfOk r (λ x. Q x bytes) → IfOk r (λ x. IfSome input (Q x))
+ok_of_input (Ok x) input bytes Q is holds = of_input input bytes (Q x) is holds
+ok_of_input (Err e) input bytes Q is holds = tt
+
+-- a broker that gives the replies of a new one under the script's settings
+module _ (s : Script) (replies : List Event → List Reply) (events : List Event) (is : events ≡ s.events)
+    (same : (some : List Event) → replies some ≡ replies_to s.settings some) where
+  text_is_output : (ended : Ended) (text : List ℕ) → IsTextOfRun replies events ended text → IsOutput (Ok s) ended text
+  text_is_output Clean text whole =
+      whole ∙ ap text_of_replies (same events)
+      ∙ ap (λ all. text_of_replies (replies_to s.settings all)) is
+  text_is_output Stopped text (done, few, first) = (
+    done,
+    subst (λ all. done < length all) is few,
+    first ∙ ap (λ told. text_of_replies told ++ stopped_text done) (same (take done events))
+        ∙ ap (λ all. text_of_replies (replies_to s.settings (take done all)) ++ stopped_text done) is,
+  )
+  text_is_output Fault text none = none
+
+  pub run_is_output : {E : Type 0} (r : Result Ended E) (a b : Option (List ℕ))
+      → IfOk r (λ ended. WritesRun replies events ended a b) → IfOk r (λ ended. Writes (Ok s) ended a b)
+  run_is_output (Ok ended) a b (text, run, wrote) = (text, text_is_output ended text run, wrote)
+  run_is_output (Err e) a b wrote = tt
+
+  pub part_is_of_output : {E : Type 0} (r : Result Ended E) (e : E) (a b : Option (List ℕ))
+      → OnErr r (WritesPartOfRun replies events a b) → IsErrOf r e → HasOutput (Ok s) (AppendsPart a b)
+  part_is_of_output (Ok ended) e a b part failed = absurd (cc)
+  part_is_of_output (Err f) e a b (ended, text, run, part) failed = (ended, text, text_is_output ended text run, part)

@@ -48,6 +48,12 @@ module _ (a b c : Option (List ℕ)) (text held : List ℕ) (so_far : AppendsAll
       subst (AppendsPart a c) (sym (ap (λ t. t ++ more) so_far.1 ∙ append_assoc so_far.0 held more))
       (part_after a b c so_far.0 (held ++ more) so_far.2 part)
 
+  -- what is held and more was written
+  pub written_with_more : (more : List ℕ) → Appends b c (held ++ more) → Appends a c (text ++ more)
+  written_with_more more wrote =
+      subst (Appends a c) (sym (ap (λ t. t ++ more) so_far.1 ∙ append_assoc so_far.0 held more))
+      (Appends-trans a b c so_far.0 (held ++ more) so_far.2 wrote)
+
   -- all that is held was written
   pub all_written : Appends b c held → Appends a c text
   all_written wrote = subst (Appends a c) (sym so_far.1) (Appends-trans a b c so_far.0 held so_far.2 wrote)

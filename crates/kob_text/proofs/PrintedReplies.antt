@@ -1,13 +1,15 @@
 -- The text of replies that are printed one after another, and which output a part of it belongs to.
-use Rattle.std.proofs.Common.{◌≡◌, ◌∙◌, ◌+◌, ◌<◌, ◌≤◌, ◌⊎◌, inl, inr, ℕ, List, [], ◌∷◌, ◌++◌, length, take, get_or, Option, Ok, refl, sym, ap, subst, append_assoc, append-nil, add-zero, length-append, arith}
+use Rattle.std.proofs.Common.{◌≡◌, ◌∙◌, ◌+◌, ◌<◌, ◌≤◌, ◌⊎◌, inl, inr, ℕ, List, [], ◌∷◌, ◌++◌, length, take, get_or, suc, Option, Ok, refl, sym, ap, subst, append_assoc, append-nil, add-zero, length-append, arith}
 use Rattle.std.proofs.lemmas.List.{length-take-le}
 use Rattle.kob_broker.specs.State.{State}
 use Rattle.kob_broker.specs.Step.{step, replies_of, state_after}
-use Rattle.kob_broker.proofs.Runs.{replies_one_more}
+use Rattle.kob_broker.proofs.Runs.{replies_one_more, state_one_more}
 use Rattle.kob_partition.specs.Meaning.{Meaning}
 use Rattle.kob_rights.specs.declared.event.Event.{Event}
 use Rattle.kob_rights.specs.declared.reply.Reply.{Reply}
 use Rattle.kob_script.specs.PrintedReply.{reply_text, replies_text, text_of_replies}
+use Rattle.kob_text.specs.Transfer.{AppendsPart, AppendsAllBut}
+use Rattle.kob_text.proofs.Parts.{all_held, goes_on, part_with_more, same_text}
 
 replies_text_append : (number : ℕ) (xs ys : List Reply)
     → replies_text number (xs ++ ys) ≡ replies_text number xs ++ replies_text (number + length xs) ys
@@ -48,3 +50,39 @@ module _ {P : Type 0} (m : Meaning P) where
       ∙ ap (λ n. text_of_replies before ++ reply_text (n + 1) (step m (state_after m (take i events) s) event).reply) count
       ∙ ap (λ (t : State P). text_of_replies before ++ reply_text (i + 1) (step m t event).reply) (sym stood)
       ∙ ap (λ t. text_of_replies before ++ t) (sym printed)
+
+  no_text : (events : List Event) (s : State P) → text_of_replies (replies_of m (take 0 events) s) ≡ []
+  unfolding replies_text
+  no_text events s = refl
+
+  -- before the first event
+  pub nothing_put : (events : List Event) (s : State P) (a : Option (List ℕ)) (held : List ℕ) → held ≡ []
+      → AppendsAllBut a a (text_of_replies (replies_of m (take 0 events) s)) held
+  nothing_put events s a held none =
+      all_held a (text_of_replies (replies_of m (take 0 events) s)) held (none ∙ sym (no_text events s))
+
+  pub state_put : (events : List Event) (i : ℕ) (event : Event) (s now next : State P) → i < length events
+      → event ≡ get_or events i event → now ≡ state_after m (take i events) s → next ≡ (step m now event).state
+      → next ≡ state_after m (take (i + 1) events) s
+  state_put events i event s now next below is stood left =
+      left ∙ ap (λ (t : State P). (step m t event).state) stood ∙ sym (state_one_more m events i event s below is)
+
+  module _ (events : List Event) (i : ℕ) (event : Event) (s now : State P) (text : List ℕ) (below : i < length events)
+      (is : event ≡ get_or events i event) (stood : now ≡ state_after m (take i events) s)
+      (printed : text ≡ reply_text (i + 1) (step m now event).reply) (a b c : Option (List ℕ)) (held : List ℕ)
+      (so_far : AppendsAllBut a b (text_of_replies (replies_of m (take i events) s)) held) where
+    -- its reply was put behind what was held
+    pub reply_put : (rest : List ℕ) → AppendsAllBut b c (held ++ text) rest
+        → AppendsAllBut a c (text_of_replies (replies_of m (take (i + 1) events) s)) rest
+    reply_put rest more =
+        same_text a c (text_of_replies (replies_of m (take i events) s) ++ text)
+        (text_of_replies (replies_of m (take (i + 1) events) s)) rest
+        (sym (text_one_more events i event s now text below is stood printed))
+        (goes_on a b c (text_of_replies (replies_of m (take i events) s)) held so_far text rest more)
+
+    -- only a part of what was held and its reply was written
+    pub reply_part : AppendsPart b c (held ++ text)
+        → AppendsPart a c (text_of_replies (replies_of m (take (i + 1) events) s))
+    reply_part part =
+        subst (AppendsPart a c) (sym (text_one_more events i event s now text below is stood printed))
+        (part_with_more a b c (text_of_replies (replies_of m (take i events) s)) held so_far text part)

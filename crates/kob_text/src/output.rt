@@ -8,7 +8,7 @@ ghost use Rattle.kob_script.specs.Script.{script_of};
 ghost use Rattle.kob_script.specs.ScriptReadings.{HasNoAclLine};
 
 use crate::fault::RunFault;
-use crate::replies::write_replies;
+use crate::replies::write_run;
 use crate::sink::Sink;
 use crate::transfer::write_all;
 use kob_script::{Fault, ScriptError, print_fault, read_script};
@@ -52,7 +52,7 @@ pub fn write_output<W: Write>(
     ensures not_too_long { IsErrOf result RunFault.TooLong → ⊥ }
 {
     match read_script(alloc, script) {
-        Ok(script) => write_replies(alloc, sink, script),
+        Ok(script) => write_run(alloc, sink, script),
         Err(ScriptError::Memory) => Err(RunFault::Memory),
         Err(ScriptError::Fault(fault)) => write_fault(alloc, sink, fault),
     }

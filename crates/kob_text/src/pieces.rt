@@ -2,6 +2,7 @@
 
 ghost use Rattle.std.specs.Prelude.{◌≡◌, ◌≤◌, ◌++◌, vec_len, vec_capacity};
 ghost use Rattle.std.specs.Prelude.{OnOk, OnErr, IfErr, true};
+ghost use Rattle.std.specs.Io.KnownBytes.{Appends};
 ghost use Rattle.kob_script.specs.PrintedReply.{stopped_text};
 ghost use Rattle.kob_text.specs.Limits.{piece_limit};
 ghost use Rattle.kob_text.specs.Transfer.{AppendsPart, AppendsAllBut};
@@ -49,7 +50,7 @@ pub fn put<W: Write>(
 
 /// Puts the line `stopped after DONE` with its line feed behind what is held. The fault is
 /// `WriteFailed`.
-pub fn put_stopped<W: Write>(
+fn put_stopped<W: Write>(
     sink: &mut Sink<'_, W>,
     held: &mut Vec<u8>,
     done: u64,
@@ -69,4 +70,25 @@ pub fn put_stopped<W: Write>(
     put(sink, held, b"stopped after ")?;
     put(sink, held, digits.format(done).as_bytes())?;
     put(sink, held, b"\n")
+}
+
+/// Writes what is held, and then the line `stopped after DONE` with its line feed. The fault is
+/// `WriteFailed`.
+pub fn write_stopped<W: Write>(
+    sink: &mut Sink<'_, W>,
+    held: &mut Vec<u8>,
+    done: u64,
+) -> Result<(), RunFault>
+    requires piece { vec_len held.old ≤ piece_limit }
+    requires room { piece_limit ≤ vec_capacity held.old }
+    ensures same_reference { sink.new.writer.ghost_name ≡ sink.old.writer.ghost_name }
+    ensures whole { OnOk result (Appends (W.contents sink.old.writer.now)
+        (W.contents sink.new.writer.now) (held.old.items ++ stopped_text done)) }
+    ensures part { OnErr result (AppendsPart (W.contents sink.old.writer.now)
+        (W.contents sink.new.writer.now) (held.old.items ++ stopped_text done)) }
+    ensures failed { OnErr result (sink.new.failed ≡ true) }
+    ensures fault { IfErr result (λ fault. fault ≡ RunFault.WriteFailed) }
+{
+    put_stopped(sink, held, done)?;
+    write_all(sink, held)
 }
