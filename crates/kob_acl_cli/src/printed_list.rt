@@ -16,23 +16,18 @@ pub fn print_list(alloc: Global, bindings: &[(u64, Binding)]) -> Result<String, 
 {
     let mut out = Vec::new(alloc);
     for (serial, binding) in bindings {
-        push_line(alloc, &mut out, *serial, binding)?;
+        push_line(&mut out, *serial, binding)?;
     }
     Ok(String::from_utf8(out).unwrap())
 }
 
 #[tactic(auto, using(kob_words::proofs::Appending::appending))]
-fn push_line(
-    alloc: Global,
-    out: &mut Vec<u8>,
-    serial: u64,
-    binding: &Binding,
-) -> Result<(), AllocError>
+fn push_line(out: &mut Vec<u8>, serial: u64, binding: &Binding) -> Result<(), AllocError>
     ensures text { OnOk result
         (out.new.items ≡ out.old.items ++ binding_line (serial, binding.now)) }
     ensures ascii { OnOk result (IsAscii (binding_line (serial, binding.now))) }
 {
-    print_binding(alloc, out, serial, binding)?;
+    print_binding(out, serial, binding)?;
     out.push(b'\n')?;
     Ok(())
 }

@@ -1,9 +1,7 @@
--- Lists that are printed one item after another.
+-- Verdicts that are printed one after another.
 use Rattle.std.proofs.Common.{◌≡◌, ◌∙◌, ◌+◌, ◌<◌, ℕ, List, [], ◌∷◌, ◌++◌, length, codes, drop, get_or, sym, ap, append_assoc, append-nil, drop_of_length-le, ◌≤◌, refl, arith}
-use Rattle.std.proofs.lemmas.List.{drop_more}
 use Rattle.kob_names.specs.declared.verdict.Verdict.{Verdict}
-use Rattle.kob_rights.specs.declared.reply.Reply.{Reply}
-use Rattle.kob_script.specs.PrintedReply.{verdict_text, verdicts_text, reply_text, replies_text}
+use Rattle.kob_script.specs.PrintedReply.{verdict_text, verdicts_text}
 
 -- a verdict and what follows it
 verdicts_more : (v : Verdict) (others : List Verdict) → 0 < length others
@@ -44,21 +42,3 @@ pub verdicts_done : (out : List ℕ) (rest : List Verdict) (all : List ℕ) → 
 unfolding verdicts_text
 verdicts_done out [] all kept none = sym (append-nil out) ∙ kept
 verdicts_done out (w ∷ more) all kept none = absurd (omega arith)
-
-pub reply_keeps : (out more : List ℕ) (replies : List Reply) (i : ℕ) (r : Reply) (all : List ℕ)
-    → out ++ replies_text (i + 1) (drop i replies) ≡ all → i < length replies → r ≡ get_or replies i r
-    → more ≡ out ++ reply_text (i + 1) r
-    → more ++ replies_text (i + 1 + 1) (drop (i + 1) replies) ≡ all
-unfolding replies_text
-reply_keeps out more replies i r all kept below is grown =
-    ap (λ o. o ++ replies_text (i + 1 + 1) (drop (i + 1) replies))
-    (grown ∙ ap (λ (q : Reply). out ++ reply_text (i + 1) q) is)
-    ∙ append_assoc out (reply_text (i + 1) (get_or replies i r)) (replies_text (i + 1 + 1) (drop (i + 1) replies))
-    ∙ sym (ap (λ rest. out ++ replies_text (i + 1) rest) (drop_more replies i r below))
-    ∙ kept
-
-pub replies_done : (out : List ℕ) (replies : List Reply) (i : ℕ) (all : List ℕ)
-    → out ++ replies_text (i + 1) (drop i replies) ≡ all → length replies ≤ i → out ≡ all
-unfolding replies_text
-replies_done out replies i all kept past =
-    sym (append-nil out) ∙ sym (ap (λ rest. out ++ replies_text (i + 1) rest) (drop_of_length-le replies past)) ∙ kept

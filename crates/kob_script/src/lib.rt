@@ -30,5 +30,5 @@ mod words;
 pub use fault::{Fault, FaultKind, ScriptError};
 pub use laws::{cuts_leave_whole_escapes, plain_scripts_have_one_reading};
 pub use printed_fault::print_fault;
-pub use printed_reply::{print_replies, print_stopped};
+pub use printed_reply::print_reply;
 pub use script::{Script, read_script};

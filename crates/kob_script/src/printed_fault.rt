@@ -5,16 +5,16 @@ ghost use Rattle.kob_script.specs.PrintedFault.{kind_text, fault_text};
 
 use crate::fault::{Fault, FaultKind};
 use kob_words::push_number;
-use std::alloc::{AllocError, Global};
+use std::alloc::AllocError;
 
 /// Prints the line `fault line LINE KIND` with its line feed. The error is want of memory; `out`
 /// has then grown by a part of it.
 #[tactic(auto, using(kob_words::proofs::Appending::appending))]
-pub fn print_fault(alloc: Global, out: &mut Vec<u8>, fault: Fault) -> Result<(), AllocError>
+pub fn print_fault(out: &mut Vec<u8>, fault: Fault) -> Result<(), AllocError>
     ensures { OnOk result (out.new.items ≡ out.old.items ++ fault_text fault) }
 {
     out.extend_from_slice(b"fault line ")?;
-    push_number(alloc, out, fault.line)?;
+    push_number(out, fault.line)?;
     out.extend_from_slice(b" ")?;
     out.extend_from_slice(kind_text(fault.kind).as_bytes())?;
     out.extend_from_slice(b"\n")

@@ -2,58 +2,43 @@
 
 ghost use Rattle.std.specs.Prelude.{◌≡◌, ◌++◌, OnOk};
 ghost use Rattle.kob_script.specs.PrintedReply.{verdict_text, verdicts_text, code_text};
-ghost use Rattle.kob_script.specs.PrintedReply.{outcome_text, reply_text, text_of_replies};
-ghost use Rattle.kob_script.specs.PrintedReply.{stopped_text};
+ghost use Rattle.kob_script.specs.PrintedReply.{outcome_text, reply_text};
 
 use crate::printed_body::push_body;
 use kob_names::Verdict;
 use kob_rights::{Code, Reply};
 use kob_words::push_number;
-use std::alloc::{AllocError, Global};
+use std::alloc::AllocError;
 
-/// Prints replies, numbered from 1, each with a line feed after it. The error is want of memory;
-/// `out` has then grown by a part of them.
-pub fn print_replies(alloc: Global, out: &mut Vec<u8>, replies: &[Reply]) -> Result<(), AllocError>
-    ensures { OnOk result (out.new.items ≡ out.old.items ++ text_of_replies replies.now) }
-{
-    for (place, reply) in replies.iter().enumerate() {
-        push_reply(alloc, out, place as u64 + 1, reply)?;
-    }
-    Ok(())
-}
-
+/// Prints a reply behind its number, with a line feed after it. The error is want of memory; `out`
+/// has then grown by a part of it.
 #[tactic(auto, using(kob_words::proofs::Appending::appending))]
-fn push_reply(
-    alloc: Global,
-    out: &mut Vec<u8>,
-    number: u64,
-    reply: &Reply,
-) -> Result<(), AllocError>
+pub fn print_reply(out: &mut Vec<u8>, number: u64, reply: &Reply) -> Result<(), AllocError>
     ensures { OnOk result (out.new.items ≡ out.old.items ++ reply_text number reply.now) }
 {
-    push_number(alloc, out, number)?;
-    push_outcome(alloc, out, reply)?;
+    push_number(out, number)?;
+    push_outcome(out, reply)?;
     out.extend_from_slice(b"\n")
 }
 
 #[tactic(auto, using(kob_words::proofs::Appending::appending))]
-fn push_outcome(alloc: Global, out: &mut Vec<u8>, reply: &Reply) -> Result<(), AllocError>
+fn push_outcome(out: &mut Vec<u8>, reply: &Reply) -> Result<(), AllocError>
     ensures { OnOk result (out.new.items ≡ out.old.items ++ outcome_text reply.now) }
 {
     match reply {
         Reply::Done(body) => {
             out.extend_from_slice(b" ok ")?;
-            push_body(alloc, out, body)
+            push_body(out, body)
         }
         Reply::Denied { code, verdicts } => {
             out.extend_from_slice(b" denied ")?;
-            push_code(alloc, out, *code)?;
+            push_code(out, *code)?;
             out.extend_from_slice(b" ")?;
-            push_verdicts(alloc, out, verdicts.as_slice())
+            push_verdicts(out, verdicts.as_slice())
         }
         Reply::Refused { code, reason } => {
             out.extend_from_slice(b" refused ")?;
-            push_code(alloc, out, *code)?;
+            push_code(out, *code)?;
             out.extend_from_slice(b" ")?;
             out.extend_from_slice(reason.name().as_bytes())
         }
@@ -61,21 +46,21 @@ fn push_outcome(alloc: Global, out: &mut Vec<u8>, reply: &Reply) -> Result<(), A
 }
 
 #[tactic(auto, using(kob_words::proofs::Appending::appending))]
-fn push_code(alloc: Global, out: &mut Vec<u8>, code: Code) -> Result<(), AllocError>
+fn push_code(out: &mut Vec<u8>, code: Code) -> Result<(), AllocError>
     ensures { OnOk result (out.new.items ≡ out.old.items ++ code_text code) }
 {
-    push_number(alloc, out, code.number())?;
+    push_number(out, code.number())?;
     out.extend_from_slice(b" ")?;
     out.extend_from_slice(code.name().as_bytes())
 }
 
 #[tactic(auto, using(kob_words::proofs::Appending::appending))]
-fn push_verdicts(alloc: Global, out: &mut Vec<u8>, verdicts: &[Verdict]) -> Result<(), AllocError>
+fn push_verdicts(out: &mut Vec<u8>, verdicts: &[Verdict]) -> Result<(), AllocError>
     ensures { OnOk result (out.new.items ≡ out.old.items ++ verdicts_text verdicts.now) }
 {
     let mut rest = verdicts;
     while let Some((verdict, others)) = rest.split_first() {
-        push_verdict(alloc, out, *verdict)?;
+        push_verdict(out, *verdict)?;
         if !others.is_empty() {
             out.extend_from_slice(b",")?;
         }
@@ -85,31 +70,20 @@ fn push_verdicts(alloc: Global, out: &mut Vec<u8>, verdicts: &[Verdict]) -> Resu
 }
 
 #[tactic(auto, using(kob_words::proofs::Appending::appending))]
-fn push_verdict(alloc: Global, out: &mut Vec<u8>, verdict: Verdict) -> Result<(), AllocError>
+fn push_verdict(out: &mut Vec<u8>, verdict: Verdict) -> Result<(), AllocError>
     ensures { OnOk result (out.new.items ≡ out.old.items ++ verdict_text verdict) }
 {
     match verdict {
         Verdict::DeniedBy(serial) => {
             out.extend_from_slice(b"deny:")?;
-            push_number(alloc, out, serial)
+            push_number(out, serial)
         }
         Verdict::NoAllow => out.extend_from_slice(b"no-allow"),
         Verdict::AllowedBy(serial) => {
             out.extend_from_slice(b"allow:")?;
-            push_number(alloc, out, serial)
+            push_number(out, serial)
         }
         Verdict::Super => out.extend_from_slice(b"super"),
         Verdict::NoAclFound => out.extend_from_slice(b"no-acl-found"),
     }
-}
-
-/// Prints the line `stopped after DONE` with its line feed, for a run that memory stopped after so
-/// many requests. The error is want of memory; `out` has then grown by a part of it.
-#[tactic(auto, using(kob_words::proofs::Appending::appending))]
-pub fn print_stopped(alloc: Global, out: &mut Vec<u8>, done: u64) -> Result<(), AllocError>
-    ensures { OnOk result (out.new.items ≡ out.old.items ++ stopped_text done) }
-{
-    out.extend_from_slice(b"stopped after ")?;
-    push_number(alloc, out, done)?;
-    out.extend_from_slice(b"\n")
 }

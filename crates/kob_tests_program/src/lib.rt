@@ -31,3 +31,5 @@ mod runs;
 mod script;
 #[cfg(test)]
 mod spared;
+#[cfg(test)]
+mod writing;

@@ -3,7 +3,7 @@
 
 use kob_broker::{Broker, Stopped};
 use kob_rights::{Event, Reply};
-use kob_script::{Script, print_replies, read_script};
+use kob_script::{Script, print_reply, read_script};
 use kob_text::{Ended, RunFault, run_text};
 use std::alloc::Global;
 
@@ -47,7 +47,9 @@ fn printed(alloc: Global, script: &str) -> Option<Vec<u8>> {
     drop(broker);
     let replies = replies?;
     let mut text = Vec::new(alloc);
-    print_replies(alloc, &mut text, &replies).ok()?;
+    for (place, reply) in replies.iter().enumerate() {
+        print_reply(&mut text, place as u64 + 1, reply).ok()?;
+    }
     Some(text)
 }
 

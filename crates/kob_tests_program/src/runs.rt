@@ -4,7 +4,7 @@ use crate::guide::{DENY_BEATS_ALLOW_OUT, DENY_BEATS_ALLOW_TXT};
 use kob_text::{Ended, RunFault, SCRIPT_LIMIT, run_text};
 use std::alloc::{AllocError, Global};
 use std::io;
-use std::io::{Error, ErrorKind, Read, Write};
+use std::io::{Error, ErrorKind, Read};
 use std::test::Fail;
 
 /// Gives one byte a call, and fails at the call after so many.
@@ -45,31 +45,6 @@ impl Read for Comment {
         }
         self.left -= count;
         Ok(count)
-    }
-}
-
-/// Takes at most 7 bytes a call, and fails at the call after so many.
-#[derive(Drop)]
-struct Narrow {
-    taken: Vec<u8>,
-    calls: usize,
-}
-
-impl Write for Narrow {
-    fn write(&mut self, buf: &[u8]) -> io::Result<usize> {
-        if self.calls == 0 {
-            return Err(Error::from(ErrorKind::Other));
-        }
-        self.calls -= 1;
-        let count = buf.len().min(7);
-        match self.taken.extend_from_slice(&buf[..count]) {
-            Ok(()) => Ok(count),
-            Err(_) => Err(Error::from(ErrorKind::OutOfMemory)),
-        }
-    }
-
-    fn flush(&mut self) -> io::Result<()> {
-        Ok(())
     }
 }
 
@@ -134,24 +109,6 @@ fn failed_reads_write_nothing(rt: HostRuntime) -> Result<(), Fail> {
             assert_eq!(rt; ended, Ok(Ended::Clean));
             assert_eq!(rt; written.as_slice(), DENY_BEATS_ALLOW_OUT.as_bytes());
         }
-    }
-    Ok(())
-}
-
-#[test]
-fn failed_writes_leave_a_front(rt: HostRuntime) -> Result<(), Fail> {
-    for calls in 0..10 {
-        let mut writer = Narrow {
-            taken: Vec::new(rt.alloc()),
-            calls,
-        };
-        let mut reader = DENY_BEATS_ALLOW_TXT.as_bytes();
-        let ended = run_text(rt.alloc(), &mut reader, &mut writer);
-        assert_eq!(rt; ended, Err(RunFault::WriteFailed));
-        assert_eq!(rt;
-            writer.taken.as_slice(),
-            &DENY_BEATS_ALLOW_OUT.as_bytes()[..7 * calls]
-        );
     }
     Ok(())
 }

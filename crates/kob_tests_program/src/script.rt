@@ -6,7 +6,7 @@ use kob_names::{
     Principal, Record, ResourceKind, Text, Verdict,
 };
 use kob_rights::{Body, Code, Reason, Reply};
-use kob_script::{Script, ScriptError, print_fault, print_replies, print_stopped, read_script};
+use kob_script::{Script, ScriptError, print_fault, print_reply, read_script};
 use std::alloc::{AllocError, Global};
 use std::test::Fail;
 
@@ -25,8 +25,8 @@ fn fault_line(alloc: Global, script: &[u8]) -> Result<Vec<u8>, AllocError> {
     let mut out = Vec::new(alloc);
     match read_script(alloc, script) {
         Ok(_) => {}
-        Err(ScriptError::Memory) => print_stopped(alloc, &mut out, 0)?,
-        Err(ScriptError::Fault(fault)) => print_fault(alloc, &mut out, fault)?,
+        Err(ScriptError::Memory) => return Err(AllocError),
+        Err(ScriptError::Fault(fault)) => print_fault(&mut out, fault)?,
     }
     Ok(out)
 }
@@ -224,7 +224,9 @@ binding 7 DENY User:a%20b * DescribeConfigs TransactionalId PREFIXED 50%25%3d%c3
 fn replies_are_printed(rt: HostRuntime) -> Result<(), Fail> {
     let replies = replies(rt.alloc())?;
     let mut out = Vec::new(rt.alloc());
-    print_replies(rt.alloc(), &mut out, replies.as_slice())?;
+    for (place, reply) in replies.iter().enumerate() {
+        print_reply(&mut out, place as u64 + 1, reply)?;
+    }
     assert_eq!(rt; out.as_slice(), PRINTED.as_bytes());
     Ok(())
 }

@@ -1,1 +1,5 @@
+pub mod Interrupted
 pub mod Outputs
+pub mod Parts
+pub mod PrintedReplies
+pub mod RunTexts

@@ -1,21 +1,25 @@
--- What is an output, and that before anything is written a front of one is.
-use Rattle.std.proofs.Common.{◌≡◌, ◌∙◌, ◌<◌, ◌++◌, ℕ, List, length, take, Option, Some, None, Result, Ok, Err, ap, refl}
+-- What is an output, and that a front of one was written.
+use Rattle.std.proofs.Common.{◌≡◌, ◌∙◌, ◌<◌, ◌≤◌, ◌++◌, ℕ, List, length, take, Option, Some, None, Result, Ok, Err, ap, refl, sym, subst, append-nil}
 use Rattle.std.specs.Option.{IfSome}
-use Rattle.std.specs.Result.{IfOk, IfErr}
+use Rattle.std.specs.Result.{IfOk, IfErr, OnErr, IsErrOf}
 use Rattle.std.proofs.KnownBytes.{Appends-nil}
+use Rattle.std.specs.Io.KnownBytes.{Appends, Keeps}
 use Rattle.kob_script.specs.declared.fault.Fault as fault
+use Rattle.kob_text.specs.declared.fault.RunFault.{RunFault}
+use Rattle.kob_text.specs.declared.fault.RunFault.TheVariants as run_fault
+use Rattle.kob_text.specs.declared.output.Ended.{Ended}
 use Rattle.kob_text.specs.declared.output.Ended.TheVariants.{Clean, Fault, Stopped}
-use Rattle.kob_text.specs.declared.output.Output.{Output}
-use Rattle.kob_names.specs.declared.settings.Settings.{Settings}
 use Rattle.kob_rights.specs.declared.event.Event.{Event}
 use Rattle.kob_rights.specs.declared.reply.Reply.{Reply}
-use Rattle.kob_text.specs.Output.{HasOutput, IsOutput, replies_to}
+use Rattle.kob_text.specs.Output.{HasOutput, IsOutput, Writes, replies_to}
+use Rattle.kob_text.specs.Runs.{IsTextOfRun, WritesRun, WritesPartOfRun}
 use Rattle.kob_script.specs.declared.script.Script.{Script}
 use Rattle.kob_script.specs.PrintedFault.{fault_text}
 use Rattle.kob_script.specs.PrintedReply.{text_of_replies, stopped_text}
 use Rattle.kob_script.specs.Script.{script_of}
 use Rattle.kob_script.specs.ScriptReadings.{HasNoAclLine}
-use Rattle.kob_text.specs.Transfer.{AppendsFront}
+use Rattle.kob_text.specs.Transfer.{AppendsFront, AppendsPart}
+use Rattle.kob_text.proofs.Parts.{front_of_part}
 
 some_output : (read : Result Script fault.Fault) (held : Option (List ℕ)) → HasOutput read (AppendsFront held held)
 some_output (Ok s) held = (Clean, text_of_replies (replies_to s.settings s.events), refl, (0, Appends-nil held))
@@ -27,21 +31,71 @@ unwritten (Ok x) input held = tt
 unwritten (Err e) (Some bytes) held = λ plain. some_output (script_of bytes) held
 unwritten (Err e) None held = tt
 
--- the text of the first replies and the line after them is the output of a run that memory stopped
-pub stopped : {E : Type 0} (s : Script) (done : ℕ) (replies : List Reply) (made : Result Output E)
-    → done < length s.events → replies ≡ replies_to s.settings (take done s.events)
-    → IfOk made (λ output. output.ended ≡ Stopped)
-    → IfOk made (λ output. output.text.items ≡ text_of_replies replies ++ stopped_text done)
-    → IfOk made (λ output. IsOutput (Ok s) output.ended output.text.items)
-stopped s done replies (Ok output) few first ended text =
-    rw ended (done, few, text ∙ ap (λ (xs : List Reply). text_of_replies xs ++ stopped_text done) first)
-stopped s done replies (Err e) few first ended text = tt
+-- nothing was written
+kept : (a b : Option (List ℕ)) (text : List ℕ) → Keeps a b → Appends a b (take 0 text)
+kept None b text keeps = tt
+kept (Some x) None text keeps = absurd keeps
+kept (Some x) (Some y) text keeps = keeps ∙ sym (append-nil x)
 
--- the first replies of a broker that gives those of a new one
-pub first_replies : {T E : Type 0} (r : Result T E) (done : E → ℕ) (replies : E → List Reply) (settings : Settings)
-    (events : List Event) (given : List Event → List Reply)
-    → ((some : List Event) → given some ≡ replies_to settings some)
-    → IfErr r (λ e. replies e ≡ given (take (done e) events))
-    → IfErr r (λ e. replies e ≡ replies_to settings (take (done e) events))
-first_replies (Ok x) done replies settings events given same first = tt
-first_replies (Err e) done replies settings events given same first = first ∙ same (take (done e) events)
+kept_front : (a b : Option (List ℕ)) → Keeps a b → (read : Result Script fault.Fault)
+    → HasOutput read (AppendsFront a b)
+kept_front a b keeps (Ok s) =
+    let text = text_of_replies (replies_to s.settings s.events) in (Clean, text, refl, (0, kept a b text keeps))
+kept_front a b keeps (Err f) = (Fault, fault_text f, refl, (0, kept a b (fault_text f) keeps))
+
+part_front : (a b : Option (List ℕ)) (read : Result Script fault.Fault) → HasOutput read (AppendsPart a b)
+    → HasOutput read (AppendsFront a b)
+part_front a b read (ended, text, is, part) = (ended, text, is, front_of_part a b text part)
+
+-- after either fault a front of an output was written
+pub front_of_end : (r : Result Ended RunFault) (input : Option (List ℕ)) (bytes : List ℕ) (a b : Option (List ℕ))
+    → IfSome input (λ all. bytes ≡ all)
+    → (IsErrOf r run_fault.WriteFailed → HasNoAclLine bytes → HasOutput (script_of bytes) (AppendsPart a b))
+    → (IsErrOf r run_fault.Memory → Keeps a b) → (IsErrOf r run_fault.ReadFailed → ⊥)
+    → (IsErrOf r run_fault.TooLong → ⊥)
+    → IfErr r (λ _. IfSome input (λ all. HasNoAclLine all → HasOutput (script_of all) (AppendsFront a b)))
+front_of_end (Ok ended) input bytes a b is part keeps no_read no_length = tt
+front_of_end (Err e) None bytes a b is part keeps no_read no_length = tt
+front_of_end (Err run_fault.WriteFailed) (Some all) bytes a b is part keeps no_read no_length =
+    subst (λ t. HasNoAclLine t → HasOutput (script_of t) (AppendsFront a b)) is
+    (λ plain. part_front a b (script_of bytes) (part refl plain))
+front_of_end (Err run_fault.Memory) (Some all) bytes a b is part keeps no_read no_length =
+    λ plain. kept_front a b (keeps refl) (script_of all)
+front_of_end (Err run_fault.ReadFailed) (Some all) bytes a b is part keeps no_read no_length = absurd (no_read refl)
+front_of_end (Err run_fault.TooLong) (Some all) bytes a b is part keeps no_read no_length = absurd (no_length refl)
+
+-- what holds of the bytes that were read holds of the known ones
+pub of_input : (input : Option (List ℕ)) (bytes : List ℕ) (Q : List ℕ → Type 0) → IfSome input (λ all. bytes ≡ all)
+    → Q bytes → IfSome input Q
+of_input (Some all) bytes Q is holds = subst Q is holds
+of_input None bytes Q is holds = tt
+
+pub ok_of_input : {T E : Type 0} (r : Result T E) (input : Option (List ℕ)) (bytes : List ℕ) (Q : T → List ℕ → Type 0)
+    → IfSome input (λ all. bytes ≡ all) → IfOk r (λ x. Q x bytes) → IfOk r (λ x. IfSome input (Q x))
+ok_of_input (Ok x) input bytes Q is holds = of_input input bytes (Q x) is holds
+ok_of_input (Err e) input bytes Q is holds = tt
+
+-- a broker that gives the replies of a new one under the script's settings
+module _ (s : Script) (replies : List Event → List Reply) (events : List Event) (is : events ≡ s.events)
+    (same : (some : List Event) → replies some ≡ replies_to s.settings some) where
+  text_is_output : (ended : Ended) (text : List ℕ) → IsTextOfRun replies events ended text → IsOutput (Ok s) ended text
+  text_is_output Clean text whole =
+      whole ∙ ap text_of_replies (same events)
+      ∙ ap (λ all. text_of_replies (replies_to s.settings all)) is
+  text_is_output Stopped text (done, few, first) = (
+    done,
+    subst (λ all. done < length all) is few,
+    first ∙ ap (λ told. text_of_replies told ++ stopped_text done) (same (take done events))
+        ∙ ap (λ all. text_of_replies (replies_to s.settings (take done all)) ++ stopped_text done) is,
+  )
+  text_is_output Fault text none = none
+
+  pub run_is_output : {E : Type 0} (r : Result Ended E) (a b : Option (List ℕ))
+      → IfOk r (λ ended. WritesRun replies events ended a b) → IfOk r (λ ended. Writes (Ok s) ended a b)
+  run_is_output (Ok ended) a b (text, run, wrote) = (text, text_is_output ended text run, wrote)
+  run_is_output (Err e) a b wrote = tt
+
+  pub part_is_of_output : {E : Type 0} (r : Result Ended E) (e : E) (a b : Option (List ℕ))
+      → OnErr r (WritesPartOfRun replies events a b) → IsErrOf r e → HasOutput (Ok s) (AppendsPart a b)
+  part_is_of_output (Ok ended) e a b part failed = absurd (cc)
+  part_is_of_output (Err f) e a b (ended, text, run, part) failed = (ended, text, text_is_output ended text run, part)

@@ -1,3 +1,4 @@
 pub mod Limits
 pub mod Output
+pub mod Runs
 pub mod Transfer

@@ -8,3 +8,7 @@ script_limit = 16777216
 -- the most calls of a reader
 abbrev pub read_limit : ℕ
 read_limit = 20000000
+
+-- the most bytes of printed replies that are held
+abbrev pub piece_limit : ℕ
+piece_limit = 65536

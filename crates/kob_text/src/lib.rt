@@ -4,6 +4,8 @@
 mod fault;
 mod limits;
 mod output;
+mod pieces;
+mod replies;
 mod run;
 mod sink;
 mod source;

@@ -5,7 +5,13 @@ pub const SCRIPT_LIMIT: usize = 16_777_216;
 
 const _: () = prove!(SCRIPT_LIMIT == 16_777_216);
 
-/// The most calls of a reader; one that has not come to its end after so many counts as failed.
+/// The most calls of a reader, interrupted ones with them; one that has not come to its end after
+/// so many counts as failed.
 pub const READ_LIMIT: u32 = 20_000_000;
 
 const _: () = prove!(READ_LIMIT == 20_000_000);
+
+/// The most bytes of printed replies that are held before they are written.
+pub const PIECE_LIMIT: usize = 65_536;
+
+const _: () = prove!(PIECE_LIMIT == 65_536);

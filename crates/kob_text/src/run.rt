@@ -9,10 +9,10 @@ ghost use Rattle.kob_script.specs.Script.{script_of};
 ghost use Rattle.kob_script.specs.ScriptReadings.{HasNoAclLine};
 
 use crate::fault::RunFault;
-use crate::output::{Ended, output_of};
+use crate::output::{Ended, write_output};
 use crate::sink::Sink;
 use crate::source::Source;
-use crate::transfer::{read_all, write_all};
+use crate::transfer::read_all;
 use std::alloc::Global;
 use std::io::{Read, Write};
 
@@ -57,7 +57,5 @@ pub fn run_text<R: Read, W: Write>(
         → IfSome (R.remaining reader.old) (λ input. length input ≤ script_limit) }
 {
     let text = read_all(alloc, &mut Source::new(reader))?;
-    let output = output_of(alloc, &text)?;
-    write_all(&mut Sink::new(writer), &output.text)?;
-    Ok(output.ended)
+    write_output(alloc, &mut Sink::new(writer), &text)
 }

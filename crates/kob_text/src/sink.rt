@@ -4,7 +4,7 @@ ghost use Rattle.std.specs.Prelude.{◌≡◌, ◌<◌, ◌≤◌, length, true,
 ghost use Rattle.std.specs.Prelude.{OnErr, OnOk, IfOk};
 ghost use Rattle.std.specs.Io.KnownBytes.{Appends, Keeps};
 
-use std::io::Write;
+use std::io::{ErrorKind, Write};
 
 /// A writer, and whether it has failed: a call of it did, or took nothing.
 #[derive(Drop)]
@@ -30,8 +30,8 @@ impl<'a, W: Write> Sink<'a, W> {
         }
     }
 
-    /// Writes some of the text, and tells how many bytes of it. For an empty text the writer is not
-    /// called.
+    /// Writes some of the text, and tells how many bytes of it. An interrupted call is made again.
+    /// For an empty text the writer is not called.
     pub fn write(&mut self, text: &[u8]) -> Result<usize, WriteFailed>
         ensures same_reference { self.new.writer.ghost_name ≡ self.old.writer.ghost_name }
         ensures failed { OnErr result (self.new.failed ≡ true) }
@@ -47,12 +47,14 @@ impl<'a, W: Write> Sink<'a, W> {
         if text.is_empty() {
             return Ok(0);
         }
-        match self.writer.write(text) {
-            Ok(count) if count > 0 => Ok(count),
-            _ => {
-                self.failed = true;
-                Err(WriteFailed)
+        for _ in 0..u64::MAX {
+            match self.writer.write(text) {
+                Ok(count) if count > 0 => return Ok(count),
+                Err(error) if error.kind() == ErrorKind::Interrupted => {}
+                _ => break,
             }
         }
+        self.failed = true;
+        Err(WriteFailed)
     }
 }

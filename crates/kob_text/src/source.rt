@@ -6,7 +6,7 @@ ghost use Rattle.std.specs.Io.KnownBytes.{Consumes, IsAtEnd};
 ghost use Rattle.kob_text.specs.Limits.{read_limit};
 
 use crate::limits::READ_LIMIT;
-use std::io::Read;
+use std::io::{ErrorKind, Read};
 
 /// A reader, how many calls of it are left, and whether a call of it failed.
 #[derive(Drop)]
@@ -34,11 +34,12 @@ impl<'a, R: Read> Source<'a, R> {
         }
     }
 
-    /// The next bytes, put at the front of the piece; their number is 0 at the end of the reader.
+    /// The next bytes, put at the front of the piece; their number is 0 at the end of the reader. An
+    /// interrupted call is made again, while one is left.
     pub fn read(&mut self, piece: &mut [u8]) -> Result<usize, ReadFailed>
         ensures failed { OnErr result ((self.old.calls_left ≡ 0) ⊎ (self.new.failed ≡ true)) }
         ensures sound { OnOk result (self.new.failed ≡ self.old.failed) }
-        ensures calls { self.new.calls_left ≡ self.old.calls_left - 1 }
+        ensures calls { self.new.calls_left ≤ self.old.calls_left - 1 }
         ensures left { OnOk result (0 < self.old.calls_left) }
         ensures bound { IfOk result (λ count. count ≤ length piece.new) }
         ensures length { length piece.new ≡ length piece.old }
@@ -50,13 +51,15 @@ impl<'a, R: Read> Source<'a, R> {
         if self.calls_left == 0 {
             return Err(ReadFailed);
         }
-        self.calls_left -= 1;
-        match self.reader.read(piece) {
-            Ok(count) => Ok(count),
-            Err(_) => {
-                self.failed = true;
-                Err(ReadFailed)
+        while self.calls_left > 0 {
+            self.calls_left -= 1;
+            match self.reader.read(piece) {
+                Ok(count) => return Ok(count),
+                Err(error) if error.kind() == ErrorKind::Interrupted => {}
+                Err(_) => break,
             }
         }
+        self.failed = true;
+        Err(ReadFailed)
     }
 }

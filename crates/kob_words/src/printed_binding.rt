@@ -10,24 +10,19 @@ use crate::permission::permission_name;
 use crate::printed_text::{push_bytes, push_number};
 use crate::resource::resource_name;
 use kob_names::{Binding, Draft};
-use std::alloc::{AllocError, Global};
+use std::alloc::AllocError;
 
 /// Prints a binding with its serial, as `binding SERIAL PERMISSION PRINCIPAL HOST OPERATION
 /// RESOURCE PATTERN NAME`, with no line feed after it. The error is want of memory; `out` has then
 /// grown by a part of it.
 #[tactic(auto, using(crate::proofs::Appending::appending))]
-pub fn print_binding(
-    alloc: Global,
-    out: &mut Vec<u8>,
-    serial: u64,
-    binding: &Binding,
-) -> Result<(), AllocError>
+pub fn print_binding(out: &mut Vec<u8>, serial: u64, binding: &Binding) -> Result<(), AllocError>
     ensures text { OnOk result (out.new.items ≡ out.old.items ++ binding_text serial binding.now) }
     ensures ascii { OnOk result (IsAscii (binding_text serial binding.now)) }
 {
     let parts = binding.parts();
     out.extend_from_slice(b"binding ")?;
-    push_number(alloc, out, serial)?;
+    push_number(out, serial)?;
     out.extend_from_slice(b" ")?;
     push_grant(out, parts)?;
     out.extend_from_slice(b" ")?;

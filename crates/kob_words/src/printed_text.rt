@@ -6,7 +6,8 @@ ghost use Rattle.std.specs.Fmt.{decimal};
 ghost use Rattle.std.specs.Str.{IsAscii};
 ghost use Rattle.kob_words.specs.PrintedText.{is_plain, byte_text, bytes_text};
 
-use std::alloc::{AllocError, Global};
+use itoa::Buffer;
+use std::alloc::AllocError;
 
 /// Prints bytes: each outside 0x21 to 0x7e, and each `%` and `=`, is `%` and two lower-case
 /// hexadecimal digits.
@@ -55,10 +56,10 @@ fn hex_digit(digit: u8) -> u8
 
 /// Prints a number in decimal digits.
 #[tactic(auto, using(crate::proofs::Appending::appending))]
-pub fn push_number(alloc: Global, out: &mut Vec<u8>, number: u64) -> Result<(), AllocError>
+pub fn push_number(out: &mut Vec<u8>, number: u64) -> Result<(), AllocError>
     ensures text { OnOk result (out.new.items ≡ out.old.items ++ decimal number) }
     ensures ascii { OnOk result (IsAscii (decimal number)) }
 {
-    let digits = number.to_string(alloc)?;
-    out.extend_from_slice(digits.as_bytes())
+    let mut digits = Buffer::new();
+    out.extend_from_slice(digits.format(number).as_bytes())
 }

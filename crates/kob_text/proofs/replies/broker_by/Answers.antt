@@ -1,6 +1,6 @@
 use Rattle.kob_broker.specs.State.{open_state}
 use Rattle.kob_broker.proofs.Lifting.{runs_alike}
-use Rattle.kob_text.proofs.output.broker_by.Goals as goal
+use Rattle.kob_text.proofs.replies.broker_by.Goals as goal
 
 pub returns-in-Ok-clause-answers : goal.returns-in-Ok-clause-answers
 returns-in-Ok-clause-answers c = λ events.

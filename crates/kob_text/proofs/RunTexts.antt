@@ -1,0 +1,70 @@
+-- What was written of the text of a run.
+use Rattle.std.proofs.Common.{◌≡◌, ◌∙◌, ◌<◌, ◌≤◌, ◌++◌, ℕ, List, length, take, Option, Result, Ok, Err, OnOk, false, true, ap, refl, sym, inl, inr, append-nil, take-append-drop, drop_of_length-le}
+use Rattle.std.specs.Result.{is_err}
+use Rattle.std.proofs.lemmas.Bool.{cases_lt}
+use Rattle.std.specs.Io.KnownBytes.{Appends}
+use Rattle.kob_rights.specs.declared.event.Event.{Event}
+use Rattle.kob_rights.specs.declared.reply.Reply.{Reply}
+use Rattle.kob_text.specs.declared.output.Ended.TheVariants.{Clean, Stopped}
+use Rattle.kob_script.specs.PrintedReply.{text_of_replies, stopped_text}
+use Rattle.kob_text.specs.Runs.{WritesRun, WritesPartOfRun}
+use Rattle.kob_text.specs.Transfer.{AppendsAllBut, AppendsPart}
+use Rattle.kob_text.proofs.Parts.{all_written, part_of_front, part_of_held, part_with_more, written_with_more}
+
+pub of_ok : {T E : Type 0} {P : Type 0} (r : Result T E) → is_err r ≡ false → OnOk r P → P
+of_ok (Ok x) is holds = holds
+of_ok (Err e) is holds = absurd (cc is)
+
+take_all : {A : Type 0} (xs : List A) (n : ℕ) → length xs ≤ n → take n xs ≡ xs
+take_all xs n past =
+    sym (append-nil (take n xs)) ∙ ap (λ rest. take n xs ++ rest) (sym (drop_of_length-le xs past))
+    ∙ take-append-drop n xs
+
+module _ (replies : List Event → List Reply) (events : List Event) (done : ℕ) (a b : Option (List ℕ)) where
+  -- a part of the text of the first replies is a part of that of a run
+  pub part_of_run : done ≤ length events → AppendsPart a b (text_of_replies (replies (take done events)))
+      → WritesPartOfRun replies events a b
+  part_of_run within part =
+      let text = text_of_replies (replies (take done events)) in
+      elim (cases_lt done (length events)) [
+        | inl fewer ↦ (
+          Stopped,
+          text ++ stopped_text done,
+          (done, fewer, refl),
+          part_of_front a b text (stopped_text done) part,
+        )
+        | inr all ↦ (Clean, text, ap (λ some. text_of_replies (replies some)) (take_all events done all), part)
+      ]
+
+  module _ (c : Option (List ℕ)) (held : List ℕ) (so_far : AppendsAllBut a b (text_of_replies (replies (take done events))) held) where
+    pub all_of_run : length events ≤ done → Appends b c held → WritesRun replies events Clean a c
+    all_of_run past wrote = (
+      text_of_replies (replies (take done events)),
+      ap (λ some. text_of_replies (replies some)) (take_all events done past),
+      all_written a b c (text_of_replies (replies (take done events))) held so_far wrote,
+    )
+
+    pub part_of_whole_run : length events ≤ done → AppendsPart b c held → WritesPartOfRun replies events a c
+    part_of_whole_run past part = (
+      Clean,
+      text_of_replies (replies (take done events)),
+      ap (λ some. text_of_replies (replies some)) (take_all events done past),
+      part_of_held a b c (text_of_replies (replies (take done events))) held so_far part,
+    )
+
+    pub stopped_run : done < length events → Appends b c (held ++ stopped_text done)
+        → WritesRun replies events Stopped a c
+    stopped_run few wrote = (
+      text_of_replies (replies (take done events)) ++ stopped_text done,
+      (done, few, refl),
+      written_with_more a b c (text_of_replies (replies (take done events))) held so_far (stopped_text done) wrote,
+    )
+
+    pub part_of_stopped_run : done < length events → AppendsPart b c (held ++ stopped_text done)
+        → WritesPartOfRun replies events a c
+    part_of_stopped_run few part = (
+      Stopped,
+      text_of_replies (replies (take done events)) ++ stopped_text done,
+      (done, few, refl),
+      part_with_more a b c (text_of_replies (replies (take done events))) held so_far (stopped_text done) part,
+    )

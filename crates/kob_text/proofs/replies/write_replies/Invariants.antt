@@ -1,0 +1,22 @@
+-- The events so far were served: their replies were written, but for the end of them that is held.
+use Rattle.std.proofs.Common.{◌≡◌, ◌≤◌, take, vec_len, vec_capacity}
+use Rattle.kob_broker.specs.Change.{state_of}
+use Rattle.kob_broker.specs.Step.{state_after}
+use Rattle.kob_partition.specs.Retained.{retained_meaning}
+use Rattle.kob_script.specs.PrintedReply.{text_of_replies}
+use Rattle.kob_text.specs.Limits.{piece_limit}
+use Rattle.kob_text.specs.Runs.{replies_from}
+use Rattle.kob_text.specs.Transfer.{AppendsAllBut}
+use Rattle.kob_text.proofs.replies.write_replies.Given as goal
+
+abbrev pub invariant-loop-done : goal.invariant-loop-done
+invariant-loop-done g l = record {
+  same_reference : l.sink.writer.ghost_name ≡ l.initial.sink.writer.ghost_name;
+  piece : vec_len l.held ≤ piece_limit;
+  room : piece_limit ≤ vec_capacity l.held;
+  state : state_of l.broker
+      ≡ state_after retained_meaning (take l.done l.events) (state_of l.initial.broker);
+  written : AppendsAllBut (g.W.Write.contents l.initial.sink.writer.now)
+      (g.W.Write.contents l.sink.writer.now)
+      (text_of_replies (replies_from (state_of l.initial.broker) (take l.done l.events))) l.held.items;
+}

@@ -1,0 +1,112 @@
+//! The replies to a script, served, printed and written one after another.
+
+ghost use Rattle.std.specs.Prelude.{◌≡◌, ◌≤◌, List, [], Ok, true, vec_len, vec_capacity};
+ghost use Rattle.std.specs.Prelude.{IfOk, IfErr, OnOk, OnErr, IsErrOf};
+ghost use Rattle.std.specs.Io.KnownBytes.{Keeps};
+ghost use Rattle.kob_broker.specs.Change.{state_of};
+ghost use Rattle.kob_broker.specs.Step.{step, replies_of};
+ghost use Rattle.kob_partition.specs.Retained.{retained_meaning};
+ghost use Rattle.kob_rights.specs.declared.event.Event as event;
+ghost use Rattle.kob_script.specs.PrintedReply.{reply_text};
+ghost use Rattle.kob_text.specs.Limits.{piece_limit};
+ghost use Rattle.kob_text.specs.Output.{HasOutput, Writes, replies_to};
+ghost use Rattle.kob_text.specs.Runs.{WritesRun, WritesPartOfRun, replies_from};
+ghost use Rattle.kob_text.specs.Transfer.{AppendsPart};
+
+use crate::fault::RunFault;
+use crate::limits::PIECE_LIMIT;
+use crate::output::Ended;
+use crate::pieces::{put, write_stopped};
+use crate::sink::Sink;
+use crate::transfer::write_all;
+use kob_broker::{Broker, OpenFault};
+use kob_names::Settings;
+use kob_rights::Event;
+use kob_script::{Script, print_reply};
+use std::alloc::{AllocError, Global};
+use std::io::Write;
+
+// A script opens no bindings, so that want of memory is the only error.
+fn broker_by(alloc: Global, settings: Settings) -> Result<Broker, RunFault>
+    ensures answers { IfOk result (λ broker. (events : List event.Event)
+        → replies_of retained_meaning events (state_of broker) ≡ replies_to settings events) }
+    ensures memory { IfErr result (λ fault. fault ≡ RunFault.Memory) }
+{
+    match Broker::open(alloc, settings) {
+        Ok(broker) => Ok(broker),
+        Err(OpenFault::Memory | OpenFault::TooMany) => Err(RunFault::Memory),
+    }
+}
+
+// Serves an event, and prints its reply behind its number in place of what `out` held.
+fn print_reply_to(
+    alloc: Global,
+    broker: &mut Broker,
+    event: &Event,
+    number: u64,
+    out: &mut Vec<u8>,
+) -> Result<(), AllocError>
+    ensures text { OnOk result (out.new.items
+        ≡ reply_text number (step retained_meaning (state_of broker.old) event.now).reply) }
+    ensures state { OnOk result (state_of broker.new
+        ≡ (step retained_meaning (state_of broker.old) event.now).state) }
+{
+    out.clear();
+    let reply = broker.serve(alloc, event)?;
+    print_reply(out, number, &reply)
+}
+
+/// Serves requests and writes the replies as they are made, at most 65,536 bytes or one reply at a
+/// time. Want of memory ends the run as `Stopped`. The fault is `WriteFailed`.
+fn write_replies<W: Write>(
+    alloc: Global,
+    sink: &mut Sink<'_, W>,
+    held: &mut Vec<u8>,
+    broker: &mut Broker,
+    events: &[Event],
+) -> Result<Ended, RunFault>
+    requires none { held.old.items ≡ [] }
+    requires piece { vec_len held.old ≤ piece_limit }
+    requires room { piece_limit ≤ vec_capacity held.old }
+    ensures same_reference { sink.new.writer.ghost_name ≡ sink.old.writer.ghost_name }
+    ensures output { IfOk result (λ ended. WritesRun (replies_from (state_of broker.old)) events.now
+        ended (W.contents sink.old.writer.now) (W.contents sink.new.writer.now)) }
+    ensures part { OnErr result (WritesPartOfRun (replies_from (state_of broker.old)) events.now
+        (W.contents sink.old.writer.now) (W.contents sink.new.writer.now)) }
+    ensures failed { OnErr result (sink.new.failed ≡ true) }
+    ensures fault { IfErr result (λ fault. fault ≡ RunFault.WriteFailed) }
+{
+    let mut text = Vec::new(alloc);
+    for (done, event) in events.iter().enumerate() {
+        if print_reply_to(alloc, broker, event, done as u64 + 1, &mut text).is_err() {
+            write_stopped(sink, held, done as u64)?;
+            return Ok(Ended::Stopped);
+        }
+        put(sink, held, &text)?;
+    }
+    write_all(sink, held)?;
+    Ok(Ended::Clean)
+}
+
+/// Serves a script and writes its output. `Memory` comes before the first request alone.
+pub fn write_run<W: Write>(
+    alloc: Global,
+    sink: &mut Sink<'_, W>,
+    script: Script,
+) -> Result<Ended, RunFault>
+    ensures same_reference { sink.new.writer.ghost_name ≡ sink.old.writer.ghost_name }
+    ensures output { IfOk result (λ ended. Writes (Ok script) ended
+        (W.contents sink.old.writer.now) (W.contents sink.new.writer.now)) }
+    ensures part { IsErrOf result RunFault.WriteFailed → HasOutput (Ok script)
+        (AppendsPart (W.contents sink.old.writer.now) (W.contents sink.new.writer.now)) }
+    ensures memory { IsErrOf result RunFault.Memory
+        → Keeps (W.contents sink.old.writer.now) (W.contents sink.new.writer.now) }
+    ensures failed { IsErrOf result RunFault.WriteFailed → sink.new.failed ≡ true }
+    ensures not_read { IsErrOf result RunFault.ReadFailed → ⊥ }
+    ensures not_too_long { IsErrOf result RunFault.TooLong → ⊥ }
+{
+    let Script { settings, events } = script;
+    let mut broker = broker_by(alloc, settings)?;
+    let mut held = Vec::with_capacity(alloc, PIECE_LIMIT)?;
+    write_replies(alloc, sink, &mut held, &mut broker, events.as_slice())
+}
