@@ -47,33 +47,42 @@ part_front : (a b : Option (List ℕ)) (read : Result Script fault.Fault) → Ha
     → HasOutput read (AppendsFront a b)
 part_front a b read (ended, text, is, part) = (ended, text, is, front_of_part a b text part)
 
--- after either fault a front of an output was written
-pub front_of_end : (r : Result Ended RunFault) (input : Option (List ℕ)) (bytes : List ℕ) (a b : Option (List ℕ))
+front_at_end : (r : Result Ended RunFault) (input : Option (List ℕ)) (bytes : List ℕ) (a b : Option (List ℕ))
     → IfSome input (λ all. bytes ≡ all)
     → (IsErrOf r run_fault.WriteFailed → HasNoAclLine bytes → HasOutput (script_of bytes) (AppendsPart a b))
     → (IsErrOf r run_fault.Memory → Keeps a b) → (IsErrOf r run_fault.ReadFailed → ⊥)
     → (IsErrOf r run_fault.TooLong → ⊥)
     → IfErr r (λ _. IfSome input (λ all. HasNoAclLine all → HasOutput (script_of all) (AppendsFront a b)))
-front_of_end (Ok ended) input bytes a b is part keeps no_read no_length = tt
-front_of_end (Err e) None bytes a b is part keeps no_read no_length = tt
-front_of_end (Err run_fault.WriteFailed) (Some all) bytes a b is part keeps no_read no_length =
+front_at_end (Ok ended) input bytes a b is part keeps no_read no_length = tt
+front_at_end (Err e) None bytes a b is part keeps no_read no_length = tt
+front_at_end (Err run_fault.WriteFailed) (Some all) bytes a b is part keeps no_read no_length =
     subst (λ t. HasNoAclLine t → HasOutput (script_of t) (AppendsFront a b)) is
     (λ plain. part_front a b (script_of bytes) (part refl plain))
-front_of_end (Err run_fault.Memory) (Some all) bytes a b is part keeps no_read no_length =
+front_at_end (Err run_fault.Memory) (Some all) bytes a b is part keeps no_read no_length =
     λ plain. kept_front a b (keeps refl) (script_of all)
-front_of_end (Err run_fault.ReadFailed) (Some all) bytes a b is part keeps no_read no_length = absurd (no_read refl)
-front_of_end (Err run_fault.TooLong) (Some all) bytes a b is part keeps no_read no_length = absurd (no_length refl)
+front_at_end (Err run_fault.ReadFailed) (Some all) bytes a b is part keeps no_read no_length = absurd (no_read refl)
+front_at_end (Err run_fault.TooLong) (Some all) bytes a b is part keeps no_read no_length = absurd (no_length refl)
 
--- what holds of the bytes that were read holds of the known ones
-pub of_input : (input : Option (List ℕ)) (bytes : List ℕ) (Q : List ℕ → Type 0) → IfSome input (λ all. bytes ≡ all)
-    → Q bytes → IfSome input Q
-of_input (Some all) bytes Q is holds = subst Q is holds
-of_input None bytes Q is holds = tt
+-- after either fault a front of an output was written
+pub front_of_end : (r : Result Ended RunFault) (input : Option (List ℕ)) (bytes : List ℕ)
+    (old new a b : Option (List ℕ)) → IfSome input (λ all. bytes ≡ all) → a ≡ old → b ≡ new
+    → (IsErrOf r run_fault.WriteFailed → HasNoAclLine bytes → HasOutput (script_of bytes) (AppendsPart a b))
+    → (IsErrOf r run_fault.Memory → Keeps a b) → (IsErrOf r run_fault.ReadFailed → ⊥)
+    → (IsErrOf r run_fault.TooLong → ⊥)
+    → IfErr r (λ _. IfSome input (λ all. HasNoAclLine all → HasOutput (script_of all) (AppendsFront old new)))
+front_of_end r input bytes old new a b is first last part keeps no_read no_length =
+    subst (λ w. IfErr r (λ _. IfSome input (λ all. HasNoAclLine all → HasOutput (script_of all) (AppendsFront w new))))
+    first
+    (subst (λ w. IfErr r (λ _. IfSome input (λ all. HasNoAclLine all → HasOutput (script_of all) (AppendsFront a w))))
+    last (front_at_end r input bytes a b is part keeps no_read no_length))
 
-pub ok_of_input : {T E : Type 0} (r : Result T E) (input : Option (List ℕ)) (bytes : List ℕ) (Q : T → List ℕ → Type 0)
-    → IfSome input (λ all. bytes ≡ all) → IfOk r (λ x. Q x bytes) → IfOk r (λ x. IfSome input (Q x))
-ok_of_input (Ok x) input bytes Q is holds = of_input input bytes (Q x) is holds
-ok_of_input (Err e) input bytes Q is holds = tt
+pub fault_written : (f : fault.Fault) (text : List ℕ) (a b : Option (List ℕ)) → text ≡ fault_text f
+    → Appends a b text → Writes (Err f) Fault a b
+fault_written f text a b is wrote = (text, is, wrote)
+
+pub fault_part : (f : fault.Fault) (text : List ℕ) (a b : Option (List ℕ)) → text ≡ fault_text f
+    → AppendsPart a b text → HasOutput (Err f) (AppendsPart a b)
+fault_part f text a b is part = (Fault, text, is, part)
 
 -- a broker that gives the replies of a new one under the script's settings
 module _ (s : Script) (replies : List Event → List Reply) (events : List Event) (is : events ≡ s.events)
