@@ -111,12 +111,18 @@ fn a_tree_is_changed(rt: HostRuntime) -> Result<(), Fail> {
     Ok(())
 }
 
-/// Whether a list of 256 items takes one more and gives its first chunk back.
+/// Whether a list of 255 items takes two more and gives its first chunk back.
 fn changes_list(alloc: Global, list: &mut ChunkList<u64>) -> Result<bool, AllocError> {
-    list.reserve(257)?;
-    spare(alloc);
-    for item in 0..257 {
+    for item in 0..255 {
+        list.reserve_one()?;
         list.push_reserved(item);
+    }
+    list.reserve(2)?;
+    spare(alloc);
+    list.push_reserved(255);
+    list.push_reserved(256);
+    if list.len() != 257 {
+        return Ok(false);
     }
     list.drop_front_chunks(1);
     Ok(list.get(0) == Some(&256) && list.len() == 1)
