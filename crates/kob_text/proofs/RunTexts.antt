@@ -1,5 +1,5 @@
 -- What was written of the text of a run.
-use Rattle.std.proofs.Common.{◌≡◌, ◌∙◌, ◌<◌, ◌≤◌, ◌++◌, ℕ, List, length, take, Option, Result, Ok, Err, OnOk, false, true, ap, refl, sym, inl, inr, append-nil, take-append-drop, drop_of_length-le}
+use Rattle.std.proofs.Common.{◌≡◌, ◌∙◌, ◌<◌, ◌≤◌, ◌++◌, ℕ, List, length, take, Option, Result, Ok, Err, OnOk, false, ap, refl, sym, inl, inr, append-nil, take-append-drop, drop_of_length-le}
 use Rattle.std.specs.Result.{is_err}
 use Rattle.std.proofs.lemmas.Bool.{cases_lt}
 use Rattle.std.specs.Io.KnownBytes.{Appends}

@@ -1,4 +1,4 @@
-use Rattle.std.proofs.Common.{◌≡◌, ◌+◌, ◌<◌, ◌≤◌, ℕ, length, arith, rules}
+use Rattle.std.proofs.Common.{◌+◌, ◌<◌, ◌≤◌, length, arith, rules}
 use Rattle.kob_broker.specs.Change.{state_of}
 use Rattle.kob_partition.specs.Retained.{retained_meaning}
 use Rattle.kob_text.specs.Runs.{replies_from}
