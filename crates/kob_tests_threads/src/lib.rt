@@ -22,8 +22,6 @@ mod pipelines;
 #[cfg(test)]
 mod plans;
 #[cfg(test)]
-mod refused;
-#[cfg(test)]
 mod revoked;
 #[cfg(test)]
 mod sessions;
