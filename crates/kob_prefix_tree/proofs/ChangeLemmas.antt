@@ -1,6 +1,5 @@
 -- A place of the tree whose contents change at one key.
 use Rattle.std.proofs.Common.{◌≡◌, ◌≢◌, ℕ, ◌==◌, true, false, List, [], ◌∷◌, ◌++◌, Option, None, Some, length, arith, unwrap_or, refl, sym, ap, ◌∙◌, subst}
-use Rattle.std.proofs.Math.Bool.{true≢false}
 use Rattle.std.proofs.lemmas.Bool.{eqb-true}
 use Rattle.kob_prefix_tree.specs.Trie.{Trie, void, sibling, Contents, bare, led_by}
 use Rattle.kob_prefix_tree.specs.Held.{Held, nothing}
@@ -50,7 +49,8 @@ held_in_bare (byte ∷ key) = refl
 pub own_alone : (key : List ℕ) (old new : Contents) → length key ≡ 0 → new.1 ≡ old.1
     → (other : List ℕ) → other ≢ key → held_in other new ≡ held_in other old
 own_alone key old new none same [] ne = absurd (ne (no_bytes key none))
-own_alone key old new none same (byte ∷ other) ne = ap (λ t. behind_one (held_in other) (value_at byte (siblings t))) same
+own_alone key old new none same (byte ∷ other) ne =
+    ap (λ t. behind_one (held_in other) (value_at byte (siblings t))) same
 
 -- what stood behind a byte, or nothing
 pub held_behind : (o : Option Contents) (key : List ℕ) → held_in key (unwrap_or o bare) ≡ behind_one (held_in key) o

@@ -1,7 +1,7 @@
 -- A place of the tree, its entries and its map.
 use Rattle.std.proofs.Common.{◌≡◌, ◌≢◌, ℕ, ◌==◌, true, false, cond, List, [], ◌∷◌, ◌++◌, Option, None, Some, refl, sym, ap, ◌∙◌, subst}
 use Rattle.std.proofs.lemmas.Bool.{eq-eqb}
-use Rattle.kob_prefix_tree.specs.Trie.{Trie, void, sibling, Contents, bare, led_by}
+use Rattle.kob_prefix_tree.specs.Trie.{Trie, void, sibling, Contents, bare}
 use Rattle.kob_prefix_tree.specs.Held.{Held, nothing}
 use Rattle.kob_prefix_tree.specs.Siblings.{siblings, value_at, behind_one, held_in, IsNeat}
 use Rattle.kob_prefix_tree.specs.Entries.{Entries, held_at, held_behind, behind, entries_below, entries_of, AllInUse, IsTidy, children_of, entries_in}

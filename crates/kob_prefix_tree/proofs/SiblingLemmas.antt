@@ -2,7 +2,7 @@
 use Rattle.std.proofs.Common.{◌≡◌, ◌≢◌, ℕ, ◌==◌, true, false, cond, List, [], ◌∷◌, None, Some, refl, sym, ap, ◌∙◌, subst}
 use Rattle.std.proofs.Math.Bool.{true≢false}
 use Rattle.std.proofs.lemmas.Bool.{eqb-true, eq-eqb}
-use Rattle.kob_prefix_tree.specs.Trie.{Trie, void, sibling, Contents, bare, led_by}
+use Rattle.kob_prefix_tree.specs.Trie.{Trie, void, sibling, Contents, bare}
 use Rattle.kob_prefix_tree.specs.Siblings.{siblings, value_at, with_value, without, IsNeat}
 
 ne_eqb : (a b : ℕ) → a ≢ b → a == b ≡ false

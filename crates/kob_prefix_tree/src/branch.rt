@@ -164,6 +164,31 @@ impl Branch {
         self.below.put_front(room, alloc, byte, branch);
     }
 
+    /// As `link`, at a branch that may have a tail, which then goes into the block.
+    fn graft(
+        &mut self,
+        path: Link<Item>,
+        room: Room,
+        alloc: Global,
+        kind: PatternKind,
+        serials: Serials,
+    )
+        requires absent { (byte : ℕ) → (rest : List ℕ) → key_of path.nodes ≡ byte ∷ rest
+            → value_at byte (siblings (contents self.old).1) ≡ None }
+        requires neat { IsNeat (contents self.old).1 }
+        requires some { serials ≢ [] }
+        ensures no_tail { self.new.tail ≡ [] }
+        ensures neat { IsNeat (contents self.new).1 }
+        ensures some { contents self.new ≢ bare }
+        ensures put { held_in (key_of path.nodes) (contents self.new)
+            ≡ with_serials kind serials (held_in (key_of path.nodes) (contents self.old)) }
+        ensures elsewhere { (other : List ℕ) → other ≢ key_of path.nodes
+            → held_in other (contents self.new) ≡ held_in other (contents self.old) }
+    {
+        self.cut(room, alloc);
+        self.link(path, kind, serials);
+    }
+
     /// Puts the serials last at the key that the nodes of the path spell. Those whose bytes stand
     /// already are freed, the others linked in, and a node within whose bytes the key ends or parts
     /// is cut in two, with the block. It calls itself once a byte that leads on.
@@ -188,14 +213,10 @@ impl Branch {
     {
         let mut path = path;
         let Some(byte) = path.first_byte() else {
-            self.cut(room, alloc);
-            self.link(path, kind, serials);
-            return;
+            return self.graft(path, room, alloc, kind, serials);
         };
         if !self.leads_on(byte) {
-            self.cut(room, alloc);
-            self.link(path, kind, serials);
-            return;
+            return self.graft(path, room, alloc, kind, serials);
         }
         path.drop_byte();
         let mut branch = Branch::new();
@@ -235,8 +256,7 @@ impl Branch {
         let Ok(room) = Vacant::take(alloc) else {
             return Err(AllocError);
         };
-        self.cut(room, alloc);
-        self.link(path, kind, serials);
+        self.graft(path, room, alloc, kind, serials);
         Ok(())
     }
 

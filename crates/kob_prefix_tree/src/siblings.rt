@@ -11,7 +11,7 @@ use crate::node::Node;
 use crate::serials::Serials;
 use crate::tail::Tail;
 use std::alloc::Global;
-use std::mem::{replace, swap};
+use std::mem::{replace, size_of, swap};
 use std_alloc::room::Vacant;
 
 /// What a node keeps: its bytes, by the first of which its siblings are told apart, and the serials
@@ -26,6 +26,8 @@ pub(crate) struct Item {
 
 /// A node of the tree. It takes 40 bytes.
 pub(crate) type ByteNode = Node<Item, Link<Item>, Link<Item>>;
+
+const _: () = prove!(size_of::<ByteNode>() == 40);
 
 /// A block for a node.
 pub(crate) type Room = Vacant<Node<Item, Link<Item>, Link<Item>>, Global>;
@@ -99,8 +101,8 @@ impl Link<Item> {
         node.next.exchange(byte, branch);
     }
 
-    /// Takes the node that begins with this byte out and frees it. The one behind it takes its place. It calls
-    /// itself once a sibling.
+    /// Takes the node that begins with this byte out and frees it. The one behind it takes its place.
+    /// It calls itself once a sibling.
     #[cycle(unlink)]
     pub(crate) fn unlink(&mut self, byte: u8)
         ensures { siblings (trie_of self.new.nodes)

@@ -11,8 +11,8 @@ use crate::branch::Branch;
 use crate::kind::PatternKind;
 use crate::link::Link;
 use crate::part::Part;
-use crate::serials::Serials;
 use crate::path::{path_of, spare_node};
+use crate::serials::Serials;
 use crate::siblings::Item;
 use crate::walk::Walk;
 use std::alloc::{AllocError, Global};
@@ -23,10 +23,10 @@ use std::marker::Model;
 ///
 /// A node has one to seven bytes of a key, the serials of the key that ends with them, its first
 /// child and its next sibling, and takes 40 bytes. No two siblings begin with one byte, and no node
-/// stays that holds nothing and leads nowhere. A node is cut in two where a key ends or parts within
-/// its bytes; two are never joined again. What adds or removes calls itself once a byte of the key,
-/// and at each node once a sibling, from which it comes back before it goes on. All else is loops,
-/// freeing the tree too. A tree may be moved to another thread.
+/// stays that holds nothing and leads nowhere. Where a key ends or parts within its bytes a node is
+/// cut in two, which no removal joins again. What adds or removes calls itself once a byte of the
+/// key, and at each node once a sibling, from which it comes back before it goes on. All else is
+/// loops, freeing the tree too. A tree may be moved to another thread.
 #[derive(Drop)]
 pub struct PrefixTree {
     root: Branch,
@@ -105,8 +105,8 @@ impl PrefixTree {
     }
 
     /// The first step of an addition: makes the nodes and the serial's place as a piece of its own.
-    /// It makes nodes for the whole key, one for every seven bytes, since those that stand now may be
-    /// removed before the second step, and one more.
+    /// It makes a node for every seven bytes of the key, since those that stand now may be removed
+    /// before the second step, and one more, since one may have to be cut in two.
     pub fn prepare_add(
         &self,
         alloc: Global,

@@ -14,7 +14,8 @@ add-added-requires t c =
     let x = c.exchange.ensures in (
       omega (arith, c.in-Some.ensures.cases.1),
       (
-        neat_had c.in-Some.byte.now c.in-Some.rest.now (contents c.args.self.now) (contents c.exchange.new.self) c.in-Some.ensures.cases.0 c.requires.neat
+        neat_had c.in-Some.byte.now c.in-Some.rest.now (contents c.args.self.now) (contents c.exchange.new.self)
+            c.in-Some.ensures.cases.0 c.requires.neat
             c.new-branch.ensures.bare x.kept x.here x.there,
         c.requires.some,
       ),

@@ -1,4 +1,4 @@
-use Rattle.std.proofs.Common.{◌≡◌, ◌∷◌, ◌++◌, length, sym, ap, ◌∙◌}
+use Rattle.std.proofs.Common.{◌∷◌, ◌++◌, length, sym, ap, ◌∙◌}
 use Rattle.kob_prefix_tree.specs.Held.{Held, with_serials}
 use Rattle.kob_prefix_tree.specs.Trie.{Trie, Contents, led_by}
 use Rattle.kob_prefix_tree.specs.Contents.{contents, trie_of}

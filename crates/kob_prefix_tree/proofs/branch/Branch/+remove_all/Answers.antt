@@ -9,12 +9,14 @@ use Rattle.kob_prefix_tree.proofs.branch.Branch.+remove_all.Goals as goal
 
 pub returns-in_default-clause-elsewhere : goal.returns-in_default-clause-elsewhere
 returns-in_default-clause-elsewhere t c =
-    own_alone c.args.key.now (contents c.args.self.now) (contents c.remove_here.new.self) c.in_default.ensures.cases c.remove_here.ensures.below
+    own_alone c.args.key.now (contents c.args.self.now) (contents c.remove_here.new.self)
+    c.in_default.ensures.cases c.remove_here.ensures.below
 
 pub remove_all-found-requires : goal.remove_all-found-requires
 remove_all-found-requires t c = (
   omega (arith, c.in-Some.ensures.cases.1),
-  neat_had c.in-Some.byte.now c.in-Some.rest.now (contents c.args.self.now) (contents c.exchange.new.self) c.in-Some.ensures.cases.0 c.requires.neat c.new-branch.ensures.bare
+  neat_had c.in-Some.byte.now c.in-Some.rest.now (contents c.args.self.now) (contents c.exchange.new.self)
+      c.in-Some.ensures.cases.0 c.requires.neat c.new-branch.ensures.bare
       c.exchange.ensures.kept c.exchange.ensures.here c.exchange.ensures.there,
 )
 

@@ -7,4 +7,5 @@ pub returns-then-not-is_empty : goal.returns-then-not-is_empty
 returns-then-not-is_empty c =
     let p = c.args.self in
     c.nothing.ensures
-    ∙ none_before c.args.kind p.tail.now ((p.literal.now, p.prefixed.now), trie_of p.below.now.nodes) (sym c.is_empty.ensures ∙ c.if-not-is_empty.true)
+    ∙ none_before c.args.kind p.tail.now ((p.literal.now, p.prefixed.now), trie_of p.below.now.nodes)
+    (sym c.is_empty.ensures ∙ c.if-not-is_empty.true)
