@@ -19,11 +19,12 @@ fn put_beginnings(alloc: Global, tree: &mut PrefixTree) -> Result<(), AllocError
 /// Whether each beginning comes out once, the shortest one first, and the longer ones stay.
 fn lets_beginnings_go(tree: &mut PrefixTree) -> bool {
     for length in 0..=LONG.len() {
-        if !tree.remove(&LONG[..length], PatternKind::Prefixed, length as u64) {
+        let key = &LONG[..length];
+        let serial = length as u64;
+        if !tree.remove(key, PatternKind::Prefixed, serial) {
             return false;
         }
-        let left = tree.walk(LONG).count();
-        if left != LONG.len() - length || tree.walk(&LONG[..length]).next().is_some() {
+        if !tree.walk(LONG).eq(serial + 1..18) || tree.walk(key).next().is_some() {
             return false;
         }
     }
