@@ -3,13 +3,20 @@ use Rattle.std.proofs.Common.{◌≡◌, ◌≢◌, List, ℕ, [], Result, Ok, E
 use Rattle.kob_prefix_tree.specs.declared.kind.PatternKind.{PatternKind}
 use Rattle.kob_prefix_tree.specs.declared.kind.PatternKind.TheVariants.{Literal, Prefixed}
 use Rattle.kob_prefix_tree.specs.Held.{Held, nothing, with_serials}
-use Rattle.kob_prefix_tree.specs.Siblings.{Contents, bare, held_in, IsNeat}
+use Rattle.kob_prefix_tree.specs.Trie.{Contents, bare}
+use Rattle.kob_prefix_tree.specs.Siblings.{held_in, IsNeat}
 use Rattle.kob_prefix_tree.proofs.ChangeLemmas.{ChangedAt, held_in_bare, some_behind}
 use Rattle.kob_prefix_tree.proofs.PlaceLemmas.{some_key}
 
 with_some : (kind : PatternKind) (serials : List ℕ) (h : Held) → serials ≢ [] → with_serials kind serials h ≢ nothing
 with_some Literal serials h some e = some_behind h.0 serials refl some (ap (λ x. x.0) e)
 with_some Prefixed serials h some e = some_behind h.1 serials refl some (ap (λ x. x.1) e)
+
+-- a place where serials were put is not bare
+pub some_put : (kind : PatternKind) (serials key : List ℕ) (h : Held) {c : Contents} → serials ≢ []
+    → held_in key c ≡ with_serials kind serials h → c ≢ bare
+some_put kind serials key h some put none =
+    with_some kind serials h some (sym put ∙ ap (held_in key) none ∙ held_in_bare key)
 
 module _ {A E : Type 0} where
   pub on_ok : {P Q : Type 0} (r : Result A E) → (P → Q) → OnOk r P → OnOk r Q

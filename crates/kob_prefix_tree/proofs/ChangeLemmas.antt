@@ -1,14 +1,9 @@
 -- A place of the tree whose contents change at one key.
-use Rattle.std.proofs.Common.{◌≡◌, ◌≢◌, ℕ, ◌==◌, true, false, List, [], ◌∷◌, ◌++◌, Option, None, Some, length, arith, unwrap_or, is_some, MatchOption, Bor, refl, sym, ap, ◌∙◌, subst}
-use Rattle.std.proofs.Math.Bool.{true≢false}
+use Rattle.std.proofs.Common.{◌≡◌, ◌≢◌, ℕ, ◌==◌, true, false, List, [], ◌∷◌, ◌++◌, Option, None, Some, length, arith, unwrap_or, refl, sym, ap, ◌∙◌, subst}
 use Rattle.std.proofs.lemmas.Bool.{eqb-true}
-use Rattle.kob_prefix_tree.specs.declared.node.Node.{Node}
-use Rattle.kob_prefix_tree.specs.declared.link.Link.{Link}
-use Rattle.kob_prefix_tree.specs.Contents.{node_contents}
-use Rattle.kob_prefix_tree.specs.Tree.{Tree}
-use Rattle.kob_prefix_tree.specs.declared.siblings.Item.{Item}
+use Rattle.kob_prefix_tree.specs.Trie.{Trie, void, sibling, Contents, bare, led_by}
 use Rattle.kob_prefix_tree.specs.Held.{Held, nothing}
-use Rattle.kob_prefix_tree.specs.Siblings.{Contents, bare, siblings, value_at, with_value, without, behind_one, held_in, IsNeat}
+use Rattle.kob_prefix_tree.specs.Siblings.{siblings, value_at, with_value, without, behind_one, held_in, IsNeat}
 use Rattle.kob_prefix_tree.proofs.SiblingLemmas.{AllNeat, neat_list, neat_tree, neat_changed, neat_without, neat_at, at_first, at_past, at_changed, at_changed_other, at_without, at_without_other, some_not_none, differ}
 
 -- at this key f was done, and elsewhere nothing
@@ -18,7 +13,7 @@ pub record ChangedAt (key : List ℕ) (f : Held → Held) (old new : Contents) :
   pub elsewhere : (other : List ℕ) → other ≢ key → held_in other new ≡ held_in other old
 
 -- the serials of the place itself
-pub changed_here : (f : Held → Held) (h : Held) (t : Tree Item) → IsNeat t → ChangedAt [] f (h, t) (f h, t)
+pub changed_here : (f : Held → Held) (h : Held) (t : Trie) → IsNeat t → ChangedAt [] f (h, t) (f h, t)
 changed_here f h t neat = record {
   neat = neat;
   at = refl;
@@ -32,7 +27,7 @@ no_bytes : (key : List ℕ) → length key ≡ 0 → [] ≡ key
 no_bytes [] e = refl
 no_bytes (x ∷ key) e = absurd (omega arith)
 
-pub changed_own : (f : Held → Held) (key : List ℕ) {h h' : Held} (t : Tree Item) → length key ≡ 0 → h' ≡ f h → IsNeat t
+pub changed_own : (f : Held → Held) (key : List ℕ) {h h' : Held} (t : Trie) → length key ≡ 0 → h' ≡ f h → IsNeat t
     → ChangedAt key f (h, t) (h', t)
 changed_own f key {h} {h'} t none is neat =
     subst (λ k. ChangedAt k f (h, t) (h', t)) (no_bytes key none)
@@ -50,13 +45,20 @@ pub held_in_bare : (key : List ℕ) → held_in key bare ≡ nothing
 held_in_bare [] = refl
 held_in_bare (byte ∷ key) = refl
 
+-- what is done to a place itself is seen at the empty key alone
+pub own_alone : (key : List ℕ) (old new : Contents) → length key ≡ 0 → new.1 ≡ old.1
+    → (other : List ℕ) → other ≢ key → held_in other new ≡ held_in other old
+own_alone key old new none same [] ne = absurd (ne (no_bytes key none))
+own_alone key old new none same (byte ∷ other) ne =
+    ap (λ t. behind_one (held_in other) (value_at byte (siblings t))) same
+
 -- what stood behind a byte, or nothing
 pub held_behind : (o : Option Contents) (key : List ℕ) → held_in key (unwrap_or o bare) ≡ behind_one (held_in key) o
 held_behind None key = held_in_bare key
 held_behind (Some c) key = refl
 
 -- what stood behind a byte is neat
-pub neat_behind : (byte : ℕ) (t : Tree Item) {c : Contents} → IsNeat t
+pub neat_behind : (byte : ℕ) (t : Trie) {c : Contents} → IsNeat t
     → c ≡ unwrap_or (value_at byte (siblings t)) bare → IsNeat c.1
 neat_behind byte t {c} neat is = subst (λ (x : Contents). IsNeat x.1) (sym is)
     (elim (value_at byte (siblings t)) as (λ o. value_at byte (siblings t) ≡ o → IsNeat (unwrap_or o bare).1) [
@@ -64,27 +66,21 @@ neat_behind byte t {c} neat is = subst (λ (x : Contents). IsNeat x.1) (sym is)
       | Some d ↦ λ e. (neat_at byte d (siblings t) (neat_list t neat) e).1
     ] refl)
 
--- a node that was found, and one that was not
-abbrev Found : ℕ → Tree Item → Option (Bor (Node Item (Link Item) (Link Item))) → Type 0
-Found byte t o =
-    MatchOption o (value_at byte (siblings t) ≡ None) (λ n. value_at byte (siblings t) ≡ Some (node_contents n.now))
+-- what leads on, and what doesn't
+pub led_on : {A : Type 0} (o : Option A) → o ≢ None → (v : A) × (o ≡ Some v)
+led_on None some = absurd (some refl)
+led_on (Some v) some = (v, refl)
 
-pub found_one : (byte : ℕ) (t : Tree Item) (o : Option (Bor (Node Item (Link Item) (Link Item)))) → Found byte t o
-    → is_some o ≡ true → (v : Contents) × (value_at byte (siblings t) ≡ Some v)
-found_one byte t None found some = absurd (true≢false (sym some))
-found_one byte t (Some n) found some = (node_contents n.now, found)
-
-pub found_none : (byte : ℕ) (t : Tree Item) (o : Option (Bor (Node Item (Link Item) (Link Item)))) → Found byte t o
-    → is_some o ≡ false → value_at byte (siblings t) ≡ None
-found_none byte t None found none = found
-found_none byte t (Some n) found none = absurd (true≢false none)
+pub led_nowhere : {A : Type 0} (o : Option A) → (o ≢ None → ⊥) → o ≡ None
+led_nowhere None none = refl
+led_nowhere (Some v) none = absurd (none (λ e. some_not_none v e))
 
 -- something stands behind the byte, so the place is not bare
-pub not_bare : (byte : ℕ) (c : Contents) (h : Held) (t : Tree Item) → value_at byte (siblings t) ≡ Some c
+pub not_bare : (byte : ℕ) (c : Contents) (h : Held) (t : Trie) → value_at byte (siblings t) ≡ Some c
     → (h, t) ≢ bare
 not_bare byte c h t is e = some_not_none c (sym is ∙ ap (λ (x : Contents). value_at byte (siblings x.1)) e)
 
-module _ (f : Held → Held) (byte : ℕ) (rest : List ℕ) (h : Held) (t t' : Tree Item) where
+module _ (f : Held → Held) (byte : ℕ) (rest : List ℕ) (h : Held) (t t' : Trie) where
   changed_below : IsNeat t' → behind_one (held_in rest) (value_at byte (siblings t'))
       ≡ f (behind_one (held_in rest) (value_at byte (siblings t)))
       → ((key : List ℕ) → key ≢ rest → behind_one (held_in key) (value_at byte (siblings t'))
@@ -148,10 +144,38 @@ module _ (f : Held → Held) (byte : ℕ) (rest : List ℕ) (h : Held) (t t' : T
         (λ b ne. ap (value_at b) is ∙ at_without_other byte b (siblings t) ne)
 
 -- nothing stands behind the byte, and nothing is done
-pub unchanged : (f : Held → Held) (byte : ℕ) (rest : List ℕ) (h : Held) (t : Tree Item) → IsNeat t
+pub unchanged : (f : Held → Held) (byte : ℕ) (rest : List ℕ) (h : Held) (t : Trie) → IsNeat t
     → value_at byte (siblings t) ≡ None → nothing ≡ f nothing → ChangedAt (byte ∷ rest) f (h, t) (h, t)
 unchanged f byte rest h t neat none same = record {
   neat = neat;
   at = ap (behind_one (held_in rest)) none ∙ same ∙ ap (λ o. f (behind_one (held_in rest) o)) (sym none);
   elsewhere = λ other ne. refl;
 }
+
+-- what was put in where nothing was, behind more bytes
+pub behind_tail : (f : Held → Held) (tail rest : List ℕ) {d : Contents} → ChangedAt rest f bare d → d ≢ bare
+    → ChangedAt (tail ++ rest) f bare (led_by tail d) × (led_by tail d ≢ bare)
+behind_tail f [] rest done some = (done, some)
+behind_tail f (byte ∷ tail) rest {d} done some =
+    let (inner, kept) = behind_tail f tail rest done some in (
+      linked_front f byte (tail ++ rest) nothing void (led_by (byte ∷ tail) d).1 tt refl inner refl kept refl,
+      λ e. let e' : (led_by (byte ∷ tail) d).1 ≡ void = ap (λ (x : Contents). x.1) e in cc,
+    )
+
+-- a node that is put in front, where its first byte leads nowhere
+pub linked : (f : Held → Held) (byte : ℕ) (tail rest : List ℕ) {key : List ℕ} {h : Held} (t t' : Trie)
+    {old new empty d first : Contents} → key ≡ byte ∷ (tail ++ rest) → old ≡ (h, t) → new ≡ (h, t') → IsNeat old.1
+    → value_at byte (siblings old.1) ≡ None → empty ≡ bare → ChangedAt rest f empty d → d ≢ bare
+    → first ≡ led_by tail d → t' ≡ sibling byte first.0 first.1 t → ChangedAt key f old new
+linked f byte tail rest {key} {h} t t' {old} {new} {empty} {d} {first} key_is old_is new_is neat none bare_is done some
+    behind is =
+    let absent : value_at byte (siblings t) ≡ None =
+    subst (λ (x : Contents). value_at byte (siblings x.1) ≡ None) old_is none in
+    let (inner, kept) =
+    behind_tail f tail rest (subst (λ x. ChangedAt rest f x d) bare_is done) some in
+    let all = linked_front f byte (tail ++ rest) h t t' (subst (λ (x : Contents). IsNeat x.1) old_is neat)
+    (ap (λ o. unwrap_or o bare) (sym absent)) inner absent kept
+    (ap siblings is ∙ ap (λ x. (byte, x) ∷ siblings t) behind) in
+    subst (λ k. ChangedAt k f old new) (sym key_is)
+    (subst (λ x. ChangedAt (byte ∷ (tail ++ rest)) f x new) (sym old_is)
+    (subst (λ x. ChangedAt (byte ∷ (tail ++ rest)) f (h, t) x) (sym new_is) all))

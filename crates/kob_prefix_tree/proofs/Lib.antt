@@ -4,6 +4,7 @@ pub mod CellLemmas
 pub mod ChangeLemmas
 pub mod Ends
 pub mod EntriesLemmas
+pub mod ExchangeLemmas
 pub mod Firsts
 pub mod HeldLaws
 pub mod LevelsLemmas
@@ -14,4 +15,5 @@ pub mod PartLemmas
 pub mod PlaceLemmas
 pub mod Read
 pub mod SiblingLemmas
+pub mod TailLemmas
 pub mod WalkLemmas

@@ -1,7 +1,7 @@
 -- What stands behind a place that was found, or was not.
 use Rattle.std.proofs.Common.{◌≡◌, sym, List, ℕ, Option, Some, None}
 use Rattle.std.specs.Prelude.{MatchOption}
-use Rattle.kob_prefix_tree.specs.declared.branch.Place.{Place}
+use Rattle.kob_prefix_tree.specs.declared.place.Place.{Place}
 use Rattle.kob_prefix_tree.specs.Contents.{seen}
 use Rattle.kob_prefix_tree.specs.Held.{Held, nothing}
 use Rattle.kob_prefix_tree.specs.Part.{held_from}

@@ -1,10 +1,9 @@
 -- A place of the tree, its entries and its map.
 use Rattle.std.proofs.Common.{◌≡◌, ◌≢◌, ℕ, ◌==◌, true, false, cond, List, [], ◌∷◌, ◌++◌, Option, None, Some, refl, sym, ap, ◌∙◌, subst}
 use Rattle.std.proofs.lemmas.Bool.{eq-eqb}
-use Rattle.kob_prefix_tree.specs.Tree.{Tree, leaf, node}
-use Rattle.kob_prefix_tree.specs.declared.siblings.Item.{Item}
+use Rattle.kob_prefix_tree.specs.Trie.{Trie, void, sibling, Contents, bare}
 use Rattle.kob_prefix_tree.specs.Held.{Held, nothing}
-use Rattle.kob_prefix_tree.specs.Siblings.{Contents, bare, siblings, value_at, behind_one, held_in, IsNeat}
+use Rattle.kob_prefix_tree.specs.Siblings.{siblings, value_at, behind_one, held_in, IsNeat}
 use Rattle.kob_prefix_tree.specs.Entries.{Entries, held_at, held_behind, behind, entries_below, entries_of, AllInUse, IsTidy, children_of, entries_in}
 use Rattle.kob_prefix_tree.specs.declared.kind.PatternKind.{PatternKind}
 use Rattle.kob_prefix_tree.specs.declared.kind.PatternKind.TheVariants.{Literal, Prefixed}
@@ -21,12 +20,12 @@ abbrev entries_at : Option Contents → Option Entries
 entries_at None = None
 entries_at (Some c) = Some (entries_in c)
 
-child_is : (byte : ℕ) (t : Tree Item) → value_at byte (children_of t) ≡ entries_at (value_at byte (siblings t))
-child_is byte leaf = refl
-child_is byte (node item heap c below n after) =
-    elim (item.byte == byte) as (λ b. cond b (Some (entries_of item.literal item.prefixed (children_of below)))
+child_is : (byte : ℕ) (t : Trie) → value_at byte (children_of t) ≡ entries_at (value_at byte (siblings t))
+child_is byte void = refl
+child_is byte (sibling first h below after) =
+    elim (first == byte) as (λ b. cond b (Some (entries_of h.0 h.1 (children_of below)))
     (value_at byte (children_of after))
-    ≡ entries_at (cond b (Some ((item.literal, item.prefixed), below)) (value_at byte (siblings after)))) [
+    ≡ entries_at (cond b (Some (h, below)) (value_at byte (siblings after)))) [
       | true ↦ refl
       | false ↦ child_is byte after
     ]
@@ -36,22 +35,22 @@ some_entries byte [] some fs e = some refl
 some_entries byte (x ∷ es) some fs e = cc
 
 -- a place that is not bare has an entry
-entries_some : (l p : List ℕ) (t : Tree Item) → IsNeat t → ((l, p), t) ≢ bare → entries_of l p (children_of t) ≢ []
+entries_some : (l p : List ℕ) (t : Trie) → IsNeat t → ((l, p), t) ≢ bare → entries_of l p (children_of t) ≢ []
 entries_some (x ∷ l) p t neat some e = cc
 entries_some [] (x ∷ p) t neat some e = cc
-entries_some [] [] leaf neat some e = some refl
-entries_some [] [] (node item heap c below n after) neat some e =
-    some_entries item.byte (entries_of item.literal item.prefixed (children_of below))
-    (entries_some item.literal item.prefixed below neat.1.1.0 neat.1.0) (entries_below (children_of after)) e
+entries_some [] [] void neat some e = some refl
+entries_some [] [] (sibling first h below after) neat some e =
+    some_entries first (entries_of h.0 h.1 (children_of below))
+    (entries_some h.0 h.1 below neat.1.1.0 neat.1.0) (entries_below (children_of after)) e
 
-pub tidy_of : (t : Tree Item) → IsNeat t → IsTidy (children_of t)
-tidy_of leaf neat = tt
-tidy_of (node item heap c below n after) neat = (
-  child_is item.byte after ∙ ap entries_at neat.0,
+pub tidy_of : (t : Trie) → IsNeat t → IsTidy (children_of t)
+tidy_of void neat = tt
+tidy_of (sibling first h below after) neat = (
+  child_is first after ∙ ap entries_at neat.0,
   (
-    entries_some item.literal item.prefixed below neat.1.1.0 neat.1.0,
+    entries_some h.0 h.1 below neat.1.1.0 neat.1.0,
     (
-      all_in_use_entries_of item.literal item.prefixed (children_of below) (tidy_of below neat.1.1.0),
+      all_in_use_entries_of h.0 h.1 (children_of below) (tidy_of below neat.1.1.0),
       tidy_of after neat.1.1.1,
     ),
   ),
@@ -74,17 +73,17 @@ held_of_entries (byte ∷ key) c neat =
     ] refl
 
 -- some key of a place that is not bare holds something
-pub some_key : (l p : List ℕ) (t : Tree Item) → IsNeat t → ((l, p), t) ≢ bare
+pub some_key : (l p : List ℕ) (t : Trie) → IsNeat t → ((l, p), t) ≢ bare
     → (key : List ℕ) × (held_in key ((l, p), t) ≢ nothing)
 some_key (x ∷ l) p t neat some = ([], λ e. let e' : x ∷ l ≡ [] = ap (λ h. h.0) e in cc)
 some_key [] (x ∷ p) t neat some = ([], λ e. let e' : x ∷ p ≡ [] = ap (λ h. h.1) e in cc)
-some_key [] [] leaf neat some = absurd (some refl)
-some_key [] [] (node item heap c below n after) neat some =
-    let (key, ne) = some_key item.literal item.prefixed below neat.1.1.0 neat.1.0 in (
-      item.byte ∷ key,
+some_key [] [] void neat some = absurd (some refl)
+some_key [] [] (sibling first h below after) neat some =
+    let (key, ne) = some_key h.0 h.1 below neat.1.1.0 neat.1.0 in (
+      first ∷ key,
       λ e. ne (sym (ap
-          (λ b. behind_one (held_in key) (cond b (Some ((item.literal, item.prefixed), below))
-          (value_at item.byte (siblings after)))) (eq-eqb item.byte item.byte refl)) ∙ e),
+          (λ b. behind_one (held_in key) (cond b (Some (h, below))
+          (value_at first (siblings after)))) (eq-eqb first first refl)) ∙ e),
     )
 
 -- the map of a place

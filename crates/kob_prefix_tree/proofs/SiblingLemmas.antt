@@ -2,9 +2,8 @@
 use Rattle.std.proofs.Common.{◌≡◌, ◌≢◌, ℕ, ◌==◌, true, false, cond, List, [], ◌∷◌, None, Some, refl, sym, ap, ◌∙◌, subst}
 use Rattle.std.proofs.Math.Bool.{true≢false}
 use Rattle.std.proofs.lemmas.Bool.{eqb-true, eq-eqb}
-use Rattle.kob_prefix_tree.specs.Tree.{Tree, leaf, node}
-use Rattle.kob_prefix_tree.specs.declared.siblings.Item.{Item}
-use Rattle.kob_prefix_tree.specs.Siblings.{Contents, bare, siblings, value_at, with_value, without, IsNeat}
+use Rattle.kob_prefix_tree.specs.Trie.{Trie, void, sibling, Contents, bare}
+use Rattle.kob_prefix_tree.specs.Siblings.{siblings, value_at, with_value, without, IsNeat}
 
 ne_eqb : (a b : ℕ) → a ≢ b → a == b ≡ false
 ne_eqb a b ne =
@@ -91,13 +90,13 @@ abbrev pub AllNeat : List (ℕ × Contents) → Type 0
 AllNeat [] = Unit {0}
 AllNeat (s ∷ ss) = (value_at s.0 ss ≡ None) × ((s.1 ≢ bare) × (IsNeat s.1.1 × AllNeat ss))
 
-pub neat_list : (t : Tree Item) → IsNeat t → AllNeat (siblings t)
-neat_list leaf neat = tt
-neat_list (node item heap c below n after) neat = (neat.0, (neat.1.0, (neat.1.1.0, neat_list after neat.1.1.1)))
+pub neat_list : (t : Trie) → IsNeat t → AllNeat (siblings t)
+neat_list void neat = tt
+neat_list (sibling first h below after) neat = (neat.0, (neat.1.0, (neat.1.1.0, neat_list after neat.1.1.1)))
 
-pub neat_tree : (t : Tree Item) → AllNeat (siblings t) → IsNeat t
-neat_tree leaf neat = tt
-neat_tree (node item heap c below n after) neat = (neat.0, (neat.1.0, (neat.1.1.0, neat_tree after neat.1.1.1)))
+pub neat_tree : (t : Trie) → AllNeat (siblings t) → IsNeat t
+neat_tree void neat = tt
+neat_tree (sibling first h below after) neat = (neat.0, (neat.1.0, (neat.1.1.0, neat_tree after neat.1.1.1)))
 
 pub neat_changed : (byte : ℕ) (v : Contents) (ss : List (ℕ × Contents)) → AllNeat ss → v ≢ bare → IsNeat v.1
     → AllNeat (with_value byte v ss)

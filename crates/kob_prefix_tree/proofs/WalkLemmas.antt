@@ -4,7 +4,8 @@ use Rattle.std.specs.List.{flat_map}
 use Rattle.kob_prefix_tree.specs.declared.serials.Unread.{Unread}
 use Rattle.kob_prefix_tree.specs.declared.walk.Ahead.{Ahead}
 use Rattle.kob_prefix_tree.specs.Held.{Held, nothing}
-use Rattle.kob_prefix_tree.specs.Siblings.{Contents, held_in}
+use Rattle.kob_prefix_tree.specs.Trie.{Contents}
+use Rattle.kob_prefix_tree.specs.Siblings.{held_in}
 use Rattle.kob_prefix_tree.specs.Contents.{seen}
 use Rattle.kob_prefix_tree.specs.Walked.{prefixes, serials_along}
 use Rattle.kob_prefix_tree.specs.WalkLeft.{longer_prefixes, serials_beyond, ahead_of, left_of}

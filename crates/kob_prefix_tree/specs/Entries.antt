@@ -4,9 +4,8 @@ use Rattle.std.specs.Ordering.{nat_cmp}
 use Rattle.std.specs.Cmp.Lexicographic.{slice_cmp}
 use Rattle.std.specs.FinMap.{find}
 use Rattle.kob_prefix_tree.specs.Held.{Held, nothing}
-use Rattle.kob_prefix_tree.specs.Tree.{Tree, leaf, node}
-use Rattle.kob_prefix_tree.specs.declared.siblings.Item.{Item}
-use Rattle.kob_prefix_tree.specs.Siblings.{Contents, value_at}
+use Rattle.kob_prefix_tree.specs.Trie.{Trie, void, sibling, Contents}
+use Rattle.kob_prefix_tree.specs.Siblings.{value_at}
 
 -- keys, each with what it holds
 abbrev pub Entries : Type 0
@@ -56,10 +55,10 @@ IsTidy (child ∷ children) =
     (value_at child.0 children ≡ None) × ((child.1 ≢ []) × (AllInUse child.1 × IsTidy children))
 
 -- each sibling's byte with the entries below it, in order
-abbrev pub children_of : Tree Item → Children
-children_of leaf = []
-children_of (node item heap c below n after) =
-    (item.byte, entries_of item.literal item.prefixed (children_of below)) ∷ children_of after
+abbrev pub children_of : Trie → Children
+children_of void = []
+children_of (sibling byte held below after) =
+    (byte, entries_of held.0 held.1 (children_of below)) ∷ children_of after
 
 -- the entries of a place of the tree
 abbrev pub entries_in : Contents → Entries

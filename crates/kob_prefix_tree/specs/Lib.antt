@@ -12,5 +12,6 @@ pub mod PrefixMap
 pub mod SerialsLeft
 pub mod Siblings
 pub mod Tree
+pub mod Trie
 pub mod WalkLeft
 pub mod Walked

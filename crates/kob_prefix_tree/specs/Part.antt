@@ -1,6 +1,6 @@
 -- What a part of the tree holds.
 use Rattle.std.specs.Prelude.{ℕ, List, Option, None, Some}
-use Rattle.kob_prefix_tree.specs.declared.branch.Place.{Place}
+use Rattle.kob_prefix_tree.specs.declared.place.Place.{Place}
 use Rattle.kob_prefix_tree.specs.declared.part.Part.{Part}
 use Rattle.kob_prefix_tree.specs.Held.{Held, nothing}
 use Rattle.kob_prefix_tree.specs.Siblings.{held_in}

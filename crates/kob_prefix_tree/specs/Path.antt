@@ -1,12 +1,12 @@
--- Nodes that are made ahead, one a byte of a key, in order beside one another.
-use Rattle.std.specs.Prelude.{ℕ, List, [], ◌∷◌, map}
-use Rattle.kob_prefix_tree.specs.Tree.{Tree}
+-- Nodes that are made ahead, in order beside one another.
+use Rattle.std.specs.Prelude.{ℕ, List, [], ◌∷◌, ◌++◌}
+use Rattle.kob_prefix_tree.specs.Tree.{Tree, leaf, node}
 use Rattle.kob_prefix_tree.specs.declared.siblings.Item.{Item}
-use Rattle.kob_prefix_tree.specs.Siblings.{siblings}
 
 -- the key that their bytes spell
 abbrev pub key_of : Tree Item → List ℕ
-key_of path = map (λ sibling. sibling.0) (siblings path)
+key_of leaf = []
+key_of (node item heap c below n after) = item.byte ∷ (item.tail ++ key_of after)
 
 -- the first serial of a list
 abbrev pub first_serial : List ℕ → ℕ

@@ -2,8 +2,8 @@
 use Rattle.std.specs.Prelude.{◌≡◌, ◌≢◌, ℕ, ◌+◌, ◌==◌, List, [], ◌∷◌, Option, None, Some}
 use Rattle.std.specs.Prelude.{if◌then◌else◌}
 use Rattle.kob_prefix_tree.specs.Tree.{Tree, leaf, node}
-use Rattle.kob_prefix_tree.specs.declared.siblings.Item.{Item}
 use Rattle.kob_prefix_tree.specs.Held.{Held, nothing}
+use Rattle.kob_prefix_tree.specs.Trie.{Trie, void, sibling, Contents, bare}
 
 module _ {A : Type 0} where
   -- the first value under this byte
@@ -22,19 +22,10 @@ module _ {A : Type 0} where
   without byte [] = []
   without byte (x ∷ xs) = if x.0 == byte then xs else x ∷ without byte xs
 
--- what a place keeps, and the nodes below it
-abbrev pub Contents : Type 0
-Contents = Held × Tree Item
-
--- a place that keeps nothing and leads nowhere
-abbrev pub bare : Contents
-bare = (nothing, leaf)
-
 -- each sibling's byte with its contents, in order
-abbrev pub siblings : Tree Item → List (ℕ × Contents)
-siblings leaf = []
-siblings (node item heap c below n after) =
-    (item.byte, ((item.literal, item.prefixed), below)) ∷ siblings after
+abbrev pub siblings : Trie → List (ℕ × Contents)
+siblings void = []
+siblings (sibling byte held below after) = (byte, (held, below)) ∷ siblings after
 
 -- how many they are
 abbrev pub count : {X : Type 0} → Tree X → ℕ
@@ -51,8 +42,8 @@ held_in [] c = c.0
 held_in (byte ∷ key) c = behind_one (held_in key) (value_at byte (siblings c.1))
 
 -- no two siblings have one byte, and none is bare, here and below
-abbrev pub IsNeat : Tree Item → Type 0
-IsNeat leaf = Unit {0}
-IsNeat (node item heap c below n after) =
-    (value_at item.byte (siblings after) ≡ None)
-    × ((((item.literal, item.prefixed), below) ≢ bare) × (IsNeat below × IsNeat after))
+abbrev pub IsNeat : Trie → Type 0
+IsNeat void = Unit {0}
+IsNeat (sibling byte held below after) =
+    (value_at byte (siblings after) ≡ None)
+    × (((held, below) ≢ bare) × (IsNeat below × IsNeat after))

@@ -1,23 +1,30 @@
-//! What hangs at one place of the tree: the serials of the key that ends there, and the nodes that
-//! follow.
-ghost use Rattle.std.specs.Prelude.{◌≡◌, ◌≢◌, ◌∷◌, ◌++◌, [], ◌≤◌, ◌↔◌, ℕ, List, length};
-ghost use Rattle.std.specs.Prelude.{IfSome, IsTrue, OnErr, OnOk, MatchOption};
-ghost use Rattle.kob_prefix_tree.specs.Held.{nothing, with_serials, without_serials, has_serials};
-ghost use Rattle.kob_prefix_tree.specs.Siblings.{bare, held_in, IsNeat};
-ghost use Rattle.kob_prefix_tree.specs.Contents.{contents, node_contents, seen};
+//! What hangs at one place of the tree: the bytes that alone lead on from there, the serials of the
+//! key that ends behind them, and the nodes that follow.
+ghost use Rattle.std.specs.Prelude.{◌≡◌, ◌≢◌, ◌∷◌, [], ◌≤◌, ◌<◌, ◌+◌, ◌↔◌, ℕ, List, length};
+ghost use Rattle.std.specs.Prelude.{IsTrue, OnErr, OnOk, None, unwrap_or};
+ghost use Rattle.kob_prefix_tree.specs.Held.{with_serials, without_serials, has_serials};
+ghost use Rattle.kob_prefix_tree.specs.Trie.{bare};
+ghost use Rattle.kob_prefix_tree.specs.Siblings.{held_in, IsNeat, siblings};
+ghost use Rattle.kob_prefix_tree.specs.Siblings.{value_at, with_value, without};
+ghost use Rattle.kob_prefix_tree.specs.Contents.{contents, seen};
 ghost use Rattle.kob_prefix_tree.specs.Path.{key_of};
-ghost use Rattle.kob_prefix_tree.specs.Walked.{IsLongestInUse};
 
 use crate::kind::PatternKind;
 use crate::link::Link;
-use crate::node::Node;
+use crate::path::path_of;
+use crate::place::Place;
 use crate::serials::Serials;
-use crate::siblings::{ByteNode, Item, path_of};
+use crate::siblings::{Item, Room};
+use crate::tail::Tail;
 use std::alloc::{AllocError, Global};
+use std::mem::{replace, swap};
+use std_alloc::room::Vacant;
 
-/// The literal and the prefixed serials of one key, and the nodes that follow it.
+/// What follows a byte: the other bytes of its node, the serials of the key that ends with the last
+/// of them, and the nodes below.
 #[derive(Drop)]
 pub(crate) struct Branch {
+    pub(crate) tail: Tail,
     pub(crate) literal: Serials,
     pub(crate) prefixed: Serials,
     pub(crate) below: Link<Item>,
@@ -25,9 +32,11 @@ pub(crate) struct Branch {
 
 impl Branch {
     pub(crate) fn new() -> Branch
-        ensures { contents result ≡ bare }
+        ensures bare { contents result ≡ bare }
+        ensures no_tail { result.tail ≡ [] }
     {
         Branch {
+            tail: Tail::new(),
             literal: Serials::new(),
             prefixed: Serials::new(),
             below: Link::null(),
@@ -39,6 +48,7 @@ impl Branch {
         ensures { seen result ≡ contents self.now }
     {
         Place {
+            tail: self.tail.as_slice(),
             literal: &self.literal,
             prefixed: &self.prefixed,
             below: &self.below,
@@ -48,16 +58,88 @@ impl Branch {
     pub(crate) fn is_bare(&self) -> bool
         ensures { IsTrue result ↔ (contents self.now ≡ bare) }
     {
+        if !self.tail.is_empty() {
+            return false;
+        }
         self.literal.is_empty() && self.prefixed.is_empty() && self.below.is_null()
     }
 
-    /// Puts the serials last at the key that the nodes of the path spell. Those whose byte stands
-    /// already are freed, the others linked in. It calls itself once a byte.
-    #[cycle(grow)]
-    pub(crate) fn grow(&mut self, path: Link<Item>, kind: PatternKind, serials: Serials)
-        requires neat { IsNeat self.old.below.nodes }
+    /// Whether the byte leads on.
+    fn leads_on(&self, byte: u8) -> bool
+        ensures { IsTrue result ↔ (value_at byte (siblings (contents self.now).1) ≢ None) }
+    {
+        match self.tail.first() {
+            Some(first) => first == byte,
+            None => self.below.find(byte).is_some(),
+        }
+    }
+
+    /// Exchanges what follows the byte for another branch, if the byte leads on.
+    fn exchange(&mut self, byte: u8, branch: &mut Branch)
+        requires fits { 0 < length self.old.tail → length branch.old.tail ≤ 5 }
+        ensures kept { (contents self.new).0 ≡ (contents self.old).0 }
+        ensures here { siblings (contents self.new).1
+            ≡ with_value byte (contents branch.old) (siblings (contents self.old).1) }
+        ensures there { contents branch.new
+            ≡ unwrap_or (value_at byte (siblings (contents self.old).1)) (contents branch.old) }
+        ensures outside { length self.old.tail ≡ 0 → length self.new.tail ≡ 0 }
+        ensures inside { 0 < length self.old.tail → (0 < length self.new.tail)
+            × ((length branch.new.tail ≤ 5)
+            × (length self.new.tail + length branch.new.tail
+            ≡ length self.old.tail + length branch.old.tail)) }
+    {
+        let Some(first) = self.tail.first() else {
+            self.below.exchange(byte, branch);
+            return;
+        };
+        if first == byte {
+            self.tail.pop_front();
+            swap(self, branch);
+            self.tail.push_front(first);
+        }
+    }
+
+    /// Lets go of all that follows the byte.
+    fn unlink(&mut self, byte: u8)
+        ensures kept { (contents self.new).0 ≡ (contents self.old).0 }
+        ensures gone { siblings (contents self.new).1
+            ≡ without byte (siblings (contents self.old).1) }
+        ensures shorter { length self.new.tail ≤ length self.old.tail }
+    {
+        match self.tail.first() {
+            None => self.below.unlink(byte),
+            Some(first) => {
+                if first == byte {
+                    *self = Branch::new();
+                }
+            }
+        }
+    }
+
+    /// Moves the tail, if there is one, into a node of its own in this block.
+    fn cut(&mut self, room: Room, alloc: Global)
+        ensures no_tail { self.new.tail ≡ [] }
+        ensures same { contents self.new ≡ contents self.old }
+    {
+        let Some(byte) = self.tail.pop_front() else {
+            room.free();
+            return;
+        };
+        let branch = replace(self, Branch::new());
+        self.below.put_front(room, alloc, byte, branch);
+    }
+
+    /// Puts the serials last at the key that the nodes of the path spell, by linking these in: its
+    /// first byte doesn't lead on yet. It calls itself once a node.
+    #[cycle(link)]
+    fn link(&mut self, path: Link<Item>, kind: PatternKind, serials: Serials)
+        requires no_tail { self.old.tail ≡ [] }
+        requires absent { (byte : ℕ) → (rest : List ℕ) → key_of path.nodes ≡ byte ∷ rest
+            → value_at byte (siblings (contents self.old).1) ≡ None }
+        requires neat { IsNeat (contents self.old).1 }
         requires some { serials ≢ [] }
-        ensures neat { IsNeat self.new.below.nodes }
+        ensures no_tail { self.new.tail ≡ [] }
+        ensures neat { IsNeat (contents self.new).1 }
         ensures some { contents self.new ≢ bare }
         ensures put { held_in (key_of path.nodes) (contents self.new)
             ≡ with_serials kind serials (held_in (key_of path.nodes) (contents self.old)) }
@@ -73,18 +155,109 @@ impl Branch {
             return;
         }
         let alloc = path.get().alloc;
-        let (node, room) = path.take(alloc);
+        let (mut node, room) = path.take(alloc);
         let byte = node.item.byte;
+        let rest = replace(&mut node.next, Link::null());
         let mut branch = Branch::new();
-        if self.below.find(byte).is_some() {
-            room.free();
-            self.below.exchange(byte, &mut branch);
-            branch.grow(node.next, kind, serials);
-            self.below.exchange(byte, &mut branch);
-            return;
-        }
-        branch.grow(node.next, kind, serials);
+        branch.link(rest, kind, serials);
+        swap(&mut branch.tail, &mut node.item.tail);
         self.below.put_front(room, alloc, byte, branch);
+    }
+
+    /// As `link`, at a branch that may have a tail, which then goes into the block.
+    fn graft(
+        &mut self,
+        path: Link<Item>,
+        room: Room,
+        alloc: Global,
+        kind: PatternKind,
+        serials: Serials,
+    )
+        requires absent { (byte : ℕ) → (rest : List ℕ) → key_of path.nodes ≡ byte ∷ rest
+            → value_at byte (siblings (contents self.old).1) ≡ None }
+        requires neat { IsNeat (contents self.old).1 }
+        requires some { serials ≢ [] }
+        ensures no_tail { self.new.tail ≡ [] }
+        ensures neat { IsNeat (contents self.new).1 }
+        ensures some { contents self.new ≢ bare }
+        ensures put { held_in (key_of path.nodes) (contents self.new)
+            ≡ with_serials kind serials (held_in (key_of path.nodes) (contents self.old)) }
+        ensures elsewhere { (other : List ℕ) → other ≢ key_of path.nodes
+            → held_in other (contents self.new) ≡ held_in other (contents self.old) }
+    {
+        self.cut(room, alloc);
+        self.link(path, kind, serials);
+    }
+
+    /// Puts the serials last at the key that the nodes of the path spell. Those whose bytes stand
+    /// already are freed, the others linked in, and a node within whose bytes the key ends or parts
+    /// is cut in two, with the block. It calls itself once a byte that leads on.
+    #[cycle(grow)]
+    pub(crate) fn grow(
+        &mut self,
+        path: Link<Item>,
+        room: Room,
+        alloc: Global,
+        kind: PatternKind,
+        serials: Serials,
+    )
+        requires neat { IsNeat (contents self.old).1 }
+        requires some { serials ≢ [] }
+        ensures neat { IsNeat (contents self.new).1 }
+        ensures some { contents self.new ≢ bare }
+        ensures put { held_in (key_of path.nodes) (contents self.new)
+            ≡ with_serials kind serials (held_in (key_of path.nodes) (contents self.old)) }
+        ensures elsewhere { (other : List ℕ) → other ≢ key_of path.nodes
+            → held_in other (contents self.new) ≡ held_in other (contents self.old) }
+        ensures shorter { length self.new.tail ≤ length self.old.tail }
+    {
+        let mut path = path;
+        let Some(byte) = path.first_byte() else {
+            return self.graft(path, room, alloc, kind, serials);
+        };
+        if !self.leads_on(byte) {
+            return self.graft(path, room, alloc, kind, serials);
+        }
+        path.drop_byte();
+        let mut branch = Branch::new();
+        self.exchange(byte, &mut branch);
+        branch.grow(path, room, alloc, kind, serials);
+        self.exchange(byte, &mut branch);
+    }
+
+    /// Puts the serials last at a key whose first byte doesn't lead on yet. It makes the nodes for
+    /// the key, and one more if a node has to be cut in two.
+    fn add_here(
+        &mut self,
+        alloc: Global,
+        key: &[u8],
+        kind: PatternKind,
+        serials: Serials,
+    ) -> Result<(), AllocError>
+        requires absent { (byte : ℕ) → (rest : List ℕ) → key.now ≡ byte ∷ rest
+            → value_at byte (siblings (contents self.old).1) ≡ None }
+        requires neat { IsNeat (contents self.old).1 }
+        requires some { serials ≢ [] }
+        ensures neat { IsNeat (contents self.new).1 }
+        ensures put { OnOk result
+            (held_in key.now (contents self.new)
+            ≡ with_serials kind serials (held_in key.now (contents self.old))) }
+        ensures elsewhere { (other : List ℕ) → other ≢ key.now
+            → held_in other (contents self.new) ≡ held_in other (contents self.old) }
+        ensures refused { OnErr result
+            (held_in key.now (contents self.new) ≡ held_in key.now (contents self.old)) }
+        ensures shorter { length self.new.tail ≤ length self.old.tail }
+    {
+        let path = path_of(alloc, key)?;
+        if self.tail.is_empty() {
+            self.link(path, kind, serials);
+            return Ok(());
+        }
+        let Ok(room) = Vacant::take(alloc) else {
+            return Err(AllocError);
+        };
+        self.graft(path, room, alloc, kind, serials);
+        Ok(())
     }
 
     /// Puts the serials last at the key. It makes the nodes that are missing, and no others, and
@@ -97,9 +270,9 @@ impl Branch {
         kind: PatternKind,
         serials: Serials,
     ) -> Result<(), AllocError>
-        requires neat { IsNeat self.old.below.nodes }
+        requires neat { IsNeat (contents self.old).1 }
         requires some { serials ≢ [] }
-        ensures neat { IsNeat self.new.below.nodes }
+        ensures neat { IsNeat (contents self.new).1 }
         ensures put { OnOk result
             (held_in key.now (contents self.new)
             ≡ with_serials kind serials (held_in key.now (contents self.old))) }
@@ -107,123 +280,66 @@ impl Branch {
             → held_in other (contents self.new) ≡ held_in other (contents self.old) }
         ensures refused { OnErr result
             (held_in key.now (contents self.new) ≡ held_in key.now (contents self.old)) }
+        ensures shorter { length self.new.tail ≤ length self.old.tail }
     {
-        if let Some((byte, rest)) = key.split_first() {
-            if self.below.find(*byte).is_some() {
-                let mut branch = Branch::new();
-                self.below.exchange(*byte, &mut branch);
-                let added = branch.add(alloc, rest, kind, serials);
-                self.below.exchange(*byte, &mut branch);
-                return added;
-            }
+        let Some((byte, rest)) = key.split_first() else {
+            return self.add_here(alloc, key, kind, serials);
+        };
+        if !self.leads_on(*byte) {
+            return self.add_here(alloc, key, kind, serials);
         }
-        let path = path_of(alloc, key)?;
-        self.grow(path, kind, serials);
-        Ok(())
+        let mut branch = Branch::new();
+        self.exchange(*byte, &mut branch);
+        let added = branch.add(alloc, rest, kind, serials);
+        self.exchange(*byte, &mut branch);
+        added
     }
 
     /// Takes these serials out at the key in one pass, says whether any was there, and frees the
     /// nodes that then keep nothing and lead nowhere. It calls itself once a byte.
     #[cycle(remove_all)]
     pub(crate) fn remove_all(&mut self, key: &[u8], kind: PatternKind, serials: &[u64]) -> bool
-        requires neat { IsNeat self.old.below.nodes }
-        ensures neat { IsNeat self.new.below.nodes }
+        requires neat { IsNeat (contents self.old).1 }
+        ensures neat { IsNeat (contents self.new).1 }
         ensures found { result
             ≡ has_serials kind serials.now (held_in key.now (contents self.old)) }
         ensures taken { held_in key.now (contents self.new)
             ≡ without_serials kind serials.now (held_in key.now (contents self.old)) }
         ensures elsewhere { (other : List ℕ) → other ≢ key.now
             → held_in other (contents self.new) ≡ held_in other (contents self.old) }
+        ensures shorter { length self.new.tail ≤ length self.old.tail }
     {
-        match key.split_first() {
-            None => match kind {
-                PatternKind::Literal => self.literal.remove_all(serials),
-                PatternKind::Prefixed => self.prefixed.remove_all(serials),
-            },
-            Some((byte, rest)) => {
-                if self.below.find(*byte).is_none() {
-                    return false;
-                }
-                let mut branch = Branch::new();
-                self.below.exchange(*byte, &mut branch);
-                let found = branch.remove_all(rest, kind, serials);
-                if branch.is_bare() {
-                    self.below.unlink(*byte);
-                    return found;
-                }
-                self.below.exchange(*byte, &mut branch);
-                found
-            }
+        let Some((byte, rest)) = key.split_first() else {
+            return self.remove_here(kind, serials);
+        };
+        if !self.leads_on(*byte) {
+            return false;
         }
-    }
-}
-
-/// A branch that is read: the root's, or that of a node.
-#[derive(Clone, Copy, Drop)]
-pub(crate) struct Place<'a> {
-    pub(crate) literal: &'a Serials,
-    pub(crate) prefixed: &'a Serials,
-    pub(crate) below: &'a Link<Item>,
-}
-
-impl<'a> Place<'a> {
-    fn of(node: &'a ByteNode) -> Place<'a>
-        ensures { seen result ≡ node_contents node.now }
-    {
-        Place {
-            literal: &node.item.literal,
-            prefixed: &node.item.prefixed,
-            below: &node.child,
+        let mut branch = Branch::new();
+        self.exchange(*byte, &mut branch);
+        let found = branch.remove_all(rest, kind, serials);
+        if branch.is_bare() {
+            self.unlink(*byte);
+            return found;
         }
+        self.exchange(*byte, &mut branch);
+        found
     }
 
-    /// What follows one byte.
-    pub(crate) fn child(self, byte: u8) -> Option<Place<'a>>
-        ensures held { MatchOption result
-            ((key : List ℕ) → held_in (byte ∷ key) (seen self.entry) ≡ nothing)
-            (λ p. (key : List ℕ) → held_in (byte ∷ key) (seen self.entry) ≡ held_in key (seen p)) }
-        ensures leads { IsNeat self.entry.below.now.nodes
-            → IfSome result (λ p. (seen p ≢ bare) × IsNeat p.below.now.nodes) }
+    /// Takes these serials out of those of the place itself, which holds none if it has a tail.
+    fn remove_here(&mut self, kind: PatternKind, serials: &[u64]) -> bool
+        ensures below { (contents self.new).1 ≡ (contents self.old).1 }
+        ensures found { result ≡ has_serials kind serials.now (contents self.old).0 }
+        ensures taken { (contents self.new).0
+            ≡ without_serials kind serials.now (contents self.old).0 }
+        ensures same { self.new.tail ≡ self.old.tail }
     {
-        match self.below.find(byte) {
-            None => None,
-            Some(node) => Some(Place::of(node)),
+        if !self.tail.is_empty() {
+            return false;
         }
-    }
-
-    /// The place of a key, from which longer keys go on.
-    pub(crate) fn at(self, key: &[u8]) -> Option<Place<'a>>
-        ensures { MatchOption result
-            ((more : List ℕ) → held_in (key.now ++ more) (seen self.entry) ≡ nothing)
-            (λ p. (more : List ℕ)
-            → held_in (key.now ++ more) (seen self.entry) ≡ held_in more (seen p)) }
-    {
-        let mut place = self;
-        let mut rest = key;
-        while let Some((byte, others)) = rest.split_first() {
-            place = place.child(*byte)?;
-            rest = others;
+        match kind {
+            PatternKind::Literal => self.literal.remove_all(serials),
+            PatternKind::Prefixed => self.prefixed.remove_all(serials),
         }
-        Some(place)
-    }
-
-    /// How many bytes of a name lead on.
-    pub(crate) fn depth_of(self, name: &[u8]) -> usize
-        requires { IsNeat self.below.now.nodes }
-        ensures longest { IsLongestInUse (λ key. held_in key (seen self.entry)) name.now result }
-        ensures bounded { result ≤ length name.now }
-    {
-        let mut place = self;
-        let mut rest = name;
-        let mut depth = 0;
-        while let Some((byte, others)) = rest.split_first() {
-            match place.child(*byte) {
-                None => break,
-                Some(child) => place = child,
-            }
-            rest = others;
-            depth += 1;
-        }
-        depth
     }
 }

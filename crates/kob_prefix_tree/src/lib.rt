@@ -1,4 +1,5 @@
-//! A map from byte strings to lists of serials, kept as a tree of single bytes.
+//! A map from byte strings to lists of serials, kept as a tree whose nodes hold up to seven
+//! bytes each.
 #![tactic(auto)]
 
 mod branch;
@@ -6,8 +7,11 @@ mod kind;
 mod link;
 mod node;
 mod part;
+mod path;
+mod place;
 mod serials;
 mod siblings;
+mod tail;
 mod tree;
 mod walk;
 

@@ -5,8 +5,8 @@ ghost use Rattle.kob_prefix_tree.specs.Part.{held_from, part_of};
 ghost use Rattle.kob_prefix_tree.specs.Walked.{serials_along};
 ghost use Rattle.kob_prefix_tree.specs.WalkLeft.{left_of};
 
-use crate::branch::Place;
 use crate::kind::PatternKind;
+use crate::place::Place;
 use crate::serials::Unread;
 use crate::walk::Walk;
 
@@ -54,10 +54,7 @@ impl<'a> Part<'a> {
     {
         match self.at(key) {
             None => Walk::over(Unread::nothing()),
-            Some(place) => match kind {
-                PatternKind::Literal => Walk::over(place.literal.unread()),
-                PatternKind::Prefixed => Walk::over(place.prefixed.unread()),
-            },
+            Some(place) => Walk::over(place.serials(kind)),
         }
     }
 

@@ -1,22 +1,25 @@
 //! The nodes that follow one place of the tree: siblings, each of another byte. The one that came
 //! last stands first.
-ghost use Rattle.std.specs.Prelude.{◌≡◌, ◌∷◌, Some, None, unwrap_or, IfOk, MatchOption};
+ghost use Rattle.std.specs.Prelude.{◌≡◌, Some, None, unwrap_or, MatchOption};
+ghost use Rattle.kob_prefix_tree.specs.Trie.{sibling};
 ghost use Rattle.kob_prefix_tree.specs.Siblings.{value_at, with_value, without, siblings};
-ghost use Rattle.kob_prefix_tree.specs.Contents.{contents, node_contents};
-ghost use Rattle.kob_prefix_tree.specs.Path.{key_of};
+ghost use Rattle.kob_prefix_tree.specs.Contents.{contents, node_contents, trie_of};
 
 use crate::branch::Branch;
 use crate::link::Link;
 use crate::node::Node;
 use crate::serials::Serials;
-use std::alloc::{AllocError, Global};
-use std::mem::{replace, swap};
+use crate::tail::Tail;
+use std::alloc::Global;
+use std::mem::{replace, size_of, swap};
 use std_alloc::room::Vacant;
 
-/// What a node keeps: its byte, and the serials of the key that ends there.
+/// What a node keeps: its bytes, by the first of which its siblings are told apart, and the serials
+/// of the key that ends there.
 #[derive(Drop)]
 pub(crate) struct Item {
     pub(crate) byte: u8,
+    pub(crate) tail: Tail,
     pub(crate) literal: Serials,
     pub(crate) prefixed: Serials,
 }
@@ -24,15 +27,17 @@ pub(crate) struct Item {
 /// A node of the tree. It takes 40 bytes.
 pub(crate) type ByteNode = Node<Item, Link<Item>, Link<Item>>;
 
+const _: () = prove!(size_of::<ByteNode>() == 40);
+
 /// A block for a node.
 pub(crate) type Room = Vacant<Node<Item, Link<Item>, Link<Item>>, Global>;
 
 impl Link<Item> {
-    /// The node of this byte.
+    /// The node that begins with this byte.
     pub(crate) fn find(&self, byte: u8) -> Option<&ByteNode>
         ensures { MatchOption result
-            (value_at byte (siblings self.now.nodes) ≡ None)
-            (λ n. value_at byte (siblings self.now.nodes) ≡ Some (node_contents n.now)) }
+            (value_at byte (siblings (trie_of self.now.nodes)) ≡ None)
+            (λ n. value_at byte (siblings (trie_of self.now.nodes)) ≡ Some (node_contents n.now)) }
     {
         let mut at = self;
         while !at.is_null() {
@@ -47,15 +52,18 @@ impl Link<Item> {
 
     /// Links a node in front.
     pub(crate) fn put_front(&mut self, room: Room, alloc: Global, byte: u8, branch: Branch)
-        ensures { siblings self.new.nodes ≡ (byte, contents branch) ∷ siblings self.old.nodes }
+        ensures { trie_of self.new.nodes
+            ≡ sibling byte (contents branch).0 (contents branch).1 (trie_of self.old.nodes) }
     {
         let Branch {
+            tail,
             literal,
             prefixed,
             below,
         } = branch;
         let item = Item {
             byte,
+            tail,
             literal,
             prefixed,
         };
@@ -70,20 +78,21 @@ impl Link<Item> {
         emptied.give_up();
     }
 
-    /// Exchanges what the node of this byte keeps, and what is below it, for a branch. The node
-    /// stays where it is. It calls itself once a sibling, and so at most 256 times.
+    /// Exchanges what follows the first byte of its node, with all that is below, for a branch. The
+    /// node stays where it is. It calls itself once a sibling, and so at most 256 times.
     #[cycle(exchange)]
     pub(crate) fn exchange(&mut self, byte: u8, branch: &mut Branch)
-        ensures here { siblings self.new.nodes
-            ≡ with_value byte (contents branch.old) (siblings self.old.nodes) }
+        ensures here { siblings (trie_of self.new.nodes)
+            ≡ with_value byte (contents branch.old) (siblings (trie_of self.old.nodes)) }
         ensures there { contents branch.new
-            ≡ unwrap_or (value_at byte (siblings self.old.nodes)) (contents branch.old) }
+            ≡ unwrap_or (value_at byte (siblings (trie_of self.old.nodes))) (contents branch.old) }
     {
         if self.is_null() {
             return;
         }
         let node = self.get_mut();
         if node.item.byte == byte {
+            swap(&mut node.item.tail, &mut branch.tail);
             swap(&mut node.item.literal, &mut branch.literal);
             swap(&mut node.item.prefixed, &mut branch.prefixed);
             swap(&mut node.child, &mut branch.below);
@@ -92,11 +101,12 @@ impl Link<Item> {
         node.next.exchange(byte, branch);
     }
 
-    /// Takes the node of this byte out and frees it. The one behind it takes its place. It calls
-    /// itself once a sibling.
+    /// Takes the node that begins with this byte out and frees it. The one behind it takes its place.
+    /// It calls itself once a sibling.
     #[cycle(unlink)]
     pub(crate) fn unlink(&mut self, byte: u8)
-        ensures { siblings self.new.nodes ≡ without byte (siblings self.old.nodes) }
+        ensures { siblings (trie_of self.new.nodes)
+            ≡ without byte (siblings (trie_of self.old.nodes)) }
     {
         if self.is_null() {
             return;
@@ -113,20 +123,4 @@ impl Link<Item> {
         }
         node.next.unlink(byte);
     }
-}
-
-/// Nodes for a key, one a byte, linked beside one another. One that can't be made frees the others.
-pub(crate) fn path_of(alloc: Global, key: &[u8]) -> Result<Link<Item>, AllocError>
-    ensures { IfOk result (λ path. key_of path.nodes ≡ key.now) }
-{
-    let mut path = Link::null();
-    let mut rest = key;
-    while let Some((byte, before)) = rest.split_last() {
-        let Ok(room) = Vacant::take(alloc) else {
-            return Err(AllocError);
-        };
-        path.put_front(room, alloc, *byte, Branch::new());
-        rest = before;
-    }
-    Ok(path)
 }

@@ -11,8 +11,9 @@ use crate::branch::Branch;
 use crate::kind::PatternKind;
 use crate::link::Link;
 use crate::part::Part;
+use crate::path::{path_of, spare_node};
 use crate::serials::Serials;
-use crate::siblings::{Item, path_of};
+use crate::siblings::Item;
 use crate::walk::Walk;
 use std::alloc::{AllocError, Global};
 use std::marker::Model;
@@ -20,10 +21,12 @@ use std::marker::Model;
 /// A map from keys, which are byte strings, to two lists of serials: the literal and the prefixed
 /// ones.
 ///
-/// It is a tree of single bytes: a node has its byte, its own serials, its first child and its next
-/// sibling. No node stays that holds nothing and leads nowhere. What adds or removes calls itself
-/// once a byte of the key, and at each byte once a sibling, from which it comes back before it goes
-/// on. All else is loops, freeing the tree too. A tree may be moved to another thread.
+/// A node has one to seven bytes of a key, the serials of the key that ends with them, its first
+/// child and its next sibling, and takes 40 bytes. No two siblings begin with one byte, and no node
+/// stays that holds nothing and leads nowhere. Where a key ends or parts within its bytes a node is
+/// cut in two, which no removal joins again. What adds or removes calls itself once a byte of the
+/// key, and at each node once a sibling, from which it comes back before it goes on. All else is
+/// loops, freeing the tree too. A tree may be moved to another thread.
 #[derive(Drop)]
 pub struct PrefixTree {
     root: Branch,
@@ -44,13 +47,15 @@ impl Model for PrefixTree {
 
     ghost view = { λ a. map.from_entries (entries_in (contents a.root)) };
 
-    ghost invariant = { λ a. IsNeat a.root.below.nodes };
+    ghost invariant = { λ a. IsNeat (contents a.root).1 };
 }
 
-/// The nodes of one key and its serial's place, made ahead. One that is let go frees them.
+/// The nodes of one key, one more for a node that is cut in two, and the place of the key's serial,
+/// made ahead. One that is let go frees them.
 #[derive(Drop)]
 pub struct Prepared {
     path: Link<Item>,
+    spare: Link<Item>,
     kind: PatternKind,
     serials: Serials,
 }
@@ -59,6 +64,7 @@ impl Model for Prepared {
     ghost use Rattle.std.specs.Prelude.{◌≡◌, ◌∷◌, []};
     ghost use Rattle.kob_prefix_tree.specs.Addition.{Addition};
     ghost use Rattle.kob_prefix_tree.specs.Path.{key_of, first_serial};
+    ghost use Rattle.kob_prefix_tree.specs.Nodes.{Leads};
 
     ghost Value = { Addition };
 
@@ -68,7 +74,8 @@ impl Model for Prepared {
       serial = first_serial a.serials;
     } };
 
-    ghost invariant = { λ a. a.serials ≡ first_serial a.serials ∷ [] };
+    ghost invariant = { λ a.
+        (a.serials ≡ first_serial a.serials ∷ []) × Leads a.spare.nodes };
 }
 
 impl PrefixTree {
@@ -98,8 +105,8 @@ impl PrefixTree {
     }
 
     /// The first step of an addition: makes the nodes and the serial's place as a piece of its own.
-    /// It makes a node for each byte, since those that stand now may be removed before the second
-    /// step.
+    /// It makes a node for every seven bytes of the key, since those that stand now may be removed
+    /// before the second step, and one more, since one may have to be cut in two.
     pub fn prepare_add(
         &self,
         alloc: Global,
@@ -111,24 +118,29 @@ impl PrefixTree {
     {
         let serials = Serials::one(alloc, serial)?;
         let path = path_of(alloc, key)?;
+        let spare = spare_node(alloc)?;
         Ok(Prepared {
             path,
+            spare,
             kind,
             serials,
         })
     }
 
     /// The second step: links in what was made, whatever was added and removed since, and frees the
-    /// nodes that stand already. It takes no memory.
+    /// nodes whose bytes stand already. It takes no memory.
     pub fn commit_add(&mut self, prepared: Prepared)
         ensures { self.new ≡ added self.old prepared.key prepared.kind prepared.serial }
     {
         let Prepared {
             path,
+            spare,
             kind,
             serials,
         } = prepared;
-        self.root.grow(path, kind, serials);
+        let heap = spare.get().alloc;
+        let (_, room) = spare.take(heap);
+        self.root.grow(path, room, heap, kind, serials);
     }
 
     /// Takes the serial out of the key's list of its kind, once if it is there more often, and says

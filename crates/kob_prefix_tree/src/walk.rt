@@ -6,7 +6,8 @@ ghost use Rattle.kob_prefix_tree.specs.Siblings.{held_in};
 ghost use Rattle.kob_prefix_tree.specs.WalkLeft.{left_of, serials_beyond};
 ghost use Rattle.kob_prefix_tree.specs.SerialsLeft.{unread_of};
 
-use crate::branch::Place;
+use crate::kind::PatternKind;
+use crate::place::Place;
 use crate::serials::Unread;
 
 /// A place of the tree, and the bytes of the name that are still to follow from there.
@@ -30,7 +31,7 @@ impl<'a> Walk<'a> {
             ++ serials_beyond (λ key. held_in key (seen place.entry)) name.now }
     {
         Walk {
-            serials: place.prefixed.unread(),
+            serials: place.serials(PatternKind::Prefixed),
             ahead: Some(Ahead { place, name }),
         }
     }
@@ -60,13 +61,13 @@ impl<'a> Iterator for Walk<'a> {
             let ahead = self.ahead?;
             match ahead.name.split_first() {
                 None => {
-                    self.serials = ahead.place.literal.unread();
+                    self.serials = ahead.place.serials(PatternKind::Literal);
                     self.ahead = None;
                 }
                 Some((byte, rest)) => match ahead.place.child(*byte) {
                     None => self.ahead = None,
                     Some(child) => {
-                        self.serials = child.prefixed.unread();
+                        self.serials = child.serials(PatternKind::Prefixed);
                         self.ahead = Some(Ahead {
                             place: child,
                             name: rest,

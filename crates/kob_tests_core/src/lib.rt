@@ -6,6 +6,8 @@ mod authorizer;
 #[cfg(test)]
 mod chunks;
 #[cfg(test)]
+mod cut;
+#[cfg(test)]
 mod names;
 #[cfg(test)]
 mod one_name;

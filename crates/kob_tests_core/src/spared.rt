@@ -92,16 +92,16 @@ fn a_batch_is_committed(rt: HostRuntime) -> Result<(), Fail> {
     Ok(())
 }
 
-/// Whether a tree takes in what is prepared, is walked, and lets all go.
+/// Whether a tree takes in what is prepared, which cuts a node in two, is walked, and lets all go.
 fn changes_tree(alloc: Global, tree: &mut PrefixTree) -> Result<bool, AllocError> {
-    tree.add(alloc, b"ab", PatternKind::Prefixed, 1)?;
-    let prepared = tree.prepare_add(alloc, b"abc", PatternKind::Literal, 2)?;
+    tree.add(alloc, b"abcd", PatternKind::Prefixed, 1)?;
+    let prepared = tree.prepare_add(alloc, b"ab", PatternKind::Prefixed, 2)?;
     spare(alloc);
     tree.commit_add(prepared);
-    let found = tree.walk(b"abc").eq([1, 2]) && tree.literal(b"abc").eq([2]);
-    let gone = tree.remove(b"ab", PatternKind::Prefixed, 1)
-        && tree.remove_all(b"abc", PatternKind::Literal, &[2]);
-    Ok(found && gone && tree.levels(b"abc") == 1)
+    let found = tree.walk(b"abcd").eq([2, 1]) && tree.walk(b"abc").eq([2]);
+    let gone = tree.remove(b"abcd", PatternKind::Prefixed, 1)
+        && tree.remove_all(b"ab", PatternKind::Prefixed, &[2]);
+    Ok(found && gone && tree.levels(b"abcd") == 1)
 }
 
 #[test]

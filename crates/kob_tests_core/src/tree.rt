@@ -171,6 +171,22 @@ fn tree_commits_in_any_order(rt: HostRuntime) -> Result<(), Fail> {
     Ok(())
 }
 
+/// Puts an even serial on a key in one step, an odd one in two.
+fn put(
+    alloc: Global,
+    tree: &mut PrefixTree,
+    key: &[u8],
+    kind: PatternKind,
+    serial: u64,
+) -> Result<(), AllocError> {
+    if serial % 2 == 0 {
+        return tree.add(alloc, key, kind, serial);
+    }
+    let prepared = tree.prepare_add(alloc, key, kind, serial)?;
+    tree.commit_add(prepared);
+    Ok(())
+}
+
 /// Puts so many serials on one key, from 0 on.
 fn put_many(alloc: Global, tree: &mut PrefixTree, count: u64) -> Result<(), AllocError> {
     for serial in 0..count {
@@ -272,7 +288,7 @@ fn changes(
     } else {
         PatternKind::Prefixed
     };
-    tree.add(alloc, &key, kind, serial)?;
+    put(alloc, tree, &key, kind, serial)?;
     entries.push(Entry { key, kind, serial })?;
     Ok(true)
 }
@@ -337,7 +353,7 @@ fn many_serials_out_in_one_pass(rt: HostRuntime) -> Result<(), Fail> {
     Ok(())
 }
 
-/// Three additions. Wherever memory was refused, the tree is as it was before that addition; run
+/// Three additions, of which the last cuts a node in two. Wherever memory was refused, the tree is as it was before that addition; run
 /// with each growth refused in turn.
 #[test]
 fn refused_addition_leaves_the_tree(rt: HostRuntime) {
@@ -348,10 +364,12 @@ fn refused_addition_leaves_the_tree(rt: HostRuntime) {
     let second = tree
         .add(rt.alloc(), b"abcd", PatternKind::Prefixed, 2)
         .is_ok();
-    let third = tree.add(rt.alloc(), b"ab", PatternKind::Literal, 3).is_ok();
+    let third = tree
+        .add(rt.alloc(), b"abc", PatternKind::Literal, 3)
+        .is_ok();
     assert_eq!(rt; gives(tree.walk(b"abcd"), &[1, 2]), first && second);
     assert_eq!(rt; gives(tree.walk(b"abcd"), &[2]), !first && second);
     assert_eq!(rt; gives(tree.walk(b"abcd"), &[1]), first && !second);
-    assert_eq!(rt; gives(tree.literal(b"ab"), &[3]), third);
+    assert_eq!(rt; gives(tree.literal(b"abc"), &[3]), third);
     assert_eq!(rt; tree.levels(b"abcd") == 5, second);
 }

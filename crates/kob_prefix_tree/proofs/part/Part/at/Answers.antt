@@ -1,5 +1,5 @@
 use Rattle.std.proofs.Common.{◌++◌, ap, sym, ◌∙◌, Option}
-use Rattle.kob_prefix_tree.specs.declared.branch.Place.{Place}
+use Rattle.kob_prefix_tree.specs.declared.place.Place.{Place}
 use Rattle.kob_prefix_tree.specs.Contents.{seen}
 use Rattle.kob_prefix_tree.specs.Part.{held_from}
 use Rattle.kob_prefix_tree.specs.Siblings.{held_in}

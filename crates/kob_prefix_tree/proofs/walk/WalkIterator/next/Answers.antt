@@ -17,7 +17,7 @@ loop-serial-preserved-in-None-child c =
 pub loop-serial-preserved : goal.loop-serial-preserved
 loop-serial-preserved c =
     ap (λ xs. xs ++ serials_beyond (λ key. held_in key (seen c.in-Some-child.child)) c.in-Some-split_first.rest.now)
-    c.unread-self-in-Some-child.ensures
+    c.serials-self-in-Some-child.ensures
     ∙ sym (step_child c.loop-serial.self.serials c.loop-serial.self.ahead c.in_ok-ahead.ahead
     c.in-Some-split_first.byte.now c.in-Some-split_first.rest.now c.in_default.ensures.0 c.in_ok-ahead.was
     c.in-Some-split_first.ensures.cases.0

@@ -1,7 +1,7 @@
 use Rattle.std.proofs.Common.{◌≡◌, ◌++◌, length, List, ℕ}
 use Rattle.kob_prefix_tree.specs.Contents.{seen}
 use Rattle.kob_prefix_tree.specs.Siblings.{held_in}
-use Rattle.kob_prefix_tree.proofs.branch.Place.at.Given as goal
+use Rattle.kob_prefix_tree.proofs.place.Place.at.Given as goal
 
 abbrev pub invariant-loop-byte : goal.invariant-loop-byte
 invariant-loop-byte l =

@@ -2,11 +2,11 @@ use Rattle.std.proofs.Common.{◌≡◌, ℕ, ◌+◌, length}
 use Rattle.kob_prefix_tree.specs.Contents.{seen}
 use Rattle.kob_prefix_tree.specs.Siblings.{held_in, IsNeat}
 use Rattle.kob_prefix_tree.specs.Walked.{IsLongestInUse}
-use Rattle.kob_prefix_tree.proofs.branch.Place.depth_of.Given as goal
+use Rattle.kob_prefix_tree.proofs.place.Place.depth_of.Given as goal
 
 abbrev pub invariant-loop-byte : goal.invariant-loop-byte
 invariant-loop-byte l = record {
-  neat : IsNeat l.place.below.now.nodes;
+  neat : IsNeat (seen l.place).1;
   passed : l.depth + length l.rest ≡ length l.name;
   deeper : (n : ℕ) → IsLongestInUse (λ key. held_in key (seen l.place)) l.rest n
       → IsLongestInUse (λ key. held_in key (seen l.fn.self)) l.name (l.depth + n);

@@ -1,6 +1,6 @@
 use Rattle.std.proofs.Common.{◌≡◌, ◌++◌, length}
 use Rattle.kob_prefix_tree.specs.Path.{key_of}
-use Rattle.kob_prefix_tree.proofs.siblings.path_of.Given as goal
+use Rattle.kob_prefix_tree.proofs.path.path_of.Given as goal
 
 abbrev pub invariant-loop-byte : goal.invariant-loop-byte
 invariant-loop-byte l = l.key ≡ l.rest ++ key_of l.path.nodes

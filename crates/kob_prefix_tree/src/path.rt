@@ -1,0 +1,102 @@
+//! The nodes of a key that are made ahead: linked beside one another, each with some of its bytes.
+ghost use Rattle.std.specs.Prelude.{◌≡◌, [], ◌∷◌, drop, IfOk, MatchOption};
+ghost use Rattle.kob_prefix_tree.specs.Nodes.{Leads};
+ghost use Rattle.kob_prefix_tree.specs.Path.{key_of};
+
+use crate::link::Link;
+use crate::node::Node;
+use crate::serials::Serials;
+use crate::siblings::Item;
+use crate::tail::Tail;
+use std::alloc::{AllocError, Global};
+use std::mem::replace;
+use std_alloc::room::Vacant;
+
+impl Link<Item> {
+    /// The first byte of the key.
+    pub(crate) fn first_byte(&self) -> Option<u8>
+        ensures { MatchOption result
+            (key_of self.now.nodes ≡ [])
+            (λ byte. key_of self.now.nodes ≡ byte ∷ drop 1 (key_of self.now.nodes)) }
+    {
+        if self.is_null() {
+            return None;
+        }
+        Some(self.get().item.byte)
+    }
+
+    /// Takes the first byte off, and frees a node that has no other.
+    pub(crate) fn drop_byte(&mut self)
+        ensures { key_of self.new.nodes ≡ drop 1 (key_of self.old.nodes) }
+    {
+        if self.is_null() {
+            return;
+        }
+        let node = self.get_mut();
+        if let Some(byte) = node.item.tail.pop_front() {
+            node.item.byte = byte;
+            return;
+        }
+        let alloc = node.alloc;
+        let first = replace(self, Link::null());
+        let (node, room) = first.take(alloc);
+        room.free();
+        let emptied = replace(self, node.next);
+        emptied.give_up();
+    }
+
+    /// Puts one byte more in front: into the first node, where that has room, or into one more.
+    fn push_byte(&mut self, alloc: Global, byte: u8) -> Result<(), AllocError>
+        ensures { IfOk result (λ _. key_of self.new.nodes ≡ byte ∷ key_of self.old.nodes) }
+    {
+        if !self.is_null() {
+            let node = self.get_mut();
+            if !node.item.tail.is_full() {
+                let second = replace(&mut node.item.byte, byte);
+                node.item.tail.push_front(second);
+                return Ok(());
+            }
+        }
+        let Ok(room) = Vacant::take(alloc) else {
+            return Err(AllocError);
+        };
+        let item = Item {
+            byte,
+            tail: Tail::new(),
+            literal: Serials::new(),
+            prefixed: Serials::new(),
+        };
+        let next = replace(self, Link::null());
+        let node = Node {
+            item,
+            child: Link::null(),
+            next,
+            alloc,
+        };
+        let emptied = replace(self, Link::of(room, node));
+        emptied.give_up();
+        Ok(())
+    }
+}
+
+/// Nodes for a key, one for every seven bytes. One that can't be made frees the others.
+pub(crate) fn path_of(alloc: Global, key: &[u8]) -> Result<Link<Item>, AllocError>
+    ensures { IfOk result (λ path. key_of path.nodes ≡ key.now) }
+{
+    let mut path = Link::null();
+    let mut rest = key;
+    while let Some((byte, before)) = rest.split_last() {
+        path.push_byte(alloc, *byte)?;
+        rest = before;
+    }
+    Ok(path)
+}
+
+/// One node for no key, of which only the block is wanted.
+pub(crate) fn spare_node(alloc: Global) -> Result<Link<Item>, AllocError>
+    ensures { IfOk result (λ spare. Leads spare.nodes) }
+{
+    let mut spare = Link::null();
+    spare.push_byte(alloc, 0)?;
+    Ok(spare)
+}
