@@ -1,4 +1,4 @@
 pub mod Histories
 pub mod Remembering
 pub mod Repeats
-pub mod Rings
+pub mod Showing

@@ -1,12 +1,8 @@
 -- What a table of producers shows.
-use Rattle.std.specs.Prelude.{◌≡◌, ℕ, ◌≤◌, Bool, ◌||◌, nat_eq, IsTrue, IfSome, refl}
-use Rattle.std.specs.Prelude.{List, [], length, map}
+use Rattle.std.specs.Prelude.{ℕ, Bool, false, ◌||◌, IsTrue, Option, Some, None, refl}
 use Rattle.std.specs.FinMap as map
 use Rattle.std.specs.Coded.{Coded, code_by, coded×, coded_ℕ, coded_bool, coded_list}
-use Rattle.std.specs.HashMap.{HashMap, get_by}
-use Rattle.circular_buffer.specs.Buffer.{Buffer, buffer}
 use Rattle.kob_producers.specs.declared.sent.Sent.{Sent}
-use Rattle.kob_producers.specs.Judge.{memory_length}
 use Rattle.kob_producers.specs.Recent.{Recent}
 
 -- the batches kept of each producer, and whether one that has none yet can be put in
@@ -23,22 +19,10 @@ abbrev pub table_code : Coded TableKept
 table_code = code_by (Recent × Bool) (coded× (map.code coded_ℕ (coded_list sent_code)) coded_bool)
     (λ t. (t.recent, t.ready)) (λ p. record { recent = p.0; ready = p.1 }) (λ _. refl)
 
--- the batches in the rings of a table
-abbrev pub recent_in : List (ℕ × Buffer Sent) → Recent
-recent_in rings = map.from_entries (map (λ entry. (entry.0, entry.1.items)) rings)
-
--- a ring for the batches of a producer
-pub record IsRing (ring : Buffer Sent) : Type 0 where
-  pub capacity : ring.capacity ≡ memory_length
-  pub within : length ring.items ≤ memory_length
-
--- a ring for a producer that has no batch yet
-abbrev pub IsFresh : Buffer Sent → Type 0
-IsFresh ring = ring ≡ buffer [] memory_length
-
--- each producer has a ring
-abbrev pub HasRings : {S : Type 0} → HashMap ℕ (Buffer Sent) S → Type 0
-HasRings rings = (producer : ℕ) → IfSome (get_by (nat_eq producer) rings) (λ ring. IsRing ring)
+-- what a table shows that has rings, or none yet
+abbrev pub table_of : Option TableKept → TableKept
+table_of None = record { recent = map.empty; ready = false }
+table_of (Some kept) = kept
 
 -- a batch of the producer can be put in
 abbrev pub CanAccept : TableKept → ℕ → Type 0

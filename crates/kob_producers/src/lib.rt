@@ -4,6 +4,7 @@
 
 mod judge;
 mod laws;
+mod rings;
 mod sent;
 mod sequence;
 mod table;

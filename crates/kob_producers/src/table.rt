@@ -1,49 +1,34 @@
-//! The last batches of each producer.
+//! The producers of one partition, of which there are often none.
 
-ghost use Rattle.std.specs.Prelude.{◌≡◌, ◌<◌, List, ℕ, OnOk, IfSome, IsSome, [], Some, nat_eq};
-ghost use Rattle.std.specs.HashMap.{spare, Updates};
+ghost use Rattle.std.specs.Prelude.{◌≡◌, List, ℕ, OnOk, []};
 ghost use Rattle.kob_producers.specs.Judge.{judge};
-ghost use Rattle.kob_producers.specs.Table.{IsFresh};
 
-use crate::judge::{Judgement, judge_first, judge_ring};
-use crate::sent::Sent;
-use circular_buffer::HeapCircularBuffer;
+use crate::judge::{Judgement, judge_first};
+use crate::rings::Rings;
 use kob_names::Idem;
 use std::alloc::{AllocError, Global};
-use std::collections::HashMap;
 use std::marker::Model;
-
-/// How many batches of a producer are kept.
-const REMEMBERED: usize = 5;
-
-type Ring = HeapCircularBuffer<Sent>;
 
 /// The last five accepted batches of each producer on one partition.
 ///
-/// Contracts see them by producer, and whether a batch of a producer that has none can be accepted.
+/// It takes no memory before room is made in it, so that partitions with no idempotent batch are
+/// small. Contracts see the batches by producer, and whether a batch of a producer that has none
+/// can be accepted.
 #[derive(Drop)]
 pub struct ProducerTable {
     alloc: Global,
-    rings: HashMap<u64, Ring>,
-    fresh: Option<Ring>,
+    rings: Option<Box<Rings>>,
 }
 
 impl Model for ProducerTable {
-    ghost use Rattle.std.specs.Prelude.{◌&&◌, nat_lt, is_some, IfSome};
-    ghost use Rattle.std.specs.HashMap.{spare};
-    ghost use Rattle.kob_producers.specs.Table.{TableKept, table_code, recent_in};
-    ghost use Rattle.kob_producers.specs.Table.{HasRings, IsFresh};
+    ghost use Rattle.std.specs.Prelude.{option_map};
+    ghost use Rattle.kob_producers.specs.Table.{TableKept, table_code, table_of};
 
     ghost Value = { TableKept };
 
     ghost coded = { table_code };
 
-    ghost view = { λ t. record {
-      recent = recent_in t.rings.entries;
-      ready = is_some t.fresh && nat_lt 0 (spare t.rings);
-    } };
-
-    ghost invariant = { λ t. HasRings t.rings × IfSome t.fresh IsFresh };
+    ghost view = { λ t. table_of (option_map (λ rings. rings.value) t.rings) };
 }
 
 impl ProducerTable {
@@ -57,11 +42,7 @@ impl ProducerTable {
         ensures recent { result.recent ≡ map.empty }
         ensures plain { Keeps (λ _. []) result.recent }
     {
-        ProducerTable {
-            alloc,
-            rings: HashMap::new(alloc),
-            fresh: None,
-        }
+        ProducerTable { alloc, rings: None }
     }
 
     /// How a batch of so many records stands to those that its producer sent before.
@@ -71,8 +52,8 @@ impl ProducerTable {
         ensures plain { (histories : ℕ → List Sent) → Keeps histories self.now.recent
             → result ≡ judge (histories idem.now.id) idem.now count }
     {
-        match self.rings.get(&idem.id) {
-            Some(ring) => judge_ring(ring, idem, count),
+        match &self.rings {
+            Some(rings) => rings.judge(idem, count),
             None => judge_first(idem.base),
         }
     }
@@ -82,11 +63,13 @@ impl ProducerTable {
         ensures recent { self.new.recent ≡ self.old.recent }
         ensures room { OnOk result (CanAccept self.new idem.now.id) }
     {
-        if self.rings.contains_key(&idem.id) {
-            return Ok(());
+        if let Some(rings) = &mut self.rings {
+            return rings.reserve(idem);
         }
-        fill(&mut self.fresh, self.alloc)?;
-        self.rings.reserve(1)
+        let mut rings = Rings::new(self.alloc);
+        rings.reserve(idem)?;
+        self.rings = Some(Box::new(self.alloc, rings)?);
+        Ok(())
     }
 
     /// Puts a batch of so many records, whose first one has the offset, last among those of its
@@ -97,34 +80,8 @@ impl ProducerTable {
         ensures plain { (histories : ℕ → List Sent) → Keeps histories self.old.recent
             → Keeps (with_sent histories idem.now count offset) self.new.recent }
     {
-        let sent = Sent::new(idem, count, offset);
-        if let Some(ring) = self.rings.get_mut(&idem.id) {
-            ring.push_back(sent);
-            return;
-        }
-        if let Some(mut ring) = self.fresh.take() {
-            ring.push_back(sent);
-            insert_reserved(&mut self.rings, idem.id, ring);
+        if let Some(rings) = &mut self.rings {
+            rings.accept(idem, count, offset);
         }
     }
-}
-
-/// Puts an empty ring aside, where there is none.
-fn fill(fresh: &mut Option<Ring>, alloc: Global) -> Result<(), AllocError>
-    requires { IfSome fresh.old IsFresh }
-    ensures fresh { IfSome fresh.new IsFresh }
-    ensures ok { OnOk result (IsSome fresh.new) }
-{
-    if fresh.is_none() {
-        *fresh = Some(HeapCircularBuffer::with_capacity(alloc, REMEMBERED)?);
-    }
-    Ok(())
-}
-
-/// Puts in a ring where there is room for it.
-fn insert_reserved(rings: &mut HashMap<u64, Ring>, producer: u64, ring: Ring)
-    requires { 0 < spare rings.old }
-    ensures { Updates nat_eq rings.old rings.new producer (Some ring) }
-{
-    let _ = rings.insert(producer, ring);
 }

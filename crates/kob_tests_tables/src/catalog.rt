@@ -94,3 +94,55 @@ fn ends_are_told(rt: &impl Abort, alloc: Global, catalog: &Catalog) -> Result<()
     }
     Ok(())
 }
+
+/// A topic, the number of its partitions, and what its creation is answered.
+type Row = (&'static str, u64, Result<(), CreateFault>);
+
+const ROWS: [Row; 8] = [
+    ("a", 2, Ok(())),
+    ("b", 300, Ok(())),
+    ("a", 0, Err(CreateFault::Exists)),
+    ("c", 0, Err(CreateFault::BadPartitions)),
+    ("c", 1, Ok(())),
+    ("d", 1, Ok(())),
+    ("e", 1, Ok(())),
+    ("f", 1_000, Ok(())),
+];
+
+/// The number of partitions of the topic of that name.
+fn partitions_of(catalog: &Catalog, name: &Text) -> Option<usize> {
+    let place = catalog.place_of(name)?;
+    Some(catalog.partitions(place))
+}
+
+/// Whether a creation is answered so. Want of memory leaves the topics.
+fn creates(alloc: Global, catalog: &mut Catalog, row: &Row) -> Result<bool, Fail> {
+    let (name, partitions, expected) = row;
+    let text = Text::copied(alloc, name)?;
+    let name = TopicName::parse(alloc, name)?;
+    let before = (catalog.len(), partitions_of(catalog, &text));
+    let mut created = catalog.create(alloc, &name, *partitions);
+    if created == Err(CreateFault::Memory)
+        && (catalog.len(), partitions_of(catalog, &text)) == before
+    {
+        created = catalog.create(alloc, &name, *partitions);
+    }
+    Ok(created == *expected)
+}
+
+fn creates_all(alloc: Global, catalog: &mut Catalog) -> Result<bool, Fail> {
+    let last = Text::copied(alloc, "f")?;
+    for row in &ROWS {
+        if !creates(alloc, catalog, row)? {
+            return Ok(false);
+        }
+    }
+    Ok(catalog.len() == 6 && partitions_of(catalog, &last) == Some(1_000))
+}
+
+#[test]
+fn refused_growth_leaves_the_topics(rt: HostRuntime) -> Result<(), Fail> {
+    let mut catalog = Catalog::new(rt.alloc());
+    assert!(rt; creates_all(rt.alloc(), &mut catalog)?);
+    Ok(())
+}

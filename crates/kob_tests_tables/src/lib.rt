@@ -1,8 +1,10 @@
-//! Tests of a service's tables, of an inbox and of a catalog's topics, over their public surface.
+//! Tests of a service's tables, of an inbox, of a catalog's topics and of groups, over their public surface.
 #![tactic(auto)]
 
 #[cfg(test)]
 mod catalog;
+#[cfg(test)]
+mod groups;
 #[cfg(test)]
 mod inbox;
 #[cfg(test)]

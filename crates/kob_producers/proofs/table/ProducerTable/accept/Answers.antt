@@ -1,59 +1,27 @@
-use Rattle.std.proofs.Common.{sym, ap, subst, ◌∙◌, ◌<◌, is_some, nat_lt, nat_eq, ◌&&◌}
-use Rattle.std.specs.HashMap.{spare, get_by}
+use Rattle.std.proofs.Common.{◌≡◌, ap, sym, ◌∙◌, option_map}
+use Rattle.kob_producers.specs.Recent.{recent_after}
+use Rattle.kob_producers.specs.Table.{table_of}
+use Rattle.kob_producers.specs.contracts.table.ProducerTable as table
 use Rattle.kob_producers.proofs.Histories.{accepted_plain}
-use Rattle.kob_producers.proofs.Rings.{accepted_by_ring, accepted_first, cannot_accept, ring_capacity, fresh_is, some_is, room_for}
-use Rattle.kob_producers.specs.Table.{recent_in}
+use Rattle.kob_producers.proofs.Showing.{empty_accepts_none}
 use Rattle.kob_producers.proofs.table.ProducerTable.accept.Goals as goal
+use Rattle.kob_producers.proofs.table.ProducerTable.accept.Goals.{in-Some, in_default}
 
-pub returns-in-Some : goal.returns-in-Some
-returns-in-Some c =
-    let old = c.self.inside.rings.entries in
-    let new = (c.get_mut.follows.lender c.push_back.new.self).entries in
-    let ring = c.in-Some.ring.now in
-    let written = (c.get_mut.follows.holds c.push_back.new.self).3 (some_is _ ring c.in-Some.ensures.value) in
-    let recent =
-    accepted_by_ring old new c.args.self.now.recent c.args.idem.now c.args.count c.args.offset ring
-    c.push_back.new.self c.new-sent.result
-    (ap (λ t. t.recent) c.self.view_is) c.in-Some.ensures.value
-    (ring_capacity _ ring (c.self.invariant.0 c.args.idem.now.id) c.in-Some.ensures.value)
-    c.new-sent.ensures c.push_back.ensures.items written.0 in
-    record {
-      recent = recent;
-      plain = λ histories keeps. accepted_plain histories c.args.self.now.recent _
-          c.args.idem.now c.args.count c.args.offset recent keeps;
-    }
+pub returns-clause-recent : goal.returns-clause-recent
+returns-clause-recent c =
+    elim c.match-self.branch [
+      | in-Some w ↦
+          let was : w.in-Some.rings.value ≡ c.args.self.now =
+          ap (λ o. table_of (option_map (λ rings. rings.value) o)) (sym w.in-Some.is) ∙ c.self.view_is in
+          ap (λ inside. (table.the_view inside).recent) w.self-inside-is ∙ w.accept.ensures
+          ∙ ap (λ kept. recent_after kept.recent c.args.idem.now c.args.count c.args.offset)
+          (w.deref_mut.ensures.value ∙ was)
+      | in_default w ↦
+          let none = sym c.self.view_is ∙ ap (λ o. table_of (option_map (λ rings. rings.value) o)) w.in_default.is in
+          absurd (empty_accepts_none c.args.self.now c.args.idem.now.id none c.requires)
+    ]
 
-pub insert_reserved-requires : goal.insert_reserved-requires
-insert_reserved-requires c =
-    let room =
-    room_for c.self.inside.rings.entries c.args.self.now c.args.idem.now.id (is_some c.self.inside.fresh)
-    (spare c.self.inside.rings)
-    (ap (λ t. t.recent) c.self.view_is) (ap (λ t. t.ready) c.self.view_is) c.in_default.ensures.value c.requires in
-    subst (λ m. 0 < spare m) (sym c.get_mut.follows.holds-at-none) room
-
-pub returns-in-Some-take : goal.returns-in-Some-take
-returns-in-Some-take c =
-    let ring = c.in-Some-take.ring in
-    let same = c.get_mut.follows.holds-at-none in
-    let recent =
-    accepted_first c.get_mut.follows.lender-at-none.entries c.insert_reserved.new.rings.entries
-    c.args.self.now.recent c.args.idem.now c.args.count c.args.offset ring c.push_back-in-Some-take.new.self
-    c.new-sent.result
-    (ap (λ m. recent_in m.entries) same ∙ ap (λ t. t.recent) c.self.view_is)
-    (c.in_default.ensures.value ∙ sym (ap (λ m. get_by (nat_eq c.args.idem.now.id) m) same))
-    (fresh_is _ ring c.self.invariant.1 (sym c.in-Some-take.is ∙ c.take.ensures.value))
-    c.new-sent.ensures c.push_back-in-Some-take.ensures.items c.insert_reserved.ensures.0 in
-    record {
-      recent = recent;
-      plain = λ histories keeps. accepted_plain histories c.args.self.now.recent _
-          c.args.idem.now c.args.count c.args.offset recent keeps;
-    }
-
-pub returns-in_default-take : goal.returns-in_default-take
-returns-in_default-take c =
-    let unready =
-    sym (ap (λ t. t.ready) c.self.view_is)
-    ∙ ap (λ o. is_some o && nat_lt 0 (spare c.self.inside.rings))
-    (sym c.take.ensures.value ∙ c.in_default-take.is) in
-    absurd (cannot_accept c.self.inside.rings.entries c.args.self.now c.args.idem.now.id
-    (ap (λ t. t.recent) c.self.view_is) unready c.in_default.ensures.value c.requires)
+pub returns-clause-plain : goal.returns-clause-plain
+returns-clause-plain c =
+    λ histories keeps. accepted_plain histories c.args.self.now.recent _ c.args.idem.now c.args.count c.args.offset
+    (returns-clause-recent c) keeps

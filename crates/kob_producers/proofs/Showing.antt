@@ -1,4 +1,4 @@
--- What the rings of a table show.
+-- What a table of producers and its rings show.
 use Rattle.std.proofs.Common.{◌≡◌, ℕ, ◌<◌, ◌&&◌, nat_lt, ltb-true, Bool, true, false, cond, ◌||◌, is_some, nat_eq, List, [], ◌∷◌, ◌++◌, Option, None, Some, option_map, unwrap_or, IfSome, IsSome, map, nat_cmp, refl, sym, ap, subst, ◌∙◌, true≢false}
 use Rattle.std.proofs.lemmas.Cmp.{nat_cmp_total, eq_by_cmp_equiv}
 use Rattle.std.specs.Cmp.{unsigned_tied}
@@ -10,7 +10,8 @@ use Rattle.kob_producers.specs.declared.sent.Sent.{Sent}
 use Rattle.kob_producers.specs.declared.judge.Judgement.{Judgement}
 use Rattle.kob_producers.specs.Judge.{judge, judge_first, memory_length}
 use Rattle.kob_producers.specs.Recent.{Recent, sent_by, sent_batch, recent_after}
-use Rattle.kob_producers.specs.Table.{TableKept, IsRing, recent_in, CanAccept}
+use Rattle.kob_producers.specs.Rings.{IsRing, recent_in}
+use Rattle.kob_producers.specs.Table.{TableKept, CanAccept, table_of}
 
 abbrev items : Buffer Sent → List Sent
 items ring = ring.items
@@ -147,6 +148,11 @@ cannot_accept rings kept producer shown unready none can =
     none_accepted kept.recent producer _ kept.ready
     (ap (λ r. fin.get r producer) (sym shown) ∙ get_shown rings producer)
     (ap (option_map items) (sym none)) unready can
+
+pub empty_accepts_none : (kept : TableKept) (producer : ℕ) → kept ≡ table_of None → CanAccept kept producer → ⊥
+empty_accepts_none kept producer none can =
+    none_accepted kept.recent producer _ kept.ready
+    (ap (λ k. fin.get k.recent producer) none ∙ fin.get-empty nat_cmp producer) refl (ap (λ k. k.ready) none) can
 
 pub ring_capacity : (o : Option (Buffer Sent)) (ring : Buffer Sent) → IfSome o IsRing → Some ring ≡ o
     → ring.capacity ≡ memory_length

@@ -1,0 +1,85 @@
+//! Commits of groups that want of memory stops. `.ci/refuse` runs them with each growth refused in
+//! turn.
+
+use kob_groups::{CommitPlace, Groups};
+use kob_names::Text;
+use std::alloc::{AllocError, Global};
+use std::test::Fail;
+
+/// A place, another partition of its topic, another topic and another group.
+const PLACES: [(&str, &str, u64); 4] = [("g", "a", 0), ("g", "a", 1), ("g", "b", 0), ("h", "a", 0)];
+
+/// What is committed at each of the places.
+type Offsets = [Option<u64>; 4];
+
+/// The place of a commit, its offset, and what is committed after it.
+type Step = (usize, u64, Offsets);
+
+const STEPS: [Step; 5] = [
+    (0, 5, [Some(5), None, None, None]),
+    (1, 6, [Some(5), Some(6), None, None]),
+    (2, 7, [Some(5), Some(6), Some(7), None]),
+    (3, 8, [Some(5), Some(6), Some(7), Some(8)]),
+    (0, 9, [Some(9), Some(6), Some(7), Some(8)]),
+];
+
+fn places(alloc: Global) -> Result<Vec<CommitPlace>, AllocError> {
+    let mut places = Vec::new(alloc);
+    for (group, topic, partition) in PLACES {
+        places.push(CommitPlace {
+            group: Text::copied(alloc, group)?,
+            topic: Text::copied(alloc, topic)?,
+            partition,
+        })?;
+    }
+    Ok(places)
+}
+
+fn holds(groups: &Groups, places: &[CommitPlace], offsets: &Offsets) -> bool {
+    places
+        .iter()
+        .map(|place| groups.fetch(&place.group, &place.topic, place.partition))
+        .eq(offsets.iter().copied())
+}
+
+/// Whether an offset is committed. Want of memory leaves what was committed before.
+fn commits(
+    alloc: Global,
+    groups: &mut Groups,
+    places: &[CommitPlace],
+    before: &Offsets,
+    step: &Step,
+) -> Result<bool, Fail> {
+    let (place, offset, after) = step;
+    let place = places.get(*place).ok_or("no place")?;
+    let first = CommitPlace::copied(alloc, &place.group, &place.topic, place.partition)?;
+    let again = CommitPlace::copied(alloc, &place.group, &place.topic, place.partition)?;
+    let committed = match groups.commit(alloc, first, *offset) {
+        Ok(()) => {
+            drop(again);
+            true
+        }
+        Err(_) => { holds(groups, places, before) && groups.commit(alloc, again, *offset).is_ok() }
+    };
+    Ok(committed && holds(groups, places, after))
+}
+
+fn commits_all(alloc: Global, groups: &mut Groups) -> Result<bool, Fail> {
+    let places = places(alloc)?;
+    let mut before = [None; 4];
+    for step in &STEPS {
+        if !commits(alloc, groups, &places, &before, step)? {
+            return Ok(false);
+        }
+        before = step.2;
+    }
+    let names = groups.names(alloc).or_else(|_| groups.names(alloc))?;
+    Ok(names.len() == 2)
+}
+
+#[test]
+fn refused_growth_leaves_the_commits(rt: HostRuntime) -> Result<(), Fail> {
+    let mut groups = Groups::new(rt.alloc());
+    assert!(rt; commits_all(rt.alloc(), &mut groups)?);
+    Ok(())
+}
