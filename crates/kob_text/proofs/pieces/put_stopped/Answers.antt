@@ -1,4 +1,4 @@
-use Rattle.std.proofs.Common.{◌≡◌, ◌∙◌, List, ℕ, codes, ◌++◌, refl, sym, subst}
+use Rattle.std.proofs.Common.{◌≡◌, ◌∙◌, codes, ◌++◌, refl, sym, subst}
 use Rattle.std.specs.Fmt.{decimal}
 use Rattle.kob_text.specs.Transfer.{AppendsPart}
 use Rattle.kob_text.proofs.Parts.{is_err, on_ok, on_err, goes_on, part_with_more, part_of_front, same_text, three_parts}

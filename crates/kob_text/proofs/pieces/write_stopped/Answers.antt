@@ -1,4 +1,4 @@
-use Rattle.kob_text.proofs.Parts.{all_written, is_err, on_err, on_ok, part_of_held}
+use Rattle.kob_text.proofs.Parts.{all_written, on_err, on_ok, part_of_held}
 use Rattle.kob_text.proofs.pieces.write_stopped.Goals as goal
 
 pub returns-clause-whole : goal.returns-clause-whole
