@@ -1,13 +1,17 @@
 #!/usr/bin/env python3
-"""The allocations of one PRODUCE of one record of 100 bytes, lent to a broker and given away to it.
+"""The allocations of one PRODUCE of one record of 100 bytes: lent to a broker, given away to it, and as a line of a
+script.
 
-    python3 bench/allocations.py
+    python3 bench/allocations.py [PROGRAM]
 
 It puts allocations_program.txt into a crate of its own, beside copies of the crates that it needs, builds it by `rt run`, and
 reads off what `valgrind --trace-malloc=yes` tells between the program's marks, which are allocations of 70,001 bytes and
 so on. The libraries must be built (`rt all check`). The principal is a super user, and the topic has a record already.
+PROGRAM is that of bindings.py. It is given scripts of n and of 2n such lines: what the second n make more, by n, is
+what a line takes from its bytes to its reply, with its part of the lists that grow.
 """
 
+import argparse
 import pathlib
 import re
 import shutil
@@ -18,6 +22,7 @@ import tempfile
 TOP = pathlib.Path(__file__).resolve().parent.parent
 CRATES = """kob_names kob_prefix_tree kob_chunks kob_rights kob_producers kob_authorizer kob_groups kob_partition kob_catalog
 kob_broker""".split()
+LINES = 2_000
 CALL = re.compile(r"(malloc|calloc|realloc|memalign|aligned_alloc)\(.*?(\d+)\) = ")
 
 
@@ -34,8 +39,29 @@ def counts(told):
     return found
 
 
+def all_calls(program, lines):
+    """The allocations and growths of a whole run over so many lines."""
+    line = f"User:root h produce t 0 - {'x' * 100}\n"
+    script = "super User:root\nUser:root h create-topic t 1\n" + line * lines
+    words = ["valgrind", "--trace-malloc=yes", str(program)]
+    run = subprocess.run(words, check=True, input=script, capture_output=True, text=True)
+    calls = [call[1] == "realloc" for call in CALL.finditer(run.stderr)]
+    return len(calls) - sum(calls), sum(calls)
+
+
+def of_a_line(program):
+    """The allocations and growths that a line more makes."""
+    once, twice = all_calls(program, LINES), all_calls(program, 2 * LINES)
+    return [(more - less) / LINES for less, more in zip(once, twice)]
+
+
 def main():
-    """Builds the program in a folder of its own, and runs it."""
+    """Builds the program in a folder of its own, and runs it; then counts a line's."""
+    parser = argparse.ArgumentParser(description=__doc__, formatter_class=argparse.RawDescriptionHelpFormatter)
+    parser.add_argument("program", nargs="?", type=pathlib.Path, default=TOP / "crates/kob_run/out/kob_run")
+    program = parser.parse_args().program
+    if not program.exists():
+        sys.exit(f"{program} is not there: build it by `rt run` in crates/kob_run")
     with tempfile.TemporaryDirectory() as folder:
         crates = pathlib.Path(folder) / "crates"
         source = crates / "allocations" / "src"
@@ -54,6 +80,8 @@ def main():
     for mark, way in ((70_001, "lent"), (70_002, "given away")):
         made, grown = counts(told)[mark]
         print(f"{way}: {made} allocations, {grown} growths")
+    made, grown = of_a_line(program)
+    print(f"a line: {made:.2f} allocations, {grown:.2f} growths")
     return 0
 
 

@@ -4,12 +4,13 @@
     python3 bench/deletions.py [PROGRAM]
 
 PROGRAM is that of bindings.py. A super user produces batches of 1,000 records to one partition; after each of them it
-deletes all records that are there, or lists the end. The whole script is read before anything runs and stays in memory
-to its end, so from the most bytes that the program had in memory those are taken away that it had for the same script
-on a topic that is not there, whose requests are refused.
+deletes all records that are there, or lists the end. The whole script is read before anything runs, so from the most
+bytes that the program had in memory those are taken away that it had for the same script on a topic that is not there,
+whose requests are refused. A batch moves from its event into the partition, so what is told is by how much a partition
+grows beyond what the events took.
 
-What is to be seen: with deletions a partition takes as much after 1,000,000 records as after 125,000; without them
-eight times as much.
+What is to be seen: with deletions a partition takes no more after 1,000,000 records than after 125,000; without
+them it grows.
 """
 
 import argparse

@@ -57,7 +57,7 @@ impl<T: PlainValue> Items<T> {
     pub fn copied(alloc: Global, items: &[T]) -> Result<Items<T>, AllocError>
         ensures { IfOk result (λ made. made ≡ items.now) }
     {
-        let mut copies = Vec::new(alloc);
+        let mut copies = Vec::with_capacity(alloc, items.len())?;
         for item in items {
             copies.push(item.copy(alloc)?)?;
         }

@@ -99,7 +99,7 @@ whole_plain (byte ∷ rest) none =
     let here = both_false (byte == 37) (list_any (λ y. y == 37) rest) none in
     whole_step byte rest ∙ whole_after_plain (byte == 37) byte rest rest here.0 ∙ whole_plain rest here.1
 
-bytes_plain : (word : List ℕ) → list_any (λ y. y == 37) word ≡ false → bytes_of word ≡ word
+pub bytes_plain : (word : List ℕ) → list_any (λ y. y == 37) word ≡ false → bytes_of word ≡ word
 unfolding bytes_of
 bytes_plain [] none = refl
 bytes_plain (byte ∷ rest) none =

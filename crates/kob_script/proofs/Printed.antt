@@ -1,5 +1,5 @@
 -- Verdicts that are printed one after another.
-use Rattle.std.proofs.Common.{◌≡◌, ◌∙◌, ◌+◌, ◌<◌, ℕ, List, [], ◌∷◌, ◌++◌, length, codes, drop, get_or, sym, ap, append_assoc, append-nil, drop_of_length-le, ◌≤◌, refl, arith}
+use Rattle.std.proofs.Common.{◌≡◌, ◌∙◌, ◌<◌, ℕ, List, [], ◌∷◌, ◌++◌, length, codes, sym, ap, append_assoc, append-nil, refl, arith}
 use Rattle.kob_names.specs.declared.verdict.Verdict.{Verdict}
 use Rattle.kob_script.specs.PrintedReply.{verdict_text, verdicts_text}
 

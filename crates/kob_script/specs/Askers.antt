@@ -1,9 +1,8 @@
 -- Who asks.
-use Rattle.std.specs.Prelude.{Result, Ok}
+use Rattle.std.specs.Prelude.{ℕ, List, Result, Ok}
 use Rattle.kob_rights.specs.declared.event.Event.{Event}
 use Rattle.kob_rights.specs.declared.request.Request.{Request}
 use Rattle.kob_script.specs.declared.asker.Asker.{Asker}
-use Rattle.kob_script.specs.declared.asker.AskerText.{AskerText}
 use Rattle.kob_script.specs.declared.asker.AskerWithName.{AskerWithName}
 use Rattle.kob_script.specs.declared.fault.FaultKind.{FaultKind}
 use Rattle.kob_script.specs.Reading.{◌>>=◌}
@@ -15,7 +14,12 @@ pub record AskerWords : Type 0 where
   pub principal : Word
   pub host : Word
 
--- their texts
+-- who asks and from where, as texts
+pub record AskerText : Type 0 where
+  pub principal : List ℕ
+  pub host : List ℕ
+
+-- the texts of the words
 unfoldable pub asker_text : AskerWords → Result AskerText FaultKind
 asker_text words = do
   principal ← text_of words.principal

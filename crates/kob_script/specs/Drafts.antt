@@ -1,7 +1,6 @@
 -- The words of a binding, by the order in which faults are looked for.
 use Rattle.std.specs.Prelude.{Result, Ok}
-use Rattle.kob_script.specs.Askers.{AskerWords, asker_text}
-use Rattle.kob_script.specs.declared.asker.AskerText.{AskerText}
+use Rattle.kob_script.specs.Askers.{AskerText, AskerWords, asker_text}
 use Rattle.kob_script.specs.declared.draft.AskerWithDraft.{AskerWithDraft}
 use Rattle.kob_script.specs.declared.draft.DraftKinds.{DraftKinds}
 use Rattle.kob_script.specs.declared.draft.DraftNames.{DraftNames}

@@ -28,15 +28,21 @@ abbrev pub GivesSeen : {A B : Type 0} → (A → B) → Result A LineError → R
 GivesSeen view (Ok x) read = read ≡ Ok (view x)
 GivesSeen view (Err error) read = Fails error read
 
--- each in turn, up to the first fault
-unfoldable pub each : {A B : Type 0} → (A → Result B FaultKind) → List A → Result (List B) FaultKind
-each read [] = Ok []
-each read (x ∷ xs) = read x >>= λ first. each read xs >>= λ others. Ok (first ∷ others)
-
 -- values that stand before what is read
 abbrev pub with_front : {A : Type 0} → List A → Result (List A) FaultKind
     → Result (List A) FaultKind
 with_front front read = read >>= λ others. Ok (front ++ others)
+
+-- What a function put behind a list is what reading gives, unless memory ran out.
+abbrev pub GivesBehind : {A : Type 0} → List A → List A → Result (Unit {0}) LineError
+    → Result (List A) FaultKind → Type 0
+GivesBehind old new (Ok done) read = with_front old read ≡ Ok new
+GivesBehind old new (Err error) read = Fails error read
+
+-- each in turn, up to the first fault
+unfoldable pub each : {A B : Type 0} → (A → Result B FaultKind) → List A → Result (List B) FaultKind
+each read [] = Ok []
+each read (x ∷ xs) = read x >>= λ first. each read xs >>= λ others. Ok (first ∷ others)
 
 -- a value in which no fault was found
 abbrev pub unless_fault : {A E : Type 0} → Option E → FaultKind → A → Result A FaultKind

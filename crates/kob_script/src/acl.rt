@@ -42,7 +42,7 @@ fn asker_before(
 ) -> Result<Asker, LineError>
     ensures { Gives result (asker_before asker.now words.now) }
 {
-    let texts = asker.text(alloc)?;
+    let texts = asker.text()?;
     texts_of(alloc, words)?;
     texts.asker(alloc)
 }

@@ -5,7 +5,7 @@ ghost use Rattle.kob_script.specs.Askers.{asker_text, asker_of, asker_with_name,
 ghost use Rattle.kob_script.specs.Reading.{Gives};
 
 use crate::fault::LineError;
-use crate::text::{host_of, principal_of, text_of};
+use crate::text::{host_of, lent_text_of, principal_of, text_of};
 use crate::word::Word;
 use kob_names::{Host, PlainValue, Principal, Text};
 use kob_rights::{Event, Request};
@@ -27,11 +27,19 @@ impl<'w, 'l> Model for AskerWords<'w, 'l> {
     ghost view = { λ words. record { principal = words.principal.now; host = words.host.now } };
 }
 
-/// Who asks and from where, as texts.
-#[derive(Debug, Drop)]
-pub struct AskerText {
-    pub principal: Text,
-    pub host: Text,
+/// Who asks and from where, as texts that stand in the words.
+#[derive(Drop)]
+pub struct AskerText<'w> {
+    pub principal: &'w str,
+    pub host: &'w str,
+}
+
+impl<'w> Model for AskerText<'w> {
+    ghost use Rattle.kob_script.specs.Askers.{AskerText};
+
+    ghost Value = { AskerText };
+
+    ghost view = { λ texts. record { principal = texts.principal.now; host = texts.host.now } };
 }
 
 /// Who asks and from where.
@@ -49,13 +57,13 @@ pub struct AskerWithName {
 }
 
 impl AskerWords<'_, '_> {
-    /// The texts of the words.
+    /// The texts of the words; no memory is taken.
     #[tactic(auto, unfolding(crate::specs::Askers::asker_text))]
-    pub fn text(&self, alloc: Global) -> Result<AskerText, LineError>
+    pub fn text(&self) -> Result<AskerText<'_>, LineError>
         ensures { Gives result (asker_text self.now) }
     {
-        let principal = text_of(alloc, self.principal)?;
-        let host = text_of(alloc, self.host)?;
+        let principal = lent_text_of(self.principal)?;
+        let host = lent_text_of(self.host)?;
         Ok(AskerText { principal, host })
     }
 
@@ -64,21 +72,21 @@ impl AskerWords<'_, '_> {
     pub fn with_name(&self, alloc: Global, name: &Word<'_>) -> Result<AskerWithName, LineError>
         ensures { Gives result (asker_with_name self.now name.now) }
     {
-        let texts = self.text(alloc)?;
+        let texts = self.text()?;
         let name = text_of(alloc, name)?;
         let asker = texts.asker(alloc)?;
         Ok(AskerWithName { asker, name })
     }
 }
 
-impl AskerText {
+impl AskerText<'_> {
     /// The principal and the host that the texts are.
     #[tactic(auto, unfolding(crate::specs::Askers::asker_of))]
     pub fn asker(&self, alloc: Global) -> Result<Asker, LineError>
         ensures { Gives result (asker_of self.now) }
     {
-        let principal = principal_of(alloc, &self.principal)?;
-        let host = host_of(alloc, &self.host)?;
+        let principal = principal_of(alloc, self.principal)?;
+        let host = host_of(alloc, self.host)?;
         Ok(Asker { principal, host })
     }
 }

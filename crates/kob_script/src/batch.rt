@@ -89,7 +89,7 @@ fn record_of(alloc: Global, word: &Word<'_>) -> Result<Record, AllocError>
 fn records_of(alloc: Global, words: &[Word<'_>]) -> Result<Items<Record>, AllocError>
     ensures { IfOk result (λ records. records ≡ map record_of words.now) }
 {
-    let mut records = Vec::new(alloc);
+    let mut records = Vec::with_capacity(alloc, words.len())?;
     for word in words {
         let message = record_of(alloc, word)?;
         records.push(message)?;

@@ -41,7 +41,7 @@ fn ask_clap(alloc: Global, texts: &[Text]) -> Result<Option<CliArgs>, AllocError
 fn borrowed(alloc: Global, texts: &[Text]) -> Result<Vec<&str>, AllocError>
     ensures { IfOk result (λ words. map (λ word. word.now) words.items ≡ texts.now) }
 {
-    let mut words = Vec::new(alloc);
+    let mut words = Vec::with_capacity(alloc, texts.len())?;
     for text in texts {
         words.push(text.as_str())?;
     }

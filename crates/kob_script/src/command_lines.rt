@@ -1,7 +1,7 @@
 //! Which line each command has, and the events of a line.
 
 ghost use Rattle.kob_script.specs.CommandLines.{command_line, events_named, events_of, line_named};
-ghost use Rattle.kob_script.specs.Reading.{Gives, GivesSeen};
+ghost use Rattle.kob_script.specs.Reading.{Gives, GivesBehind};
 
 use crate::acl::acl_line;
 use crate::acl_lines::{create_acl_line, delete_acls_line, describe_acls_line};
@@ -60,39 +60,42 @@ fn line_named(
     }
 }
 
-fn events_named(
+fn put_events_named(
     alloc: Global,
     name: &[u8],
     asker: &AskerWords<'_, '_>,
     words: &[Word<'_>],
     answer: &Option<CliArgs>,
-) -> Result<Vec<Event>, LineError>
-    ensures { GivesSeen (λ events. events.items) result
+    events: &mut Vec<Event>,
+) -> Result<(), LineError>
+    ensures { GivesBehind events.old.items events.new.items result
         (events_named answer.now name.now asker.now words.now) }
 {
     if name == b"acl".as_slice() {
-        return acl_line(alloc, asker, words, answer);
+        let mut asked = acl_line(alloc, asker, words, answer)?;
+        events.append(&mut asked)?;
+        return Ok(());
     }
     let event = line_named(alloc, name, asker, words)?;
-    let mut events = Vec::new(alloc);
     events.push(event)?;
-    Ok(events)
+    Ok(())
 }
 
-/// The events of a line's words, by `clap`'s answer to those of `acl`.
+/// Puts the events of a line's words behind others, by `clap`'s answer to those of `acl`.
 #[tactic(auto, unfolding(crate::specs::CommandLines::events_of))]
-pub fn events_of(
+pub fn put_events_of(
     alloc: Global,
     words: &[Word<'_>],
     answer: &Option<CliArgs>,
-) -> Result<Vec<Event>, LineError>
-    ensures { GivesSeen (λ events. events.items) result
+    events: &mut Vec<Event>,
+) -> Result<(), LineError>
+    ensures { GivesBehind events.old.items events.new.items result
         (events_of answer.now words.now) }
 {
     match words {
         [principal, host, command, arguments @ ..] => {
             let asker = AskerWords { principal, host };
-            events_named(alloc, command.decoded(), &asker, arguments, answer)
+            put_events_named(alloc, command.decoded(), &asker, arguments, answer, events)
         }
         _ => Err(LineError::Fault(FaultKind::BadLine)),
     }

@@ -49,9 +49,9 @@ pub struct AskerWithDraft {
 
 /// The texts of who asks, of whom the binding speaks to, and of the name of its pattern.
 #[derive(Drop)]
-struct DraftTexts {
-    asker: AskerText,
-    bound: AskerText,
+struct DraftTexts<'w> {
+    asker: AskerText<'w>,
+    bound: AskerText<'w>,
     name: Text,
 }
 
@@ -72,27 +72,31 @@ struct DraftKinds {
 }
 
 #[tactic(auto, unfolding(crate::specs::Drafts::draft_texts))]
-fn draft_texts(
+fn draft_texts<'w>(
     alloc: Global,
-    asker: &AskerWords<'_, '_>,
-    words: &DraftWords<'_, '_>,
-) -> Result<DraftTexts, LineError>
-    ensures { Gives result (draft_texts asker.now words.now) }
+    asker: &'w AskerWords<'_, '_>,
+    words: &'w DraftWords<'_, '_>,
+) -> Result<DraftTexts<'w>, LineError>
+    ensures { Gives result (draft_texts asker.entry.now words.entry.now) }
 {
-    let asker = asker.text(alloc)?;
-    let bound = words.bound.text(alloc)?;
+    let asker = asker.text()?;
+    let bound = words.bound.text()?;
     let name = text_of(alloc, words.name)?;
     Ok(DraftTexts { asker, bound, name })
 }
 
 #[tactic(auto, unfolding(crate::specs::Drafts::draft_names))]
-fn draft_names(alloc: Global, asker: &AskerText, bound: &AskerText) -> Result<DraftNames, LineError>
+fn draft_names(
+    alloc: Global,
+    asker: &AskerText<'_>,
+    bound: &AskerText<'_>,
+) -> Result<DraftNames, LineError>
     ensures { Gives result (draft_names asker.now bound.now) }
 {
-    let principal = principal_of(alloc, &asker.principal)?;
-    let bound_principal = principal_of(alloc, &bound.principal)?;
-    let host = host_of(alloc, &asker.host)?;
-    let bound_host = host_of(alloc, &bound.host)?;
+    let principal = principal_of(alloc, asker.principal)?;
+    let bound_principal = principal_of(alloc, bound.principal)?;
+    let host = host_of(alloc, asker.host)?;
+    let bound_host = host_of(alloc, bound.host)?;
     Ok(DraftNames {
         asker: Asker { principal, host },
         bound: Asker {
@@ -133,8 +137,8 @@ pub fn draft_of(
     Ok(asker_with_draft(texts, names, kinds))
 }
 
-fn asker_with_draft(texts: DraftTexts, names: DraftNames, kinds: DraftKinds) -> AskerWithDraft
-    ensures { result ≡ asker_with_draft texts names kinds }
+fn asker_with_draft(texts: DraftTexts<'_>, names: DraftNames, kinds: DraftKinds) -> AskerWithDraft
+    ensures { result ≡ asker_with_draft texts.entry names kinds }
 {
     let DraftTexts { name, .. } = texts;
     let DraftNames { asker, bound } = names;

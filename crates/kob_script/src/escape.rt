@@ -26,6 +26,9 @@ pub fn has_whole_escapes(word: &[u8]) -> bool
 pub fn bytes_of(alloc: Global, word: &[u8]) -> Result<Bytes, AllocError>
     ensures { IfOk result (λ bytes. bytes ≡ bytes_of word.now) }
 {
+    if !word.contains(&b'%') {
+        return Bytes::copied(alloc, word);
+    }
     let mut bytes = Vec::new(alloc);
     let mut rest = word;
     while let Some((first, others)) = rest.split_first() {

@@ -57,8 +57,8 @@ pub struct AskerWithFilter {
 
 /// The texts of who asks, and of the name, the principal and the host that are wanted.
 #[derive(Drop)]
-struct FilterTexts {
-    asker: AskerText,
+struct FilterTexts<'w> {
+    asker: AskerText<'w>,
     name: Option<Text>,
     principal: Option<Text>,
     host: Option<Text>,
@@ -82,14 +82,14 @@ struct FilterKinds {
 }
 
 #[tactic(auto, unfolding(crate::specs::Filters::filter_texts))]
-fn filter_texts(
+fn filter_texts<'w>(
     alloc: Global,
-    asker: &AskerWords<'_, '_>,
+    asker: &'w AskerWords<'_, '_>,
     words: &FilterWords<'_, '_>,
-) -> Result<FilterTexts, LineError>
-    ensures { Gives result (filter_texts asker.now words.now) }
+) -> Result<FilterTexts<'w>, LineError>
+    ensures { Gives result (filter_texts asker.entry.now words.now) }
 {
-    let asker = asker.text(alloc)?;
+    let asker = asker.text()?;
     let name = text_unless_dash(alloc, words.name)?;
     let principal = text_unless_dash(alloc, words.principal)?;
     let host = text_unless_dash(alloc, words.host)?;
@@ -102,12 +102,12 @@ fn filter_texts(
 }
 
 #[tactic(auto, unfolding(crate::specs::Filters::filter_names))]
-fn filter_names(alloc: Global, texts: &FilterTexts) -> Result<FilterNames, LineError>
+fn filter_names(alloc: Global, texts: &FilterTexts<'_>) -> Result<FilterNames, LineError>
     ensures { Gives result (filter_names texts.now) }
 {
-    let principal = principal_of(alloc, &texts.asker.principal)?;
+    let principal = principal_of(alloc, texts.asker.principal)?;
     let wanted_principal = optional_principal_of(alloc, &texts.principal)?;
-    let host = host_of(alloc, &texts.asker.host)?;
+    let host = host_of(alloc, texts.asker.host)?;
     let wanted_host = optional_host_of(alloc, &texts.host)?;
     Ok(FilterNames {
         asker: Asker { principal, host },
@@ -147,8 +147,12 @@ pub fn filter_of(
     Ok(asker_with_filter(texts, names, kinds))
 }
 
-fn asker_with_filter(texts: FilterTexts, names: FilterNames, kinds: FilterKinds) -> AskerWithFilter
-    ensures { result ≡ asker_with_filter texts names kinds }
+fn asker_with_filter(
+    texts: FilterTexts<'_>,
+    names: FilterNames,
+    kinds: FilterKinds,
+) -> AskerWithFilter
+    ensures { result ≡ asker_with_filter texts.entry names kinds }
 {
     let FilterTexts { name, .. } = texts;
     let FilterNames {

@@ -31,7 +31,7 @@ fn asker_with_group(
 ) -> Result<AskerWithGroup, LineError>
     ensures { Gives result (asker_with_group asker.now group.now topic.now) }
 {
-    let texts = asker.text(alloc)?;
+    let texts = asker.text()?;
     let group = text_of(alloc, group)?;
     let topic = text_of(alloc, topic)?;
     let asker = texts.asker(alloc)?;
@@ -95,7 +95,7 @@ fn committed_offset(
 fn groups(alloc: Global, asker: &AskerWords<'_, '_>) -> Result<Event, LineError>
     ensures { Gives result (groups asker.now) }
 {
-    let texts = asker.text(alloc)?;
+    let texts = asker.text()?;
     let asker = texts.asker(alloc)?;
     Ok(asker.asks(Request::ListGroups))
 }

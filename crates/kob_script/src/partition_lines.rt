@@ -138,7 +138,7 @@ fn delete_records(
 fn init_producer(alloc: Global, asker: &AskerWords<'_, '_>) -> Result<Event, LineError>
     ensures { Gives result (init_producer asker.now) }
 {
-    let texts = asker.text(alloc)?;
+    let texts = asker.text()?;
     let asker = texts.asker(alloc)?;
     Ok(asker.asks(Request::InitProducerId))
 }

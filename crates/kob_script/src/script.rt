@@ -6,7 +6,7 @@ ghost use Rattle.kob_script.specs.Script.{script_of, with_events, with_setting, 
 ghost use Rattle.kob_script.specs.ScriptReadings.{HasNoAclLine, LineReadsAs, MayGiveNext, MayRead};
 
 use crate::clap_answer::answer_to;
-use crate::command_lines::events_of;
+use crate::command_lines::put_events_of;
 use crate::fault::{Fault, FaultKind, LineError, ScriptError};
 use crate::setting::{everyone_of, is_setting, is_super, super_of};
 use crate::word::Word;
@@ -138,7 +138,5 @@ fn add_events(
 ) -> Result<(), LineError>
     ensures { GivesNext script.new result (with_events answer.now (grown script.old) words.now) }
 {
-    let mut events = events_of(alloc, words, answer)?;
-    script.events.append(&mut events)?;
-    Ok(())
+    put_events_of(alloc, words, answer, &mut script.events)
 }

@@ -5,7 +5,7 @@ ghost use Rattle.kob_script.specs.Reading.{Gives};
 ghost use Rattle.kob_script.specs.Settings.{everyone_of, is_setting, is_super, super_of};
 
 use crate::fault::{FaultKind, LineError};
-use crate::text::{principal_of, text_of};
+use crate::text::{lent_text_of, principal_of};
 use crate::word::Word;
 use kob_names::Principal;
 use std::alloc::Global;
@@ -29,10 +29,7 @@ pub fn super_of(alloc: Global, arguments: &[Word<'_>]) -> Result<Principal, Line
     ensures { Gives result (super_of arguments.now) }
 {
     match arguments {
-        [name] => {
-            let text = text_of(alloc, name)?;
-            principal_of(alloc, &text)
-        }
+        [name] => principal_of(alloc, lent_text_of(name)?),
         _ => Err(LineError::Fault(FaultKind::BadLine)),
     }
 }

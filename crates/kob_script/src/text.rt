@@ -1,6 +1,6 @@
 //! Names, principals and hosts.
 
-ghost use Rattle.kob_script.specs.Reading.{Gives, each, unless_dash, optionally};
+ghost use Rattle.kob_script.specs.Reading.{Gives, GivesSeen, each, unless_dash, optionally};
 ghost use Rattle.kob_script.specs.Texts.{text_in, text_of, principal_of, host_of};
 
 use crate::fault::{FaultKind, LineError};
@@ -9,18 +9,26 @@ use bstr::ByteSlice;
 use kob_names::{Host, HostFault, Items, Principal, PrincipalFault, Text};
 use std::alloc::Global;
 
-/// The text of a word.
+/// The text of a word, as it stands there; no memory is taken.
+pub fn lent_text_of<'w>(word: &'w Word<'_>) -> Result<&'w str, LineError>
+    ensures { GivesSeen (λ text. text.now) result (text_of word.entry.now) }
+{
+    text_in(word.decoded())
+}
+
+/// A copy of the text of a word.
 pub fn text_of(alloc: Global, word: &Word<'_>) -> Result<Text, LineError>
     ensures { Gives result (text_of word.now) }
 {
-    text_in(alloc, word.decoded())
+    let text = lent_text_of(word)?;
+    Ok(Text::copied(alloc, text)?)
 }
 
 /// The texts of the words, in order.
 pub fn texts_of(alloc: Global, words: &[Word<'_>]) -> Result<Items<Text>, LineError>
     ensures { Gives result (each text_of words.now) }
 {
-    let mut texts = Vec::new(alloc);
+    let mut texts = Vec::with_capacity(alloc, words.len())?;
     for word in words {
         let text = text_of(alloc, word)?;
         texts.push(text)?;
@@ -28,21 +36,21 @@ pub fn texts_of(alloc: Global, words: &[Word<'_>]) -> Result<Items<Text>, LineEr
     Ok(Items::from_vec(texts))
 }
 
-fn text_in(alloc: Global, bytes: &[u8]) -> Result<Text, LineError>
-    ensures { Gives result (text_in bytes.now) }
+fn text_in(bytes: &[u8]) -> Result<&str, LineError>
+    ensures { GivesSeen (λ text. text.now) result (text_in bytes.now) }
 {
     match bytes.to_str() {
-        Ok(text) => Ok(Text::copied(alloc, text)?),
+        Ok(text) => Ok(text),
         Err(_) => Err(LineError::Fault(FaultKind::BadText)),
     }
 }
 
 /// The principal that a text is.
 #[tactic(auto, unfolding(crate::specs::Texts::principal_of))]
-pub fn principal_of(alloc: Global, text: &Text) -> Result<Principal, LineError>
+pub fn principal_of(alloc: Global, text: &str) -> Result<Principal, LineError>
     ensures { Gives result (principal_of text.now) }
 {
-    match Principal::parse(alloc, text.as_str()) {
+    match Principal::parse(alloc, text) {
         Ok(principal) => Ok(principal),
         Err(PrincipalFault::Memory) => Err(LineError::Memory),
         Err(_) => Err(LineError::Fault(FaultKind::BadPrincipal)),
@@ -51,10 +59,10 @@ pub fn principal_of(alloc: Global, text: &Text) -> Result<Principal, LineError>
 
 /// The host that a text is.
 #[tactic(auto, unfolding(crate::specs::Texts::host_of))]
-pub fn host_of(alloc: Global, text: &Text) -> Result<Host, LineError>
+pub fn host_of(alloc: Global, text: &str) -> Result<Host, LineError>
     ensures { Gives result (host_of text.now) }
 {
-    match Host::parse(alloc, text.as_str()) {
+    match Host::parse(alloc, text) {
         Ok(host) => Ok(host),
         Err(HostFault::Memory) => Err(LineError::Memory),
         Err(_) => Err(LineError::Fault(FaultKind::BadHost)),
@@ -80,7 +88,7 @@ pub fn optional_principal_of(
 {
     match text {
         None => Ok(None),
-        Some(text) => Ok(Some(principal_of(alloc, text)?)),
+        Some(text) => Ok(Some(principal_of(alloc, text.as_str())?)),
     }
 }
 
@@ -90,6 +98,6 @@ pub fn optional_host_of(alloc: Global, text: &Option<Text>) -> Result<Option<Hos
 {
     match text {
         None => Ok(None),
-        Some(text) => Ok(Some(host_of(alloc, text)?)),
+        Some(text) => Ok(Some(host_of(alloc, text.as_str())?)),
     }
 }

@@ -42,7 +42,7 @@ fn delete_topic(
 fn metadata_of_all(alloc: Global, asker: &AskerWords<'_, '_>) -> Result<Event, LineError>
     ensures { Gives result (metadata_of_all asker.now) }
 {
-    let texts = asker.text(alloc)?;
+    let texts = asker.text()?;
     let asker = texts.asker(alloc)?;
     Ok(asker.asks(Request::Metadata(Metadata { topic: None })))
 }

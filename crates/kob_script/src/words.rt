@@ -43,7 +43,7 @@ fn each_read<'a>(alloc: Global, raw: &[&'a [u8]]) -> Result<Vec<Word<'a>>, LineE
     ensures { GivesSeen (λ words. words.items) result
         (each word_of (map (λ word. word.now) raw.entry.now)) }
 {
-    let mut words = Vec::new(alloc);
+    let mut words = Vec::with_capacity(alloc, raw.len())?;
     for word in raw {
         let word = Word::read(alloc, word)?;
         words.push(word)?;

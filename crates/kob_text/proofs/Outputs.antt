@@ -1,5 +1,5 @@
 -- What is an output, and that a front of one was written.
-use Rattle.std.proofs.Common.{◌≡◌, ◌∙◌, ◌<◌, ◌≤◌, ◌++◌, ℕ, List, length, take, Option, Some, None, Result, Ok, Err, ap, refl, sym, subst, append-nil}
+use Rattle.std.proofs.Common.{◌≡◌, ◌∙◌, ◌<◌, ◌++◌, ℕ, List, length, take, Option, Some, None, Result, Ok, Err, ap, refl, sym, subst, append-nil}
 use Rattle.std.specs.Option.{IfSome}
 use Rattle.std.specs.Result.{IfOk, IfErr, OnErr, IsErrOf}
 use Rattle.std.proofs.KnownBytes.{Appends-nil}

@@ -1,5 +1,5 @@
 -- The text of replies that are printed one after another, and which output a part of it belongs to.
-use Rattle.std.proofs.Common.{◌≡◌, ◌∙◌, ◌+◌, ◌<◌, ◌≤◌, ◌⊎◌, inl, inr, ℕ, List, [], ◌∷◌, ◌++◌, length, take, get_or, suc, Option, Ok, refl, sym, ap, subst, append_assoc, append-nil, add-zero, length-append, arith}
+use Rattle.std.proofs.Common.{◌≡◌, ◌∙◌, ◌+◌, ◌<◌, ◌≤◌, ℕ, List, [], ◌∷◌, ◌++◌, length, take, get_or, suc, Option, refl, sym, ap, subst, append_assoc, append-nil, add-zero, arith}
 use Rattle.std.proofs.lemmas.List.{length-take-le}
 use Rattle.kob_broker.specs.State.{State}
 use Rattle.kob_broker.specs.Step.{step, replies_of, state_after}

@@ -1,7 +1,8 @@
 -- What was written of the text of a run.
-use Rattle.std.proofs.Common.{◌≡◌, ◌∙◌, ◌<◌, ◌≤◌, ◌++◌, ℕ, List, length, take, Option, Result, Ok, Err, OnOk, false, true, ap, refl, sym, inl, inr, append-nil, take-append-drop, drop_of_length-le}
+use Rattle.std.proofs.Common.{◌≡◌, ◌∙◌, ◌+◌, ◌<◌, ◌≤◌, ◌++◌, ℕ, List, ◌∷◌, length, suc, get_or, take, drop, arith, Option, Result, Ok, Err, OnOk, false, ap, refl, sym, inl, inr, append-nil, take-append-drop, drop_of_length-le}
 use Rattle.std.specs.Result.{is_err}
 use Rattle.std.proofs.lemmas.Bool.{cases_lt}
+use Rattle.std.proofs.lemmas.List.{drop_more, length-drop}
 use Rattle.std.specs.Io.KnownBytes.{Appends}
 use Rattle.kob_rights.specs.declared.event.Event.{Event}
 use Rattle.kob_rights.specs.declared.reply.Reply.{Reply}
@@ -19,6 +20,21 @@ take_all : {A : Type 0} (xs : List A) (n : ℕ) → length xs ≤ n → take n x
 take_all xs n past =
     sym (append-nil (take n xs)) ∙ ap (λ rest. take n xs ++ rest) (sym (drop_of_length-le xs past))
     ∙ take-append-drop n xs
+
+-- what is left from a place on begins with what stands at the place
+pub next_left : {A : Type 0} (xs left more : List A) (i : ℕ) (x : A) → left ≡ drop i xs → left ≡ x ∷ more
+    → (i < length xs) × (x ≡ get_or xs i x) × (more ≡ drop (i + 1) xs)
+next_left xs left more i x is front =
+    let long : length (drop i xs) ≡ suc (length more) = ap length (sym is ∙ front) in
+    let few : i < length xs = omega (arith, length-drop i xs, long) in
+    let both = sym (drop_more xs i x few) ∙ (sym is ∙ front) in
+    (few, sym (ap (λ rest. get_or rest 0 x) both), sym (ap (λ rest. drop 1 rest) both))
+
+pub nothing_left : {A : Type 0} (xs left : List A) (i count : ℕ) → left ≡ drop i xs → count ≡ length left → count ≡ 0
+    → length xs ≤ i
+nothing_left xs left i count is counts none =
+    let short : length (drop i xs) ≡ 0 = sym (ap length is) ∙ sym counts ∙ none in
+    omega (arith, length-drop i xs, short)
 
 module _ (replies : List Event → List Reply) (events : List Event) (done : ℕ) (a b : Option (List ℕ)) where
   -- a part of the text of the first replies is a part of that of a run

@@ -3,7 +3,6 @@ use Rattle.std.specs.Prelude.{◌≡◌, ◌<◌, ◌++◌, ℕ, List, length, t
 use Rattle.std.specs.Io.KnownBytes.{Appends}
 use Rattle.kob_broker.specs.State.{State}
 use Rattle.kob_broker.specs.Step.{replies_of}
-use Rattle.kob_partition.specs.declared.log.PartitionLog.{PartitionLog}
 use Rattle.kob_partition.specs.Retained.{Retained, retained_meaning}
 use Rattle.kob_rights.specs.declared.event.Event.{Event}
 use Rattle.kob_rights.specs.declared.reply.Reply.{Reply}

@@ -48,30 +48,6 @@ pub fn put<W: Write>(
     Ok(())
 }
 
-/// Puts the line `stopped after DONE` with its line feed behind what is held. The fault is
-/// `WriteFailed`.
-fn put_stopped<W: Write>(
-    sink: &mut Sink<'_, W>,
-    held: &mut Vec<u8>,
-    done: u64,
-) -> Result<(), RunFault>
-    requires piece { vec_len held.old ≤ piece_limit }
-    requires room { piece_limit ≤ vec_capacity held.old }
-    ensures same_reference { sink.new.writer.ghost_name ≡ sink.old.writer.ghost_name }
-    ensures put { OnOk result (AppendsAllBut (W.contents sink.old.writer.now)
-        (W.contents sink.new.writer.now) (held.old.items ++ stopped_text done) held.new.items) }
-    ensures part { OnErr result (AppendsPart (W.contents sink.old.writer.now)
-        (W.contents sink.new.writer.now) (held.old.items ++ stopped_text done)) }
-    ensures sound { OnOk result (sink.new.failed ≡ sink.old.failed) }
-    ensures failed { OnErr result (sink.new.failed ≡ true) }
-    ensures fault { IfErr result (λ fault. fault ≡ RunFault.WriteFailed) }
-{
-    let mut digits = Buffer::new();
-    put(sink, held, b"stopped after ")?;
-    put(sink, held, digits.format(done).as_bytes())?;
-    put(sink, held, b"\n")
-}
-
 /// Writes what is held, and then the line `stopped after DONE` with its line feed. The fault is
 /// `WriteFailed`.
 pub fn write_stopped<W: Write>(
@@ -89,6 +65,9 @@ pub fn write_stopped<W: Write>(
     ensures failed { OnErr result (sink.new.failed ≡ true) }
     ensures fault { IfErr result (λ fault. fault ≡ RunFault.WriteFailed) }
 {
-    put_stopped(sink, held, done)?;
+    let mut digits = Buffer::new();
+    put(sink, held, b"stopped after ")?;
+    put(sink, held, digits.format(done).as_bytes())?;
+    put(sink, held, b"\n")?;
     write_all(sink, held)
 }

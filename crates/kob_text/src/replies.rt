@@ -38,51 +38,55 @@ fn broker_by(alloc: Global, settings: Settings) -> Result<Broker, RunFault>
     }
 }
 
-// Serves an event, and prints its reply behind its number in place of what `out` held.
+// Serves an event that is given away, and prints its reply behind its number in place of what
+// `out` held.
 fn print_reply_to(
     alloc: Global,
     broker: &mut Broker,
-    event: &Event,
+    event: Event,
     number: u64,
     out: &mut Vec<u8>,
 ) -> Result<(), AllocError>
     ensures text { OnOk result (out.new.items
-        ≡ reply_text number (step retained_meaning (state_of broker.old) event.now).reply) }
+        ≡ reply_text number (step retained_meaning (state_of broker.old) event).reply) }
     ensures state { OnOk result (state_of broker.new
-        ≡ (step retained_meaning (state_of broker.old) event.now).state) }
+        ≡ (step retained_meaning (state_of broker.old) event).state) }
 {
     out.clear();
-    let reply = broker.serve(alloc, event)?;
+    let reply = broker.serve_owned(alloc, event)?;
     print_reply(out, number, &reply)
 }
 
 /// Serves requests and writes the replies as they are made, at most 65,536 bytes or one reply at a
-/// time. Want of memory ends the run as `Stopped`. The fault is `WriteFailed`.
+/// time. Each event is given away to the broker, and what the broker doesn't keep of it is freed
+/// before the next. Want of memory ends the run as `Stopped`. The fault is `WriteFailed`.
 fn write_replies<W: Write>(
     alloc: Global,
     sink: &mut Sink<'_, W>,
     held: &mut Vec<u8>,
     broker: &mut Broker,
-    events: &[Event],
+    events: Vec<Event>,
 ) -> Result<Ended, RunFault>
     requires none { held.old.items ≡ [] }
     requires piece { vec_len held.old ≤ piece_limit }
     requires room { piece_limit ≤ vec_capacity held.old }
     ensures same_reference { sink.new.writer.ghost_name ≡ sink.old.writer.ghost_name }
-    ensures output { IfOk result (λ ended. WritesRun (replies_from (state_of broker.old)) events.now
-        ended (W.contents sink.old.writer.now) (W.contents sink.new.writer.now)) }
-    ensures part { OnErr result (WritesPartOfRun (replies_from (state_of broker.old)) events.now
+    ensures output { IfOk result (λ ended. WritesRun (replies_from (state_of broker.old))
+        events.items ended (W.contents sink.old.writer.now) (W.contents sink.new.writer.now)) }
+    ensures part { OnErr result (WritesPartOfRun (replies_from (state_of broker.old)) events.items
         (W.contents sink.old.writer.now) (W.contents sink.new.writer.now)) }
     ensures failed { OnErr result (sink.new.failed ≡ true) }
     ensures fault { IfErr result (λ fault. fault ≡ RunFault.WriteFailed) }
 {
     let mut text = Vec::new(alloc);
-    for (done, event) in events.iter().enumerate() {
-        if print_reply_to(alloc, broker, event, done as u64 + 1, &mut text).is_err() {
-            write_stopped(sink, held, done as u64)?;
+    let mut done: u64 = 0;
+    for event in events {
+        if print_reply_to(alloc, broker, event, done + 1, &mut text).is_err() {
+            write_stopped(sink, held, done)?;
             return Ok(Ended::Stopped);
         }
         put(sink, held, &text)?;
+        done += 1;
     }
     write_all(sink, held)?;
     Ok(Ended::Clean)
@@ -108,5 +112,5 @@ pub fn write_run<W: Write>(
     let Script { settings, events } = script;
     let mut broker = broker_by(alloc, settings)?;
     let mut held = Vec::with_capacity(alloc, PIECE_LIMIT)?;
-    write_replies(alloc, sink, &mut held, &mut broker, events.as_slice())
+    write_replies(alloc, sink, &mut held, &mut broker, events.into_vec())
 }

@@ -1,12 +1,10 @@
 -- What is printed of a binding is ASCII.
-use Rattle.std.proofs.Common.{◌≡◌, ◌+◌, ◌<◌, ℕ, true, List, [], ◌∷◌, ◌++◌, length, get_or, take, codes, refl, append-nil, arith, Result, Ok, Err, OnOk}
+use Rattle.std.proofs.Common.{◌≡◌, ℕ, true, List, [], ◌∷◌, ◌++◌, codes, refl, arith, Result, Ok, Err, OnOk}
 use Rattle.std.specs.Char.{is_ascii}
 use Rattle.std.specs.Fmt.{decimal}
 use Rattle.std.specs.List.{list_all}
 use Rattle.std.specs.Str.{IsAscii}
 use Rattle.std.proofs.lemmas.Bool.Decides.{nat_tests}
-use Rattle.std.proofs.lemmas.Grind.{flat_map-append}
-use Rattle.std.proofs.lemmas.List.{take_more}
 use Rattle.std.proofs.lemmas.Str.{IsAscii-append}
 use Rattle.std.proofs.lemmas.Str.Ascii.{IsAscii-nil, IsAscii-cons}
 use Rattle.kob_names.specs.Binding.{Binding}
@@ -23,7 +21,7 @@ use Rattle.kob_words.specs.Operation.{operation_name}
 use Rattle.kob_words.specs.Pattern.{pattern_name}
 use Rattle.kob_words.specs.Permission.{permission_name}
 use Rattle.kob_words.specs.Resource.{resource_name}
-use Rattle.kob_words.specs.PrintedText.{byte_text, bytes_text}
+use Rattle.kob_words.specs.PrintedText.{bytes_text}
 
 -- a literal text passes the test by computing
 literal : (text : List ℕ) → list_all is_ascii text ≡ true → IsAscii text
@@ -84,17 +82,6 @@ binding_ascii serial b number grant target =
     (spaced (codes "binding " ++ decimal serial) (grant_text b)
     (IsAscii-append (codes "binding ") (decimal serial) (literal (codes "binding ") refl) number) grant)
     target
-
--- one byte more
-pub bytes_ascii_more : (bytes : List ℕ) (i d : ℕ) → i < length bytes → IsAscii (bytes_text (take i bytes))
-    → IsAscii (byte_text (get_or bytes i d)) → IsAscii (bytes_text (take (i + 1) bytes))
-bytes_ascii_more bytes i d below before more =
-    rw (
-      take_more bytes i d below,
-      flat_map-append byte_text (take i bytes) (get_or bytes i d ∷ []),
-      append-nil (byte_text (get_or bytes i d)),
-    )
-    (IsAscii-append (bytes_text (take i bytes)) (byte_text (get_or bytes i d)) before more)
 
 -- a line
 pub line_ascii : (text : List ℕ) → IsAscii text → IsAscii (text ++ codes "\n")

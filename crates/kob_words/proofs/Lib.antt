@@ -1,2 +1,3 @@
 pub mod AsciiText
 pub mod Appending
+pub mod PlainRuns

@@ -1,6 +1,7 @@
 -- How bytes are printed.
 use Rattle.std.specs.Prelude.{◌/◌, ◌%◌, ◌==◌, ◌&&◌, not, ℕ, Bool, List, [], ◌∷◌, nat_le, flat_map, if◌then◌else◌}
 use Rattle.std.specs.Char.{digit_char}
+use Rattle.std.specs.List.{prefix_len}
 
 -- a byte from 0x21 to 0x7e that is neither `%` nor `=` stands for itself
 abbrev pub is_plain : ℕ → Bool
@@ -13,3 +14,7 @@ byte_text byte =
 
 abbrev pub bytes_text : List ℕ → List ℕ
 bytes_text bytes = flat_map byte_text bytes
+
+-- how many bytes at the front stand for themselves
+abbrev pub plain_length : List ℕ → ℕ
+plain_length bytes = prefix_len is_plain bytes

@@ -1,10 +1,10 @@
 //! How bytes and numbers are printed.
 
-ghost use Rattle.std.specs.Prelude.{◌≡◌, ◌<◌, ◌++◌, OnOk};
+ghost use Rattle.std.specs.Prelude.{◌≡◌, ◌<◌, ◌≤◌, ◌++◌, length, OnOk};
 ghost use Rattle.std.specs.Char.{digit_char};
 ghost use Rattle.std.specs.Fmt.{decimal};
 ghost use Rattle.std.specs.Str.{IsAscii};
-ghost use Rattle.kob_words.specs.PrintedText.{is_plain, byte_text, bytes_text};
+ghost use Rattle.kob_words.specs.PrintedText.{is_plain, byte_text, bytes_text, plain_length};
 
 use itoa::Buffer;
 use std::alloc::AllocError;
@@ -16,10 +16,24 @@ pub fn push_bytes(out: &mut Vec<u8>, bytes: &[u8]) -> Result<(), AllocError>
     ensures text { OnOk result (out.new.items ≡ out.old.items ++ bytes_text bytes.now) }
     ensures ascii { OnOk result (IsAscii (bytes_text bytes.now)) }
 {
-    for byte in bytes {
+    let mut rest = bytes;
+    loop {
+        let (plain, others) = rest.split_at(plain_length(rest));
+        out.extend_from_slice(plain)?;
+        let Some((byte, after)) = others.split_first() else {
+            return Ok(());
+        };
         push_byte(out, *byte)?;
+        rest = after;
     }
-    Ok(())
+}
+
+/// How many bytes at the front stand for themselves.
+fn plain_length(bytes: &[u8]) -> usize
+    ensures length { result ≡ plain_length bytes.now }
+    ensures within { result ≤ length bytes.now }
+{
+    bytes.iter().take_while(|byte| is_plain(**byte)).count()
 }
 
 #[tactic(auto, using(crate::proofs::Appending::appending))]

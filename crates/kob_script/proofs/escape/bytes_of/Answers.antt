@@ -1,6 +1,10 @@
-use Rattle.std.proofs.Common.{◌≡◌, [], rules, drop_of_length-le}
-use Rattle.kob_script.proofs.Escapes.{bytes_keep, bytes_end}
+use Rattle.std.proofs.Common.{◌≡◌, ◌∙◌, [], rules, sym, drop_of_length-le}
+use Rattle.kob_script.proofs.Escapes.{bytes_keep, bytes_end, bytes_plain}
 use Rattle.kob_script.proofs.escape.bytes_of.Goals as goal
+
+pub returns-then-not-contains : goal.returns-then-not-contains
+returns-then-not-contains c =
+    rw (bytes_plain c.args.word.now (sym c.contains.ensures.value ∙ c.if-not-contains.true)) c.copied.ensures
 
 pub loop-first-preserved : goal.loop-first-preserved
 loop-first-preserved c =

@@ -4,8 +4,8 @@ use Rattle.std.proofs.lemmas.Str.{IsUtf8-from_is_utf8, is_utf8-from_IsUtf8}
 use Rattle.kob_script.proofs.Choices.{chosen_true, chosen_false, false_from}
 use Rattle.kob_script.proofs.text.text_in.Goals as goal
 
-pub returns-in_ok-copied-in-Ok : goal.returns-in_ok-copied-in-Ok
-returns-in_ok-copied-in-Ok c = chosen_true _ _ _ (is_utf8-from_IsUtf8 _ c.in-Ok.ensures.cases.1) ∙ search rules
+pub returns-in-Ok : goal.returns-in-Ok
+returns-in-Ok c = chosen_true _ _ _ (is_utf8-from_IsUtf8 _ c.in-Ok.ensures.cases.1) ∙ search rules
 
 pub returns-in-Err : goal.returns-in-Err
 returns-in-Err c =

@@ -6,7 +6,7 @@ use Rattle.kob_script.proofs.text.texts_of.Goals as goal
 
 pub returns-in_err-text : goal.returns-in_err-text
 returns-in_err-text c =
-    let p = err_from_is_err_and c.from_residual.result c.from_residual.ensures.1 in
+    let p = err_from_is_err_and c.from_residual-in_err-text.result c.from_residual-in_err-text.ensures.1 in
     rw (p.1, p.2) (each_fails text_of _ c.loop-word.word-index _ _ _ _ c.loop-word.invariant
     (omega arith) c.word-item.is c.in_err-text.ensures)
 

@@ -7,7 +7,7 @@ use Rattle.kob_script.proofs.words.each_read.Goals as goal
 
 pub returns-in_err-word : goal.returns-in_err-word
 returns-in_err-word c =
-    let p = err_from_is_err_and c.from_residual.result c.from_residual.ensures.1 in
+    let p = err_from_is_err_and c.from_residual-in_err-word.result c.from_residual-in_err-word.ensures.1 in
     rw (p.1, p.2) (each_fails_map word_of (λ (word : Bor (List ℕ)). word.now) c.args.raw.now _
     (each_fails _ _ c.loop-word.word-index _ _ _ _ c.loop-word.invariant (omega arith) refl c.in_err-word.ensures))
 

@@ -1,4 +1,4 @@
-use Rattle.std.proofs.Common.{◌≡◌, ◌∙◌, ◌++◌, List, ℕ, ap}
+use Rattle.std.proofs.Common.{◌∙◌, ◌++◌, List, ℕ, ap}
 use Rattle.kob_script.specs.PrintedFault.{fault_text}
 use Rattle.kob_text.proofs.Outputs.{fault_part, fault_written}
 use Rattle.kob_text.proofs.output.write_fault.Goals as goal

@@ -1,11 +1,31 @@
-use Rattle.std.proofs.Common.{arith, append_assoc}
-use Rattle.std.proofs.lemmas.Grind.{common_steps}
-use Rattle.kob_words.proofs.AsciiText.{bytes_ascii_more}
+use Rattle.std.proofs.Common.{◌≡◌, [], rules, drop_of_length-le}
+use Rattle.kob_words.proofs.PlainRuns.{rest_text, front_ascii, text_ends, text_keeps, ascii_ends, ascii_keeps}
 use Rattle.kob_words.proofs.printed_text.push_bytes.Goals as goal
 
+pub returns-in_default-clause-text : goal.returns-in_default-clause-text
+returns-in_default-clause-text c =
+    let rest = c.loop-byte.rest.now in
+    let split = rest_text rest _ _ _ c.plain_length.ensures.length c.split_at.ensures.front c.split_at.ensures.back in
+    let none : c.split_at.result.1.now ≡ [] = drop_of_length-le c.split_at.result.1.now {i = 0} (search rules) in
+    text_ends c.args.bytes.now rest _ _ split _ _ _ c.loop-byte.invariant.text none
+    c.in_ok-extend_from_slice.ensures.items
+
+pub returns-in_default-clause-ascii : goal.returns-in_default-clause-ascii
+returns-in_default-clause-ascii c =
+    let rest = c.loop-byte.rest.now in
+    let split = rest_text rest _ _ _ c.plain_length.ensures.length c.split_at.ensures.front c.split_at.ensures.back in
+    let none : c.split_at.result.1.now ≡ [] = drop_of_length-le c.split_at.result.1.now {i = 0} (search rules) in
+    ascii_ends c.args.bytes.now rest _ _ split c.loop-byte.invariant.ascii none
+    (front_ascii rest _ _ c.plain_length.ensures.length c.split_at.ensures.front)
+
 pub loop-byte-preserved : goal.loop-byte-preserved
-loop-byte-preserved c = (
-  grind (arith, common_steps, append_assoc),
-  bytes_ascii_more c.args.bytes.now c.loop-byte.byte-index 0 c.loop-byte-test.true c.loop-byte.invariant.1
-      c.in_ok-push_byte.ensures.ascii,
-)
+loop-byte-preserved c =
+    let rest = c.loop-byte.rest.now in
+    let split = rest_text rest _ _ _ c.plain_length.ensures.length c.split_at.ensures.front c.split_at.ensures.back in
+    record {
+      text = text_keeps c.args.bytes.now rest _ _ split _ _ _ _ _ _ c.loop-byte.invariant.text
+          c.in-Some.ensures.cases.0 c.in_ok-extend_from_slice.ensures.items c.in_ok-push_byte.ensures.text;
+      ascii = ascii_keeps c.args.bytes.now rest _ _ split _ _ c.loop-byte.invariant.ascii c.in-Some.ensures.cases.0
+          (front_ascii rest _ _ c.plain_length.ensures.length c.split_at.ensures.front)
+          c.in_ok-push_byte.ensures.ascii;
+    }
