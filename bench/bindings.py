@@ -28,6 +28,8 @@ import subprocess
 import sys
 import tempfile
 
+from growth import peak_of
+
 RUNS = {10: 100, 1_000: 50, 100_000: 5}
 DECISIONS = 200_000
 NAMES_ASKED = 10
@@ -50,8 +52,8 @@ def decisions(count):
 
 
 def of_others(count):
-    """Lines that create bindings of other principals, on one name and on every name, and then one of User:asker."""
-    for place in range(count):
+    """Lines that create so many bindings: those of other principals, on one name and on every name, and one of User:asker."""
+    for place in range(count - 1):
         name = ("orders", "*")[place % 2]
         yield f"User:root h create-acl ALLOW User:u{place:06} * Write Topic LITERAL {name}\n"
     yield "User:root h create-acl ALLOW User:asker * Write Topic PREFIXED o\n"
@@ -80,13 +82,14 @@ def run(program, lines):
         given.write(script)
         given.seek(0)
         process = subprocess.Popen([program], stdin=given, stdout=printed)
+        peak = peak_of(process.pid)
         _, status, usage = os.wait4(process.pid, 0)
         process.returncode = os.waitstatus_to_exitcode(status)
         printed.seek(0)
         replies = printed.read()
     if process.returncode != 0 or replies.count(b"\n") != len(lines) or b"denied" in replies:
         sys.exit(f"{program}: a reply for each of {len(lines)} lines, and no denial, were expected: {replies[:200]!r}")
-    return usage.ru_utime + usage.ru_stime, usage.ru_maxrss * 1024
+    return usage.ru_utime + usage.ru_stime, peak
 
 
 def least(program, lines, runs):
