@@ -22,6 +22,8 @@ mod pipelines;
 #[cfg(test)]
 mod plans;
 #[cfg(test)]
+mod refused;
+#[cfg(test)]
 mod revoked;
 #[cfg(test)]
 mod sessions;
