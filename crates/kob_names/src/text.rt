@@ -1,37 +1,56 @@
 //! Text that contracts see as the list of its bytes.
 
-ghost use Rattle.std.specs.Prelude.{◌≡◌, ◌↔◌, IsTrue, IfOk, length, string_bytes, IsUtf8};
+ghost use Rattle.std.specs.Prelude.{◌≡◌, ◌↔◌, ◌<◌, IsTrue, IfOk, OnErr, length, string_bytes};
 ghost use Rattle.std.specs.Cmp.{partial_equiv_from_equiv};
 ghost use Rattle.std.specs.Cmp.Lexicographic.{nat_list_eq_equiv};
 ghost use Rattle.std.specs.Hash as fed;
 ghost use Rattle.std.specs.Str.{bytes_eq};
 ghost use Rattle.std.proofs.Common.{rules};
+ghost use Rattle.kob_names.specs.Limits.{short_text_limit};
 
 use crate::plain_value::PlainValue;
+use crate::short_text::ShortText;
 use std::alloc::{AllocError, Global};
+use std::fmt;
 use std::hash::{Hash, Hasher};
 use std::marker::Model;
+use std::mem::size_of;
 
-/// An owned text.
-#[derive(Debug, Drop)]
+/// An owned text. It takes 32 bytes: one of at most 30 bytes stands in them, a longer one in a
+/// block of its own.
+#[derive(Drop)]
 pub struct Text {
-    content: String,
+    content: Content,
 }
 
+/// Where the bytes of a text stand.
+#[derive(Drop)]
+enum Content {
+    Short(ShortText),
+    Long(String),
+}
+
+const _: () = prove!(size_of::<Text>() <= 32);
+
 impl Model for Text {
-    ghost use Rattle.std.specs.Prelude.{List, ℕ, string_bytes};
+    ghost use Rattle.std.specs.Prelude.{List, ℕ};
+    ghost use Rattle.kob_names.specs.Text.{content_bytes};
 
     ghost Value = { List ℕ };
 
-    ghost view = { λ text. string_bytes text.content };
+    ghost view = { λ text. content_bytes text.content };
 }
 
 impl Text {
-    /// A copy of `text`.
+    /// A copy of `text`. Memory is taken, and can be refused, only past 30 bytes.
     pub fn copied(alloc: Global, text: &str) -> Result<Text, AllocError>
-        ensures { IfOk result (λ made. made ≡ text.now) }
+        ensures value { IfOk result (λ made. made ≡ text.now) }
+        ensures short { OnErr result (short_text_limit < length text.now) }
     {
-        let content = String::from_str(alloc, text)?;
+        let content = match ShortText::new(text) {
+            Some(short) => Content::Short(short),
+            None => Content::Long(String::from_str(alloc, text)?),
+        };
         Ok(Text { content })
     }
 
@@ -39,29 +58,26 @@ impl Text {
     pub fn from_string(content: String) -> Text
         ensures { result ≡ string_bytes content }
     {
-        Text { content }
-    }
-
-    /// Gives the string back; no memory is taken.
-    pub fn into_string(self) -> String
-        ensures { string_bytes result ≡ self }
-    {
-        let Text { content } = self;
-        content
+        Text {
+            content: Content::Long(content),
+        }
     }
 
     /// The text; no memory is taken.
     pub fn as_str(&self) -> &str
         ensures { result.now ≡ self.now }
     {
-        self.content.as_str()
+        match &self.content {
+            Content::Short(short) => short.as_str(),
+            Content::Long(long) => long.as_str(),
+        }
     }
 
     /// The number of its bytes.
     pub fn len(&self) -> usize
         ensures { result ≡ length self.now }
     {
-        self.content.as_str().len()
+        self.as_str().len()
     }
 }
 
@@ -75,13 +91,21 @@ impl PlainValue for Text {
     }
 }
 
+impl fmt::Debug for Text {
+    fn fmt<W: fmt::Write>(&self, f: &mut fmt::Formatter<W>) -> fmt::Result {
+        f.debug_struct("Text")
+            .field("content", &self.as_str())
+            .finish()
+    }
+}
+
 impl PartialEq for Text {
     ghost eq = { bytes_eq };
 
     ghost laws = { partial_equiv_from_equiv nat_list_eq_equiv };
 
     fn eq(&self, other: &Self) -> bool {
-        self.content.as_str() == other.content.as_str()
+        self.as_str() == other.as_str()
     }
 }
 
@@ -95,6 +119,6 @@ impl Hash for Text {
     ghost respects_eq = { Prim.search rules };
 
     fn hash<H: Hasher>(&self, state: &mut H) {
-        self.content.as_str().hash(state);
+        self.as_str().hash(state);
     }
 }
