@@ -1,0 +1,143 @@
+-- Where the entries of slots stand, and what a change of one slot does to them.
+use Rattle.std.proofs.Common.{◌≡◌, ◌⊎◌, ℕ, zero, suc, Bool, true, false, cond, List, [], ◌∷◌, ◌++◌, Some, IsSome, is_some, filter, length, set, slice_get, refl, sym, ap, ◌∙◌, inl, inr, arith}
+use Rattle.std.specs.Map.{lookup, remove_entry, set_value}
+use Rattle.std.proofs.lemmas.Slice.Eq.{bytes_eq-Decides}
+use Rattle.kob_names.specs.Same.{same_text}
+use Rattle.kob_ordered.specs.declared.slot.Slot.{Slot}
+use Rattle.kob_ordered.specs.declared.slot.Slot.TheVariants.{Entry, Hole}
+use Rattle.kob_ordered.specs.Slots.{entries_in, is_entry}
+
+pub equal_names : (a b : List ℕ) → same_text a b ≡ true → a ≡ b
+equal_names a b = (bytes_eq-Decides a b).0
+
+pub same_name : (a b : List ℕ) → a ≡ b → same_text a b ≡ true
+same_name a b = (bytes_eq-Decides a b).1
+
+module _ {V : Type 0} where
+  -- a name of an entry has a place
+  pub stands_in : (name : List ℕ) (slots : List (Slot V)) → IsSome (lookup (same_text name) (entries_in slots))
+      → (place : ℕ) × (value : V) × (slice_get slots place ≡ Some (Entry name value))
+  stands_in name [] some = cc
+  stands_in name (Hole ∷ slots) some = let later = stands_in name slots some in (suc later.0, later.1, later.2)
+  stands_in name (Entry other value ∷ slots) some = by (same_text name other) refl some (stands_in name slots)
+    where
+      by : (hit : Bool) → same_text name other ≡ hit
+          → is_some (cond hit (Some value) (lookup (same_text name) (entries_in slots))) ≡ true
+          → (IsSome (lookup (same_text name) (entries_in slots))
+          → (place : ℕ) × (w : V) × (slice_get slots place ≡ Some (Entry name w)))
+          → (place : ℕ) × (w : V) × (slice_get (Entry other value ∷ slots) place ≡ Some (Entry name w))
+      by true is some rest = (0, value, ap (λ n. Some (Entry n value)) (sym (equal_names name other is)))
+      by false is some rest = let later = rest some in (suc later.0, later.1, later.2)
+
+  -- no other slot has an entry of that name
+  abbrev pub IsOnly : List (Slot V) → List ℕ → ℕ → Type 0
+  IsOnly slots name place =
+      (other : ℕ) (value : V) → slice_get slots other ≡ Some (Entry name value) → other ≡ place
+
+  only_later : (slot : Slot V) (slots : List (Slot V)) (name : List ℕ) (place : ℕ)
+      → IsOnly (slot ∷ slots) name (suc place)
+      → IsOnly slots name place
+  only_later slot slots name place only other value there = omega (arith, only (suc other) value there)
+
+  other_name : (head : List ℕ) (value : V) (slots : List (Slot V)) (name : List ℕ) (place : ℕ)
+      → IsOnly (Entry head value ∷ slots) name (suc place) → same_text name head ≡ false
+  other_name head value slots name place only = by (same_text name head) refl
+    where
+      by : (hit : Bool) → same_text name head ≡ hit → hit ≡ false
+      by false is = refl
+      by true is =
+          let zero_is = only 0 value (ap (λ n. Some (Entry n value)) (sym (equal_names name head is))) in
+          absurd (omega (arith, zero_is))
+
+  pub found_at : (slots : List (Slot V)) (name : List ℕ) (place : ℕ) (value : V)
+      → slice_get slots place ≡ Some (Entry name value) → IsOnly slots name place
+      → lookup (same_text name) (entries_in slots) ≡ Some value
+  found_at [] name place value there only = cc
+  found_at (Hole ∷ slots) name zero value there only = cc
+  found_at (Entry head other ∷ slots) name zero value there only =
+      let same : head ≡ name = cc in let is : other ≡ value = cc in
+      ap (λ b. cond b (Some other) (lookup (same_text name) (entries_in slots))) (same_name name head (sym same))
+      ∙ ap Some is
+  found_at (Hole ∷ slots) name (suc place) value there only =
+      found_at slots name place value there (only_later Hole slots name place only)
+  found_at (Entry head other ∷ slots) name (suc place) value there only =
+      ap (λ b. cond b (Some other) (lookup (same_text name) (entries_in slots)))
+      (other_name head other slots name place only)
+      ∙ found_at slots name place value there (only_later (Entry head other) slots name place only)
+
+  -- a hole in the place of an entry
+  pub holed_at : (slots : List (Slot V)) (name : List ℕ) (place : ℕ) (value : V)
+      → slice_get slots place ≡ Some (Entry name value) → IsOnly slots name place
+      → entries_in (set slots place Hole) ≡ remove_entry (same_text name) (entries_in slots)
+  holed_at [] name place value there only = cc
+  holed_at (Hole ∷ slots) name zero value there only = cc
+  holed_at (Entry head other ∷ slots) name zero value there only =
+      let same : head ≡ name = cc in
+      sym (ap (λ b. cond b (entries_in slots) ((head, other) ∷ remove_entry (same_text name) (entries_in slots)))
+      (same_name name head (sym same)))
+  holed_at (Hole ∷ slots) name (suc place) value there only =
+      holed_at slots name place value there (only_later Hole slots name place only)
+  holed_at (Entry head other ∷ slots) name (suc place) value there only =
+      ap (λ es. (head, other) ∷ es)
+      (holed_at slots name place value there (only_later (Entry head other) slots name place only))
+      ∙ sym (ap (λ b. cond b (entries_in slots) ((head, other) ∷ remove_entry (same_text name) (entries_in slots)))
+      (other_name head other slots name place only))
+
+  -- another value in the place of an entry's
+  pub written_at : (slots : List (Slot V)) (name : List ℕ) (place : ℕ) (value w : V)
+      → slice_get slots place ≡ Some (Entry name value) → IsOnly slots name place
+      → entries_in (set slots place (Entry name w)) ≡ set_value (same_text name) (entries_in slots) w
+  written_at [] name place value w there only = cc
+  written_at (Hole ∷ slots) name zero value w there only = cc
+  written_at (Entry head other ∷ slots) name zero value w there only =
+      let same : head ≡ name = cc in
+      ap (λ n. (n, w) ∷ entries_in slots) (sym same)
+      ∙ sym (ap (λ b. cond b ((head, w) ∷ entries_in slots)
+      ((head, other) ∷ set_value (same_text name) (entries_in slots) w))
+      (same_name name head (sym same)))
+  written_at (Hole ∷ slots) name (suc place) value w there only =
+      written_at slots name place value w there (only_later Hole slots name place only)
+  written_at (Entry head other ∷ slots) name (suc place) value w there only =
+      ap (λ es. (head, other) ∷ es)
+      (written_at slots name place value w there (only_later (Entry head other) slots name place only))
+      ∙ sym (ap (λ b. cond b ((head, w) ∷ entries_in slots)
+      ((head, other) ∷ set_value (same_text name) (entries_in slots) w))
+      (other_name head other slots name place only))
+
+  -- an entry put last
+  pub pushed : (slots : List (Slot V)) (name : List ℕ) (value : V)
+      → entries_in (slots ++ Entry name value ∷ []) ≡ entries_in slots ++ (name, value) ∷ []
+  pushed [] name value = refl
+  pushed (Hole ∷ slots) name value = pushed slots name value
+  pushed (Entry head other ∷ slots) name value = ap (λ es. (head, other) ∷ es) (pushed slots name value)
+
+  pub pushed_slot : (slots : List (Slot V)) (slot : Slot V) (place : ℕ) (x : Slot V)
+      → slice_get (slots ++ slot ∷ []) place ≡ Some x
+      → (slice_get slots place ≡ Some x) ⊎ ((place ≡ length slots) × (x ≡ slot))
+  pushed_slot [] slot zero x there = inr (refl, cc)
+  pushed_slot [] slot (suc place) x there = cc
+  pushed_slot (head ∷ slots) slot zero x there = inl there
+  pushed_slot (head ∷ slots) slot (suc place) x there =
+      elim (pushed_slot slots slot place x there) [
+        | inl before ↦ inl before
+        | inr last ↦ inr (ap suc last.0, last.1)
+      ]
+
+  -- the holes taken away
+  pub packed : (slots : List (Slot V)) → entries_in (filter is_entry slots) ≡ entries_in slots
+  packed [] = refl
+  packed (Hole ∷ slots) = packed slots
+  packed (Entry name value ∷ slots) = ap (λ es. (name, value) ∷ es) (packed slots)
+
+  pub slot_after_write : (slots : List (Slot V)) (place : ℕ) (slot : Slot V) (other : ℕ) (x : Slot V)
+      → slice_get (set slots place slot) other ≡ Some x
+      → (slice_get slots other ≡ Some x) ⊎ ((other ≡ place) × (x ≡ slot))
+  slot_after_write [] place slot other x there = inl there
+  slot_after_write (head ∷ slots) zero slot zero x there = inr (refl, cc)
+  slot_after_write (head ∷ slots) zero slot (suc other) x there = inl there
+  slot_after_write (head ∷ slots) (suc place) slot zero x there = inl there
+  slot_after_write (head ∷ slots) (suc place) slot (suc other) x there =
+      elim (slot_after_write slots place slot other x there) [
+        | inl before ↦ inl before
+        | inr here ↦ inr (ap suc here.0, here.1)
+      ]
