@@ -3,8 +3,8 @@ use Rattle.std.proofs.Common.{◌≡◌, Some, sym, ap, subst, ◌∙◌}
 use Rattle.std.specs.Prelude.{Result, Ok, Err, IfOk, List, ℕ, Option}
 use Rattle.kob_partition.specs.Retained.{retained_meaning}
 use Rattle.kob_rights.specs.Reason.{code_of}
-use Rattle.kob_names.specs.declared.batch.Batch.{Batch}
 use Rattle.kob_rights.specs.declared.event.Event.{Event}
+use Rattle.kob_rights.specs.declared.on_partitions.Produce.{Produce}
 use Rattle.kob_rights.specs.declared.on_topics.Metadata.{Metadata}
 use Rattle.kob_rights.specs.declared.reason.Reason.{Reason}
 use Rattle.kob_rights.specs.declared.reply.Reply.TheVariants.{Refused}
@@ -34,12 +34,14 @@ refused_makes broker request prepared reason why reply change event = record {
   ready = rw change tt;
 }
 
--- what is prepared for an equal batch
-pub placed_makes : (broker : Broker) (request : Request) (batch own : Batch) (placed : Placed) (prepared : Prepared)
-    → own ≡ batch → prepared ≡ prepared_for own placed → MakesFor request broker (prepared_for batch placed)
-    → MakesFor request broker prepared
-placed_makes broker request batch own placed prepared same is makes =
-    subst (MakesFor request broker) (sym (is ∙ ap (λ (b : Batch). prepared_for b placed) same)) makes
+-- what is prepared for an equal request
+pub placed_makes : (broker : Broker) (produce own : Produce) (placed : Placed) (prepared : Prepared)
+    → own ≡ produce → prepared ≡ prepared_for own placed
+    → MakesFor (requests.Produce produce) broker (prepared_for produce placed)
+    → MakesFor (requests.Produce produce) broker prepared
+placed_makes broker produce own placed prepared same is makes =
+    subst (MakesFor (requests.Produce produce) broker)
+    (sym (is ∙ ap (λ (p : Produce). prepared_for p placed) same)) makes
 
 -- what makes the effect of a request for whoever asks makes it for the event that has it
 pub made_for : (broker : Broker) (request : Request) (event : Event) (prepared : Prepared) → event.request ≡ request

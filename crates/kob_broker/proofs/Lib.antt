@@ -1,6 +1,8 @@
 pub mod Runs
 pub mod FirstReasons
 pub mod Decisions
+pub mod Placing
+pub mod CreatedTopics
 pub mod Drafts
 pub mod Clauses
 pub mod Just

@@ -1,14 +1,12 @@
 -- A meaning of partitions that is carried to another gives the same steps.
-use Rattle.std.proofs.Common.{◌≡◌, ℕ, zero, suc, List, [], ◌∷◌, ◌++◌, Option, None, Some, map, length, slice_get, slice_set, refl, sym, ap, ◌∙◌, replicate}
+use Rattle.std.proofs.Common.{◌≡◌, ℕ, zero, suc, List, [], ◌∷◌, ◌++◌, Option, None, Some, map, length, refl, sym, ap, ◌∙◌, replicate}
 use Rattle.std.specs.Prelude.{option_map, is_some}
-use Rattle.std.proofs.lemmas.List.{map-set, map-append, length-map}
-use Rattle.indexmap.proofs.SetLemmas.{map-remove}
+use Rattle.std.proofs.lemmas.List.{map-append, length-map}
 use Rattle.kob_authorizer.specs.Contents.{Contents}
 use Rattle.kob_catalog.proofs.Listings.{listed_mapped}
-use Rattle.kob_catalog.proofs.MapWrites.{topic_at_mapped}
-use Rattle.kob_catalog.proofs.Places.{place_of_mapped}
+use Rattle.kob_catalog.proofs.Places.{partition_of_mapped, place_of_mapped, topic_at_mapped, with_partition_mapped, without_topic_mapped}
 use Rattle.kob_catalog.specs.Creation.{new_topic}
-use Rattle.kob_catalog.specs.Topics.{Topic, partition_at, partition_of, place_of, topic_at, topic_map, topics_map, with_partition, with_partition_at, with_partition_found, without_topic, without_topic_found}
+use Rattle.kob_catalog.specs.Topics.{Topic, place_of, topic_at, topic_map, topics_map, with_partition}
 use Rattle.kob_groups.specs.Groups as groups
 use Rattle.kob_names.specs.declared.batch.Batch.{Batch}
 use Rattle.kob_names.specs.declared.batch.Idem.{Idem}
@@ -50,63 +48,6 @@ use Rattle.kob_broker.specs.State.{State, state_map}
 use Rattle.kob_broker.specs.Step.{step, step_by, replies_of, state_after}
 
 module _ {P Q : Type 0} (f : P → Q) where
-  slice_get_map : (ps : List P) (i : ℕ) → slice_get (map f ps) i ≡ option_map f (slice_get ps i)
-  slice_get_map [] i = refl
-  slice_get_map (p ∷ ps) zero = refl
-  slice_get_map (p ∷ ps) (suc i) = slice_get_map ps i
-
-  partition_at_map : (topics : List (Topic P)) (place : Option ℕ) (partition : ℕ)
-      → partition_at (topics_map f topics) place partition ≡ option_map f (partition_at topics place partition)
-  partition_at_map topics None partition = refl
-  partition_at_map topics (Some place) partition =
-      ap (λ (t : Topic Q). slice_get t.partitions partition) (topic_at_mapped f topics place)
-      ∙ slice_get_map (topic_at topics place).partitions partition
-
-  partition_of_map : (name : List ℕ) (partition : ℕ) (topics : List (Topic P))
-      → partition_of name partition (topics_map f topics) ≡ option_map f (partition_of name partition topics)
-  partition_of_map name partition topics =
-      ap (λ o. partition_at (topics_map f topics) o partition) (place_of_mapped f name topics)
-      ∙ partition_at_map topics (place_of name topics) partition
-
-  with_partition_at_map : (place partition : ℕ) (p : P) (topics : List (Topic P))
-      → with_partition_at place partition (f p) (topics_map f topics)
-      ≡ topics_map f (with_partition_at place partition p topics)
-  with_partition_at_map place partition p topics =
-      let topic = topic_at_mapped f topics place in
-      ap (slice_set (topics_map f topics) place)
-      (λ i. record {
-        name = (topic i).name;
-        partitions =
-            (ap (λ (t : Topic Q). slice_set t.partitions partition (f p)) topic
-            ∙ sym (map-set f (topic_at topics place).partitions partition p)) i;
-      })
-      ∙ sym (map-set (topic_map f) topics place
-      (record (topic_at topics place) { partitions = slice_set (topic_at topics place).partitions partition p }))
-
-  with_partition_found_map : (place : Option ℕ) (partition : ℕ) (p : P) (topics : List (Topic P))
-      → with_partition_found place partition (f p) (topics_map f topics)
-      ≡ topics_map f (with_partition_found place partition p topics)
-  with_partition_found_map None partition p topics = refl
-  with_partition_found_map (Some place) partition p topics = with_partition_at_map place partition p topics
-
-  with_partition_map : (name : List ℕ) (partition : ℕ) (p : P) (topics : List (Topic P))
-      → with_partition name partition (f p) (topics_map f topics)
-      ≡ topics_map f (with_partition name partition p topics)
-  with_partition_map name partition p topics =
-      ap (λ o. with_partition_found o partition (f p) (topics_map f topics)) (place_of_mapped f name topics)
-      ∙ with_partition_found_map (place_of name topics) partition p topics
-
-  without_found_map : (place : Option ℕ) (topics : List (Topic P))
-      → without_topic_found place (topics_map f topics) ≡ topics_map f (without_topic_found place topics)
-  without_found_map None topics = refl
-  without_found_map (Some place) topics = sym (map-remove (topic_map f) topics place)
-
-  without_topic_map : (name : List ℕ) (topics : List (Topic P))
-      → without_topic name (topics_map f topics) ≡ topics_map f (without_topic name topics)
-  without_topic_map name topics =
-      ap (λ o. without_topic_found o (topics_map f topics)) (place_of_mapped f name topics)
-      ∙ without_found_map (place_of name topics) topics
-
   is_some_map : (found : Option P) → is_some (option_map f found) ≡ is_some found
   is_some_map None = refl
   is_some_map (Some p) = refl
@@ -185,7 +126,7 @@ module _ {P Q : Type 0} (m : Meaning P) (n : Meaning Q) (f : P → Q) (c : Carri
       ap (λ o. with_partition delete.topic delete.partition (n.advance (f p) o) (topics_map f topics))
       (before_alike (Some p) delete.before)
       ∙ ap (λ q. with_partition delete.topic delete.partition q (topics_map f topics)) (sym (c.advance p offset))
-      ∙ with_partition_map f delete.topic delete.partition (m.advance p offset) topics
+      ∙ sym (with_partition_mapped f delete.topic delete.partition (m.advance p offset) topics)
 
   out_of_range_alike : (found : Option P) (offset : ℕ)
       → is_out_of_range n (option_map f found) offset ≡ is_out_of_range m found offset
@@ -205,7 +146,7 @@ module _ {P Q : Type 0} (m : Meaning P) (n : Meaning Q) (f : P → Q) (c : Carri
       let written =
       ap (λ q. with_partition produce.topic produce.partition q (topics_map f topics))
       (sym (c.append p produce.batch))
-      ∙ with_partition_map f produce.topic produce.partition (m.append p produce.batch) topics in
+      ∙ sym (with_partition_mapped f produce.topic produce.partition (m.append p produce.batch) topics) in
       ap (λ j. unless_repeat j (topics_map f topics)
       (with_partition produce.topic produce.partition (n.append (f p) produce.batch) (topics_map f topics)))
       (judged_at_alike (Some p) produce.batch)
@@ -215,7 +156,7 @@ module _ {P Q : Type 0} (m : Meaning P) (n : Meaning Q) (f : P → Q) (c : Carri
   in_alike : (topics : List (Topic P)) (name : Option (List ℕ × ℕ))
       → partition_in (topics_map f topics) name ≡ option_map f (partition_in topics name)
   in_alike topics None = refl
-  in_alike topics (Some name) = partition_of_map f name.0 name.1 topics
+  in_alike topics (Some name) = partition_of_mapped f name.0 name.1 topics
 
   named_alike : (s : State P) (request : Request) → named (state_map f s) request ≡ option_map f (named s request)
   named_alike s request = in_alike s.topics (partition_named request)
@@ -277,7 +218,7 @@ module _ {P Q : Type 0} (m : Meaning P) (n : Meaning Q) (f : P → Q) (c : Carri
       ∙ sym (map-append (topic_map f) s.topics (new_topic m create.name create.partitions ∷ [])) in
       λ i. record { topics = added i; groups = s.groups; access = s.access; next_producer = s.next_producer }
   write_alike s found (Some (writes.RemoveTopic delete)) = λ i. record {
-    topics = without_topic_map f delete.name s.topics i;
+    topics = sym (without_topic_mapped f delete.name s.topics) i;
     groups = groups.without_topic delete.name s.groups;
     access = s.access;
     next_producer = s.next_producer;

@@ -4,7 +4,7 @@ use Rattle.kob_authorizer.specs.Creation.{CanCreate, with_creation}
 use Rattle.kob_authorizer.specs.Deletion.{CanDelete, without_taken}
 use Rattle.kob_catalog.specs.Creation.{CanAdd}
 use Rattle.kob_catalog.specs.Kept.{catalog_log, kept_of, topics_of}
-use Rattle.kob_catalog.specs.Topics.{HasPartition, topic_map, with_partition_at}
+use Rattle.kob_catalog.specs.Topics.{has_partition, topic_map, with_partition}
 use Rattle.kob_groups.specs.Groups as groups
 use Rattle.kob_groups.specs.Kept as groups_kept
 use Rattle.kob_groups.specs.Kept.{groups_of}
@@ -41,14 +41,17 @@ state_after_change (AddBindings made) broker =
     record (state_of broker) { access = with_creation broker.authorizer.contents made }
 state_after_change (RemoveBindings made) broker =
     record (state_of broker) { access = without_taken made.filter broker.authorizer.contents }
-state_after_change (Append place partition batch) broker = record (state_of broker) {
-  topics = with_partition_at place partition
-      (retained_meaning.append (catalog_log broker.catalog place partition).kept batch)
+state_after_change (Append produce) broker = record (state_of broker) {
+  topics =
+      with_partition produce.topic produce.partition
+      (retained_meaning.append (catalog_log broker.catalog produce.topic produce.partition).kept
+      produce.batch)
       (topics_of broker.catalog);
 }
-state_after_change (AdvanceStart place partition offset) broker = record (state_of broker) {
-  topics = with_partition_at place partition
-      (retained_meaning.advance (catalog_log broker.catalog place partition).kept offset)
+state_after_change (AdvanceStart topic partition offset) broker = record (state_of broker) {
+  topics =
+      with_partition topic partition
+      (retained_meaning.advance (catalog_log broker.catalog topic partition).kept offset)
       (topics_of broker.catalog);
 }
 state_after_change (Commit made) broker = record (state_of broker) {
@@ -66,12 +69,12 @@ CanCommit (AddTopic made) broker = CanAdd made broker.catalog
 CanCommit (RemoveTopic name) broker = Unit {0}
 CanCommit (AddBindings made) broker = CanCreate made broker.authorizer
 CanCommit (RemoveBindings made) broker = CanDelete made broker.authorizer
-CanCommit (Append place partition batch) broker =
-    HasPartition broker.catalog.logs place partition
-    × CanAppend (catalog_log broker.catalog place partition) batch
-CanCommit (AdvanceStart place partition offset) broker =
-    HasPartition broker.catalog.logs place partition
-    × (offset ≤ (catalog_log broker.catalog place partition).kept.end)
+CanCommit (Append produce) broker =
+    (has_partition produce.topic produce.partition (topics_of broker.catalog) ≡ true)
+    × CanAppend (catalog_log broker.catalog produce.topic produce.partition) produce.batch
+CanCommit (AdvanceStart topic partition offset) broker =
+    (has_partition topic partition (topics_of broker.catalog) ≡ true)
+    × (offset ≤ (catalog_log broker.catalog topic partition).kept.end)
 CanCommit (Commit made) broker = groups_kept.CanCommit made broker.groups
 CanCommit (RemoveGroup name) broker = groups.has_group name (groups_of broker.groups) ≡ true
 CanCommit GiveProducer broker = broker.next_producer < producer_limit

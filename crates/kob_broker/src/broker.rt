@@ -8,7 +8,7 @@ use kob_authorizer::{Authorizer, CreateFault};
 use kob_catalog::Catalog;
 use kob_groups::Groups;
 use kob_names::{Binding, Items, PlainValue, Settings, Text};
-use kob_rights::{Event, Reply, Request};
+use kob_rights::{Event, Produce, Reply, Request};
 use std::alloc::{AllocError, Global};
 
 /// The broker: topics, groups, bindings in force and super users, behind rights that are decided at
@@ -95,7 +95,7 @@ impl Broker {
             Request::DeleteGroups(asked) => self.prepare_delete_groups(alloc, asked),
             Request::CreateTopics(asked) => self.prepare_create_topics(alloc, asked),
             Request::DeleteTopics(asked) => self.prepare_delete_topics(alloc, asked),
-            Request::DeleteRecords(asked) => Ok(self.prepare_delete_records(asked)),
+            Request::DeleteRecords(asked) => self.prepare_delete_records(alloc, asked),
             Request::InitProducerId => Ok(self.prepare_init_producer_id()),
             Request::DescribeAcls(asked) => self.prepare_describe_acls(alloc, asked),
             Request::CreateAcls(asked) => self.prepare_create_acls(alloc, asked),
@@ -171,11 +171,18 @@ impl Broker {
             Change::RemoveBindings(made) => {
                 self.authorizer.commit_delete(made);
             }
-            Change::Append(place, partition, batch) => {
-                self.catalog.commit_append(place, partition, batch);
+            Change::Append(
+                Produce {
+                    topic,
+                    partition,
+                    batch,
+                },
+            ) => {
+                self.catalog
+                    .commit_append(&topic, partition as usize, batch);
             }
-            Change::AdvanceStart(place, partition, offset) => {
-                self.catalog.commit_advance(place, partition, offset);
+            Change::AdvanceStart(topic, partition, offset) => {
+                self.catalog.commit_advance(&topic, partition, offset);
             }
             Change::Commit(made) => self.groups.commit_commit(made),
             Change::RemoveGroup(name) => {

@@ -18,7 +18,7 @@ impl Broker {
     ) -> Result<Prepared, AllocError>
         ensures { IfOk result (MakesFor (requests.DeleteTopics delete.now) self.now) }
     {
-        if self.catalog.place_of(&delete.name).is_none() {
+        if !self.catalog.contains(&delete.name) {
             return Ok(Prepared::refused(Reason::UnknownTopic));
         }
         let name = delete.name.copy(alloc)?;

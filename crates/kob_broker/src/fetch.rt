@@ -6,6 +6,7 @@ ghost use Rattle.kob_rights.specs.declared.request.Request.TheVariants as reques
 
 use crate::broker::Broker;
 use crate::prepared::{Change, Prepared};
+use kob_catalog::PartitionFault;
 use kob_partition::FetchFault;
 use kob_rights::{Body, Fetch, Reason};
 use std::alloc::{AllocError, Global};
@@ -14,11 +15,17 @@ impl Broker {
     pub(crate) fn prepare_fetch(&self, alloc: Global, fetch: &Fetch) -> Result<Prepared, AllocError>
         ensures { IfOk result (MakesFor (requests.Fetch fetch.now) self.now) }
     {
-        let Some(place) = self.catalog.place_of(&fetch.topic) else {
-            return Ok(Prepared::refused(Reason::UnknownTopic));
-        };
-        let Some(log) = self.catalog.partition_at(place, fetch.partition as usize) else {
-            return Ok(Prepared::refused(Reason::UnknownPartition));
+        let log = match self
+            .catalog
+            .partition(&fetch.topic, fetch.partition as usize)
+        {
+            Ok(log) => log,
+            Err(PartitionFault::UnknownTopic) => {
+                return Ok(Prepared::refused(Reason::UnknownTopic));
+            }
+            Err(PartitionFault::UnknownPartition) => {
+                return Ok(Prepared::refused(Reason::UnknownPartition));
+            }
         };
         match log.fetch(alloc, fetch.offset, fetch.max) {
             Ok(records) => Ok(Prepared::done(Body::Records(records), Change::Unchanged)),

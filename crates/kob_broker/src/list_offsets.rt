@@ -6,17 +6,22 @@ ghost use Rattle.kob_rights.specs.declared.request.Request.TheVariants as reques
 
 use crate::broker::Broker;
 use crate::prepared::{Change, Prepared};
+use kob_catalog::PartitionFault;
 use kob_rights::{Body, ListOffsets, Reason, Which};
 
 impl Broker {
     pub(crate) fn prepare_list_offsets(&self, asked: &ListOffsets) -> Prepared
         ensures { MakesFor (requests.ListOffsets asked.now) self.now result }
     {
-        let Some(place) = self.catalog.place_of(&asked.topic) else {
-            return Prepared::refused(Reason::UnknownTopic);
-        };
-        let Some(log) = self.catalog.partition_at(place, asked.partition as usize) else {
-            return Prepared::refused(Reason::UnknownPartition);
+        let log = match self
+            .catalog
+            .partition(&asked.topic, asked.partition as usize)
+        {
+            Ok(log) => log,
+            Err(PartitionFault::UnknownTopic) => return Prepared::refused(Reason::UnknownTopic),
+            Err(PartitionFault::UnknownPartition) => {
+                return Prepared::refused(Reason::UnknownPartition);
+            }
         };
         let offset = match asked.which {
             Which::Start => log.start(),

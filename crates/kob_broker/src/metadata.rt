@@ -49,11 +49,11 @@ impl Broker {
     fn prepare_metadata_of_one(&self, alloc: Global, topic: &Text) -> Result<Prepared, AllocError>
         ensures { IfOk result (MakesFor (metadata_request (Some topic.now)) self.now) }
     {
-        let Some(place) = self.catalog.place_of(topic) else {
+        let Some(partitions) = self.catalog.partitions(topic) else {
             return Ok(Prepared::refused(Reason::UnknownTopic));
         };
         let mut topics = Vec::new(alloc);
-        topics.push((topic.copy(alloc)?, self.catalog.partitions(place) as u64))?;
+        topics.push((topic.copy(alloc)?, partitions as u64))?;
         Ok(Prepared::done(Body::Topics(Items::from_vec(topics)), Change::Unchanged))
     }
 }

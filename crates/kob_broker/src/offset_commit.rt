@@ -7,6 +7,7 @@ ghost use Rattle.kob_rights.specs.declared.request.Request.TheVariants as reques
 
 use crate::broker::Broker;
 use crate::prepared::{Change, Prepared};
+use kob_catalog::PartitionFault;
 use kob_groups::{CommitFault, CommitPlace};
 use kob_names::{NAME_LIMIT, Text};
 use kob_partition::OFFSET_LIMIT;
@@ -25,15 +26,17 @@ impl Broker {
         if is_bad_group_name(&commit.group) {
             return Ok(Prepared::refused(Reason::BadGroupName));
         }
-        let Some(place) = self.catalog.place_of(&commit.topic) else {
-            return Ok(Prepared::refused(Reason::UnknownTopic));
-        };
-        if self
+        match self
             .catalog
-            .partition_at(place, commit.partition as usize)
-            .is_none()
+            .partition(&commit.topic, commit.partition as usize)
         {
-            return Ok(Prepared::refused(Reason::UnknownPartition));
+            Ok(_) => {}
+            Err(PartitionFault::UnknownTopic) => {
+                return Ok(Prepared::refused(Reason::UnknownTopic));
+            }
+            Err(PartitionFault::UnknownPartition) => {
+                return Ok(Prepared::refused(Reason::UnknownPartition));
+            }
         }
         if commit.offset > OFFSET_LIMIT {
             return Ok(Prepared::refused(Reason::BadOffset));

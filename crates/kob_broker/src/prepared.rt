@@ -7,8 +7,8 @@ ghost use Rattle.kob_broker.specs.Change.{reply_of};
 use kob_authorizer::{PreparedCreate, PreparedDelete};
 use kob_catalog::PreparedTopic;
 use kob_groups::PreparedCommit;
-use kob_names::{Batch, Text};
-use kob_rights::{Body, Reason, Reply};
+use kob_names::Text;
+use kob_rights::{Body, Produce, Reason, Reply};
 
 /// A change of the contents for which all memory is there.
 #[derive(Drop)]
@@ -22,10 +22,10 @@ pub(crate) enum Change {
     AddBindings(PreparedCreate),
     /// Bindings to take away.
     RemoveBindings(PreparedDelete),
-    /// A batch to put last in a partition of the topic at a place.
-    Append(usize, usize, Batch),
-    /// The start of a partition of the topic at a place moves up to an offset.
-    AdvanceStart(usize, usize, u64),
+    /// A batch to put last in the partition that its request names.
+    Append(Produce),
+    /// The start of the partition of that number of the topic of that name moves up to an offset.
+    AdvanceStart(Text, usize, u64),
     /// An offset to commit.
     Commit(PreparedCommit),
     /// The group of that name goes, and its commits.

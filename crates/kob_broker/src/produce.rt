@@ -12,6 +12,7 @@ use crate::broker::Broker;
 use crate::limits::{BATCH_BYTE_LIMIT, EPOCH_LIMIT, RECORD_LIMIT, SEQUENCE_LIMIT};
 use crate::placed::Placed;
 use crate::prepared::{Change, Prepared};
+use kob_catalog::PartitionFault;
 use kob_names::{Batch, Idem, PlainValue};
 use kob_partition::{AppendFault, Placement};
 use kob_rights::{Body, Produce, Reason};
@@ -28,50 +29,48 @@ impl Broker {
     {
         match self.place(produce)? {
             Placed::Nowhere(prepared) => Ok(prepared),
-            placed => Ok(placed.with_batch(produce.batch.copy(alloc)?)),
+            placed => Ok(placed.with_request(produce.copy(alloc)?)),
         }
     }
 
-    /// The same of a request that is given away: its batch is moved.
+    /// The same of a request that is given away: it is moved.
     pub(crate) fn prepare_produce_owned(&mut self, produce: Produce) -> Result<Prepared, AllocError>
         ensures state { state_of self.new ≡ state_of self.old }
         ensures ok { IfOk result (MakesFor (requests.Produce produce) self.new) }
     {
-        Ok(self.place(&produce)?.with_batch(produce.batch))
+        Ok(self.place(&produce)?.with_request(produce))
     }
 
-    /// Where the batch goes, with room for it there; it is not copied.
+    /// Where the batch goes, with room for it there; nothing is copied, and the topic is looked up
+    /// once.
     fn place(&mut self, produce: &Produce) -> Result<Placed, AllocError>
         ensures state { state_of self.new ≡ state_of self.old }
         ensures ok { IfOk result (λ placed. MakesFor (requests.Produce produce.now) self.new
-            (prepared_for produce.now.batch placed)) }
+            (prepared_for produce.now placed)) }
     {
-        let Some(place) = self.catalog.place_of(&produce.topic) else {
-            return Ok(Placed::Nowhere(Prepared::refused(Reason::UnknownTopic)));
-        };
-        let partition = produce.partition as usize;
-        let Some(_) = self.catalog.partition_at(place, partition) else {
-            return Ok(Placed::Nowhere(Prepared::refused(Reason::UnknownPartition)));
-        };
-        if let Some(reason) = against_batch(&produce.batch, self.next_producer) {
-            return Ok(Placed::Nowhere(Prepared::refused(reason)));
-        }
-        match self
+        let next_producer = self.next_producer;
+        let log = match self
             .catalog
-            .prepare_append(place, partition, &produce.batch)
+            .partition_mut(&produce.topic, produce.partition as usize)
         {
-            Ok(Placement::New(offset)) => Ok(Placed::Last(place, partition, offset)),
+            Ok(log) => log,
+            Err(PartitionFault::UnknownTopic) => return Ok(Placed::refused(Reason::UnknownTopic)),
+            Err(PartitionFault::UnknownPartition) => {
+                return Ok(Placed::refused(Reason::UnknownPartition));
+            }
+        };
+        if let Some(reason) = against_batch(&produce.batch, next_producer) {
+            return Ok(Placed::refused(reason));
+        }
+        match log.prepare_append(&produce.batch) {
+            Ok(Placement::New(offset)) => Ok(Placed::Last(offset)),
             Ok(Placement::Repeated(offset)) => {
                 let body = Body::Offset(offset);
                 Ok(Placed::Nowhere(Prepared::done(body, Change::Unchanged)))
             }
-            Err(AppendFault::OldEpoch) => Ok(Placed::Nowhere(Prepared::refused(Reason::OldEpoch))),
-            Err(AppendFault::OutOfOrder) => Ok(Placed::Nowhere(Prepared::refused(
-                Reason::OutOfOrder,
-            ))),
-            Err(AppendFault::OffsetsSpent) => Ok(Placed::Nowhere(Prepared::refused(
-                Reason::OffsetsSpent,
-            ))),
+            Err(AppendFault::OldEpoch) => Ok(Placed::refused(Reason::OldEpoch)),
+            Err(AppendFault::OutOfOrder) => Ok(Placed::refused(Reason::OutOfOrder)),
+            Err(AppendFault::OffsetsSpent) => Ok(Placed::refused(Reason::OffsetsSpent)),
             Err(AppendFault::Memory) => Err(AllocError),
         }
     }

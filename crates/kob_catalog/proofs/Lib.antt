@@ -1,4 +1,4 @@
 pub mod Places
-pub mod MapWrites
 pub mod Lent
 pub mod Listings
+pub mod Looked

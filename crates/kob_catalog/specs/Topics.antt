@@ -1,5 +1,5 @@
 -- Topics in order of creation, whatever their partitions are.
-use Rattle.std.specs.Prelude.{◌<◌, ℕ, List, [], Bool, Option, Some, None, is_some, length, map, remove, slice_get, slice_set, slice_index_or}
+use Rattle.std.specs.Prelude.{ℕ, List, [], Bool, Option, Some, None, is_some, length, map, remove, slice_get, slice_set, slice_index_or}
 use Rattle.std.specs.List.{filter, position}
 use Rattle.kob_names.specs.Same.{same_text}
 
@@ -57,10 +57,17 @@ module _ {P : Type 0} where
   abbrev pub without_topic : List ℕ → List (Topic P) → List (Topic P)
   without_topic name topics = without_topic_found (place_of name topics) topics
 
-  -- the partition is there
-  pub record HasPartition (topics : List (Topic P)) (place partition : ℕ) : Type 0 where
-    pub topic_exists : place < length topics
-    pub partition_exists : partition < length (topic_at topics place).partitions
+  -- the topic of that name has a partition of that number
+  abbrev pub has_partition : List ℕ → ℕ → List (Topic P) → Bool
+  has_partition name partition topics = is_some (partition_of name partition topics)
+
+  abbrev pub count_found : List (Topic P) → Option ℕ → Option ℕ
+  count_found topics None = None
+  count_found topics (Some place) = Some (length (topic_at topics place).partitions)
+
+  -- the number of partitions of the topic of that name
+  abbrev pub partition_count : List ℕ → List (Topic P) → Option ℕ
+  partition_count name topics = count_found topics (place_of name topics)
 
   -- a topic's name and its number of partitions
   abbrev pub listed : Topic P → List ℕ × ℕ

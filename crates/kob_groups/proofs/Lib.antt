@@ -1,1 +1,3 @@
+pub mod Forgetting
+pub mod Listings
 pub mod Maps

@@ -1,7 +1,6 @@
 -- What a map shows whose values are seen by a part of them: the same for groups and for topics.
-use Rattle.std.proofs.Common.{◌≡◌, Bool, true, false, cond, not, filter, List, [], ◌∷◌, Option, Some, None, is_some, length, map, unwrap_or, refl, sym, subst, ap, ◌∙◌}
+use Rattle.std.proofs.Common.{◌≡◌, Bool, true, false, cond, not, filter, List, [], ◌∷◌, ◌++◌, Option, Some, None, is_some, length, map, unwrap_or, refl, sym, ap, ◌∙◌}
 use Rattle.std.specs.Map.{keys_of, lookup, remove_entry, set_value}
-use Rattle.std.specs.Map.Calls.{RetainsPairs}
 use Rattle.std.specs.Option.{option_map}
 use Rattle.std.proofs.lemmas.List.{length-map}
 use Rattle.std.proofs.lemmas.Map.Made.{lookup-map_values}
@@ -135,6 +134,19 @@ module _ {K X : Type 0} (same : K → K → Bool) where
       by true here rest = refl
       by false later rest = ap (λ es. entry ∷ es) (rest later)
 
+  -- a key that is not there is put last
+  pub inserted_new : (entries : List (K × X)) (key : K) (x : X) → lookup (same key) entries ≡ None
+      → entries ++ (key, x) ∷ [] ≡ insert_entry same entries key x
+  inserted_new [] key x none = refl
+  inserted_new (entry ∷ entries) key x none = by (same key entry.0) none (inserted_new entries key x)
+    where
+      by : (hit : Bool) → cond hit (Some entry.1) (lookup (same key) entries) ≡ None
+          → (lookup (same key) entries ≡ None → entries ++ (key, x) ∷ [] ≡ insert_entry same entries key x)
+          → entry ∷ (entries ++ (key, x) ∷ [])
+          ≡ cond hit ((entry.0, x) ∷ entries) (entry ∷ insert_entry same entries key x)
+      by true none rest = cc
+      by false none rest = ap (λ es. entry ∷ es) (rest none)
+
 -- what is found after a write
 pub found_written : {K X : Type 0} (test : K → Bool) (entries : List (K × X)) (old x : X)
     → lookup test entries ≡ Some old → lookup test (set_value test entries x) ≡ Some x
@@ -147,16 +159,3 @@ found_written test (entry ∷ entries) old x found =
         → lookup test (cond hit ((entry.0, x) ∷ entries) (entry ∷ set_value test entries x)) ≡ Some x
     by true is here rest = ap (λ b. cond b (Some x) (lookup test entries)) is
     by false is later rest = ap (λ b. cond b (Some entry.1) (lookup test (set_value test entries x))) is ∙ rest later
-
--- what a map's `retain` leaves whose closure keeps all, and changes what is seen of each value
-module _ {K X Y F : Type 0} (part : X → Y) (change : Y → Y) (T : F → K → X → Bool → X → F → Type 0) (f : F)
-    (says : (k : K) (x : X) (b : Bool) (w : X) (g : F) → T f k x b w g
-    → (b ≡ true) × (part w ≡ change (part x)) × (g ≡ f)) where
-  pub seen_retained : (entries kept : List (K × X)) → RetainsPairs T f entries kept
-      → seen part kept ≡ map (λ entry. (entry.0, change entry.1)) (seen part entries)
-  seen_retained [] kept h = ap (seen part) h
-  seen_retained (entry ∷ entries) kept h =
-      let s = says entry.0 entry.1 h.0 h.1 h.2 h.4 in
-      let rest = seen_retained entries h.3 (subst (λ g. RetainsPairs T g entries h.3) s.2 h.5) in
-      ap (seen part) (h.6 ∙ ap (λ b. cond b ((entry.0, h.1) ∷ h.3) h.3) s.0)
-      ∙ (λ i. (entry.0, s.1 i) ∷ rest i)

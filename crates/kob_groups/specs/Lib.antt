@@ -1,4 +1,6 @@
 pub mod Groups
 pub mod Kept
 pub mod Limits
+pub mod Listed
+pub mod Views
 pub use Rattle.kob_names.specs.Same

@@ -1,7 +1,14 @@
 //! The two steps of a commit.
 
-use crate::commits::{Commits, Offsets};
+ghost use Rattle.std.specs.Prelude.{[], ◌≡◌, Some, IfOk};
+ghost use Rattle.kob_groups.specs.Kept.{CanPut};
+
+use crate::commits::{Commits, NewTopic};
+use crate::lists::Listing;
 use crate::place::CommitPlace;
+use kob_names::PlainValue;
+use kob_ordered::EntryName;
+use std::alloc::{AllocError, Global};
 use thiserror::Error;
 
 /// Why an offset was not committed.
@@ -13,11 +20,45 @@ pub enum CommitFault {
     Memory,
 }
 
-/// A commit for which all memory is there: the empty maps are put in for a new group or topic.
+/// A commit for which all memory is there: the empty maps are put in for a new group or topic, the
+/// names are those of a new group and a new topic, and the listing that of a group not yet listed
+/// for the topic.
 #[derive(Drop)]
 pub struct PreparedCommit {
     pub(crate) place: CommitPlace,
     pub(crate) offset: u64,
     pub(crate) commits: Commits,
-    pub(crate) offsets: Offsets,
+    pub(crate) new_topic: NewTopic,
+    pub(crate) name: Option<EntryName>,
+    pub(crate) listing: Option<Listing>,
+}
+
+impl PreparedCommit {
+    /// A commit of a new group: its name, and empty maps with room for one topic and one offset.
+    /// The error is want of memory.
+    pub(crate) fn of_new_group(
+        alloc: Global,
+        place: CommitPlace,
+        offset: u64,
+        listing: Option<Listing>,
+    ) -> Result<PreparedCommit, AllocError>
+        ensures place { IfOk result (λ made. made.place ≡ place) }
+        ensures offset { IfOk result (λ made. made.offset ≡ offset) }
+        ensures listing { IfOk result (λ made. made.listing ≡ listing) }
+        ensures name { IfOk result (λ made. made.name ≡ Some place.group) }
+        ensures topic { IfOk result (λ made. CanPut made.new_topic place.topic made.commits) }
+        ensures no_commits { IfOk result (λ made. made.commits.by_topic.entries ≡ []) }
+    {
+        let name = Some(EntryName::new(alloc, place.group.copy(alloc)?)?);
+        let commits = Commits::with_room(alloc)?;
+        let new_topic = NewTopic::with_room(alloc, &place.topic)?;
+        Ok(PreparedCommit {
+            place,
+            offset,
+            commits,
+            new_topic,
+            name,
+            listing,
+        })
+    }
 }

@@ -1,13 +1,13 @@
 //! The commits of one group.
 
-ghost use Rattle.std.specs.Prelude.{◌≡◌, ◌<◌, nat_eq, unwrap_or, IfOk, OnOk};
+ghost use Rattle.std.specs.Prelude.{[], ◌≡◌, ◌<◌, Some, nat_eq, IfOk};
 ghost use Rattle.std.specs.Map.{lookup};
-ghost use Rattle.indexmap.specs.IndexMap.{IsEmpty, get, spare};
+ghost use Rattle.indexmap.specs.IndexMap.{IsEmpty, spare};
 ghost use Rattle.kob_groups.specs.Groups.{offsets_on, with_offset, without_offsets};
-ghost use Rattle.kob_names.specs.Same.{same_text};
 
 use indexmap::IndexMap;
-use kob_names::Text;
+use kob_names::{PlainValue, Text};
+use kob_ordered::{EntryName, OrderedMap};
 use std::alloc::{AllocError, Global};
 
 /// The offsets on a topic, by partition.
@@ -16,27 +16,60 @@ pub(crate) type Offsets = IndexMap<u64, u64>;
 /// A group's commits: the offsets on each topic.
 #[derive(Drop)]
 pub(crate) struct Commits {
-    pub(crate) by_topic: IndexMap<Text, Offsets>,
+    pub(crate) by_topic: OrderedMap<Offsets>,
 }
 
-impl Commits {
-    ghost use Rattle.kob_groups.specs.Kept.{commits_in};
+/// What is put in for a topic on which the group has no commits: its name, and the empty offsets. A
+/// topic on which it has some needs no name.
+#[derive(Drop)]
+pub(crate) struct NewTopic {
+    pub(crate) name: Option<EntryName>,
+    pub(crate) offsets: Offsets,
+}
 
-    /// No commits; no memory is taken.
-    pub(crate) fn new(alloc: Global) -> Commits
-        ensures { IsEmpty result.by_topic }
+impl NewTopic {
+    /// No name and no offsets; no memory is taken.
+    fn unnamed(alloc: Global) -> NewTopic
+        ensures { IsEmpty result.offsets }
     {
-        Commits {
-            by_topic: IndexMap::new(alloc),
+        NewTopic {
+            name: None,
+            offsets: IndexMap::new(alloc),
         }
     }
 
-    /// No commits, with room for one topic.
-    pub(crate) fn with_room(alloc: Global) -> Result<Commits, AllocError>
-        ensures empty { IfOk result (λ commits. IsEmpty commits.by_topic) }
-        ensures room { IfOk result (λ commits. 0 < spare commits.by_topic) }
+    /// A topic's name, and no offsets, with room for one. The error is want of memory.
+    pub(crate) fn with_room(alloc: Global, topic: &Text) -> Result<NewTopic, AllocError>
+        ensures name { IfOk result (λ made. made.name ≡ Some topic.now) }
+        ensures empty { IfOk result (λ made. IsEmpty made.offsets) }
+        ensures room { IfOk result (λ made. 0 < spare made.offsets) }
     {
-        let by_topic = IndexMap::with_capacity(alloc, 1)?;
+        let name = Some(EntryName::new(alloc, topic.copy(alloc)?)?);
+        let offsets = IndexMap::with_capacity(alloc, 1)?;
+        Ok(NewTopic { name, offsets })
+    }
+}
+
+impl Commits {
+    ghost use Rattle.kob_groups.specs.Kept.{CanPut};
+    ghost use Rattle.kob_groups.specs.Views.{commits_in};
+
+    /// No commits; no memory is taken.
+    pub(crate) fn new(alloc: Global) -> Commits
+        ensures { result.by_topic.entries ≡ [] }
+    {
+        Commits {
+            by_topic: OrderedMap::new(alloc),
+        }
+    }
+
+    /// No commits, with room for one topic. The error is want of memory.
+    pub(crate) fn with_room(alloc: Global) -> Result<Commits, AllocError>
+        ensures empty { IfOk result (λ commits. commits.by_topic.entries ≡ []) }
+        ensures room { IfOk result (λ commits. 0 < commits.by_topic.room) }
+    {
+        let mut by_topic = OrderedMap::new(alloc);
+        by_topic.reserve()?;
         Ok(Commits { by_topic })
     }
 
@@ -48,47 +81,43 @@ impl Commits {
         self.by_topic.get(topic)?.get(&partition).copied()
     }
 
-    /// Makes room for one more topic, and for one more offset on this one; the offsets of a new
-    /// topic are the empty ones that come back.
-    pub(crate) fn reserve(&mut self, alloc: Global, topic: &Text) -> Result<Offsets, AllocError>
+    /// Makes room for one more topic, and for one more offset on this one; what is put in for a new
+    /// topic comes back. The commits stay, also after an error, which is want of memory.
+    pub(crate) fn reserve(&mut self, alloc: Global, topic: &Text) -> Result<NewTopic, AllocError>
         ensures commits { commits_in self.new ≡ commits_in self.old }
-        ensures topics { OnOk result (0 < spare self.new.by_topic) }
-        ensures empty { IfOk result (λ fresh. IsEmpty fresh) }
-        ensures offsets { IfOk result
-            (λ fresh. 0 < spare (unwrap_or (get same_text self.new.by_topic topic.now) fresh)) }
+        ensures ready { IfOk result (λ made. CanPut made topic.now self.new) }
     {
-        self.by_topic.reserve(1)?;
+        self.by_topic.reserve()?;
         match self.by_topic.get_mut(topic) {
             Some(offsets) => {
                 offsets.reserve(1)?;
-                Ok(IndexMap::new(alloc))
+                Ok(NewTopic::unnamed(alloc))
             }
-            None => IndexMap::with_capacity(alloc, 1),
+            None => NewTopic::with_room(alloc, topic),
         }
     }
 
-    /// Writes an offset in the room that is there; `fresh` are the offsets of a new topic.
-    pub(crate) fn put(&mut self, topic: Text, partition: u64, offset: u64, mut fresh: Offsets)
-        requires topics { 0 < spare self.old.by_topic }
-        requires offsets { 0 < spare (unwrap_or (get same_text self.old.by_topic topic) fresh) }
-        requires empty { IsEmpty fresh }
+    /// Writes an offset in the room that is there; no memory is taken.
+    pub(crate) fn put(&mut self, topic: &Text, partition: u64, offset: u64, made: NewTopic)
+        requires { CanPut made topic.now self.old }
         ensures { commits_in self.new
-            ≡ with_offset topic partition offset (commits_in self.old) }
+            ≡ with_offset topic.now partition offset (commits_in self.old) }
     {
-        match self.by_topic.get_mut(&topic) {
+        let NewTopic { name, mut offsets } = made;
+        match self.by_topic.get_mut(topic) {
             Some(offsets) => put_offset(offsets, partition, offset),
             None => {
-                put_offset(&mut fresh, partition, offset);
-                let _ = self.by_topic.insert(topic, fresh).unwrap();
+                put_offset(&mut offsets, partition, offset);
+                self.by_topic.insert(name.unwrap(), offsets);
             }
         }
     }
 
-    /// Takes away the offsets on a topic.
+    /// Takes away the offsets on a topic; no memory is taken.
     pub(crate) fn forget(&mut self, topic: &Text)
         ensures { commits_in self.new ≡ without_offsets topic.now (commits_in self.old) }
     {
-        let _ = self.by_topic.shift_remove(topic);
+        let _ = self.by_topic.remove(topic);
     }
 }
 

@@ -8,9 +8,10 @@ ghost use Rattle.kob_groups.specs.Groups.{without_offsets, without_topic};
 use crate::commit::{CommitFault, PreparedCommit};
 use crate::commits::Commits;
 use crate::limits::GROUP_LIMIT;
+use crate::lists::{GroupNames, GroupsByTopic};
 use crate::place::CommitPlace;
-use indexmap::IndexMap;
 use kob_names::{Items, PlainValue, Text};
+use kob_ordered::OrderedMap;
 use std::alloc::{AllocError, Global};
 use thiserror::Error;
 
@@ -20,11 +21,14 @@ use thiserror::Error;
 pub struct GroupNotFound;
 
 /// The groups in order of their first commit, and the offsets that they committed. A group stays
-/// when its last commit goes with a topic. Contracts see what is held (`groups_of`), and beside it
-/// the room that is there for a commit.
+/// when its last commit goes with a topic. Beside them stand the groups with commits on each topic,
+/// so that a topic's deletion visits those alone. Contracts see what is held (`groups_of`), and
+/// beside it the room that is there for a commit.
 #[derive(Drop)]
 pub struct Groups {
-    by_name: IndexMap<Text, Commits>,
+    by_name: OrderedMap<Commits>,
+    lists: GroupsByTopic,
+    ghost listed: { AreListed (groups_in by_name.entries) lists },
 }
 
 impl Groups {
@@ -35,7 +39,8 @@ impl Groups {
         ensures { groups_of result ≡ no_groups }
     {
         Groups {
-            by_name: IndexMap::new(alloc),
+            by_name: OrderedMap::new(alloc),
+            lists: GroupsByTopic::new(alloc),
         }
     }
 
@@ -79,8 +84,8 @@ impl Groups {
         }
     }
 
-    /// Makes room for a commit: for one more group, one more topic of the group and one more
-    /// offset on the topic.
+    /// Makes room for a commit: for one more group, one more topic of the group, one more offset on
+    /// the topic, and the group among those listed for the topic.
     fn prepare_at(
         &mut self,
         alloc: Global,
@@ -92,28 +97,22 @@ impl Groups {
         ensures offset { IfOk result (λ made. made.offset ≡ offset) }
         ensures ready { IfOk result (λ made. CanCommit made self.new) }
     {
-        self.by_name.reserve(1)?;
+        self.by_name.reserve()?;
+        let listing = self.lists.reserve(alloc, &place.topic, &place.group)?;
         match self.by_name.get_mut(&place.group) {
             Some(commits) => {
-                let offsets = commits.reserve(alloc, &place.topic)?;
+                let new_topic = commits.reserve(alloc, &place.topic)?;
                 let commits = Commits::new(alloc);
                 Ok(PreparedCommit {
                     place,
                     offset,
                     commits,
-                    offsets,
+                    new_topic,
+                    name: None,
+                    listing,
                 })
             }
-            None => {
-                let commits = Commits::with_room(alloc)?;
-                let offsets = IndexMap::with_capacity(alloc, 1)?;
-                Ok(PreparedCommit {
-                    place,
-                    offset,
-                    commits,
-                    offsets,
-                })
-            }
+            None => PreparedCommit::of_new_group(alloc, place, offset, listing),
         }
     }
 
@@ -126,18 +125,21 @@ impl Groups {
             place,
             offset,
             mut commits,
-            offsets,
+            new_topic,
+            name,
+            listing,
         } = made;
         let CommitPlace {
             group,
             topic,
             partition,
         } = place;
+        self.lists.put(listing);
         match self.by_name.get_mut(&group) {
-            Some(commits) => commits.put(topic, partition, offset, offsets),
+            Some(commits) => commits.put(&topic, partition, offset, new_topic),
             None => {
-                commits.put(topic, partition, offset, offsets);
-                let _ = self.by_name.insert(group, commits).unwrap();
+                commits.put(&topic, partition, offset, new_topic);
+                self.by_name.insert(name.unwrap(), commits);
             }
         }
     }
@@ -166,7 +168,7 @@ impl Groups {
         ensures { IfOk result (λ names. names ≡ group_names (groups_of self.now)) }
     {
         let mut names = Vec::new(alloc);
-        for name in self.by_name.keys() {
+        for (name, _) in self.by_name.iter() {
             names.push(name.copy(alloc)?)?;
         }
         Ok(Items::from_vec(names))
@@ -187,9 +189,10 @@ impl Groups {
         ensures absent { OnErr result (has_group name.now (groups_of self.old) ≡ false) }
         ensures kept { OnErr result (groups_of self.new ≡ groups_of self.old) }
     {
-        if self.by_name.shift_remove(name).is_none() {
+        let Some(commits) = self.by_name.remove(name) else {
             return Err(GroupNotFound);
-        }
+        };
+        leave_lists(&mut self.lists, &commits, name);
         Ok(())
     }
 
@@ -197,15 +200,37 @@ impl Groups {
     pub fn forget_topic(&mut self, topic: &Text)
         ensures { groups_of self.new ≡ without_topic topic.now (groups_of self.old) }
     {
-        self.by_name.retain(
-            |_name: &Text, commits: &mut Commits| -> bool
-                ensures { (result ≡ true)
-                    × (commits_in commits.new
-                    ≡ without_offsets topic.entry.now (commits_in commits.old)) }
-            {
-                commits.forget(topic);
-                true
-            },
-        );
+        let Some(names) = self.lists.take(topic) else {
+            return;
+        };
+        forget_at(&mut self.by_name, &names, topic);
+    }
+}
+
+ghost use Rattle.std.specs.Prelude.{not};
+ghost use Rattle.indexmap.specs.IndexSet.{contains};
+ghost use Rattle.kob_groups.specs.Listed.{AreListed, KeepsListed};
+ghost use Rattle.kob_groups.specs.Views.{groups_in, without_topic_at};
+ghost use Rattle.kob_names.specs.Same.{same_text};
+
+/// Takes away the commits on a topic of the groups of these names.
+fn forget_at(groups: &mut OrderedMap<Commits>, names: &GroupNames, topic: &Text)
+    ensures { groups_in groups.new.entries
+        ≡ without_topic_at (contains same_text names.now) topic.now
+        (groups_in groups.old.entries) }
+{
+    for name in names.as_slice() {
+        if let Some(commits) = groups.get_mut(name) {
+            commits.forget(topic);
+        }
+    }
+}
+
+/// Takes a group that went from the lists of the topics on which it has commits.
+fn leave_lists(lists: &mut GroupsByTopic, commits: &Commits, group: &Text)
+    ensures { KeepsListed (λ _ other. not (same_text group.now other)) lists.old lists.new }
+{
+    for (topic, _) in commits.by_topic.iter() {
+        lists.remove(topic, group);
     }
 }

@@ -5,6 +5,7 @@ mod commit;
 mod commits;
 mod groups;
 mod limits;
+mod lists;
 mod place;
 
 pub use commit::{CommitFault, PreparedCommit};

@@ -6,11 +6,6 @@ returns-in-ListOffsets-clause-ok c =
     made_for c.args.self.now _ c.args.event.now c.prepare_list_offsets.result c.in-ListOffsets.is
     c.prepare_list_offsets.ensures
 
-pub returns-in-DeleteRecords-clause-ok : goal.returns-in-DeleteRecords-clause-ok
-returns-in-DeleteRecords-clause-ok c =
-    made_for c.args.self.now _ c.args.event.now c.prepare_delete_records.result c.in-DeleteRecords.is
-    c.prepare_delete_records.ensures
-
 pub returns-in-InitProducerId-clause-ok : goal.returns-in-InitProducerId-clause-ok
 returns-in-InitProducerId-clause-ok c =
     made_for c.args.self.now _ c.args.event.now c.prepare_init_producer_id.result c.in-InitProducerId.is

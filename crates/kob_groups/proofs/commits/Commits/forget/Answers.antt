@@ -7,7 +7,7 @@ use Rattle.kob_groups.proofs.commits.Commits.forget.Goals as goal
 
 pub returns : goal.returns
 returns c =
-    let test = same_text c.args.topic.now in let entries = c.shift_remove.ensures.entries in
+    let test = same_text c.args.topic.now in let entries = c.remove.ensures.entries in
     ap (seen offsets_in) entries
     ∙ seen_removed offsets_in test c.args.self.now.by_topic.entries
-    (ap (lookup test) (sym entries) ∙ c.shift_remove.ensures.updates.1)
+    (ap (lookup test) (sym entries) ∙ c.remove.ensures.gone)

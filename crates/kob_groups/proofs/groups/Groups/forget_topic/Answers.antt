@@ -1,10 +1,37 @@
-use Rattle.std.proofs.Common.{rules}
-use Rattle.kob_groups.specs.Groups.{without_offsets}
-use Rattle.kob_groups.specs.Kept.{commits_in}
-use Rattle.kob_groups.proofs.Maps.{seen_retained}
+use Rattle.std.proofs.Common.{◌≡◌, false, ap, subst, sym, ◌∙◌}
+use Rattle.indexmap.specs.IndexSet.{contains}
+use Rattle.kob_names.specs.Same.{same_text}
+use Rattle.kob_groups.specs.Groups.{without_topic}
+use Rattle.kob_groups.specs.Kept.{groups_of}
+use Rattle.kob_groups.specs.Listed.{AreListed, is_among}
+use Rattle.kob_groups.specs.Views.{groups_in}
+use Rattle.kob_groups.proofs.Forgetting.{forgotten_all, forgotten_none}
+use Rattle.kob_groups.proofs.Listings.{listed_forgotten}
 use Rattle.kob_groups.proofs.groups.Groups.forget_topic.Goals as goal
+
+pub returns-in_default : goal.returns-in_default
+returns-in_default c =
+    let topic = c.args.topic.now in let groups = groups_of c.args.self.now in
+    sym (forgotten_none topic groups)
+    ∙ forgotten_all (λ name. false) topic groups (λ place group there has.
+    sym (ap (is_among group.0) c.in_default.is) ∙ c.take.ensures.names group.0
+    ∙ c.args.self.now.listed place group topic there has)
+
+pub invariant_of-self-2 : goal.invariant_of-self-2
+invariant_of-self-2 c =
+    let topic = c.args.topic.now in let groups = groups_of c.args.self.now in
+    let left : groups_in c.forget_at.new.groups.entries ≡ without_topic topic groups =
+    c.forget_at.ensures ∙ forgotten_all (contains same_text c.in-Some.names) topic groups (λ place group there has.
+    sym (ap (is_among group.0) c.in-Some.is) ∙ c.take.ensures.names group.0
+    ∙ c.args.self.now.listed place group topic there has) in record {
+      listed = subst (λ gs. AreListed gs c.take.new.self) (sym left)
+          (listed_forgotten groups c.args.self.now.lists c.take.new.self topic c.args.self.now.listed
+          c.take.ensures.kept);
+    }
 
 pub returns : goal.returns
 returns c =
-    seen_retained commits_in (without_offsets c.args.topic.now) _ _ (λ k v b w g call. search rules) _ _
-    c.retain.ensures.filtered
+    let topic = c.args.topic.now in let groups = groups_of c.args.self.now in
+    c.forget_at.ensures ∙ forgotten_all (contains same_text c.in-Some.names) topic groups (λ place group there has.
+    sym (ap (is_among group.0) c.in-Some.is) ∙ c.take.ensures.names group.0
+    ∙ c.args.self.now.listed place group topic there has)

@@ -9,7 +9,7 @@ returns-then-not-contains_key c =
     let entries = c.args.self.now.by_name.entries in
     let absent = sym c.if-not-contains_key.true ∙ c.contains_key.ensures
     ∙ sym (seen_has commits_in (same_text c.args.group.now) entries) in
-    ap (nat_le 10000) (c.len.ensures.len ∙ sym (seen_length commits_in entries))
+    ap (nat_le 10000) (c.len.ensures.count ∙ sym (seen_length commits_in entries))
     ∙ ap (λ there. not there && nat_le 10000 (length (seen commits_in entries))) absent
 
 pub returns-else-not-contains_key : goal.returns-else-not-contains_key

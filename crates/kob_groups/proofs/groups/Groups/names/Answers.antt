@@ -1,4 +1,5 @@
-use Rattle.std.proofs.Common.{[], append-nil, ap, sym, ◌++◌, ◌∙◌}
+use Rattle.std.proofs.Common.{append-nil, ap, sym, ◌++◌, ◌∙◌}
+use Rattle.std.specs.Map.{keys_of}
 use Rattle.kob_groups.specs.Kept.{commits_in}
 use Rattle.kob_groups.proofs.Maps.{seen_keys}
 use Rattle.kob_groups.proofs.groups.Groups.names.Goals as goal
@@ -7,5 +8,5 @@ pub returns : goal.returns
 returns c =
     let ended = rw c.in-None.is at c.next.ensures.steps in
     c.from_vec.ensures ∙ sym (append-nil c.loop-name.names.items)
-    ∙ ap (λ rest. c.loop-name.names.items ++ rest) (sym ended.0)
+    ∙ ap (λ rest. c.loop-name.names.items ++ keys_of rest) (sym ended.0)
     ∙ c.loop-name.invariant ∙ sym (seen_keys commits_in c.args.self.now.by_name.entries)

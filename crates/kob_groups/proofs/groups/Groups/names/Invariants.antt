@@ -3,4 +3,4 @@ use Rattle.std.specs.Map.{keys_of}
 use Rattle.kob_groups.proofs.groups.Groups.names.Given as goal
 
 abbrev pub invariant-loop-name : goal.invariant-loop-name
-invariant-loop-name l = l.names.items ++ l.name-iterator ≡ keys_of l.self.by_name.entries
+invariant-loop-name l = l.names.items ++ keys_of l.name-iterator ≡ keys_of l.self.by_name.entries

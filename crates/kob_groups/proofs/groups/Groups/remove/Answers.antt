@@ -1,23 +1,52 @@
-use Rattle.std.proofs.Common.{not, is_some, ap, sym, ◌∙◌}
+use Rattle.std.proofs.Common.{◌≡◌, ap, is_some, sym, subst, ◌∙◌}
 use Rattle.std.specs.Map.{lookup}
 use Rattle.kob_names.specs.Same.{same_text}
-use Rattle.kob_groups.specs.Kept.{commits_in}
-use Rattle.kob_groups.proofs.Maps.{seen, seen_has, seen_removed}
+use Rattle.kob_ordered.proofs.Changes.{removed_absent}
+use Rattle.kob_groups.specs.Groups.{without_group}
+use Rattle.kob_groups.specs.Kept.{groups_of}
+use Rattle.kob_groups.specs.Listed.{AreListed}
+use Rattle.kob_groups.specs.Views.{commits_in, groups_in}
+use Rattle.kob_groups.proofs.Listings.{listed_removed}
+use Rattle.kob_groups.proofs.Maps.{seen_has, seen_removed}
 use Rattle.kob_groups.proofs.groups.Groups.remove.Goals as goal
 
-pub returns-then-is_none-clause-absent : goal.returns-then-is_none-clause-absent
-returns-then-is_none-clause-absent c =
+pub invariant_of-self : goal.invariant_of-self
+invariant_of-self c =
+    let name = c.args.name.now in let entries = c.args.self.now.by_name.entries in
+    let same = c.remove.ensures.entries
+    ∙ removed_absent name entries (sym c.remove.ensures.value ∙ c.in_default.is) in record {
+      listed = subst (λ es. AreListed (groups_in es) c.args.self.now.lists) (sym same) c.args.self.now.listed;
+    }
+
+pub returns-in_default-clause-absent : goal.returns-in_default-clause-absent
+returns-in_default-clause-absent c =
     seen_has commits_in (same_text c.args.name.now) c.args.self.now.by_name.entries
-    ∙ ap is_some (sym c.shift_remove.ensures.value) ∙ c.is_none.ensures ∙ ap not c.if-is_none.true
+    ∙ ap is_some (sym c.remove.ensures.value ∙ c.in_default.is)
+
+pub returns-in_default-clause-kept : goal.returns-in_default-clause-kept
+returns-in_default-clause-kept c =
+    let name = c.args.name.now in let entries = c.args.self.now.by_name.entries in
+    ap groups_in (c.remove.ensures.entries
+    ∙ removed_absent name entries (sym c.remove.ensures.value ∙ c.in_default.is))
+
+pub invariant_of-self-2 : goal.invariant_of-self-2
+invariant_of-self-2 c =
+    let name = c.args.name.now in let entries = c.args.self.now.by_name.entries in
+    let left : groups_in c.remove.new.self.entries ≡ without_group name (groups_of c.args.self.now) =
+    ap groups_in c.remove.ensures.entries ∙ seen_removed commits_in (same_text name) entries
+    (ap (lookup (same_text name)) (sym c.remove.ensures.entries) ∙ c.remove.ensures.gone) in record {
+      listed = subst (λ gs. AreListed gs c.leave_lists.new.lists) (sym left)
+          (listed_removed (groups_of c.args.self.now) c.args.self.now.lists c.leave_lists.new.lists name
+          c.args.self.now.listed c.leave_lists.ensures);
+    }
 
 pub returns-clause-found : goal.returns-clause-found
 returns-clause-found c =
     seen_has commits_in (same_text c.args.name.now) c.args.self.now.by_name.entries
-    ∙ ap is_some (sym c.shift_remove.ensures.value) ∙ c.is_none.ensures ∙ ap not c.if-is_none.false
+    ∙ ap is_some (sym c.remove.ensures.value ∙ c.in-Some.is)
 
 pub returns-clause-removed : goal.returns-clause-removed
 returns-clause-removed c =
-    let test = same_text c.args.name.now in let entries = c.shift_remove.ensures.entries in
-    ap (seen commits_in) entries
-    ∙ seen_removed commits_in test c.args.self.now.by_name.entries
-    (ap (lookup test) (sym entries) ∙ c.shift_remove.ensures.updates.1)
+    let name = c.args.name.now in let entries = c.args.self.now.by_name.entries in
+    ap groups_in c.remove.ensures.entries ∙ seen_removed commits_in (same_text name) entries
+    (ap (lookup (same_text name)) (sym c.remove.ensures.entries) ∙ c.remove.ensures.gone)

@@ -1,0 +1,167 @@
+-- What is left when the commits on a topic go from the groups of some names.
+use Rattle.std.proofs.Common.{◌≡◌, ℕ, suc, Bool, true, false, cond, not, ◌||◌, List, [], ◌∷◌, ◌++◌, Some, None, is_some, length, get_or, slice_get, take, ◌+◌, ◌<◌, refl, sym, ap, subst, ◌∙◌}
+use Rattle.std.specs.Cmp.Lexicographic.{nat_list_eq_equiv}
+use Rattle.std.specs.List.{AllByRecursion, IsDistinct, list_any}
+use Rattle.std.specs.Map.{keys_of, lookup, set_value}
+use Rattle.std.proofs.lemmas.List.{take_more}
+use Rattle.std.proofs.lemmas.Map.Keys.{IsDistinct-head, IsDistinct-tail}
+use Rattle.kob_names.specs.Same.{same_text}
+use Rattle.kob_ordered.proofs.Places.{equal_names}
+use Rattle.kob_groups.specs.Groups.{Commits, Groups, without_offsets, without_topic}
+use Rattle.kob_groups.specs.Listed.{has_commits}
+use Rattle.kob_groups.specs.Views.{commits_in, groups_in, without_topic_at}
+use Rattle.kob_groups.specs.declared.commits.Commits.{Commits as CommitsKept}
+use Rattle.kob_groups.proofs.Listings.{Group}
+
+abbrev pub Entries : Type 0
+Entries = List (List ℕ × CommitsKept)
+
+-- commits of which none are on the topic
+absent_stay : (topic : List ℕ) (commits : Commits) → has_commits topic commits ≡ false
+    → without_offsets topic commits ≡ commits
+absent_stay topic [] none = refl
+absent_stay topic (on ∷ commits) none = by (same_text topic on.0) none (absent_stay topic commits)
+  where
+    by : (hit : Bool) → is_some (cond hit (Some on.1) (lookup (same_text topic) commits)) ≡ false
+        → (has_commits topic commits ≡ false → without_offsets topic commits ≡ commits)
+        → cond (not hit) (on ∷ without_offsets topic commits) (without_offsets topic commits) ≡ on ∷ commits
+    by true none rest = cc
+    by false none rest = ap (λ cs. on ∷ cs) (rest none)
+
+gone_stay : (topic : List ℕ) (commits : Commits)
+    → without_offsets topic (without_offsets topic commits) ≡ without_offsets topic commits
+gone_stay topic [] = refl
+gone_stay topic (on ∷ commits) = by (same_text topic on.0) refl (gone_stay topic commits)
+  where
+    left : Commits
+    left = without_offsets topic commits
+
+    by : (hit : Bool) → same_text topic on.0 ≡ hit → without_offsets topic left ≡ left
+        → without_offsets topic (cond (not hit) (on ∷ left) left) ≡ cond (not hit) (on ∷ left) left
+    by true is rest = rest
+    by false is rest = ap (λ b. cond (not b) (on ∷ without_offsets topic left) (without_offsets topic left)) is
+        ∙ ap (λ cs. on ∷ cs) rest
+
+-- first from some groups, and then from others
+pub forgotten_twice : (first second : List ℕ → Bool) (topic : List ℕ) (groups : Groups)
+    → without_topic_at second topic (without_topic_at first topic groups)
+    ≡ without_topic_at (λ name. first name || second name) topic groups
+forgotten_twice first second topic [] = refl
+forgotten_twice first second topic (group ∷ groups) =
+    λ i. (group.0, by (first group.0) (second group.0) i) ∷ forgotten_twice first second topic groups i
+  where
+    left : Commits
+    left = without_offsets topic group.1
+
+    by : (a b : Bool)
+        → cond b (without_offsets topic (cond a left group.1)) (cond a left group.1) ≡ cond (a || b) left group.1
+    by true true = gone_stay topic group.1
+    by true false = refl
+    by false true = refl
+    by false false = refl
+
+-- one more name of a list
+list_any_append : {X : Type 0} (test : X → Bool) (xs ys : List X)
+    → list_any test (xs ++ ys) ≡ (list_any test xs || list_any test ys)
+list_any_append test [] ys = refl
+list_any_append test (x ∷ xs) ys = by (test x) (list_any_append test xs ys)
+  where
+    by : (hit : Bool) → list_any test (xs ++ ys) ≡ (list_any test xs || list_any test ys)
+        → (hit || list_any test (xs ++ ys)) ≡ ((hit || list_any test xs) || list_any test ys)
+    by true rest = refl
+    by false rest = rest
+
+pub forgotten_more : (names : List (List ℕ)) (i : ℕ) (name topic : List ℕ) (groups : Groups) → i < length names
+    → get_or names i name ≡ name
+    → without_topic_at (same_text name) topic
+    (without_topic_at (λ other. list_any (same_text other) (take i names)) topic groups)
+    ≡ without_topic_at (λ other. list_any (same_text other) (take (i + 1) names)) topic groups
+forgotten_more names i name topic groups lt here =
+    forgotten_twice (λ other. list_any (same_text other) (take i names)) (same_text name) topic groups
+    ∙ (λ j. without_topic_at (λ other. one other j) topic groups)
+  where
+    last : (a b : Bool) → (a || b) ≡ (a || (b || false))
+    last true b = refl
+    last false true = refl
+    last false false = refl
+
+    one : (other : List ℕ) → (list_any (same_text other) (take i names) || same_text name other)
+        ≡ list_any (same_text other) (take (i + 1) names)
+    one other =
+        ap (λ b. list_any (same_text other) (take i names) || b) (nat_list_eq_equiv.symm name other)
+        ∙ last (list_any (same_text other) (take i names)) (same_text other name)
+        ∙ sym (ap (list_any (same_text other)) (take_more names i name lt ∙ ap (λ n. take i names ++ n ∷ []) here)
+        ∙ list_any_append (same_text other) (take i names) (name ∷ []))
+
+pub forgotten_none : (topic : List ℕ) (groups : Groups) → without_topic_at (λ other. false) topic groups ≡ groups
+forgotten_none topic [] = refl
+forgotten_none topic (group ∷ groups) = ap (λ gs. group ∷ gs) (forgotten_none topic groups)
+
+none_pass : (name topic : List ℕ) (entries : Entries)
+    → AllByRecursion (λ key. same_text name key ≡ false) (keys_of entries)
+    → without_topic_at (same_text name) topic (groups_in entries) ≡ groups_in entries
+none_pass name topic [] none = refl
+none_pass name topic (e ∷ entries) none =
+    λ i. (e.0, cond (none.0 i) (without_offsets topic (commits_in e.1)) (commits_in e.1))
+    ∷ none_pass name topic entries none.1 i
+
+-- a name that is not there
+pub forgotten_absent : (name topic : List ℕ) (entries : Entries) → lookup (same_text name) entries ≡ None
+    → without_topic_at (same_text name) topic (groups_in entries) ≡ groups_in entries
+forgotten_absent name topic [] none = refl
+forgotten_absent name topic (e ∷ entries) none = by (same_text name e.0) none (forgotten_absent name topic entries)
+  where
+    rest : Groups
+    rest = without_topic_at (same_text name) topic (groups_in entries)
+
+    by : (hit : Bool) → cond hit (Some e.1) (lookup (same_text name) entries) ≡ None
+        → (lookup (same_text name) entries ≡ None → rest ≡ groups_in entries)
+        → (e.0, cond hit (without_offsets topic (commits_in e.1)) (commits_in e.1)) ∷ rest ≡ groups_in (e ∷ entries)
+    by true none later = cc
+    by false none later = ap (λ gs. (e.0, commits_in e.1) ∷ gs) (later none)
+
+-- a name that is there, whose commits on the topic went
+pub forgotten_written : (name topic : List ℕ) (entries : Entries) (old final : CommitsKept)
+    → IsDistinct same_text (keys_of entries) → lookup (same_text name) entries ≡ Some old
+    → commits_in final ≡ without_offsets topic (commits_in old)
+    → groups_in (set_value (same_text name) entries final) ≡ without_topic_at (same_text name) topic (groups_in entries)
+forgotten_written name topic [] old final distinct found changed = cc
+forgotten_written name topic (e ∷ entries) old final distinct found changed =
+    by (same_text name e.0) refl found (forgotten_written name topic entries old final
+    (IsDistinct-tail same_text e.0 (keys_of entries) distinct))
+  where
+    rest : Groups
+    rest = without_topic_at (same_text name) topic (groups_in entries)
+
+    apart : (n : List ℕ) → e.0 ≡ n → AllByRecursion (λ key. same_text n key ≡ false) (keys_of entries)
+    apart n is =
+        subst (λ m. AllByRecursion (λ key. same_text m key ≡ false) (keys_of entries)) is
+        (IsDistinct-head same_text e.0 (keys_of entries) distinct)
+
+    by : (hit : Bool) → same_text name e.0 ≡ hit → cond hit (Some e.1) (lookup (same_text name) entries) ≡ Some old
+        → (lookup (same_text name) entries ≡ Some old → commits_in final ≡ without_offsets topic (commits_in old)
+        → groups_in (set_value (same_text name) entries final) ≡ rest)
+        → groups_in (cond hit ((e.0, final) ∷ entries) (e ∷ set_value (same_text name) entries final))
+        ≡ (e.0, cond hit (without_offsets topic (commits_in e.1)) (commits_in e.1)) ∷ rest
+    by true is here later =
+        let same : old ≡ e.1 = cc in
+        ap (λ cs. (e.0, cs) ∷ groups_in entries) (changed ∙ ap (λ c. without_offsets topic (commits_in c)) same)
+        ∙ ap (λ gs. (e.0, without_offsets topic (commits_in e.1)) ∷ gs)
+        (sym (none_pass name topic entries (apart name (sym (equal_names name e.0 is)))))
+    by false is here later = ap (λ gs. (e.0, commits_in e.1) ∷ gs) (later here changed)
+
+-- where all groups with commits on the topic pass
+pub forgotten_all : (passes : List ℕ → Bool) (topic : List ℕ) (groups : Groups)
+    → ((place : ℕ) (group : Group) → slice_get groups place ≡ Some group → has_commits topic group.1 ≡ true
+    → passes group.0 ≡ true)
+    → without_topic_at passes topic groups ≡ without_topic topic groups
+forgotten_all passes topic [] all = refl
+forgotten_all passes topic (group ∷ groups) all =
+    λ i. (group.0, by (passes group.0) refl (has_commits topic group.1) refl i)
+    ∷ forgotten_all passes topic groups (λ place. all (suc place)) i
+  where
+    by : (hit : Bool) → passes group.0 ≡ hit → (some : Bool) → has_commits topic group.1 ≡ some
+        → cond hit (without_offsets topic group.1) group.1 ≡ without_offsets topic group.1
+    by true is some has = refl
+    by false is false has = sym (absent_stay topic group.1 has)
+    by false is true has = let passed = all 0 group refl has in cc
