@@ -1,8 +1,13 @@
 pub mod AclFaults
+pub mod AskedLines
+pub mod BlockLines
+pub mod CheckedLines
 pub mod Choices
 pub mod Cuts
 pub mod Each
 pub mod Escapes
+pub mod FilterFaults
+pub mod LeftRequests
 pub mod Lines
 pub mod Numbers
 pub mod PlainScripts

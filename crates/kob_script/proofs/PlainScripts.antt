@@ -10,10 +10,9 @@ use Rattle.kob_script.specs.declared.fault.Fault as fault
 use Rattle.kob_script.specs.declared.fault.ScriptError.{ScriptError}
 use Rattle.kob_script.specs.declared.fault.ScriptError.TheVariants.{Memory, Fault}
 use Rattle.kob_script.specs.declared.script.Script.{Script}
-use Rattle.kob_script.specs.Growing.{Reads}
 use Rattle.kob_script.specs.Reading.{◌>>=◌}
 use Rattle.kob_script.specs.Script.{at_line, empty_script, lines_from, lines_in, script_of, then_lines, with_line, with_words}
-use Rattle.kob_script.specs.ScriptReadings.{HasNoAclLine, is_plain, LinesFrom, MayRead, ReadsAs, ThenLines}
+use Rattle.kob_script.specs.ScriptReadings.{HasNoAclLine, is_plain, LinesFrom, MayRead, Reads, ReadsAs, ThenLines}
 use Rattle.kob_script.specs.Settings.{is_setting}
 use Rattle.kob_script.specs.Word.{Word}
 use Rattle.kob_script.specs.Words.{words_of}

@@ -2,6 +2,8 @@ pub mod Acl
 pub mod AclLines
 pub mod Askers
 pub mod Batches
+pub mod Blocks
+pub mod Checks
 pub mod ClapAnswer
 pub mod Command
 pub mod CommandLines
@@ -9,7 +11,6 @@ pub mod Drafts
 pub mod Escapes
 pub mod Filters
 pub mod GroupLines
-pub mod Growing
 pub mod Keywords
 pub mod Numbers
 pub mod PartitionLines
@@ -17,6 +18,7 @@ pub mod PrintedBody
 pub mod PrintedFault
 pub mod PrintedReply
 pub mod Reading
+pub mod Requests
 pub mod Script
 pub mod ScriptReadings
 pub mod Settings

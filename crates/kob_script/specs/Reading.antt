@@ -33,12 +33,6 @@ abbrev pub with_front : {A : Type 0} → List A → Result (List A) FaultKind
     → Result (List A) FaultKind
 with_front front read = read >>= λ others. Ok (front ++ others)
 
--- What a function put behind a list is what reading gives, unless memory ran out.
-abbrev pub GivesBehind : {A : Type 0} → List A → List A → Result (Unit {0}) LineError
-    → Result (List A) FaultKind → Type 0
-GivesBehind old new (Ok done) read = with_front old read ≡ Ok new
-GivesBehind old new (Err error) read = Fails error read
-
 -- each in turn, up to the first fault
 unfoldable pub each : {A B : Type 0} → (A → Result B FaultKind) → List A → Result (List B) FaultKind
 each read [] = Ok []

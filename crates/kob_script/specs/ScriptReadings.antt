@@ -5,13 +5,9 @@ use Rattle.kob_acl_cli.specs.declared.args.CliArgs.{CliArgs}
 use Rattle.kob_script.specs.ClapAnswer.{after_acl, IsAnswerTo}
 use Rattle.kob_script.specs.declared.fault.FaultKind.{FaultKind}
 use Rattle.kob_script.specs.declared.fault.Fault.{Fault}
-use Rattle.kob_script.specs.declared.fault.LineError.{LineError}
-use Rattle.kob_script.specs.declared.fault.LineError.TheVariants as line_error
 use Rattle.kob_script.specs.declared.fault.ScriptError.{ScriptError}
 use Rattle.kob_script.specs.declared.fault.ScriptError.TheVariants as script_error
-use Rattle.kob_script.specs.declared.script.Growing.{Growing}
 use Rattle.kob_script.specs.declared.script.Script.{Script}
-use Rattle.kob_script.specs.Growing.{grown}
 use Rattle.kob_script.specs.Script.{with_line, lines_in, empty_script}
 use Rattle.kob_script.specs.Word.{Word}
 use Rattle.kob_script.specs.Words.{words_of}
@@ -53,15 +49,14 @@ is_plain (Err kind) = true
 abbrev pub HasNoAclLine : List ℕ → Type 0
 HasNoAclLine text = list_all (λ line. is_plain (words_of line)) (lines_in text) ≡ true
 
--- A line was read as it may be, unless memory ran out.
-abbrev pub MayGiveNext : (Result Script FaultKind → Type 0) → Growing → Result (Unit {0}) LineError
-    → Type 0
-MayGiveNext MayBe growing (Ok done) = MayBe (Ok (grown growing))
-MayGiveNext MayBe growing (Err line_error.Memory) = Unit {0}
-MayGiveNext MayBe growing (Err (line_error.Fault kind)) = MayBe (Err kind)
-
 -- A script was read as its bytes may be, unless memory ran out.
 abbrev pub MayRead : List ℕ → Result Script ScriptError → Type 0
 MayRead text (Ok script) = ReadsAs text (Ok script)
 MayRead text (Err script_error.Memory) = Unit {0}
 MayRead text (Err (script_error.Fault fault)) = ReadsAs text (Err fault)
+
+-- What was read is what the bytes write, unless memory ran out.
+abbrev pub Reads : Result Script ScriptError → Result Script Fault → Type 0
+Reads (Ok script) read = read ≡ Ok script
+Reads (Err script_error.Memory) read = Unit {0}
+Reads (Err (script_error.Fault fault)) read = read ≡ Err fault

@@ -3,6 +3,7 @@
 ghost use Rattle.std.specs.Prelude.{◌≡◌, map, IfOk};
 ghost use Rattle.std.specs.Option.{option_map};
 ghost use Rattle.kob_script.specs.ClapAnswer.{after_acl, IsAnswerTo, MayAnswer};
+ghost use Rattle.kob_script.specs.Requests.{asks_clap};
 
 use crate::fault::LineError;
 use crate::setting::is_setting;
@@ -46,6 +47,13 @@ fn borrowed(alloc: Global, texts: &[Text]) -> Result<Vec<&str>, AllocError>
         words.push(text.as_str())?;
     }
     Ok(words)
+}
+
+/// Whether `clap` is asked about a line's words.
+pub fn asks_clap(words: &[Word<'_>]) -> bool
+    ensures { result ≡ asks_clap words.now }
+{
+    after_acl(words).is_some()
 }
 
 // The words after `acl`, where a line that is no setting asks by it.

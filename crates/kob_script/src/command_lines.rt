@@ -1,7 +1,7 @@
 //! Which line each command has, and the events of a line.
 
 ghost use Rattle.kob_script.specs.CommandLines.{command_line, events_named, events_of, line_named};
-ghost use Rattle.kob_script.specs.Reading.{Gives, GivesBehind};
+ghost use Rattle.kob_script.specs.Reading.{Gives, GivesSeen};
 
 use crate::acl::acl_line;
 use crate::acl_lines::{create_acl_line, delete_acls_line, describe_acls_line};
@@ -60,42 +60,38 @@ fn line_named(
     }
 }
 
-fn put_events_named(
+fn events_named(
     alloc: Global,
     name: &[u8],
     asker: &AskerWords<'_, '_>,
     words: &[Word<'_>],
     answer: &Option<CliArgs>,
-    events: &mut Vec<Event>,
-) -> Result<(), LineError>
-    ensures { GivesBehind events.old.items events.new.items result
+) -> Result<Vec<Event>, LineError>
+    ensures { GivesSeen (λ events. events.items) result
         (events_named answer.now name.now asker.now words.now) }
 {
     if name == b"acl".as_slice() {
-        let mut asked = acl_line(alloc, asker, words, answer)?;
-        events.append(&mut asked)?;
-        return Ok(());
+        return acl_line(alloc, asker, words, answer);
     }
     let event = line_named(alloc, name, asker, words)?;
+    let mut events = Vec::with_capacity(alloc, 1)?;
     events.push(event)?;
-    Ok(())
+    Ok(events)
 }
 
-/// Puts the events of a line's words behind others, by `clap`'s answer to those of `acl`.
+/// The events of a line's words, in order, by `clap`'s answer to those of `acl`.
 #[tactic(auto, unfolding(crate::specs::CommandLines::events_of))]
-pub fn put_events_of(
+pub fn events_of(
     alloc: Global,
     words: &[Word<'_>],
     answer: &Option<CliArgs>,
-    events: &mut Vec<Event>,
-) -> Result<(), LineError>
-    ensures { GivesBehind events.old.items events.new.items result
-        (events_of answer.now words.now) }
+) -> Result<Vec<Event>, LineError>
+    ensures { GivesSeen (λ events. events.items) result (events_of answer.now words.now) }
 {
     match words {
         [principal, host, command, arguments @ ..] => {
             let asker = AskerWords { principal, host };
-            put_events_named(alloc, command.decoded(), &asker, arguments, answer, events)
+            events_named(alloc, command.decoded(), &asker, arguments, answer)
         }
         _ => Err(LineError::Fault(FaultKind::BadLine)),
     }

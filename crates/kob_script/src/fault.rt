@@ -84,3 +84,14 @@ impl<T: Drop> From<AllocFailed<T>> for LineError {
         LineError::Memory
     }
 }
+
+impl From<AllocError> for ScriptError {
+    ghost use Rattle.std.specs.Prelude.{◌≡◌};
+    ghost use Rattle.kob_script.specs.declared.fault.ScriptError.TheVariants.{Memory};
+
+    ghost from_gives = { λ _ error. error ≡ Memory };
+
+    fn from(_error: AllocError) -> ScriptError {
+        ScriptError::Memory
+    }
+}

@@ -1,5 +1,7 @@
+pub mod InputLines
 pub mod Interrupted
 pub mod Outputs
 pub mod Parts
 pub mod PrintedReplies
+pub mod ReadBytes
 pub mod RunTexts

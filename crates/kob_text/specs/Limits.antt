@@ -12,3 +12,7 @@ read_limit = 20000000
 -- the most bytes of printed replies that are held
 abbrev pub piece_limit : ℕ
 piece_limit = 65536
+
+-- the room for bytes of the script with which a block is begun
+abbrev pub block_size : ℕ
+block_size = 65536

@@ -2,6 +2,7 @@
 #![tactic(auto)]
 
 mod fault;
+mod input;
 mod limits;
 mod output;
 mod pieces;

@@ -15,3 +15,8 @@ const _: () = prove!(READ_LIMIT == 20_000_000);
 pub const PIECE_LIMIT: usize = 65_536;
 
 const _: () = prove!(PIECE_LIMIT == 65_536);
+
+/// The room for bytes of the script with which a block of them is begun.
+pub const BLOCK_SIZE: usize = 65_536;
+
+const _: () = prove!(BLOCK_SIZE == 65_536);

@@ -1,9 +1,12 @@
 //! What a run writes for a script.
 
-ghost use Rattle.std.specs.Prelude.{◌≡◌, Err, true, IfOk, IsErrOf};
+ghost use Rattle.std.specs.List.{concat};
+ghost use Rattle.std.specs.Prelude.{◌≡◌, ◌≤◌, Err, length, true, IfOk, IsErrOf};
 ghost use Rattle.std.specs.Io.KnownBytes.{Keeps};
+ghost use Rattle.kob_text.specs.Limits.{script_limit};
 ghost use Rattle.kob_text.specs.Output.{HasOutput, HasReading, Writes};
 ghost use Rattle.kob_text.specs.Transfer.{AppendsPart};
+ghost use Rattle.kob_script.specs.Blocks.{AreWholeLines};
 ghost use Rattle.kob_script.specs.Script.{script_of};
 ghost use Rattle.kob_script.specs.ScriptReadings.{HasNoAclLine};
 
@@ -11,7 +14,8 @@ use crate::fault::RunFault;
 use crate::replies::write_run;
 use crate::sink::Sink;
 use crate::transfer::write_all;
-use kob_script::{Fault, ScriptError, print_fault, read_script};
+use kob_names::Bytes;
+use kob_script::{Fault, ScriptError, check_script, print_fault};
 use std::alloc::Global;
 use std::io::Write;
 
@@ -26,24 +30,26 @@ pub enum Ended {
     Stopped,
 }
 
-/// Runs a script and writes its output. The error is `WriteFailed`, or `Memory` before the first
+/// Runs a script in blocks of whole lines and writes its output. The error is `WriteFailed`, or `Memory` before the first
 /// request.
 pub fn write_output<W: Write>(
     alloc: Global,
     sink: &mut Sink<'_, W>,
-    script: &[u8],
+    blocks: Vec<Bytes>,
 ) -> Result<Ended, RunFault>
+    requires whole { AreWholeLines blocks.items }
+    requires short { length (concat blocks.items) ≤ script_limit }
     ensures same_reference { sink.new.writer.ghost_name ≡ sink.old.writer.ghost_name }
-    ensures any { IfOk result (λ ended. HasReading script.now (λ read. Writes read ended
+    ensures any { IfOk result (λ ended. HasReading (concat blocks.items) (λ read. Writes read ended
         (W.contents sink.old.writer.now) (W.contents sink.new.writer.now))) }
-    ensures plain { IfOk result (λ ended. HasNoAclLine script.now
-        → Writes (script_of script.now) ended
+    ensures plain { IfOk result (λ ended. HasNoAclLine (concat blocks.items)
+        → Writes (script_of (concat blocks.items)) ended
         (W.contents sink.old.writer.now) (W.contents sink.new.writer.now)) }
     ensures part_any { IsErrOf result RunFault.WriteFailed
-        → HasReading script.now (λ read. HasOutput read
+        → HasReading (concat blocks.items) (λ read. HasOutput read
         (AppendsPart (W.contents sink.old.writer.now) (W.contents sink.new.writer.now))) }
-    ensures part { IsErrOf result RunFault.WriteFailed → HasNoAclLine script.now
-        → HasOutput (script_of script.now)
+    ensures part { IsErrOf result RunFault.WriteFailed → HasNoAclLine (concat blocks.items)
+        → HasOutput (script_of (concat blocks.items))
         (AppendsPart (W.contents sink.old.writer.now) (W.contents sink.new.writer.now)) }
     ensures memory { IsErrOf result RunFault.Memory
         → Keeps (W.contents sink.old.writer.now) (W.contents sink.new.writer.now) }
@@ -51,7 +57,7 @@ pub fn write_output<W: Write>(
     ensures not_read { IsErrOf result RunFault.ReadFailed → ⊥ }
     ensures not_too_long { IsErrOf result RunFault.TooLong → ⊥ }
 {
-    match read_script(alloc, script) {
+    match check_script(alloc, blocks) {
         Ok(script) => write_run(alloc, sink, script),
         Err(ScriptError::Memory) => Err(RunFault::Memory),
         Err(ScriptError::Fault(fault)) => write_fault(alloc, sink, fault),

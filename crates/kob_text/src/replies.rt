@@ -1,12 +1,14 @@
 //! The replies to a script, served, printed and written one after another.
 
-ghost use Rattle.std.specs.Prelude.{◌≡◌, ◌≤◌, List, [], Ok, true, vec_len, vec_capacity};
+ghost use Rattle.std.specs.Prelude.{◌≡◌, ◌<◌, ◌≤◌, List, [], ◌∷◌, Ok, length, true};
+ghost use Rattle.std.specs.Prelude.{vec_len, vec_capacity};
 ghost use Rattle.std.specs.Prelude.{IfOk, IfErr, OnOk, OnErr, IsErrOf};
 ghost use Rattle.std.specs.Io.KnownBytes.{Keeps};
 ghost use Rattle.kob_broker.specs.Change.{state_of};
 ghost use Rattle.kob_broker.specs.Step.{step, replies_of};
 ghost use Rattle.kob_partition.specs.Retained.{retained_meaning};
 ghost use Rattle.kob_rights.specs.declared.event.Event as event;
+ghost use Rattle.kob_script.specs.Checks.{checked};
 ghost use Rattle.kob_script.specs.PrintedReply.{reply_text};
 ghost use Rattle.kob_text.specs.Limits.{piece_limit};
 ghost use Rattle.kob_text.specs.Output.{HasOutput, Writes, replies_to};
@@ -22,7 +24,7 @@ use crate::transfer::write_all;
 use kob_broker::{Broker, OpenFault};
 use kob_names::Settings;
 use kob_rights::Event;
-use kob_script::{Script, print_reply};
+use kob_script::{CheckedScript, Requests, print_reply};
 use std::alloc::{AllocError, Global};
 use std::io::Write;
 
@@ -57,36 +59,54 @@ fn print_reply_to(
     print_reply(out, number, &reply)
 }
 
+// Serves the next request, and prints its reply behind its number in place of what `out` held.
+fn print_next(
+    alloc: Global,
+    broker: &mut Broker,
+    requests: &mut Requests,
+    number: u64,
+    out: &mut Vec<u8>,
+) -> Result<(), AllocError>
+    requires { 0 < length requests.old }
+    ensures { OnOk result ((event : event.Event) × (requests.old ≡ event ∷ requests.new)
+        × (out.new.items
+        ≡ reply_text number (step retained_meaning (state_of broker.old) event).reply)
+        × (state_of broker.new
+        ≡ (step retained_meaning (state_of broker.old) event).state)) }
+{
+    let event = requests.next_event(alloc)?;
+    print_reply_to(alloc, broker, event, number, out)
+}
+
 /// Serves requests and writes the replies as they are made, at most 65,536 bytes or one reply at a
-/// time. Each event is given away to the broker, and what the broker doesn't keep of it is freed
-/// before the next. Want of memory ends the run as `Stopped`. The fault is `WriteFailed`.
+/// time. Each event is read when it is its turn and given away to the broker, and what the broker
+/// doesn't keep of it is freed before the next. Want of memory ends the run as `Stopped`. The fault
+/// is `WriteFailed`.
 fn write_replies<W: Write>(
     alloc: Global,
     sink: &mut Sink<'_, W>,
     held: &mut Vec<u8>,
     broker: &mut Broker,
-    events: Vec<Event>,
+    mut requests: Requests,
 ) -> Result<Ended, RunFault>
     requires none { held.old.items ≡ [] }
     requires piece { vec_len held.old ≤ piece_limit }
     requires room { piece_limit ≤ vec_capacity held.old }
     ensures same_reference { sink.new.writer.ghost_name ≡ sink.old.writer.ghost_name }
     ensures output { IfOk result (λ ended. WritesRun (replies_from (state_of broker.old))
-        events.items ended (W.contents sink.old.writer.now) (W.contents sink.new.writer.now)) }
-    ensures part { OnErr result (WritesPartOfRun (replies_from (state_of broker.old)) events.items
+        requests ended (W.contents sink.old.writer.now) (W.contents sink.new.writer.now)) }
+    ensures part { OnErr result (WritesPartOfRun (replies_from (state_of broker.old)) requests
         (W.contents sink.old.writer.now) (W.contents sink.new.writer.now)) }
     ensures failed { OnErr result (sink.new.failed ≡ true) }
     ensures fault { IfErr result (λ fault. fault ≡ RunFault.WriteFailed) }
 {
     let mut text = Vec::new(alloc);
-    let mut done: u64 = 0;
-    for event in events {
-        if print_reply_to(alloc, broker, event, done + 1, &mut text).is_err() {
+    for done in 0..requests.len() {
+        if print_next(alloc, broker, &mut requests, done + 1, &mut text).is_err() {
             write_stopped(sink, held, done)?;
             return Ok(Ended::Stopped);
         }
         put(sink, held, &text)?;
-        done += 1;
     }
     write_all(sink, held)?;
     Ok(Ended::Clean)
@@ -96,12 +116,12 @@ fn write_replies<W: Write>(
 pub fn write_run<W: Write>(
     alloc: Global,
     sink: &mut Sink<'_, W>,
-    script: Script,
+    script: CheckedScript,
 ) -> Result<Ended, RunFault>
     ensures same_reference { sink.new.writer.ghost_name ≡ sink.old.writer.ghost_name }
-    ensures output { IfOk result (λ ended. Writes (Ok script) ended
+    ensures output { IfOk result (λ ended. Writes (Ok (checked script)) ended
         (W.contents sink.old.writer.now) (W.contents sink.new.writer.now)) }
-    ensures part { IsErrOf result RunFault.WriteFailed → HasOutput (Ok script)
+    ensures part { IsErrOf result RunFault.WriteFailed → HasOutput (Ok (checked script))
         (AppendsPart (W.contents sink.old.writer.now) (W.contents sink.new.writer.now)) }
     ensures memory { IsErrOf result RunFault.Memory
         → Keeps (W.contents sink.old.writer.now) (W.contents sink.new.writer.now) }
@@ -109,8 +129,8 @@ pub fn write_run<W: Write>(
     ensures not_read { IsErrOf result RunFault.ReadFailed → ⊥ }
     ensures not_too_long { IsErrOf result RunFault.TooLong → ⊥ }
 {
-    let Script { settings, events } = script;
+    let CheckedScript { settings, requests } = script;
     let mut broker = broker_by(alloc, settings)?;
     let mut held = Vec::with_capacity(alloc, PIECE_LIMIT)?;
-    write_replies(alloc, sink, &mut held, &mut broker, events.into_vec())
+    write_replies(alloc, sink, &mut held, &mut broker, requests)
 }

@@ -56,6 +56,6 @@ pub fn run_text<R: Read, W: Write>(
     ensures write_failed_only_within_limit { IsErrOf result RunFault.WriteFailed
         → IfSome (R.remaining reader.old) (λ input. length input ≤ script_limit) }
 {
-    let text = read_all(alloc, &mut Source::new(reader))?;
-    write_output(alloc, &mut Sink::new(writer), &text)
+    let blocks = read_all(alloc, &mut Source::new(reader))?;
+    write_output(alloc, &mut Sink::new(writer), blocks)
 }

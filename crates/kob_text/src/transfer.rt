@@ -1,24 +1,29 @@
 //! Reading a whole script and writing a whole output.
 
-ghost use Rattle.std.specs.Prelude.{◌≡◌, ◌⊎◌, ◌<◌, ◌≤◌, true, length, vec_len};
+ghost use Rattle.std.specs.List.{concat};
+ghost use Rattle.std.specs.Prelude.{◌≡◌, ◌⊎◌, ◌<◌, ◌≤◌, true, length};
 ghost use Rattle.std.specs.Prelude.{IfOk, IfErr, IfSome, OnOk, OnErr, IsErrOf};
 ghost use Rattle.std.specs.Io.KnownBytes.{Appends};
+ghost use Rattle.kob_script.specs.Blocks.{AreWholeLines};
 ghost use Rattle.kob_text.specs.Limits.{script_limit};
 ghost use Rattle.kob_text.specs.Transfer.{AppendsPart};
 
 use crate::fault::RunFault;
+use crate::input::Input;
 use crate::limits::SCRIPT_LIMIT;
 use crate::sink::Sink;
 use crate::source::Source;
+use kob_names::Bytes;
 use std::alloc::Global;
 use std::io::{Read, Write};
 
-/// All that the reader has left, at most 16,777,216 bytes of it. The error is `ReadFailed`,
-/// `TooLong` or `Memory`.
-pub fn read_all<R: Read>(alloc: Global, source: &mut Source<'_, R>) -> Result<Vec<u8>, RunFault>
-    ensures whole { IfOk result (λ text. IfSome (R.remaining source.old.reader.now)
-        (λ bytes. text.items ≡ bytes)) }
-    ensures limited { IfOk result (λ text. vec_len text ≤ script_limit) }
+/// All that the reader has left, at most 16,777,216 bytes of it, in blocks of whole lines. The error
+/// is `ReadFailed`, `TooLong` or `Memory`.
+pub fn read_all<R: Read>(alloc: Global, source: &mut Source<'_, R>) -> Result<Vec<Bytes>, RunFault>
+    ensures whole { IfOk result (λ blocks. IfSome (R.remaining source.old.reader.now)
+        (λ bytes. concat blocks.items ≡ bytes)) }
+    ensures lines { IfOk result (λ blocks. AreWholeLines blocks.items) }
+    ensures limited { IfOk result (λ blocks. length (concat blocks.items) ≤ script_limit) }
     ensures sound { OnOk result (source.new.failed ≡ source.old.failed) }
     ensures failed { IsErrOf result RunFault.ReadFailed
         → (source.new.calls_left ≡ 0) ⊎ (source.new.failed ≡ true) }
@@ -26,17 +31,19 @@ pub fn read_all<R: Read>(alloc: Global, source: &mut Source<'_, R>) -> Result<Ve
         → IfSome (R.remaining source.old.reader.now) (λ bytes. script_limit < length bytes) }
     ensures not_write { IsErrOf result RunFault.WriteFailed → ⊥ }
 {
-    let mut text = Vec::new(alloc);
+    let mut input = Input::new(alloc)?;
+    let mut left = SCRIPT_LIMIT;
     let mut piece = [0; 4096];
     loop {
         let count = source.read(&mut piece)?;
         if count == 0 {
-            return Ok(text);
+            return Ok(input.into_blocks()?);
         }
-        if SCRIPT_LIMIT - text.len() < count {
+        if left < count {
             return Err(RunFault::TooLong);
         }
-        text.extend_from_slice(&piece[..count])?;
+        left -= count;
+        input.push(alloc, &piece[..count])?;
     }
 }
 

@@ -1,16 +1,18 @@
--- What was read stands in the text.
-use Rattle.std.proofs.Common.{◌≡◌, ◌≤◌, vec_len}
+-- What was read stands in the input, and the rest of the limit is left.
+use Rattle.std.proofs.Common.{◌≡◌, ◌+◌, length}
 use Rattle.std.specs.Io.KnownBytes.{Consumes}
+use Rattle.kob_text.specs.Input.{EndLines, bytes_in}
 use Rattle.kob_text.specs.Limits.{script_limit}
 use Rattle.kob_text.proofs.transfer.read_all.Given as goal
 
-abbrev pub invariant-loop-text : goal.invariant-loop-text
-invariant-loop-text g l = record {
-  within : vec_len l.text ≤ script_limit;
+abbrev pub invariant-loop-input : goal.invariant-loop-input
+invariant-loop-input g l = record {
+  within : l.left + length (bytes_in l.input) ≡ script_limit;
+  lines : EndLines l.input.blocks.items;
   sound : l.source.failed ≡ l.initial.source.failed;
   read : Consumes (g.R.Read.remaining l.initial.source.reader.now)
-      (g.R.Read.remaining l.source.reader.now) l.text.items;
+      (g.R.Read.remaining l.source.reader.now) (bytes_in l.input);
 }
 
-abbrev pub decreases-loop-text : goal.decreases-loop-text
-decreases-loop-text g l = l.source.calls_left
+abbrev pub decreases-loop-input : goal.decreases-loop-input
+decreases-loop-input g l = l.source.calls_left

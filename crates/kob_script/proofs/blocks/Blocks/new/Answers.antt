@@ -1,0 +1,12 @@
+use Rattle.std.proofs.Common.{◌∙◌, ap, ◌++◌, List, ℕ}
+use Rattle.kob_script.proofs.BlockLines.{no_lines}
+use Rattle.kob_script.specs.Blocks.{lines_in_blocks}
+use Rattle.kob_script.specs.Script.{lines_in}
+use Rattle.kob_script.proofs.blocks.Blocks.new.Goals as goal
+
+pub returns-clause-lines : goal.returns-clause-lines
+returns-clause-lines c =
+    ap (λ (bytes : List ℕ). lines_in bytes ++ lines_in_blocks c.from.result.items)
+    (c.from_vec.ensures ∙ c.new.ensures.items)
+    ∙ ap (λ lines. lines ++ lines_in_blocks c.from.result.items) no_lines
+    ∙ ap lines_in_blocks c.from.ensures.0

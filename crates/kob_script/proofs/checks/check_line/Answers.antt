@@ -1,0 +1,28 @@
+use Rattle.std.proofs.lemmas.Result.{err_from_is_err_and}
+use Rattle.kob_script.specs.Checks.{script_so_far}
+use Rattle.kob_script.proofs.CheckedLines.{line_checked, line_fails, words_fail}
+use Rattle.kob_script.proofs.checks.check_line.Goals as goal
+
+pub returns-in_err-words : goal.returns-in_err-words
+returns-in_err-words c = λ events counts.
+    let p = err_from_is_err_and c.from_residual.result c.from_residual.ensures.1 in
+    rw (p.1, p.2)
+    (line_fails (script_so_far c.args.checking.now events) c.args.line.now c.args.checking.now c.args.answers.now.items
+    c.args.answers.now.items _ c.in_err-words.ensures)
+
+pub returns-in_err-check_words : goal.returns-in_err-check_words
+returns-in_err-check_words c = λ events counts.
+    let p = err_from_is_err_and c.from_residual-in_err-check_words.result c.from_residual-in_err-check_words.ensures.1 in
+    rw (p.1, p.2)
+    (words_fail (script_so_far c.args.checking.now events) c.args.line.now c.check_words.new.checking
+    c.args.answers.now.items c.args.answers.now.items c.in_ok-words.words.items c.in_ok-answer.answer _
+    c.in_ok-words.ensures (rw c.deref.ensures.value at c.in_ok-answer.ensures)
+    (rw c.deref-2.ensures.value at (c.in_err-check_words.ensures events counts)))
+
+pub returns : goal.returns
+returns c = λ events counts.
+    line_checked (script_so_far c.args.checking.now events) c.args.line.now c.check_words.new.checking
+    c.args.answers.now.items c.keep_answer.new.answers.items c.in_ok-words.words.items c.in_ok-answer.answer
+    c.in_ok-words.ensures (rw c.deref.ensures.value at c.in_ok-answer.ensures)
+    (rw c.deref-3.ensures.value at c.in_ok-keep_answer.ensures)
+    (rw c.deref-2.ensures.value at (c.in_ok-check_words.ensures events counts))

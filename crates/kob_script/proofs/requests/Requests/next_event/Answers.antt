@@ -1,0 +1,84 @@
+use Rattle.std.proofs.Common.{◌∙◌, List, ◌++◌, ap, arith, length, sym}
+use Rattle.std.proofs.lemmas.Result.{err_from_is_err_and}
+use Rattle.kob_rights.specs.declared.event.Event.{Event}
+use Rattle.kob_script.proofs.LeftRequests.{nothing_at_zero, one_fewer, read_more, same_left, some_lines}
+use Rattle.kob_script.specs.Blocks.{lines_left}
+use Rattle.kob_script.specs.Requests.{requests_in}
+use Rattle.kob_script.proofs.requests.Requests.next_event.Goals as goal
+
+pub loop-alloc-init : goal.loop-alloc-init
+loop-alloc-init c = record {
+  within = c.self.invariant.within;
+  count = c.self.invariant.count;
+  same = c.self.view_is;
+}
+
+pub read_on-requires-clause-within : goal.read_on-requires-clause-within
+read_on-requires-clause-within c = c.loop-alloc.invariant.within
+
+pub read_on-requires-clause-some : goal.read_on-requires-clause-some
+read_on-requires-clause-some c =
+    let inside = c.loop-alloc.self-inside in
+    some_lines inside.asked.items (lines_left inside.blocks) inside.answers.items c.args.self.now _
+    (nothing_at_zero inside.asked.items inside.asked.len inside.asked.ok.0 (sym c.is_empty.ensures ∙ c.loop-alloc-test.true))
+    c.loop-alloc.invariant.same c.requires
+
+pub invariant_of-self : goal.invariant_of-self
+invariant_of-self c =
+    let inside = c.loop-alloc.self-inside in
+    let p = err_from_is_err_and c.from_residual.result c.from_residual.ensures.1 in
+    record {
+      within = c.read_on.ensures.within;
+      count = c.loop-alloc.invariant.count
+          ∙ ap length (sym (same_left inside.asked.items (lines_left inside.blocks) _ inside.answers.items _
+          c.in_err-asked.ensures.same_lines c.in_err-asked.ensures.same_answers));
+    }
+
+pub returns-in_err-asked-clause-same : goal.returns-in_err-asked-clause-same
+returns-in_err-asked-clause-same c =
+    let inside = c.loop-alloc.self-inside in
+    let p = err_from_is_err_and c.from_residual.result c.from_residual.ensures.1 in
+    rw (p.1)
+    (same_left inside.asked.items (lines_left inside.blocks) _ inside.answers.items _
+    c.in_err-asked.ensures.same_lines c.in_err-asked.ensures.same_answers ∙ c.loop-alloc.invariant.same)
+
+pub loop-alloc-smaller : goal.loop-alloc-smaller
+loop-alloc-smaller c = c.in_ok-asked.ensures.nearer
+
+pub loop-alloc-preserved : goal.loop-alloc-preserved
+loop-alloc-preserved c =
+    let inside = c.loop-alloc.self-inside in
+    let same =
+    read_more inside.asked.items c.in_ok-asked.asked.items c.from.result.items
+    (requests_in (lines_left inside.blocks) inside.answers.items)
+    (requests_in (lines_left c.read_on.new.blocks) c.read_on.new.answers.items) c.args.self.now
+    (nothing_at_zero inside.asked.items inside.asked.len inside.asked.ok.0 (sym c.is_empty.ensures ∙ c.loop-alloc-test.true))
+    c.loop-alloc.invariant.same c.in_ok-asked.ensures.asked c.from.ensures.0 in
+    record {
+      within = c.read_on.ensures.within;
+      count = c.loop-alloc.invariant.count ∙ ap length (c.loop-alloc.invariant.same ∙ sym same);
+      same = same;
+    }
+
+pub overflow_sub-self : goal.overflow_sub-self
+overflow_sub-self c =
+    let long = ap length c.loop-alloc.invariant.same in
+    omega (arith, long, c.loop-alloc.invariant.count, c.requires)
+
+pub invariant_of-self-2 : goal.invariant_of-self-2
+invariant_of-self-2 c =
+    let inside = c.loop-alloc.self-inside in
+    let rest = requests_in (lines_left inside.blocks) inside.answers.items in
+    let split = c.pop_front.ensures.items in
+    record {
+      within = c.loop-alloc.invariant.within;
+      count = one_fewer inside.left c.unwrap.result _ _ c.loop-alloc.invariant.count
+          (ap (λ (given : List Event). given ++ rest) (rw c.unwrap.ensures at split));
+    }
+
+pub returns-clause-next : goal.returns-clause-next
+returns-clause-next c =
+    let inside = c.loop-alloc.self-inside in
+    let rest = requests_in (lines_left inside.blocks) inside.answers.items in
+    let split = c.pop_front.ensures.items in
+    sym c.loop-alloc.invariant.same ∙ ap (λ (given : List Event). given ++ rest) (rw c.unwrap.ensures at split)

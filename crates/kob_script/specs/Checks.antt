@@ -1,0 +1,65 @@
+-- A script as it is checked, line by line.
+use Rattle.std.specs.Prelude.{◌≡◌, ℕ, List, [], ◌∷◌, ◌++◌, Option, Result, Ok, Err, length, if◌then◌else◌}
+use Rattle.kob_acl_cli.specs.declared.args.CliArgs.{CliArgs}
+use Rattle.kob_rights.specs.declared.event.Event.{Event}
+use Rattle.kob_script.specs.declared.checks.CheckedScript.{CheckedScript}
+use Rattle.kob_script.specs.declared.checks.Checking.{Checking}
+use Rattle.kob_script.specs.declared.fault.FaultKind.{FaultKind}
+use Rattle.kob_script.specs.declared.fault.LineError.{LineError}
+use Rattle.kob_script.specs.declared.fault.LineError.TheVariants as line_error
+use Rattle.kob_script.specs.declared.fault.ScriptError.{ScriptError}
+use Rattle.kob_script.specs.declared.fault.ScriptError.TheVariants as script_error
+use Rattle.kob_script.specs.declared.script.Script.{Script}
+use Rattle.kob_script.specs.Reading.{Fails}
+use Rattle.kob_script.specs.Requests.{asks_clap, line_words}
+use Rattle.kob_script.specs.Script.{with_line}
+use Rattle.kob_script.specs.ScriptReadings.{IsAnswerToLine, LineReadsAs}
+use Rattle.kob_script.specs.Word.{Word}
+use Rattle.kob_script.specs.Words.{words_of}
+
+-- the script so far, in which no binding is opened and which asks for these events
+abbrev pub script_so_far : Checking → List Event → Script
+script_so_far checking events = record {
+  settings = record {
+    supers = checking.supers.items;
+    opening = [];
+    everyone = checking.everyone;
+  };
+  events = events;
+}
+
+-- The script as it is now is what reading gives, unless memory ran out; its events are counted.
+abbrev pub ChecksNext : Checking → Result (Unit {0}) LineError → Result Script FaultKind → Type 0
+ChecksNext checking (Ok done) read =
+    (events : List Event) × (checking.requests ≡ length events)
+    × (read ≡ Ok (script_so_far checking events))
+ChecksNext checking (Err error) read = Fails error read
+
+-- the answers with one more, if it was asked for
+abbrev pub with_answer : List (Option CliArgs) → List Word → Option CliArgs → List (Option CliArgs)
+with_answer answers words answer = if asks_clap words then answers ++ answer ∷ [] else answers
+
+-- A line more was read with an answer that clap may give, which is kept if clap was asked, unless
+-- memory ran out.
+abbrev pub ChecksLine : Script → List ℕ → Checking → List (Option CliArgs) → List (Option CliArgs)
+    → Result (Unit {0}) LineError → Type 0
+ChecksLine s line checking old new (Ok done) =
+    (answer : Option CliArgs) × IsAnswerToLine (words_of line) answer
+    × (new ≡ with_answer old (line_words line) answer)
+    × ChecksNext checking (Ok done) (with_line answer s line)
+ChecksLine s line checking old new (Err line_error.Memory) = Unit {0}
+ChecksLine s line checking old new (Err (line_error.Fault kind)) = LineReadsAs s line (Err kind)
+
+-- what was wrong, with the number of its line
+abbrev pub fault_at : ℕ → LineError → ScriptError
+fault_at line line_error.Memory = script_error.Memory
+fault_at line (line_error.Fault kind) = script_error.Fault (record { line = line; kind = kind })
+
+-- the script that was checked, with all that it asks for
+abbrev pub checked : CheckedScript → Script
+checked script = record { settings = script.settings; events = script.requests }
+
+-- what was read, where a script was checked
+abbrev pub as_read : Result CheckedScript ScriptError → Result Script ScriptError
+as_read (Ok script) = Ok (checked script)
+as_read (Err error) = Err error

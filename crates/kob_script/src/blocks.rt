@@ -1,0 +1,89 @@
+//! Bytes in blocks of whole lines, which are read line by line.
+
+ghost use Rattle.std.specs.Prelude.{◌≡◌, ◌≤◌, ◌<◌, ◌+◌, ◌∷◌, [], length, drop, MatchOption};
+ghost use Rattle.kob_script.specs.Blocks.{lines_in_blocks, lines_left, rest_of, steps_left};
+ghost use Rattle.kob_script.specs.Script.{lines_in};
+
+use bstr::ByteSlice;
+use kob_names::Bytes;
+use std::alloc::Global;
+use std::collections::VecDeque;
+
+/// Blocks, of which the one at the front was read up to a place.
+#[derive(Debug, Drop)]
+pub struct Blocks {
+    front: Bytes,
+    at: usize,
+    later: VecDeque<Bytes>,
+}
+
+impl Blocks {
+    /// Blocks of which nothing was read; no memory is taken.
+    pub fn new(alloc: Global, blocks: Vec<Bytes>) -> Blocks
+        ensures lines { lines_left result ≡ lines_in_blocks blocks.items }
+        ensures within { result.at ≤ length result.front }
+    {
+        Blocks {
+            front: Bytes::from_vec(Vec::new(alloc)),
+            at: 0,
+            later: VecDeque::from(blocks),
+        }
+    }
+
+    /// The bytes of the block at the front that were not read.
+    pub fn rest(&self) -> &[u8]
+        requires { self.now.at ≤ length self.now.front }
+        ensures { result.now ≡ rest_of self.now }
+    {
+        &self.front.as_slice()[self.at..]
+    }
+
+    /// Goes on behind a line that takes so many bytes.
+    pub fn pass(&mut self, size: usize)
+        requires { self.old.at + size ≤ length self.old.front }
+        ensures at { self.new.at ≡ self.old.at + size }
+        ensures front { self.new.front ≡ self.old.front }
+        ensures later { self.new.later ≡ self.old.later }
+    {
+        let end = self.front.len();
+        prove!(size <= end - self.at);
+        self.at += size;
+    }
+
+    /// Gives the memory of the block at the front back, all of which was read, and goes on to the
+    /// next block.
+    pub fn enter_next(&mut self)
+        requires read { rest_of self.old ≡ [] }
+        requires some { 0 < length self.old.later.items }
+        ensures lines { lines_left self.new ≡ lines_left self.old }
+        ensures steps { steps_left self.new < steps_left self.old }
+        ensures within { self.new.at ≤ length self.new.front }
+    {
+        if let Some(block) = self.later.pop_front() {
+            self.front = block;
+            self.at = 0;
+        }
+    }
+}
+
+/// A line without its end, and the number of bytes that it takes with it.
+#[derive(Drop)]
+pub struct Line<'a> {
+    pub text: &'a [u8],
+    pub size: usize,
+}
+
+/// The line at the front of bytes, if there are any.
+pub fn first_line(bytes: &[u8]) -> Option<Line<'_>>
+    ensures { MatchOption result (lines_in bytes.entry.now ≡ []) (λ line.
+        (line.size ≤ length bytes.entry.now)
+        × (lines_in bytes.entry.now
+        ≡ line.text.now ∷ lines_in (drop line.size bytes.entry.now))) }
+{
+    let whole = bytes.lines_with_terminator().next()?;
+    let text = bytes.lines().next()?;
+    Some(Line {
+        text,
+        size: whole.len(),
+    })
+}

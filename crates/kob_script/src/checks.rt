@@ -1,0 +1,197 @@
+//! A script is checked: all its lines are read before the first request is served.
+
+ghost use Rattle.std.specs.List.{concat};
+ghost use Rattle.std.specs.Prelude.{◌≡◌, ◌<◌, ◌^◌, ◌+◌, List, length, OnOk};
+ghost use Rattle.kob_rights.specs.declared.event.Event as event;
+ghost use Rattle.kob_script.specs.Blocks.{AreWholeLines, lines_in_blocks};
+ghost use Rattle.kob_script.specs.Checks.{ChecksLine, ChecksNext, as_read, checked};
+ghost use Rattle.kob_script.specs.Checks.{fault_at, script_so_far, with_answer};
+ghost use Rattle.kob_script.specs.Requests.{requests_in};
+ghost use Rattle.kob_script.specs.Script.{script_of, with_events, with_setting, with_words};
+ghost use Rattle.kob_script.specs.ScriptReadings.{HasNoAclLine, MayRead, Reads};
+
+use crate::clap_answer::{answer_to, asks_clap};
+use crate::command_lines::events_of;
+use crate::fault::{Fault, FaultKind, LineError, ScriptError};
+use crate::requests::Requests;
+use crate::setting::{everyone_of, is_setting, is_super, super_of};
+use crate::word::Word;
+use crate::words::words_of;
+use bstr::ByteSlice;
+use kob_acl_cli::CliArgs;
+use kob_names::{Bytes, Items, Principal, Settings};
+use std::alloc::{AllocError, Global};
+
+/// A script without a fault: its settings, which open no bindings, and its requests, in order.
+#[derive(Debug, Drop)]
+pub struct CheckedScript {
+    pub settings: Settings,
+    pub requests: Requests,
+}
+
+/// What is known of a script as its lines are checked.
+#[derive(Drop)]
+struct Checking {
+    supers: Vec<Principal>,
+    everyone: bool,
+    requests: u64,
+}
+
+/// Checks a script in blocks of whole lines, with fewer than 2^63 bytes, in time linear in its
+/// size: what a line asks for is dropped once no fault was found in it, and its bytes are held
+/// until it is served. The error is the first line with a fault, or want of memory, which 2^64
+/// requests count as. What the words of an `acl` line mean is answered by `clap`, and for some
+/// words what its port states leaves more than one answer open; a script without such lines has
+/// one reading.
+pub fn check_script(alloc: Global, blocks: Vec<Bytes>) -> Result<CheckedScript, ScriptError>
+    requires whole { AreWholeLines blocks.items }
+    requires short { length (concat blocks.items) < 2 ^ 63 }
+    ensures any { MayRead (concat blocks.items) (as_read result) }
+    ensures plain { HasNoAclLine (concat blocks.items)
+        → Reads (as_read result) (script_of (concat blocks.items)) }
+{
+    let mut checking = Checking {
+        supers: Vec::new(alloc),
+        everyone: false,
+        requests: 0,
+    };
+    let mut answers = Vec::new(alloc);
+    let mut number: u64 = 0;
+    for block in blocks.as_slice() {
+        for line in block.as_slice().lines() {
+            number += 1;
+            match check_line(alloc, &mut checking, &mut answers, line) {
+                Ok(()) => {}
+                Err(error) => return Err(fault_at(error, number)),
+            }
+        }
+    }
+    Ok(finished(alloc, checking, blocks, answers))
+}
+
+fn finished(
+    alloc: Global,
+    checking: Checking,
+    blocks: Vec<Bytes>,
+    answers: Vec<Option<CliArgs>>,
+) -> CheckedScript
+    requires { checking.requests
+        ≡ length (requests_in (lines_in_blocks blocks.items) answers.items) }
+    ensures { checked result
+        ≡ script_so_far checking (requests_in (lines_in_blocks blocks.items) answers.items) }
+{
+    let Checking {
+        supers,
+        everyone,
+        requests,
+    } = checking;
+    CheckedScript {
+        settings: Settings {
+            supers: Items::from_vec(supers),
+            opening: Items::from_vec(Vec::new(alloc)),
+            everyone,
+        },
+        requests: Requests::new(alloc, blocks, answers, requests),
+    }
+}
+
+fn fault_at(error: LineError, line: u64) -> ScriptError
+    ensures { result ≡ fault_at line error }
+{
+    match error {
+        LineError::Memory => ScriptError::Memory,
+        LineError::Fault(kind) => ScriptError::Fault(Fault { line, kind }),
+    }
+}
+
+fn check_line(
+    alloc: Global,
+    checking: &mut Checking,
+    answers: &mut Vec<Option<CliArgs>>,
+    line: &[u8],
+) -> Result<(), LineError>
+    ensures { (events : List event.Event) → checking.old.requests ≡ length events
+        → ChecksLine (script_so_far checking.old events) line.now checking.new
+        answers.old.items answers.new.items result }
+{
+    let words = words_of(alloc, line)?;
+    let answer = answer_to(alloc, &words)?;
+    check_words(alloc, checking, &words, &answer)?;
+    keep_answer(answers, &words, answer)?;
+    Ok(())
+}
+
+// Keeps the answer to words of which clap is asked, since another call may answer in another way.
+fn keep_answer(
+    answers: &mut Vec<Option<CliArgs>>,
+    words: &[Word<'_>],
+    answer: Option<CliArgs>,
+) -> Result<(), AllocError>
+    ensures { OnOk result
+        (answers.new.items ≡ with_answer answers.old.items words.now answer) }
+{
+    if asks_clap(words) {
+        answers.push(answer)?;
+    }
+    Ok(())
+}
+
+fn check_words(
+    alloc: Global,
+    checking: &mut Checking,
+    words: &[Word<'_>],
+    answer: &Option<CliArgs>,
+) -> Result<(), LineError>
+    ensures { (events : List event.Event) → checking.old.requests ≡ length events
+        → ChecksNext checking.new result
+        (with_words answer.now (script_so_far checking.old events) words.now) }
+{
+    match words {
+        [] => Ok(()),
+        [first, arguments @ ..] if is_setting(first) => add_setting(
+            alloc, checking, first, arguments,
+        ),
+        _ => count_requests(alloc, checking, words, answer),
+    }
+}
+
+fn add_setting(
+    alloc: Global,
+    checking: &mut Checking,
+    first: &Word<'_>,
+    arguments: &[Word<'_>],
+) -> Result<(), LineError>
+    ensures { (events : List event.Event) → checking.old.requests ≡ length events
+        → ChecksNext checking.new result
+        (with_setting (script_so_far checking.old events) first.now arguments.now) }
+{
+    if checking.requests > 0 {
+        return Err(LineError::Fault(FaultKind::LateSetting));
+    }
+    if is_super(first) {
+        let principal = super_of(alloc, arguments)?;
+        checking.supers.push(principal)?;
+    } else {
+        checking.everyone = everyone_of(arguments)?;
+    }
+    Ok(())
+}
+
+// Counts what words ask for, and drops it.
+fn count_requests(
+    alloc: Global,
+    checking: &mut Checking,
+    words: &[Word<'_>],
+    answer: &Option<CliArgs>,
+) -> Result<(), LineError>
+    ensures { (events : List event.Event) → checking.old.requests ≡ length events
+        → ChecksNext checking.new result
+        (with_events answer.now (script_so_far checking.old events) words.now) }
+{
+    let asked = events_of(alloc, words, answer)?;
+    match checking.requests.checked_add(asked.len() as u64) {
+        Some(requests) => checking.requests = requests,
+        None => return Err(LineError::Memory),
+    }
+    Ok(())
+}

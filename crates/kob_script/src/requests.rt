@@ -1,0 +1,181 @@
+//! The requests of a script that was checked, each read when it is its turn.
+
+ghost use Rattle.std.specs.Prelude.{◌≡◌, ◌≤◌, ◌<◌, ◌++◌, ◌∷◌, drop, length};
+ghost use Rattle.std.specs.Prelude.{IfOk, OnOk, OnErr, if◌then◌else◌};
+ghost use Rattle.kob_script.specs.Blocks.{lines_in_blocks, lines_left, steps_left};
+ghost use Rattle.kob_script.specs.Requests.{answer_for, asks_clap, line_words};
+ghost use Rattle.kob_script.specs.Requests.{requests_in, requests_of};
+
+use crate::blocks::{Blocks, first_line};
+use crate::clap_answer::asks_clap;
+use crate::command_lines::events_of;
+use crate::fault::LineError;
+use crate::setting::is_setting;
+use crate::word::Word;
+use crate::words::words_of;
+use kob_acl_cli::CliArgs;
+use kob_names::Bytes;
+use kob_rights::Event;
+use std::alloc::{AllocError, Global};
+use std::collections::VecDeque;
+use std::marker::Model;
+
+/// The requests of a script that are left, in order, and seen by contracts as their events. A
+/// request is held as its line until it is given. What `clap` answered to the words of `acl` lines
+/// is held too, since another call may answer them in another way.
+#[derive(Debug, Drop)]
+pub struct Requests {
+    blocks: Blocks,
+    answers: VecDeque<Option<CliArgs>>,
+    /// What the line that was read last asks for.
+    asked: VecDeque<Event>,
+    left: u64,
+}
+
+impl Model for Requests {
+    ghost use Rattle.std.specs.Prelude.{List};
+    ghost use Rattle.kob_rights.specs.declared.event.Event.{Event};
+
+    ghost Value = { List Event };
+
+    ghost use Rattle.kob_script.specs.Requests.{AreCounted, requests_left};
+
+    ghost view = { requests_left };
+
+    ghost invariant = { AreCounted };
+}
+
+impl Requests {
+    /// What the lines of blocks ask for, by the answers to those of `acl`, and how many requests
+    /// that is; no memory is taken.
+    pub fn new(
+        alloc: Global,
+        blocks: Vec<Bytes>,
+        answers: Vec<Option<CliArgs>>,
+        count: u64,
+    ) -> Requests
+        requires { count ≡ length (requests_in (lines_in_blocks blocks.items) answers.items) }
+        ensures { result ≡ requests_in (lines_in_blocks blocks.items) answers.items }
+    {
+        Requests {
+            blocks: Blocks::new(alloc, blocks),
+            answers: VecDeque::from(answers),
+            asked: VecDeque::new(alloc),
+            left: count,
+        }
+    }
+
+    /// How many requests are left.
+    pub fn len(&self) -> u64
+        ensures { result ≡ length self.now }
+    {
+        self.left
+    }
+
+    /// The event of the next request, of which there has to be one. A block is freed once a request
+    /// behind it is asked for. The error is want of memory, after which all that was left is left.
+    pub fn next_event(&mut self, alloc: Global) -> Result<Event, AllocError>
+        requires { 0 < length self.old }
+        ensures next { IfOk result (λ event. self.old ≡ event ∷ self.new) }
+        ensures same { OnErr result (self.new ≡ self.old) }
+    {
+        while self.asked.is_empty() {
+            let asked = read_on(alloc, &mut self.blocks, &mut self.answers)?;
+            self.asked = VecDeque::from(asked);
+        }
+        self.left -= 1;
+        Ok(self.asked.pop_front().unwrap())
+    }
+}
+
+// Reads a line, and gives what it asks for, or goes on to the next block.
+fn read_on(
+    alloc: Global,
+    blocks: &mut Blocks,
+    answers: &mut VecDeque<Option<CliArgs>>,
+) -> Result<Vec<Event>, AllocError>
+    requires within { blocks.old.at ≤ length blocks.old.front }
+    requires some { 0 < steps_left blocks.old }
+    ensures asked { IfOk result (λ asked. requests_in (lines_left blocks.old) answers.old.items
+        ≡ asked.items ++ requests_in (lines_left blocks.new) answers.new.items) }
+    ensures nearer { OnOk result (steps_left blocks.new < steps_left blocks.old) }
+    ensures within { blocks.new.at ≤ length blocks.new.front }
+    ensures same_lines { OnErr result (lines_left blocks.new ≡ lines_left blocks.old) }
+    ensures same_answers { OnErr result (answers.new.items ≡ answers.old.items) }
+{
+    let Some(line) = first_line(blocks.rest()) else {
+        blocks.enter_next();
+        return Ok(Vec::new(alloc));
+    };
+    let size = line.size;
+    let read = read_again(alloc, line.text, answers)?;
+    pass_answer(answers, read.asked_clap);
+    blocks.pass(size);
+    Ok(read.events)
+}
+
+// Lets go of the first answer, where it was used.
+fn pass_answer(answers: &mut VecDeque<Option<CliArgs>>, is_used: bool)
+    ensures { answers.new.items
+        ≡ (if is_used then drop 1 answers.old.items else answers.old.items) }
+{
+    if is_used {
+        answers.pop_front();
+    }
+}
+
+// What a line asks for, and whether clap was asked for it.
+#[derive(Drop)]
+struct ReadAgain {
+    events: Vec<Event>,
+    asked_clap: bool,
+}
+
+fn read_again(
+    alloc: Global,
+    line: &[u8],
+    answers: &VecDeque<Option<CliArgs>>,
+) -> Result<ReadAgain, AllocError>
+    ensures events { IfOk result (λ read. read.events.items
+        ≡ requests_of (answer_for (line_words line.now) answers.now.items) (line_words line.now)) }
+    ensures clap { IfOk result (λ read. read.asked_clap ≡ asks_clap (line_words line.now)) }
+{
+    let words = words_again(alloc, line)?;
+    let asked_clap = asks_clap(&words);
+    let unasked = None;
+    let answer = if asked_clap {
+        answers.front().unwrap_or(&unasked)
+    } else {
+        &unasked
+    };
+    let events = requests_of(alloc, &words, answer)?;
+    Ok(ReadAgain { events, asked_clap })
+}
+
+fn words_again(alloc: Global, line: &[u8]) -> Result<Vec<Word<'_>>, AllocError>
+    ensures { IfOk result (λ words. words.items ≡ line_words line.entry.now) }
+{
+    match words_of(alloc, line) {
+        Ok(words) => Ok(words),
+        Err(LineError::Memory) => Err(AllocError),
+        Err(LineError::Fault(_)) => Ok(Vec::new(alloc)),
+    }
+}
+
+fn requests_of(
+    alloc: Global,
+    words: &[Word<'_>],
+    answer: &Option<CliArgs>,
+) -> Result<Vec<Event>, AllocError>
+    ensures { IfOk result (λ events. events.items ≡ requests_of answer.now words.now) }
+{
+    match words {
+        [] => Ok(Vec::new(alloc)),
+        [first, ..] if is_setting(first) => Ok(Vec::new(alloc)),
+        _ => match events_of(alloc, words, answer) {
+            Ok(events) => Ok(events),
+            Err(LineError::Memory) => Err(AllocError),
+            Err(LineError::Fault(_)) => Ok(Vec::new(alloc)),
+        },
+    }
+}
