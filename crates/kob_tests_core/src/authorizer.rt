@@ -36,8 +36,8 @@ pub fn on_write<'a>(
     }
 }
 
-/// An authorizer with the super user `User:root`; with `everyone` what no binding matches is open to
-/// everyone.
+/// An authorizer with the super user `User:root`; with `everyone` what no binding matches is open
+/// to everyone.
 pub fn opened(alloc: Global, everyone: bool) -> Result<Authorizer, Fail> {
     let mut supers = Vec::new(alloc);
     supers.push(Principal::parse(alloc, "User:root")?)?;

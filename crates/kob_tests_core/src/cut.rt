@@ -6,7 +6,7 @@ use std::test::Fail;
 /// More bytes than two nodes hold.
 const LONG: &[u8] = b"abcdefghijklmnopq";
 
-/// Puts a serial on each beginning of the long key, the longest one first, so that each cuts a node.
+/// Puts a serial on each beginning of the long key, the longest first, so that each cuts a node.
 fn put_beginnings(alloc: Global, tree: &mut PrefixTree) -> Result<(), AllocError> {
     for length in (0..=LONG.len()).rev() {
         let key = &LONG[..length];

@@ -26,4 +26,8 @@ mod rules;
 #[cfg(test)]
 mod spared;
 #[cfg(test)]
+mod spared_names;
+#[cfg(test)]
+mod texts;
+#[cfg(test)]
 mod tree;

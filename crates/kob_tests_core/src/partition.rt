@@ -122,7 +122,7 @@ const ADVANCES: [(u64, Result<u64, AdvanceFault>); 7] = [
     (300, Ok(300)),
 ];
 
-/// Whether all records from an offset on are fetched, if it is between start and end, and else none.
+/// Whether all records from an offset on are fetched, if it is between start and end, else none.
 fn reads_from(alloc: Global, log: &PartitionLog, offset: u64) -> Result<bool, AllocError> {
     match log.fetch(alloc, offset, 1_000) {
         Ok(records) => Ok(log.start() <= offset && are_at(records.as_slice(), offset, log.end())),

@@ -5,9 +5,9 @@ use crate::refused::{ALL, NEW, SERIALS, WITHOUT_TWO, asker, batch, stands, ten_b
 use kob_authorizer::Authorizer;
 use kob_chunks::ChunkList;
 use kob_names::{Batch, Binding, FilterPattern, Host, Principal};
-use kob_partition::{PartitionLog, Placement};
+use kob_partition::{AdvanceFault, PartitionLog, Placement};
 use kob_prefix_tree::{PatternKind, PrefixTree};
-use kob_producers::Judgement;
+use kob_producers::{Judgement, ProducerTable};
 use std::alloc::{AllocError, Global};
 use std::test::Fail;
 
@@ -16,7 +16,7 @@ use std::test::Fail;
 const CUE: usize = 7_654_321;
 
 /// No memory is taken from here on, and where `.ci/refuse` runs the test, none is given.
-fn spare(alloc: Global) -> bool {
+pub(crate) fn spare(alloc: Global) -> bool {
     Vec::<u8>::with_capacity(alloc, CUE).is_ok()
 }
 
@@ -132,5 +132,113 @@ fn changes_list(alloc: Global, list: &mut ChunkList<u64>) -> Result<bool, AllocE
 fn a_list_is_changed(rt: HostRuntime) -> Result<(), Fail> {
     let mut list = ChunkList::new(rt.alloc());
     assert!(rt; changes_list(rt.alloc(), &mut list)?);
+    Ok(())
+}
+
+/// Whether what is made empty holds nothing.
+fn are_empty(alloc: Global) -> bool {
+    let tree = PrefixTree::new();
+    let list = ChunkList::<u64>::new(alloc);
+    let log = PartitionLog::new(alloc);
+    let table = ProducerTable::new(alloc);
+    tree.levels(b"a") == 1
+        && list.len() == 0
+        && log.end() == 0
+        && table.judge(&NEW, 100) == Judgement::Next
+}
+
+#[test]
+fn all_begin_empty(rt: HostRuntime) -> Result<(), Fail> {
+    spare(rt.alloc());
+    assert!(rt; are_empty(rt.alloc()));
+    Ok(())
+}
+
+/// Whether a tree of two keys, `ab` with the serial 2 and `abcd` with 1, both prefixed, and the
+/// literal `abc` with 3 is read so.
+fn reads(tree: &PrefixTree) -> bool {
+    let part = tree.behind(b"a", b'b');
+    tree.walk(b"abc").eq([2, 3])
+        && tree.literal(b"abc").eq([3])
+        && tree.listed(b"ab", PatternKind::Prefixed).eq([2])
+        && part.walk(b"cd").eq([2, 1])
+        && part.listed(b"c", PatternKind::Literal).eq([3])
+        && part.behind(b"", b'c').walk(b"d").eq([1])
+}
+
+fn reads_tree(alloc: Global, tree: &mut PrefixTree) -> Result<bool, AllocError> {
+    tree.add(alloc, b"abcd", PatternKind::Prefixed, 1)?;
+    tree.add(alloc, b"ab", PatternKind::Prefixed, 2)?;
+    tree.add(alloc, b"abc", PatternKind::Literal, 3)?;
+    spare(alloc);
+    Ok(reads(tree))
+}
+
+#[test]
+fn a_tree_is_read(rt: HostRuntime) -> Result<(), Fail> {
+    let mut tree = PrefixTree::new();
+    assert!(rt; reads_tree(rt.alloc(), &mut tree)?);
+    Ok(())
+}
+
+/// Whether a batch of a producer is accepted and known again.
+fn accepts(alloc: Global, table: &mut ProducerTable) -> Result<bool, AllocError> {
+    table.reserve(&NEW)?;
+    spare(alloc);
+    table.accept(&NEW, 100, 7);
+    Ok(table.judge(&NEW, 100) == Judgement::Repeat(7))
+}
+
+#[test]
+fn a_producer_is_accepted(rt: HostRuntime) -> Result<(), Fail> {
+    let mut table = ProducerTable::new(rt.alloc());
+    assert!(rt; accepts(rt.alloc(), &mut table)?);
+    Ok(())
+}
+
+/// Whether the start of a log of 200 records is moved up in two steps.
+fn advances(log: &mut PartitionLog) -> bool {
+    let beyond = log.prepare_advance(201);
+    if log.prepare_advance(150).is_err() {
+        return false;
+    }
+    log.commit_advance(150);
+    beyond == Err(AdvanceFault::OutOfRange) && log.start() == 150 && log.end() == 200
+}
+
+fn advances_log(alloc: Global, log: &mut PartitionLog) -> Result<bool, Fail> {
+    log.append(batch(alloc, None, 200)?)?;
+    spare(alloc);
+    Ok(advances(log))
+}
+
+#[test]
+fn a_start_is_moved_up(rt: HostRuntime) -> Result<(), Fail> {
+    let mut log = PartitionLog::new(rt.alloc());
+    assert!(rt; advances_log(rt.alloc(), &mut log)?);
+    Ok(())
+}
+
+/// Whether an authorizer with ten prepared bindings tells what it holds and what it is to answer.
+fn tells(alloc: Global, authorizer: &mut Authorizer) -> Result<bool, Fail> {
+    let bindings = ten_bindings(alloc).ok_or("memory")?;
+    let filter = named(alloc, FilterPattern::Any, "orders")?;
+    let created = authorizer.prepare_create(alloc, &bindings)?;
+    let deleted = authorizer.prepare_delete(alloc, &filter)?;
+    spare(alloc);
+    Ok(
+        created.serials() == SERIALS
+            && deleted.taken().len() == 0
+            && authorizer.entries().len() == 0
+            && authorizer.next_serial() == 1
+            && authorizer.supers().len() == 1
+            && !authorizer.everyone(),
+    )
+}
+
+#[test]
+fn an_authorizer_is_read(rt: HostRuntime) -> Result<(), Fail> {
+    let mut authorizer = opened(rt.alloc(), false)?;
+    assert!(rt; tells(rt.alloc(), &mut authorizer)?);
     Ok(())
 }

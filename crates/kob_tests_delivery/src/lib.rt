@@ -29,4 +29,6 @@ mod runs;
 #[cfg(test)]
 mod shelf;
 #[cfg(test)]
+mod spared;
+#[cfg(test)]
 mod whole;

@@ -71,7 +71,7 @@ fn played(
 }
 
 /// A line of a principal that loses these calls.
-fn line_to<'b>(
+pub(crate) fn line_to<'b>(
     alloc: Global,
     broker: &'b mut Broker,
     who: &str,
@@ -101,7 +101,7 @@ pub(crate) fn over(
 }
 
 /// A broker on which these orders are done.
-fn ordered(alloc: Global, orders: &[Order<'_>]) -> Option<Broker> {
+pub(crate) fn ordered(alloc: Global, orders: &[Order<'_>]) -> Option<Broker> {
     let mut broker = shelf(alloc)?;
     for order in orders {
         if !is_done(alloc, &mut broker, *order)? {

@@ -71,7 +71,7 @@ fn are_at(rows: &[InboxRow], offsets: &[u64]) -> bool {
         && rows.iter().map(|row| row.place).eq(1..=rows.len() as u64)
 }
 
-fn first_partitions(alloc: Global, topics: &[&str]) -> Option<Items<Place>> {
+pub(crate) fn first_partitions(alloc: Global, topics: &[&str]) -> Option<Items<Place>> {
     let mut places = Vec::new(alloc);
     for topic in topics {
         let topic = Text::copied(alloc, topic).ok()?;

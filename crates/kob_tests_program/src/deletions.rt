@@ -1,4 +1,5 @@
-//! Records that are deleted from the front of a partition, each rule by a script and what it prints.
+//! Records that are deleted from the front of a partition, each rule by a script and what it
+//! prints.
 
 use crate::limits::ends_in;
 use crate::played::play;

@@ -7,7 +7,7 @@ use std::process::Abort;
 use std::test::Fail;
 
 /// A batch of one record without a key.
-fn batch(alloc: Global, value: &[u8]) -> Result<Batch, AllocError> {
+pub(crate) fn batch(alloc: Global, value: &[u8]) -> Result<Batch, AllocError> {
     let mut records = Vec::new(alloc);
     records.push(Record {
         key: None,
@@ -109,22 +109,14 @@ const ROWS: [Row; 8] = [
     ("f", 1_000, Ok(())),
 ];
 
-/// The number of partitions of the topic of that name.
-fn partitions_of(catalog: &Catalog, name: &Text) -> Option<usize> {
-    let place = catalog.place_of(name)?;
-    Some(catalog.partitions(place))
-}
-
 /// Whether a creation is answered so. Want of memory leaves the topics.
 fn creates(alloc: Global, catalog: &mut Catalog, row: &Row) -> Result<bool, Fail> {
     let (name, partitions, expected) = row;
     let text = Text::copied(alloc, name)?;
     let name = TopicName::parse(alloc, name)?;
-    let before = (catalog.len(), partitions_of(catalog, &text));
+    let before = (catalog.len(), catalog.partitions(&text));
     let mut created = catalog.create(alloc, &name, *partitions);
-    if created == Err(CreateFault::Memory)
-        && (catalog.len(), partitions_of(catalog, &text)) == before
-    {
+    if created == Err(CreateFault::Memory) && (catalog.len(), catalog.partitions(&text)) == before {
         created = catalog.create(alloc, &name, *partitions);
     }
     Ok(created == *expected)
@@ -137,7 +129,7 @@ fn creates_all(alloc: Global, catalog: &mut Catalog) -> Result<bool, Fail> {
             return Ok(false);
         }
     }
-    Ok(catalog.len() == 6 && partitions_of(catalog, &last) == Some(1_000))
+    Ok(catalog.len() == 6 && catalog.partitions(&last) == Some(1_000))
 }
 
 #[test]

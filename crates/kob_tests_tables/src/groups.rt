@@ -10,12 +10,12 @@ use std::test::Fail;
 const PLACES: [(&str, &str, u64); 4] = [("g", "a", 0), ("g", "a", 1), ("g", "b", 0), ("h", "a", 0)];
 
 /// What is committed at each of the places.
-type Offsets = [Option<u64>; 4];
+pub(crate) type Offsets = [Option<u64>; 4];
 
 /// The place of a commit, its offset, and what is committed after it.
-type Step = (usize, u64, Offsets);
+pub(crate) type Step = (usize, u64, Offsets);
 
-const STEPS: [Step; 5] = [
+pub(crate) const STEPS: [Step; 5] = [
     (0, 5, [Some(5), None, None, None]),
     (1, 6, [Some(5), Some(6), None, None]),
     (2, 7, [Some(5), Some(6), Some(7), None]),
@@ -23,7 +23,7 @@ const STEPS: [Step; 5] = [
     (0, 9, [Some(9), Some(6), Some(7), Some(8)]),
 ];
 
-fn places(alloc: Global) -> Result<Vec<CommitPlace>, AllocError> {
+pub(crate) fn places(alloc: Global) -> Result<Vec<CommitPlace>, AllocError> {
     let mut places = Vec::new(alloc);
     for (group, topic, partition) in PLACES {
         places.push(CommitPlace {
@@ -35,7 +35,7 @@ fn places(alloc: Global) -> Result<Vec<CommitPlace>, AllocError> {
     Ok(places)
 }
 
-fn holds(groups: &Groups, places: &[CommitPlace], offsets: &Offsets) -> bool {
+pub(crate) fn holds(groups: &Groups, places: &[CommitPlace], offsets: &Offsets) -> bool {
     places
         .iter()
         .map(|place| groups.fetch(&place.group, &place.topic, place.partition))

@@ -9,8 +9,23 @@ use uuid::Uuid;
 
 const ID: &str = "00000000-0000-0000-0000-00000000000a";
 
+// The same id in its other forms.
+const UPPER: &str = "00000000-0000-0000-0000-00000000000A";
+
+const BRACED: &str = "{00000000-0000-0000-0000-00000000000a}";
+
+const URN: &str = "urn:uuid:00000000-0000-0000-0000-00000000000a";
+
+const SIMPLE: &str = "0000000000000000000000000000000A";
+
+const OTHER: &str = "00000000-0000-0000-0000-00000000000b";
+
 /// A record with these headers, in this order.
-fn record(alloc: Global, value: &str, headers: &[(&str, &[u8])]) -> Result<Record, AllocError> {
+pub(crate) fn record(
+    alloc: Global,
+    value: &str,
+    headers: &[(&str, &[u8])],
+) -> Result<Record, AllocError> {
     let mut made = Vec::new(alloc);
     for (name, value) in headers {
         made.push(Header {
@@ -26,7 +41,7 @@ fn record(alloc: Global, value: &str, headers: &[(&str, &[u8])]) -> Result<Recor
 }
 
 /// A record that carries this id.
-fn carrying(alloc: Global, id: u64) -> Result<Record, AllocError> {
+pub(crate) fn carrying(alloc: Global, id: u64) -> Result<Record, AllocError> {
     let mut buffer = Uuid::encode_buffer();
     let id = Uuid::from_u128(id as u128);
     let text = id.hyphenated().encode_lower(&mut buffer);
@@ -42,20 +57,11 @@ fn an_id_is_one_in_every_form(rt: HostRuntime) -> Result<(), Fail> {
 
 fn ids_in_each_form(rt: &impl Abort, alloc: Global, inbox: &mut Inbox) -> Result<(), Fail> {
     let cases: [(&[(&str, &[u8])], TakeIn); 12] = [
-        (
-            &[("id", b"00000000-0000-0000-0000-00000000000A")],
-            TakeIn::Taken,
-        ),
+        (&[("id", UPPER.as_bytes())], TakeIn::Taken),
         (&[("id", ID.as_bytes())], TakeIn::Seen),
-        (
-            &[("id", b"{00000000-0000-0000-0000-00000000000a}")],
-            TakeIn::Seen,
-        ),
-        (
-            &[("id", b"urn:uuid:00000000-0000-0000-0000-00000000000a")],
-            TakeIn::Seen,
-        ),
-        (&[("id", b"0000000000000000000000000000000A")], TakeIn::Seen),
+        (&[("id", BRACED.as_bytes())], TakeIn::Seen),
+        (&[("id", URN.as_bytes())], TakeIn::Seen),
+        (&[("id", SIMPLE.as_bytes())], TakeIn::Seen),
         (
             &[("kind", b"x"), ("id", ID.as_bytes()), ("id", b"x")],
             TakeIn::Seen,
@@ -68,10 +74,7 @@ fn ids_in_each_form(rt: &impl Abort, alloc: Global, inbox: &mut Inbox) -> Result
             &[("id", b"00000000-0000-0000-0000-00000000000\xff")],
             TakeIn::NoEventId,
         ),
-        (
-            &[("id", b"00000000-0000-0000-0000-00000000000b")],
-            TakeIn::Taken,
-        ),
+        (&[("id", OTHER.as_bytes())], TakeIn::Taken),
     ];
     for (at, (headers, want)) in cases.into_iter().enumerate() {
         let message = record(alloc, "paid", headers)?;

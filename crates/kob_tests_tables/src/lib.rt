@@ -1,4 +1,5 @@
-//! Tests of a service's tables, of an inbox, of a catalog's topics and of groups, over their public surface.
+//! Tests of a service's tables, of an inbox, of a catalog's topics and of groups, over their public
+//! surface.
 #![tactic(auto)]
 
 #[cfg(test)]
@@ -6,6 +7,14 @@ mod catalog;
 #[cfg(test)]
 mod groups;
 #[cfg(test)]
+mod groups_gone;
+#[cfg(test)]
 mod inbox;
 #[cfg(test)]
 mod outbox;
+#[cfg(test)]
+mod spared;
+#[cfg(test)]
+mod spared_records;
+#[cfg(test)]
+mod spared_topics;

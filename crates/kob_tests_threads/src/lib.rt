@@ -28,6 +28,8 @@ mod revoked;
 #[cfg(test)]
 mod sessions;
 #[cfg(test)]
+mod spared;
+#[cfg(test)]
 mod sweeps;
 #[cfg(test)]
 mod two_services;

@@ -1,0 +1,204 @@
+//! Calls on shared brokers, desks and what pipelines leave that take no memory. `.ci/refuse` runs
+//! them with every growth refused from `spare` on.
+
+ghost use Rattle.kob_pipeline.specs.Pipelines.{IsPipeline};
+
+use crate::gates::Open;
+use crate::left::{begins, call_laws, is_marked};
+use crate::making::{at_host, creation, event, metadata, recorded, shared};
+use crate::pipelines::{STEP, TWO, run};
+use crate::plans::{Cast, plan};
+use crate::sessions::session;
+use kob_names::{Host, PlainValue, Principal};
+use kob_pipeline::{PipelineEnd, Plan};
+use kob_shared::{Desk, Journal, Notes, Receipt, Recorded, SharedBroker};
+use std::alloc::Global;
+use std::sync::Wait;
+use std::test::Fail;
+use std::thread::Threads;
+
+/// The size of the growth by which `.ci/refuse` knows that all that come after it are to be
+/// refused.
+const CUE: usize = 7_654_321;
+
+/// No memory is taken from here on, and where `.ci/refuse` runs the test, none is given.
+fn spare(alloc: Global) -> bool {
+    Vec::<u8>::with_capacity(alloc, CUE).is_ok()
+}
+
+/// Whether a journal has one entry, of worker 1.
+fn has_one(journal: &Journal) -> bool {
+    match journal.get(0) {
+        Some(entry) => journal.len() == 1 && entry.worker == 1 && entry.same(entry),
+        None => false,
+    }
+}
+
+/// Whether a record tells what it began from and its journal.
+fn is_read(recorded: &Recorded) -> bool {
+    let opening = recorded.opening();
+    let is_told = opening.supers.len() == 1 && !opening.everyone && opening.same(opening);
+    is_told && has_one(recorded.journal())
+}
+
+/// Whether a new session has seen nothing.
+fn sees_nothing(shared: &SharedBroker, (principal, host): (Principal, Host)) -> bool {
+    let session = shared.session(1, principal, host);
+    session.seen() == 0
+}
+
+/// Whether a record is taken apart.
+fn is_taken_apart(recorded: Recorded) -> bool {
+    let (broker, journal) = recorded.into_parts();
+    drop(broker);
+    let has_one = has_one(&journal);
+    drop(journal);
+    has_one
+}
+
+/// Whether a record is shared, given back and taken apart.
+fn goes_round(recorded: Recorded, asker: (Principal, Host)) -> bool {
+    let read = is_read(&recorded);
+    let shared = SharedBroker::open(recorded);
+    let unseen = sees_nothing(&shared, asker);
+    let apart = is_taken_apart(shared.finish());
+    read && unseen && apart
+}
+
+/// A record of one event.
+fn of_one_event(alloc: Global) -> Result<Recorded, Fail> {
+    let event = event(alloc, "User:root", creation(alloc)?)?;
+    let mut recorded = recorded(alloc, Vec::new(alloc), 1)?;
+    let served = recorded.serve_as(alloc, 1, &event);
+    drop(event);
+    match served {
+        Ok(receipt) => {
+            drop(receipt);
+            Ok(recorded)
+        }
+        Err(fault) => {
+            drop(recorded);
+            Err(fault.into())
+        }
+    }
+}
+
+fn shares(alloc: Global) -> Result<bool, Fail> {
+    let asker = at_host(alloc, "User:root")?;
+    let recorded = of_one_event(alloc)?;
+    spare(alloc);
+    Ok(goes_round(recorded, asker))
+}
+
+#[test]
+fn a_record_goes_round(rt: HostRuntime) -> Result<(), Fail> {
+    let holds = shares(rt.alloc())?;
+    assert!(rt; holds);
+    Ok(())
+}
+
+/// Whether one event was told, at the place 0.
+fn are_of_one(receipts: &[Receipt]) -> bool {
+    match receipts {
+        [receipt] => receipt.place == 0 && receipt.same(receipt),
+        _ => false,
+    }
+}
+
+/// Whether these are the notes of one event.
+fn is_noted(notes: &Notes) -> bool {
+    notes.len() == 1 && notes.events().len() == 1 && are_of_one(notes.receipts())
+}
+
+/// Whether what a desk noted is told, also once it is closed.
+fn closes(desk: Desk<'_>) -> bool {
+    let told = desk.len() == 1 && are_of_one(desk.receipts());
+    let notes = desk.close();
+    let noted = is_noted(&notes);
+    drop(notes);
+    told && noted
+}
+
+/// Whether a desk that is just opened has noted nothing.
+fn is_blank(desk: Desk<'_>) -> bool {
+    let blank = desk.len() == 0;
+    drop(desk);
+    blank
+}
+
+/// Whether one desk is closed and another opened.
+fn opens_and_closes<R: Wait>(rt: &R, alloc: Global, shared: &SharedBroker) -> Result<bool, Fail> {
+    let other = session(alloc, shared, 2, "User:root")?;
+    let mut desk = Desk::open(alloc, session(alloc, shared, 1, "User:root")?);
+    desk.call(rt, alloc, metadata())?;
+    spare(alloc);
+    let blank = is_blank(Desk::open(alloc, other));
+    Ok(closes(desk) && blank)
+}
+
+fn serves_desks<R: Wait>(rt: &R, alloc: Global) -> Result<bool, Fail> {
+    let shared = shared(alloc, Vec::new(alloc), 1)?;
+    opens_and_closes(rt, alloc, &shared)
+}
+
+#[test]
+fn desks_open_and_close(rt: HostRuntime) -> Result<(), Fail> {
+    let holds = serves_desks(&rt, rt.alloc())?;
+    assert!(rt; holds);
+    Ok(())
+}
+
+/// Whether a pipeline of a service that sends two events and of a consumer left what it is to leave
+/// whoever was first: eight entries, of which three are each worker's.
+fn is_whole(end: &PipelineEnd) -> bool {
+    let counts = end.transcripts.iter().map(|notes| notes.len());
+    end.journal.len() == 8
+        && end.journal.iter().count() == 8
+        && counts.eq([2, 3, 3])
+        && is_marked(end, 2)
+        && end
+            .inboxes
+            .iter()
+            .all(|inbox| begins(&inbox.rows, &[0xA, 0xB]))
+}
+
+/// Whether an end, of which the laws speak, is so.
+fn is_lawful(alloc: Global, plan: &Plan, end: &PipelineEnd) -> bool
+    requires { IsPipeline plan.now end.now }
+{
+    spare(alloc);
+    call_laws(plan, end);
+    is_whole(end)
+}
+
+/// Whether the laws are called on the end of a plan.
+fn are_called<R: Threads + Wait + Sync>(rt: &R, alloc: Global, plan: &Plan) -> bool {
+    let ran = run(rt, alloc, plan, &Open::new());
+    let Some(Ok(end)) = ran else {
+        drop(ran);
+        return false;
+    };
+    let lawful = is_lawful(alloc, plan, &end);
+    drop(end);
+    lawful
+}
+
+fn calls_laws<R: Threads + Wait + Sync>(rt: &R, alloc: Global) -> Result<bool, Fail> {
+    let cast = Cast {
+        service: &TWO,
+        groups: &["g"],
+        consumer: &[STEP, STEP, STEP],
+        revoked: false,
+    };
+    let plan = plan(alloc, cast)?;
+    let called = are_called(rt, alloc, &plan);
+    drop(plan);
+    Ok(called)
+}
+
+#[test]
+fn laws_are_called(rt: HostRuntime) -> Result<(), Fail> {
+    let holds = calls_laws(&rt, rt.alloc())?;
+    assert!(rt; holds);
+    Ok(())
+}
