@@ -8,19 +8,19 @@ use Rattle.kob_prefix_tree.proofs.ChangeLemmas.{ChangedAt, neat_behind, held_beh
 
 -- the lengths of the tails: a tail is not longer after an exchange, and after two of them
 module _ (old mid had : ℕ) {empty : ℕ} (none : empty ≡ 0) (outside : old ≡ 0 → mid ≡ 0)
-    (inside : 0 < old → (0 < mid) × ((had ≤ 5) × (mid + had ≡ old + empty))) where
+    (inside : 0 < old → (0 < mid) × ((had ≤ 21) × (mid + had ≡ old + empty))) where
   pub no_longer : mid ≤ old
   no_longer = by_length old outside inside
     where
-      by_length : (n : ℕ) → (n ≡ 0 → mid ≡ 0) → (0 < n → (0 < mid) × ((had ≤ 5) × (mid + had ≡ n + empty))) → mid ≤ n
+      by_length : (n : ℕ) → (n ≡ 0 → mid ≡ 0) → (0 < n → (0 < mid) × ((had ≤ 21) × (mid + had ≡ n + empty))) → mid ≤ n
       by_length zero o i = let is = o refl in omega arith
       by_length (suc n) o i = let sum = (i (omega arith)).1.1 in omega arith
 
   pub no_longer_twice : (now new left : ℕ) → now ≤ had → (mid ≡ 0 → new ≡ 0)
-      → (0 < mid → (0 < new) × ((left ≤ 5) × (new + left ≡ mid + now))) → new ≤ old
+      → (0 < mid → (0 < new) × ((left ≤ 21) × (new + left ≡ mid + now))) → new ≤ old
   no_longer_twice now new left shorter outside' inside' = by_length old outside inside
     where
-      by_length : (n : ℕ) → (n ≡ 0 → mid ≡ 0) → (0 < n → (0 < mid) × ((had ≤ 5) × (mid + had ≡ n + empty))) → new ≤ n
+      by_length : (n : ℕ) → (n ≡ 0 → mid ≡ 0) → (0 < n → (0 < mid) × ((had ≤ 21) × (mid + had ≡ n + empty))) → new ≤ n
       by_length zero o i = let is = outside' (o refl) in omega arith
       by_length (suc n) o i =
           let here = i (omega arith) in let sum = here.1.1 in let sum' = (inside' here.0).1.1 in omega arith

@@ -76,7 +76,7 @@ impl Branch {
 
     /// Exchanges what follows the byte for another branch, if the byte leads on.
     fn exchange(&mut self, byte: u8, branch: &mut Branch)
-        requires fits { 0 < length self.old.tail → length branch.old.tail ≤ 5 }
+        requires fits { 0 < length self.old.tail → length branch.old.tail ≤ 21 }
         ensures kept { (contents self.new).0 ≡ (contents self.old).0 }
         ensures here { siblings (contents self.new).1
             ≡ with_value byte (contents branch.old) (siblings (contents self.old).1) }
@@ -84,7 +84,7 @@ impl Branch {
             ≡ unwrap_or (value_at byte (siblings (contents self.old).1)) (contents branch.old) }
         ensures outside { length self.old.tail ≡ 0 → length self.new.tail ≡ 0 }
         ensures inside { 0 < length self.old.tail → (0 < length self.new.tail)
-            × ((length branch.new.tail ≤ 5)
+            × ((length branch.new.tail ≤ 21)
             × (length self.new.tail + length branch.new.tail
             ≡ length self.old.tail + length branch.old.tail)) }
     {

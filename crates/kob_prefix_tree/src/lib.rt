@@ -1,5 +1,5 @@
-//! A map from byte strings to lists of serials, kept as a tree whose nodes hold up to seven
-//! bytes each.
+//! A map from byte strings to lists of serials, kept as a tree whose nodes hold up to 23 bytes
+//! each.
 #![tactic(auto)]
 
 mod branch;

@@ -79,7 +79,7 @@ impl Link<Item> {
     }
 }
 
-/// Nodes for a key, one for every seven bytes. One that can't be made frees the others.
+/// Nodes for a key, one for every 23 bytes. One that can't be made frees the others.
 pub(crate) fn path_of(alloc: Global, key: &[u8]) -> Result<Link<Item>, AllocError>
     ensures { IfOk result (λ path. key_of path.nodes ≡ key.now) }
 {

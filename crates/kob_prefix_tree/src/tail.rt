@@ -3,21 +3,22 @@ ghost use Rattle.std.specs.Prelude.{◌≡◌, ◌↔◌, [], ◌∷◌, ◌≤�
 
 use std::marker::Model;
 
-/// Up to six bytes, in order. It takes seven, so that a node's first byte fills a word with it.
+/// Up to 22 bytes, in order, at the end of the array: where a byte is taken off or put in front, no
+/// other moves. It takes 23, so that it fills three words with a node's first byte.
 #[derive(Drop)]
 pub(crate) struct Tail {
-    bytes: [u8; 6],
-    used: u8,
+    bytes: [u8; 22],
+    start: u8,
 }
 
 impl Model for Tail {
-    ghost use Rattle.std.specs.Prelude.{List, ℕ, ◌≤◌, take};
+    ghost use Rattle.std.specs.Prelude.{List, ℕ, ◌≤◌, drop};
 
     ghost Value = { List ℕ };
 
-    ghost view = { λ a. take a.used a.bytes };
+    ghost view = { λ a. drop a.start a.bytes };
 
-    ghost invariant = { λ a. a.used ≤ 6 };
+    ghost invariant = { λ a. a.start ≤ 22 };
 }
 
 impl Tail {
@@ -25,8 +26,8 @@ impl Tail {
         ensures { result ≡ [] }
     {
         Tail {
-            bytes: [0; 6],
-            used: 0,
+            bytes: [0; 22],
+            start: 22,
         }
     }
 
@@ -34,20 +35,20 @@ impl Tail {
     pub(crate) fn as_slice(&self) -> &[u8]
         ensures { result.now ≡ self.now }
     {
-        &self.bytes[..self.used as usize]
+        &self.bytes[self.start as usize..]
     }
 
     pub(crate) fn is_empty(&self) -> bool
         ensures { IsTrue result ↔ (self.now ≡ []) }
     {
-        self.used == 0
+        self.as_slice().is_empty()
     }
 
     pub(crate) fn is_full(&self) -> bool
-        ensures full { IsTrue result ↔ (length self.now ≡ 6) }
-        ensures limit { length self.now ≤ 6 }
+        ensures full { IsTrue result ↔ (length self.now ≡ 22) }
+        ensures limit { length self.now ≤ 22 }
     {
-        self.used == 6
+        self.start == 0
     }
 
     pub(crate) fn first(&self) -> Option<u8>
@@ -55,34 +56,26 @@ impl Tail {
             (self.now ≡ [])
             (λ byte. self.now ≡ byte ∷ drop 1 self.now) }
     {
-        if self.used == 0 {
-            return None;
-        }
-        Some(self.bytes[0])
+        self.as_slice().first().copied()
     }
 
     /// Takes the first byte off.
     pub(crate) fn pop_front(&mut self) -> Option<u8>
         ensures { MatchOption result
             ((self.old ≡ []) × (self.new ≡ []))
-            (λ byte. (self.old ≡ byte ∷ self.new) × (length self.new ≤ 5)) }
+            (λ byte. (self.old ≡ byte ∷ self.new) × (length self.new ≤ 21)) }
     {
-        if self.used == 0 {
-            return None;
-        }
-        let [first, second, third, fourth, fifth, sixth] = self.bytes;
-        self.bytes = [second, third, fourth, fifth, sixth, 0];
-        self.used -= 1;
+        let first = self.first()?;
+        self.start += 1;
         Some(first)
     }
 
     /// Puts one byte more in front.
     pub(crate) fn push_front(&mut self, byte: u8)
-        requires { length self.old ≤ 5 }
+        requires { length self.old ≤ 21 }
         ensures { self.new ≡ byte ∷ self.old }
     {
-        let [first, second, third, fourth, fifth, _] = self.bytes;
-        self.bytes = [byte, first, second, third, fourth, fifth];
-        self.used += 1;
+        self.start -= 1;
+        self.bytes[self.start as usize] = byte;
     }
 }

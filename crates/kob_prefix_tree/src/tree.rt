@@ -21,12 +21,12 @@ use std::marker::Model;
 /// A map from keys, which are byte strings, to two lists of serials: the literal and the prefixed
 /// ones.
 ///
-/// A node has one to seven bytes of a key, the serials of the key that ends with them, its first
-/// child and its next sibling, and takes 40 bytes. No two siblings begin with one byte, and no node
-/// stays that holds nothing and leads nowhere. Where a key ends or parts within its bytes a node is
-/// cut in two, which no removal joins again. What adds or removes calls itself once a byte of the
-/// key, and at each node once a sibling, from which it comes back before it goes on. All else is
-/// loops, freeing the tree too. A tree may be moved to another thread.
+/// A node has one to 23 bytes of a key, the serials of the key that ends with them, its first child
+/// and its next sibling, and takes 56 bytes. No two siblings begin with one byte, and no node stays
+/// that holds nothing and leads nowhere. Where a key ends or parts within its bytes a node is cut
+/// in two, which no removal joins again. What adds or removes calls itself once a byte of the key,
+/// and at each node once a sibling, from which it comes back before it goes on. All else is loops,
+/// freeing the tree too. A tree may be moved to another thread.
 #[derive(Drop)]
 pub struct PrefixTree {
     root: Branch,
@@ -105,7 +105,7 @@ impl PrefixTree {
     }
 
     /// The first step of an addition: makes the nodes and the serial's place as a piece of its own.
-    /// It makes a node for every seven bytes of the key, since those that stand now may be removed
+    /// It makes a node for every 23 bytes of the key, since those that stand now may be removed
     /// before the second step, and one more, since one may have to be cut in two.
     pub fn prepare_add(
         &self,

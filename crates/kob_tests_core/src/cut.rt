@@ -4,7 +4,7 @@ use std::alloc::{AllocError, Global};
 use std::test::Fail;
 
 /// More bytes than two nodes hold.
-const LONG: &[u8] = b"abcdefghijklmnopq";
+const LONG: &[u8] = b"abcdefghijklmnopqrstuvwxyzABCDEFGHIJKLMNOPQRSTUVWXYZ";
 
 /// Puts a serial on each beginning of the long key, the longest first, so that each cuts a node.
 fn put_beginnings(alloc: Global, tree: &mut PrefixTree) -> Result<(), AllocError> {
@@ -24,7 +24,7 @@ fn lets_beginnings_go(tree: &mut PrefixTree) -> bool {
         if !tree.remove(key, PatternKind::Prefixed, serial) {
             return false;
         }
-        if !tree.walk(LONG).eq(serial + 1..18) || tree.walk(key).next().is_some() {
+        if !tree.walk(LONG).eq(serial + 1..53) || tree.walk(key).next().is_some() {
             return false;
         }
     }
@@ -35,7 +35,7 @@ fn lets_beginnings_go(tree: &mut PrefixTree) -> bool {
 fn keys_end_at_each_byte_of_a_node(rt: HostRuntime) -> Result<(), Fail> {
     let mut tree = PrefixTree::new();
     put_beginnings(rt.alloc(), &mut tree)?;
-    assert!(rt; tree.walk(LONG).eq(0..18));
+    assert!(rt; tree.walk(LONG).eq(0..53));
     assert_eq!(rt; tree.levels(b"abcdefgx"), 8);
     assert!(rt; lets_beginnings_go(&mut tree));
     Ok(())
