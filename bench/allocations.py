@@ -20,8 +20,8 @@ import sys
 import tempfile
 
 TOP = pathlib.Path(__file__).resolve().parent.parent
-CRATES = """kob_names kob_prefix_tree kob_chunks kob_rights kob_producers kob_authorizer kob_groups kob_partition kob_catalog
-kob_broker""".split()
+CRATES = """kob_names kob_prefix_tree kob_chunks kob_rights kob_producers kob_authorizer kob_ordered kob_groups kob_partition
+kob_catalog kob_broker""".split()
 LINES = 2_000
 CALL = re.compile(r"(malloc|calloc|realloc|memalign|aligned_alloc)\(.*?(\d+)\) = ")
 

@@ -113,6 +113,18 @@ def topics_deleted(n):
     return topics(n), lines(n, "{ROOT} delete-topic t{i:06}")
 
 
+@workload(2_000)
+def topics_deleted_with_a_group_each(n):
+    commits = lines(n, "{ROOT} commit g{i:06} t{i:06} 0 0")
+    return [*topics(n), *commits], lines(n, "{ROOT} delete-topic t{i:06}")
+
+
+@workload(2_000)
+def topics_deleted_beside_groups_on_another(n):
+    commits = lines(n, "{ROOT} commit g{i:06} other 0 0")
+    return [f"{ROOT} create-topic other 1", *topics(n), *commits], lines(n, "{ROOT} delete-topic t{i:06}")
+
+
 @workload(100)
 def fetches_of_1000_records(n):
     batch = f"{ROOT} produce t000000 0 - {' '.join(['x' * 50] * 1000)}"
