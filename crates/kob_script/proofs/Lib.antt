@@ -8,6 +8,7 @@ pub mod Each
 pub mod Escapes
 pub mod FilterFaults
 pub mod LeftRequests
+pub mod LineWords
 pub mod Lines
 pub mod Numbers
 pub mod PlainScripts
