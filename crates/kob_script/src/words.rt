@@ -30,7 +30,9 @@ fn is_blank(byte: u8) -> bool
 fn is_skipped(line: &[u8]) -> bool
     ensures { result ≡ is_skipped (raw_words line.now) }
 {
-    let mut words = line.split(|byte| is_blank(*byte)).filter(|word| !word.is_empty());
+    let mut words = line
+        .split(|byte| is_blank(*byte))
+        .filter(|word| !word.is_empty());
     match words.next() {
         Some(first) => first.first() == Some(&b'#'),
         None => true,
@@ -41,14 +43,19 @@ fn is_skipped(line: &[u8]) -> bool
 fn word_count(line: &[u8]) -> usize
     ensures { result ≡ length (raw_words line.now) }
 {
-    line.split(|byte| is_blank(*byte)).filter(|word| !word.is_empty()).count()
+    line.split(|byte| is_blank(*byte))
+        .filter(|word| !word.is_empty())
+        .count()
 }
 
 fn each_read(alloc: Global, line: &[u8]) -> Result<Vec<Word<'_>>, LineError>
     ensures { GivesSeen (λ words. words.items) result (each word_of (raw_words line.entry.now)) }
 {
     let mut words = Vec::with_capacity(alloc, word_count(line))?;
-    for raw in line.split(|byte| is_blank(*byte)).filter(|word| !word.is_empty()) {
+    for raw in line
+        .split(|byte| is_blank(*byte))
+        .filter(|word| !word.is_empty())
+    {
         let word = Word::read(alloc, raw)?;
         words.push(word)?;
     }
