@@ -14,12 +14,6 @@ some_lines asked [] answers all n none left some =
     absurd (omega (arith, nothing, some))
 some_lines asked (line ∷ lines) answers all n none left some = omega arith
 
--- what a line asks for stands at the front
-pub read_more : (asked more front rest after all : List Event) → asked ≡ [] → asked ++ rest ≡ all → rest ≡ more ++ after
-    → front ≡ more → front ++ after ≡ all
-read_more asked more front rest after all none left split is =
-    ap (λ given. given ++ after) is ∙ sym split ∙ sym (ap (λ given. given ++ rest) none) ∙ left
-
 pub same_left : (asked : List Event) (lines left : List (List ℕ)) (answers kept : List (Option CliArgs)) → left ≡ lines
     → kept ≡ answers → asked ++ requests_in left kept ≡ asked ++ requests_in lines answers
 same_left asked lines left answers kept same_lines same_answers =

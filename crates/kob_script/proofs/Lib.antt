@@ -3,6 +3,7 @@ pub mod AskedLines
 pub mod BlockLines
 pub mod CheckedLines
 pub mod Choices
+pub mod CountedLines
 pub mod Cuts
 pub mod Each
 pub mod Escapes

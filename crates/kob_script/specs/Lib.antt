@@ -1,5 +1,6 @@
 pub mod Acl
 pub mod AclLines
+pub mod Asked
 pub mod Askers
 pub mod Batches
 pub mod Blocks
@@ -12,6 +13,7 @@ pub mod Escapes
 pub mod Filters
 pub mod GroupLines
 pub mod Keywords
+pub mod LineChecks
 pub mod Numbers
 pub mod PartitionLines
 pub mod PrintedBody

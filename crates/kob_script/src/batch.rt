@@ -50,7 +50,7 @@ fn split_at_colons(alloc: Global, word: &[u8]) -> Result<Vec<&[u8]>, AllocError>
 
 /// The numbers that the parts write.
 #[tactic(auto, unfolding(crate::specs::Batches::idem_of))]
-fn idem_of(parts: Option<IdemParts>) -> Result<Option<Idem>, LineError>
+pub fn idem_of(parts: Option<IdemParts>) -> Result<Option<Idem>, LineError>
     ensures { Gives result (idem_of parts) }
 {
     let Some(parts) = parts else {

@@ -11,8 +11,8 @@ ghost use Rattle.kob_script.specs.Script.{script_of, with_events, with_setting, 
 ghost use Rattle.kob_script.specs.ScriptReadings.{HasNoAclLine, MayRead, Reads};
 
 use crate::clap_answer::{answer_to, asks_clap};
-use crate::command_lines::events_of;
 use crate::fault::{Fault, FaultKind, LineError, ScriptError};
+use crate::line_checks::count_of;
 use crate::requests::Requests;
 use crate::setting::{everyone_of, is_setting, is_super, super_of};
 use crate::word::Word;
@@ -38,11 +38,10 @@ struct Checking {
 }
 
 /// Checks a script in blocks of whole lines, with fewer than 2^63 bytes, in time linear in its
-/// size: what a line asks for is dropped once no fault was found in it, and its bytes are held
-/// until it is served. The error is the first line with a fault, or want of memory, which 2^64
-/// requests count as. What the words of an `acl` line mean is answered by `clap`, and for some
-/// words what its port states leaves more than one answer open; a script without such lines has
-/// one reading.
+/// size: what a line asks for is counted, and its bytes are held until it is served. The error is
+/// the first line with a fault, or want of memory, which 2^64 requests count as. What the words of
+/// an `acl` line mean is answered by `clap`, and for some words what its port states leaves more
+/// than one answer open; a script without such lines has one reading.
 pub fn check_script(alloc: Global, blocks: Vec<Bytes>) -> Result<CheckedScript, ScriptError>
     requires whole { AreWholeLines blocks.items }
     requires short { length (concat blocks.items) < 2 ^ 63 }
@@ -177,7 +176,6 @@ fn add_setting(
     Ok(())
 }
 
-// Counts what words ask for, and drops it.
 fn count_requests(
     alloc: Global,
     checking: &mut Checking,
@@ -188,8 +186,8 @@ fn count_requests(
         → ChecksNext checking.new result
         (with_events answer.now (script_so_far checking.old events) words.now) }
 {
-    let asked = events_of(alloc, words, answer)?;
-    match checking.requests.checked_add(asked.len() as u64) {
+    let asked = count_of(alloc, words, answer)?;
+    match checking.requests.checked_add(asked) {
         Some(requests) => checking.requests = requests,
         None => return Err(LineError::Memory),
     }

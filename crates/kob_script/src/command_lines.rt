@@ -1,10 +1,11 @@
 //! Which line each command has, and the events of a line.
 
 ghost use Rattle.kob_script.specs.CommandLines.{command_line, events_named, events_of, line_named};
-ghost use Rattle.kob_script.specs.Reading.{Gives, GivesSeen};
+ghost use Rattle.kob_script.specs.Reading.{Gives};
 
 use crate::acl::acl_line;
 use crate::acl_lines::{create_acl_line, delete_acls_line, describe_acls_line};
+use crate::asked::Asked;
 use crate::asker::AskerWords;
 use crate::command::{Command, command_named};
 use crate::fault::{FaultKind, LineError};
@@ -18,8 +19,9 @@ use kob_acl_cli::CliArgs;
 use kob_rights::Event;
 use std::alloc::Global;
 
+/// The event of a command's line.
 #[tactic(auto, unfolding(crate::specs::CommandLines::command_line))]
-fn command_line(
+pub fn command_line(
     alloc: Global,
     command: Command,
     asker: &AskerWords<'_, '_>,
@@ -66,17 +68,15 @@ fn events_named(
     asker: &AskerWords<'_, '_>,
     words: &[Word<'_>],
     answer: &Option<CliArgs>,
-) -> Result<Vec<Event>, LineError>
-    ensures { GivesSeen (λ events. events.items) result
-        (events_named answer.now name.now asker.now words.now) }
+) -> Result<Asked, LineError>
+    ensures { Gives result (events_named answer.now name.now asker.now words.now) }
 {
     if name == b"acl".as_slice() {
-        return acl_line(alloc, asker, words, answer);
+        let events = acl_line(alloc, asker, words, answer)?;
+        return Ok(Asked::several(events));
     }
     let event = line_named(alloc, name, asker, words)?;
-    let mut events = Vec::with_capacity(alloc, 1)?;
-    events.push(event)?;
-    Ok(events)
+    Ok(Asked::one(alloc, event))
 }
 
 /// The events of a line's words, in order, by `clap`'s answer to those of `acl`.
@@ -85,8 +85,8 @@ pub fn events_of(
     alloc: Global,
     words: &[Word<'_>],
     answer: &Option<CliArgs>,
-) -> Result<Vec<Event>, LineError>
-    ensures { GivesSeen (λ events. events.items) result (events_of answer.now words.now) }
+) -> Result<Asked, LineError>
+    ensures { Gives result (events_of answer.now words.now) }
 {
     match words {
         [principal, host, command, arguments @ ..] => {

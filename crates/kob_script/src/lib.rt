@@ -3,6 +3,7 @@
 
 mod acl;
 mod acl_lines;
+mod asked;
 mod asker;
 mod batch;
 mod blocks;
@@ -17,6 +18,7 @@ mod filter;
 mod group_lines;
 mod keyword;
 mod laws;
+mod line_checks;
 mod number;
 mod partition_lines;
 mod printed_body;

@@ -1,14 +1,17 @@
 //! Lines that ask for something of partitions and their producers.
 
+ghost use Rattle.std.specs.Prelude.{List};
+ghost use Rattle.kob_script.specs.LineChecks.{only_fault};
 ghost use Rattle.kob_script.specs.PartitionLines.{before_in, before_of, delete_records};
 ghost use Rattle.kob_script.specs.PartitionLines.{delete_records_line, fetch, fetch_line};
 ghost use Rattle.kob_script.specs.PartitionLines.{init_producer, init_producer_line, list_offsets};
 ghost use Rattle.kob_script.specs.PartitionLines.{list_offsets_line, produce, produce_line};
 ghost use Rattle.kob_script.specs.PartitionLines.{which_in, which_of};
 ghost use Rattle.kob_script.specs.Reading.{Gives};
+ghost use Rattle.kob_script.specs.Word as words;
 
 use crate::asker::{AskerWithName, AskerWords};
-use crate::batch::{batch_of, idem_parts};
+use crate::batch::{batch_of, idem_of, idem_parts};
 use crate::fault::{FaultKind, LineError};
 use crate::number::{number_in, number_of};
 use crate::word::Word;
@@ -35,6 +38,25 @@ fn produce(
         partition,
         batch,
     })))
+}
+
+// Records have no fault, and so they aren't looked at.
+#[tactic(auto, unfolding(crate::specs::PartitionLines::produce, crate::specs::Batches::batch_of))]
+fn check_produce(
+    alloc: Global,
+    asker: &AskerWords<'_, '_>,
+    topic: &Word<'_>,
+    partition: &Word<'_>,
+    idem: &Word<'_>,
+) -> Result<(), LineError>
+    ensures { (records : List words.Word) → Gives result
+        (only_fault (produce asker.now topic.now partition.now idem.now records)) }
+{
+    let parts = idem_parts(alloc, idem)?;
+    asker.with_name(alloc, topic)?;
+    number_of(partition)?;
+    idem_of(parts)?;
+    Ok(())
 }
 
 #[tactic(auto, unfolding(crate::specs::PartitionLines::fetch))]
@@ -155,6 +177,20 @@ pub fn produce_line(
         [topic, partition, idem, records @ ..] => produce(
             alloc, asker, topic, partition, idem, records,
         ),
+        _ => Err(LineError::Fault(FaultKind::BadLine)),
+    }
+}
+
+/// The fault of a `produce` line, if there is one; its records aren't made.
+pub fn check_produce_line(
+    alloc: Global,
+    asker: &AskerWords<'_, '_>,
+    words: &[Word<'_>],
+) -> Result<(), LineError>
+    ensures { Gives result (only_fault (produce_line asker.now words.now)) }
+{
+    match words {
+        [topic, partition, idem, ..] => check_produce(alloc, asker, topic, partition, idem),
         _ => Err(LineError::Fault(FaultKind::BadLine)),
     }
 }

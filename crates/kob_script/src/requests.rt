@@ -6,6 +6,7 @@ ghost use Rattle.kob_script.specs.Blocks.{lines_in_blocks, lines_left, steps_lef
 ghost use Rattle.kob_script.specs.Requests.{answer_for, asks_clap, line_words};
 ghost use Rattle.kob_script.specs.Requests.{requests_in, requests_of};
 
+use crate::asked::Asked;
 use crate::blocks::{Blocks, first_line};
 use crate::clap_answer::asks_clap;
 use crate::command_lines::events_of;
@@ -81,7 +82,12 @@ impl Requests {
     {
         while self.asked.is_empty() {
             let asked = read_on(alloc, &mut self.blocks, &mut self.answers)?;
-            self.asked = VecDeque::from(asked);
+            let Asked { first, others } = asked;
+            self.asked = others;
+            if let Some(event) = first {
+                self.left -= 1;
+                return Ok(event);
+            }
         }
         self.left -= 1;
         Ok(self.asked.pop_front().unwrap())
@@ -93,11 +99,11 @@ fn read_on(
     alloc: Global,
     blocks: &mut Blocks,
     answers: &mut VecDeque<Option<CliArgs>>,
-) -> Result<Vec<Event>, AllocError>
+) -> Result<Asked, AllocError>
     requires within { blocks.old.at ≤ length blocks.old.front }
     requires some { 0 < steps_left blocks.old }
     ensures asked { IfOk result (λ asked. requests_in (lines_left blocks.old) answers.old.items
-        ≡ asked.items ++ requests_in (lines_left blocks.new) answers.new.items) }
+        ≡ asked ++ requests_in (lines_left blocks.new) answers.new.items) }
     ensures nearer { OnOk result (steps_left blocks.new < steps_left blocks.old) }
     ensures within { blocks.new.at ≤ length blocks.new.front }
     ensures same_lines { OnErr result (lines_left blocks.new ≡ lines_left blocks.old) }
@@ -105,13 +111,13 @@ fn read_on(
 {
     let Some(line) = first_line(blocks.rest()) else {
         blocks.enter_next();
-        return Ok(Vec::new(alloc));
+        return Ok(Asked::nothing(alloc));
     };
     let size = line.size;
     let read = read_again(alloc, line.text, answers)?;
     pass_answer(answers, read.asked_clap);
     blocks.pass(size);
-    Ok(read.events)
+    Ok(read.asked)
 }
 
 // Lets go of the first answer, where it was used.
@@ -127,7 +133,7 @@ fn pass_answer(answers: &mut VecDeque<Option<CliArgs>>, is_used: bool)
 // What a line asks for, and whether clap was asked for it.
 #[derive(Drop)]
 struct ReadAgain {
-    events: Vec<Event>,
+    asked: Asked,
     asked_clap: bool,
 }
 
@@ -136,7 +142,7 @@ fn read_again(
     line: &[u8],
     answers: &VecDeque<Option<CliArgs>>,
 ) -> Result<ReadAgain, AllocError>
-    ensures events { IfOk result (λ read. read.events.items
+    ensures asked { IfOk result (λ read. read.asked
         ≡ requests_of (answer_for (line_words line.now) answers.now.items) (line_words line.now)) }
     ensures clap { IfOk result (λ read. read.asked_clap ≡ asks_clap (line_words line.now)) }
 {
@@ -148,8 +154,8 @@ fn read_again(
     } else {
         &unasked
     };
-    let events = requests_of(alloc, &words, answer)?;
-    Ok(ReadAgain { events, asked_clap })
+    let asked = requests_of(alloc, &words, answer)?;
+    Ok(ReadAgain { asked, asked_clap })
 }
 
 fn words_again(alloc: Global, line: &[u8]) -> Result<Vec<Word<'_>>, AllocError>
@@ -166,16 +172,16 @@ fn requests_of(
     alloc: Global,
     words: &[Word<'_>],
     answer: &Option<CliArgs>,
-) -> Result<Vec<Event>, AllocError>
-    ensures { IfOk result (λ events. events.items ≡ requests_of answer.now words.now) }
+) -> Result<Asked, AllocError>
+    ensures { IfOk result (λ asked. asked ≡ requests_of answer.now words.now) }
 {
     match words {
-        [] => Ok(Vec::new(alloc)),
-        [first, ..] if is_setting(first) => Ok(Vec::new(alloc)),
+        [] => Ok(Asked::nothing(alloc)),
+        [first, ..] if is_setting(first) => Ok(Asked::nothing(alloc)),
         _ => match events_of(alloc, words, answer) {
-            Ok(events) => Ok(events),
+            Ok(asked) => Ok(asked),
             Err(LineError::Memory) => Err(AllocError),
-            Err(LineError::Fault(_)) => Ok(Vec::new(alloc)),
+            Err(LineError::Fault(_)) => Ok(Asked::nothing(alloc)),
         },
     }
 }

@@ -3,13 +3,14 @@ use Rattle.kob_rights.specs.declared.event.Event.{Event}
 use Rattle.kob_script.specs.Checks.{script_so_far}
 use Rattle.kob_script.specs.declared.fault.FaultKind.{FaultKind}
 use Rattle.kob_script.specs.Reading.{◌>>=◌}
+use Rattle.kob_script.proofs.CountedLines.{were_counted}
 use Rattle.kob_script.proofs.checks.count_requests.Goals as goal
 
 pub returns : goal.returns
 returns c = λ events counts.
-    let asked = c.in_ok-asked.asked in (
-      events ++ asked.items,
-      omega (arith, length-append events asked.items, c.in-Some.ensures.1, c.len.ensures, asked.ok, counts),
+    let (asked, is, count) = were_counted _ c.in_ok-asked.asked c.in_ok-asked.ensures in (
+      events ++ asked,
+      omega (arith, length-append events asked, c.in-Some.ensures.1, count, counts),
       ap (λ (found : Result (List Event) FaultKind).
-          found >>= λ more. Ok (script_so_far c.args.checking.now (events ++ more))) c.in_ok-asked.ensures,
+          found >>= λ more. Ok (script_so_far c.args.checking.now (events ++ more))) is,
     )

@@ -18,8 +18,8 @@ returns-clause-asked c =
     let old = c.args.answers.now.items in
     line_read c.in-Some.line.text.now (lines_in (rest_of blocks)) (lines_in (rest_of c.pass.new.self))
     (lines_in_blocks blocks.later.items) (lines_in_blocks c.pass.new.self.later.items) old c.pass_answer.new.answers.items
-    c.in_ok-read.read.events.items
+    c.in_ok-read.read.asked
     (found.1 ∙ ap (λ bytes. c.in-Some.line.text.now ∷ lines_in bytes) (sym behind))
     (ap (λ later. lines_in_blocks later.items) c.pass.ensures.later)
-    c.in_ok-read.ensures.events
+    c.in_ok-read.ensures.asked
     (c.pass_answer.ensures ∙ ap (λ (used : Bool). if used then drop 1 old else old) c.in_ok-read.ensures.clap)

@@ -1,7 +1,7 @@
 use Rattle.std.proofs.Common.{◌∙◌, List, ◌++◌, ap, arith, length, sym}
 use Rattle.std.proofs.lemmas.Result.{err_from_is_err_and}
 use Rattle.kob_rights.specs.declared.event.Event.{Event}
-use Rattle.kob_script.proofs.LeftRequests.{nothing_at_zero, one_fewer, read_more, same_left, some_lines}
+use Rattle.kob_script.proofs.LeftRequests.{nothing_at_zero, one_fewer, same_left, some_lines}
 use Rattle.kob_script.specs.Blocks.{lines_left}
 use Rattle.kob_script.specs.Requests.{requests_in}
 use Rattle.kob_script.proofs.requests.Requests.next_event.Goals as goal
@@ -44,21 +44,6 @@ returns-in_err-asked-clause-same c =
 
 pub loop-alloc-smaller : goal.loop-alloc-smaller
 loop-alloc-smaller c = c.in_ok-asked.ensures.nearer
-
-pub loop-alloc-preserved : goal.loop-alloc-preserved
-loop-alloc-preserved c =
-    let inside = c.loop-alloc.self-inside in
-    let same =
-    read_more inside.asked.items c.in_ok-asked.asked.items c.from.result.items
-    (requests_in (lines_left inside.blocks) inside.answers.items)
-    (requests_in (lines_left c.read_on.new.blocks) c.read_on.new.answers.items) c.args.self.now
-    (nothing_at_zero inside.asked.items inside.asked.len inside.asked.ok.0 (sym c.is_empty.ensures ∙ c.loop-alloc-test.true))
-    c.loop-alloc.invariant.same c.in_ok-asked.ensures.asked c.from.ensures.0 in
-    record {
-      within = c.read_on.ensures.within;
-      count = c.loop-alloc.invariant.count ∙ ap length (c.loop-alloc.invariant.same ∙ sym same);
-      same = same;
-    }
 
 pub overflow_sub-self : goal.overflow_sub-self
 overflow_sub-self c =
