@@ -1,22 +1,18 @@
 -- An addition that succeeds, and one that is refused.
-use Rattle.std.proofs.Common.{◌≡◌, ◌≢◌, List, ℕ, [], Result, Ok, Err, OnOk, OnErr, refl, sym, ap, ◌∙◌}
+use Rattle.std.proofs.Common.{◌≡◌, ◌≢◌, List, ℕ, Result, Ok, Err, OnOk, OnErr, sym, ap, ◌∙◌}
 use Rattle.kob_prefix_tree.specs.declared.kind.PatternKind.{PatternKind}
-use Rattle.kob_prefix_tree.specs.declared.kind.PatternKind.TheVariants.{Literal, Prefixed}
-use Rattle.kob_prefix_tree.specs.Held.{Held, nothing, with_serials}
+use Rattle.kob_prefix_tree.specs.Held.{Held, nothing, with_serial}
 use Rattle.kob_prefix_tree.specs.Trie.{Contents, bare}
 use Rattle.kob_prefix_tree.specs.Siblings.{held_in, IsNeat}
-use Rattle.kob_prefix_tree.proofs.ChangeLemmas.{ChangedAt, held_in_bare, some_behind}
+use Rattle.kob_prefix_tree.proofs.ChangeLemmas.{ChangedAt, held_in_bare}
+use Rattle.kob_prefix_tree.proofs.MapLemmas.{with_some}
 use Rattle.kob_prefix_tree.proofs.PlaceLemmas.{some_key}
 
-with_some : (kind : PatternKind) (serials : List ℕ) (h : Held) → serials ≢ [] → with_serials kind serials h ≢ nothing
-with_some Literal serials h some e = some_behind h.0 serials refl some (ap (λ x. x.0) e)
-with_some Prefixed serials h some e = some_behind h.1 serials refl some (ap (λ x. x.1) e)
-
--- a place where serials were put is not bare
-pub some_put : (kind : PatternKind) (serials key : List ℕ) (h : Held) {c : Contents} → serials ≢ []
-    → held_in key c ≡ with_serials kind serials h → c ≢ bare
-some_put kind serials key h some put none =
-    with_some kind serials h some (sym put ∙ ap (held_in key) none ∙ held_in_bare key)
+-- a place where a serial was put is not bare
+pub some_put : (kind : PatternKind) (serial : ℕ) (key : List ℕ) (h : Held) {c : Contents}
+    → held_in key c ≡ with_serial kind serial h → c ≢ bare
+some_put kind serial key h put none =
+    with_some kind serial h (sym put ∙ ap (held_in key) none ∙ held_in_bare key)
 
 module _ {A E : Type 0} where
   pub on_ok : {P Q : Type 0} (r : Result A E) → (P → Q) → OnOk r P → OnOk r Q
@@ -27,19 +23,19 @@ module _ {A E : Type 0} where
   on_err (Ok a) f p = p
   on_err (Err e) f p = f p
 
-  module _ (kind : PatternKind) (serials : List ℕ) where
+  module _ (kind : PatternKind) (serial : ℕ) where
     -- what the answer says was done at the key
     abbrev pub done_by : Result A E → Held → Held
-    done_by (Ok a) held = with_serials kind serials held
+    done_by (Ok a) held = with_serial kind serial held
     done_by (Err e) held = held
 
-    pub at_done : (r : Result A E) (new old : Held) → OnOk r (new ≡ with_serials kind serials old)
+    pub at_done : (r : Result A E) (new old : Held) → OnOk r (new ≡ with_serial kind serial old)
         → OnErr r (new ≡ old) → new ≡ done_by r old
     at_done (Ok a) new old put refused = put
     at_done (Err e) new old put refused = refused
 
     pub put_done : (r : Result A E) (new old : Held) → new ≡ done_by r old
-        → OnOk r (new ≡ with_serials kind serials old)
+        → OnOk r (new ≡ with_serial kind serial old)
     put_done (Ok a) new old is = is
     put_done (Err e) new old is = tt
 
@@ -48,11 +44,11 @@ module _ {A E : Type 0} where
     refused_done (Err e) new old is = is
 
     -- what was not bare is not bare after it
-    pub some_done : (r : Result A E) (key : List ℕ) (c d : Contents) → serials ≢ [] → IsNeat c.1 → c ≢ bare
+    pub some_done : (r : Result A E) (key : List ℕ) (c d : Contents) → IsNeat c.1 → c ≢ bare
         → ChangedAt key (done_by r) c d → d ≢ bare
-    some_done (Ok a) key c d some neat used done none =
-        with_some kind serials (held_in key c) some (sym done.at ∙ ap (held_in key) none ∙ held_in_bare key)
-    some_done (Err e) key c d some neat used done none =
+    some_done (Ok a) key c d neat used done none =
+        with_some kind serial (held_in key c) (sym done.at ∙ ap (held_in key) none ∙ held_in_bare key)
+    some_done (Err e) key c d neat used done none =
         let (k, holds) = some_key c.0.0 c.0.1 c.1 neat used in
         let gone : held_in k d ≡ nothing = ap (held_in k) none ∙ held_in_bare k in
         let other : k ≢ key =

@@ -6,7 +6,7 @@ use Rattle.kob_prefix_tree.specs.Nodes.{Leads, tree_of, if_none, last_of, with_o
 use Rattle.kob_prefix_tree.specs.Cells.{values_of, KnowsEnd}
 use Rattle.kob_prefix_tree.specs.declared.link.Link.{Link}
 use Rattle.kob_prefix_tree.specs.declared.node.Node.{Node}
-use Rattle.kob_prefix_tree.specs.declared.serials.Serial.{Serial}
+use Rattle.kob_prefix_tree.specs.declared.cells.Serial.{Serial}
 use Rattle.kob_prefix_tree.proofs.Firsts.{is_node}
 
 pub values_joined : (t : Tree Serial) (l : Link Serial) → values_of (with_others t l) ≡ values_of t ++ values_of l.nodes

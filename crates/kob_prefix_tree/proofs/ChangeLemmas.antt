@@ -33,10 +33,6 @@ changed_own f key {h} {h'} t none is neat =
     subst (λ k. ChangedAt k f (h, t) (h', t)) (no_bytes key none)
     (subst (λ x. ChangedAt [] f (h, t) (x, t)) (sym is) (changed_here f h t neat))
 
-pub some_behind : (xs ys : List ℕ) {zs : List ℕ} → zs ≡ xs ++ ys → ys ≢ [] → zs ≢ []
-some_behind [] ys is some none = some (sym is ∙ none)
-some_behind (x ∷ xs) ys is some none = cc
-
 -- what an empty key holds
 pub own_held : (key : List ℕ) (c : Contents) → length key ≡ 0 → c.0 ≡ held_in key c
 own_held key c none = ap (λ k. held_in k c) (no_bytes key none)

@@ -79,11 +79,12 @@ same_map es m is =
     map.same_map nat_list_cmp_total (slice_cmp-IsAntisymmetric nat_cmp-IsAntisymmetric) (map_of es) m
     (λ key. get_of es key ∙ is key)
 
-some_behind : (xs : List ℕ) (x : ℕ) → xs ++ x ∷ [] ≢ []
+pub some_behind : (xs : List ℕ) (x : ℕ) → xs ++ x ∷ [] ≢ []
 some_behind [] x e = cc
 some_behind (y ∷ xs) x e = cc
 
-with_some : (kind : PatternKind) (serial : ℕ) (h : Held) → with_serial kind serial h ≢ nothing
+-- a key in whose list a serial was put holds something
+pub with_some : (kind : PatternKind) (serial : ℕ) (h : Held) → with_serial kind serial h ≢ nothing
 with_some Literal serial h e = some_behind h.0 serial (ap (λ x. x.0) e)
 with_some Prefixed serial h e = some_behind h.1 serial (ap (λ x. x.1) e)
 

@@ -7,7 +7,7 @@ use Rattle.kob_prefix_tree.specs.Siblings.{siblings, value_at, behind_one, held_
 use Rattle.kob_prefix_tree.specs.Entries.{Entries, held_at, held_behind, behind, entries_below, entries_of, AllInUse, IsTidy, children_of, entries_in}
 use Rattle.kob_prefix_tree.specs.declared.kind.PatternKind.{PatternKind}
 use Rattle.kob_prefix_tree.specs.declared.kind.PatternKind.TheVariants.{Literal, Prefixed}
-use Rattle.kob_prefix_tree.specs.Held.{is_nothing, with_serial, with_serials, without_serial, without_serials}
+use Rattle.kob_prefix_tree.specs.Held.{is_nothing, with_serial, without_serial, without_serials}
 use Rattle.kob_prefix_tree.specs.Walked.{IsLongestInUse}
 use Rattle.kob_prefix_tree.specs.PrefixMap.{PrefixMap, held, added, removed, removed_all}
 use Rattle.std.specs.FinMap as map
@@ -99,11 +99,6 @@ held_everywhere c neat = sym (λ i key. held_of_map key c neat i)
 pub longest_of_place : (c : Contents) (name : List ℕ) (n : ℕ) → IsNeat c.1
     → IsLongestInUse (λ key. held_in key c) name n → IsLongestInUse (held (map_at c)) name n
 longest_of_place c name n neat longest = subst (λ f. IsLongestInUse f name n) (held_everywhere c neat) longest
-
-pub one_behind : (kind : PatternKind) (serial : ℕ) (h : Held)
-    → with_serials kind (serial ∷ []) h ≡ with_serial kind serial h
-one_behind Literal serial h = refl
-one_behind Prefixed serial h = refl
 
 without_one_of : (y : ℕ) (xs : List ℕ) → without_in_turn (y ∷ []) xs ≡ without_first (λ x. x == y) xs
 without_one_of y [] = refl

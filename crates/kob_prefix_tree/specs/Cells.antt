@@ -3,7 +3,7 @@ use Rattle.std.specs.Prelude.{◌≡◌, ℕ, List, [], ◌∷◌}
 use denote.RawPtr.{Ptr}
 use Rattle.kob_prefix_tree.specs.Tree.{Tree, leaf, node}
 use Rattle.kob_prefix_tree.specs.Nodes.{last_of}
-use Rattle.kob_prefix_tree.specs.declared.serials.Serial.{Serial}
+use Rattle.kob_prefix_tree.specs.declared.cells.Serial.{Serial}
 
 -- the serials in order
 abbrev pub values_of : Tree Serial → List ℕ

@@ -27,11 +27,6 @@ abbrev pub one_serial : PatternKind → ℕ → Held
 one_serial Literal serial = (serial ∷ [], [])
 one_serial Prefixed serial = ([], serial ∷ [])
 
--- the serials put last in the list of this kind
-abbrev pub with_serials : PatternKind → List ℕ → Held → Held
-with_serials Literal serials held = (held.0 ++ serials, held.1)
-with_serials Prefixed serials held = (held.0, held.1 ++ serials)
-
 -- the serial put last in the list of its kind
 abbrev pub with_serial : PatternKind → ℕ → Held → Held
 with_serial Literal serial held = (held.0 ++ serial ∷ [], held.1)

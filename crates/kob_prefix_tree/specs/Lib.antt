@@ -9,6 +9,7 @@ pub mod Owned
 pub mod Part
 pub mod Path
 pub mod PrefixMap
+pub mod Serials
 pub mod SerialsLeft
 pub mod Siblings
 pub mod Tree

@@ -7,8 +7,3 @@ use Rattle.kob_prefix_tree.specs.declared.siblings.Item.{Item}
 abbrev pub key_of : Tree Item → List ℕ
 key_of leaf = []
 key_of (node item heap c below n after) = item.byte ∷ (item.tail ++ key_of after)
-
--- the first serial of a list
-abbrev pub first_serial : List ℕ → ℕ
-first_serial [] = 0
-first_serial (serial ∷ _) = serial

@@ -2,7 +2,7 @@
 //! key that ends behind them, and the nodes that follow.
 ghost use Rattle.std.specs.Prelude.{◌≡◌, ◌≢◌, ◌∷◌, [], ◌≤◌, ◌<◌, ◌+◌, ◌↔◌, ℕ, List, length};
 ghost use Rattle.std.specs.Prelude.{IsTrue, OnErr, OnOk, None, unwrap_or};
-ghost use Rattle.kob_prefix_tree.specs.Held.{with_serials, without_serials, has_serials};
+ghost use Rattle.kob_prefix_tree.specs.Held.{with_serial, without_serials, has_serials};
 ghost use Rattle.kob_prefix_tree.specs.Trie.{bare};
 ghost use Rattle.kob_prefix_tree.specs.Siblings.{held_in, IsNeat, siblings};
 ghost use Rattle.kob_prefix_tree.specs.Siblings.{value_at, with_value, without};
@@ -13,7 +13,7 @@ use crate::kind::PatternKind;
 use crate::link::Link;
 use crate::path::path_of;
 use crate::place::Place;
-use crate::serials::Serials;
+use crate::serials::{NewSerial, Serials};
 use crate::siblings::{Item, Room};
 use crate::tail::Tail;
 use std::alloc::{AllocError, Global};
@@ -129,28 +129,27 @@ impl Branch {
         self.below.put_front(room, alloc, byte, branch);
     }
 
-    /// Puts the serials last at the key that the nodes of the path spell, by linking these in: its
+    /// Puts the serial last at the key that the nodes of the path spell, by linking these in: its
     /// first byte doesn't lead on yet. It calls itself once a node.
     #[cycle(link)]
-    fn link(&mut self, path: Link<Item>, kind: PatternKind, serials: Serials)
+    fn link(&mut self, path: Link<Item>, kind: PatternKind, serial: NewSerial)
         requires no_tail { self.old.tail ≡ [] }
         requires absent { (byte : ℕ) → (rest : List ℕ) → key_of path.nodes ≡ byte ∷ rest
             → value_at byte (siblings (contents self.old).1) ≡ None }
         requires neat { IsNeat (contents self.old).1 }
-        requires some { serials ≢ [] }
         ensures no_tail { self.new.tail ≡ [] }
         ensures neat { IsNeat (contents self.new).1 }
         ensures some { contents self.new ≢ bare }
         ensures put { held_in (key_of path.nodes) (contents self.new)
-            ≡ with_serials kind serials (held_in (key_of path.nodes) (contents self.old)) }
+            ≡ with_serial kind serial (held_in (key_of path.nodes) (contents self.old)) }
         ensures elsewhere { (other : List ℕ) → other ≢ key_of path.nodes
             → held_in other (contents self.new) ≡ held_in other (contents self.old) }
     {
         if path.is_null() {
             path.give_up();
             match kind {
-                PatternKind::Literal => self.literal.append(serials),
-                PatternKind::Prefixed => self.prefixed.append(serials),
+                PatternKind::Literal => self.literal.put(serial),
+                PatternKind::Prefixed => self.prefixed.put(serial),
             }
             return;
         }
@@ -159,7 +158,7 @@ impl Branch {
         let byte = node.item.byte;
         let rest = replace(&mut node.next, Link::null());
         let mut branch = Branch::new();
-        branch.link(rest, kind, serials);
+        branch.link(rest, kind, serial);
         swap(&mut branch.tail, &mut node.item.tail);
         self.below.put_front(room, alloc, byte, branch);
     }
@@ -171,25 +170,24 @@ impl Branch {
         room: Room,
         alloc: Global,
         kind: PatternKind,
-        serials: Serials,
+        serial: NewSerial,
     )
         requires absent { (byte : ℕ) → (rest : List ℕ) → key_of path.nodes ≡ byte ∷ rest
             → value_at byte (siblings (contents self.old).1) ≡ None }
         requires neat { IsNeat (contents self.old).1 }
-        requires some { serials ≢ [] }
         ensures no_tail { self.new.tail ≡ [] }
         ensures neat { IsNeat (contents self.new).1 }
         ensures some { contents self.new ≢ bare }
         ensures put { held_in (key_of path.nodes) (contents self.new)
-            ≡ with_serials kind serials (held_in (key_of path.nodes) (contents self.old)) }
+            ≡ with_serial kind serial (held_in (key_of path.nodes) (contents self.old)) }
         ensures elsewhere { (other : List ℕ) → other ≢ key_of path.nodes
             → held_in other (contents self.new) ≡ held_in other (contents self.old) }
     {
         self.cut(room, alloc);
-        self.link(path, kind, serials);
+        self.link(path, kind, serial);
     }
 
-    /// Puts the serials last at the key that the nodes of the path spell. Those whose bytes stand
+    /// Puts the serial last at the key that the nodes of the path spell. Those whose bytes stand
     /// already are freed, the others linked in, and a node within whose bytes the key ends or parts
     /// is cut in two, with the block. It calls itself once a byte that leads on.
     #[cycle(grow)]
@@ -199,49 +197,47 @@ impl Branch {
         room: Room,
         alloc: Global,
         kind: PatternKind,
-        serials: Serials,
+        serial: NewSerial,
     )
         requires neat { IsNeat (contents self.old).1 }
-        requires some { serials ≢ [] }
         ensures neat { IsNeat (contents self.new).1 }
         ensures some { contents self.new ≢ bare }
         ensures put { held_in (key_of path.nodes) (contents self.new)
-            ≡ with_serials kind serials (held_in (key_of path.nodes) (contents self.old)) }
+            ≡ with_serial kind serial (held_in (key_of path.nodes) (contents self.old)) }
         ensures elsewhere { (other : List ℕ) → other ≢ key_of path.nodes
             → held_in other (contents self.new) ≡ held_in other (contents self.old) }
         ensures shorter { length self.new.tail ≤ length self.old.tail }
     {
         let mut path = path;
         let Some(byte) = path.first_byte() else {
-            return self.graft(path, room, alloc, kind, serials);
+            return self.graft(path, room, alloc, kind, serial);
         };
         if !self.leads_on(byte) {
-            return self.graft(path, room, alloc, kind, serials);
+            return self.graft(path, room, alloc, kind, serial);
         }
         path.drop_byte();
         let mut branch = Branch::new();
         self.exchange(byte, &mut branch);
-        branch.grow(path, room, alloc, kind, serials);
+        branch.grow(path, room, alloc, kind, serial);
         self.exchange(byte, &mut branch);
     }
 
-    /// Puts the serials last at a key whose first byte doesn't lead on yet. It makes the nodes for
+    /// Puts the serial last at a key whose first byte doesn't lead on yet. It makes the nodes for
     /// the key, and one more if a node has to be cut in two.
     fn add_here(
         &mut self,
         alloc: Global,
         key: &[u8],
         kind: PatternKind,
-        serials: Serials,
+        serial: NewSerial,
     ) -> Result<(), AllocError>
         requires absent { (byte : ℕ) → (rest : List ℕ) → key.now ≡ byte ∷ rest
             → value_at byte (siblings (contents self.old).1) ≡ None }
         requires neat { IsNeat (contents self.old).1 }
-        requires some { serials ≢ [] }
         ensures neat { IsNeat (contents self.new).1 }
         ensures put { OnOk result
             (held_in key.now (contents self.new)
-            ≡ with_serials kind serials (held_in key.now (contents self.old))) }
+            ≡ with_serial kind serial (held_in key.now (contents self.old))) }
         ensures elsewhere { (other : List ℕ) → other ≢ key.now
             → held_in other (contents self.new) ≡ held_in other (contents self.old) }
         ensures refused { OnErr result
@@ -250,17 +246,17 @@ impl Branch {
     {
         let path = path_of(alloc, key)?;
         if self.tail.is_empty() {
-            self.link(path, kind, serials);
+            self.link(path, kind, serial);
             return Ok(());
         }
         let Ok(room) = Vacant::take(alloc) else {
             return Err(AllocError);
         };
-        self.graft(path, room, alloc, kind, serials);
+        self.graft(path, room, alloc, kind, serial);
         Ok(())
     }
 
-    /// Puts the serials last at the key. It makes the nodes that are missing, and no others, and
+    /// Puts the serial last at the key. It makes the nodes that are missing, and no others, and
     /// links them in when all are made. It calls itself once a byte that leads on.
     #[cycle(add)]
     pub(crate) fn add(
@@ -268,14 +264,13 @@ impl Branch {
         alloc: Global,
         key: &[u8],
         kind: PatternKind,
-        serials: Serials,
+        serial: NewSerial,
     ) -> Result<(), AllocError>
         requires neat { IsNeat (contents self.old).1 }
-        requires some { serials ≢ [] }
         ensures neat { IsNeat (contents self.new).1 }
         ensures put { OnOk result
             (held_in key.now (contents self.new)
-            ≡ with_serials kind serials (held_in key.now (contents self.old))) }
+            ≡ with_serial kind serial (held_in key.now (contents self.old))) }
         ensures elsewhere { (other : List ℕ) → other ≢ key.now
             → held_in other (contents self.new) ≡ held_in other (contents self.old) }
         ensures refused { OnErr result
@@ -283,14 +278,14 @@ impl Branch {
         ensures shorter { length self.new.tail ≤ length self.old.tail }
     {
         let Some((byte, rest)) = key.split_first() else {
-            return self.add_here(alloc, key, kind, serials);
+            return self.add_here(alloc, key, kind, serial);
         };
         if !self.leads_on(*byte) {
-            return self.add_here(alloc, key, kind, serials);
+            return self.add_here(alloc, key, kind, serial);
         }
         let mut branch = Branch::new();
         self.exchange(*byte, &mut branch);
-        let added = branch.add(alloc, rest, kind, serials);
+        let added = branch.add(alloc, rest, kind, serial);
         self.exchange(*byte, &mut branch);
         added
     }

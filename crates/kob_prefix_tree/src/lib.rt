@@ -3,6 +3,7 @@
 #![tactic(auto)]
 
 mod branch;
+mod cells;
 mod kind;
 mod link;
 mod node;

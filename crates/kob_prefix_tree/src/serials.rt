@@ -1,46 +1,61 @@
-//! A list of serials that takes one more, or another list, at its end in one step, however long it
-//! is.
+//! The serials that one key holds of one kind.
 ghost use Rattle.std.specs.Prelude.{◌≡◌, [], ◌∷◌, ◌++◌, ◌↔◌, IfOk, IsTrue, MatchOption};
 ghost use Rattle.kob_prefix_tree.specs.Lists.{has_in_turn, without_in_turn};
 ghost use Rattle.kob_prefix_tree.specs.SerialsLeft.{unread_of};
 
+use crate::cells::{Cells, Serial};
 use crate::link::Link;
-use crate::node::Node;
 use std::alloc::{AllocError, Global};
-use std::marker::{Model, Send, Sync};
-use std::mem::replace;
-use std::ptr;
-use std_alloc::room::Vacant;
+use std::marker::Model;
 
-/// One serial of a list. In the first one `last` leads to the list's last node; in the others it
-/// says nothing.
-#[derive(Drop)]
-pub(crate) struct Serial {
-    value: u64,
-    last: *mut Node<Serial, Link<Serial>, Link<Serial>>,
-}
-
-// What `last` leads to belongs to the list that the serial is in, and goes where it goes.
-unsafe impl Send for Serial {}
-
-unsafe impl Sync for Serial {}
-
-/// The serials that one key holds of one kind, in the order in which they were put in. It is one
-/// pointer, and each serial one block.
+/// The serials that one key holds of one kind, in the order in which they were put in.
 #[derive(Drop)]
 pub(crate) struct Serials {
-    cells: Link<Serial>,
+    store: Store,
+}
+
+/// Where they stand. Most keys hold one, which needs no block.
+#[derive(Drop)]
+enum Store {
+    One(u64),
+    List(Cells),
 }
 
 impl Model for Serials {
     ghost use Rattle.std.specs.Prelude.{List, ℕ};
-    ghost use Rattle.kob_prefix_tree.specs.Cells.{values_of, KnowsEnd};
+    ghost use Rattle.kob_prefix_tree.specs.Serials.{serials_in};
 
     ghost Value = { List ℕ };
 
-    ghost view = { λ a. values_of a.cells.nodes };
+    ghost view = { λ a. serials_in a.store };
+}
 
-    ghost invariant = { λ a. KnowsEnd a.cells.nodes a.cells.first };
+/// A serial that is to be put in, with a block for it and one for a serial that has none yet.
+#[derive(Drop)]
+pub(crate) struct NewSerial {
+    value: u64,
+    cell: Cells,
+    spare: Cells,
+}
+
+impl Model for NewSerial {
+    ghost use Rattle.std.specs.Prelude.{◌≡◌, ◌≢◌, ◌∷◌, [], ℕ};
+
+    ghost Value = { ℕ };
+
+    ghost view = { λ a. a.value };
+
+    ghost invariant = { λ a. (a.cell ≡ a.value ∷ []) × (a.spare ≢ []) };
+}
+
+impl NewSerial {
+    pub(crate) fn new(alloc: Global, value: u64) -> Result<NewSerial, AllocError>
+        ensures { IfOk result (λ serial. serial ≡ value) }
+    {
+        let cell = Cells::one(alloc, value)?;
+        let spare = Cells::one(alloc, value)?;
+        Ok(NewSerial { value, cell, spare })
+    }
 }
 
 impl Serials {
@@ -48,97 +63,54 @@ impl Serials {
         ensures { result ≡ [] }
     {
         Serials {
-            cells: Link::null(),
+            store: Store::List(Cells::new()),
         }
-    }
-
-    pub(crate) fn one(alloc: Global, value: u64) -> Result<Serials, AllocError>
-        ensures { IfOk result (λ s. s ≡ value ∷ []) }
-    {
-        let Ok(room) = Vacant::take(alloc) else {
-            return Err(AllocError);
-        };
-        Ok(Serials::in_room(room, alloc, value))
-    }
-
-    /// The list of one serial, in this block.
-    fn in_room(
-        room: Vacant<Node<Serial, Link<Serial>, Link<Serial>>, Global>,
-        alloc: Global,
-        value: u64,
-    ) -> Serials
-        ensures { result ≡ value ∷ [] }
-    {
-        let last = ptr::null_mut();
-        let item = Serial { value, last };
-        let node = Node {
-            item,
-            child: Link::null(),
-            next: Link::null(),
-            alloc,
-        };
-        let mut cells = Link::of(room, node);
-        let last = cells.start();
-        cells.get_mut().item.last = last;
-        Serials { cells }
     }
 
     pub(crate) fn is_empty(&self) -> bool
         ensures empty { IsTrue result ↔ (self.now ≡ []) }
     {
-        self.cells.is_null()
+        match &self.store {
+            Store::One(_) => false,
+            Store::List(cells) => cells.is_empty(),
+        }
     }
 
     /// All of them, to be read one by one.
     pub(crate) fn unread(&self) -> Unread<'_>
         ensures { unread_of result ≡ self.now }
     {
-        Unread {
-            cells: Some(&self.cells),
+        match &self.store {
+            Store::One(serial) => Unread {
+                one: Some(*serial),
+                cells: None,
+            },
+            Store::List(cells) => Unread {
+                one: None,
+                cells: Some(&cells.link),
+            },
         }
     }
 
-    /// Puts the serials of another list behind these.
-    pub(crate) fn append(&mut self, other: Serials)
-        ensures { self.new ≡ self.old ++ other }
+    /// Puts a serial last. It takes no memory, and frees the blocks that aren't needed.
+    pub(crate) fn put(&mut self, serial: NewSerial)
+        ensures { self.new ≡ self.old ++ serial ∷ [] }
     {
-        if self.cells.is_null() {
-            *self = other;
-            return;
+        let NewSerial { value, cell, spare } = serial;
+        match &mut self.store {
+            Store::One(first) => {
+                let mut cells = spare.refilled(*first);
+                cells.append(cell);
+                self.store = Store::List(cells);
+            }
+            Store::List(cells) => {
+                if cells.is_empty() {
+                    self.store = Store::One(value);
+                } else {
+                    cells.append(cell);
+                }
+            }
         }
-        if other.cells.is_null() {
-            return;
-        }
-        let last = self.cells.get().item.last;
-        let end = other.cells.get().item.last;
-        let Serials { cells: others } = other;
-        let cells = replace(&mut self.cells, Link::null());
-        self.cells = cells.join(last, others);
-        self.cells.get_mut().item.last = end;
-    }
-
-    /// Takes the first serial off, as a list of its own.
-    fn take_first(&mut self) -> Option<(u64, Serials)>
-        ensures { MatchOption result
-            ((self.old ≡ []) × (self.new ≡ self.old))
-            (λ p. (self.old ≡ p.0 ∷ self.new) × (p.1 ≡ p.0 ∷ [])) }
-    {
-        if self.cells.is_null() {
-            return None;
-        }
-        let alloc = self.cells.get().alloc;
-        let cells = replace(&mut self.cells, Link::null());
-        let (node, room) = cells.take(alloc);
-        let mut rest = node.next;
-        if !rest.is_null() {
-            let last = node.item.last;
-            rest.get_mut().item.last = last;
-        }
-        self.cells = rest;
-        Some((
-            node.item.value,
-            Serials::in_room(room, alloc, node.item.value),
-        ))
     }
 
     /// Takes these serials out in one pass, each behind the one before it, and says whether any was
@@ -147,29 +119,24 @@ impl Serials {
         ensures found { result ≡ has_in_turn serials.now self.old }
         ensures left { self.new ≡ without_in_turn serials.now self.old }
     {
-        let mut kept = Serials::new();
-        let mut sought = serials;
-        let mut found = false;
-        while let Some((next, others)) = sought.split_first() {
-            let Some((serial, one)) = self.take_first() else {
-                break;
-            };
-            if serial == *next {
-                found = true;
-                sought = others;
-            } else {
-                kept.append(one);
-            }
+        match &mut self.store {
+            Store::List(cells) => cells.remove_all(serials),
+            Store::One(serial) => match serials.first() {
+                Some(next) if *next == *serial => {
+                    self.store = Store::List(Cells::new());
+                    true
+                }
+                _ => false,
+            },
         }
-        kept.append(replace(self, Serials::new()));
-        *self = kept;
-        found
     }
 }
 
-/// What is still to be read of a list of serials.
+/// What is still to be read of a key's serials: one that stands without a block, and those from a
+/// link on.
 #[derive(Clone, Copy, Drop)]
 pub(crate) struct Unread<'a> {
+    one: Option<u64>,
     cells: Option<&'a Link<Serial>>,
 }
 
@@ -177,7 +144,10 @@ impl<'a> Unread<'a> {
     pub(crate) fn nothing() -> Unread<'a>
         ensures { unread_of result ≡ [] }
     {
-        Unread { cells: None }
+        Unread {
+            one: None,
+            cells: None,
+        }
     }
 
     /// Reads the next one.
@@ -186,6 +156,9 @@ impl<'a> Unread<'a> {
             ((unread_of self.old ≡ []) × (unread_of self.new ≡ []))
             (λ value. unread_of self.old ≡ value ∷ unread_of self.new) }
     {
+        if let Some(serial) = self.one.take() {
+            return Some(serial);
+        }
         let cells = self.cells?;
         if cells.is_null() {
             return None;

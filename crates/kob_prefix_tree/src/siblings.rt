@@ -24,10 +24,10 @@ pub(crate) struct Item {
     pub(crate) prefixed: Serials,
 }
 
-/// A node of the tree. It takes 56 bytes.
+/// A node of the tree. It takes 72 bytes.
 pub(crate) type ByteNode = Node<Item, Link<Item>, Link<Item>>;
 
-const _: () = prove!(size_of::<ByteNode>() == 56);
+const _: () = prove!(size_of::<ByteNode>() == 72);
 
 /// A block for a node.
 pub(crate) type Room = Vacant<Node<Item, Link<Item>, Link<Item>>, Global>;

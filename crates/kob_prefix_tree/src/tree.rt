@@ -12,7 +12,7 @@ use crate::kind::PatternKind;
 use crate::link::Link;
 use crate::part::Part;
 use crate::path::{path_of, spare_node};
-use crate::serials::Serials;
+use crate::serials::NewSerial;
 use crate::siblings::Item;
 use crate::walk::Walk;
 use std::alloc::{AllocError, Global};
@@ -22,7 +22,7 @@ use std::marker::Model;
 /// ones.
 ///
 /// A node has one to 23 bytes of a key, the serials of the key that ends with them, its first child
-/// and its next sibling, and takes 56 bytes. No two siblings begin with one byte, and no node stays
+/// and its next sibling, and takes 72 bytes. No two siblings begin with one byte, and no node stays
 /// that holds nothing and leads nowhere. Where a key ends or parts within its bytes a node is cut
 /// in two, which no removal joins again. What adds or removes calls itself once a byte of the key,
 /// and at each node once a sibling, from which it comes back before it goes on. All else is loops,
@@ -57,13 +57,12 @@ pub struct Prepared {
     path: Link<Item>,
     spare: Link<Item>,
     kind: PatternKind,
-    serials: Serials,
+    serial: NewSerial,
 }
 
 impl Model for Prepared {
-    ghost use Rattle.std.specs.Prelude.{◌≡◌, ◌∷◌, []};
     ghost use Rattle.kob_prefix_tree.specs.Addition.{Addition};
-    ghost use Rattle.kob_prefix_tree.specs.Path.{key_of, first_serial};
+    ghost use Rattle.kob_prefix_tree.specs.Path.{key_of};
     ghost use Rattle.kob_prefix_tree.specs.Nodes.{Leads};
 
     ghost Value = { Addition };
@@ -71,11 +70,10 @@ impl Model for Prepared {
     ghost view = { λ a. record {
       key = key_of a.path.nodes;
       kind = a.kind;
-      serial = first_serial a.serials;
+      serial = a.serial;
     } };
 
-    ghost invariant = { λ a.
-        (a.serials ≡ first_serial a.serials ∷ []) × Leads a.spare.nodes };
+    ghost invariant = { λ a. Leads a.spare.nodes };
 }
 
 impl PrefixTree {
@@ -100,13 +98,14 @@ impl PrefixTree {
         ensures added { OnOk result (self.new ≡ added self.old key.now kind serial) }
         ensures refused { OnErr result (self.new ≡ self.old) }
     {
-        let serials = Serials::one(alloc, serial)?;
-        self.root.add(alloc, key, kind, serials)
+        let serial = NewSerial::new(alloc, serial)?;
+        self.root.add(alloc, key, kind, serial)
     }
 
     /// The first step of an addition: makes the nodes and the serial's place as a piece of its own.
     /// It makes a node for every 23 bytes of the key, since those that stand now may be removed
-    /// before the second step, and one more, since one may have to be cut in two.
+    /// before the second step, and one more, since one may have to be cut in two. The serial has two
+    /// blocks, for the same reason.
     pub fn prepare_add(
         &self,
         alloc: Global,
@@ -116,14 +115,14 @@ impl PrefixTree {
     ) -> Result<Prepared, AllocError>
         ensures { IfOk result (λ p. p ≡ record { key = key.now; kind = kind; serial = serial }) }
     {
-        let serials = Serials::one(alloc, serial)?;
+        let serial = NewSerial::new(alloc, serial)?;
         let path = path_of(alloc, key)?;
         let spare = spare_node(alloc)?;
         Ok(Prepared {
             path,
             spare,
             kind,
-            serials,
+            serial,
         })
     }
 
@@ -136,11 +135,11 @@ impl PrefixTree {
             path,
             spare,
             kind,
-            serials,
+            serial,
         } = prepared;
         let heap = spare.get().alloc;
         let (_, room) = spare.take(heap);
-        self.root.grow(path, room, heap, kind, serials);
+        self.root.grow(path, room, heap, kind, serial);
     }
 
     /// Takes the serial out of the key's list of its kind, once if it is there more often, and says

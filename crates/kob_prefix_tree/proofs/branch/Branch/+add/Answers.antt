@@ -13,19 +13,16 @@ pub add-added-requires : goal.add-added-requires
 add-added-requires t c =
     let x = c.exchange.ensures in (
       omega (arith, c.in-Some.ensures.cases.1),
-      (
-        neat_had c.in-Some.byte.now c.in-Some.rest.now (contents c.args.self.now) (contents c.exchange.new.self)
-            c.in-Some.ensures.cases.0 c.requires.neat
-            c.new-branch.ensures.bare x.kept x.here x.there,
-        c.requires.some,
-      ),
+      neat_had c.in-Some.byte.now c.in-Some.rest.now (contents c.args.self.now) (contents c.exchange.new.self)
+          c.in-Some.ensures.cases.0 c.requires.neat
+          c.new-branch.ensures.bare x.kept x.here x.there,
     )
 
 pub returns : goal.returns
 returns t c =
     let byte = c.in-Some.byte.now in let rest = c.in-Some.rest.now in let key = c.args.key.now in
     let new = contents c.exchange-2.new.self in
-    let answer = c.add-added.result in let f : Held → Held = done_by c.args.kind c.args.serials answer in
+    let answer = c.add-added.result in let f : Held → Held = done_by c.args.kind c.args.serial answer in
     let key_is = c.in-Some.ensures.cases.0 in
     let old = contents c.args.self.now in let mid = contents c.exchange.new.self in
     let x = c.exchange.ensures in let e = c.add-added.ensures in
@@ -33,7 +30,7 @@ returns t c =
     let done : ChangedAt rest f had now =
     record {
       neat = e.neat;
-      at = at_done c.args.kind c.args.serials answer (held_in rest now) (held_in rest had) e.put e.refused;
+      at = at_done c.args.kind c.args.serial answer (held_in rest now) (held_in rest had) e.put e.refused;
       elsewhere = e.elsewhere;
     } in
     let leads : value_at byte (siblings old.1) ≢ None = c.leads_on.ensures.0 c.if-not-leads_on.false in
@@ -44,13 +41,13 @@ returns t c =
     (neat_at byte stood.0 (siblings old.1) (neat_list old.1 c.requires.neat) stood.1) in
     let all = exchanged byte rest old mid key_is c.requires.neat c.new-branch.ensures.bare x.kept x.here x.there f done
     c.exchange-2.ensures.kept leads
-    (some_done c.args.kind c.args.serials answer rest had now c.requires.some used.1 used.0 done)
+    (some_done c.args.kind c.args.serial answer rest had now used.1 used.0 done)
     c.exchange-2.ensures.here in
     record {
       neat = all.neat;
-      put = put_done c.args.kind c.args.serials answer (held_in key new) (held_in key old) all.at;
+      put = put_done c.args.kind c.args.serial answer (held_in key new) (held_in key old) all.at;
       elsewhere = all.elsewhere;
-      refused = refused_done c.args.kind c.args.serials answer (held_in key new) (held_in key old) all.at;
+      refused = refused_done c.args.kind c.args.serial answer (held_in key new) (held_in key old) all.at;
       shorter =
           no_longer_twice (length c.args.self.now.tail) (length c.exchange.new.self.tail)
           (length c.exchange.new.branch.tail) (ap length c.new-branch.ensures.no_tail) x.outside x.inside

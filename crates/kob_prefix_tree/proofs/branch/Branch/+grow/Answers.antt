@@ -1,5 +1,5 @@
 use Rattle.std.proofs.Common.{◌≢◌, ◌∷◌, None, length, sym, ap, ◌∙◌, arith}
-use Rattle.kob_prefix_tree.specs.Held.{Held, with_serials}
+use Rattle.kob_prefix_tree.specs.Held.{Held, with_serial}
 use Rattle.kob_prefix_tree.specs.Siblings.{siblings, value_at}
 use Rattle.kob_prefix_tree.specs.Contents.{contents}
 use Rattle.kob_prefix_tree.specs.Path.{key_of}
@@ -15,17 +15,14 @@ grow-requires t c =
     let shorter = ap length key_is in
     let old = contents c.args.self.now in let mid = contents c.exchange.new.self in let x = c.exchange.ensures in (
       omega (arith, shorter),
-      (
-        neat_had byte rest old mid key_is c.requires.neat c.new-branch.ensures.bare x.kept x.here x.there,
-        c.requires.some,
-      ),
+      neat_had byte rest old mid key_is c.requires.neat c.new-branch.ensures.bare x.kept x.here x.there,
     )
 
 pub returns : goal.returns
 returns t c =
     let byte = c.in-Some.byte in let rest = key_of c.drop_byte.new.self.nodes in
     let key_is = c.in-Some.ensures ∙ ap (λ k. byte ∷ k) (sym c.drop_byte.ensures) in
-    let f : Held → Held = with_serials c.args.kind c.args.serials in
+    let f : Held → Held = with_serial c.args.kind c.args.serial in
     let old = contents c.args.self.now in let mid = contents c.exchange.new.self in
     let x = c.exchange.ensures in let e = c.grow.ensures in
     let done : ChangedAt rest f (contents c.exchange.new.branch) (contents c.grow.new.self) =
@@ -36,7 +33,7 @@ returns t c =
     c.exchange-2.ensures.kept leads e.some c.exchange-2.ensures.here in
     record {
       neat = all.neat;
-      some = some_put c.args.kind c.args.serials (key_of c.args.path.nodes) _ c.requires.some all.at;
+      some = some_put c.args.kind c.args.serial (key_of c.args.path.nodes) _ all.at;
       put = all.at;
       elsewhere = all.elsewhere;
       shorter =

@@ -2,13 +2,13 @@ use Rattle.std.proofs.Common.{◌++◌, sym, ap, ◌∙◌}
 use Rattle.std.proofs.Math.Bool.{true≢false}
 use Rattle.kob_prefix_tree.specs.Nodes.{with_others}
 use Rattle.kob_prefix_tree.specs.declared.link.Link.{Link}
-use Rattle.kob_prefix_tree.specs.declared.serials.Serial.{Serial}
+use Rattle.kob_prefix_tree.specs.declared.cells.Serial.{Serial}
 use Rattle.kob_prefix_tree.proofs.CellLemmas.{end_joined, values_are}
-use Rattle.kob_prefix_tree.proofs.serials.Serials.append.Goals as goal
+use Rattle.kob_prefix_tree.proofs.cells.Cells.append.Goals as goal
 
 pub invariant_of-self-2 : goal.invariant_of-self-2
 invariant_of-self-2 c =
-    let self = c.self.inside.cells in let others = c.other.inside.cells in let kept = c.replace-cells.ensures.value in
+    let self = c.self.inside.link in let others = c.other.inside.link in let kept = c.replace-link.ensures.value in
     end_joined self others c.join.result c.get-2.result.now c.get_mut.result.now
     (λ none. true≢false (sym (c.is_null.ensures.1 none) ∙ c.if-is_null.false))
     (λ none. true≢false (sym (c.is_null-2.ensures.1 none) ∙ c.if-is_null-2.false))
@@ -17,7 +17,7 @@ invariant_of-self-2 c =
 
 pub returns : goal.returns
 returns c =
-    let self = c.self.inside.cells in let others = c.other.inside.cells in let kept = c.replace-cells.ensures.value in
+    let self = c.self.inside.link in let others = c.other.inside.link in let kept = c.replace-link.ensures.value in
     values_are self others c.join.result c.get-2.result.now c.get_mut.result.now
     (λ none. true≢false (sym (c.is_null.ensures.1 none) ∙ c.if-is_null.false))
     (λ none. true≢false (sym (c.is_null-2.ensures.1 none) ∙ c.if-is_null-2.false))

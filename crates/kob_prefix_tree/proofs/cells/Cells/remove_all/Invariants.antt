@@ -1,6 +1,6 @@
 use Rattle.std.proofs.Common.{◌≡◌, ◌++◌, ◌||◌, length}
 use Rattle.kob_prefix_tree.specs.Lists.{has_in_turn, without_in_turn}
-use Rattle.kob_prefix_tree.proofs.serials.Serials.remove_all.Given as goal
+use Rattle.kob_prefix_tree.proofs.cells.Cells.remove_all.Given as goal
 
 abbrev pub invariant-loop-next : goal.invariant-loop-next
 invariant-loop-next l = record {
