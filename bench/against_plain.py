@@ -4,8 +4,7 @@
     python3 bench/against_plain.py [--program PROGRAM] [WORKLOAD ..]     (no workload: all)
 
 The plain program is bench/plain, which is unproved and is built here by `rustc -O`. PROGRAM and the workloads are those of
-growth.py, each at 4n. The outputs have to be equal. The seconds are processor time, the least of five runs in turn, without
-that of the first part alone; memory is the most that a program had.
+growth.py, each at 4n. The outputs have to be equal. Seconds and memory are told as there, and the programs run in turn too.
 """
 
 import argparse
@@ -14,9 +13,7 @@ import subprocess
 import sys
 import tempfile
 
-from growth import ROOT, TOP, WORKLOADS, run
-
-RUNS = 5
+from growth import ROOT, TOP, WORKLOADS, least
 
 
 def built(folder):
@@ -29,12 +26,6 @@ def built(folder):
 def output(program, script):
     given = "".join(line + "\n" for line in script).encode()
     return subprocess.run([program], input=given, capture_output=True, check=True).stdout
-
-
-def least(programs, script):
-    """The least seconds and bytes of each program, which run in turn."""
-    runs = [[run(program, script) for program in programs] for _ in range(RUNS)]
-    return [[min(column) for column in zip(*of_one)] for of_one in zip(*runs)]
 
 
 def main():
@@ -53,9 +44,9 @@ def main():
             whole = [*before, *work[1:]]
             if len({output(program, whole) for program in programs}) > 1:
                 sys.exit(f"{name}: the programs print different replies")
-            ready = least(programs, before)
-            (proved, proved_peak), (plain, plain_peak) = least(programs, whole)
-            proved, plain = proved - ready[0][0], plain - ready[1][0]
+            measured = least([(program, script) for script in (before, whole) for program in programs])
+            (ready, _), (plain_ready, _), (proved, proved_peak), (plain, plain_peak) = measured
+            proved, plain = proved - ready, plain - plain_ready
             times = proved / plain if plain > 0 else float("nan")
             print(f"{name:<42} {proved:8.3f} {plain:8.3f} {times:6.2f}  {proved_peak:>14,} {plain_peak:>14,}", flush=True)
 

@@ -30,6 +30,19 @@ def one_partition(n):
     return "".join(f"{ROOT} create-topic t{place:04} 1\n" for place in range(n))
 
 
+def groups(n):
+    return f"{ROOT} create-topic t 1\n" + "".join(f"{ROOT} commit g{place:04} t 0 0\n" for place in range(n))
+
+
+def commits(n):
+    made = (f"{ROOT} commit g{place // 1_000:04} t {place % 1_000} 0\n" for place in range(n))
+    return f"{ROOT} create-topic t 1000\n" + "".join(made)
+
+
+def records(n):
+    return f"{ROOT} create-topic t 1\n" + f"{ROOT} produce t 0 - x\n" * n
+
+
 def members(option, count, letter):
     return " ".join(f"{option} {letter}{place:03}" for place in range(count))
 
@@ -50,6 +63,9 @@ def fetches(n):
 DEMANDS = {
     "a partition, of topics of 1,000": (partitions, 500_000),
     "a topic of one partition": (one_partition, 5_000),
+    "a group with one commit": (groups, 5_000),
+    "a commit, of groups of 1,000": (commits, 100_000),
+    "a record of one byte": (records, 200_000),
     "a binding, of a product": (bindings, 50_000),
     "a listing, of a product": (listings, 50_000),
     "a fetch of 1,000 records of 2,097 bytes": (fetches, 40),

@@ -5,8 +5,8 @@
 
 PROGRAM is the program that serves scripts, as `rt run` in crates/kob_run builds it: crates/kob_run/out/kob_run if none
 is given. A workload is a script in two parts, what is there before and the work. The seconds are processor time of the
-program, the least of three runs, without that of the first part alone; memory is the most that it had, script and
-output with it.
+program without that of the first part alone: both are run in turn, at least five times each and until that took
+three seconds, and the least of each counts. Memory is the most that the program had.
 
 What is to be seen: where the work is doubled, the seconds grow at most 2.2 times.
 """
@@ -19,7 +19,8 @@ import sys
 import tempfile
 import time
 
-RUNS = 3
+RUNS = 5
+SECONDS = 3
 ROOT = "User:root h"
 TOP = pathlib.Path(__file__).resolve().parent.parent
 WORKLOADS = {}
@@ -168,8 +169,12 @@ def run(program, script):
     return usage.ru_utime + usage.ru_stime, peak
 
 
-def least(program, script):
-    return tuple(min(column) for column in zip(*(run(program, script) for _ in range(RUNS))))
+def least(pairs):
+    """The least seconds and bytes of each pair of a program and a script, which are run in turn."""
+    rounds = []
+    while len(rounds) < RUNS or sum(seconds for made in rounds for seconds, _ in made) < SECONDS:
+        rounds.append([run(program, script) for program, script in pairs])
+    return [tuple(min(column) for column in zip(*of_one)) for of_one in zip(*rounds)]
 
 
 def main():
@@ -185,8 +190,9 @@ def main():
         seconds = []
         for n in (count, 2 * count, 4 * count):
             before, work = ([f"super {ROOT[:-2]}", *part] for part in made(n))
-            whole, peak = least(given.program, [*before, *work[1:]])
-            seconds.append(whole - least(given.program, before)[0])
+            scripts = (before, [*before, *work[1:]])
+            (ready, _), (whole, peak) = least([(given.program, script) for script in scripts])
+            seconds.append(whole - ready)
         growth = [later / earlier if earlier > 0 else float("nan") for earlier, later in zip(seconds, seconds[1:])]
         told = " ".join(f"{it:7.3f}" for it in seconds)
         print(f"{name:<42} {count:>7,}  {told}  {growth[0]:4.2f} {growth[1]:4.2f}  {peak:>13,}", flush=True)
