@@ -4,7 +4,8 @@ use Rattle.kob_prefix_tree.specs.declared.kind.PatternKind.{PatternKind}
 use Rattle.kob_prefix_tree.specs.Held.{Held, nothing, with_serial}
 use Rattle.kob_prefix_tree.specs.Trie.{Contents, bare}
 use Rattle.kob_prefix_tree.specs.Siblings.{held_in, IsNeat}
-use Rattle.kob_prefix_tree.proofs.ChangeLemmas.{ChangedAt, held_in_bare}
+use Rattle.kob_prefix_tree.specs.Change.{ChangedAt}
+use Rattle.kob_prefix_tree.proofs.ChangeLemmas.{held_in_bare}
 use Rattle.kob_prefix_tree.proofs.MapLemmas.{with_some}
 use Rattle.kob_prefix_tree.proofs.PlaceLemmas.{some_key}
 

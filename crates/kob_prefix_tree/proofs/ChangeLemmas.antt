@@ -4,13 +4,8 @@ use Rattle.std.proofs.lemmas.Bool.{eqb-true}
 use Rattle.kob_prefix_tree.specs.Trie.{Trie, void, sibling, Contents, bare, led_by}
 use Rattle.kob_prefix_tree.specs.Held.{Held, nothing}
 use Rattle.kob_prefix_tree.specs.Siblings.{siblings, value_at, with_value, without, behind_one, held_in, IsNeat}
+use Rattle.kob_prefix_tree.specs.Change.{ChangedAt}
 use Rattle.kob_prefix_tree.proofs.SiblingLemmas.{AllNeat, neat_list, neat_tree, neat_changed, neat_without, neat_at, at_first, at_past, at_changed, at_changed_other, at_without, at_without_other, some_not_none, differ}
-
--- at this key f was done, and elsewhere nothing
-pub record ChangedAt (key : List ℕ) (f : Held → Held) (old new : Contents) : Type 0 where
-  pub neat : IsNeat new.1
-  pub at : held_in key new ≡ f (held_in key old)
-  pub elsewhere : (other : List ℕ) → other ≢ key → held_in other new ≡ held_in other old
 
 -- the serials of the place itself
 pub changed_here : (f : Held → Held) (h : Held) (t : Trie) → IsNeat t → ChangedAt [] f (h, t) (f h, t)
@@ -23,7 +18,7 @@ changed_here f h t neat = record {
   ];
 }
 
-no_bytes : (key : List ℕ) → length key ≡ 0 → [] ≡ key
+pub no_bytes : (key : List ℕ) → length key ≡ 0 → [] ≡ key
 no_bytes [] e = refl
 no_bytes (x ∷ key) e = absurd (omega arith)
 
@@ -32,6 +27,18 @@ pub changed_own : (f : Held → Held) (key : List ℕ) {h h' : Held} (t : Trie) 
 changed_own f key {h} {h'} t none is neat =
     subst (λ k. ChangedAt k f (h, t) (h', t)) (no_bytes key none)
     (subst (λ x. ChangedAt [] f (h, t) (x, t)) (sym is) (changed_here f h t neat))
+
+-- what is done to a place behind no byte
+pub put_here : (f : Held → Held) (key : List ℕ) {tail tail' : List ℕ} {h h' : Held} {t t' : Trie} → length key ≡ 0
+    → tail ≡ [] → tail' ≡ tail → h' ≡ f h → t' ≡ t → IsNeat (led_by tail (h, t)).1
+    → ChangedAt key f (led_by tail (h, t)) (led_by tail' (h', t'))
+put_here f key {tail} {tail'} {h} {h'} {t} {t'} none no_tail same is below neat =
+    let was : led_by tail (h, t) ≡ (h, t) = ap (λ bytes. led_by bytes (h, t)) no_tail in
+    let now : led_by tail' (h', t') ≡ (h', t) =
+    ap (λ bytes. led_by bytes (h', t')) (same ∙ no_tail) ∙ ap (λ x. (h', x)) below in
+    subst (ChangedAt key f (led_by tail (h, t))) (sym now)
+    (subst (λ c. ChangedAt key f c (h', t)) (sym was)
+    (changed_own f key t none is (subst (λ (c : Contents). IsNeat c.1) was neat)))
 
 -- what an empty key holds
 pub own_held : (key : List ℕ) (c : Contents) → length key ≡ 0 → c.0 ≡ held_in key c
@@ -106,7 +113,7 @@ module _ (f : Held → Held) (byte : ℕ) (rest : List ℕ) (h : Held) (t t' : T
     had key = ap (held_in key) was ∙ held_behind (value_at byte (siblings t)) key
 
     -- d stands behind the byte now
-    stands : IsNeat t' → value_at byte (siblings t') ≡ Some d
+    pub stands : IsNeat t' → value_at byte (siblings t') ≡ Some d
         → ((b : ℕ) → b ≢ byte → value_at b (siblings t') ≡ value_at b (siblings t))
         → ChangedAt (byte ∷ rest) f (h, t) (h, t')
     stands neat' is others = changed_below neat'

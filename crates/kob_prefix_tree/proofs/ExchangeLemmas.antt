@@ -4,7 +4,8 @@ use Rattle.kob_prefix_tree.specs.Held.{Held}
 use Rattle.kob_prefix_tree.specs.Trie.{Contents, bare}
 use Rattle.kob_prefix_tree.specs.Siblings.{siblings, value_at, with_value, without, held_in, IsNeat}
 use Rattle.kob_prefix_tree.proofs.SiblingLemmas.{changed_twice, without_changed}
-use Rattle.kob_prefix_tree.proofs.ChangeLemmas.{ChangedAt, neat_behind, held_behind, led_on, put_back, taken_out}
+use Rattle.kob_prefix_tree.specs.Change.{ChangedAt}
+use Rattle.kob_prefix_tree.proofs.ChangeLemmas.{neat_behind, held_behind, led_on, put_back, taken_out}
 
 -- the lengths of the tails: a tail is not longer after an exchange, and after two of them
 module _ (old mid had : ℕ) {empty : ℕ} (none : empty ≡ 0) (outside : old ≡ 0 → mid ≡ 0)

@@ -17,3 +17,4 @@ pub mod Read
 pub mod SiblingLemmas
 pub mod TailLemmas
 pub mod WalkLemmas
+pub mod WayLemmas

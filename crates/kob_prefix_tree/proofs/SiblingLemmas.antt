@@ -60,6 +60,16 @@ module _ {A : Type 0} where
         | false ↦ λ e. ap (λ o. cond (x.0 == other) (Some x.1) o) rest
       ] refl
 
+  pub without_none : (byte : ℕ) (xs : List (ℕ × A)) → value_at byte xs ≡ None → without byte xs ≡ xs
+  without_none byte [] none = refl
+  without_none byte (x ∷ xs) none =
+      let rest = without_none byte xs in
+      elim (x.0 == byte) as (λ b. cond b (Some x.1) (value_at byte xs) ≡ None
+      → cond b xs (x ∷ without byte xs) ≡ x ∷ xs) [
+        | true ↦ λ is. absurd (some_not_none x.1 is)
+        | false ↦ λ is. ap (λ ys. x ∷ ys) (rest is)
+      ] none
+
   -- of two changes at one byte the second counts
   pub changed_twice : (byte : ℕ) (v w : A) (xs : List (ℕ × A))
       → with_value byte v (with_value byte w xs) ≡ with_value byte v xs

@@ -1,5 +1,6 @@
 pub mod Addition
 pub mod Cells
+pub mod Change
 pub mod Contents
 pub mod Entries
 pub mod Held
@@ -16,3 +17,4 @@ pub mod Tree
 pub mod Trie
 pub mod WalkLeft
 pub mod Walked
+pub mod Way

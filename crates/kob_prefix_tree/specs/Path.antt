@@ -1,9 +1,19 @@
 -- Nodes that are made ahead, in order beside one another.
-use Rattle.std.specs.Prelude.{ℕ, List, [], ◌∷◌, ◌++◌}
+use Rattle.std.specs.Prelude.{◌≡◌, ℕ, ◌+◌, ◌*◌, ◌-◌, List, [], ◌∷◌, ◌++◌, length}
 use Rattle.kob_prefix_tree.specs.Tree.{Tree, leaf, node}
 use Rattle.kob_prefix_tree.specs.declared.siblings.Item.{Item}
+use Rattle.kob_prefix_tree.specs.Siblings.{count}
 
 -- the key that their bytes spell
 abbrev pub key_of : Tree Item → List ℕ
 key_of leaf = []
 key_of (node item heap c below n after) = item.byte ∷ (item.tail ++ key_of after)
+
+-- how many more bytes the first of them could have
+abbrev pub room_of_first : Tree Item → ℕ
+room_of_first leaf = 0
+room_of_first (node item heap c below n after) = 22 - length item.tail
+
+-- each but the first has 23 bytes
+abbrev pub ArePacked : Tree Item → Type 0
+ArePacked t = 23 * count t ≡ length (key_of t) + room_of_first t

@@ -130,8 +130,7 @@ impl Branch {
     }
 
     /// Puts the serial last at the key that the nodes of the path spell, by linking these in: its
-    /// first byte doesn't lead on yet. It calls itself once a node.
-    #[cycle(link)]
+    /// first byte doesn't lead on yet.
     fn link(&mut self, path: Link<Item>, kind: PatternKind, serial: NewSerial)
         requires no_tail { self.old.tail ≡ [] }
         requires absent { (byte : ℕ) → (rest : List ℕ) → key_of path.nodes ≡ byte ∷ rest
@@ -147,20 +146,29 @@ impl Branch {
     {
         if path.is_null() {
             path.give_up();
-            match kind {
-                PatternKind::Literal => self.literal.put(serial),
-                PatternKind::Prefixed => self.prefixed.put(serial),
-            }
+            self.put(kind, serial);
             return;
         }
         let alloc = path.get().alloc;
         let (mut node, room) = path.take(alloc);
         let byte = node.item.byte;
         let rest = replace(&mut node.next, Link::null());
-        let mut branch = Branch::new();
-        branch.link(rest, kind, serial);
-        swap(&mut branch.tail, &mut node.item.tail);
+        let tail = replace(&mut node.item.tail, Tail::new());
+        let branch = Branch::along(tail, rest, kind, serial);
         self.below.put_front(room, alloc, byte, branch);
+    }
+
+    /// Puts the serial last among those of the branch itself.
+    pub(crate) fn put(&mut self, kind: PatternKind, serial: NewSerial)
+        ensures held { (self.new.literal, self.new.prefixed)
+            ≡ with_serial kind serial (self.old.literal, self.old.prefixed) }
+        ensures tail { self.new.tail ≡ self.old.tail }
+        ensures below { self.new.below ≡ self.old.below }
+    {
+        match kind {
+            PatternKind::Literal => self.literal.put(serial),
+            PatternKind::Prefixed => self.prefixed.put(serial),
+        }
     }
 
     /// As `link`, at a branch that may have a tail, which then goes into the block.
@@ -189,9 +197,10 @@ impl Branch {
 
     /// Puts the serial last at the key that the nodes of the path spell. Those whose bytes stand
     /// already are freed, the others linked in, and a node within whose bytes the key ends or parts
-    /// is cut in two, with the block. It calls itself once a byte that leads on.
-    #[cycle(grow)]
-    pub(crate) fn grow(
+    /// is cut in two, with the block. It calls itself once a byte that leads on, which are those of
+    /// one node where `descend_path` went as far as it can.
+    #[cycle(grow_within)]
+    pub(crate) fn grow_within(
         &mut self,
         path: Link<Item>,
         room: Room,
@@ -218,7 +227,7 @@ impl Branch {
         path.drop_byte();
         let mut branch = Branch::new();
         self.exchange(byte, &mut branch);
-        branch.grow(path, room, alloc, kind, serial);
+        branch.grow_within(path, room, alloc, kind, serial);
         self.exchange(byte, &mut branch);
     }
 
@@ -257,9 +266,10 @@ impl Branch {
     }
 
     /// Puts the serial last at the key. It makes the nodes that are missing, and no others, and
-    /// links them in when all are made. It calls itself once a byte that leads on.
-    #[cycle(add)]
-    pub(crate) fn add(
+    /// links them in when all are made. It calls itself once a byte that leads on, which are those
+    /// of one node where `descend` went as far as it can.
+    #[cycle(add_within)]
+    pub(crate) fn add_within(
         &mut self,
         alloc: Global,
         key: &[u8],
@@ -285,15 +295,16 @@ impl Branch {
         }
         let mut branch = Branch::new();
         self.exchange(*byte, &mut branch);
-        let added = branch.add(alloc, rest, kind, serial);
+        let added = branch.add_within(alloc, rest, kind, serial);
         self.exchange(*byte, &mut branch);
         added
     }
 
     /// Takes these serials out at the key in one pass, says whether any was there, and frees the
-    /// nodes that then keep nothing and lead nowhere. It calls itself once a byte.
-    #[cycle(remove_all)]
-    pub(crate) fn remove_all(&mut self, key: &[u8], kind: PatternKind, serials: &[u64]) -> bool
+    /// nodes that then keep nothing and lead nowhere. It calls itself once a byte that leads on,
+    /// which are those of one node where `descend` went as far as it can.
+    #[cycle(remove_within)]
+    pub(crate) fn remove_within(&mut self, key: &[u8], kind: PatternKind, serials: &[u64]) -> bool
         requires neat { IsNeat (contents self.old).1 }
         ensures neat { IsNeat (contents self.new).1 }
         ensures found { result
@@ -312,7 +323,7 @@ impl Branch {
         }
         let mut branch = Branch::new();
         self.exchange(*byte, &mut branch);
-        let found = branch.remove_all(rest, kind, serials);
+        let found = branch.remove_within(rest, kind, serials);
         if branch.is_bare() {
             self.unlink(*byte);
             return found;

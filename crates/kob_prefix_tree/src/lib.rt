@@ -15,6 +15,7 @@ mod siblings;
 mod tail;
 mod tree;
 mod walk;
+mod way;
 
 pub use kind::PatternKind;
 pub use part::Part;

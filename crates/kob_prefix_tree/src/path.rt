@@ -1,7 +1,9 @@
 //! The nodes of a key that are made ahead: linked beside one another, each with some of its bytes.
-ghost use Rattle.std.specs.Prelude.{◌≡◌, [], ◌∷◌, drop, IfOk, MatchOption};
+ghost use Rattle.std.specs.Prelude.{◌≡◌, ◌≤◌, [], ◌∷◌, ◌++◌, ◌+◌, ◌*◌, drop, length};
+ghost use Rattle.std.specs.Prelude.{IfOk, IfSome, MatchOption, OnOk};
 ghost use Rattle.kob_prefix_tree.specs.Nodes.{Leads};
-ghost use Rattle.kob_prefix_tree.specs.Path.{key_of};
+ghost use Rattle.kob_prefix_tree.specs.Path.{ArePacked, key_of};
+ghost use Rattle.kob_prefix_tree.specs.Siblings.{count};
 
 use crate::link::Link;
 use crate::node::Node;
@@ -45,9 +47,43 @@ impl Link<Item> {
         emptied.give_up();
     }
 
+    /// Takes so many bytes off.
+    pub(crate) fn drop_bytes(&mut self, count: usize)
+        ensures { key_of self.new.nodes ≡ drop count (key_of self.old.nodes) }
+    {
+        let mut left = count;
+        while left > 0 {
+            self.drop_byte();
+            left -= 1;
+        }
+    }
+
+    /// The byte of the key behind these bytes, if it begins with them.
+    pub(crate) fn byte_behind(&self, bytes: &[u8]) -> Option<u8>
+        ensures { IfSome result (λ byte. key_of self.now.nodes
+            ≡ bytes.now ++ byte ∷ drop (length bytes.now + 1) (key_of self.now.nodes)) }
+    {
+        let mut at = self;
+        let mut behind: &[u8] = &[];
+        let mut sought = bytes;
+        while let Some((first, more)) = sought.split_first() {
+            let (byte, next, others) = next_byte(at, behind)?;
+            if *first != byte {
+                return None;
+            }
+            at = next;
+            behind = others;
+            sought = more;
+        }
+        let (byte, _, _) = next_byte(at, behind)?;
+        Some(byte)
+    }
+
     /// Puts one byte more in front: into the first node, where that has room, or into one more.
     fn push_byte(&mut self, alloc: Global, byte: u8) -> Result<(), AllocError>
-        ensures { IfOk result (λ _. key_of self.new.nodes ≡ byte ∷ key_of self.old.nodes) }
+        requires { ArePacked self.old.nodes }
+        ensures key { IfOk result (λ _. key_of self.new.nodes ≡ byte ∷ key_of self.old.nodes) }
+        ensures packed { OnOk result (ArePacked self.new.nodes) }
     {
         if !self.is_null() {
             let node = self.get_mut();
@@ -79,9 +115,26 @@ impl Link<Item> {
     }
 }
 
+/// The first byte of what is left of a node and of the nodes beside it, these, and what is then left
+/// of its node.
+fn next_byte<'a>(at: &'a Link<Item>, left: &'a [u8]) -> Option<(u8, &'a Link<Item>, &'a [u8])>
+    ensures { IfSome result (λ p. left.now ++ key_of at.now.nodes
+        ≡ p.0 ∷ (p.2.now ++ key_of p.1.now.nodes)) }
+{
+    if let Some((first, others)) = left.split_first() {
+        return Some((*first, at, others));
+    }
+    if at.is_null() {
+        return None;
+    }
+    let node = at.get();
+    Some((node.item.byte, &node.next, node.item.tail.as_slice()))
+}
+
 /// Nodes for a key, one for every 23 bytes. One that can't be made frees the others.
 pub(crate) fn path_of(alloc: Global, key: &[u8]) -> Result<Link<Item>, AllocError>
-    ensures { IfOk result (λ path. key_of path.nodes ≡ key.now) }
+    ensures key { IfOk result (λ path. key_of path.nodes ≡ key.now) }
+    ensures count { IfOk result (λ path. 23 * count path.nodes ≤ length key.now + 22) }
 {
     let mut path = Link::null();
     let mut rest = key;

@@ -101,26 +101,44 @@ impl Link<Item> {
         node.next.exchange(byte, branch);
     }
 
-    /// Takes the node that begins with this byte out and frees it. The one behind it takes its place.
-    /// It calls itself once a sibling.
-    #[cycle(unlink)]
+    /// Takes the node that begins with this byte out, with all that is below, and its block. The one
+    /// behind it takes its place. It calls itself once a sibling, and so at most 256 times.
+    #[cycle(take_out)]
+    pub(crate) fn take_out(&mut self, byte: u8) -> Option<(Branch, Room, Global)>
+        ensures { MatchOption result
+            ((value_at byte (siblings (trie_of self.old.nodes)) ≡ None)
+            × (trie_of self.new.nodes ≡ trie_of self.old.nodes))
+            (λ p. (value_at byte (siblings (trie_of self.old.nodes)) ≡ Some (contents p.0))
+            × (siblings (trie_of self.new.nodes)
+            ≡ without byte (siblings (trie_of self.old.nodes)))) }
+    {
+        if self.is_null() {
+            return None;
+        }
+        let node = self.get_mut();
+        if node.item.byte != byte {
+            return node.next.take_out(byte);
+        }
+        let alloc = node.alloc;
+        let (node, room) = replace(self, Link::null()).take(alloc);
+        let emptied = replace(self, node.next);
+        emptied.give_up();
+        let branch = Branch {
+            tail: node.item.tail,
+            literal: node.item.literal,
+            prefixed: node.item.prefixed,
+            below: node.child,
+        };
+        Some((branch, room, alloc))
+    }
+
+    /// Takes the node that begins with this byte out and frees it, with all that is below.
     pub(crate) fn unlink(&mut self, byte: u8)
         ensures { siblings (trie_of self.new.nodes)
             ≡ without byte (siblings (trie_of self.old.nodes)) }
     {
-        if self.is_null() {
-            return;
-        }
-        let node = self.get_mut();
-        if node.item.byte == byte {
-            let alloc = node.alloc;
-            let first = replace(self, Link::null());
-            let (node, room) = first.take(alloc);
+        if let Some((_, room, _)) = self.take_out(byte) {
             room.free();
-            let emptied = replace(self, node.next);
-            emptied.give_up();
-            return;
         }
-        node.next.unlink(byte);
     }
 }

@@ -24,9 +24,10 @@ use std::marker::Model;
 /// A node has one to 23 bytes of a key, the serials of the key that ends with them, its first child
 /// and its next sibling, and takes 72 bytes. No two siblings begin with one byte, and no node stays
 /// that holds nothing and leads nowhere. Where a key ends or parts within its bytes a node is cut
-/// in two, which no removal joins again. What adds or removes calls itself once a byte of the key,
-/// and at each node once a sibling, from which it comes back before it goes on. All else is loops,
-/// freeing the tree too. A tree may be moved to another thread.
+/// in two, which no removal joins again. A key may be of any length: what adds or removes calls
+/// itself at most once for each byte of one node, and at each node once a sibling, from which it
+/// comes back before it goes on. All else is loops, freeing the tree too. A tree may be moved to
+/// another thread.
 #[derive(Drop)]
 pub struct PrefixTree {
     root: Branch,

@@ -1,9 +1,12 @@
 use Rattle.std.proofs.Common.{◌≡◌, ◌++◌, length}
-use Rattle.kob_prefix_tree.specs.Path.{key_of}
+use Rattle.kob_prefix_tree.specs.Path.{ArePacked, key_of}
 use Rattle.kob_prefix_tree.proofs.path.path_of.Given as goal
 
 abbrev pub invariant-loop-byte : goal.invariant-loop-byte
-invariant-loop-byte l = l.key ≡ l.rest ++ key_of l.path.nodes
+invariant-loop-byte l = record {
+  key : l.key ≡ l.rest ++ key_of l.path.nodes;
+  packed : ArePacked l.path.nodes;
+}
 
 abbrev pub decreases-loop-byte : goal.decreases-loop-byte
 decreases-loop-byte l = length l.rest

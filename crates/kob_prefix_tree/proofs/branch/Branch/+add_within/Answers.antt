@@ -5,12 +5,13 @@ use Rattle.kob_prefix_tree.specs.Siblings.{siblings, value_at, held_in, IsNeat}
 use Rattle.kob_prefix_tree.specs.Contents.{contents}
 use Rattle.kob_prefix_tree.proofs.AddLemmas.{done_by, at_done, put_done, refused_done, some_done}
 use Rattle.kob_prefix_tree.proofs.SiblingLemmas.{neat_at, neat_list}
-use Rattle.kob_prefix_tree.proofs.ChangeLemmas.{ChangedAt, led_on}
+use Rattle.kob_prefix_tree.specs.Change.{ChangedAt}
+use Rattle.kob_prefix_tree.proofs.ChangeLemmas.{led_on}
 use Rattle.kob_prefix_tree.proofs.ExchangeLemmas.{was, neat_had, exchanged, no_longer_twice}
-use Rattle.kob_prefix_tree.proofs.branch.Branch.+add.Goals as goal
+use Rattle.kob_prefix_tree.proofs.branch.Branch.+add_within.Goals as goal
 
-pub add-added-requires : goal.add-added-requires
-add-added-requires t c =
+pub add_within-added-requires : goal.add_within-added-requires
+add_within-added-requires t c =
     let x = c.exchange.ensures in (
       omega (arith, c.in-Some.ensures.cases.1),
       neat_had c.in-Some.byte.now c.in-Some.rest.now (contents c.args.self.now) (contents c.exchange.new.self)
@@ -22,11 +23,11 @@ pub returns : goal.returns
 returns t c =
     let byte = c.in-Some.byte.now in let rest = c.in-Some.rest.now in let key = c.args.key.now in
     let new = contents c.exchange-2.new.self in
-    let answer = c.add-added.result in let f : Held → Held = done_by c.args.kind c.args.serial answer in
+    let answer = c.add_within-added.result in let f : Held → Held = done_by c.args.kind c.args.serial answer in
     let key_is = c.in-Some.ensures.cases.0 in
     let old = contents c.args.self.now in let mid = contents c.exchange.new.self in
-    let x = c.exchange.ensures in let e = c.add-added.ensures in
-    let had = contents c.exchange.new.branch in let now = contents c.add-added.new.self in
+    let x = c.exchange.ensures in let e = c.add_within-added.ensures in
+    let had = contents c.exchange.new.branch in let now = contents c.add_within-added.new.self in
     let done : ChangedAt rest f had now =
     record {
       neat = e.neat;
@@ -51,6 +52,6 @@ returns t c =
       shorter =
           no_longer_twice (length c.args.self.now.tail) (length c.exchange.new.self.tail)
           (length c.exchange.new.branch.tail) (ap length c.new-branch.ensures.no_tail) x.outside x.inside
-          (length c.add-added.new.self.tail) (length c.exchange-2.new.self.tail) (length c.exchange-2.new.branch.tail)
+          (length c.add_within-added.new.self.tail) (length c.exchange-2.new.self.tail) (length c.exchange-2.new.branch.tail)
           e.shorter c.exchange-2.ensures.outside c.exchange-2.ensures.inside;
     }

@@ -4,12 +4,12 @@ use Rattle.kob_prefix_tree.specs.Siblings.{siblings, value_at}
 use Rattle.kob_prefix_tree.specs.Contents.{contents}
 use Rattle.kob_prefix_tree.specs.Path.{key_of}
 use Rattle.kob_prefix_tree.proofs.AddLemmas.{some_put}
-use Rattle.kob_prefix_tree.proofs.ChangeLemmas.{ChangedAt}
+use Rattle.kob_prefix_tree.specs.Change.{ChangedAt}
 use Rattle.kob_prefix_tree.proofs.ExchangeLemmas.{neat_had, exchanged, no_longer_twice}
-use Rattle.kob_prefix_tree.proofs.branch.Branch.+grow.Goals as goal
+use Rattle.kob_prefix_tree.proofs.branch.Branch.+grow_within.Goals as goal
 
-pub grow-requires : goal.grow-requires
-grow-requires t c =
+pub grow_within-requires : goal.grow_within-requires
+grow_within-requires t c =
     let byte = c.in-Some.byte in let rest = key_of c.drop_byte.new.self.nodes in
     let key_is = c.in-Some.ensures ∙ ap (λ k. byte ∷ k) (sym c.drop_byte.ensures) in
     let shorter = ap length key_is in
@@ -24,8 +24,8 @@ returns t c =
     let key_is = c.in-Some.ensures ∙ ap (λ k. byte ∷ k) (sym c.drop_byte.ensures) in
     let f : Held → Held = with_serial c.args.kind c.args.serial in
     let old = contents c.args.self.now in let mid = contents c.exchange.new.self in
-    let x = c.exchange.ensures in let e = c.grow.ensures in
-    let done : ChangedAt rest f (contents c.exchange.new.branch) (contents c.grow.new.self) =
+    let x = c.exchange.ensures in let e = c.grow_within.ensures in
+    let done : ChangedAt rest f (contents c.exchange.new.branch) (contents c.grow_within.new.self) =
     record { neat = e.neat; at = e.put; elsewhere = e.elsewhere } in
     let leads : value_at byte (siblings (contents c.args.self.now).1) ≢ None =
     c.leads_on.ensures.0 c.if-not-leads_on.false in
@@ -39,6 +39,6 @@ returns t c =
       shorter =
           no_longer_twice (length c.args.self.now.tail) (length c.exchange.new.self.tail)
           (length c.exchange.new.branch.tail) (ap length c.new-branch.ensures.no_tail) x.outside x.inside
-          (length c.grow.new.self.tail) (length c.exchange-2.new.self.tail) (length c.exchange-2.new.branch.tail)
+          (length c.grow_within.new.self.tail) (length c.exchange-2.new.self.tail) (length c.exchange-2.new.branch.tail)
           e.shorter c.exchange-2.ensures.outside c.exchange-2.ensures.inside;
     }

@@ -1,0 +1,43 @@
+-- The way from the root down to one place. Its nodes stand beside one another, the last one first.
+-- Each keeps the first byte of the node that the way goes on to, and, below it, the other nodes
+-- that follow the place that it leaves.
+use Rattle.std.specs.Prelude.{◌≡◌, ℕ, Bool, true, false, ◌&&◌, if◌then◌else◌, List}
+use Rattle.kob_prefix_tree.specs.Tree.{Tree, leaf, node}
+use Rattle.kob_prefix_tree.specs.declared.siblings.Item.{Item}
+use Rattle.kob_prefix_tree.specs.Held.{Held, is_nothing}
+use Rattle.kob_prefix_tree.specs.Trie.{Trie, void, sibling, Contents, bare, led_by}
+use Rattle.kob_prefix_tree.specs.Contents.{trie_of}
+use Rattle.kob_prefix_tree.specs.Siblings.{held_in, IsNeat}
+use Rattle.kob_prefix_tree.specs.Change.{ChangedAt}
+
+abbrev pub is_void : Trie → Bool
+is_void void = true
+is_void (sibling byte held below after) = false
+
+-- the place keeps nothing and leads nowhere
+abbrev pub is_bare : Contents → Bool
+is_bare c = is_nothing c.0 && is_void c.1
+
+-- the siblings with one more, which is left out where it would be bare
+abbrev pub with_child : ℕ → Contents → Trie → Trie
+with_child byte c t = if is_bare c then t else sibling byte c.0 c.1 t
+
+-- bytes that alone lead on to the contents, which are left out where these are bare
+abbrev pub kept_behind : List ℕ → Contents → Contents
+kept_behind tail c = if is_bare c then bare else led_by tail c
+
+-- the root, where this stands at the end of the way
+abbrev pub unwound : Tree Item → Contents → Contents
+unwound leaf c = c
+unwound (node item heap first below next after) c =
+    unwound after (kept_behind item.tail
+    ((item.literal, item.prefixed), with_child item.byte c (trie_of below)))
+
+-- the way leads from the root to these contents along the key, of which the rest is still to come:
+-- what is done there at the rest is done at the key
+pub record IsWay (above : Tree Item) (rest key : List ℕ) (root here : Contents) : Type 0 where
+  pub neat : IsNeat here.1
+  pub held : held_in rest here ≡ held_in key root
+  pub changed :
+      (f : Held → Held) (after : Contents)
+      → ChangedAt rest f here after → ChangedAt key f root (unwound above after)

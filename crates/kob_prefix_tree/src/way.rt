@@ -1,0 +1,287 @@
+//! The way from the root down to one place and up again, kept in the blocks of its own nodes, so
+//! that it needs no memory and no stack, however long the key is.
+ghost use Rattle.std.specs.Prelude.{◌≡◌, ◌≢◌, [], ◌∷◌, ◌++◌, ◌+◌, ℕ, List, false};
+ghost use Rattle.std.specs.Prelude.{IfSome, IsTrue, OnErr, OnOk};
+ghost use Rattle.kob_prefix_tree.specs.Nodes.{Leads};
+ghost use Rattle.kob_prefix_tree.specs.Held.{has_serials, with_serial, without_serials};
+ghost use Rattle.kob_prefix_tree.specs.Trie.{Contents, bare};
+ghost use Rattle.kob_prefix_tree.specs.Siblings.{count, held_in, IsNeat};
+ghost use Rattle.kob_prefix_tree.specs.Contents.{contents, trie_of};
+ghost use Rattle.kob_prefix_tree.specs.Path.{key_of};
+ghost use Rattle.kob_prefix_tree.specs.Change.{ChangedAt};
+ghost use Rattle.kob_prefix_tree.specs.Way.{IsWay, kept_behind, unwound, with_child};
+
+use crate::branch::Branch;
+use crate::kind::PatternKind;
+use crate::link::Link;
+use crate::node::Node;
+use crate::serials::NewSerial;
+use crate::siblings::{Item, Room};
+use crate::tail::Tail;
+use std::alloc::{AllocError, Global};
+use std::mem::{replace, swap};
+
+impl Branch {
+    /// Goes on from here to another branch. What stands here becomes the way's last node, in the
+    /// block.
+    fn go_on(&mut self, above: &mut Link<Item>, room: Room, alloc: Global, byte: u8, branch: Branch)
+        ensures here { self.new ≡ branch }
+        ensures way { (c : Contents) → unwound above.new.nodes c
+            ≡ unwound above.old.nodes (kept_behind self.old.tail (
+              (self.old.literal, self.old.prefixed),
+              with_child byte c (trie_of self.old.below.nodes),
+            )) }
+    {
+        let Branch {
+            tail,
+            literal,
+            prefixed,
+            below,
+        } = replace(self, branch);
+        let item = Item {
+            byte,
+            tail,
+            literal,
+            prefixed,
+        };
+        let next = replace(above, Link::null());
+        let node = Node {
+            item,
+            child: below,
+            next,
+            alloc,
+        };
+        let emptied = replace(above, Link::of(room, node));
+        emptied.give_up();
+    }
+
+    /// Goes back to the place that the way's last node keeps. What stands here is put below it, or
+    /// freed if it is bare.
+    fn go_back(&mut self, above: &mut Link<Item>)
+        requires { Leads above.old.nodes }
+        ensures shorter { count above.old.nodes ≡ 1 + count above.new.nodes }
+        ensures root { unwound above.new.nodes (contents self.new)
+            ≡ unwound above.old.nodes (contents self.old) }
+    {
+        let alloc = above.get().alloc;
+        let (node, room) = replace(above, Link::null()).take(alloc);
+        let Node {
+            item,
+            child,
+            next,
+            alloc: _,
+        } = node;
+        let emptied = replace(above, next);
+        emptied.give_up();
+        let Item {
+            byte,
+            tail,
+            literal,
+            prefixed,
+        } = item;
+        let mut place = Branch {
+            tail: Tail::new(),
+            literal,
+            prefixed,
+            below: child,
+        };
+        place.take_in(room, alloc, byte, replace(self, Branch::new()));
+        place.put_behind(tail);
+        *self = place;
+    }
+
+    /// Puts these bytes before what stands here, unless it is bare.
+    fn put_behind(&mut self, tail: Tail)
+        requires { self.old.tail ≡ [] }
+        ensures { contents self.new ≡ kept_behind tail (contents self.old) }
+    {
+        if self.is_bare() {
+            return;
+        }
+        self.tail = tail;
+    }
+
+    /// Puts a branch below, behind the byte and in the block, which is freed if the branch is bare.
+    fn take_in(&mut self, room: Room, alloc: Global, byte: u8, branch: Branch)
+        requires { self.old.tail ≡ [] }
+        ensures no_tail { self.new.tail ≡ [] }
+        ensures put { contents self.new ≡ (
+          (self.old.literal, self.old.prefixed),
+          with_child byte (contents branch) (trie_of self.old.below.nodes),
+        ) }
+    {
+        if branch.is_bare() {
+            room.free();
+            return;
+        }
+        self.below.put_front(room, alloc, byte, branch);
+    }
+
+    /// Goes on to the node that begins with the byte, if there is one.
+    fn enter(&mut self, above: &mut Link<Item>, byte: u8) -> bool
+        ensures way { (rest key : List ℕ) (root : Contents) → IsTrue result
+            → IsWay above.old.nodes (self.old.tail ++ byte ∷ rest) key root (contents self.old)
+            → IsWay above.new.nodes rest key root (contents self.new) }
+        ensures stays { result ≡ false → (above.new.nodes ≡ above.old.nodes)
+            × (contents self.new ≡ contents self.old) }
+    {
+        let Some((branch, room, alloc)) = self.below.take_out(byte) else {
+            return false;
+        };
+        self.go_on(above, room, alloc, byte, branch);
+        true
+    }
+
+    /// The byte of the key behind those that alone lead on from here, and the rest of the key, if it
+    /// goes on with these.
+    fn byte_behind<'a>(&self, key: &'a [u8]) -> Option<(u8, &'a [u8])>
+        ensures { IfSome result (λ p. key.now ≡ self.now.tail ++ p.0 ∷ p.1.now) }
+    {
+        let behind = key.strip_prefix(self.tail.as_slice())?;
+        let (byte, rest) = behind.split_first()?;
+        Some((*byte, rest))
+    }
+
+    /// Goes down along the key as long as whole nodes lead on, and gives the way and the rest of the
+    /// key.
+    fn descend<'a>(&mut self, key: &'a [u8]) -> (Link<Item>, &'a [u8])
+        requires { IsNeat (contents self.old).1 }
+        ensures { IsWay result.0.nodes result.1.now key.now
+            (contents self.old) (contents self.new) }
+    {
+        let mut above = Link::null();
+        let mut rest = key;
+        while let Some((byte, others)) = self.byte_behind(rest) {
+            if !self.enter(&mut above, byte) {
+                break;
+            }
+            rest = others;
+        }
+        (above, rest)
+    }
+
+    /// As `descend`, along the key that the nodes of a path spell. Those of its bytes that stand
+    /// already are dropped.
+    fn descend_path(&mut self, path: &mut Link<Item>) -> Link<Item>
+        requires { IsNeat (contents self.old).1 }
+        ensures { IsWay result.nodes (key_of path.new.nodes) (key_of path.old.nodes)
+            (contents self.old) (contents self.new) }
+    {
+        let mut above = Link::null();
+        while let Some(byte) = path.byte_behind(self.tail.as_slice()) {
+            let count = self.tail.as_slice().len() + 1;
+            if !self.enter(&mut above, byte) {
+                break;
+            }
+            path.drop_bytes(count);
+        }
+        above
+    }
+
+    /// Goes the way up to the root.
+    fn ascend(&mut self, above: Link<Item>)
+        ensures { contents self.new ≡ unwound above.nodes (contents self.old) }
+    {
+        let mut above = above;
+        while !above.is_null() {
+            self.go_back(&mut above);
+        }
+        above.give_up();
+    }
+
+    /// The branch that holds the serial alone, at the key of a tail and of a path behind it. It is
+    /// made in the blocks of the path.
+    pub(crate) fn along(
+        tail: Tail,
+        path: Link<Item>,
+        kind: PatternKind,
+        serial: NewSerial,
+    ) -> Branch
+        ensures { ChangedAt (tail ++ key_of path.nodes) (with_serial kind serial)
+            bare (contents result) }
+    {
+        let mut here = Branch::new();
+        here.tail = tail;
+        let mut above = Link::null();
+        let mut path = path;
+        while !path.is_null() {
+            let alloc = path.get().alloc;
+            let (mut node, room) = path.take(alloc);
+            path = replace(&mut node.next, Link::null());
+            let mut branch = Branch::new();
+            swap(&mut branch.tail, &mut node.item.tail);
+            here.go_on(&mut above, room, alloc, node.item.byte, branch);
+        }
+        path.give_up();
+        here.put(kind, serial);
+        here.ascend(above);
+        here
+    }
+
+    /// Puts the serial last at the key. It makes the nodes that are missing, and no others, and
+    /// links them in when all are made.
+    pub(crate) fn add(
+        &mut self,
+        alloc: Global,
+        key: &[u8],
+        kind: PatternKind,
+        serial: NewSerial,
+    ) -> Result<(), AllocError>
+        requires neat { IsNeat (contents self.old).1 }
+        ensures neat { IsNeat (contents self.new).1 }
+        ensures put { OnOk result
+            (held_in key.now (contents self.new)
+            ≡ with_serial kind serial (held_in key.now (contents self.old))) }
+        ensures elsewhere { (other : List ℕ) → other ≢ key.now
+            → held_in other (contents self.new) ≡ held_in other (contents self.old) }
+        ensures refused { OnErr result
+            (held_in key.now (contents self.new) ≡ held_in key.now (contents self.old)) }
+    {
+        let (above, rest) = self.descend(key);
+        let added = self.add_within(alloc, rest, kind, serial);
+        self.ascend(above);
+        added
+    }
+
+    /// Puts the serial last at the key that the nodes of the path spell. Those whose bytes stand
+    /// already are freed, the others linked in, and a node within whose bytes the key ends or parts
+    /// is cut in two, with the block.
+    pub(crate) fn grow(
+        &mut self,
+        path: Link<Item>,
+        room: Room,
+        alloc: Global,
+        kind: PatternKind,
+        serial: NewSerial,
+    )
+        requires neat { IsNeat (contents self.old).1 }
+        ensures neat { IsNeat (contents self.new).1 }
+        ensures put { held_in (key_of path.nodes) (contents self.new)
+            ≡ with_serial kind serial (held_in (key_of path.nodes) (contents self.old)) }
+        ensures elsewhere { (other : List ℕ) → other ≢ key_of path.nodes
+            → held_in other (contents self.new) ≡ held_in other (contents self.old) }
+    {
+        let mut path = path;
+        let above = self.descend_path(&mut path);
+        self.grow_within(path, room, alloc, kind, serial);
+        self.ascend(above);
+    }
+
+    /// Takes these serials out at the key in one pass, says whether any was there, and frees the
+    /// nodes that then keep nothing and lead nowhere.
+    pub(crate) fn remove_all(&mut self, key: &[u8], kind: PatternKind, serials: &[u64]) -> bool
+        requires neat { IsNeat (contents self.old).1 }
+        ensures neat { IsNeat (contents self.new).1 }
+        ensures found { result
+            ≡ has_serials kind serials.now (held_in key.now (contents self.old)) }
+        ensures taken { held_in key.now (contents self.new)
+            ≡ without_serials kind serials.now (held_in key.now (contents self.old)) }
+        ensures elsewhere { (other : List ℕ) → other ≢ key.now
+            → held_in other (contents self.new) ≡ held_in other (contents self.old) }
+    {
+        let (above, rest) = self.descend(key);
+        let found = self.remove_within(rest, kind, serials);
+        self.ascend(above);
+        found
+    }
+}
