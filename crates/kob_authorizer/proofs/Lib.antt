@@ -9,6 +9,7 @@ pub mod Keys
 pub mod LeastHits
 pub mod LeastPassing
 pub mod Matching
+pub mod OneVerdict
 pub mod Passes
 pub mod RemovalSteps
 pub mod Resources

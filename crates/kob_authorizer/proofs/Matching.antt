@@ -27,7 +27,7 @@ use Rattle.kob_authorizer.specs.Creation.{serial_of}
 use Rattle.kob_authorizer.specs.Decide.{first_serial, hits, is_hit}
 use Rattle.kob_authorizer.specs.Index.{Indexes, entries_on, tree_of}
 use Rattle.kob_authorizer.specs.Key.{binding_key}
-use Rattle.kob_authorizer.specs.LookUp.{AreRising, behind, is_equal, least_passing, matching_serials, serials_for, serials_from}
+use Rattle.kob_authorizer.specs.LookUp.{AreRising, behind, is_equal, keys_on, least_passing, matching_serials, serials_for, serials_from}
 use Rattle.kob_authorizer.specs.Meaning.{Hits}
 use Rattle.kob_authorizer.specs.Places.{IsIndex, Place, key_place, is_place, kind_in_tree, pattern_place, same_kind}
 use Rattle.kob_authorizer.specs.Question.{Question}
@@ -115,13 +115,17 @@ module _ (index : Index) (entries : List (ℕ × Binding)) (indexed : Indexes in
       let covered =
       and_parts (same_text binding.principal question.principal || same_text binding.principal (codes "User:*"))
       (same_text binding.host question.host || same_text binding.host (codes "*")) hit.who in
-      let of_principal : List ℕ → List ℕ → Held = λ principal. behind principal (held index.keys) in
+      let on : List ℕ → Held = keys_on question.resource (held index.keys) in
+      let of_principal : List ℕ → List ℕ → Held = λ principal. behind principal on in
       among_two (λ principal. serials_from (of_principal principal) question) binding.principal question.principal
       (codes "User:*") entry.0 covered.0
       (among_two (λ host. matching_serials (behind host (of_principal binding.principal)) question.name) binding.host
       question.host (codes "*") entry.0 covered.1
       (looked_up_by (behind binding.host (of_principal binding.principal)) binding.pattern.kind binding.pattern.name
-      question.name entry.0 hit.name (at_its_place key_place index.keys entries entry indexed.keys there)))
+      question.name entry.0 hit.name
+      (subst (λ resource. Contains (serials_of (kind_in_tree binding.pattern.kind)
+      (behind binding.host (behind binding.principal (keys_on resource (held index.keys))) binding.pattern.name)) entry.0)
+      hit.resource (at_its_place key_place index.keys entries entry indexed.keys there))))
 
 -- so the lesser of the least hits of who asks and of `User:*` is the first hit in force
 pub least_hit_is_first : (index : Index) (entries : List (ℕ × Binding)) (permission : Permission) (question : Question)

@@ -5,11 +5,13 @@ use Rattle.kob_names.specs.SameBinding.{same_binding}
 use Rattle.kob_names.specs.Binding.{Binding}
 use Rattle.kob_names.specs.declared.kinds.PatternKind.TheVariants.{Literal}
 use Rattle.kob_names.specs.declared.kinds.Permission.TheVariants.{Allow, Deny}
+use Rattle.kob_names.specs.declared.kinds.ResourceKind.{ResourceKind}
 use Rattle.kob_prefix_tree.specs.Held.{Held, serials_of}
 use Rattle.kob_prefix_tree.specs.PrefixMap.{PrefixMap, held}
 use Rattle.kob_prefix_tree.specs.Walked.{serials_along}
 use Rattle.kob_authorizer.specs.Contents.{IsRising}
 use Rattle.kob_authorizer.specs.Decide.{is_hit}
+use Rattle.kob_authorizer.specs.Key.{kind_byte}
 use Rattle.kob_authorizer.specs.Places.{kind_in_tree}
 use Rattle.kob_authorizer.specs.Question.{Question}
 use Rattle.kob_authorizer.specs.declared.hits.Hits.{Hits}
@@ -38,11 +40,15 @@ serials_from held_at question =
     matching_serials (behind question.host held_at) question.name
     ++ matching_serials (behind (codes "*") held_at) question.name
 
--- the serials of who asks, and those of `User:*`
+-- what stands at the keys of one kind of resource
+abbrev pub keys_on : ResourceKind → (List ℕ → Held) → List ℕ → Held
+keys_on resource held_at key = held_at (kind_byte resource ∷ key)
+
+-- on the kind of resource that is asked for: the serials of who asks, and those of `User:*`
 abbrev pub serials_for : PrefixMap → Question → List ℕ
 serials_for keys question =
-    serials_from (behind question.principal (held keys)) question
-    ++ serials_from (behind (codes "User:*") (held keys)) question
+    serials_from (behind question.principal (keys_on question.resource (held keys))) question
+    ++ serials_from (behind (codes "User:*") (keys_on question.resource (held keys))) question
 
 -- an entry with this serial passes the test
 abbrev pub passes_at : (ℕ × Binding → Bool) → List (ℕ × Binding) → ℕ → Bool

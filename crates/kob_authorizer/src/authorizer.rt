@@ -64,23 +64,18 @@ impl Model for Authorizer {
 impl Authorizer {
     /// An authorizer without bindings, whose first new binding gets the serial 1. With `everyone` a
     /// resource that no binding matches is open to everyone (Kafka's
-    /// `allow.everyone.if.no.acl.found`). The error is want of memory, which the super users take.
-    pub fn open(
-        alloc: Global,
-        supers: Vec<Principal>,
-        everyone: bool,
-    ) -> Result<Authorizer, AllocError>
-        ensures { IfOk result (λ authorizer.
-            authorizer.contents ≡ fresh_contents supers.items everyone) }
+    /// `allow.everyone.if.no.acl.found`). No memory is taken: a super user is looked up in the list
+    /// until the first creation makes a tree of them.
+    pub fn open(alloc: Global, supers: Vec<Principal>, everyone: bool) -> Authorizer
+        ensures { result.contents ≡ fresh_contents supers.items everyone }
     {
-        let supers = SuperUsers::new(alloc, supers)?;
-        Ok(Authorizer {
+        Authorizer {
             entries: Vec::new(alloc),
             index: Index::new(),
-            supers,
+            supers: SuperUsers::new(supers),
             everyone,
             next: 1,
-        })
+        }
     }
 
     /// The super users, in the order in which they were given; no memory is taken.
@@ -200,6 +195,7 @@ impl Authorizer {
             bindings,
         )?;
         self.entries.reserve(made.count())?;
+        self.supers.index(alloc)?;
         Ok(made)
     }
 

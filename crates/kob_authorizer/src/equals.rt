@@ -7,7 +7,7 @@ ghost use Rattle.kob_authorizer.specs.Creation.{serial_of};
 ghost use Rattle.kob_authorizer.specs.LookUp.{AreRising, is_equal, least_passing, passes_at};
 ghost use Rattle.kob_authorizer.specs.Places.{IsIndex, key_place};
 
-use crate::key::{SEPARATOR, kind_in_tree};
+use crate::key::{SEPARATOR, keys_on, kind_in_tree};
 use crate::look_up::entry_of;
 use kob_names::Binding;
 use kob_prefix_tree::PrefixTree;
@@ -34,7 +34,8 @@ fn least_equal(entries: &[(u64, Binding)], keys: &PrefixTree, binding: &Binding)
     let host = texts.host.as_str().as_bytes();
     let name = texts.pattern.name.as_str().as_bytes();
     let kind = kind_in_tree(texts.pattern.kind);
-    keys.behind(principal, SEPARATOR)
+    keys_on(keys, texts.resource)
+        .behind(principal, SEPARATOR)
         .behind(host, SEPARATOR)
         .listed(name, kind)
         .filter(|serial| is_equal_at(entries, *serial, binding))

@@ -1,20 +1,24 @@
 //! The key of a binding, by which an equal one is looked up, and those of who asks.
 
 ghost use Rattle.std.specs.Prelude.{◌≡◌, IfOk};
-ghost use Rattle.kob_authorizer.specs.Key.{binding_key};
+ghost use Rattle.kob_prefix_tree.specs.Part.{part_of};
+ghost use Rattle.kob_prefix_tree.specs.PrefixMap.{held};
+ghost use Rattle.kob_authorizer.specs.Key.{binding_key, kind_byte};
+ghost use Rattle.kob_authorizer.specs.LookUp.{keys_on};
 ghost use Rattle.kob_authorizer.specs.Places.{kind_in_tree};
 
-use kob_names::{Binding, PatternKind};
+use kob_names::{Binding, PatternKind, ResourceKind};
+use kob_prefix_tree::{Part, PrefixTree};
 use std::alloc::{AllocError, Global};
 
 /// What stands between the texts of a key: no byte of UTF-8.
 pub const SEPARATOR: u8 = 255;
 
-/// Principal, host and name, with the separator between them.
+/// The byte of the kind of resource, and principal, host and name, with the separator between them.
 ///
-/// No other principal, host and name make the same key. A binding stands in the list of its
-/// pattern's kind, so that no more bindings stand in one list than there are permissions,
-/// operations and kinds of resource to tell them apart: 88.
+/// No other kind, principal, host and name make the same key. A binding stands in the list of its
+/// pattern's kind, so that no more bindings stand in one list than there are permissions and
+/// operations to tell them apart: 22.
 #[tactic(auto, unfolding(crate::specs::Key::binding_key), using(crate::proofs::Keys::in_turn))]
 pub fn binding_key(alloc: Global, binding: &Binding) -> Result<Vec<u8>, AllocError>
     ensures { IfOk result (λ key. key.items ≡ binding_key binding.now) }
@@ -24,12 +28,32 @@ pub fn binding_key(alloc: Global, binding: &Binding) -> Result<Vec<u8>, AllocErr
     let host = binding.host.as_str().as_bytes();
     let name = binding.pattern.name.as_str().as_bytes();
     let mut key = Vec::new(alloc);
+    key.push(kind_byte(binding.resource))?;
     key.extend_from_slice(principal)?;
     key.push(SEPARATOR)?;
     key.extend_from_slice(host)?;
     key.push(SEPARATOR)?;
     key.extend_from_slice(name)?;
     Ok(key)
+}
+
+/// The byte of a kind of resource, with which the keys of the bindings on it begin.
+fn kind_byte(resource: ResourceKind) -> u8
+    ensures { result ≡ kind_byte resource }
+{
+    match resource {
+        ResourceKind::Topic => 0,
+        ResourceKind::Group => 1,
+        ResourceKind::Cluster => 2,
+        ResourceKind::TransactionalId => 3,
+    }
+}
+
+/// The keys of the bindings on one kind of resource.
+pub fn keys_on(keys: &PrefixTree, resource: ResourceKind) -> Part<'_>
+    ensures { part_of result ≡ keys_on resource (held keys.now) }
+{
+    keys.behind("".as_bytes(), kind_byte(resource))
 }
 
 /// The list of a tree that is for this kind of pattern.

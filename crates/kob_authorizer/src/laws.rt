@@ -11,6 +11,7 @@ ghost use Rattle.kob_names.specs.Binding.{Binding};
 ghost use Rattle.kob_names.specs.Granted.{is_granted};
 ghost use Rattle.kob_names.specs.declared.filter.BindingFilter.{BindingFilter};
 ghost use Rattle.kob_names.specs.declared.kinds.Permission.TheVariants.{Allow, Deny};
+ghost use Rattle.kob_names.specs.declared.verdict.Verdict.{Verdict};
 
 /// Each verdict says what is so of the whole list: a deny that is named is the one with the least
 /// serial of all that hit, an allow is named only where no deny hits, and no allow is said to be
@@ -20,6 +21,15 @@ pub fn verdicts_are_true()
     ensures { (contents : Contents) (question : Question)
         → IsRising 1 contents.entries contents.next
         → IsTrueVerdict contents question (decide contents question) }
+{
+    // The contract is the law.
+}
+
+/// What a verdict says is so for no other: of two that are true each is the other.
+pub fn a_true_verdict_is_the_only_one()
+    ensures { (contents : Contents) (question : Question) (one other : Verdict)
+        → IsTrueVerdict contents question one → IsTrueVerdict contents question other
+        → one ≡ other }
 {
     // The contract is the law.
 }

@@ -1,5 +1,6 @@
 //! The search for bindings by the serials that the trees give; no other binding is looked at. Those
-//! for a decision are of who asks and of `User:*`, from the host and from every host.
+//! for a decision are of who asks and of `User:*`, from the host and from every host, on the kind of
+//! resource that is asked for.
 
 ghost use Rattle.std.specs.Prelude.{◌≡◌, ◌∷◌, [], ◌&&◌, ◌==◌, false, length};
 ghost use Rattle.std.specs.Option.{option_copied};
@@ -14,7 +15,7 @@ ghost use Rattle.kob_prefix_tree.specs.PrefixMap.{held};
 
 use crate::hits::Hits;
 use crate::index::Index;
-use crate::key::SEPARATOR;
+use crate::key::{SEPARATOR, keys_on};
 use crate::question::Question;
 use kob_names::{Binding, Permission, Verdict};
 use kob_prefix_tree::{Part, PatternKind};
@@ -66,10 +67,9 @@ fn first_hits(entries: &[(u64, Binding)], index: &Index, question: &Question) ->
     ensures allow { result.allow
         ≡ first_serial (hits entries.now Permission.Allow (question_view question.now)) }
 {
-    let of_who = index
-        .keys()
-        .behind(question.principal.as_str().as_bytes(), SEPARATOR);
-    let of_everyone = index.keys().behind("User:*".as_bytes(), SEPARATOR);
+    let keys = keys_on(index.keys(), question.resource);
+    let of_who = keys.behind(question.principal.as_str().as_bytes(), SEPARATOR);
+    let of_everyone = keys.behind("User:*".as_bytes(), SEPARATOR);
     hits_of(entries, of_who, question).or_lesser(hits_of(entries, of_everyone, question))
 }
 

@@ -11,32 +11,49 @@ use kob_prefix_tree::{PatternKind, PrefixTree};
 use std::alloc::{AllocError, Global};
 use std::marker::Model;
 
-/// The super users in the order in which they were given. Whether one is among them costs as much
-/// as its text is long, however many there are. Contracts see the list.
+/// The super users in the order in which they were given. Contracts see the list.
+///
+/// Until the tree of their texts is made, one is looked up in the list; from then on that costs as
+/// much as a text is long, however many there are.
 #[derive(Drop)]
 pub struct SuperUsers {
     listed: Vec<Principal>,
-    texts: PrefixTree,
+    texts: Option<PrefixTree>,
 }
 
 impl Model for SuperUsers {
-    ghost use Rattle.std.specs.Prelude.{◌≡◌, List, ℕ};
+    ghost use Rattle.std.specs.Prelude.{◌≡◌, IfSome, List, ℕ};
     ghost use Rattle.kob_authorizer.specs.SuperUsers.{texts_of};
 
     ghost Value = { List (List ℕ) };
 
     ghost view = { λ users. users.listed.items };
 
-    ghost invariant = { λ users. users.texts ≡ texts_of users.listed.items };
+    ghost invariant = { λ users.
+        IfSome users.texts (λ texts. texts ≡ texts_of users.listed.items) };
 }
 
 impl SuperUsers {
-    /// These super users. The error is want of memory.
-    pub fn new(alloc: Global, listed: Vec<Principal>) -> Result<SuperUsers, AllocError>
-        ensures { IfOk result (λ users. users ≡ listed.items) }
+    /// These super users, without a tree; no memory is taken.
+    pub fn new(listed: Vec<Principal>) -> SuperUsers
+        ensures { result ≡ listed.items }
     {
-        let texts = texts_of(alloc, listed.as_slice())?;
-        Ok(SuperUsers { listed, texts })
+        SuperUsers {
+            listed,
+            texts: None,
+        }
+    }
+
+    /// Makes the tree, if it is not there yet. The error is want of memory.
+    pub fn index(&mut self, alloc: Global) -> Result<(), AllocError>
+        ensures { self.new ≡ self.old }
+    {
+        if self.texts.is_some() {
+            return Ok(());
+        }
+        let texts = texts_of(alloc, self.listed.as_slice())?;
+        self.texts = Some(texts);
+        Ok(())
     }
 
     /// The super users; no memory is taken.
@@ -50,8 +67,18 @@ impl SuperUsers {
     pub fn contains(&self, who: &Principal) -> bool
         ensures { result ≡ is_super self.now who.now }
     {
-        holds_text(&self.texts, who)
+        match &self.texts {
+            Some(texts) => holds_text(texts, who),
+            None => is_listed(self.listed.as_slice(), who),
+        }
     }
+}
+
+/// Whether the principal is equal to one of these users.
+fn is_listed(users: &[Principal], who: &Principal) -> bool
+    ensures { result ≡ is_super users.now who.now }
+{
+    users.iter().any(|user| who == user)
 }
 
 /// A tree of the texts of these users. The error is want of memory.

@@ -6,7 +6,7 @@ use Rattle.kob_prefix_tree.specs.Held.{serials_of}
 use Rattle.kob_prefix_tree.specs.PrefixMap.{held}
 use Rattle.kob_prefix_tree.specs.WalkLeft.{left_of}
 use Rattle.kob_authorizer.specs.Key.{binding_key}
-use Rattle.kob_authorizer.specs.LookUp.{is_equal, passes_at}
+use Rattle.kob_authorizer.specs.LookUp.{is_equal, keys_on, passes_at}
 use Rattle.kob_authorizer.specs.Places.{key_place, kind_in_tree}
 use Rattle.kob_authorizer.proofs.equals.least_equal.Goals as goal
 
@@ -20,12 +20,15 @@ returns c =
     let principal : c.as_bytes-principal.result.now ≡ binding.principal = cc in
     let host : c.as_bytes-host.result.now ≡ binding.host = cc in
     let name : c.as_bytes-name.result.now ≡ binding.pattern.name = cc in
+    let resource : c.parts-texts.result.now.resource ≡ binding.resource = cc in
     let kind : c.kind_in_tree-kind.result ≡ kind_in_tree binding.pattern.kind = cc in
     let given : left_of c.listed.result ≡ held_there =
     c.listed.ensures
     ∙ (λ i. serials_of (kind i) ((c.behind-2.ensures ∙ (λ j key. c.behind.ensures j (host j ++ 255 ∷ key))) i (name i)))
     ∙ (λ i. serials_of (key_place binding).kind
-    (held c.args.keys.now (principal i ++ 255 ∷ (binding.host ++ 255 ∷ binding.pattern.name)))) in
+    (c.keys_on.ensures i (principal i ++ 255 ∷ (binding.host ++ 255 ∷ binding.pattern.name))))
+    ∙ (λ i. serials_of (key_place binding).kind (keys_on (resource i) (held c.args.keys.now)
+    (binding.principal ++ 255 ∷ (binding.host ++ 255 ∷ binding.pattern.name)))) in
     sym (option_map_id c.min.result)
     ∙ min_from_yields_List c.filter.result c.min.result c.min.ensures.ran
     (YieldsList-from_filter _ test

@@ -6,7 +6,7 @@ use Rattle.kob_prefix_tree.specs.Part.{part_of}
 use Rattle.kob_prefix_tree.specs.PrefixMap.{PrefixMap, held}
 use Rattle.kob_authorizer.specs.Asked.{question_view}
 use Rattle.kob_authorizer.specs.Hits.{lesser_hits}
-use Rattle.kob_authorizer.specs.LookUp.{behind, least_hits, serials_for, serials_from}
+use Rattle.kob_authorizer.specs.LookUp.{behind, keys_on, least_hits, serials_for, serials_from}
 use Rattle.kob_authorizer.specs.Question.{Question}
 use Rattle.kob_authorizer.specs.declared.hits.Hits.{Hits}
 use Rattle.kob_authorizer.specs.declared.index.Index.{Index}
@@ -23,15 +23,18 @@ returns c =
     let least : (List ℕ → Held) → Hits = λ part. least_hits entries question (serials_from part question) in
     let who : c.as_bytes.result.now ≡ question.principal = cc in
     let everyone : c.as_bytes-2.result.now ≡ codes "User:*" = cc in
-    let of_who : part_of c.behind-of_who.result ≡ behind question.principal (held keys) =
-    c.behind-of_who.ensures ∙ (λ i key. held (c.keys.ensures i) (who i ++ 255 ∷ key)) in
-    let of_everyone : part_of c.behind-of_everyone.result ≡ behind (codes "User:*") (held keys) =
-    c.behind-of_everyone.ensures ∙ (λ i key. held (c.keys-2.ensures i) (everyone i ++ 255 ∷ key)) in
+    let on : List ℕ → Held = keys_on question.resource (held keys) in
+    let of_kind : part_of c.keys_on-keys.result ≡ on =
+    c.keys_on-keys.ensures ∙ ap (λ (m : PrefixMap). keys_on question.resource (held m)) c.keys.ensures in
+    let of_who : part_of c.behind-of_who.result ≡ behind question.principal on =
+    c.behind-of_who.ensures ∙ (λ i key. of_kind i (who i ++ 255 ∷ key)) in
+    let of_everyone : part_of c.behind-of_everyone.result ≡ behind (codes "User:*") on =
+    c.behind-of_everyone.ensures ∙ (λ i key. of_kind i (everyone i ++ 255 ∷ key)) in
     let found : c.or_lesser.result ≡ least_hits entries question (serials_for keys question) =
     c.or_lesser.ensures
     ∙ (λ i. lesser_hits ((c.hits_of.ensures ∙ ap least of_who) i) ((c.hits_of-2.ensures ∙ ap least of_everyone) i))
-    ∙ hits_of_two entries question (serials_from (behind question.principal (held keys)) question)
-    (serials_from (behind (codes "User:*") (held keys)) question) in
+    ∙ hits_of_two entries question (serials_from (behind question.principal on) question)
+    (serials_from (behind (codes "User:*") on) question) in
     record {
       deny = ap (λ (h : Hits). h.deny) found
           ∙ least_hit_is_first index entries Deny question c.requires.rising c.requires.indexed;

@@ -1,13 +1,16 @@
-use Rattle.std.proofs.Common.{◌≡◌, ◌∙◌, ap, subst, List, ℕ}
+use Rattle.std.proofs.Common.{◌≡◌, ◌∙◌, ap, subst, List, ℕ, Option, IfSome}
 use Rattle.kob_prefix_tree.specs.PrefixMap.{PrefixMap}
 use Rattle.kob_authorizer.proofs.SuperUsers.{texts_hold}
 use Rattle.kob_authorizer.specs.Decide.{is_super}
-use Rattle.kob_authorizer.specs.SuperUsers.{holds_text}
+use Rattle.kob_authorizer.specs.SuperUsers.{holds_text, texts_of}
 use Rattle.kob_authorizer.proofs.super_users.SuperUsers.contains.Goals as goal
 
-pub returns : goal.returns
-returns c =
+pub returns-in-Some : goal.returns-in-Some
+returns-in-Some c =
+    let users = c.self.inside.listed.items in
+    let made =
+    subst (λ (o : Option PrefixMap). IfSome o (λ texts. texts ≡ texts_of users)) c.in-Some.is c.self.invariant in
     c.holds_text.ensures
-    ∙ ap (λ (texts : PrefixMap). holds_text texts c.args.who.now) c.self.invariant
-    ∙ texts_hold c.self.inside.listed.items c.args.who.now
-    ∙ ap (λ (users : List (List ℕ)). is_super users c.args.who.now) c.self.view_is
+    ∙ ap (λ (texts : PrefixMap). holds_text texts c.args.who.now) made
+    ∙ texts_hold users c.args.who.now
+    ∙ ap (λ (listed : List (List ℕ)). is_super listed c.args.who.now) c.self.view_is
