@@ -1,2 +1,6 @@
-pub mod Changes
+pub mod Edits
+pub mod Entries
+pub mod NameOrder
 pub mod Places
+pub mod Search
+pub mod Sound

@@ -1,10 +1,19 @@
--- The slots of a map, and where its names stand. No public clause cites this module.
-use Rattle.std.specs.Prelude.{◌≡◌, ℕ, ◌<◌, Bool, true, false, List, [], ◌∷◌, Option, Some, is_some, length, slice_get}
+-- The slots of a map, and the places of its entries in order of their names. No public clause cites
+-- this module.
+use Rattle.std.specs.Prelude.{◌≡◌, ℕ, ◌<◌, ◌≤◌, Bool, true, false, List, [], ◌∷◌, Option, None, Some, filter, length, slice_get, take}
+use Rattle.std.specs.Cmp.Lexicographic.{slice_cmp}
+use Rattle.std.specs.Ordering.{nat_cmp}
 use Rattle.std.specs.List.{IsDistinct}
-use Rattle.std.specs.Map.{keys_of, lookup}
+use Rattle.std.specs.Map.{keys_of}
+use Rattle.std.specs.declared.cmp.Ordering.{Ordering}
+use Rattle.std.specs.declared.cmp.Ordering.TheVariants.{Less}
 use Rattle.kob_names.specs.Same.{same_text}
 use Rattle.kob_ordered.specs.declared.slot.Slot.{Slot}
 use Rattle.kob_ordered.specs.declared.slot.Slot.TheVariants.{Entry, Hole}
+
+-- names by their bytes
+abbrev pub name_order : List ℕ → List ℕ → Ordering
+name_order = slice_cmp nat_cmp
 
 module _ {V : Type 0} where
   abbrev pub is_entry : Slot V → Bool
@@ -25,21 +34,52 @@ module _ {V : Type 0} where
   entries_in (Hole ∷ slots) = entries_in slots
   entries_in (Entry name value ∷ slots) = (name, value) ∷ entries_in slots
 
-  -- the entries in the first slots are found at their places
-  abbrev pub AreTold : List (Slot V) → (List ℕ → Option ℕ) → ℕ → Type 0
-  AreTold slots place_of count =
-      (place : ℕ) (name : List ℕ) (value : V) → place < count
-      → slice_get slots place ≡ Some (Entry name value) → place_of name ≡ Some place
+  -- how the name of an entry compares with a name
+  abbrev pub order_of : List ℕ → Option (Slot V) → Ordering
+  order_of name None = Less
+  order_of name (Some Hole) = Less
+  order_of name (Some (Entry other value)) = name_order other name
 
-  -- no two entries have the same name, and the names that have a place are those of the entries
-  pub record NamesPlaced (slots : List (Slot V)) (place_of : List ℕ → Option ℕ) : Type 0 where
-    pub distinct : IsDistinct same_text (keys_of (entries_in slots))
-    pub placed : (name : List ℕ)
-        → is_some (place_of name) ≡ is_some (lookup (same_text name) (entries_in slots))
-
-  -- each entry is found at its place, and so many entries stand in the slots
-  pub record IsSound (slots : List (Slot V)) (place_of : List ℕ → Option ℕ) (count : ℕ)
+  -- the i-th of the listed places is that of the entry
+  pub record Nth (slots : List (Slot V)) (by_name : List ℕ) (i : ℕ) (name : List ℕ) (value : V)
       : Type 0 where
-    pub told : AreTold slots place_of (length slots)
-    pub names : NamesPlaced slots place_of
-    pub counted : count ≡ length (entries_in slots)
+    pub place : ℕ
+    pub listed : slice_get by_name i ≡ Some place
+    pub stands : slice_get slots place ≡ Some (Entry name value)
+
+  -- the places are those of all entries, each once, in order of their names, no two of which are
+  -- the same
+  pub record IsSound (slots : List (Slot V)) (by_name : List ℕ) : Type 0 where
+    pub rising : (i j : ℕ) (n m : List ℕ) (v w : V) → i < j → Nth slots by_name i n v
+        → Nth slots by_name j m w → name_order n m ≡ Less
+    pub stand : (i place : ℕ) → slice_get by_name i ≡ Some place
+        → (name : List ℕ) × (value : V) × (slice_get slots place ≡ Some (Entry name value))
+    pub all : (place : ℕ) (name : List ℕ) (value : V)
+        → slice_get slots place ≡ Some (Entry name value)
+        → (i : ℕ) × (slice_get by_name i ≡ Some place)
+    pub distinct : IsDistinct same_text (keys_of (entries_in slots))
+    pub counted : length by_name ≡ length (entries_in slots)
+
+  -- the i-th of the listed places is that of the name
+  pub record IsAt (slots : List (Slot V)) (by_name : List ℕ) (name : List ℕ) (i : ℕ)
+      : Type 0 where
+    pub value : V
+    pub nth : Nth slots by_name i name value
+
+  -- the entry of the name stands at the place
+  pub record Stands (slots : List (Slot V)) (name : List ℕ) (place : ℕ) : Type 0 where
+    pub value : V
+    pub there : slice_get slots place ≡ Some (Entry name value)
+
+  -- the name would stand before the i-th of the listed places
+  pub record IsGap (slots : List (Slot V)) (by_name : List ℕ) (name : List ℕ) (i : ℕ)
+      : Type 0 where
+    pub within : i ≤ length by_name
+    pub before : (k : ℕ) (n : List ℕ) (v : V) → k < i → Nth slots by_name k n v
+        → name_order n name ≡ Less
+    pub after : (k : ℕ) (n : List ℕ) (v : V) → i ≤ k → Nth slots by_name k n v
+        → name_order name n ≡ Less
+
+  -- how many entries stand before a place
+  abbrev pub rank : List (Slot V) → ℕ → ℕ
+  rank slots place = length (filter is_entry (take place slots))

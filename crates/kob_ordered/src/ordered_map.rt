@@ -8,10 +8,10 @@ ghost use Rattle.std.specs.List.{IsDistinct};
 ghost use Rattle.std.specs.Option.{option_copied_mut};
 ghost use Rattle.kob_names.specs.Same.{same_text};
 
-use crate::entry_name::EntryName;
+use crate::by_name::{find, place_of};
 use crate::iter::Iter;
+use crate::packing::pack;
 use crate::slot::Slot;
-use indexmap::IndexMap;
 use kob_names::Text;
 use std::alloc::{AllocError, Global};
 use std::marker::Model;
@@ -24,7 +24,7 @@ use std::mem;
 #[derive(Drop)]
 pub struct OrderedMap<V> {
     slots: Vec<Slot<V>>,
-    places: IndexMap<Text, usize>,
+    by_name: Vec<usize>,
 }
 
 impl<V> Model for OrderedMap<V> {
@@ -35,17 +35,16 @@ impl<V> Model for OrderedMap<V> {
     ghost coded = { ordered_code V.code };
 
     ghost use Rattle.std.specs.Prelude.{min, vec_capacity, vec_len, ◌-◌};
-    ghost use Rattle.indexmap.specs.IndexMap.{get, index_map_len, spare};
-    ghost use Rattle.kob_names.specs.Same.{same_text};
     ghost use Rattle.kob_ordered.specs.Slots.{entries_in, IsSound};
 
     ghost view = { λ map. record {
       entries = entries_in map.slots.items;
-      room = min (spare map.places) (vec_capacity map.slots - vec_len map.slots);
+      room = min (vec_capacity map.by_name - vec_len map.by_name)
+          (vec_capacity map.slots - vec_len map.slots);
+      holes = vec_len map.slots - vec_len map.by_name;
     } };
 
-    ghost invariant = { λ map.
-        IsSound map.slots.items (get same_text map.places) (index_map_len map.places) };
+    ghost invariant = { λ map. IsSound map.slots.items map.by_name.items };
 }
 
 impl<V: Drop> OrderedMap<V> {
@@ -57,7 +56,7 @@ impl<V: Drop> OrderedMap<V> {
     {
         OrderedMap {
             slots: Vec::new(alloc),
-            places: IndexMap::new(alloc),
+            by_name: Vec::new(alloc),
         }
     }
 
@@ -66,14 +65,21 @@ impl<V: Drop> OrderedMap<V> {
         ensures count { result ≡ length self.now.entries }
         ensures names { IsDistinct same_text (keys_of self.now.entries) }
     {
-        self.places.len()
+        self.by_name.len()
+    }
+
+    /// A law: no two entries have the same name.
+    pub fn names_differ(&self)
+        ensures { IsDistinct same_text (keys_of self.now.entries) }
+    {
+        let _ = &self.slots;
     }
 
     /// The value of that name; no memory is taken.
     pub fn get(&self, name: &Text) -> Option<&V>
         ensures { option_copied result ≡ lookup (same_text name.now) self.now.entries }
     {
-        let place = *self.places.get(name)?;
+        let place = place_of(self.slots.as_slice(), self.by_name.as_slice(), name)?;
         match &self.slots[place] {
             Slot::Entry(_, value) => Some(value),
             Slot::Hole => unreachable!(),
@@ -86,7 +92,7 @@ impl<V: Drop> OrderedMap<V> {
         ensures value { option_copied_mut result ≡ lookup (same_text name.now) self.old.entries }
         ensures names { IsDistinct same_text (keys_of self.old.entries) }
     {
-        let place = *self.places.get(name)?;
+        let place = place_of(self.slots.as_slice(), self.by_name.as_slice(), name)?;
         Some(self.slots[place].value_mut())
     }
 
@@ -94,7 +100,7 @@ impl<V: Drop> OrderedMap<V> {
     pub fn contains_key(&self, name: &Text) -> bool
         ensures { result ≡ is_some (lookup (same_text name.now) self.now.entries) }
     {
-        self.places.contains_key(name)
+        place_of(self.slots.as_slice(), self.by_name.as_slice(), name).is_some()
     }
 
     /// Makes room for one more entry, and fills the holes if there are more of them than entries.
@@ -102,23 +108,26 @@ impl<V: Drop> OrderedMap<V> {
     pub fn reserve(&mut self) -> Result<(), AllocError>
         ensures entries { self.new.entries ≡ self.old.entries }
         ensures room { OnOk result (0 < self.new.room) }
+        ensures holes { OnOk result (self.new.holes ≤ length self.new.entries) }
     {
-        if self.slots.len() / 2 > self.places.len() {
-            pack(&mut self.slots, &mut self.places);
+        if self.slots.len() - self.by_name.len() > self.by_name.len() {
+            pack(*self.slots.allocator(), &mut self.slots, &mut self.by_name)?;
         }
-        self.places.reserve(1)?;
+        self.by_name.reserve(1)?;
         self.slots.reserve(1)
     }
 
     /// Puts an entry last, whose name is not there, in the room that is there; no memory is taken.
-    pub fn insert(&mut self, name: EntryName, value: V)
+    pub fn insert(&mut self, name: Text, value: V)
         requires room { 0 < self.old.room }
         requires absent { lookup (same_text name) self.old.entries ≡ None }
         ensures entries { self.new.entries ≡ self.old.entries ++ (name, value) ∷ [] }
         ensures room { self.old.room ≤ self.new.room + 1 }
     {
-        let (name, copy) = name.into_names();
-        let _ = self.places.insert(copy, self.slots.len()).unwrap();
+        let found = find(self.slots.as_slice(), self.by_name.as_slice(), &name);
+        self.by_name
+            .insert(found.unwrap_err(), self.slots.len())
+            .unwrap();
         self.slots.push(Slot::Entry(name, value)).unwrap();
     }
 
@@ -131,7 +140,11 @@ impl<V: Drop> OrderedMap<V> {
         ensures gone { lookup (same_text name.now) self.new.entries ≡ None }
         ensures room { self.old.room ≤ self.new.room }
     {
-        let place = self.places.swap_remove(name)?;
+        let found = find(self.slots.as_slice(), self.by_name.as_slice(), name);
+        let Ok(index) = found else {
+            return None;
+        };
+        let place = self.by_name.remove(index);
         match mem::replace(&mut self.slots[place], Slot::Hole) {
             Slot::Entry(_, value) => Some(value),
             Slot::Hole => unreachable!(),
@@ -144,39 +157,6 @@ impl<V: Drop> OrderedMap<V> {
     {
         Iter {
             slots: self.slots.as_slice(),
-        }
-    }
-}
-
-ghost use Rattle.std.specs.Prelude.{vec_capacity, vec_len};
-ghost use Rattle.indexmap.specs.IndexMap.{get, index_map_len, spare};
-ghost use Rattle.kob_ordered.specs.Slots.{entries_in, AreTold, IsSound, NamesPlaced};
-
-/// Takes the holes away, and tells each name its new place.
-fn pack<V: Drop>(slots: &mut Vec<Slot<V>>, places: &mut IndexMap<Text, usize>)
-    requires { IsSound slots.old.items (get same_text places.old) (index_map_len places.old) }
-    ensures sound { IsSound slots.new.items (get same_text places.new)
-        (index_map_len places.new) }
-    ensures entries { entries_in slots.new.items ≡ entries_in slots.old.items }
-    ensures spare { spare places.new ≡ spare places.old }
-{
-    slots.retain(|slot| slot.is_entry());
-    tell_places(slots.as_slice(), places);
-}
-
-/// Tells each name the place of its entry.
-fn tell_places<V>(slots: &[Slot<V>], places: &mut IndexMap<Text, usize>)
-    requires { NamesPlaced slots.now (get same_text places.old) }
-    ensures told { AreTold slots.now (get same_text places.new) (length slots.now) }
-    ensures names { NamesPlaced slots.now (get same_text places.new) }
-    ensures count { index_map_len places.new ≡ index_map_len places.old }
-    ensures spare { spare places.new ≡ spare places.old }
-{
-    for (place, slot) in slots.iter().enumerate() {
-        if let Slot::Entry(name, _) = slot {
-            if let Some(known) = places.get_mut(name) {
-                *known = place;
-            }
         }
     }
 }

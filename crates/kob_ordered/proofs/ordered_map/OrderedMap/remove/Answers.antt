@@ -1,76 +1,68 @@
-use Rattle.std.proofs.Common.{◌≡◌, ◌<◌, Some, subst, ap, sym, ◌∙◌, set}
+use Rattle.std.proofs.Common.{◌≡◌, ◌<◌, Some, ap, is_ok, is_some, set, subst, sym, ◌∙◌}
 use Rattle.std.specs.Map.{lookup, remove_entry}
 use Rattle.std.proofs.lemmas.Option.{get_or_from_slice_get, slice_get_within}
-use Rattle.indexmap.specs.IndexMap.{get, index_map_len}
 use Rattle.kob_names.specs.Same.{same_text}
-use Rattle.kob_ordered.proofs.Changes.{absent_at, gone, only_one, removed_absent, sound_holed, stands_at, value_at}
-use Rattle.kob_ordered.proofs.Places.{holed_at}
-use Rattle.kob_ordered.specs.Slots.{IsSound, entries_in}
+use Rattle.kob_ordered.specs.Slots.{IsAt, IsSound, entries_in}
+use Rattle.kob_ordered.specs.declared.slot.Slot.TheVariants.{Hole}
+use Rattle.kob_ordered.proofs.Entries.{gone, none_of, removed_absent}
+use Rattle.kob_ordered.proofs.Search.{taken_at}
+use Rattle.kob_ordered.proofs.Sound.{left, sound_holed, value_at}
 use Rattle.kob_ordered.proofs.ordered_map.OrderedMap.remove.Goals as goal
 
-pub index_mut-requires : goal.index_mut-requires
-index_mut-requires g c =
-    let is = sym c.swap_remove.ensures.value ∙ c.in_ok-place.was in
-    let found = stands_at c.self.inside.slots.items (get same_text c.self.inside.places) _ c.args.name.now _
-    c.self.invariant is in
-    subst (λ n. c.in_ok-place.place < n) (sym c.self.inside.slots.ok.0)
-    (slice_get_within c.self.inside.slots.items c.in_ok-place.place _ found.1)
-
-pub unreachable-requires : goal.unreachable-requires
-unreachable-requires g c =
-    let is = sym c.swap_remove.ensures.value ∙ c.in_ok-place.was in
-    let found = stands_at c.self.inside.slots.items (get same_text c.self.inside.places) _ c.args.name.now _
-    c.self.invariant is in
-    let entry = get_or_from_slice_get c.self.inside.slots.items c.in_ok-place.place _ c.index_mut.result.now found.1 in
-    let read = c.index_mut.ensures.value in let taken = c.replace.ensures.value in let hole = c.in-Hole.is in cc
-
-pub returns-in_err-place-clause-entries : goal.returns-in_err-place-clause-entries
-returns-in_err-place-clause-entries g c =
+pub returns-in_default-clause-entries : goal.returns-in_default-clause-entries
+returns-in_default-clause-entries g c =
     let name = c.args.name.now in
-    let absent = absent_at c.self.inside.slots.items (get same_text c.self.inside.places) _ name c.self.invariant
-    (sym c.swap_remove.ensures.value ∙ c.in_err-place.was) in
-    sym (removed_absent name (entries_in c.self.inside.slots.items) absent)
-    ∙ ap (λ m. remove_entry (same_text name) m.entries) c.self.view_is
+    let known = ap (λ xs. is_some (lookup (same_text name) (entries_in xs))) c.as_slice.ensures.value in
+    let absent = sym known ∙ sym c.find-found.ensures.known ∙ ap is_ok c.in_default.is in
+    subst (λ m. m.entries ≡ remove_entry (same_text name) m.entries) c.self.view_is
+    (sym (removed_absent name (entries_in c.self.inside.slots.items) (none_of _ absent)))
 
-pub invariant_of-self-2 : goal.invariant_of-self-2
-invariant_of-self-2 g c =
-    let slots = c.self.inside.slots.items in let name = c.args.name.now in
-    let is = sym c.swap_remove.ensures.value ∙ c.in_ok-place.was in
-    let found = stands_at slots (get same_text c.self.inside.places) _ name _ c.self.invariant is in
-    let fewer = rw c.in_ok-place.was at c.swap_remove.ensures.len in
-    subst (λ slot. IsSound (set slots c.in_ok-place.place slot) (get same_text c.swap_remove.new.self)
-    (index_map_len c.swap_remove.new.self)) (sym c.replace.ensures.after)
-    (sound_holed slots (get same_text c.self.inside.places) (get same_text c.swap_remove.new.self) _ _ name
-    c.in_ok-place.place found.0 c.self.invariant found.1 c.swap_remove.ensures.updates.0 fewer)
+pub remove-place-requires : goal.remove-place-requires
+remove-place-requires g c =
+    let by_name = c.self.inside.by_name.items in let i = c.in-Ok.index in
+    let at = subst (λ xs. IsAt xs c.as_slice-2.result.now c.args.name.now i) c.as_slice.ensures.value c.in-Ok.ensures.found
+    in
+    let here = subst (λ ns. IsAt c.self.inside.slots.items ns c.args.name.now i) c.as_slice-2.ensures.value at in
+    subst (λ n. i < n) (sym c.self.inside.by_name.ok.0) (slice_get_within by_name i here.nth.place here.nth.listed)
+
+pub invariant_of-self : goal.invariant_of-self
+invariant_of-self g c =
+    let slots = c.self.inside.slots.items in let by_name = c.self.inside.by_name.items in let name = c.args.name.now in
+    let i = c.in-Ok.index in let place = c.remove-place.result in
+    let at = taken_at slots c.as_slice.result.now by_name c.as_slice-2.result.now name i place c.as_slice.ensures.value
+    c.as_slice-2.ensures.value c.in-Ok.ensures.found c.remove-place.ensures.value in
+    subst (λ slot. IsSound (set slots place slot) c.remove-place.new.self.items) (sym c.replace.ensures.after)
+    (subst (IsSound (set slots place Hole)) (sym c.remove-place.ensures.items)
+    (sound_holed slots by_name c.self.invariant name at.value i place at.listed at.there))
 
 pub returns-clause-value : goal.returns-clause-value
 returns-clause-value g c =
-    let slots = c.self.inside.slots.items in let name = c.args.name.now in
-    let is = sym c.swap_remove.ensures.value ∙ c.in_ok-place.was in
-    let found = stands_at slots (get same_text c.self.inside.places) _ name _ c.self.invariant is in
-    let entry = get_or_from_slice_get slots c.in_ok-place.place _ c.index_mut.result.now found.1 in
-    let read = c.index_mut.ensures.value in let taken = c.replace.ensures.value in let one = c.in-Entry.is in
-    let same : found.0 ≡ c.in-Entry.value = cc in
-    ap Some (sym same)
-    ∙ sym (value_at slots (get same_text c.self.inside.places) _ name _ found.0 c.self.invariant found.1)
+    let slots = c.self.inside.slots.items in let by_name = c.self.inside.by_name.items in let name = c.args.name.now in
+    let place = c.remove-place.result in
+    let at = taken_at slots c.as_slice.result.now by_name c.as_slice-2.result.now name c.in-Ok.index place
+    c.as_slice.ensures.value c.as_slice-2.ensures.value c.in-Ok.ensures.found c.remove-place.ensures.value in
+    let entry = sym c.in-Entry.is ∙ c.replace.ensures.value ∙ c.index_mut.ensures.value
+    ∙ get_or_from_slice_get slots place _ c.index_mut.result.now at.there in
+    let same : c.in-Entry.value ≡ at.value = cc in
+    ap Some same ∙ sym (value_at slots by_name c.self.invariant name place at.value at.there)
     ∙ ap (λ m. lookup (same_text name) m.entries) c.self.view_is
 
 pub returns-clause-entries : goal.returns-clause-entries
 returns-clause-entries g c =
-    let slots = c.self.inside.slots.items in let name = c.args.name.now in
-    let is = sym c.swap_remove.ensures.value ∙ c.in_ok-place.was in
-    let found = stands_at slots (get same_text c.self.inside.places) _ name _ c.self.invariant is in
-    ap (λ slot. entries_in (set slots c.in_ok-place.place slot)) c.replace.ensures.after
-    ∙ holed_at slots name c.in_ok-place.place found.0 found.1
-    (only_one slots (get same_text c.self.inside.places) _ name _ found.0 c.self.invariant found.1)
+    let slots = c.self.inside.slots.items in let by_name = c.self.inside.by_name.items in let name = c.args.name.now in
+    let i = c.in-Ok.index in let place = c.remove-place.result in
+    let at = taken_at slots c.as_slice.result.now by_name c.as_slice-2.result.now name i place c.as_slice.ensures.value
+    c.as_slice-2.ensures.value c.in-Ok.ensures.found c.remove-place.ensures.value in
+    ap (λ slot. entries_in (set slots place slot)) c.replace.ensures.after
+    ∙ left slots by_name c.self.invariant name at.value i place at.listed at.there
     ∙ ap (λ m. remove_entry (same_text name) m.entries) c.self.view_is
 
 pub returns-clause-gone : goal.returns-clause-gone
 returns-clause-gone g c =
-    let slots = c.self.inside.slots.items in let name = c.args.name.now in
-    let is = sym c.swap_remove.ensures.value ∙ c.in_ok-place.was in
-    let found = stands_at slots (get same_text c.self.inside.places) _ name _ c.self.invariant is in
-    ap (λ slot. lookup (same_text name) (entries_in (set slots c.in_ok-place.place slot))) c.replace.ensures.after
-    ∙ ap (lookup (same_text name)) (holed_at slots name c.in_ok-place.place found.0 found.1
-    (only_one slots (get same_text c.self.inside.places) _ name _ found.0 c.self.invariant found.1))
-    ∙ gone name (entries_in slots) c.self.invariant.names.distinct
+    let slots = c.self.inside.slots.items in let by_name = c.self.inside.by_name.items in let name = c.args.name.now in
+    let i = c.in-Ok.index in let place = c.remove-place.result in
+    let at = taken_at slots c.as_slice.result.now by_name c.as_slice-2.result.now name i place c.as_slice.ensures.value
+    c.as_slice-2.ensures.value c.in-Ok.ensures.found c.remove-place.ensures.value in
+    ap (λ slot. lookup (same_text name) (entries_in (set slots place slot))) c.replace.ensures.after
+    ∙ ap (lookup (same_text name)) (left slots by_name c.self.invariant name at.value i place at.listed at.there)
+    ∙ gone name (entries_in slots) c.self.invariant.distinct

@@ -1,0 +1,46 @@
+-- How names compare.
+use Rattle.std.proofs.Common.{◌≡◌, ℕ, ◌≤◌, true, List, refl, sym, ap, subst, ◌∙◌, arith}
+use Rattle.std.specs.Cmp.Lexicographic.{nat_list_cmp_total}
+use Rattle.std.specs.declared.cmp.Ordering.{Ordering}
+use Rattle.std.specs.declared.cmp.Ordering.TheVariants.{Less, Equal, Greater}
+use Rattle.std.specs.Ordering.{is_eq, ordering_index, ordering_reverse}
+use Rattle.std.proofs.lemmas.Map.Text.{is_eq-slice_cmp}
+use Rattle.kob_ordered.specs.Slots.{name_order}
+use Rattle.kob_ordered.proofs.Places.{equal_names, same_name}
+
+pub equal_from_order : (n m : List ℕ) → name_order n m ≡ Equal → n ≡ m
+equal_from_order n m is = equal_names n m (sym (is_eq-slice_cmp n m) ∙ ap is_eq is)
+
+pub order_of_equal : (n : List ℕ) → name_order n n ≡ Equal
+order_of_equal n = by (name_order n n) (is_eq-slice_cmp n n ∙ same_name n n refl)
+  where
+    by : (o : Ordering) → is_eq o ≡ true → o ≡ Equal
+    by Less is = cc
+    by Equal is = refl
+    by Greater is = cc
+
+pub not_before_itself : (n : List ℕ) → name_order n n ≡ Less → ⊥
+not_before_itself n less = let same = order_of_equal n in cc
+
+pub turned : (n m : List ℕ) → name_order n m ≡ Greater → name_order m n ≡ Less
+turned n m is = nat_list_cmp_total.antisymm m n ∙ ap ordering_reverse is
+
+-- a later name compares no lower
+pub rises : (n m name : List ℕ) → name_order n m ≡ Less
+    → ordering_index (name_order n name) ≤ ordering_index (name_order m name)
+rises n m name less = by (name_order m name) refl
+  where
+    by : (o : Ordering) → name_order m name ≡ o
+        → ordering_index (name_order n name) ≤ ordering_index o
+    by Less is =
+        let lower = nat_list_cmp_total.trans n m name less is in
+        subst (λ o. ordering_index o ≤ 0) (sym lower) (omega arith)
+    by Equal is =
+        let lower = subst (λ k. name_order n k ≡ Less) (equal_from_order m name is) less in
+        subst (λ o. ordering_index o ≤ 1) (sym lower) (omega arith)
+    by Greater is = top (name_order n name)
+      where
+        top : (o : Ordering) → ordering_index o ≤ 2
+        top Less = omega arith
+        top Equal = omega arith
+        top Greater = omega arith

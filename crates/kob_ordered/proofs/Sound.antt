@@ -1,0 +1,491 @@
+-- How each change keeps the places of the entries in order of their names.
+use Rattle.std.proofs.Common.{◌≡◌, ◌⊎◌, ℕ, zero, suc, ◌+◌, ◌<◌, ◌≤◌, Bool, true, false, cond, List, [], ◌∷◌, ◌++◌, Some, None, filter, length, set, slice_get, slice_index_or, refl, sym, ap, subst, ◌∙◌, inl, inr, arith, length-append}
+use Rattle.std.specs.Cmp.Lexicographic.{nat_list_eq_equiv}
+use Rattle.std.specs.List.{IsDistinct, insert, remove}
+use Rattle.std.specs.Map.{keys_of, lookup, remove_entry, set_value}
+use Rattle.std.specs.declared.cmp.Ordering.TheVariants.{Less}
+use Rattle.std.proofs.lemmas.Map.{keys-set_value, length-set_value}
+use Rattle.std.proofs.lemmas.Map.Keys.{IsDistinct-push}
+use Rattle.std.proofs.lemmas.List.{get_or_append_left, get_or_push, map-append}
+use Rattle.std.proofs.lemmas.Option.{get_or_from_slice_get, slice_get-get_or, slice_get_within}
+use Rattle.kob_names.specs.Same.{same_text}
+use Rattle.kob_ordered.specs.declared.slot.Slot.{Slot}
+use Rattle.kob_ordered.specs.declared.slot.Slot.TheVariants.{Entry, Hole}
+use Rattle.kob_ordered.specs.Slots.{IsGap, IsSound, Nth, entries_in, is_entry, name_order, rank}
+use Rattle.kob_ordered.proofs.Edits.{inserted, inserted_here, removed_from, stays, still_there}
+use Rattle.kob_ordered.proofs.Entries.{distinct_removed, hole_at, length_removed, no_key, one_place}
+use Rattle.kob_ordered.proofs.NameOrder.{not_before_itself}
+use Rattle.kob_ordered.proofs.Places.{IsOnly, found_at, holed_at, packed, pushed, pushed_slot, slot_after_write, written_at}
+
+pub side : (k i : ℕ) → (k < i) ⊎ (i ≤ k)
+side k zero = inr (omega arith)
+side zero (suc i) = inl (omega arith)
+side (suc k) (suc i) =
+    elim (side k i) [
+      | inl lt ↦ inl (omega (arith, lt))
+      | inr le ↦ inr (omega (arith, le))
+    ]
+
+module _ {V : Type 0} (slots : List (Slot V)) (by_name : List ℕ) (sound : IsSound slots by_name) where
+  pub only_one : (name : List ℕ) (place : ℕ) (value : V) → slice_get slots place ≡ Some (Entry name value)
+      → IsOnly slots name place
+  only_one name place value there other w found = one_place slots other place name w value sound.distinct found there
+
+  pub value_at : (name : List ℕ) (place : ℕ) (value : V) → slice_get slots place ≡ Some (Entry name value)
+      → lookup (same_text name) (entries_in slots) ≡ Some value
+  value_at name place value there = found_at slots name place value there (only_one name place value there)
+
+  -- a place is listed once
+  once : (i j place : ℕ) → slice_get by_name i ≡ Some place → slice_get by_name j ≡ Some place → (i < j → ⊥)
+  once i j place first second lt =
+      let entry = sound.stand i place first in
+      not_before_itself entry.0 (sound.rising i j entry.0 entry.0 entry.1 entry.1 lt
+      (record { place = place; listed = first; stands = entry.2 })
+      (record { place = place; listed = second; stands = entry.2 }))
+
+  pub listed_once : (i j place : ℕ) → slice_get by_name i ≡ Some place → slice_get by_name j ≡ Some place → i ≡ j
+  listed_once i j place first second = by (once i j place first second) (once j i place second first)
+    where
+      by : (i < j → ⊥) → (j < i → ⊥) → i ≡ j
+      by not_before not_after = omega (arith, not_before, not_after)
+
+length_inserted : (xs : List ℕ) (i x : ℕ) → length (insert xs i x) ≡ length xs + 1
+length_inserted [] zero x = refl
+length_inserted [] (suc i) x = refl
+length_inserted (head ∷ xs) zero x = omega arith
+length_inserted (head ∷ xs) (suc i) x = omega (arith, length_inserted xs i x)
+
+length_taken_out : (xs : List ℕ) (i : ℕ) → i < length xs → length (remove xs i) + 1 ≡ length xs
+length_taken_out [] i lt = absurd (omega (arith, lt))
+length_taken_out (head ∷ xs) zero lt = omega arith
+length_taken_out (head ∷ xs) (suc i) lt = omega (arith, length_taken_out xs i (omega (arith, lt)))
+
+none_twice : IsDistinct same_text []
+unfolding IsDistinct
+none_twice = tt
+
+pub sound_empty : {V : Type 0} → IsSound {V = V} [] []
+sound_empty = record {
+  rising = λ i j n m v w lt first second. let isnt = first.listed in cc;
+  stand = λ i place at. cc;
+  all = λ place name value there. cc;
+  distinct = none_twice;
+  counted = refl;
+}
+
+module _ {V : Type 0} where
+  old_slot : (slots : List (Slot V)) (slot : Slot V) (place : ℕ) (x y : Slot V) → slice_get slots place ≡ Some y
+      → slice_get (slots ++ slot ∷ []) place ≡ Some x → slice_get slots place ≡ Some x
+  old_slot [] slot place x y old new = cc
+  old_slot (head ∷ slots) slot zero x y old new = new
+  old_slot (head ∷ slots) slot (suc place) x y old new = old_slot slots slot place x y old new
+
+  still_slot : (slots : List (Slot V)) (slot : Slot V) (place : ℕ) (x : Slot V) → slice_get slots place ≡ Some x
+      → slice_get (slots ++ slot ∷ []) place ≡ Some x
+  still_slot [] slot place x there = cc
+  still_slot (head ∷ slots) slot zero x there = there
+  still_slot (head ∷ slots) slot (suc place) x there = still_slot slots slot place x there
+
+  last_slot : (slots : List (Slot V)) (slot : Slot V) → slice_get (slots ++ slot ∷ []) (length slots) ≡ Some slot
+  last_slot [] slot = refl
+  last_slot (head ∷ slots) slot = last_slot slots slot
+
+  last_name : (slots : List (Slot V)) (name n : List ℕ) (value v : V)
+      → slice_get (slots ++ Entry name value ∷ []) (length slots) ≡ Some (Entry n v) → n ≡ name
+  last_name slots name n value v there = let last = last_slot slots (Entry name value) in cc
+
+-- an entry put last
+module _ {V : Type 0} (slots : List (Slot V)) (by_name : List ℕ) (sound : IsSound slots by_name)
+    (name : List ℕ) (value : V) (i : ℕ) (gap : IsGap slots by_name name i)
+  where
+    abbrev more : List (Slot V)
+    more = slots ++ Entry name value ∷ []
+
+    abbrev listed : List ℕ
+    listed = insert by_name i (length slots)
+
+    was : (k p : ℕ) (n : List ℕ) (v : V) → slice_get by_name k ≡ Some p → slice_get more p ≡ Some (Entry n v)
+        → Nth slots by_name k n v
+    was k p n v at there =
+        let entry = sound.stand k p at in record {
+          place = p;
+          listed = at;
+          stands = old_slot slots (Entry name value) p (Entry n v) (Entry entry.0 entry.1) entry.2 there;
+        }
+
+    abbrev Was : ℕ → List ℕ → V → Type 0
+    Was k n v = ((k < i) × Nth slots by_name k n v) ⊎ (((k ≡ i) × (n ≡ name))
+        ⊎ ((p : ℕ) × (k ≡ suc p) × (i ≤ p) × Nth slots by_name p n v))
+
+    nth_before : (k : ℕ) (n : List ℕ) (v : V) → Nth more listed k n v → Was k n v
+    nth_before k n v nth =
+        elim (inserted by_name i (length slots) k nth.place gap.within nth.listed) [
+          | inl before ↦ inl (before.0, was k nth.place n v before.1 nth.stands)
+          | inr later ↦ (elim later [
+            | inl here ↦ inr (inl (
+              here.0,
+              last_name slots name n value v
+                  (subst (λ p. slice_get more p ≡ Some (Entry n v)) here.1 nth.stands),
+            ))
+            | inr after ↦ inr (inr (after.0, after.1, after.2, was after.0 nth.place n v after.3 nth.stands))
+          ])
+        ]
+
+    above : (p : ℕ) (n m : List ℕ) (w : V) → n ≡ name → i ≤ p → Nth slots by_name p m w → name_order n m ≡ Less
+    above p n m w is le nth = subst (λ k. name_order k m ≡ Less) (sym is) (gap.after p m w le nth)
+
+    below : (k : ℕ) (n m : List ℕ) (v : V) → m ≡ name → k < i → Nth slots by_name k n v → name_order n m ≡ Less
+    below k n m v is lt nth = subst (λ q. name_order n q ≡ Less) (sym is) (gap.before k n v lt nth)
+
+    rising : (j k : ℕ) (n m : List ℕ) (v w : V) → j < k → Nth more listed j n v → Nth more listed k m w
+        → name_order n m ≡ Less
+    rising j k n m v w lt first second = by (nth_before j n v first) (nth_before k m w second)
+      where
+        by : Was j n v → Was k m w → name_order n m ≡ Less
+        by (inl a) (inl b) = sound.rising j k n m v w lt a.1 b.1
+        by (inl a) (inr (inl b)) = below j n m v b.1 a.0 a.1
+        by (inl a) (inr (inr b)) =
+            sound.rising j b.0 n m v w (omega (arith, a.0, b.2)) a.1 b.3
+        by (inr (inl a)) (inl b) = absurd (omega (arith, lt, a.0, b.0))
+        by (inr (inl a)) (inr (inl b)) = absurd (omega (arith, lt, a.0, b.0))
+        by (inr (inl a)) (inr (inr b)) = above b.0 n m w a.1 b.2 b.3
+        by (inr (inr a)) (inl b) = absurd (omega (arith, lt, a.1, a.2, b.0))
+        by (inr (inr a)) (inr (inl b)) = absurd (omega (arith, lt, a.1, a.2, b.0))
+        by (inr (inr a)) (inr (inr b)) =
+            sound.rising a.0 b.0 n m v w (omega (arith, lt, a.1, b.1)) a.3 b.3
+
+    abbrev Stood : ℕ → Type 0
+    Stood p = (n : List ℕ) × (v : V) × (slice_get more p ≡ Some (Entry n v))
+
+    stand_more : (k p : ℕ) → slice_get by_name k ≡ Some p → Stood p
+    stand_more k p at =
+        let entry = sound.stand k p at in
+        (entry.0, entry.1, still_slot slots (Entry name value) p (Entry entry.0 entry.1) entry.2)
+
+    stand : (k p : ℕ) → slice_get listed k ≡ Some p → Stood p
+    stand k p at =
+        elim (inserted by_name i (length slots) k p gap.within at) [
+          | inl before ↦ stand_more k p before.1
+          | inr later ↦ (elim later [
+            | inl here ↦ subst Stood (sym here.1) (name, value, last_slot slots (Entry name value))
+            | inr after ↦ stand_more after.0 p after.3
+          ])
+        ]
+
+    all : (p : ℕ) (n : List ℕ) (v : V) → slice_get more p ≡ Some (Entry n v)
+        → (k : ℕ) × (slice_get listed k ≡ Some p)
+    all p n v there =
+        elim (pushed_slot slots (Entry name value) p (Entry n v) there) [
+          | inl before ↦ (let old = sound.all p n v before in still_there by_name i (length slots) old.0 p old.1)
+          | inr last ↦ (i, inserted_here by_name i (length slots) gap.within ∙ ap Some (sym last.0))
+        ]
+
+    pub sound_pushed : lookup (same_text name) (entries_in slots) ≡ None → IsSound (slots ++ Entry name value ∷ []) (insert by_name i (length slots))
+    sound_pushed absent = record {
+      rising = rising;
+      stand = stand;
+      all = all;
+      distinct = subst (λ es. IsDistinct same_text (keys_of es)) (sym (pushed slots name value))
+          (subst (IsDistinct same_text)
+          (sym (map-append (λ (e : List ℕ × V). e.0) (entries_in slots) ((name, value) ∷ [])))
+          (IsDistinct-push nat_list_eq_equiv (keys_of (entries_in slots)) name sound.distinct
+          (no_key (entries_in slots) name absent)));
+      counted = length_inserted by_name i (length slots) ∙ ap (λ n. n + 1) sound.counted
+          ∙ sym (ap length (pushed slots name value) ∙ length-append (entries_in slots) ((name, value) ∷ []));
+    }
+
+-- an entry taken away, with a hole left in its place
+module _ {V : Type 0} (slots : List (Slot V)) (by_name : List ℕ) (sound : IsSound slots by_name)
+    (name : List ℕ) (value : V) (i place : ℕ) (at : slice_get by_name i ≡ Some place)
+    (there : slice_get slots place ≡ Some (Entry name value))
+  where
+    abbrev holed : List (Slot V)
+    holed = set slots place Hole
+
+    abbrev fewer : List ℕ
+    fewer = remove by_name i
+
+    was_slot : (p : ℕ) (n : List ℕ) (v : V) → slice_get holed p ≡ Some (Entry n v)
+        → slice_get slots p ≡ Some (Entry n v)
+    was_slot p n v found =
+        elim (slot_after_write slots place Hole p (Entry n v) found) [
+          | inl before ↦ before
+          | inr here ↦ (let isnt = here.1 in cc)
+        ]
+
+    elsewhere : (p : ℕ) (n : List ℕ) (v : V) → slice_get holed p ≡ Some (Entry n v) → p ≡ place → ⊥
+    elsewhere p n v found same =
+        let hole = hole_at slots place (slice_get_within slots place (Entry name value) there) in
+        let filled = subst (λ q. slice_get holed q ≡ Some (Entry n v)) same found in cc
+
+    other_slot : (xs : List (Slot V)) (p q : ℕ) (x : Slot V) → (p ≡ q → ⊥) → slice_get xs p ≡ Some x
+        → slice_get (set xs q Hole) p ≡ Some x
+    other_slot [] p q x other found = cc
+    other_slot (head ∷ xs) zero zero x other found = absurd (other refl)
+    other_slot (head ∷ xs) zero (suc q) x other found = found
+    other_slot (head ∷ xs) (suc p) zero x other found = found
+    other_slot (head ∷ xs) (suc p) (suc q) x other found =
+        other_slot xs p q x (λ same. other (ap suc same)) found
+
+    abbrev moved : ℕ → ℕ → Type 0
+    moved k old = ((k < i) × (old ≡ k)) ⊎ ((i ≤ k) × (old ≡ suc k))
+
+    nth_was : (k : ℕ) (n : List ℕ) (v : V) → Nth holed fewer k n v
+        → (old : ℕ) × moved k old × Nth slots by_name old n v
+    nth_was k n v nth =
+        elim (removed_from by_name i k nth.place nth.listed) [
+          | inl before ↦ (
+            k,
+            inl (before.0, refl),
+            record {
+              place = nth.place;
+              listed = before.1;
+              stands = was_slot nth.place n v nth.stands;
+            },
+          )
+          | inr after ↦ (
+            suc k,
+            inr (after.0, refl),
+            record {
+              place = nth.place;
+              listed = after.1;
+              stands = was_slot nth.place n v nth.stands;
+            },
+          )
+        ]
+
+    kept_order : (j k a b : ℕ) → j < k → moved j a → moved k b → a < b
+    kept_order j k a b lt (inl x) (inl y) = omega (arith, lt, x.1, y.1)
+    kept_order j k a b lt (inl x) (inr y) = omega (arith, lt, x.1, y.1)
+    kept_order j k a b lt (inr x) (inl y) = absurd (omega (arith, lt, x.0, y.0))
+    kept_order j k a b lt (inr x) (inr y) = omega (arith, lt, x.1, y.1)
+
+    rising_fewer : (j k : ℕ) (n m : List ℕ) (v w : V) → j < k → Nth holed fewer j n v → Nth holed fewer k m w
+        → name_order n m ≡ Less
+    rising_fewer j k n m v w lt first second =
+        let a = nth_was j n v first in let b = nth_was k m w second in
+        sound.rising a.0 b.0 n m v w (kept_order j k a.0 b.0 lt a.1 b.1) a.2 b.2
+
+    stand_fewer : (k p : ℕ) → slice_get fewer k ≡ Some p
+        → (n : List ℕ) × (v : V) × (slice_get holed p ≡ Some (Entry n v))
+    stand_fewer k p found =
+        elim (removed_from by_name i k p found) [
+          | inl before ↦ by k (λ same. omega (arith, same, before.0)) before.1
+          | inr after ↦ by (suc k) (λ same. omega (arith, same, after.0)) after.1
+        ]
+      where
+        by : (old : ℕ) → (old ≡ i → ⊥) → slice_get by_name old ≡ Some p
+            → (n : List ℕ) × (v : V) × (slice_get holed p ≡ Some (Entry n v))
+        by old other listed =
+            let entry = sound.stand old p listed in (
+              entry.0,
+              entry.1,
+              other_slot slots p place (Entry entry.0 entry.1)
+                  (λ same. other (listed_once slots by_name sound old i p listed (at ∙ ap Some (sym same)))) entry.2,
+            )
+
+    all_fewer : (p : ℕ) (n : List ℕ) (v : V) → slice_get holed p ≡ Some (Entry n v)
+        → (k : ℕ) × (slice_get fewer k ≡ Some p)
+    all_fewer p n v found =
+        let old = sound.all p n v (was_slot p n v found) in
+        stays by_name i old.0 p (λ same. elsewhere p n v found (one_of old.0 old.1 same)) old.1
+      where
+        one_of : (k : ℕ) → slice_get by_name k ≡ Some p → k ≡ i → p ≡ place
+        one_of k listed same = let here = subst (λ q. slice_get by_name q ≡ Some p) same listed in cc
+
+    pub left : entries_in (set slots place Hole) ≡ remove_entry (same_text name) (entries_in slots)
+    left = holed_at slots name place value there (only_one slots by_name sound name place value there)
+
+    pub sound_holed : IsSound (set slots place Hole) (remove by_name i)
+    sound_holed = record {
+      rising = rising_fewer;
+      stand = stand_fewer;
+      all = all_fewer;
+      distinct = subst (λ es. IsDistinct same_text (keys_of es)) (sym left)
+          (distinct_removed name (entries_in slots) sound.distinct);
+      counted = omega (
+        arith,
+        length_taken_out by_name i (slice_get_within by_name i place at),
+        sound.counted,
+        ap length left,
+        length_removed name (entries_in slots) value (value_at slots by_name sound name place value there),
+      );
+    }
+
+-- another value written
+module _ {V : Type 0} (slots : List (Slot V)) (by_name : List ℕ) (sound : IsSound slots by_name)
+    (name : List ℕ) (value w : V) (place : ℕ) (there : slice_get slots place ≡ Some (Entry name value))
+  where
+    abbrev wrote : List (Slot V)
+    wrote = set slots place (Entry name w)
+
+    old_entry : (p : ℕ) (n : List ℕ) (v : V) → slice_get wrote p ≡ Some (Entry n v)
+        → (u : V) × (slice_get slots p ≡ Some (Entry n u))
+    old_entry p n v found =
+        elim (slot_after_write slots place (Entry name w) p (Entry n v) found) [
+          | inl before ↦ (v, before)
+          | inr here ↦ (let same : n ≡ name = let is = here.1 in cc in
+              (value, ap (slice_get slots) here.0 ∙ there ∙ ap (λ q. Some (Entry q value)) (sym same)))
+        ]
+
+    new_entry : (xs : List (Slot V)) (p q : ℕ) (n : List ℕ) (v u : V) → slice_get xs q ≡ Some (Entry name u)
+        → slice_get xs p ≡ Some (Entry n v) → (x : V) × (slice_get (set xs q (Entry name w)) p ≡ Some (Entry n x))
+    new_entry [] p q n v u here found = cc
+    new_entry (head ∷ xs) zero zero n v u here found =
+        let same : n ≡ name = cc in (w, ap (λ k. Some (Entry k w)) (sym same))
+    new_entry (head ∷ xs) zero (suc q) n v u here found = (v, found)
+    new_entry (head ∷ xs) (suc p) zero n v u here found = (v, found)
+    new_entry (head ∷ xs) (suc p) (suc q) n v u here found = new_entry xs p q n v u here found
+
+    old_nth : (k : ℕ) (n : List ℕ) (v : V) → Nth wrote by_name k n v → (u : V) × Nth slots by_name k n u
+    old_nth k n v nth =
+        let old = old_entry nth.place n v nth.stands in
+        (old.0, record { place = nth.place; listed = nth.listed; stands = old.1 })
+
+    pub written : entries_in (set slots place (Entry name w)) ≡ set_value (same_text name) (entries_in slots) w
+    written = written_at slots name place value w there (only_one slots by_name sound name place value there)
+
+    pub sound_written : IsSound (set slots place (Entry name w)) by_name
+    sound_written = record {
+      rising = λ j k n m v u lt first second.
+          (let a = old_nth j n v first in let b = old_nth k m u second in
+          sound.rising j k n m a.0 b.0 lt a.1 b.1);
+      stand = λ k p listed.
+          (let entry = sound.stand k p listed in
+          let new = new_entry slots p place entry.0 entry.1 value there entry.2 in (entry.0, new.0, new.1));
+      all = λ p n v found. sound.all p n (old_entry p n v found).0 (old_entry p n v found).1;
+      distinct = subst (IsDistinct same_text)
+          (sym (ap keys_of written ∙ keys-set_value (same_text name) (entries_in slots) w)) sound.distinct;
+      counted = sound.counted ∙ sym (ap length written ∙ length-set_value (same_text name) (entries_in slots) w);
+    }
+
+-- a listed place has a slot
+pub within_slots : {V : Type 0} (slots : List (Slot V)) (by_name : List ℕ) → IsSound slots by_name
+    → (k : ℕ) → k < length by_name → slice_index_or by_name k 0 < length slots
+within_slots slots by_name sound k lt =
+    let entry = sound.stand k (slice_index_or by_name k 0) (slice_get-get_or by_name k 0 lt) in
+    slice_get_within slots (slice_index_or by_name k 0) (Entry entry.0 entry.1) entry.2
+
+-- the holes taken away
+module _ {V : Type 0} where
+  kept_at : (slots : List (Slot V)) (p : ℕ) (n : List ℕ) (v : V) → slice_get slots p ≡ Some (Entry n v)
+      → slice_get (filter is_entry slots) (rank slots p) ≡ Some (Entry n v)
+  kept_at [] p n v there = cc
+  kept_at (Hole ∷ slots) zero n v there = cc
+  kept_at (Entry head other ∷ slots) zero n v there = there
+  kept_at (Hole ∷ slots) (suc p) n v there = kept_at slots p n v there
+  kept_at (Entry head other ∷ slots) (suc p) n v there = kept_at slots p n v there
+
+  came_from : (slots : List (Slot V)) (q : ℕ) (n : List ℕ) (v : V)
+      → slice_get (filter is_entry slots) q ≡ Some (Entry n v)
+      → (p : ℕ) × (slice_get slots p ≡ Some (Entry n v)) × (rank slots p ≡ q)
+  came_from [] q n v there = cc
+  came_from (Hole ∷ slots) q n v there =
+      let later = came_from slots q n v there in (suc later.0, later.1, later.2)
+  came_from (Entry head other ∷ slots) zero n v there = (0, there, refl)
+  came_from (Entry head other ∷ slots) (suc q) n v there =
+      let later = came_from slots q n v there in (suc later.0, later.1, ap suc later.2)
+
+  -- one more slot is passed over
+  rank_more : (slots : List (Slot V)) (i : ℕ) (x : Slot V) → slice_get slots i ≡ Some x
+      → rank slots (suc i) ≡ cond (is_entry x) (suc (rank slots i)) (rank slots i)
+  rank_more [] i x there = cc
+  rank_more (Hole ∷ slots) zero x there = let is : x ≡ Hole = cc in ap (λ s. cond (is_entry s) 1 0) (sym is)
+  rank_more (Entry head other ∷ slots) zero x there =
+      let is : x ≡ Entry head other = cc in ap (λ s. cond (is_entry s) 1 0) (sym is)
+  rank_more (Hole ∷ slots) (suc i) x there = rank_more slots i x there
+  rank_more (Entry head other ∷ slots) (suc i) x there = ap suc (rank_more slots i x there) ∙ by (is_entry x)
+    where
+      by : (b : Bool) → suc (cond b (suc (rank slots i)) (rank slots i))
+          ≡ cond b (suc (suc (rank slots i))) (suc (rank slots i))
+      by true = refl
+      by false = refl
+
+one_more : (n : ℕ) → suc n ≡ n + 1
+one_more n = omega arith
+
+pub rank_next : {V : Type 0} (slots : List (Slot V)) (i : ℕ) (x : Slot V) → slice_get slots i ≡ Some x
+    → rank slots (i + 1) ≡ cond (is_entry x) (rank slots i + 1) (rank slots i)
+rank_next slots i x there =
+    ap (rank slots) (sym (one_more i)) ∙ rank_more slots i x there
+    ∙ ap (λ n. cond (is_entry x) n (rank slots i)) (one_more (rank slots i))
+
+-- one more rank put last
+pub ranked_more : {V : Type 0} (slots : List (Slot V)) (ranks : List ℕ) (i r : ℕ) → length ranks ≡ i
+    → r ≡ rank slots i → ((place : ℕ) → place < i → slice_index_or ranks place 0 ≡ rank slots place)
+    → (place : ℕ) → place < i + 1 → slice_index_or (ranks ++ r ∷ []) place 0 ≡ rank slots place
+ranked_more slots ranks i r size here before place lt =
+    elim (side place i) [
+      | inl lower ↦ get_or_append_left ranks (r ∷ []) 0 place (subst (λ n. place < n) (sym size) lower)
+          ∙ before place lower
+      | inr past ↦ (let same : place ≡ i = omega (arith, lt, past) in
+          ap (λ k. slice_index_or (ranks ++ r ∷ []) k 0) same ∙ get_or_push ranks r 0 i size ∙ here ∙ ap (rank slots) (sym same))
+    ]
+
+pub read_at : (xs : List ℕ) (k p : ℕ) → slice_get xs k ≡ Some p → slice_index_or xs k 0 ≡ p
+read_at xs k p there = get_or_from_slice_get xs k p 0 there
+
+some_at : (xs : List ℕ) (k : ℕ) → k < length xs → (p : ℕ) × (slice_get xs k ≡ Some p)
+some_at [] k lt = absurd (omega (arith, lt))
+some_at (x ∷ xs) zero lt = (x, refl)
+some_at (x ∷ xs) (suc k) lt = some_at xs k (omega (arith, lt))
+
+entries_packed : {V : Type 0} (slots : List (Slot V)) → length (entries_in slots) ≡ length (filter is_entry slots)
+entries_packed [] = refl
+entries_packed (Hole ∷ slots) = entries_packed slots
+entries_packed (Entry name value ∷ slots) = ap suc (entries_packed slots)
+
+-- a slot for each listed place, once the holes are taken away
+pub none_left : {V : Type 0} (slots : List (Slot V)) (by_name : List ℕ) → IsSound slots by_name
+    → length (filter is_entry slots) ≡ length by_name
+none_left slots by_name sound = sym (entries_packed slots) ∙ sym sound.counted
+
+pub no_more_entries : {V : Type 0} (slots : List (Slot V)) → length (entries_in slots) ≤ length slots
+no_more_entries [] = omega arith
+no_more_entries (Hole ∷ slots) = omega (arith, no_more_entries slots)
+no_more_entries (Entry name value ∷ slots) = omega (arith, no_more_entries slots)
+
+module _ {V : Type 0} (slots : List (Slot V)) (by_name ranked : List ℕ) (sound : IsSound slots by_name)
+    (size : length ranked ≡ length by_name)
+    (told : (k : ℕ) → k < length by_name → slice_index_or ranked k 0 ≡ rank slots (slice_index_or by_name k 0))
+  where
+    ranks : (k p : ℕ) → slice_get by_name k ≡ Some p → slice_get ranked k ≡ Some (rank slots p)
+    ranks k p at =
+        let lt = slice_get_within by_name k p at in
+        slice_get-get_or ranked k 0 (subst (λ n. k < n) (sym size) lt)
+        ∙ ap Some (told k lt ∙ ap (rank slots) (read_at by_name k p at))
+
+    unranked : (k q : ℕ) → slice_get ranked k ≡ Some q
+        → (p : ℕ) × (slice_get by_name k ≡ Some p) × (q ≡ rank slots p)
+    unranked k q at =
+        let old = some_at by_name k (subst (λ n. k < n) size (slice_get_within ranked k q at)) in
+        let new = ranks k old.0 old.1 in
+        (old.0, old.1, cc)
+
+    nth_unpacked : (k : ℕ) (n : List ℕ) (v : V) → Nth (filter is_entry slots) ranked k n v
+        → Nth slots by_name k n v
+    nth_unpacked k n v nth =
+        let old = unranked k nth.place nth.listed in
+        let entry = sound.stand k old.0 old.1 in
+        let kept = kept_at slots old.0 entry.0 entry.1 entry.2 in
+        let found = subst (λ q. slice_get (filter is_entry slots) q ≡ Some (Entry n v)) old.2 nth.stands in
+        let same : Some (Entry entry.0 entry.1) ≡ Some (Entry n v) = sym kept ∙ found in
+        record { place = old.0; listed = old.1; stands = entry.2 ∙ same }
+
+    pub sound_packed : IsSound (filter is_entry slots) ranked
+    sound_packed = record {
+      rising = λ j k n m v w lt first second.
+          sound.rising j k n m v w lt (nth_unpacked j n v first) (nth_unpacked k m w second);
+      stand = λ k q at.
+          (let old = unranked k q at in let entry = sound.stand k old.0 old.1 in (
+            entry.0,
+            entry.1,
+            ap (slice_get (filter is_entry slots)) old.2
+                ∙ kept_at slots old.0 entry.0 entry.1 entry.2,
+          ));
+      all = λ q n v there.
+          (let old = came_from slots q n v there in let listed = sound.all old.0 n v old.1 in
+          (listed.0, ranks listed.0 old.0 listed.1 ∙ ap Some old.2));
+      distinct = subst (λ es. IsDistinct same_text (keys_of es)) (sym (packed slots)) sound.distinct;
+      counted = size ∙ sound.counted ∙ sym (ap length (packed slots));
+    }

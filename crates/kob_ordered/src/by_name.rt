@@ -1,0 +1,42 @@
+//! The search for a name among the slots, whose places are listed in order of their names.
+
+ghost use Rattle.std.specs.Prelude.{◌≡◌, slice_get, IfErr, IfOk, IfSome, is_ok, is_some};
+ghost use Rattle.std.specs.Map.{lookup};
+ghost use Rattle.kob_names.specs.Same.{same_text};
+ghost use Rattle.kob_ordered.specs.Slots.{entries_in, order_of, IsAt, IsGap, IsSound, Stands};
+
+use crate::slot::Slot;
+use kob_names::Text;
+use std::cmp::Ordering;
+
+/// Where the place of that name stands among those listed in order, or where it would.
+pub(crate) fn find<V>(slots: &[Slot<V>], by_name: &[usize], name: &Text) -> Result<usize, usize>
+    requires { IsSound slots.now by_name.now }
+    ensures found { IfOk result (IsAt slots.now by_name.now name.now) }
+    ensures gap { IfErr result (IsGap slots.now by_name.now name.now) }
+    ensures known { is_ok result ≡ is_some (lookup (same_text name.now) (entries_in slots.now)) }
+{
+    by_name.binary_search_by(|place| order_at(slots, *place, name))
+}
+
+/// The place of the entry of that name.
+pub(crate) fn place_of<V>(slots: &[Slot<V>], by_name: &[usize], name: &Text) -> Option<usize>
+    requires { IsSound slots.now by_name.now }
+    ensures stands { IfSome result (Stands slots.now name.now) }
+    ensures known { is_some result ≡ is_some (lookup (same_text name.now) (entries_in slots.now)) }
+{
+    match find(slots, by_name, name) {
+        Ok(index) => Some(by_name[index]),
+        Err(_) => None,
+    }
+}
+
+/// How the name at a place compares with a name.
+fn order_at<V>(slots: &[Slot<V>], place: usize, name: &Text) -> Ordering
+    ensures { result ≡ order_of name.now (slice_get slots.now place) }
+{
+    match slots.get(place) {
+        Some(Slot::Entry(other, _)) => other.as_str().cmp(name.as_str()),
+        _ => Ordering::Less,
+    }
+}
