@@ -3,13 +3,13 @@
 ghost use Rattle.std.specs.Prelude.{◌≡◌};
 
 use crate::topic::Topic;
-use kob_ordered::EntryName;
+use kob_names::Text;
 use std::marker::Model;
 
 /// A topic for which all memory is there.
 #[derive(Drop)]
 pub struct PreparedTopic {
-    name: EntryName,
+    name: Text,
     topic: Topic,
 }
 
@@ -27,14 +27,14 @@ impl Model for PreparedTopic {
 }
 
 impl PreparedTopic {
-    pub(crate) fn new(name: EntryName, topic: Topic) -> PreparedTopic
+    pub(crate) fn new(name: Text, topic: Topic) -> PreparedTopic
         ensures name { result.name ≡ name }
         ensures partitions { result.partitions ≡ topic }
     {
         PreparedTopic { name, topic }
     }
 
-    pub(crate) fn into_parts(self) -> (EntryName, Topic)
+    pub(crate) fn into_parts(self) -> (Text, Topic)
         ensures name { result.0 ≡ self.name }
         ensures partitions { result.1 ≡ self.partitions }
     {

@@ -1,9 +1,8 @@
 -- What is left when the commits on a topic go from the groups of some names.
-use Rattle.std.proofs.Common.{◌≡◌, ℕ, suc, Bool, true, false, cond, not, ◌||◌, List, [], ◌∷◌, ◌++◌, Some, None, is_some, length, get_or, slice_get, take, ◌+◌, ◌<◌, refl, sym, ap, subst, ◌∙◌}
+use Rattle.std.proofs.Common.{◌≡◌, ℕ, suc, Bool, true, false, cond, not, ◌||◌, List, [], ◌∷◌, Some, None, is_some, slice_get, refl, sym, ap, subst, ◌∙◌}
 use Rattle.std.specs.Cmp.Lexicographic.{nat_list_eq_equiv}
-use Rattle.std.specs.List.{AllByRecursion, IsDistinct, list_any}
+use Rattle.std.specs.List.{AllByRecursion, IsDistinct}
 use Rattle.std.specs.Map.{keys_of, lookup, set_value}
-use Rattle.std.proofs.lemmas.List.{take_more}
 use Rattle.std.proofs.lemmas.Map.Keys.{IsDistinct-head, IsDistinct-tail}
 use Rattle.kob_names.specs.Same.{same_text}
 use Rattle.kob_ordered.proofs.Places.{equal_names}
@@ -60,38 +59,25 @@ forgotten_twice first second topic (group ∷ groups) =
     by false true = refl
     by false false = refl
 
--- one more name of a list
-list_any_append : {X : Type 0} (test : X → Bool) (xs ys : List X)
-    → list_any test (xs ++ ys) ≡ (list_any test xs || list_any test ys)
-list_any_append test [] ys = refl
-list_any_append test (x ∷ xs) ys = by (test x) (list_any_append test xs ys)
-  where
-    by : (hit : Bool) → list_any test (xs ++ ys) ≡ (list_any test xs || list_any test ys)
-        → (hit || list_any test (xs ++ ys)) ≡ ((hit || list_any test xs) || list_any test ys)
-    by true rest = refl
-    by false rest = rest
-
-pub forgotten_more : (names : List (List ℕ)) (i : ℕ) (name topic : List ℕ) (groups : Groups) → i < length names
-    → get_or names i name ≡ name
-    → without_topic_at (same_text name) topic
-    (without_topic_at (λ other. list_any (same_text other) (take i names)) topic groups)
-    ≡ without_topic_at (λ other. list_any (same_text other) (take (i + 1) names)) topic groups
-forgotten_more names i name topic groups lt here =
-    forgotten_twice (λ other. list_any (same_text other) (take i names)) (same_text name) topic groups
+-- from one name, and then from those of a list
+pub forgotten_first : {V : Type 0} (name topic : List ℕ) (value : V) (names : List (List ℕ × V)) (groups : Groups)
+    → without_topic_at (λ other. is_some (lookup (same_text other) names)) topic
+    (without_topic_at (same_text name) topic groups)
+    ≡ without_topic_at (λ other. is_some (lookup (same_text other) ((name, value) ∷ names))) topic groups
+forgotten_first name topic value names groups =
+    forgotten_twice (same_text name) (λ other. is_some (lookup (same_text other) names)) topic groups
     ∙ (λ j. without_topic_at (λ other. one other j) topic groups)
   where
-    last : (a b : Bool) → (a || b) ≡ (a || (b || false))
-    last true b = refl
-    last false true = refl
-    last false false = refl
+    by : (other : List ℕ) (hit : Bool) → (hit || is_some (lookup (same_text other) names))
+        ≡ is_some (cond hit (Some value) (lookup (same_text other) names))
+    by other true = refl
+    by other false = refl
 
-    one : (other : List ℕ) → (list_any (same_text other) (take i names) || same_text name other)
-        ≡ list_any (same_text other) (take (i + 1) names)
+    one : (other : List ℕ) → (same_text name other || is_some (lookup (same_text other) names))
+        ≡ is_some (lookup (same_text other) ((name, value) ∷ names))
     one other =
-        ap (λ b. list_any (same_text other) (take i names) || b) (nat_list_eq_equiv.symm name other)
-        ∙ last (list_any (same_text other) (take i names)) (same_text other name)
-        ∙ sym (ap (list_any (same_text other)) (take_more names i name lt ∙ ap (λ n. take i names ++ n ∷ []) here)
-        ∙ list_any_append (same_text other) (take i names) (name ∷ []))
+        ap (λ b. b || is_some (lookup (same_text other) names)) (nat_list_eq_equiv.symm name other)
+        ∙ by other (same_text other name)
 
 pub forgotten_none : (topic : List ℕ) (groups : Groups) → without_topic_at (λ other. false) topic groups ≡ groups
 forgotten_none topic [] = refl

@@ -1,3 +1,4 @@
 pub mod Forgetting
 pub mod Listings
 pub mod Maps
+pub mod Names

@@ -1,11 +1,14 @@
--- How each change of the groups keeps those with commits on a topic listed for it.
-use Rattle.std.proofs.Common.{◌≡◌, ◌⊎◌, ℕ, zero, suc, Bool, true, false, cond, not, filter, List, [], ◌∷◌, Option, Some, None, IfSome, is_some, map, nat_eq, slice_get, unwrap_or, refl, sym, ap, subst, ◌∙◌, inl, inr}
-use Rattle.std.specs.Map.{lookup}
+-- How each change of the groups keeps those listed for a topic that have commits on it.
+use Rattle.std.proofs.Common.{◌≡◌, ℕ, zero, suc, Bool, true, false, cond, not, ◌&&◌, ◌||◌, filter, List, [], ◌∷◌, Option, Some, None, IfSome, is_some, map, option_map, nat_eq, slice_get, unwrap_or, refl, sym, ap, subst, ◌∙◌}
+use Rattle.std.specs.Cmp.Lexicographic.{nat_list_eq_equiv}
+use Rattle.std.specs.List.{AllByRecursion, IsDistinct}
+use Rattle.std.specs.Map.{keys_of, lookup}
+use Rattle.std.proofs.lemmas.Map.Keys.{IsDistinct-head, IsDistinct-tail}
 use Rattle.indexmap.specs.IndexMap.{insert_entry}
 use Rattle.kob_names.specs.Same.{same_text}
-use Rattle.kob_ordered.proofs.Places.{equal_names}
+use Rattle.kob_ordered.proofs.Places.{equal_names, same_name}
 use Rattle.kob_groups.specs.Groups.{Commits, Groups, commits_of, offsets_on, with_commit, with_offset, without_group, without_offsets, without_topic}
-use Rattle.kob_groups.specs.Listed.{AreListed, CanList, HasRoomFor, KeepsListed, ListsAlike, everywhere, has_commits, is_listed}
+use Rattle.kob_groups.specs.Listed.{AreListed, CanList, HasRoomFor, ListsAlike, has_commits, is_listed, is_pair}
 use Rattle.kob_groups.specs.declared.lists.GroupsByTopic.{GroupsByTopic}
 use Rattle.kob_groups.specs.declared.lists.Listing.{Listing}
 use Rattle.kob_groups.specs.declared.place.CommitPlace.{CommitPlace}
@@ -13,155 +16,231 @@ use Rattle.kob_groups.specs.declared.place.CommitPlace.{CommitPlace}
 abbrev pub Group : Type 0
 Group = List ℕ × Commits
 
--- what stands in a list after an entry is put in
-inserted_at : {X : Type 0} (entries : List (List ℕ × X)) (key : List ℕ) (value : X) (place : ℕ) (e : List ℕ × X)
-    → slice_get (insert_entry same_text entries key value) place ≡ Some e
-    → (slice_get entries place ≡ Some e) ⊎ ((e.0 ≡ key) × (e.1 ≡ value))
-inserted_at [] key value zero e there = inr (let is : e ≡ (key, value) = cc in (ap (λ p. p.0) is, ap (λ p. p.1) is))
-inserted_at [] key value (suc place) e there = cc
-inserted_at (head ∷ entries) key value place e there =
-    by (same_text key head.0) refl place there (λ later. inserted_at entries key value later e)
-  where
-    by : (hit : Bool) → same_text key head.0 ≡ hit → (at : ℕ)
-        → slice_get (cond hit ((head.0, value) ∷ entries) (head ∷ insert_entry same_text entries key value)) at ≡ Some e
-        → ((later : ℕ) → slice_get (insert_entry same_text entries key value) later ≡ Some e
-        → (slice_get entries later ≡ Some e) ⊎ ((e.0 ≡ key) × (e.1 ≡ value)))
-        → (slice_get (head ∷ entries) at ≡ Some e) ⊎ ((e.0 ≡ key) × (e.1 ≡ value))
-    by true is zero there rest =
-        let new : e ≡ (head.0, value) = cc in
-        inr (ap (λ p. p.0) new ∙ sym (equal_names key head.0 is), ap (λ p. p.1) new)
-    by true is (suc at) there rest = inl there
-    by false is zero there rest = inl there
-    by false is (suc at) there rest = rest at there
+-- one name is another, and whether a third one is either
+one_of : (name key q : List ℕ) → same_text name key ≡ true → same_text q key ≡ same_text name q
+one_of name key q is =
+    ap (λ k. same_text q k) (sym (equal_names name key is)) ∙ nat_list_eq_equiv.symm q name
 
--- commits after an offset is put in
-put_commits : {X : Type 0} (entries : List (List ℕ × X)) (topic t : List ℕ) (value : X)
-    → is_some (lookup (same_text t) (insert_entry same_text entries topic value)) ≡ true
-    → (topic ≡ t) ⊎ (is_some (lookup (same_text t) entries) ≡ true)
-put_commits {X = X} [] topic t value some = by (same_text t topic) refl some
-  where
-    by : (hit : Bool) → same_text t topic ≡ hit → is_some (cond hit (Some value) None) ≡ true
-        → (topic ≡ t) ⊎ (is_some (lookup {X = X} (same_text t) []) ≡ true)
-    by true is some = inl (sym (equal_names t topic is))
-    by false is some = cc
-put_commits {X = X} (e ∷ entries) topic t value some =
-    by (same_text topic e.0) refl (same_text t e.0) refl some (put_commits entries topic t value)
+apart : (name key q : List ℕ) → same_text name key ≡ false → same_text q key ≡ true → same_text name q ≡ false
+apart name key q is hit = ap (same_text name) (equal_names q key hit) ∙ is
+
+-- what is found after an entry was put in
+found_inserted : {X : Type 0} (entries : List (List ℕ × X)) (key q : List ℕ) (value : X)
+    → lookup (same_text q) (insert_entry same_text entries key value)
+    ≡ cond (same_text key q) (Some value) (lookup (same_text q) entries)
+found_inserted [] key q value =
+    ap (λ b. cond b (Some value) None) (nat_list_eq_equiv.symm q key)
+found_inserted {X} (e ∷ entries) key q value =
+    by (same_text key e.0) refl (same_text q e.0) refl (found_inserted entries key q value)
   where
     later : List (List ℕ × X)
-    later = insert_entry same_text entries topic value
+    later = insert_entry same_text entries key value
 
-    by : (hit : Bool) → same_text topic e.0 ≡ hit → (found : Bool) → same_text t e.0 ≡ found
-        → is_some (lookup (same_text t) (cond hit ((e.0, value) ∷ entries) (e ∷ later))) ≡ true
-        → (is_some (lookup (same_text t) later) ≡ true → (topic ≡ t) ⊎ (is_some (lookup (same_text t) entries) ≡ true))
-        → (topic ≡ t) ⊎ (is_some (cond found (Some e.1) (lookup (same_text t) entries)) ≡ true)
-    by hit is true found some rest = inr refl
-    by true is false found some rest =
-        inr (sym (ap (λ b. is_some (cond b (Some value) (lookup (same_text t) entries))) found) ∙ some)
-    by false is false found some rest =
-        rest (sym (ap (λ b. is_some (cond b (Some e.1) (lookup (same_text t) later))) found) ∙ some)
+    by : (hit : Bool) → same_text key e.0 ≡ hit → (here : Bool) → same_text q e.0 ≡ here
+        → lookup (same_text q) later ≡ cond (same_text key q) (Some value) (lookup (same_text q) entries)
+        → lookup (same_text q) (cond hit ((e.0, value) ∷ entries) (e ∷ later))
+        ≡ cond (same_text key q) (Some value) (cond here (Some e.1) (lookup (same_text q) entries))
+    by true is true found rest =
+        ap (λ b. cond b (Some value) (lookup (same_text q) entries)) found
+        ∙ sym (ap (λ b. cond b (Some value) (Some e.1)) (sym (one_of key e.0 q is) ∙ found))
+    by true is false found rest =
+        ap (λ b. cond b (Some value) (lookup (same_text q) entries)) found
+        ∙ sym (ap (λ b. cond b (Some value) (lookup (same_text q) entries)) (sym (one_of key e.0 q is) ∙ found))
+    by false is true found rest =
+        ap (λ b. cond b (Some e.1) (lookup (same_text q) later)) found
+        ∙ sym (ap (λ b. cond b (Some value) (Some e.1)) (apart key e.0 q is found))
+    by false is false found rest =
+        ap (λ b. cond b (Some e.1) (lookup (same_text q) later)) found ∙ rest
 
--- the commits of a group stand in the groups
-commits_stand : (name topic : List ℕ) (groups : Groups) → has_commits topic (commits_of name groups) ≡ true
-    → (place : ℕ) × (slice_get groups place ≡ Some (name, commits_of name groups))
-commits_stand name topic [] some = cc
-commits_stand name topic (group ∷ groups) some = by (same_text name group.0) refl some (commits_stand name topic groups)
+-- what is found after the entries of a name went
+found_without : {X : Type 0} (entries : List (List ℕ × X)) (name q : List ℕ)
+    → lookup (same_text q) (filter (λ e. not (same_text name e.0)) entries)
+    ≡ cond (same_text name q) None (lookup (same_text q) entries)
+found_without {X} [] name q = by (same_text name q)
   where
-    by : (hit : Bool) → same_text name group.0 ≡ hit
-        → has_commits topic (unwrap_or (cond hit (Some group.1) (lookup (same_text name) groups)) []) ≡ true
-        → (has_commits topic (commits_of name groups) ≡ true
-        → (place : ℕ) × (slice_get groups place ≡ Some (name, commits_of name groups)))
-        → (place : ℕ) × (slice_get (group ∷ groups) place
-        ≡ Some (name, unwrap_or (cond hit (Some group.1) (lookup (same_text name) groups)) []))
-    by true is some rest = (0, ap (λ n. Some (n, group.1)) (sym (equal_names name group.0 is)))
-    by false is some rest = let later = rest some in (suc later.0, later.1)
+    none : Option X
+    none = None
+
+    by : (b : Bool) → None ≡ cond b none none
+    by true = refl
+    by false = refl
+found_without {X} (e ∷ entries) name q =
+    by (same_text name e.0) refl (same_text q e.0) refl (found_without entries name q)
+  where
+    left : List (List ℕ × X)
+    left = filter (λ x. not (same_text name x.0)) entries
+
+    by : (hit : Bool) → same_text name e.0 ≡ hit → (here : Bool) → same_text q e.0 ≡ here
+        → lookup (same_text q) left ≡ cond (same_text name q) None (lookup (same_text q) entries)
+        → lookup (same_text q) (cond (not hit) (e ∷ left) left)
+        ≡ cond (same_text name q) None (cond here (Some e.1) (lookup (same_text q) entries))
+    by true is true found rest =
+        let gone = sym (one_of name e.0 q is) ∙ found in
+        rest ∙ ap (λ b. cond b None (lookup (same_text q) entries)) gone ∙ sym (ap (λ b. cond b None (Some e.1)) gone)
+    by true is false found rest = rest
+    by false is true found rest =
+        ap (λ b. cond b (Some e.1) (lookup (same_text q) left)) found
+        ∙ sym (ap (λ b. cond b None (Some e.1)) (apart name e.0 q is found))
+    by false is false found rest =
+        ap (λ b. cond b (Some e.1) (lookup (same_text q) left)) found ∙ rest
+
+-- what is found after each value was mapped
+found_mapped : {X Y : Type 0} (f : X → Y) (entries : List (List ℕ × X)) (q : List ℕ)
+    → lookup (same_text q) (map (λ (e : List ℕ × X). (e.0, f e.1)) entries) ≡ option_map f (lookup (same_text q) entries)
+found_mapped f [] q = refl
+found_mapped {X} {Y} f (e ∷ entries) q = by (same_text q e.0) (found_mapped f entries q)
+  where
+    by : (b : Bool)
+        → lookup (same_text q) (map (λ (x : List ℕ × X). (x.0, f x.1)) entries)
+        ≡ option_map f (lookup (same_text q) entries)
+        → cond b (Some (f e.1)) (lookup (same_text q) (map (λ (x : List ℕ × X). (x.0, f x.1)) entries))
+        ≡ option_map f (cond b (Some e.1) (lookup (same_text q) entries))
+    by true rest = refl
+    by false rest = rest
+
+-- commits after an offset is put in
+put_commits : (topic t : List ℕ) (partition offset : ℕ) (commits : Commits)
+    → has_commits t (with_offset topic partition offset commits) ≡ (same_text topic t || has_commits t commits)
+put_commits topic t partition offset commits =
+    ap is_some (found_inserted commits topic t (insert_entry nat_eq (offsets_on topic commits) partition offset))
+    ∙ by (same_text topic t)
+  where
+    by : (b : Bool)
+        → is_some (cond b (Some (insert_entry nat_eq (offsets_on topic commits) partition offset))
+        (lookup (same_text t) commits))
+        ≡ (b || has_commits t commits)
+    by true = refl
+    by false = refl
+
+pub listed_committed : (groups : Groups) (old new : GroupsByTopic) (place : CommitPlace) (offset : ℕ)
+    → AreListed groups old
+    → ((t g : List ℕ) → is_listed t g new ≡ (is_pair place.topic place.group t g || is_listed t g old))
+    → AreListed (with_commit place offset groups) new
+listed_committed groups old new place offset listed put topic group =
+    put topic group ∙ ap (λ b. is_pair place.topic place.group topic group || b) (listed topic group)
+    ∙ sym (ap (λ found. has_commits topic (unwrap_or found []))
+    (found_inserted groups place.group group made) ∙ by (same_text place.group group) refl)
+  where
+    made : Commits
+    made = with_offset place.topic place.partition offset (commits_of place.group groups)
+
+    turned : (a b c : Bool) → c ≡ true → (a || b) ≡ ((a && c) || b)
+    turned true b true is = refl
+    turned false b true is = refl
+    turned a b false is = cc
+
+    other : (a b c : Bool) → c ≡ false → b ≡ ((a && c) || b)
+    other true b false is = refl
+    other false b false is = refl
+    other a b true is = cc
+
+    by : (hit : Bool) → same_text place.group group ≡ hit
+        → has_commits topic (unwrap_or (cond hit (Some made) (lookup (same_text group) groups)) [])
+        ≡ (is_pair place.topic place.group topic group || has_commits topic (commits_of group groups))
+    by true is =
+        put_commits place.topic topic place.partition offset (commits_of place.group groups)
+        ∙ ap (λ n. same_text place.topic topic || has_commits topic (commits_of n groups)) (equal_names place.group group is)
+        ∙ turned (same_text place.topic topic) (has_commits topic (commits_of group groups))
+        (same_text place.group group) is
+    by false is =
+        other (same_text place.topic topic) (has_commits topic (commits_of group groups)) (same_text place.group group) is
+
+pub listed_removed : (groups : Groups) (old new : GroupsByTopic) (name : List ℕ) → AreListed groups old
+    → ((t g : List ℕ) → is_listed t g new
+    ≡ (is_listed t g old && not (same_text name g && has_commits t (commits_of name groups))))
+    → AreListed (without_group name groups) new
+listed_removed groups old new name listed left topic group =
+    left topic group
+    ∙ ap (λ b. b && not (same_text name group && has_commits topic (commits_of name groups))) (listed topic group)
+    ∙ by (same_text name group) refl
+    ∙ sym (ap (λ found. has_commits topic (unwrap_or found [])) (found_without groups name group))
+  where
+    none : (b : Bool) → (b && not (true && b)) ≡ false
+    none true = refl
+    none false = refl
+
+    all : (a b : Bool) → (a && not (false && b)) ≡ a
+    all true b = refl
+    all false b = refl
+
+    by : (hit : Bool) → same_text name group ≡ hit
+        → (has_commits topic (commits_of group groups)
+        && not (hit && has_commits topic (commits_of name groups)))
+        ≡ has_commits topic (unwrap_or (cond hit None (lookup (same_text group) groups)) [])
+    by true is =
+        ap (λ n. has_commits topic (commits_of n groups) && not (true && has_commits topic (commits_of name groups)))
+        (sym (equal_names name group is))
+        ∙ none (has_commits topic (commits_of name groups))
+    by false is = all (has_commits topic (commits_of group groups)) (has_commits topic (commits_of name groups))
+
+pub listed_forgotten : (groups : Groups) (old new : GroupsByTopic) (topic : List ℕ) → AreListed groups old
+    → ((t g : List ℕ) → is_listed t g new ≡ (not (same_text topic t) && is_listed t g old))
+    → AreListed (without_topic topic groups) new
+listed_forgotten groups old new topic listed left t g =
+    left t g ∙ ap (λ b. not (same_text topic t) && b) (listed t g) ∙ by (lookup (same_text g) groups)
+    ∙ sym (ap (λ found. has_commits t (unwrap_or found [])) (found_mapped (without_offsets topic) groups g))
+  where
+    fewer : (commits : Commits)
+        → (not (same_text topic t) && has_commits t commits) ≡ has_commits t (without_offsets topic commits)
+    fewer commits = one (same_text topic t) ∙ sym (ap is_some (found_without commits topic t))
+      where
+        one : (b : Bool) → (not b && has_commits t commits) ≡ is_some (cond b None (lookup (same_text t) commits))
+        one true = refl
+        one false = refl
+
+    nothing : (b : Bool) → (b && false) ≡ false
+    nothing true = refl
+    nothing false = refl
+
+    by : (found : Option Commits) → (not (same_text topic t) && has_commits t (unwrap_or found []))
+        ≡ has_commits t (unwrap_or (option_map (without_offsets topic) found) [])
+    by None = nothing (not (same_text topic t))
+    by (Some commits) = fewer commits
 
 pub listed_alike : (groups : Groups) (old new : GroupsByTopic) → AreListed groups old → ListsAlike old new
     → AreListed groups new
-listed_alike groups old new listed alike place group topic there some =
-    alike topic group.0 ∙ listed place group topic there some
+listed_alike groups old new listed alike topic group = alike topic group ∙ listed topic group
+
+names_apart : {X : Type 0} (P : List ℕ → Type 0) (entries : List (List ℕ × X)) (place : ℕ) (e : List ℕ × X)
+    → AllByRecursion P (keys_of entries) → slice_get entries place ≡ Some e → P e.0
+names_apart P [] place e all there = cc
+names_apart P (head ∷ entries) zero e all there =
+    let same : head ≡ e = cc in subst (λ (x : List ℕ × _). P x.0) same all.0
+names_apart P (head ∷ entries) (suc place) e all there = names_apart P entries place e all.1 there
+
+-- an entry is found by its name
+own_entry : {X : Type 0} (entries : List (List ℕ × X)) (place : ℕ) (e : List ℕ × X)
+    → IsDistinct same_text (keys_of entries) → slice_get entries place ≡ Some e
+    → lookup (same_text e.0) entries ≡ Some e.1
+own_entry [] place e distinct there = cc
+own_entry {X} (head ∷ entries) zero e distinct there =
+    let same : head ≡ e = cc in
+    ap (λ b. cond b (Some head.1) (lookup (same_text e.0) entries))
+    (same_name e.0 head.0 (ap (λ (x : List ℕ × X). x.0) (sym same)))
+    ∙ ap (λ (x : List ℕ × X). Some x.1) same
+own_entry {X} (head ∷ entries) (suc place) e distinct there =
+    ap (λ b. cond b (Some head.1) (lookup (same_text e.0) entries))
+    (nat_list_eq_equiv.symm e.0 head.0
+    ∙ names_apart (λ k. same_text head.0 k ≡ false) entries place e
+    (IsDistinct-head same_text head.0 (keys_of entries) distinct) there)
+    ∙ own_entry entries place e (IsDistinct-tail same_text head.0 (keys_of entries) distinct) there
+
+-- a group with commits on a topic is listed for it
+pub each_listed : (groups : Groups) (lists : GroupsByTopic) (topic : List ℕ) → AreListed groups lists
+    → IsDistinct same_text (keys_of groups) → (place : ℕ) (group : Group) → slice_get groups place ≡ Some group
+    → has_commits topic group.1 ≡ true → is_listed topic group.0 lists ≡ true
+each_listed groups lists topic listed distinct place group there some =
+    listed topic group.0
+    ∙ ap (λ found. has_commits topic (unwrap_or found [])) (own_entry groups place group distinct there) ∙ some
 
 -- what can be listed has room
 pub room_to_list : (listing : Option Listing) (topic group : List ℕ) (lists : GroupsByTopic)
-    → CanList listing topic group lists → IfSome listing (λ l. HasRoomFor l lists)
+    → CanList listing topic group lists → IfSome listing (λ l. HasRoomFor l topic lists)
 room_to_list None topic group lists can = tt
 room_to_list (Some listing) topic group lists can = can.room
 
-pub listed_committed : (groups : Groups) (old new : GroupsByTopic) (place : CommitPlace) (offset : ℕ)
-    → AreListed groups old → KeepsListed everywhere old new → is_listed place.topic place.group new ≡ true
-    → AreListed (with_commit place offset groups) new
-listed_committed groups old new place offset listed kept here at group topic there some =
-    elim (inserted_at groups place.group
-    (with_offset place.topic place.partition offset (commits_of place.group groups)) at group there) [
-      | inl before ↦ kept topic group.0 refl (listed at group topic before some)
-      | inr put ↦ by_topic put.0 (put_commits (commits_of place.group groups) place.topic topic
-          (insert_entry nat_eq (offsets_on place.topic (commits_of place.group groups)) place.partition offset)
-          (subst (λ commits. has_commits topic commits ≡ true) put.1 some))
-    ]
-  where
-    by_topic : group.0 ≡ place.group
-        → (place.topic ≡ topic) ⊎ (has_commits topic (commits_of place.group groups) ≡ true)
-        → is_listed topic group.0 new ≡ true
-    by_topic named (inl same) =
-        subst (λ t. is_listed t group.0 new ≡ true) same
-        (subst (λ g. is_listed place.topic g new ≡ true) (sym named) here)
-    by_topic named (inr before) =
-        let stands = commits_stand place.group topic groups before in
-        subst (λ g. is_listed topic g new ≡ true) (sym named)
-        (kept topic place.group refl
-        (listed stands.0 (place.group, commits_of place.group groups) topic stands.1 before))
-
-filtered_at : {X : Type 0} (test : X → Bool) (xs : List X) (place : ℕ) (x : X)
-    → slice_get (filter test xs) place ≡ Some x
-    → (before : ℕ) × (slice_get xs before ≡ Some x) × (test x ≡ true)
-filtered_at test [] place x there = cc
-filtered_at test (head ∷ xs) place x there = by (test head) refl place there (λ later. filtered_at test xs later x)
-  where
-    by : (hit : Bool) → test head ≡ hit → (at : ℕ)
-        → slice_get (cond hit (head ∷ filter test xs) (filter test xs)) at ≡ Some x
-        → ((later : ℕ) → slice_get (filter test xs) later ≡ Some x
-        → (before : ℕ) × (slice_get xs before ≡ Some x) × (test x ≡ true))
-        → (before : ℕ) × (slice_get (head ∷ xs) before ≡ Some x) × (test x ≡ true)
-    by true is zero there rest = let same : head ≡ x = cc in (0, there, ap test (sym same) ∙ is)
-    by true is (suc at) there rest = let later = rest at there in (suc later.0, later.1, later.2)
-    by false is at there rest = let later = rest at there in (suc later.0, later.1, later.2)
-
-pub listed_removed : (groups : Groups) (old new : GroupsByTopic) (name : List ℕ) → AreListed groups old
-    → KeepsListed (λ _ other. not (same_text name other)) old new → AreListed (without_group name groups) new
-listed_removed groups old new name listed kept place group topic there some =
-    let before = filtered_at (λ (g : Group). not (same_text name g.0)) groups place group there in
-    kept topic group.0 before.2 (listed before.0 group topic before.1 some)
-
-mapped_at : {X Y : Type 0} (f : X → Y) (xs : List X) (place : ℕ) (y : Y) → slice_get (map f xs) place ≡ Some y
-    → (x : X) × (slice_get xs place ≡ Some x) × (y ≡ f x)
-mapped_at f [] place y there = cc
-mapped_at f (head ∷ xs) zero y there = (head, refl, cc)
-mapped_at f (head ∷ xs) (suc place) y there = mapped_at f xs place y there
-
--- commits that are left when those on a topic go
-left_commits : (topic t : List ℕ) (commits : Commits) → has_commits t (without_offsets topic commits) ≡ true
-    → (has_commits t commits ≡ true) × (not (same_text topic t) ≡ true)
-left_commits topic t [] some = cc
-left_commits topic t (on ∷ commits) some =
-    by (same_text topic on.0) refl (same_text t on.0) refl some (left_commits topic t commits)
-  where
-    left : Commits
-    left = without_offsets topic commits
-
-    by : (hit : Bool) → same_text topic on.0 ≡ hit → (found : Bool) → same_text t on.0 ≡ found
-        → has_commits t (cond (not hit) (on ∷ left) left) ≡ true
-        → (has_commits t left ≡ true → (has_commits t commits ≡ true) × (not (same_text topic t) ≡ true))
-        → (is_some (cond found (Some on.1) (lookup (same_text t) commits)) ≡ true) × (not (same_text topic t) ≡ true)
-    by true is true found some rest = (refl, (rest some).1)
-    by true is false found some rest = rest some
-    by false is true found some rest =
-        (refl, ap (λ n. not (same_text topic n)) (equal_names t on.0 found) ∙ ap not is)
-    by false is false found some rest =
-        rest (sym (ap (λ b. is_some (cond b (Some on.1) (lookup (same_text t) left))) found) ∙ some)
-
-pub listed_forgotten : (groups : Groups) (old new : GroupsByTopic) (topic : List ℕ) → AreListed groups old
-    → KeepsListed (λ other _. not (same_text topic other)) old new → AreListed (without_topic topic groups) new
-listed_forgotten groups old new topic listed kept place group t there some =
-    let before = mapped_at (λ (g : Group). (g.0, without_offsets topic g.1)) groups place group there in
-    let left = left_commits topic t before.0.1 (subst (λ (g : Group). has_commits t g.1 ≡ true) before.2 some) in
-    subst (λ (g : Group). is_listed t g.0 new ≡ true) (sym before.2)
-    (kept t before.0.0 left.1 (listed place before.0 t before.1 left.0))
+-- where no list is left to leave
+pub none_to_leave : (listed here : Bool) → listed ≡ (listed && not (here && false))
+none_to_leave true true = refl
+none_to_leave true false = refl
+none_to_leave false here = refl

@@ -6,8 +6,7 @@ ghost use Rattle.kob_groups.specs.Kept.{CanPut};
 use crate::commits::{Commits, NewTopic};
 use crate::lists::Listing;
 use crate::place::CommitPlace;
-use kob_names::PlainValue;
-use kob_ordered::EntryName;
+use kob_names::{PlainValue, Text};
 use std::alloc::{AllocError, Global};
 use thiserror::Error;
 
@@ -29,7 +28,7 @@ pub struct PreparedCommit {
     pub(crate) offset: u64,
     pub(crate) commits: Commits,
     pub(crate) new_topic: NewTopic,
-    pub(crate) name: Option<EntryName>,
+    pub(crate) name: Option<Text>,
     pub(crate) listing: Option<Listing>,
 }
 
@@ -49,7 +48,7 @@ impl PreparedCommit {
         ensures topic { IfOk result (λ made. CanPut made.new_topic place.topic made.commits) }
         ensures no_commits { IfOk result (λ made. made.commits.by_topic.entries ≡ []) }
     {
-        let name = Some(EntryName::new(alloc, place.group.copy(alloc)?)?);
+        let name = Some(place.group.copy(alloc)?);
         let commits = Commits::with_room(alloc)?;
         let new_topic = NewTopic::with_room(alloc, &place.topic)?;
         Ok(PreparedCommit {

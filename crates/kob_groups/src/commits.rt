@@ -7,7 +7,7 @@ ghost use Rattle.kob_groups.specs.Groups.{offsets_on, with_offset, without_offse
 
 use indexmap::IndexMap;
 use kob_names::{PlainValue, Text};
-use kob_ordered::{EntryName, OrderedMap};
+use kob_ordered::OrderedMap;
 use std::alloc::{AllocError, Global};
 
 /// The offsets on a topic, by partition.
@@ -23,7 +23,7 @@ pub(crate) struct Commits {
 /// topic on which it has some needs no name.
 #[derive(Drop)]
 pub(crate) struct NewTopic {
-    pub(crate) name: Option<EntryName>,
+    pub(crate) name: Option<Text>,
     pub(crate) offsets: Offsets,
 }
 
@@ -44,7 +44,7 @@ impl NewTopic {
         ensures empty { IfOk result (λ made. IsEmpty made.offsets) }
         ensures room { IfOk result (λ made. 0 < spare made.offsets) }
     {
-        let name = Some(EntryName::new(alloc, topic.copy(alloc)?)?);
+        let name = Some(topic.copy(alloc)?);
         let offsets = IndexMap::with_capacity(alloc, 1)?;
         Ok(NewTopic { name, offsets })
     }

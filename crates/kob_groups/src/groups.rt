@@ -1,6 +1,6 @@
 //! Groups in order of their first commit, with their committed offsets.
 
-ghost use Rattle.std.specs.Prelude.{◌≡◌, ◌<◌, true, false, IsErrOf, IfOk, OnErr, OnOk};
+ghost use Rattle.std.specs.Prelude.{◌≡◌, ◌↔◌, true, false, IsErrOf, IfOk, OnErr, OnOk};
 ghost use Rattle.kob_groups.specs.Groups.{committed_at, group_names, has_group, is_full_for};
 ghost use Rattle.kob_groups.specs.Groups.{no_groups, place_of, with_commit, without_group};
 ghost use Rattle.kob_groups.specs.Groups.{without_offsets, without_topic};
@@ -64,24 +64,45 @@ impl Groups {
     pub fn prepare_commit(
         &mut self,
         alloc: Global,
-        place: CommitPlace,
+        group: &Text,
+        topic: &Text,
+        partition: u64,
         offset: u64,
     ) -> Result<PreparedCommit, CommitFault>
         ensures groups { groups_of self.new ≡ groups_of self.old }
-        ensures place { IfOk result (λ made. made.place ≡ place) }
+        ensures place { IfOk result
+            (λ made. made.place ≡ place_of group.now topic.now partition) }
         ensures offset { IfOk result (λ made. made.offset ≡ offset) }
         ensures ready { IfOk result (λ made. CanCommit made self.new) }
-        ensures few { OnOk result (is_full_for place.group (groups_of self.old) ≡ false) }
         ensures many { IsErrOf result CommitFault.TooMany
-            → is_full_for place.group (groups_of self.old) ≡ true }
+            ↔ (is_full_for group.now (groups_of self.old) ≡ true) }
     {
-        if self.is_full_for(&place.group) {
+        if self.is_full_for(group) {
             return Err(CommitFault::TooMany);
         }
-        match self.prepare_at(alloc, place, offset) {
+        match self.prepare_copied(alloc, group, topic, partition, offset) {
             Ok(made) => Ok(made),
             Err(AllocError) => Err(CommitFault::Memory),
         }
+    }
+
+    /// Copies the names, and makes room for a commit.
+    fn prepare_copied(
+        &mut self,
+        alloc: Global,
+        group: &Text,
+        topic: &Text,
+        partition: u64,
+        offset: u64,
+    ) -> Result<PreparedCommit, AllocError>
+        ensures groups { groups_of self.new ≡ groups_of self.old }
+        ensures place { IfOk result
+            (λ made. made.place ≡ place_of group.now topic.now partition) }
+        ensures offset { IfOk result (λ made. made.offset ≡ offset) }
+        ensures ready { IfOk result (λ made. CanCommit made self.new) }
+    {
+        let place = CommitPlace::copied(alloc, group, topic, partition)?;
+        self.prepare_at(alloc, place, offset)
     }
 
     /// Makes room for a commit: for one more group, one more topic of the group, one more offset on
@@ -134,7 +155,7 @@ impl Groups {
             topic,
             partition,
         } = place;
-        self.lists.put(listing);
+        self.lists.put(listing, &topic);
         match self.by_name.get_mut(&group) {
             Some(commits) => commits.put(&topic, partition, offset, new_topic),
             None => {
@@ -148,17 +169,18 @@ impl Groups {
     pub fn commit(
         &mut self,
         alloc: Global,
-        place: CommitPlace,
+        group: &Text,
+        topic: &Text,
+        partition: u64,
         offset: u64,
     ) -> Result<(), CommitFault>
-        ensures committed { OnOk result
-            (groups_of self.new ≡ with_commit place offset (groups_of self.old)) }
+        ensures committed { OnOk result (groups_of self.new
+            ≡ with_commit (place_of group.now topic.now partition) offset (groups_of self.old)) }
         ensures kept { OnErr result (groups_of self.new ≡ groups_of self.old) }
-        ensures few { OnOk result (is_full_for place.group (groups_of self.old) ≡ false) }
         ensures many { IsErrOf result CommitFault.TooMany
-            → is_full_for place.group (groups_of self.old) ≡ true }
+            ↔ (is_full_for group.now (groups_of self.old) ≡ true) }
     {
-        let made = self.prepare_commit(alloc, place, offset)?;
+        let made = self.prepare_commit(alloc, group, topic, partition, offset)?;
         self.commit_commit(made);
         Ok(())
     }
@@ -200,6 +222,7 @@ impl Groups {
     pub fn forget_topic(&mut self, topic: &Text)
         ensures { groups_of self.new ≡ without_topic topic.now (groups_of self.old) }
     {
+        self.by_name.names_differ();
         let Some(names) = self.lists.take(topic) else {
             return;
         };
@@ -207,19 +230,19 @@ impl Groups {
     }
 }
 
-ghost use Rattle.std.specs.Prelude.{not};
-ghost use Rattle.indexmap.specs.IndexSet.{contains};
-ghost use Rattle.kob_groups.specs.Listed.{AreListed, KeepsListed};
-ghost use Rattle.kob_groups.specs.Views.{groups_in, without_topic_at};
+ghost use Rattle.std.specs.Prelude.{ℕ, List, Some, not, ◌&&◌};
+ghost use Rattle.kob_groups.specs.Filled.{is_among};
+ghost use Rattle.kob_groups.specs.Listed.{AreListed, has_commits, is_listed};
+ghost use Rattle.kob_groups.specs.Views.{commits_in, groups_in, without_topic_at};
 ghost use Rattle.kob_names.specs.Same.{same_text};
 
 /// Takes away the commits on a topic of the groups of these names.
 fn forget_at(groups: &mut OrderedMap<Commits>, names: &GroupNames, topic: &Text)
     ensures { groups_in groups.new.entries
-        ≡ without_topic_at (contains same_text names.now) topic.now
+        ≡ without_topic_at (λ name. is_among name (Some names.now)) topic.now
         (groups_in groups.old.entries) }
 {
-    for name in names.as_slice() {
+    for (name, _) in names.iter() {
         if let Some(commits) = groups.get_mut(name) {
             commits.forget(topic);
         }
@@ -228,7 +251,8 @@ fn forget_at(groups: &mut OrderedMap<Commits>, names: &GroupNames, topic: &Text)
 
 /// Takes a group that went from the lists of the topics on which it has commits.
 fn leave_lists(lists: &mut GroupsByTopic, commits: &Commits, group: &Text)
-    ensures { KeepsListed (λ _ other. not (same_text group.now other)) lists.old lists.new }
+    ensures { (t g : List ℕ) → is_listed t g lists.new ≡ (is_listed t g lists.old
+        && not (same_text group.now g && has_commits t (commits_in commits.now))) }
 {
     for (topic, _) in commits.by_topic.iter() {
         lists.remove(topic, group);

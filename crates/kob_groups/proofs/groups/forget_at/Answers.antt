@@ -1,27 +1,38 @@
-use Rattle.std.proofs.Common.{ap, sym, ◌∙◌}
+use Rattle.std.proofs.Common.{ap, is_some, sym, ◌∙◌}
+use Rattle.std.specs.Map.{lookup}
 use Rattle.std.specs.Option.{option_copied_mut}
 use Rattle.kob_names.specs.Same.{same_text}
 use Rattle.kob_groups.specs.Views.{groups_in, without_topic_at}
-use Rattle.kob_groups.proofs.Forgetting.{forgotten_absent, forgotten_more, forgotten_none, forgotten_written}
+use Rattle.kob_groups.proofs.Forgetting.{forgotten_absent, forgotten_first, forgotten_none, forgotten_written}
 use Rattle.kob_groups.proofs.groups.forget_at.Goals as goal
-use Rattle.kob_groups.proofs.groups.forget_at.Goals.{in-Some, in_default}
 
-pub loop-name-init : goal.loop-name-init
-loop-name-init c = sym (forgotten_none c.args.topic.now (groups_in c.args.groups.now.entries))
+pub loop-name-preserved-in-Some-get_mut : goal.loop-name-preserved-in-Some-get_mut
+loop-name-preserved-in-Some-get_mut c =
+    let step = rw c.in-Some.is at c.next.ensures.steps in let name = c.in-Some.name.now in let topic = c.args.topic.now in
+    let entries = c.loop-name.groups.entries in let rest = c.next.new.self in
+    ap (without_topic_at (λ other. is_some (lookup (same_text other) rest)) topic)
+    (forgotten_written name topic entries c.in-Some-get_mut.commits.now c.forget.new.self c.get_mut.ensures.names
+    (sym c.get_mut.ensures.value ∙ ap option_copied_mut c.in-Some-get_mut.is) c.forget.ensures)
+    ∙ forgotten_first name topic c.in-Some.field-0-1.now rest (groups_in entries)
+    ∙ ap (λ names. without_topic_at (λ other. is_some (lookup (same_text other) names)) topic (groups_in entries))
+    (sym step)
+    ∙ c.loop-name.invariant
 
 pub loop-name-preserved : goal.loop-name-preserved
 loop-name-preserved c =
-    let name = c.name-item.result in let topic = c.args.topic.now in let entries = c.loop-name.groups.entries in
-    let groups = groups_in c.args.groups.now.entries in
-    let more = ap (without_topic_at (same_text name) topic) c.loop-name.invariant
-    ∙ forgotten_more c.as_slice-name-items.result.now c.loop-name.name-index name topic groups c.loop-name-test.true
-    (sym c.name-item.is) in
-    elim c.match-get_mut.branch [
-      | in-Some w ↦ ap (λ m. groups_in m.entries) w.groups-is
-          ∙ forgotten_written name topic entries w.in-Some.commits.now w.forget.new.self c.get_mut.ensures.names
-          (sym c.get_mut.ensures.value ∙ ap option_copied_mut w.in-Some.is) w.forget.ensures ∙ more
-      | in_default w ↦ ap (λ m. groups_in m.entries) w.groups-is
-          ∙ sym (forgotten_absent name topic entries
-          (sym c.get_mut.ensures.value ∙ ap option_copied_mut w.in_default.is))
-          ∙ more
-    ]
+    let step = rw c.in-Some.is at c.next.ensures.steps in let name = c.in-Some.name.now in let topic = c.args.topic.now in
+    let entries = c.loop-name.groups.entries in let rest = c.next.new.self in
+    ap (without_topic_at (λ other. is_some (lookup (same_text other) rest)) topic)
+    (sym (forgotten_absent name topic entries (sym c.get_mut.ensures.value ∙ ap option_copied_mut c.in_default.is)))
+    ∙ forgotten_first name topic c.in-Some.field-0-1.now rest (groups_in entries)
+    ∙ ap (λ names. without_topic_at (λ other. is_some (lookup (same_text other) names)) topic (groups_in entries))
+    (sym step)
+    ∙ c.loop-name.invariant
+
+pub returns : goal.returns
+returns c =
+    let ended = rw c.in-None.is at c.next.ensures.steps in
+    sym (forgotten_none c.args.topic.now (groups_in c.loop-name.groups.entries))
+    ∙ ap (λ rest. without_topic_at (λ other. is_some (lookup (same_text other) rest)) c.args.topic.now
+    (groups_in c.loop-name.groups.entries)) (sym ended.0)
+    ∙ c.loop-name.invariant

@@ -1,7 +1,13 @@
-use Rattle.std.proofs.Common.{not}
+use Rattle.std.proofs.Common.{◌≡◌, ◌&&◌, ℕ, List, is_some, not}
+use Rattle.std.specs.Map.{lookup}
 use Rattle.kob_names.specs.Same.{same_text}
-use Rattle.kob_groups.specs.Listed.{KeepsListed}
+use Rattle.kob_groups.specs.Listed.{is_listed}
 use Rattle.kob_groups.proofs.groups.leave_lists.Given as goal
 
+-- the lists that are left to leave are left with those that were
 abbrev pub invariant-loop-topic : goal.invariant-loop-topic
-invariant-loop-topic l = KeepsListed (λ _ other. not (same_text l.group other)) l.initial.lists l.lists
+invariant-loop-topic l =
+    (t g : List ℕ)
+    → (is_listed t g l.lists && not (same_text l.group g && is_some (lookup (same_text t) l.topic-iterator)))
+    ≡ (is_listed t g l.initial.lists
+    && not (same_text l.group g && is_some (lookup (same_text t) l.commits.by_topic.entries)))

@@ -39,8 +39,7 @@ invariant_of-self c =
     (ap (seen offsets_in) c.requires.no_commits) in record {
       listed = subst (λ gs. AreListed gs c.put.new.self) (sym committed)
           (listed_committed (groups_of c.args.self.now) c.args.self.now.lists c.put.new.self made.place made.offset
-          c.args.self.now.listed c.put.ensures.kept
-          (c.put.ensures.listed made.place.topic made.place.group c.requires.listing));
+          c.args.self.now.listed (c.put.ensures made.place.group c.requires.listing));
     }
 
 pub invariant_of-self-in-None-get_mut : goal.invariant_of-self-in-None-get_mut
@@ -59,8 +58,7 @@ invariant_of-self-in-None-get_mut c =
     (ap (seen offsets_in) c.requires.no_commits) in record {
       listed = subst (λ gs. AreListed gs c.put.new.self) (sym committed)
           (listed_committed (groups_of c.args.self.now) c.args.self.now.lists c.put.new.self made.place made.offset
-          c.args.self.now.listed c.put.ensures.kept
-          (c.put.ensures.listed made.place.topic made.place.group c.requires.listing));
+          c.args.self.now.listed (c.put.ensures made.place.group c.requires.listing));
     }
 
 pub returns-in-Some : goal.returns-in-Some

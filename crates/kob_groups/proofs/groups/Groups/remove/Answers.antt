@@ -1,13 +1,13 @@
-use Rattle.std.proofs.Common.{◌≡◌, ap, is_some, sym, subst, ◌∙◌}
+use Rattle.std.proofs.Common.{◌≡◌, ◌&&◌, [], ap, is_some, not, sym, subst, ◌∙◌}
 use Rattle.std.specs.Map.{lookup}
 use Rattle.kob_names.specs.Same.{same_text}
-use Rattle.kob_ordered.proofs.Changes.{removed_absent}
+use Rattle.kob_ordered.proofs.Entries.{removed_absent}
 use Rattle.kob_groups.specs.Groups.{without_group}
 use Rattle.kob_groups.specs.Kept.{groups_of}
-use Rattle.kob_groups.specs.Listed.{AreListed}
+use Rattle.kob_groups.specs.Listed.{AreListed, has_commits, is_listed}
 use Rattle.kob_groups.specs.Views.{commits_in, groups_in}
 use Rattle.kob_groups.proofs.Listings.{listed_removed}
-use Rattle.kob_groups.proofs.Maps.{seen_has, seen_removed}
+use Rattle.kob_groups.proofs.Maps.{seen_has, seen_removed, seen_some}
 use Rattle.kob_groups.proofs.groups.Groups.remove.Goals as goal
 
 pub invariant_of-self : goal.invariant_of-self
@@ -34,10 +34,13 @@ invariant_of-self-2 c =
     let name = c.args.name.now in let entries = c.args.self.now.by_name.entries in
     let left : groups_in c.remove.new.self.entries ≡ without_group name (groups_of c.args.self.now) =
     ap groups_in c.remove.ensures.entries ∙ seen_removed commits_in (same_text name) entries
-    (ap (lookup (same_text name)) (sym c.remove.ensures.entries) ∙ c.remove.ensures.gone) in record {
+    (ap (lookup (same_text name)) (sym c.remove.ensures.entries) ∙ c.remove.ensures.gone) in
+    let found = sym c.remove.ensures.value ∙ c.in-Some.is in
+    let gone = seen_some commits_in (same_text name) entries c.in-Some.commits [] found in record {
       listed = subst (λ gs. AreListed gs c.leave_lists.new.lists) (sym left)
           (listed_removed (groups_of c.args.self.now) c.args.self.now.lists c.leave_lists.new.lists name
-          c.args.self.now.listed c.leave_lists.ensures);
+          c.args.self.now.listed (λ t g. c.leave_lists.ensures t g
+          ∙ ap (λ cs. is_listed t g c.args.self.now.lists && not (same_text name g && has_commits t cs)) (sym gone)));
     }
 
 pub returns-clause-found : goal.returns-clause-found
