@@ -24,6 +24,7 @@ IsNumbered access = IsRising 1 access.entries access.next
 blames : (access : Contents) (event : Event) (check : Check) → IsNumbered access
     → is_granted (verdict access event check) ≡ false → IsBlame access event check (verdict access event check)
 blames access event check numbered ungranted = record {
+  decided = refl;
   not_granted = ungranted;
   says = true_verdict access (question event check) numbered;
 }

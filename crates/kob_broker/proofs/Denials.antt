@@ -1,16 +1,19 @@
 -- A denial is the same wherever the bindings in force and the super users are.
-use Rattle.std.proofs.Common.{◌≡◌, List, Option, Some, None, ap, sym, ◌∙◌}
+use Rattle.std.proofs.Common.{◌≡◌, ℕ, ◌+◌, Bool, List, [], ◌∷◌, Option, Some, None, if◌then◌else◌, option_map, refl, ap, sym, ◌∙◌}
 use Rattle.kob_authorizer.specs.Contents.{Contents}
+use Rattle.kob_names.specs.Binding.{Binding}
 use Rattle.kob_names.specs.declared.verdict.Verdict.{Verdict}
 use Rattle.kob_partition.specs.Meaning.{Meaning}
+use Rattle.kob_rights.specs.Check.{Check}
+use Rattle.kob_rights.specs.Table.{rights}
 use Rattle.kob_rights.specs.declared.code.Code.{Code}
 use Rattle.kob_rights.specs.declared.event.Event.{Event}
 use Rattle.kob_rights.specs.declared.reason.Reason.{Reason}
 use Rattle.kob_rights.specs.declared.reply.Reply.{Reply}
 use Rattle.kob_rights.specs.declared.reply.Reply.TheVariants.{Denied}
-use Rattle.kob_broker.specs.Denial.{denial_of}
+use Rattle.kob_broker.specs.Denial.{denial_naming, denial_of, first_unmet, is_met}
 use Rattle.kob_broker.specs.Effect.{effect_by, named, refusal}
-use Rattle.kob_broker.specs.Justice.{SameDenial}
+use Rattle.kob_broker.specs.Justice.{AgreeOnAccess, SameDenial}
 use Rattle.kob_broker.specs.State.{State}
 use Rattle.kob_broker.specs.Step.{step, step_by}
 
@@ -21,6 +24,30 @@ module _ {P : Type 0} (m : Meaning P) where
   never_denied (Some why) s event code verdicts is = cc
   never_denied None s event code verdicts is = cc
 
+-- no decision reads the serial that comes next
+unmet_alike : (access : Contents) (next : ℕ) (event : Event) (n : ℕ) (clauses : List (List Check))
+    → first_unmet (record access { next = next }) event n clauses ≡ first_unmet access event n clauses
+unmet_alike access next event n [] = refl
+unmet_alike access next event n (clause ∷ clauses) =
+    ap (λ (rest : Option (ℕ × List Check)). if is_met access event clause then rest else Some (n, clause))
+    (unmet_alike access next event (n + 1) clauses)
+
+with_next : (one other : Contents) → AgreeOnAccess one other → record one { next = other.next } ≡ other
+with_next one other k =
+    ap (λ (entries : List (ℕ × Binding)). record one { entries = entries; next = other.next }) k.entries
+    ∙ ap (λ (supers : List (List ℕ)). record one { entries = other.entries; supers = supers; next = other.next })
+    k.supers
+    ∙ ap (λ (everyone : Bool). record other { everyone = everyone }) k.everyone
+
+denial_alike : (one other : Contents) (event : Event) → AgreeOnAccess one other
+    → denial_of one event ≡ denial_of other event
+denial_alike one other event k =
+    ap (option_map (denial_naming one event)) (sym (unmet_alike one other.next event 0 (rights event.request)))
+    ∙ ap (λ (access : Contents). denial_of access event) (with_next one other k)
+
+agree_back : (one other : Contents) → AgreeOnAccess one other → AgreeOnAccess other one
+agree_back one other k = record { entries = sym k.entries; supers = sym k.supers; everyone = sym k.everyone }
+
 module _ {P Q : Type 0} (m : Meaning P) (n : Meaning Q) where
   by_alike : (denial : Option Reply) (s : State P) (t : State Q) (event : Event) (code : Code) (verdicts : List Verdict)
       → (step_by m denial s event).reply ≡ Denied code verdicts
@@ -29,17 +56,18 @@ module _ {P Q : Type 0} (m : Meaning P) (n : Meaning Q) where
   by_alike None s t event code verdicts is =
       absurd (never_denied m (refusal m s event.request) s event code verdicts is)
 
-  denied_alike : (s : State P) (t : State Q) (event : Event) → s.access ≡ t.access
+  denied_alike : (s : State P) (t : State Q) (event : Event) → AgreeOnAccess s.access t.access
       → (code : Code) (verdicts : List Verdict)
       → (step m s event).reply ≡ Denied code verdicts → (step n t event).reply ≡ Denied code verdicts
   denied_alike s t event same code verdicts is =
-      ap (λ (access : Contents). (step_by n (denial_of access event) t event).reply) (sym same)
+      ap (λ (denial : Option Reply). (step_by n denial t event).reply)
+      (sym (denial_alike s.access t.access event same))
       ∙ by_alike (denial_of s.access event) s t event code verdicts is
 
 module _ {P Q : Type 0} (m : Meaning P) (n : Meaning Q) where
-  pub same_denial : (s : State P) (t : State Q) (event : Event) → s.access ≡ t.access
+  pub same_denial : (s : State P) (t : State Q) (event : Event) → AgreeOnAccess s.access t.access
       → SameDenial (step m s event).reply (step n t event).reply
   same_denial s t event same = record {
     from = denied_alike m n s t event same;
-    to = denied_alike n m t s event (sym same);
+    to = denied_alike n m t s event (agree_back s.access t.access same);
   }

@@ -1,5 +1,5 @@
 -- Why each reply is just.
-use Rattle.std.proofs.Common.{◌≡◌, ℕ, List, [], ◌∷◌, Some, None, refl, ap, subst, arith, zero, suc}
+use Rattle.std.proofs.Common.{◌≡◌, ℕ, List, [], ◌∷◌, Some, None, refl, ap, ◌∙◌, subst, arith, zero, suc, take}
 use Rattle.std.specs.Prelude.{Option, map}
 use Rattle.std.specs.Option.{option_map}
 use Rattle.kob_authorizer.specs.Contents.{Contents}
@@ -16,11 +16,11 @@ use Rattle.kob_rights.specs.declared.reply.Reply.TheVariants.{Denied, Refused, D
 use Rattle.kob_rights.specs.declared.request.Request.{Request}
 use Rattle.kob_broker.specs.Denial.{verdict, first_unmet, denial_naming}
 use Rattle.kob_broker.specs.Effect.{after_write, effect_by, named, refusal}
-use Rattle.kob_broker.specs.InForce.{access_after, changed_access}
+use Rattle.kob_broker.specs.InForce.{HoldsInForce, access_after, changed_access, in_force}
 use Rattle.kob_broker.specs.Justice.{EachGranted, EachJust, IsDenial, IsJust}
 use Rattle.kob_partition.specs.Meaning.{Meaning}
 use Rattle.kob_broker.specs.State.{State}
-use Rattle.kob_broker.specs.Step.{step, step_by}
+use Rattle.kob_broker.specs.Step.{replies_of, step, step_by}
 use Rattle.kob_broker.proofs.Clauses.{Found, IsNumbered, each_blamed, unmet_found, unmet_none}
 
 found_denial : (access : Contents) (event : Event) (found : ℕ) (clause : List Check) → IsNumbered access
@@ -111,3 +111,13 @@ module _ {P : Type 0} (m : Meaning P) where
       just_at s.access e event (step m s e).reply reply this that (step_just s e numbered)
   run_just (e ∷ events) s numbered (suc k) event reply at told =
       rw (← step_access s e) (run_just events (step m s e).state (step_numbered s e numbered) k event reply at told)
+
+  -- the bindings after the first events of a run are those that are in force
+  pub run_access : (events : List Event) (s : State P) → HoldsInForce m events s
+  run_access [] s zero = refl
+  run_access [] s (suc k) = refl
+  run_access (e ∷ events) s zero = refl
+  run_access (e ∷ events) s (suc k) =
+      let next : State P = (step m s e).state in
+      run_access events next k
+      ∙ ap (in_force (take k events) (take k (replies_of m events next))) (step_access s e)

@@ -1,5 +1,6 @@
 -- A run that goes on by one event.
-use Rattle.std.proofs.Common.{◌≡◌, ℕ, ◌+◌, ◌<◌, List, [], ◌∷◌, ◌++◌, length, get_or, take, refl, ap, ◌∙◌, sym}
+use Rattle.std.proofs.Common.{◌≡◌, ℕ, ◌+◌, ◌<◌, List, [], ◌∷◌, ◌++◌, length, get_or, take, Some, zero, suc, refl, ap, ◌∙◌, sym}
+use Rattle.std.specs.Prelude.{slice_get}
 use Rattle.std.proofs.lemmas.List.{take_more}
 use Rattle.kob_rights.specs.declared.event.Event.{Event}
 use Rattle.kob_partition.specs.Meaning.{Meaning}
@@ -49,3 +50,14 @@ module _ {P : Type 0} (m : Meaning P) where
         ∙ sym (replies_one_more events i event s lt is),
     left ∙ ap (λ (t : State P). (step m t event).state) stood ∙ sym (state_one_more events i event s lt is),
   )
+
+  -- each reply of a run is that of one step from where the run stands then
+  pub reply_at : (events : List Event) (s : State P) (k : ℕ) (event : Event) (reply : Reply)
+      → slice_get events k ≡ Some event → slice_get (replies_of m events s) k ≡ Some reply
+      → (step m (state_after m (take k events) s) event).reply ≡ reply
+  reply_at [] s k event reply at told = cc
+  reply_at (e ∷ events) s zero event reply at told =
+      let this : e ≡ event = cc in
+      let that : (step m s e).reply ≡ reply = cc in ap (λ (x : Event). (step m s x).reply) (sym this) ∙ that
+  reply_at (e ∷ events) s (suc k) event reply at told =
+      reply_at events (step m s e).state k event reply at told

@@ -1,14 +1,20 @@
 -- What a filter leaves stands in the list and passes the test, in the list's order.
-use Rattle.std.proofs.Common.{◌≡◌, ◌↔◌, ℕ, Bool, true, false, cond, filter, List, [], ◌∷◌, map, refl, sym, ap, subst, ◌∙◌, inl, inr}
+use Rattle.std.proofs.Common.{◌≡◌, ◌↔◌, ℕ, Bool, true, false, cond, filter, List, [], ◌∷◌, map, take, refl, sym, ap, subst, ◌∙◌, inl, inr}
 use Rattle.std.specs.Prelude.{IsTrue, ◌⊎◌}
 use Rattle.kob_groups.specs.Groups.{group_names}
 use Rattle.kob_catalog.specs.Topics.{Topic, listed, listed_where}
 use Rattle.kob_partition.specs.Meaning.{Meaning}
+use Rattle.kob_authorizer.specs.Contents.{Contents}
 use Rattle.kob_rights.specs.declared.event.Event.{Event}
+use Rattle.kob_rights.specs.declared.reply.Reply.{Reply}
+use Rattle.kob_broker.specs.InForce.{in_force_at}
 use Rattle.kob_broker.specs.ListGroups.{describes_cluster, describes_group, groups_shown}
-use Rattle.kob_broker.specs.Listings.{AreThose, Lists, ListsGroups, ListsTopics, StandsIn}
+use Rattle.kob_broker.specs.Listings.{AreThose, EachLists, Lists, ListsGroups, ListsTopics, StandsIn}
 use Rattle.kob_broker.specs.Metadata.{describes_topic}
 use Rattle.kob_broker.specs.State.{State}
+use Rattle.kob_broker.specs.Step.{state_after, step}
+use Rattle.kob_broker.proofs.Just.{run_access}
+use Rattle.kob_broker.proofs.Runs.{reply_at}
 
 module _ {A : Type 0} (shown : A → Type 0) where
   -- one more that is not shown
@@ -101,16 +107,29 @@ groups_listed false granted names =
     names
 
 module _ {P : Type 0} (m : Meaning P) where
-  pub lists_topics : (s : State P) (event : Event) → ListsTopics m s event
+  lists_topics : (s : State P) (event : Event) → ListsTopics s.access s event (step m s event).reply
   lists_topics s event asks = (
     listed_where (describes_topic s.access event) s.topics,
     rw asks refl,
     topics_listed (describes_topic s.access event) s.topics,
   )
 
-  pub lists_groups : (s : State P) (event : Event) → ListsGroups m s event
+  lists_groups : (s : State P) (event : Event) → ListsGroups s.access s event (step m s event).reply
   lists_groups s event asks = (
     groups_shown s.access event (group_names s.groups),
     rw asks refl,
     groups_listed (describes_cluster s.access event) (describes_group s.access event) (group_names s.groups),
   )
+
+  pub each_lists : (events : List Event) (s : State P) → EachLists m events s
+  each_lists events s k event reply at told =
+      let now : State P = state_after m (take k events) s in
+      let in_force = run_access m events s k in
+      let same = reply_at m events s k event reply at told in (
+        subst (λ (r : Reply). ListsTopics (in_force_at m events s k) now event r) same
+            (subst (λ (a : Contents). ListsTopics a now event (step m now event).reply) in_force
+            (lists_topics now event)),
+        subst (λ (r : Reply). ListsGroups (in_force_at m events s k) now event r) same
+            (subst (λ (a : Contents). ListsGroups a now event (step m now event).reply) in_force
+            (lists_groups now event)),
+      )

@@ -1,5 +1,5 @@
 -- The bindings in force at an event's place, read off the events before it and their replies.
-use Rattle.std.specs.Prelude.{List, [], ◌∷◌, Option, Some}
+use Rattle.std.specs.Prelude.{◌≡◌, ℕ, List, [], ◌∷◌, Option, Some, take}
 use Rattle.kob_authorizer.specs.Contents.{Contents}
 use Rattle.kob_authorizer.specs.Deletion.{without_taken}
 use Rattle.kob_rights.specs.declared.event.Event.{Event}
@@ -7,7 +7,9 @@ use Rattle.kob_rights.specs.declared.reply.Reply.{Reply}
 use Rattle.kob_rights.specs.declared.reply.Reply.TheVariants.{Denied, Refused, Done}
 use Rattle.kob_rights.specs.declared.request.Request.{Request}
 use Rattle.kob_rights.specs.Writes.{Write, AddBindings, RemoveBindings, write_of}
-use Rattle.kob_broker.specs.State.{with_bindings}
+use Rattle.kob_partition.specs.Meaning.{Meaning}
+use Rattle.kob_broker.specs.State.{State, with_bindings}
+use Rattle.kob_broker.specs.Step.{replies_of, state_after}
 
 -- what is written does this to the bindings; no other kind touches them
 abbrev pub changed_access : Option Write → Contents → Contents
@@ -27,3 +29,13 @@ in_force [] replies access = access
 in_force (event ∷ events) [] access = access
 in_force (event ∷ events) (reply ∷ replies) access =
     in_force events replies (access_after reply event.request access)
+
+module _ {P : Type 0} (m : Meaning P) where
+  -- the bindings in force after the first k events of a run
+  abbrev pub in_force_at : List Event → State P → ℕ → Contents
+  in_force_at events s k = in_force (take k events) (take k (replies_of m events s)) s.access
+
+  -- at each place of a run the broker holds the bindings that are in force there
+  abbrev pub HoldsInForce : List Event → State P → Type 0
+  HoldsInForce events s = (k : ℕ)
+      → (state_after m (take k events) s).access ≡ in_force_at events s k

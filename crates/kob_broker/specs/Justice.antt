@@ -13,7 +13,7 @@ use Rattle.kob_rights.specs.declared.reply.Reply.{Reply}
 use Rattle.kob_rights.specs.declared.reply.Reply.TheVariants.{Denied, Refused, Done}
 use Rattle.kob_names.specs.Granted.{is_granted}
 use Rattle.kob_broker.specs.Denial.{question, verdict}
-use Rattle.kob_broker.specs.InForce.{in_force}
+use Rattle.kob_broker.specs.InForce.{in_force_at}
 use Rattle.kob_partition.specs.Meaning.{Meaning}
 use Rattle.kob_broker.specs.State.{State}
 use Rattle.kob_broker.specs.Step.{replies_of, step}
@@ -31,10 +31,11 @@ SomeGranted access event (check ∷ checks) = Grants access event check
 abbrev pub EachGranted : Contents → Event → List (List Check) → Type 0
 EachGranted access event clauses = AllByRecursion (SomeGranted access event) clauses
 
--- the verdict does not grant, and says what is so: it names the earliest of all denies that hit, or
--- says that neither a deny nor an allow hits
+-- the verdict is the decision by these bindings; it does not grant, and says what is so: it names
+-- the earliest of all denies that hit, or says that neither a deny nor an allow hits
 pub record IsBlame (access : Contents) (event : Event) (check : Check)
     (blamed : Verdict) : Type 0 where
+  pub decided : blamed ≡ verdict access event check
   pub not_granted : is_granted blamed ≡ false
   pub says : IsTrueVerdict access (question event check) blamed
 
@@ -67,7 +68,7 @@ module _ {P : Type 0} (m : Meaning P) where
   abbrev pub EachJust : List Event → State P → Type 0
   EachJust events s = (k : ℕ) (event : Event) (reply : Reply)
       → slice_get events k ≡ Some event → slice_get (replies_of m events s) k ≡ Some reply
-      → IsJust (in_force (take k events) (take k (replies_of m events s)) s.access) event reply
+      → IsJust (in_force_at m events s k) event reply
 
   -- where the request is not done, the state stays as it was
   pub record LeavesUnlessDone (s : State P) (event : Event) : Type 0 where
@@ -75,6 +76,13 @@ module _ {P : Type 0} (m : Meaning P) where
         → (step m s event).reply ≡ Denied code verdicts → (step m s event).state ≡ s
     pub refused : (code : Code) (reason : Reason)
         → (step m s event).reply ≡ Refused code reason → (step m s event).state ≡ s
+
+-- equal bindings in force under equal serials, equal super users and an equal switch; the serials
+-- that come next may differ
+pub record AgreeOnAccess (one other : Contents) : Type 0 where
+  pub entries : one.entries ≡ other.entries
+  pub supers : one.supers ≡ other.supers
+  pub everyone : one.everyone ≡ other.everyone
 
 -- one is a denial exactly where the other is the same denial
 pub record SameDenial (one other : Reply) : Type 0 where

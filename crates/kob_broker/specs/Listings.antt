@@ -1,16 +1,19 @@
 -- What the listings of topics and groups hold.
-use Rattle.std.specs.Prelude.{◌≡◌, ◌↔◌, ℕ, List, [], ◌∷◌, None, map, IsTrue, ◌⊎◌}
+use Rattle.std.specs.Prelude.{◌≡◌, ◌↔◌, ℕ, List, [], ◌∷◌, None, Some, map, slice_get, take, IsTrue, ◌⊎◌}
+use Rattle.kob_authorizer.specs.Contents.{Contents}
 use Rattle.kob_catalog.specs.Topics.{listed}
 use Rattle.kob_groups.specs.Groups.{group_names}
 use Rattle.kob_rights.specs.declared.event.Event.{Event}
 use Rattle.kob_rights.specs.declared.reply.Body.TheVariants.{Topics, Groups}
+use Rattle.kob_rights.specs.declared.reply.Reply.{Reply}
 use Rattle.kob_rights.specs.declared.reply.Reply.TheVariants.{Done}
 use Rattle.kob_rights.specs.declared.request.Request.TheVariants.{ListGroups}
 use Rattle.kob_partition.specs.Meaning.{Meaning}
+use Rattle.kob_broker.specs.InForce.{in_force_at}
 use Rattle.kob_broker.specs.ListGroups.{describes_cluster, describes_group}
 use Rattle.kob_broker.specs.Metadata.{describes_topic, metadata_request}
 use Rattle.kob_broker.specs.State.{State}
-use Rattle.kob_broker.specs.Step.{step}
+use Rattle.kob_broker.specs.Step.{replies_of, state_after}
 
 -- x stands in the list
 abbrev pub StandsIn : {A : Type 0} → A → List A → Type 0
@@ -32,26 +35,34 @@ pub record Lists {A : Type 0} (shown : A → Type 0) (listed all : List A) : Typ
   pub holds : (x : A) → StandsIn x listed ↔ (shown x × StandsIn x all)
   pub in_order : AreThose shown listed all
 
+-- the bindings let the principal describe the topic
+abbrev pub IsShownTopic : Contents → Event → List ℕ × ℕ → Type 0
+IsShownTopic access event topic = IsTrue (describes_topic access event topic.0)
+
+-- the bindings let the principal describe the group, or the cluster
+abbrev pub IsShownGroup : Contents → Event → List ℕ → Type 0
+IsShownGroup access event name =
+    IsTrue (describes_cluster access event) ⊎ IsTrue (describes_group access event name)
+
 module _ {P : Type 0} where
-  -- the bindings in force let the principal describe the topic
-  abbrev pub IsShownTopic : State P → Event → List ℕ × ℕ → Type 0
-  IsShownTopic s event topic = IsTrue (describes_topic s.access event topic.0)
-
-  -- the bindings in force let the principal describe the group, or the cluster
-  abbrev pub IsShownGroup : State P → Event → List ℕ → Type 0
-  IsShownGroup s event name =
-      IsTrue (describes_cluster s.access event) ⊎ IsTrue (describes_group s.access event name)
-
-module _ {P : Type 0} (m : Meaning P) where
   -- who asks for all topics is answered with those that are shown, each with its number of
   -- partitions, in order of creation
-  abbrev pub ListsTopics : State P → Event → Type 0
-  ListsTopics s event = event.request ≡ metadata_request None
-      → (topics : List (List ℕ × ℕ)) × ((step m s event).reply ≡ Done (Topics topics))
-      × Lists (IsShownTopic s event) topics (map listed s.topics)
+  abbrev pub ListsTopics : Contents → State P → Event → Reply → Type 0
+  ListsTopics access s event reply = event.request ≡ metadata_request None
+      → (topics : List (List ℕ × ℕ)) × (reply ≡ Done (Topics topics))
+      × Lists (IsShownTopic access event) topics (map listed s.topics)
 
   -- who asks for the groups is answered with those that are shown, in order of the first commit
-  abbrev pub ListsGroups : State P → Event → Type 0
-  ListsGroups s event = event.request ≡ ListGroups
-      → (groups : List (List ℕ)) × ((step m s event).reply ≡ Done (Groups groups))
-      × Lists (IsShownGroup s event) groups (group_names s.groups)
+  abbrev pub ListsGroups : Contents → State P → Event → Reply → Type 0
+  ListsGroups access s event reply = event.request ≡ ListGroups
+      → (groups : List (List ℕ)) × (reply ≡ Done (Groups groups))
+      × Lists (IsShownGroup access event) groups (group_names s.groups)
+
+module _ {P : Type 0} (m : Meaning P) where
+  -- each listing of a run shows what the bindings in force at its place let the principal describe,
+  -- of the topics and groups that there are at its place
+  abbrev pub EachLists : List Event → State P → Type 0
+  EachLists events s = (k : ℕ) (event : Event) (reply : Reply)
+      → slice_get events k ≡ Some event → slice_get (replies_of m events s) k ≡ Some reply
+      → ListsTopics (in_force_at m events s k) (state_after m (take k events) s) event reply
+      × ListsGroups (in_force_at m events s k) (state_after m (take k events) s) event reply

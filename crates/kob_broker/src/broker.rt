@@ -47,9 +47,7 @@ impl Broker {
             opening,
             everyone,
         } = settings;
-        let Ok(mut authorizer) = Authorizer::open(alloc, supers.into_vec(), everyone) else {
-            return Err(OpenFault::Memory);
-        };
+        let mut authorizer = Authorizer::open(alloc, supers.into_vec(), everyone);
         match authorizer.create(alloc, opening.as_slice()) {
             Ok(_) => Ok(Broker {
                 catalog: Catalog::new(alloc),

@@ -15,8 +15,9 @@ ghost use Rattle.kob_partition.specs.Batches.{Plain};
 ghost use Rattle.kob_partition.specs.Limits.{offset_limit};
 ghost use Rattle.kob_partition.specs.Retained.{Retained, plain_meaning, retained_meaning};
 ghost use Rattle.kob_broker.specs.Denial.{question, verdict};
-ghost use Rattle.kob_broker.specs.Justice.{EachJust, LeavesUnlessDone, SameDenial};
-ghost use Rattle.kob_broker.specs.Listings.{ListsGroups, ListsTopics};
+ghost use Rattle.kob_broker.specs.InForce.{HoldsInForce};
+ghost use Rattle.kob_broker.specs.Justice.{AgreeOnAccess, EachJust, LeavesUnlessDone, SameDenial};
+ghost use Rattle.kob_broker.specs.Listings.{EachLists};
 ghost use Rattle.kob_broker.specs.Plainly.{OpensAlike, RunsAlike, StepsAlike};
 ghost use Rattle.kob_broker.specs.Spending.{SaysNothingSpent, asked_in};
 ghost use Rattle.kob_broker.specs.State.{State, open_state};
@@ -43,15 +44,28 @@ pub fn only_done_requests_change_the_state()
     // The contract is the law.
 }
 
+/// The bindings in force at any place of a run are read off the events before it and their replies:
+/// after the first events of a run, the broker holds what `in_force` makes of them.
+pub fn replies_tell_the_bindings_in_force()
+    ensures plain { (s : State Plain) (events : List Event)
+        → HoldsInForce plain_meaning events s }
+    ensures retained { (s : State Retained) (events : List Event)
+        → HoldsInForce retained_meaning events s }
+{
+    // The contract is the law.
+}
+
 /// Whether an event is denied, and how, depends on the event, the settings and the bindings in
-/// force alone: two brokers that agree there give equal denials, whatever topics and groups they
-/// hold, and however their partitions are kept.
+/// force alone: two brokers that agree there give equal denials, whatever serial comes next, what
+/// topics and groups they hold, and however their partitions are kept.
 pub fn denials_depend_on_bindings_alone()
-    ensures plain { (s t : State Plain) (event : Event) → s.access ≡ t.access
+    ensures plain { (s t : State Plain) (event : Event) → AgreeOnAccess s.access t.access
         → SameDenial (step plain_meaning s event).reply (step plain_meaning t event).reply }
-    ensures retained { (s t : State Retained) (event : Event) → s.access ≡ t.access
+    ensures retained { (s t : State Retained) (event : Event)
+        → AgreeOnAccess s.access t.access
         → SameDenial (step retained_meaning s event).reply (step retained_meaning t event).reply }
-    ensures either { (s : State Plain) (t : State Retained) (event : Event) → s.access ≡ t.access
+    ensures either { (s : State Plain) (t : State Retained) (event : Event)
+        → AgreeOnAccess s.access t.access
         → SameDenial (step plain_meaning s event).reply (step retained_meaning t event).reply }
 {
     // The contract is the law.
@@ -83,16 +97,14 @@ pub fn what_is_kept_is_enough()
     // The contract is the law.
 }
 
-/// Who asks for all topics is answered with exactly those that the bindings in force let the
-/// principal describe, in order of creation; and who asks for the groups with those that they let
-/// it describe, or with all for one who may describe the cluster, in order of their first commit.
+/// At each place of a run, who asks for all topics is answered with exactly those that the bindings
+/// in force there let the principal describe, in order of creation; and who asks for the groups
+/// with those that they let it describe, or with all for one who may describe the cluster, in order
+/// of their first commit.
 pub fn listings_hold_what_is_described()
-    ensures topics { (s : State Plain) (event : Event) → ListsTopics plain_meaning s event }
-    ensures groups { (s : State Plain) (event : Event) → ListsGroups plain_meaning s event }
-    ensures retained_topics { (s : State Retained) (event : Event)
-        → ListsTopics retained_meaning s event }
-    ensures retained_groups { (s : State Retained) (event : Event)
-        → ListsGroups retained_meaning s event }
+    ensures plain { (s : State Plain) (events : List Event) → EachLists plain_meaning events s }
+    ensures retained { (s : State Retained) (events : List Event)
+        → EachLists retained_meaning events s }
 {
     // The contract is the law.
 }

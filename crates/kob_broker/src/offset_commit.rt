@@ -8,7 +8,7 @@ ghost use Rattle.kob_rights.specs.declared.request.Request.TheVariants as reques
 use crate::broker::Broker;
 use crate::prepared::{Change, Prepared};
 use kob_catalog::PartitionFault;
-use kob_groups::{CommitFault, CommitPlace};
+use kob_groups::CommitFault;
 use kob_names::{NAME_LIMIT, Text};
 use kob_partition::OFFSET_LIMIT;
 use kob_rights::{Body, OffsetCommit, Reason};
@@ -41,8 +41,13 @@ impl Broker {
         if commit.offset > OFFSET_LIMIT {
             return Ok(Prepared::refused(Reason::BadOffset));
         }
-        let place = CommitPlace::copied(alloc, &commit.group, &commit.topic, commit.partition)?;
-        match self.groups.prepare_commit(alloc, place, commit.offset) {
+        match self.groups.prepare_commit(
+            alloc,
+            &commit.group,
+            &commit.topic,
+            commit.partition,
+            commit.offset,
+        ) {
             Ok(made) => Ok(Prepared::done(Body::Committed, Change::Commit(made))),
             Err(CommitFault::TooMany) => Ok(Prepared::refused(Reason::TooManyGroups)),
             Err(CommitFault::Memory) => Err(AllocError),
