@@ -1,3 +1,4 @@
+pub mod Emptying
 pub mod Events
 pub mod Holding
 pub mod Lawful
@@ -5,6 +6,7 @@ pub mod Marks
 pub mod Memory
 pub mod Reading
 pub mod Recording
+pub mod Renewing
 pub mod Replacing
 pub mod Shown
 pub mod Spending

@@ -50,7 +50,7 @@ module _ (old new : State) (has : old.now.schema ≡ service_schema) (never : Ne
   after_fails seq limit =
       let params = Int (pos seq) ∷ Int (pos limit) ∷ [] in
       for_memory old new never after_text params service_schema has after_plain after_whole events_after _ after_is.0
-      after_is.1 (after_accepted seq limit) (no_sum events_after 2 (refl, refl) params)
+      after_is.1 (after_accepted seq limit) (no_sum events_after 5 (refl, refl) params)
 
   pub business_fails : (kind id : List ℕ) (e : Error)
       → FailsToQuery find_business_text (Text kind ∷ Text id ∷ []) old new e → IsMemory e
@@ -63,9 +63,9 @@ module _ (old new : State) (has : old.now.schema ≡ service_schema) (never : Ne
   pub last_fails : (e : Error) → FailsToQuery last_text [] old new e → IsMemory e
   last_fails =
       for_memory old new never last_text [] service_schema has last_plain last_whole last_spent _ last_is.0 last_is.1
-      last_accepted (no_sum last_spent 4 (refl, refl) [])
+      last_accepted (no_sum last_spent 2 (refl, refl) [])
 
   pub mark_fails : (e : Error) → FailsToQuery read_mark_text [] old new e → IsMemory e
   mark_fails =
       for_memory old new never read_mark_text [] service_schema has read_mark_plain mark_whole all_marks _
-      read_mark_is.0 read_mark_is.1 mark_accepted (no_sum all_marks 6 (refl, refl) [])
+      read_mark_is.0 read_mark_is.1 mark_accepted (no_sum all_marks 4 (refl, refl) [])

@@ -22,7 +22,6 @@ use Rattle.kob_outbox.specs.Recording.{is_recorded}
 use Rattle.kob_outbox.specs.Tables.{service_schema, spent_table}
 use Rattle.kob_outbox.proofs.statements.Steps.{IsAlone, Tried, uncounted, task_on, tried, put, candidate, cast_int, cast_null}
 use Rattle.kob_outbox.proofs.statements.Plain.{same_value}
-use Rattle.std.specs.List.{AllByRecursion}
 use Rattle.std.proofs.Common.{Err, ◌^◌}
 use Rattle.sqlite.specs.Command.{Command}
 use Rattle.sqlite.specs.Command.TheVariants.{InsertOr}
@@ -109,11 +108,11 @@ suits seq id BadReference judged = judged
 suits seq id TooDeep judged = judged
 
 abbrev spending : Command
-spending = InsertOr 2 Ignore (Values new_spent 3) []
+spending = InsertOr 1 Ignore (Values new_spent 3) []
 
 pub not_ending : (old : State) (params : Row) → old.now.schema ≡ service_schema → ¬ (EndsScope 0 spend_text params old)
 not_ending old params has =
-    stays_inside spend_text params old service_schema spending has spend_is (not_escaping 2 (Values new_spent 3) old)
+    stays_inside spend_text params old service_schema spending has spend_is (not_escaping 1 (Values new_spent 3) old)
 
 spend_whole : IsWhole 2 spend_text (understood service_schema spend_text)
 unfolding understood everything
@@ -176,8 +175,8 @@ module _ (limit : Option ℕ) (ids : List (List ℕ)) (id : List ℕ) (seq : ℕ
         fresh = λ _. (ap length (done.1 ∙ news), rows);
         again = λ recorded. absurd (let e = sym fresh ∙ recorded in cc);
         business = done.0.tables.0 (λ e. cc);
-        events = done.0.tables.1.0 (λ e. cc);
-        mark = done.0.tables.1.1.1.0 (λ e. cc);
+        events = done.0.tables.1.1.1.0 (λ e. cc);
+        mark = done.0.tables.1.1.0 (λ e. cc);
       }
   cleared one (x ∷ more) conf h =
       let recorded = some_found x more conf in
@@ -206,16 +205,16 @@ module _ (limit : Option ℕ) (ids : List (List ℕ)) (id : List ℕ) (seq : ℕ
   spends old new count unlimited now h =
       let schema : old.now.schema ≡ service_schema = ap (λ (d : Database). d.schema) now in
       let it =
-      wrote spend_text params old new service_schema schema _ spend_is spend_plain 2 spent_table refl
+      wrote spend_text params old new service_schema schema _ spend_is spend_plain 1 spent_table refl
       (λ limit mode params db text p does. does) (λ text count ran. ran) count h in
       let does : InsertsOr task_here Ignore [] (Values new_spent 3) db (Ok it.written) =
       subst (λ l. InsertsOr (task_on l Enforced service_schema spent_table params) Ignore [] (Values new_spent 3) db
       (Ok it.written)) unlimited
       (subst (λ (d : Database). InsertsOr (task_on old.step_limit Enforced service_schema spent_table params) Ignore []
       (Values new_spent 3) d.trees (Ok it.written)) now it.does) in
-      let t = tried limit Enforced service_schema spent_table params alone Ignore new_spent 3
+      let t = tried limit Enforced service_schema spent_table params alone Ignore [] new_spent 3
       (Null ∷ params) db it.written refl does in
-      let u = subst (Tried limit Enforced service_schema spent_table params alone Ignore db it.written)
+      let u = subst (Tried limit Enforced service_schema spent_table params alone Ignore [] db it.written)
       (tried_row db ids id seq holds is) t in
       let spent = decided u.one u.verdict u.judged u.does in
       let after : new.now.trees ≡ u.one.trees = ap (λ (d : Database). d.trees) it.now ∙ u.trees in
@@ -233,16 +232,16 @@ module _ (limit : Option ℕ) (ids : List (List ℕ)) (id : List ℕ) (seq : ℕ
   spends_again old new e never none unlimited now low recorded h =
       let schema : old.now.schema ≡ service_schema = ap (λ (d : Database). d.schema) now in
       elim (for_memory_or old new never spend_text params service_schema schema spend_plain spend_whole spending
-      spend_is refl (not_misplaced 2 (Values new_spent 3) old) e h) [
+      spend_is refl (not_misplaced 1 (Values new_spent 3) old) e h) [
         | inl memory ↦ memory
         | inr stopped ↦ absurd (
-            never_stops limit Enforced service_schema spent_table params refer_to_none alone 2 new_spent 3
+            never_stops limit Enforced service_schema spent_table params refer_to_none alone 1 new_spent 3
             (Null ∷ params) (spent_row seq id) db (mode_of old) refl none (spend_accepted id seq)
             (tried_row db ids id seq holds is) (fits seq low)
             (suits seq id) (λ found. let no = sym recorded ∙ none_found found in cc) stopped.1
-            (subst (λ l. OnTable l (mode_of old) params (record { schema = service_schema; trees = db }) 2
+            (subst (λ l. OnTable l (mode_of old) params (record { schema = service_schema; trees = db }) 1
             (λ task. OnRows task (mode_of old) None spending db) (Err stopped.1)) unlimited
-            (subst (λ (d : Database). OnTable old.step_limit (mode_of old) params d 2
+            (subst (λ (d : Database). OnTable old.step_limit (mode_of old) params d 1
             (λ task. OnRows task (mode_of old) None spending d.trees) (Err stopped.1)) now stopped.2))
             )
       ]

@@ -1,29 +1,26 @@
--- What REPLACE makes of the business rows.
-use Rattle.std.proofs.Common.{◌≡◌, inl, inr, ℕ, suc, ◌<◌, ◌≤◌, ℤ, pos, ◌+ℤ◌, List, [], ◌∷◌, ◌++◌, map, filter, bytes_eq, Bool, true, false, not, ◌||◌, ◌&&◌, None, refl, sym, ap, add-one, subst, ◌∙◌, arith, is_eq}
-use Rattle.std.specs.List.{fold, AllByRecursion}
+-- The business rows where one is written over or put last.
+use Rattle.std.proofs.Common.{◌≡◌, inl, inr, ℕ, suc, ◌<◌, ◌≤◌, pos, ◌+ℤ◌, List, [], ◌∷◌, ◌++◌, map, flat_map, bytes_eq, Bool, true, false, ◌||◌, ◌&&◌, if◌then◌else◌, Some, refl, sym, ap, add-one, subst, ◌∙◌, arith}
+use Rattle.std.specs.List.{fold, list_all, AllByRecursion}
 use Rattle.std.proofs.lemmas.Bool.{cases_Bool}
-use Rattle.sqlite.specs.declared.types.Value.TheVariants.{Int}
 use Rattle.std.specs.Str.{IsUtf8}
-use Rattle.sqlite.specs.Order.{Row}
-use Rattle.sqlite.specs.Tree.{IsAscending, put_row, rowid, has_rowid}
-use Rattle.sqlite_value.specs.Keys.{first_key}
-use Rattle.sqlite_trees.proofs.ListLemmas.{all-append, all-filter, ascending-append, ascending-filter}
-use Rattle.sqlite_rules.specs.Lists.{Has}
-use Rattle.sqlite_rules.specs.Keys.{conflicts, AreConflicts}
-use Rattle.sqlite_rules.specs.Edit.{id_in, without_all}
-use Rattle.sqlite_rules.specs.Calls.{ids_of}
-use Rattle.kob_outbox.specs.Layout.{AreBusiness, Business, IsRisingFrom, has_key, placed_row}
-use Rattle.kob_outbox.specs.Tables.{business_table, service_schema}
 use Rattle.std.specs.FinMap.{from_entries, insert}
+use Rattle.sqlite.specs.declared.types.Value.TheVariants.{Int, Text}
+use Rattle.sqlite.specs.Order.{Row}
+use Rattle.sqlite.specs.Tree.{put_row, rowid, without_rowid}
+use Rattle.sqlite_sql.specs.Term.{Env, holds}
+use Rattle.sqlite_value.specs.Keys.{first_key}
+use Rattle.sqlite_trees.proofs.ListLemmas.{all-append, ascending-append}
+use Rattle.sqlite_keyed.proofs.ListLemmas.{ascending-map, ascending_weaker}
+use Rattle.sqlite_rules.specs.Lists.{Has}
+use Rattle.sqlite_rules.specs.Keys.{conflicts}
+use Rattle.sqlite_rules.specs.Edit.{id_in}
 use Rattle.kob_outbox.specs.Contents.{States}
-use Rattle.kob_outbox.specs.Layout.{entry_of}
-use Rattle.kob_outbox.proofs.States.{has_key_of, key, states_with}
+use Rattle.kob_outbox.specs.Layout.{AreBusiness, Business, IsRisingFrom, entry_of, has_key, placed_row}
+use Rattle.kob_outbox.specs.Tables.{business_table, service_schema}
+use Rattle.kob_outbox.proofs.States.{AreApart, Placed, has_key_of, has_key_back, key, over, over_key, same_key, states_last, states_over}
+use Rattle.kob_outbox.proofs.Texts.{business_there}
 use Rattle.kob_outbox.proofs.statements.Putting.{goes_last}
-use Rattle.kob_outbox.proofs.statements.Taking.{is_named, same_filter, without_these}
-use Rattle.kob_outbox.proofs.statements.Values.{both_ways, equal_numbers, equal_texts, unequal_numbers, number_same}
-
-abbrev Placed : Type 0
-Placed = ℕ × Business
+use Rattle.kob_outbox.proofs.statements.Values.{equal_itself, equal_texts, number_above, number_below, number_same, unequal_above, unequal_numbers}
 
 -- ---- the next number
 
@@ -49,175 +46,188 @@ below_next : (low : ℕ) (ps : List Placed) → IsRisingFrom low ps → AllBelow
 below_next low [] h = tt
 below_next low (p ∷ ps) h = (omega (arith, after_low (suc p.0) ps h.1), below_next (suc p.0) ps h.1)
 
-put_last : (new : Placed) (ps : List Placed) → AllBelow new.0 ps
-    → put_row (placed_row new) (map placed_row ps) ≡ map placed_row (ps ++ new ∷ [])
-put_last = goes_last placed_row (λ p. p.0) (λ p. refl)
-
 rising_with : (low : ℕ) (new : Placed) (ps : List Placed) → IsRisingFrom low ps → AllBelow new.0 ps → low ≤ new.0
     → IsRisingFrom low (ps ++ new ∷ [])
 rising_with low new [] rising below up = (up, tt)
 rising_with low new (p ∷ ps) rising below up = (rising.0, rising_with (suc p.0) new ps rising.1 below.1 below.0)
-
--- ---- some of the rows
-
-lower : (low high : ℕ) (ps : List Placed) → low ≤ high → IsRisingFrom high ps → IsRisingFrom low ps
-lower low high [] up h = tt
-lower low high (p ∷ ps) up h = (omega (arith, h.0), h.1)
-
-rising_filter : (keep : Placed → Bool) (low : ℕ) (ps : List Placed) → IsRisingFrom low ps
-    → IsRisingFrom low (filter keep ps)
-rising_filter keep low [] h = tt
-rising_filter keep low (p ∷ ps) h = elim (cases_Bool (keep p)) [
-  | inl kept ↦ rw kept (h.0, rising_filter keep (suc p.0) ps h.1)
-  | inr dropped ↦ rw dropped (lower low (suc p.0) (filter keep ps) (omega (arith, h.0))
-      (rising_filter keep (suc p.0) ps h.1))
-]
-
-below_filter : (keep : Placed → Bool) (n : ℕ) (ps : List Placed) → AllBelow n ps → AllBelow n (filter keep ps)
-below_filter keep n [] h = tt
-below_filter keep n (p ∷ ps) h = elim (cases_Bool (keep p)) [
-  | inl kept ↦ rw kept (h.0, below_filter keep n ps h.1)
-  | inr dropped ↦ rw dropped (below_filter keep n ps h.1)
-]
-
--- ---- the rows that a list of numbers takes out
-
-abbrev is_gone : List ℤ → Placed → Bool
-is_gone ids p = is_named placed_row ids p
-
--- ---- the rows that conflict are those with the key
-
-settled : (a b : Bool) → ((a && (b && true)) || false) ≡ (a && b)
-settled true true = refl
-settled true false = refl
-settled false b = refl
-
-conflict_is : (old new : Placed) → old.0 < new.0
-    → conflicts None service_schema.indexes business_table (placed_row new) (placed_row old) ≡ has_key_of new.1 old.1
-unfolding first_key
-conflict_is old new low =
-    rw (unequal_numbers old.0 new.0 low, equal_texts old.1.kind new.1.kind, equal_texts old.1.id new.1.id)
-    (settled (bytes_eq old.1.kind new.1.kind) (bytes_eq old.1.id new.1.id))
-
-in_map : (ps : List Placed) (r : Row) → Has (map placed_row ps) r → (p : Placed) × Has ps p × (r ≡ placed_row p)
-in_map [] r h = elim h [ ]
-in_map (p ∷ ps) r (inl e) = (p, inl refl, e)
-in_map (p ∷ ps) r (inr h) = let it = in_map ps r h in (it.0, inr it.1, it.2)
-
-to_map : (ps : List Placed) (p : Placed) → Has ps p → Has (map placed_row ps) (placed_row p)
-to_map [] p h = elim h [ ]
-to_map (q ∷ ps) p (inl e) = inl (ap placed_row e)
-to_map (q ∷ ps) p (inr h) = inr (to_map ps p h)
-
-below_all : (n : ℕ) (ps : List Placed) (p : Placed) → AllBelow n ps → Has ps p → p.0 < n
-below_all n [] p all h = elim h [ ]
-below_all n (q ∷ ps) p all (inl e) = subst (λ x. x.0 < n) (sym e) all.0
-below_all n (q ∷ ps) p all (inr h) = below_all n ps p all.1 h
 
 at_least : (low : ℕ) (ps : List Placed) (p : Placed) → IsRisingFrom low ps → Has ps p → low ≤ p.0
 at_least low [] p rising h = elim h [ ]
 at_least low (q ∷ ps) p rising (inl e) = subst (λ x. low ≤ x.0) (sym e) rising.0
 at_least low (q ∷ ps) p rising (inr h) = omega (arith, rising.0, at_least (suc q.0) ps p rising.1 h)
 
-same_number : (low : ℕ) (ps : List Placed) (p q : Placed) → IsRisingFrom low ps → Has ps p → Has ps q → p.0 ≡ q.0
-    → p ≡ q
-same_number low [] p q rising hp hq e = elim hp [ ]
-same_number low (x ∷ ps) p q rising (inl a) (inl b) e = a ∙ sym b
-same_number low (x ∷ ps) p q rising (inl a) (inr b) e =
-    absurd (let up = at_least (suc x.0) ps q rising.1 b in let is : p.0 ≡ x.0 = ap (λ y. y.0) a in
-    omega (arith, up, is, e))
-same_number low (x ∷ ps) p q rising (inr a) (inl b) e =
-    absurd (let up = at_least (suc x.0) ps p rising.1 a in let is : q.0 ≡ x.0 = ap (λ y. y.0) b in
-    omega (arith, up, is, e))
-same_number low (x ∷ ps) p q rising (inr a) (inr b) e = same_number (suc x.0) ps p q rising.1 a b e
+-- ---- the row that conflicts is the one with the key
 
-or_left : (a b : Bool) → a ≡ true → (a || b) ≡ true
-or_left true b h = refl
-or_left false b h = absurd cc
+settled : (a b : Bool) → ((a && (b && true)) || false) ≡ (a && b)
+settled true true = refl
+settled true false = refl
+settled false b = refl
 
-or_right : (a b : Bool) → b ≡ true → (a || b) ≡ true
-or_right true b h = refl
-or_right false b h = h
+pub conflict_is : (old new : Placed)
+    → conflicts (Some (1 ∷ 2 ∷ [])) service_schema.indexes business_table (placed_row new) (placed_row old)
+    ≡ has_key_of new.1 old.1
+unfolding first_key
+conflict_is old new =
+    rw (equal_texts old.1.kind new.1.kind, equal_texts old.1.id new.1.id)
+    (settled (bytes_eq old.1.kind new.1.kind) (bytes_eq old.1.id new.1.id))
 
-any_found : (p : Placed) (found : List Row) (x : Row) → Has found x → has_rowid (id_in (rowid x)) (placed_row p) ≡ true
-    → is_gone (ids_of found) p ≡ true
-any_found p [] x h is = elim h [ ]
-any_found p (y ∷ found) x (inl e) is = or_left _ _ (subst (λ r. has_rowid (id_in (rowid r)) (placed_row p) ≡ true) e is)
-any_found p (y ∷ found) x (inr h) is = or_right _ _ (any_found p found x h is)
+pub in_map : (ps : List Placed) (r : Row) → Has (map placed_row ps) r → (p : Placed) × Has ps p × (r ≡ placed_row p)
+in_map [] r h = elim h [ ]
+in_map (p ∷ ps) r (inl e) = (p, inl refl, e)
+in_map (p ∷ ps) r (inr h) = let it = in_map ps r h in (it.0, inr it.1, it.2)
 
-found_any : (p : Placed) (found : List Row) → is_gone (ids_of found) p ≡ true
-    → (x : Row) × Has found x × (has_rowid (id_in (rowid x)) (placed_row p) ≡ true)
-found_any p [] h = absurd cc
-found_any p (y ∷ found) h = elim (cases_Bool (has_rowid (id_in (rowid y)) (placed_row p))) [
-  | inl is ↦ (y, inl refl, is)
-  | inr other ↦ let it = found_any p found (rw other at h) in (it.0, inr it.1, it.2)
-]
+pub to_map : (ps : List Placed) (p : Placed) → Has ps p → Has (map placed_row ps) (placed_row p)
+to_map [] p h = elim h [ ]
+to_map (q ∷ ps) p (inl e) = inl (ap placed_row e)
+to_map (q ∷ ps) p (inr h) = inr (to_map ps p h)
 
-module _ (ps : List Placed) (rising : IsRisingFrom 1 ps) (b : Business) (rows : List Row)
-    (rows_are : rows ≡ map placed_row ps) where
+-- no row has the key
+abbrev pub NoneHas : Business → List Placed → Type 0
+NoneHas b = AllByRecursion (λ (p : Placed). has_key_of b p.1 ≡ false)
+
+-- ---- a row whose key is new goes last
+
+module _ (b : Business) (ps : List Placed) (rising : IsRisingFrom 1 ps) where
   abbrev pub fresh : Placed
   fresh = (next_after 1 ps, b)
 
-  abbrev pub left : List Placed
-  left = filter (λ p. not (has_key_of b p.1)) ps
+  pub put_last : put_row (placed_row fresh) (map placed_row ps) ≡ map placed_row (ps ++ fresh ∷ [])
+  put_last = goes_last placed_row (λ (p : Placed). p.0) (λ p. refl) fresh ps (below_next 1 ps rising)
 
-  module _ (found : List Row) (conf : AreConflicts None service_schema.indexes business_table rows
-      (placed_row fresh) found) where
-    gone_key : (p : Placed) → Has ps p → is_gone (ids_of found) p ≡ true → has_key_of b p.1 ≡ true
-    gone_key p has h =
-        let it = found_any p found h in
-        let got = conf.sound it.0 it.1 in
-        let q = in_map ps got.0 (subst (λ rs. Has rs got.0) rows_are got.1) in
-        let low : q.0.0 < fresh.0 = below_all fresh.0 ps q.0 (below_next 1 ps rising) q.1 in
-        let key : has_key_of b q.0.1 ≡ true =
-        sym (conflict_is q.0 fresh low)
-        ∙ subst (λ r. conflicts None service_schema.indexes business_table (placed_row fresh) r ≡ true) q.2 got.2 in
-        let x : it.0 ≡ Int (pos q.0.0) ∷ [] = got.3 ∙ ap (λ r. rowid r ∷ []) q.2 in
-        let number : p.0 ≡ q.0.0 =
-        equal_numbers p.0 q.0.0 (subst (λ r. has_rowid (id_in (rowid r)) (placed_row p) ≡ true) x it.2) in
-        let same : p ≡ q.0 = same_number 1 ps p q.0 rising has q.1 number in
-        subst (λ x. has_key_of b x.1 ≡ true) (sym same) key
+  others : (qs : List Placed) → NoneHas b qs → AllByRecursion
+      (λ (x : Placed). AllByRecursion (λ (y : Placed). has_key y.1.kind y.1.id x.1 ≡ false) (fresh ∷ [])) qs
+  others [] none = tt
+  others (x ∷ qs) none = ((none.0, tt), others qs none.1)
 
-    key_gone : (p : Placed) → Has ps p → has_key_of b p.1 ≡ true → is_gone (ids_of found) p ≡ true
-    key_gone p has h =
-        let low : p.0 < fresh.0 = below_all fresh.0 ps p (below_next 1 ps rising) has in
-        let in_found =
-        conf.complete (placed_row p) (subst (λ rs. Has rs (placed_row p)) (sym rows_are) (to_map ps p has))
-        (conflict_is p fresh low ∙ h) in
-        any_found p found (rowid (placed_row p) ∷ []) in_found (ap is_eq (number_same p.0))
+  pub added : (after : List Row) (states : States) → NoneHas b ps → AreApart ps
+      → AllByRecursion (λ (x : Placed). IsUtf8 x.1.state) ps → IsUtf8 b.state → from_entries (map entry_of ps) ≡ states
+      → after ≡ map placed_row (ps ++ fresh ∷ []) → AreBusiness after (insert states (key b) b.state)
+  added after states none apart readable state are is = record {
+    placed = ps ++ fresh ∷ [];
+    rows_are = is;
+    rising = rising_with 1 fresh ps rising (below_next 1 ps rising) (after_low 1 ps rising);
+    states_are = states_last b fresh.0 ps none ∙ ap (λ m. insert m (key b) b.state) are;
+    readable = all-append {A = Placed} (λ x. IsUtf8 x.1.state) ps (fresh ∷ []) readable (state, tt);
+    apart = ascending-append {A = Placed} (λ x y. has_key y.1.kind y.1.id x.1 ≡ false) ps (fresh ∷ [])
+        apart (tt, tt) (others ps none);
+  }
 
-    pub left_rows : without_all rows (ids_of found) ≡ map placed_row left
-    left_rows =
-        ap (λ rs. without_all rs (ids_of found)) rows_are ∙ without_these placed_row (ids_of found) ps
-        ∙ ap (map placed_row) (same_filter (λ p. not (is_gone (ids_of found) p)) (λ p. not (has_key_of b p.1)) ps
-        (λ p has. ap not (both_ways _ _ (gone_key p has) (key_gone p has))))
+-- ---- a row whose key is there is written over
 
-  pub put_rows : put_row (placed_row fresh) (map placed_row left) ≡ map placed_row (left ++ fresh ∷ [])
-  put_rows = put_last fresh left (below_filter (λ p. not (has_key_of b p.1)) fresh.0 ps (below_next 1 ps rising))
+module _ (b : Business) where
+  over_none : (ps : List Placed) → NoneHas b ps → map (over b) ps ≡ ps
+  over_none [] none = refl
+  over_none (p ∷ ps) none = rw none.0 (ap (λ more. p ∷ more) (over_none ps none.1))
 
-  others : (qs : List Placed) → AllByRecursion
-      (λ (x : Placed). AllByRecursion (λ (y : Placed). has_key y.1.kind y.1.id x.1 ≡ false) (fresh ∷ []))
-      (filter (λ p. not (has_key_of b p.1)) qs)
-  others [] = tt
-  others (x ∷ qs) = elim (cases_Bool (has_key_of b x.1)) [
-    | inl same ↦ rw same (others qs)
-    | inr other ↦ rw other ((other, tt), others qs)
+  rising_over : (low : ℕ) (ps : List Placed) → IsRisingFrom low ps → IsRisingFrom low (map (over b) ps)
+  rising_over low [] h = tt
+  rising_over low (p ∷ ps) h = elim (cases_Bool (has_key_of b p.1)) [
+    | inl here ↦ rw here (h.0, rising_over (suc p.0) ps h.1)
+    | inr other ↦ rw other (h.0, rising_over (suc p.0) ps h.1)
   ]
 
-  pub replaced : (after : List Row) (states : States)
-      → IsAscending (λ (x y : Placed). has_key y.1.kind y.1.id x.1 ≡ false) ps
-      → AllByRecursion (λ (x : Placed). IsUtf8 x.1.state) ps → IsUtf8 b.state → from_entries (map entry_of ps) ≡ states
-      → after ≡ map placed_row (left ++ fresh ∷ []) → AreBusiness after (insert states (key b) b.state)
-  replaced after states apart readable state are is = record {
-    placed = left ++ fresh ∷ [];
-    rows_are = is;
-    rising =
-        rising_with 1 fresh left (rising_filter (λ p. not (has_key_of b p.1)) 1 ps rising)
-        (below_filter (λ p. not (has_key_of b p.1)) fresh.0 ps (below_next 1 ps rising)) (after_low 1 ps rising);
-    states_are = states_with b fresh.0 ps ∙ ap (λ m. insert m (key b) b.state) are;
-    readable =
-        all-append {A = Placed} (λ x. IsUtf8 x.1.state) _ (fresh ∷ [])
-        (all-filter (λ (x : Placed). IsUtf8 x.1.state) (λ p. not (has_key_of b p.1)) ps readable) (state, tt);
-    apart = ascending-append {A = Placed} (λ x y. has_key y.1.kind y.1.id x.1 ≡ false) _ (fresh ∷ [])
-        (ascending-filter _ (λ p. not (has_key_of b p.1)) ps apart) (tt, tt) (others ps);
-  }
+  readable_over : (ps : List Placed) → IsUtf8 b.state → AllByRecursion (λ (x : Placed). IsUtf8 x.1.state) ps
+      → AllByRecursion (λ (x : Placed). IsUtf8 x.1.state) (map (over b) ps)
+  readable_over [] state h = tt
+  readable_over (p ∷ ps) state h = elim (cases_Bool (has_key_of b p.1)) [
+    | inl here ↦ rw here (state, readable_over ps state h.1)
+    | inr other ↦ rw other (h.0, readable_over ps state h.1)
+  ]
+
+  apart_over : (ps : List Placed) → AreApart ps → AreApart (map (over b) ps)
+  apart_over ps apart =
+      let Apart : Placed → Placed → Type 0 = λ x y. has_key y.1.kind y.1.id x.1 ≡ false in
+      ascending-map Apart (over b) ps
+      (ascending_weaker {A = Placed} Apart (λ x y. Apart (over b x) (over b y))
+      (λ x y h. subst (λ k. (bytes_eq k.0 (over b y).1.kind && bytes_eq k.1 (over b y).1.id) ≡ false)
+      (sym (over_key b x))
+      (subst (λ k. (bytes_eq x.1.kind k.0 && bytes_eq x.1.id k.1) ≡ false) (sym (over_key b y)) h)) ps apart)
+
+  -- those after the row with the key have others
+  none_more : (p : Placed) (ps : List Placed) → has_key_of b p.1 ≡ true
+      → AllByRecursion (λ (x : Placed). has_key x.1.kind x.1.id p.1 ≡ false) ps → NoneHas b ps
+  none_more p [] here apart = tt
+  none_more p (x ∷ ps) here apart =
+      let same = same_key (key p.1) (key b) here in (
+        ap (λ k. has_key k.0 k.1 x.1) (sym same) ∙ has_key_back p.1 x.1 ∙ apart.0,
+        none_more p ps here apart.1,
+      )
+
+  module _ (t : Placed) (here : has_key_of b t.1 ≡ true) where
+    not_before : (p : Placed) → has_key t.1.kind t.1.id p.1 ≡ false → has_key_of b p.1 ≡ false
+    not_before p apart =
+        ap (λ k. has_key k.0 k.1 p.1) (sym (same_key (key t.1) (key b) here)) ∙ apart
+
+    apart_from : (p : Placed) (ps : List Placed)
+        → AllByRecursion (λ (x : Placed). has_key x.1.kind x.1.id p.1 ≡ false) ps → Has ps t
+        → has_key t.1.kind t.1.id p.1 ≡ false
+    apart_from p [] apart h = elim h [ ]
+    apart_from p (x ∷ ps) apart (inl e) = subst (λ (y : Placed). has_key y.1.kind y.1.id p.1 ≡ false) (sym e) apart.0
+    apart_from p (x ∷ ps) apart (inr h) = apart_from p ps apart.1 h
+
+    -- the statement's parameters, and what stands behind them: the number of the row that is there, and the new row
+    abbrev pub given : ℕ → Row
+    given n =
+        Text b.kind ∷ Text b.id ∷ Text b.state ∷ Int (pos t.0) ∷ Int (pos n) ∷ Text b.kind ∷ Text b.id ∷ Text b.state ∷ []
+
+    abbrev pub pick : ℕ → Row → List Env
+    pick n r = if list_all (holds (given n ∷ r ∷ [])) business_there.filter then (given n ∷ r ∷ []) ∷ [] else []
+
+    picked_none : (n low : ℕ) (ps : List Placed) → t.0 < low → IsRisingFrom low ps
+        → flat_map (pick n) (map placed_row ps) ≡ []
+    picked_none n low [] up rising = refl
+    picked_none n low (p ∷ ps) up rising =
+        let above : t.0 < p.0 = omega (arith, up, rising.0) in
+        rw (unequal_above p.0 t.0 above) (picked_none n (suc p.0) ps (omega (arith, above)) rising.1)
+
+    pub picked : (n low : ℕ) (ps : List Placed) → IsRisingFrom low ps → Has ps t
+        → flat_map (pick n) (map placed_row ps) ≡ (given n ∷ placed_row t ∷ []) ∷ []
+    picked n low [] rising h = elim h [ ]
+    picked n low (p ∷ ps) rising (inl e) =
+        let up : t.0 < suc p.0 = subst (λ (x : Placed). x.0 < suc p.0) (sym e) (omega arith) in
+        subst (λ (x : Placed). flat_map (pick n) (placed_row x ∷ map placed_row ps) ≡ (given n ∷ placed_row t ∷ []) ∷ []) e
+        (rw (equal_itself t.0, picked_none n (suc p.0) ps up rising.1) refl)
+    picked n low (p ∷ ps) rising (inr h) =
+        let below : p.0 < t.0 = omega (arith, at_least (suc p.0) ps t rising.1 h) in
+        rw (unequal_numbers p.0 t.0 below) (picked n (suc p.0) ps rising.1 h)
+
+    all_left : (low : ℕ) (ps : List Placed) → t.0 < low → IsRisingFrom low ps
+        → without_rowid (pos t.0) (map placed_row ps) ≡ map placed_row ps
+    all_left low [] up rising = refl
+    all_left low (p ∷ ps) up rising =
+        let above : t.0 < p.0 = omega (arith, up, rising.0) in
+        rw (number_above p.0 t.0 above)
+        (ap (λ more. placed_row p ∷ more) (all_left (suc p.0) ps (omega (arith, above)) rising.1))
+
+    goes_first : (low : ℕ) (ps : List Placed) → t.0 < low → IsRisingFrom low ps
+        → put_row (placed_row (t.0, b)) (map placed_row ps) ≡ placed_row (t.0, b) ∷ map placed_row ps
+    goes_first low [] up rising = refl
+    goes_first low (p ∷ ps) up rising =
+        let above : t.0 < p.0 = omega (arith, up, rising.0) in rw (number_above p.0 t.0 above) refl
+
+    pub put_over : (low : ℕ) (ps : List Placed) → IsRisingFrom low ps → AreApart ps → Has ps t
+        → put_row (placed_row (t.0, b)) (without_rowid (pos t.0) (map placed_row ps)) ≡ map placed_row (map (over b) ps)
+    put_over low [] rising apart h = elim h [ ]
+    put_over low (p ∷ ps) rising apart (inl e) =
+        let up : t.0 < suc p.0 = subst (λ (x : Placed). x.0 < suc p.0) (sym e) (omega arith) in
+        let none = none_more p ps (subst (λ (x : Placed). has_key_of b x.1 ≡ true) e here) apart.0 in
+        subst (λ (x : Placed). put_row (placed_row (t.0, b)) (without_rowid (pos t.0) (placed_row x ∷ map placed_row ps))
+        ≡ map placed_row (over b x ∷ map (over b) ps)) e
+        (rw (number_same t.0, here, over_none ps none, all_left (suc p.0) ps up rising.1) (goes_first (suc p.0) ps up rising.1))
+    put_over low (p ∷ ps) rising apart (inr h) =
+        let below : p.0 < t.0 = omega (arith, at_least (suc p.0) ps t rising.1 h) in
+        let other = not_before p (apart_from p ps apart.0 h) in
+        rw (number_below p.0 t.0 below, other)
+        (rw (number_below p.0 t.0 below) (ap (λ more. placed_row p ∷ more) (put_over (suc p.0) ps rising.1 apart.1 h)))
+
+    pub changed : (ps : List Placed) (after : List Row) (states : States) → IsRisingFrom 1 ps → AreApart ps → Has ps t
+        → AllByRecursion (λ (x : Placed). IsUtf8 x.1.state) ps → IsUtf8 b.state → from_entries (map entry_of ps) ≡ states
+        → after ≡ map placed_row (map (over b) ps) → AreBusiness after (insert states (key b) b.state)
+    changed ps after states rising apart h readable state are is = record {
+      placed = map (over b) ps;
+      rows_are = is;
+      rising = rising_over 1 ps rising;
+      states_are = states_over b t here ps h ∙ ap (λ m. insert m (key b) b.state) are;
+      readable = readable_over ps state readable;
+      apart = apart_over ps apart;
+    }

@@ -93,17 +93,17 @@ no_schema = record { tables = []; indexes = []; views = [] }
 abbrev pub one_table : Schema
 one_table = created no_schema business
 
--- once outbox is made too
-abbrev pub two_tables : Schema
-two_tables = created one_table outbox
-
 -- once spent is made too
+abbrev pub two_tables : Schema
+two_tables = created one_table spent
+
+-- once mark is made too
 abbrev pub three_tables : Schema
-three_tables = created two_tables spent
+three_tables = created two_tables mark
 
 -- the schema of a service
 abbrev pub service_schema : Schema
-service_schema = created three_tables mark
+service_schema = created three_tables outbox
 
 -- the four tables as they stand in the schema
 abbrev pub business_table : Table
@@ -111,12 +111,12 @@ business_table = record business { tree = 0 }
 
 -- the table outbox in that schema
 abbrev pub outbox_table : Table
-outbox_table = record outbox { tree = 2 }
+outbox_table = record outbox { tree = 5 }
 
 -- the table spent in it
 abbrev pub spent_table : Table
-spent_table = record spent { tree = 4 }
+spent_table = record spent { tree = 2 }
 
 -- the table mark in it
 abbrev pub mark_table : Table
-mark_table = record mark { tree = 6 }
+mark_table = record mark { tree = 4 }

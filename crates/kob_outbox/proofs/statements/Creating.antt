@@ -1,5 +1,5 @@
 -- What CREATE TABLE makes of a database whose tables are empty.
-use Rattle.std.proofs.Common.{◌≡◌, ℕ, List, [], ◌∷◌, ◌++◌, false, None, Ok, Err, Result, OnOk, sym, ap, subst, ◌∙◌}
+use Rattle.std.proofs.Common.{◌≡◌, ℕ, List, [], ◌∷◌, ◌++◌, false, None, Ok, Err, Result, OnOk, sym, ap, subst, ◌∙◌, if◌then◌else◌}
 use Rattle.std.specs.List.{AllByRecursion}
 use Rattle.sqlite.specs.Schema.{Schema}
 use Rattle.sqlite.specs.Table.{Table}
@@ -15,7 +15,7 @@ use Rattle.sqlite.specs.Listing.{understood}
 use Rattle.sqlite.specs.State.{State, Writes, Executes}
 use Rattle.sqlite.proofs.Callers.{IsPlain, command_of, statement_of, runs_as}
 use Rattle.kob_outbox.specs.Blank.{IsBlank}
-use Rattle.kob_outbox.proofs.statements.Plain.{went, same_value, write_settles}
+use Rattle.kob_outbox.proofs.statements.Plain.{went, same_value}
 
 abbrev pub IsCreation : Schema → List ℕ → Table → Type 0
 IsCreation schema text table =
@@ -32,39 +32,53 @@ and_last : (tables : List Table) (last : Table) (db : Trees) → AllByRecursion 
 and_last [] last db none empty = (empty, tt)
 and_last (t ∷ tables) last db none empty = (none.0, and_last tables last db none.1 empty)
 
+-- the table was made, and it has no row
+pub record Created (schema : Schema) (table : Table) (old new : State) : Type 0 where
+  pub schema_is : new.now.schema ≡ created schema table
+  pub kept : KeepsRows schema.tables old.now.trees new.now.trees
+  pub fresh : new.now.trees (next_tree schema) ≡ []
+  pub committed : new.committed ≡ (if old.in_transaction then old.committed else new.now)
+  pub mode : new.in_transaction ≡ old.in_transaction
+
 module _ (text : List ℕ) (schema : Schema) (table : Table) (is : IsCreation schema text table)
     (plain : IsPlain (understood schema text)) (uncounted : lacks_sequence (created schema table) ≡ false) where
-  pub creates : (old new : State) (r : Result ℕ Error) → IsBlank schema old → new.step_limit ≡ old.step_limit
-      → Executes text [] old new r → OnOk r (IsBlank (created schema table) new)
-  creates old new (Err e) has limit h = tt
-  creates old new (Ok count) has limit h =
+  pub made_table : (old new : State) (count : ℕ) → old.now.schema ≡ schema → Executes text [] old new (Ok count)
+      → Created schema table old new
+  made_table old new count has h =
       let ran =
       subst (λ t. Writes old new None CreateTable t [] count) is.1
-      (runs_as text [] old new schema has.schema_is CreateTable is.0 plain count h) in
+      (runs_as text [] old new schema has CreateTable is.0 plain count h) in
       let all = went ran.changed in
       let first = went all.1 in
       let made = first.1 in
       let both : Ok made.table ≡ Ok table = sym made.defined ∙ is.2 in
       let same : made.table ≡ table = cc in
       let now_schema : first.0.schema ≡ created schema table =
-      made.is ∙ ap (λ s. created s made.table) has.schema_is ∙ ap (created schema) same in
+      made.is ∙ ap (λ s. created s made.table) has ∙ ap (created schema) same in
       let skips : lacks_sequence first.0.schema ≡ false = ap lacks_sequence now_schema ∙ uncounted in
       let now : new.now ≡ first.0 =
       ap (λ (p : Tally × Database). p.1) (same_value all.2) ∙ same_value (rw skips at first.2) in
-      let settled = write_settles old new CreateTable text [] count has.idle ran in
       let kept : KeepsRows schema.tables old.now.trees first.0.trees =
-      subst (λ (s : Schema). KeepsRows s.tables old.now.trees first.0.trees) has.schema_is made.others in
-      let fresh : first.0.trees (next_tree schema) ≡ [] =
-      subst (λ s. first.0.trees (next_tree s) ≡ []) has.schema_is made.empty in
-      let none : AllByRecursion (λ t. new.now.trees t.tree ≡ []) (created schema table).tables =
-      subst (λ (d : Database). AllByRecursion (λ t. d.trees t.tree ≡ []) (created schema table).tables) (sym now)
-      (and_last schema.tables (record table { tree = next_tree schema }) first.0.trees
-      (still_empty schema.tables old.now.trees first.0.trees has.empty kept) fresh) in
+      subst (λ (s : Schema). KeepsRows s.tables old.now.trees first.0.trees) has made.others in
+      let fresh : first.0.trees (next_tree schema) ≡ [] = subst (λ s. first.0.trees (next_tree s) ≡ []) has made.empty in
       record {
-        schema_is = ap (λ (d : Database). d.schema) now
-            ∙ now_schema;
-        settled = settled.0;
-        idle = settled.1;
+        schema_is = ap (λ (d : Database). d.schema) now ∙ now_schema;
+        kept = subst (λ (d : Database). KeepsRows schema.tables old.now.trees d.trees) (sym now) kept;
+        fresh = subst (λ (d : Database). d.trees (next_tree schema) ≡ []) (sym now) fresh;
+        committed = ran.shown.committed_is;
+        mode = ran.shown.mode;
+      }
+
+  pub creates : (old new : State) (r : Result ℕ Error) → IsBlank schema old → new.step_limit ≡ old.step_limit
+      → Executes text [] old new r → OnOk r (IsBlank (created schema table) new)
+  creates old new (Err e) has limit h = tt
+  creates old new (Ok count) has limit h =
+      let made = made_table old new count has.schema_is h in
+      record {
+        schema_is = made.schema_is;
+        settled = rw has.idle at made.committed;
+        idle = made.mode ∙ has.idle;
         unlimited = limit ∙ has.unlimited;
-        empty = none;
+        empty = and_last schema.tables (record table { tree = next_tree schema }) new.now.trees
+            (still_empty schema.tables old.now.trees new.now.trees has.empty made.kept) made.fresh;
       }

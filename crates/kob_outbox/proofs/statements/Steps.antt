@@ -13,6 +13,7 @@ use Rattle.sqlite.specs.Cast.{cast}
 use Rattle.sqlite_schema.specs.declared.command.Source.{Source}
 use Rattle.sqlite_schema.specs.declared.program.Program.{Program}
 use Rattle.sqlite_schema.specs.declared.command.Conflict.{Conflict}
+use Rattle.sqlite_schema.specs.declared.command.Upsert.{Upsert}
 use Rattle.sqlite_rules.specs.declared.error.Rowids.TheVariants.{Chosen, Given}
 use Rattle.sqlite_rules.specs.Edit.{Edit, edit_of, Applies, taken_by}
 use Rattle.sqlite_rules.specs.Action.{works}
@@ -102,20 +103,20 @@ module _ (limit : Option ℕ) (keys : Keys) (schema : Schema) (table : Table) (p
         ap (λ (it : Written). it.rows) is,
       )
 
-  pub updated : (q : Program) (db : Trees) (w : Written)
-      → Updates (task_on limit keys schema table params) q params db (Ok w)
-      → (rows : List Row) × Answers (record { schema = schema; trees = db }) q params rows
+  pub updated : (q : Program) (given : Row) (db : Trees) (w : Written)
+      → Updates (task_on limit keys schema table params) q given db (Ok w)
+      → (rows : List Row) × Answers (record { schema = schema; trees = db }) q given rows
       × Applies schema keys db (edit_of db (uncounted table) (ids_of rows) Given 1 rows) w.trees
       × (w.rows ≡ (edit_of db (uncounted table) (ids_of rows) Given 1 rows).news)
-  updated q db w h =
-      let given = went h in
-      let written = went given.2 in
-      let edit = edit_of db (uncounted table) (ids_of given.0) Given 1 given.0 in
+  updated q given db w h =
+      let found = went h in
+      let written = went found.2 in
+      let edit = edit_of db (uncounted table) (ids_of found.0) Given 1 found.0 in
       let is : w ≡ record { trees = written.0; rows = edit.news; last = None } = same_value written.2 in (
-        given.0,
-        given.1,
+        found.0,
+        found.1,
         subst (Applies schema keys db edit) (sym (ap (λ (it : Written). it.trees) is))
-            (applies db written.0 (ids_of given.0) edit.news written.1),
+            (applies db written.0 (ids_of found.0) edit.news written.1),
         ap (λ (it : Written). it.rows) is,
       )
 
@@ -137,30 +138,30 @@ module _ (limit : Option ℕ) (keys : Keys) (schema : Schema) (table : Table) (p
       with_rowid Chosen (db table.tree) (cast_row (uncounted table) (mended way (uncounted table) source))
 
   -- what was tried with one row
-  pub record Tried (way : Conflict) (db : Trees) (w : Written) (new : Row) : Type 0 where
+  pub record Tried (way : Conflict) (clauses : List Upsert) (db : Trees) (w : Written) (new : Row) : Type 0 where
     pub one : Written
     pub trees : w.trees ≡ one.trees
     pub rows : w.rows ≡ one.rows
     pub verdict : Option Refusal
     pub judged : IsJudged (uncounted table) new verdict
-    pub does : Judged (task_on limit keys schema table params) way [] new db verdict (Ok one)
+    pub does : Judged (task_on limit keys schema table params) way clauses new db verdict (Ok one)
 
-  abbrev After : Conflict → Trees → Written → List Row → Type 0
-  After way db w rows =
+  abbrev After : Conflict → List Upsert → Trees → Written → List Row → Type 0
+  After way clauses db w rows =
       let task = task_on limit keys schema table params in
-      Then (Counter task db) (λ counter. Then (TriesEach task way [] rows (count_of counter) (nothing db))
+      Then (Counter task db) (λ counter. Then (TriesEach task way clauses rows (count_of counter) (nothing db))
       (λ done. Then (Counts task done.0.trees counter done.1) (λ next. Gives (record done.0 { trees = next }))))
       (Ok w)
 
-  one_tried : (way : Conflict) (source : Row) (db : Trees) (w : Written) → After way db w (source ∷ [])
-      → Tried way db w (candidate way db source)
-  one_tried way source db w h =
+  one_tried : (way : Conflict) (clauses : List Upsert) (source : Row) (db : Trees) (w : Written)
+      → After way clauses db w (source ∷ []) → Tried way clauses db w (candidate way db source)
+  one_tried way clauses source db w h =
       let counted = went h in
       let each = went counted.2 in
       let late = went each.2 in
       let one = went each.1 in
       let judged : (verdict : Option Refusal) × IsJudged (uncounted table) (candidate way db source) verdict
-      × Judged (task_on limit keys schema table params) way [] (candidate way db source) db verdict (Ok one.0) =
+      × Judged (task_on limit keys schema table params) way clauses (candidate way db source) db verdict (Ok one.0) =
       elim one.1 [
         | inl refused ↦ absurd (let e = refused.1 in cc)
         | inr judged ↦ judged
@@ -177,10 +178,10 @@ module _ (limit : Option ℕ) (keys : Keys) (schema : Schema) (table : Table) (p
         does = judged.2;
       }
 
-  pub tried : (way : Conflict) (terms : List Term) (width : ℕ) (source : Row) (db : Trees) (w : Written)
-      → value_rows (params ++ []) width (length terms / width) terms ≡ source ∷ []
-      → InsertsOr (task_on limit keys schema table params) way [] (Values terms width) db (Ok w)
-      → Tried way db w (candidate way db source)
-  tried way terms width source db w is h =
+  pub tried : (way : Conflict) (clauses : List Upsert) (terms : List Term) (width : ℕ) (source : Row) (db : Trees)
+      (w : Written) → value_rows (params ++ []) width (length terms / width) terms ≡ source ∷ []
+      → InsertsOr (task_on limit keys schema table params) way clauses (Values terms width) db (Ok w)
+      → Tried way clauses db w (candidate way db source)
+  tried way clauses terms width source db w is h =
       let given = went h in
-      one_tried way source db w (subst (After way db w) (given.1.1 ∙ is) given.2)
+      one_tried way clauses source db w (subst (After way clauses db w) (given.1.1 ∙ is) given.2)

@@ -38,6 +38,14 @@ pub unequal_numbers : (i k : ℕ) → i < k → equal Binary (Int (pos i)) (Int 
 unfolding binary
 unequal_numbers i k low = truth_back _ ∙ ap is_eq (number_below i k low)
 
+pub unequal_above : (i k : ℕ) → k < i → equal Binary (Int (pos i)) (Int (pos k)) ≡ false
+unfolding binary
+unequal_above i k low = truth_back _ ∙ ap is_eq (number_above i k low)
+
+pub equal_itself : (k : ℕ) → equal Binary (Int (pos k)) (Int (pos k)) ≡ true
+unfolding binary
+equal_itself k = truth_back _ ∙ ap is_eq (number_same k)
+
 gt_lt : (i k : ℕ) → is_gt (nat_cmp i k) ≡ nat_lt k i
 gt_lt i k = grind arith
 
