@@ -198,8 +198,8 @@ module _ (limit : Option ℕ) (events : Contents) (e : Intake) (n : ℕ) (db : T
       (Ok it.written)) unlimited
       (subst (λ (d : Database). InsertsOr (task_on old.step_limit Enforced inbox_schema inbox_table params) Ignore []
       (Values new_row 8) d.trees (Ok it.written)) now it.does) in
-      let t = tried limit Enforced inbox_schema inbox_table params alone Ignore new_row 8 row db it.written refl does in
-      let u = subst (Tried limit Enforced inbox_schema inbox_table params alone Ignore db it.written) tried_row t in
+      let t = tried limit Enforced inbox_schema inbox_table params alone Ignore [] new_row 8 row db it.written refl does in
+      let u = subst (Tried limit Enforced inbox_schema inbox_table params alone Ignore [] db it.written) tried_row t in
       let gone = decided u.one u.verdict u.judged u.does in
       let after : new.now.trees ≡ u.one.trees = ap (λ (d : Database). d.trees) it.now ∙ u.trees in
       let counted : count ≡ length u.one.rows = it.counted ∙ ap length u.rows in (

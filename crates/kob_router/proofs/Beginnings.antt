@@ -26,7 +26,7 @@ use Rattle.kob_router.specs.Parts.{HasHand, Introduces, Takes}
 use Rattle.kob_router.specs.Places.{has_place, with_sequence_for, same_place}
 use Rattle.kob_router.specs.Run.{Hand, IsRouterRun, Move, State, calls_of, producer_after}
 use Rattle.kob_router.specs.Run.Move.{Called, Took}
-use Rattle.kob_router.specs.Tick.{IsAnswer, IsAtMostOne, IsHeld, IsOfTick, IsOneTick, Ticks, hand_of, state_of}
+use Rattle.kob_router.specs.Tick.{IsAnswer, IsAtMostOne, IsHeld, IsIntroduced, IsOfTick, IsOneTick, Ticks, hand_of, state_of}
 use Rattle.kob_router.proofs.Runs.{IsBeginning, calls_append, own_append, run_append, scene, ticks_behind}
 use Rattle.kob_router.proofs.Sendings.{ticks_none}
 
@@ -183,6 +183,10 @@ takes_hand route outbox old new taken takes on =
       | inr w ↦ (w.held, ap (λ (x : Sender). x.hand) w.taken)
     ]
 
+-- no call was made, and a producer id is there
+pub introduced : (s : State) (p : Producer) → s.producer ≡ Some p → IsIntroduced [] s
+introduced s p known = (tt, subst (λ (o : Option Producer). IsSome o) (sym known) refl)
+
 -- no row waits
 ticks_idle : (route : Dispatching) (outbox : Contents) (old new : Sender) (p : Producer) (before now : List Call)
     (u t : ℕ)
@@ -193,25 +197,27 @@ ticks_idle route outbox old new p before now u t is known same unmade held =
     subst (λ (x : Sender). Ticks IsAtMostOne route (scene (state_of old outbox) before u)
     (scene (state_of x outbox) now t) Idle) (sym is.2)
     (ticks_none route (state_of old outbox) before now u t Idle same
-    (tt, is.1, subst (λ (o : Option Producer). IsSome o) (sym known) refl, unmade) held)
+    (introduced (state_of old outbox) p known, is.1, unmade) held)
 
 -- no row could be taken
-ticks_untaken : (route : Dispatching) (outbox : Contents) (old new : Sender) (reason : StopReason)
+ticks_untaken : (route : Dispatching) (outbox : Contents) (old new : Sender) (reason : StopReason) (p : Producer)
     (before now : List Call) (u t : ℕ)
-    → Takes route outbox old new (Err reason) → now ≡ before → t ≡ u → IsHeld route (state_of old outbox)
+    → Takes route outbox old new (Err reason) → old.producer ≡ Some p → now ≡ before → t ≡ u → IsHeld route (state_of old outbox)
     → Ticks IsAtMostOne route (scene (state_of old outbox) before u) (scene (state_of new outbox) now t)
     (Stopped reason)
-ticks_untaken route outbox old new stop.BadTopic before now u t is same unmade held =
+ticks_untaken route outbox old new stop.BadTopic p before now u t is known same unmade held =
     subst (λ (x : Sender). Ticks IsAtMostOne route (scene (state_of old outbox) before u)
     (scene (state_of x outbox) now t) (Stopped stop.BadTopic)) (sym is.1)
-    (ticks_none route (state_of old outbox) before now u t (Stopped stop.BadTopic) same ((tt, is.2), unmade) held)
-ticks_untaken route outbox old new stop.Memory before now u t is same unmade held =
+    (ticks_none route (state_of old outbox) before now u t (Stopped stop.BadTopic) same
+    ((introduced (state_of old outbox) p known, is.2), unmade) held)
+ticks_untaken route outbox old new stop.Memory p before now u t is known same unmade held =
     subst (λ (x : Sender). Ticks IsAtMostOne route (scene (state_of old outbox) before u)
     (scene (state_of x outbox) now t) (Stopped stop.Memory)) (sym is)
-    (ticks_none route (state_of old outbox) before now u t (Stopped stop.Memory) same (inl tt, unmade) held)
-ticks_untaken route outbox old new stop.Store before now u t is same unmade held = absurd is
-ticks_untaken route outbox old new (stop.Denied code verdicts) before now u t is same unmade held = absurd is
-ticks_untaken route outbox old new (stop.Refused code reason) before now u t is same unmade held = absurd is
+    (ticks_none route (state_of old outbox) before now u t (Stopped stop.Memory) same
+    (inl (introduced (state_of old outbox) p known), unmade) held)
+ticks_untaken route outbox old new stop.Store p before now u t is known same unmade held = absurd is
+ticks_untaken route outbox old new (stop.Denied code verdicts) p before now u t is known same unmade held = absurd is
+ticks_untaken route outbox old new (stop.Refused code reason) p before now u t is known same unmade held = absurd is
 
 -- the same of a sender of which only the producer id was changed
 begins_at : (route : Dispatching) (outbox : Contents) (old new : Sender) (before now : List Call) (u t : ℕ)
@@ -311,4 +317,4 @@ stopped_then outbox old one two reason before now u t p rest made held takes =
     (λ (r : Target). Takes (dispatch_of r) outbox one two (Err reason)) (ap (λ (x : Sender). x.target) rest) takes in
     begun route (state_of old outbox) (state_of one outbox) (state_of two outbox) before now now u t t
     (Stopped reason) k (unmade_known old.producer one.producer before now u t p made)
-    (ticks_untaken route outbox one two reason now now t t took refl refl k.held)
+    (ticks_untaken route outbox one two reason p now now t t took made.0 refl refl k.held)

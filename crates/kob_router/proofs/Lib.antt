@@ -4,3 +4,4 @@ pub mod Lawful
 pub mod Runs
 pub mod Sendings
 pub mod Beginnings
+pub mod Repeats

@@ -12,7 +12,7 @@ use Rattle.kob_router.specs.declared.tick.Tick.TheVariants.{Idle, Moved, Repeat,
 use Rattle.kob_router.specs.Dispatches.{Dispatching}
 use Rattle.kob_router.specs.Run.{IsDone, IsRouterRun, Move, State, after, calls_of}
 use Rattle.kob_router.specs.Run.Move.{Called, Recorded, Restarted, Swept, Took}
-use Rattle.kob_router.specs.Tick.{EndsHeard, EndsUnmarked, IsAnswer, IsAtMostOne, IsOneTick, IsOfTick, IsReason, Scene, SendsNothing, Ticks}
+use Rattle.kob_router.specs.Tick.{EndsHeard, EndsUnmarked, IsAnswer, IsAtMostOne, IsIntroduced, IsOneTick, IsOfTick, IsReason, Scene, SendsNothing, Ticks}
 
 -- a router with its outbox, and what its line tells
 abbrev pub scene : State → List Call → ℕ → Scene
@@ -63,6 +63,10 @@ sends_behind ms ns begins nothing =
     subst (AllByRecursion (λ (call : Call). call.request ≡ InitProducerId)) (sym (calls_append ms ns))
     (nothing_more (calls_of ms) (calls_of ns) begins nothing)
 
+introduced_behind : (ms ns : List Move) (new : State) → IsBeginning (calls_of ms) → IsIntroduced ns new
+    → IsIntroduced (ms ++ ns) new
+introduced_behind ms ns new begins (nothing, known) = (sends_behind ms ns begins nothing, known)
+
 heard_behind : (ms ns : List Move) (reply : Reply) → EndsHeard ns reply → EndsHeard (ms ++ ns) reply
 heard_behind ms ns reply (front, request, is) =
     (ms ++ front, request, ap (λ (moves : List Move). ms ++ moves) is ∙ sym (append_assoc ms front _))
@@ -76,8 +80,8 @@ reason_behind : (route : Dispatching) (reason : StopReason) (ms ns : List Move) 
     → IsBeginning (calls_of ms) → IsReason route reason ns new → IsReason route reason (ms ++ ns) new
 reason_behind route (stop.Denied code verdicts) ms ns new begins is = heard_behind ms ns (Denied code verdicts) is
 reason_behind route (stop.Refused code reason) ms ns new begins is = heard_behind ms ns (Refused code reason) is
-reason_behind route stop.BadTopic ms ns new begins (nothing, is) = (sends_behind ms ns begins nothing, is)
-reason_behind route stop.Memory ms ns new begins (inl nothing) = inl (sends_behind ms ns begins nothing)
+reason_behind route stop.BadTopic ms ns new begins (known, is) = (introduced_behind ms ns new begins known, is)
+reason_behind route stop.Memory ms ns new begins (inl known) = inl (introduced_behind ms ns new begins known)
 reason_behind route stop.Memory ms ns new begins (inr is) = inr (unmarked_behind ms ns is)
 reason_behind route stop.Store ms ns new begins is = unmarked_behind ms ns is
 
@@ -85,8 +89,8 @@ answer_behind : (route : Dispatching) (tick : Tick) (ms ns : List Move) (new : S
     → IsBeginning (calls_of ms) → IsAnswer route tick ns new u t → IsAnswer route tick (ms ++ ns) new u t
 answer_behind route (Moved seq) ms ns new u t begins ((front, call, is), at, same) =
     ((ms ++ front, call, ap (λ (moves : List Move). ms ++ moves) is ∙ sym (append_assoc ms front _)), at, same)
-answer_behind route Idle ms ns new u t begins (nothing, none, known, same) =
-    (sends_behind ms ns begins nothing, none, known, same)
+answer_behind route Idle ms ns new u t begins (known, none, same) =
+    (introduced_behind ms ns new begins known, none, same)
 answer_behind route Repeat ms ns new u t begins (inl (front, request, is, same)) =
     inl (ms ++ front, request, ap (λ (moves : List Move). ms ++ moves) is ∙ sym (append_assoc ms front _), same)
 answer_behind route Repeat ms ns new u t begins (inr (nothing, more)) = inr (sends_behind ms ns begins nothing, more)

@@ -30,7 +30,7 @@ pub record IsSent (route : Dispatching) (s : Sender) (asked : Request) : Type 0 
   pub keeps : (heard : Option Reply) → producer_after s.producer asked heard ≡ s.producer
   pub unmarked : (body : Body) → EndsUnmarked (Called (record { request = asked; heard = Some (Done body) }) false ∷ [])
 
-pub sent : (route : Dispatching) (s : Sender) (asked : Request) → Requests route s (Ok asked) → IsSent route s asked
+pub sent : (route : Dispatching) (s : Sender) (asked : Request) → Requests route s asked → IsSent route s asked
 sent route s (request.Produce produce) is =
     record {
       may = λ outbox heard marks done. (is outbox, done);
@@ -95,7 +95,7 @@ ticks_call route s outbox asked heard before now u t tick is made answer held =
 -- a call that was lost
 pub ticks_lost : (route : Dispatching) (s : Sender) (outbox : Contents) (asked : Request) (before now : List Call)
     (u t : ℕ)
-    → Requests route s (Ok asked) → Adds before now u t asked Lost → IsHeld route (state_of s outbox)
+    → Requests route s asked → Adds before now u t asked Lost → IsHeld route (state_of s outbox)
     → Ticks IsAtMostOne route (scene (state_of s outbox) before u) (scene (state_of s outbox) now t) Repeat
 ticks_lost route s outbox asked before now u t may (inl made) held =
     ticks_call route s outbox asked None before now u t Repeat (sent route s asked may) made.0
@@ -114,7 +114,7 @@ some_hand s outbox (held, is) = (hand_of held, ap (Rattle.std.specs.Prelude.opti
 -- a call that was heard, and moved the mark
 pub ticks_moved : (route : Dispatching) (s : Sender) (outbox : Contents) (asked : Request) (body : Body) (new : State)
     (before now : List Call) (u t seq : ℕ)
-    → Requests route s (Ok asked) → now ≡ before ++ record { request = asked; heard = Some (Done body) } ∷ [] → t ≡ u
+    → Requests route s asked → now ≡ before ++ record { request = asked; heard = Some (Done body) } ∷ [] → t ≡ u
     → HasHand s → Acknowledges (state_of s outbox) new (Ok seq)
     → Ticks IsAtMostOne route (scene (state_of s outbox) before u) (scene new now t) (Moved seq)
 ticks_moved route s outbox asked body new before now u t seq may made same has done =
@@ -132,7 +132,7 @@ ticks_moved route s outbox asked body new before now u t seq may made same has d
 -- a call that was heard, but the mark stayed
 pub ticks_unmarked : (route : Dispatching) (s : Sender) (outbox : Contents) (asked : Request) (body : Body)
     (new : State) (before now : List Call) (u t : ℕ) (reason : StopReason)
-    → Requests route s (Ok asked) → now ≡ before ++ record { request = asked; heard = Some (Done body) } ∷ [] → t ≡ u
+    → Requests route s asked → now ≡ before ++ record { request = asked; heard = Some (Done body) } ∷ [] → t ≡ u
     → Acknowledges (state_of s outbox) new (Err reason) → IsHeld route (state_of s outbox)
     → Ticks IsAtMostOne route (scene (state_of s outbox) before u) (scene new now t) (Stopped reason)
 ticks_unmarked route s outbox asked body new before now u t stop.Memory may made same done held =

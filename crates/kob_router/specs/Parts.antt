@@ -78,13 +78,11 @@ Takes route outbox old new (Err _) = ⊥
 abbrev pub HasHand : Sender → Type 0
 HasHand sender = (held : HeldRow) × (sender.hand ≡ Some held)
 
--- the request that sends what is in hand; only memory keeps it from being made
-abbrev pub Requests : Dispatching → Sender → Result Request StopReason → Type 0
-Requests route sender (Ok (Produce produce)) =
+-- the request that sends what is in hand
+abbrev pub Requests : Dispatching → Sender → Request → Type 0
+Requests route sender (Produce produce) =
     (outbox : Contents) → IsSending route (state_of sender outbox) produce
-Requests route sender (Ok _) = ⊥
-Requests route sender (Err stop.Memory) = Unit {0}
-Requests route sender (Err _) = ⊥
+Requests route sender _ = ⊥
 
 -- the mark moves to the row in hand, or all stays
 abbrev pub Acknowledges : State → State → Result ℕ StopReason → Type 0

@@ -145,6 +145,12 @@ IsRouterRun route old [] new = new ≡ old
 IsRouterRun route old (move ∷ moves) new =
     May route old move × IsRouterRun route (after old move) moves new
 
+-- the move neither acknowledges the row in hand nor starts the router again
+abbrev pub KeepsRow : Move → Type 0
+KeepsRow (Called call marks) = marks ≡ false
+KeepsRow Restarted = ⊥
+KeepsRow _ = Unit {0}
+
 -- the calls among the moves
 abbrev pub calls_of : List Move → List Call
 calls_of [] = []

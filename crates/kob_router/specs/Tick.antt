@@ -80,6 +80,10 @@ abbrev pub SendsNothing : List Move → Type 0
 SendsNothing moves =
     AllByRecursion (λ (call : Call). call.request ≡ InitProducerId) (calls_of moves)
 
+-- a producer id is known, and no call was made but for it
+abbrev pub IsIntroduced : List Move → State → Type 0
+IsIntroduced moves new = SendsNothing moves × IsSome new.producer
+
 -- the last move is a call that was heard so, and after which the mark did not move
 abbrev pub EndsHeard : List Move → Reply → Type 0
 EndsHeard moves reply =
@@ -106,9 +110,9 @@ abbrev pub IsReason : Dispatching → StopReason → List Move → State → Typ
 IsReason route (stop.Denied code verdicts) moves new = EndsHeard moves (Denied code verdicts)
 IsReason route (stop.Refused code reason) moves new = EndsHeard moves (Refused code reason)
 IsReason route stop.BadTopic moves new =
-    SendsNothing moves
+    IsIntroduced moves new
     × ((event : Event) × (next_row new.outbox ≡ Some event) × (route event ≡ None))
-IsReason route stop.Memory moves new = SendsNothing moves ⊎ EndsUnmarked moves
+IsReason route stop.Memory moves new = IsIntroduced moves new ⊎ EndsUnmarked moves
 IsReason route stop.Store moves new = EndsUnmarked moves
 
 -- what a tick answers
@@ -118,9 +122,8 @@ IsAnswer route (Moved seq) moves new unmade then_unmade =
     × (new.outbox.mark ≡ seq)
     × (then_unmade ≡ unmade)
 IsAnswer route Idle moves new unmade then_unmade =
-    SendsNothing moves
+    IsIntroduced moves new
     × (next_row new.outbox ≡ None)
-    × IsSome new.producer
     × (then_unmade ≡ unmade)
 IsAnswer route Repeat moves new unmade then_unmade = EndsLost moves unmade then_unmade
 IsAnswer route (Stopped reason) moves new unmade then_unmade =

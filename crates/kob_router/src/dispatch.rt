@@ -1,18 +1,18 @@
 //! Where a row goes, and as what.
 
-ghost use Rattle.std.specs.Prelude.{◌<◌};
+ghost use Rattle.std.specs.Prelude.{◌≡◌, ◌<◌, IfOk};
 ghost use Rattle.kob_outbox.specs.Events.{stored_row};
 ghost use Rattle.kob_router.specs.Answers.{OkIfSome};
-ghost use Rattle.kob_router.specs.Dispatches.{dispatch_of};
+ghost use Rattle.kob_router.specs.Dispatches.{dispatch_of, place_of};
 
 use crate::fault::RecordFault;
 use crate::partitioner::partition_of;
 use crate::place::Place;
 use crate::route::Route;
-use crate::routed::{Routed, record_of};
+use crate::routed::topic_for;
 use kob_names::{Record, Text};
 use kob_outbox::Row;
-use std::alloc::Global;
+use std::alloc::{AllocError, Global};
 
 /// How rows are routed, and how many partitions every routed topic has.
 #[derive(Debug, Drop)]
@@ -28,18 +28,27 @@ pub struct Dispatch {
     pub message: Record,
 }
 
-pub(crate) fn dispatch_of(
-    alloc: Global,
-    target: &Target,
-    row: &Row,
-) -> Result<Dispatch, RecordFault>
+impl Target {
+    /// An equal target. The error is want of memory.
+    pub fn copy(&self, alloc: Global) -> Result<Target, AllocError>
+        ensures { IfOk result (λ made. made ≡ self.now) }
+    {
+        let route = self.route.copy(alloc)?;
+        Ok(Target {
+            route,
+            partitions: self.partitions,
+        })
+    }
+}
+
+/// The topic and the partition of a row.
+pub(crate) fn place_of(alloc: Global, target: &Target, row: &Row) -> Result<Place, RecordFault>
     requires { 0 < target.now.partitions }
-    ensures { OkIfSome (dispatch_of target.now (stored_row row.now))
+    ensures { OkIfSome (place_of (dispatch_of target.now (stored_row row.now)))
         RecordFault.BadTopic RecordFault.Memory result }
 {
-    let Routed { topic, message } = record_of(alloc, &target.route, row)?;
+    let topic = topic_for(alloc, target.route.as_routing(), row)?;
     let topic = Text::copied(alloc, topic.as_str())?;
     let partition = partition_of(row.event.aggregate_id.as_bytes(), target.partitions) as u64;
-    let place = Place { topic, partition };
-    Ok(Dispatch { place, message })
+    Ok(Place { topic, partition })
 }

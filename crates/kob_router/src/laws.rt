@@ -1,14 +1,19 @@
 //! What follows of the definitions.
 
-ghost use Rattle.std.specs.Prelude.{◌≡◌, ◌<◌, ℕ, List, Some, length};
-ghost use Rattle.std.specs.List.{All};
+ghost use Rattle.std.specs.Prelude.{◌≡◌, ◌<◌, ℕ, Bool, List, Option, Some, length};
+ghost use Rattle.std.specs.List.{All, AllByRecursion};
 ghost use Rattle.uuid.specs.Text.{parsed};
 ghost use Rattle.kob_outbox.specs.Contents.{Event};
 ghost use Rattle.kob_outbox.specs.Events.{stored_event};
 ghost use Rattle.kob_outbox.specs.declared.event.OutboxEvent.{OutboxEvent};
-ghost use Rattle.kob_router.specs.Dispatches.{dispatch_of, place_of};
+ghost use Rattle.kob_rights.specs.declared.on_partitions.Produce.{Produce as ProduceRequest};
+ghost use Rattle.kob_rights.specs.declared.reply.Reply.{Reply};
+ghost use Rattle.kob_rights.specs.declared.request.Request.{Request};
+ghost use Rattle.kob_rights.specs.declared.request.Request.TheVariants.{Produce};
+ghost use Rattle.kob_router.specs.Dispatches.{Dispatching, dispatch_of, place_of};
 ghost use Rattle.kob_router.specs.HeaderId.{event_id};
 ghost use Rattle.kob_router.specs.Route.{key_of, message_of};
+ghost use Rattle.kob_router.specs.Run.{IsRouterRun, IsSending, KeepsRow, MayCall, Move, State};
 ghost use Rattle.kob_router.specs.declared.dispatch.Dispatch.{Dispatch};
 ghost use Rattle.kob_router.specs.declared.dispatch.Target.{Target};
 ghost use Rattle.kob_router.specs.declared.settings.Routing.{Routing};
@@ -24,6 +29,18 @@ pub fn a_record_tells_its_event_id()
         → event_id (message_of routing (stored_event seq event)) ≡ Some event.id }
 {
     // By the definitions.
+}
+
+/// Until a row is acknowledged or the router starts again, no call may be made but for the same
+/// request: the same batch, with the same producer id and sequence, to the same partition.
+pub fn a_batch_is_repeated_as_it_was()
+    ensures { (route : Dispatching) (old new : State) (moves : List Move)
+        (sent : ProduceRequest) (request : Request) (heard : Option Reply) (marks : Bool)
+        → IsSending route old sent → IsRouterRun route old moves new
+        → AllByRecursion KeepsRow moves → MayCall route new request heard marks
+        → request ≡ Produce sent }
+{
+    // The contract is the law.
 }
 
 /// Rows of one aggregate go to one topic and one partition, and with one key.

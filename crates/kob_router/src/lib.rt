@@ -22,7 +22,9 @@ mod tick;
 pub use dispatch::{Dispatch, Target};
 pub use fault::{RecordFault, RouteFault};
 pub use header_id::event_id;
-pub use laws::{a_record_tells_its_event_id, an_aggregate_has_one_partition};
+pub use laws::{
+    a_batch_is_repeated_as_it_was, a_record_tells_its_event_id, an_aggregate_has_one_partition,
+};
 pub use line::{Call, Delivery, Line};
 pub use partitioner::partition_of;
 pub use place::{Place, is_same_place};

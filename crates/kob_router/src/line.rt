@@ -1,16 +1,31 @@
 //! Calls to a broker, of which some are lost.
 
-ghost use Rattle.std.specs.Prelude.{◌≡◌, List, ℕ};
+ghost use Rattle.std.specs.Prelude.{◌≡◌, List, ℕ, IfOk};
 ghost use Rattle.kob_router.specs.Line.{Adds, IsFaithful};
 
+use kob_names::PlainValue;
 use kob_rights::{Reply, Request};
-use std::alloc::Global;
+use std::alloc::{AllocError, Global};
 
 /// A request that was made, and the reply that was heard, or none where the call was lost.
 #[derive(Debug, Drop)]
 pub struct Call {
     pub request: Request,
     pub heard: Option<Reply>,
+}
+
+impl Call {
+    /// An equal call. The error is want of memory.
+    pub fn copy(&self, alloc: Global) -> Result<Call, AllocError>
+        ensures { IfOk result (λ made. made ≡ self.now) }
+    {
+        let request = self.request.copy(alloc)?;
+        let heard = match &self.heard {
+            Some(reply) => Some(reply.copy(alloc)?),
+            None => None,
+        };
+        Ok(Call { request, heard })
+    }
 }
 
 /// What came of a call.

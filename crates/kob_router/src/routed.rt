@@ -34,10 +34,22 @@ pub fn record_of(alloc: Global, route: &Route, row: &Row) -> Result<Routed, Reco
         RecordFault.BadTopic RecordFault.Memory result }
 {
     let routing = route.as_routing();
-    let text = topic_text(alloc, routing, row)?;
-    let topic = topic_named(alloc, &text)?;
+    let topic = topic_for(alloc, routing, row)?;
     let message = message_of(alloc, routing, row)?;
     Ok(Routed { topic, message })
+}
+
+/// The topic of a row's record.
+pub(crate) fn topic_for(
+    alloc: Global,
+    routing: &Routing,
+    row: &Row,
+) -> Result<TopicName, RecordFault>
+    ensures { OkIfSome (topic_named (topic_of routing.now (stored_row row.now)))
+        RecordFault.BadTopic RecordFault.Memory result }
+{
+    let text = topic_text(alloc, routing, row)?;
+    topic_named(alloc, &text)
 }
 
 fn topic_text(alloc: Global, routing: &Routing, row: &Row) -> Result<Vec<u8>, AllocError>
@@ -73,7 +85,7 @@ fn topic_named(alloc: Global, text: &[u8]) -> Result<TopicName, RecordFault>
     }
 }
 
-fn message_of(alloc: Global, routing: &Routing, row: &Row) -> Result<Record, AllocError>
+pub(crate) fn message_of(alloc: Global, routing: &Routing, row: &Row) -> Result<Record, AllocError>
     ensures { IfOk result (λ message. message ≡ message_of routing.now (stored_row row.now)) }
 {
     let key = Bytes::copied(alloc, row.event.aggregate_id.as_bytes())?;

@@ -4,13 +4,14 @@ ghost use Rattle.std.specs.Prelude.{◌≡◌, ◌<◌, IfErr, IfOk, option_map}
 ghost use Rattle.kob_outbox.specs.Events.{stored_row};
 ghost use Rattle.kob_router.specs.Run.{batch_of, next_row};
 
-use crate::dispatch::{Dispatch, Target, dispatch_of};
+use crate::dispatch::{Target, place_of};
 use crate::fault::RecordFault;
 use crate::line::{Delivery, Line};
 use crate::place::Place;
+use crate::routed::message_of;
 use crate::sequences::Sequences;
 use crate::tick::{StopReason, Tick};
-use kob_names::{Batch, Idem, Items, Record};
+use kob_names::{Batch, Idem, Items, PlainValue, Record};
 use kob_outbox::{MarkFault, Outbox, OutboxFault, Row};
 use kob_rights::{Body, Produce, Reply, Request};
 use std::alloc::{AllocError, Global};
@@ -116,8 +117,8 @@ impl Sender {
             Ok(None) => return Ok(false),
             Err(_) => return Err(StopReason::Memory),
         };
-        let place = match dispatch_of(alloc, &self.target, &row) {
-            Ok(dispatch) => dispatch.place,
+        let place = match place_of(alloc, &self.target, &row) {
+            Ok(place) => place,
             Err(RecordFault::BadTopic) => return Err(StopReason::BadTopic),
             Err(RecordFault::Memory) => return Err(StopReason::Memory),
         };
@@ -136,7 +137,6 @@ impl Sender {
         line: &mut L,
         producer: Producer,
     ) -> Tick
-        requires some { 0 < self.old.target.partitions }
         requires known { self.old.producer ≡ Some producer }
         requires full { HasHand self.old }
         requires held { IsHeld (dispatch_of self.old.target) (state_of self.old outbox.old) }
@@ -148,7 +148,7 @@ impl Sender {
     {
         let request = match self.request(alloc, producer) {
             Ok(request) => request,
-            Err(reason) => return Tick::Stopped(reason),
+            Err(_) => return Tick::Stopped(StopReason::Memory),
         };
         match line.send(alloc, request) {
             Delivery::Lost => Tick::Repeat,
@@ -166,27 +166,23 @@ impl Sender {
     }
 
     /// The request that sends what is in hand.
-    fn request(&self, alloc: Global, producer: Producer) -> Result<Request, StopReason>
-        requires some { 0 < self.now.target.partitions }
+    fn request(&self, alloc: Global, producer: Producer) -> Result<Request, AllocError>
         requires known { self.now.producer ≡ Some producer }
         requires full { HasHand self.now }
         requires placed { IsPlaced (dispatch_of self.now.target) (option_map hand_of self.now.hand)
             self.now.sequences }
-        ensures { Requests (dispatch_of self.now.target) self.now result }
+        ensures { IfOk result (Requests (dispatch_of self.now.target) self.now) }
     {
         let Some(hand) = &self.hand else {
             unreachable!();
         };
-        let Ok(Dispatch { place, message }) = dispatch_of(alloc, &self.target, &hand.row) else {
-            return Err(StopReason::Memory);
-        };
+        let message = message_of(alloc, self.target.route.as_routing(), &hand.row)?;
         let base = self.sequences.next(&hand.place);
-        let Ok(batch) = batch_of(alloc, producer, base, message) else {
-            return Err(StopReason::Memory);
-        };
+        let batch = batch_of(alloc, producer, base, message)?;
+        let topic = hand.place.topic.copy(alloc)?;
         Ok(Request::Produce(Produce {
-            topic: place.topic,
-            partition: place.partition,
+            topic,
+            partition: hand.place.partition,
             batch,
         }))
     }

@@ -4,7 +4,7 @@ ghost use Rattle.std.specs.Prelude.{◌≡◌, [], codes, IfOk};
 ghost use Rattle.kob_router.specs.declared.settings.RouteBy.TheVariants.{AggregateType};
 
 use crate::placement::Placed;
-use kob_names::{Items, Text};
+use kob_names::{Items, PlainValue, Text};
 use std::alloc::{AllocError, Global};
 
 /// The column by which rows are routed: Debezium's `route.by.field`.
@@ -44,6 +44,19 @@ impl RouteSettings {
             by: RouteBy::AggregateType,
             replacement: Text::copied(alloc, "outbox.event.${routedByValue}")?,
             placement: Text::copied(alloc, "")?,
+        })
+    }
+
+    /// Equal settings. The error is want of memory.
+    pub fn copy(&self, alloc: Global) -> Result<RouteSettings, AllocError>
+        ensures { IfOk result (λ made. made ≡ self.now) }
+    {
+        let replacement = self.replacement.copy(alloc)?;
+        let placement = self.placement.copy(alloc)?;
+        Ok(RouteSettings {
+            by: self.by,
+            replacement,
+            placement,
         })
     }
 }

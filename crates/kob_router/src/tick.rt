@@ -16,10 +16,11 @@ pub enum StopReason {
         code: Code,
         reason: Reason,
     },
-    /// The route makes no topic's name of the first row after the mark.
+    /// The route makes no topic's name of the first row after the mark. No call was made but for a
+    /// producer id.
     BadTopic,
-    /// Memory was refused: nothing was sent, or what was sent is done and the mark could not be
-    /// moved.
+    /// Memory was refused: no call was made but for a producer id, or what was sent is done and the
+    /// mark could not be moved.
     Memory,
     /// What was sent is done, and the database refused to move the mark.
     Store,

@@ -23,15 +23,15 @@ pub returns-clause-done : goal.returns-clause-done
 returns-clause-done c =
     inr
     (record {
-      held = record { row = c.in-Ok-Some.row; place = c.in-Ok.dispatch.place };
+      held = record { row = c.in-Ok-Some.row; place = c.in-Ok.place };
       nothing_before = none_there c.args.self.now.hand (sym c.is_some.ensures ∙ c.if-is_some.false);
       first_waits = sym c.in-Ok-Some.ensures.row ∙ ap (option_map stored_row) c.in-Ok-Some.field-0-is;
-      goes = ap place_of c.in-Ok.ensures;
+      goes = c.in-Ok.ensures;
       taken = ap (λ (ss : List Sequence). record {
         target = c.args.self.now.target;
         producer = c.args.self.now.producer;
         sequences = ss;
         hand = Some
-            (record { row = c.in-Ok-Some.row; place = c.in-Ok.dispatch.place });
+            (record { row = c.in-Ok-Some.row; place = c.in-Ok.place });
       }) c.in-Ok-prepare.ensures.ok;
     })
