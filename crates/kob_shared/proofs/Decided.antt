@@ -1,21 +1,44 @@
--- Each entry of a legal journal is just.
-use Rattle.std.proofs.Common.{◌≡◌, List, [], Some, take, ap, subst, ◌∙◌, arith, option_map, slice_get}
+-- Each entry of a legal journal is just, and is one step.
+use Rattle.std.proofs.Common.{◌≡◌, List, [], Some, take, ap, sym, subst, ℕ, ◌∙◌, arith, option_map, slice_get}
 use Rattle.std.proofs.lemmas.List.{take-map}
 use Rattle.std.proofs.lemmas.Option.{slice_get-map}
 use Rattle.kob_authorizer.proofs.InTurn.{added_rises}
 use Rattle.kob_broker.proofs.Just.{run_just}
+use Rattle.kob_broker.proofs.Runs.{reply_at}
 use Rattle.kob_broker.specs.InForce.{in_force}
 use Rattle.kob_broker.specs.Justice.{IsJust}
 use Rattle.kob_broker.specs.State.{State}
-use Rattle.kob_broker.specs.Step.{replies_of}
+use Rattle.kob_broker.specs.Step.{replies_of, state_after, step}
 use Rattle.kob_names.specs.declared.settings.Settings.{Settings}
 use Rattle.kob_partition.specs.Retained.{Retained, retained_meaning}
 use Rattle.kob_rights.specs.declared.event.Event.{Event}
 use Rattle.kob_rights.specs.declared.reply.Reply.{Reply}
-use Rattle.kob_shared.specs.Decided.{EachEntryIsJust}
+use Rattle.kob_shared.specs.Decided.{EachEntryIsJust, EachEntryIsOneStep}
 use Rattle.kob_shared.specs.Journals.{IsLegal, events_of}
 use Rattle.kob_shared.specs.Openings.{opened_by}
 use Rattle.kob_shared.specs.declared.journal.Entry.{Entry}
+
+-- the entry's event and reply, in the run that the journal is
+stands_at : (opening : Settings) (journal : List Entry) (now : State Retained)
+    → IsLegal (opened_by opening) journal now → (k : ℕ) (x : Entry) → slice_get journal k ≡ Some x
+    → (slice_get (events_of journal) k ≡ Some x.event)
+    × (slice_get (replies_of retained_meaning (events_of journal) (opened_by opening)) k ≡ Some x.reply)
+stands_at opening journal now legal k x at =
+    let event : Entry → Event = λ e. e.event in
+    let reply : Entry → Reply = λ e. e.reply in (
+      slice_get-map event journal k ∙ ap (option_map event) at,
+      ap (λ rs. slice_get rs k) legal.replies ∙ slice_get-map reply journal k ∙ ap (option_map reply) at,
+    )
+
+pub entry_is_one_step : (opening : Settings) (journal : List Entry) (now : State Retained)
+    → IsLegal (opened_by opening) journal now → EachEntryIsOneStep opening journal
+entry_is_one_step opening journal now legal k x at =
+    let m = retained_meaning in
+    let s : State Retained = opened_by opening in
+    let stands = stands_at opening journal now legal k x at in
+    sym (reply_at m (events_of journal) s k x.event x.reply stands.0 stands.1)
+    ∙ ap (λ (es : List Event). (step m (state_after m es s) x.event).reply)
+    (take-map (λ (e : Entry). e.event) k journal)
 
 pub entry_is_just : (opening : Settings) (journal : List Entry) (now : State Retained)
     → IsLegal (opened_by opening) journal now → EachEntryIsJust opening journal
@@ -24,13 +47,10 @@ entry_is_just opening journal now legal k x at =
     let s : State Retained = opened_by opening in
     let event : Entry → Event = λ e. e.event in
     let reply : Entry → Reply = λ e. e.reply in
-    let at_event : slice_get (events_of journal) k ≡ Some x.event =
-    slice_get-map event journal k ∙ ap (option_map event) at in
-    let at_reply : slice_get (replies_of m (events_of journal) s) k ≡ Some x.reply =
-    ap (λ rs. slice_get rs k) legal.replies ∙ slice_get-map reply journal k ∙ ap (option_map reply) at in
+    let stands = stands_at opening journal now legal k x at in
     let just =
-    run_just m (events_of journal) s (added_rises [] 1 opening.opening (omega arith)) k x.event x.reply at_event
-    at_reply in
+    run_just m (events_of journal) s (added_rises [] 1 opening.opening (omega arith)) k x.event x.reply stands.0
+    stands.1 in
     let events = take-map event k journal in
     let replies = ap (take k) legal.replies ∙ take-map reply k journal in
     subst (λ rs. IsJust (in_force (events_of (take k journal)) rs s.access) x.event x.reply) replies

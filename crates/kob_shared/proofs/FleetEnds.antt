@@ -1,5 +1,5 @@
 -- What a fleet leaves.
-use Rattle.std.proofs.Common.{◌≡◌, ◌≢◌, ◌⊎◌, List, [], ◌∷◌, arith, sym, subst}
+use Rattle.std.proofs.Common.{◌≡◌, List, [], ◌∷◌, arith, sym, subst}
 use Rattle.std.specs.Prelude.{slice_get, IfSome}
 use Rattle.kob_rights.specs.declared.event.Event.{Event}
 use Rattle.std.specs.List.{AllZip}
@@ -16,7 +16,7 @@ use Rattle.kob_shared.proofs.Noted.{asked_scripts, told_taken}
 use Rattle.kob_shared.specs.declared.journal.Entry.{Entry}
 use Rattle.kob_shared.specs.declared.journal.Receipt.{Receipt}
 use Rattle.kob_shared.specs.Journals.{IsLegal, Record}
-use Rattle.kob_shared.specs.Fleets.{IsFleet, IsKept, EachIsAnswered, Follows, asked_of_all, claims_of, DifferAt, events_of_script}
+use Rattle.kob_shared.specs.Fleets.{IsFleet, IsKept, EachIsAnswered, Follows, IsTornAt, asked_of_all, events_of_script}
 use Rattle.kob_shared.proofs.Beginnings.{begins_with}
 use Rattle.kob_shared.proofs.Counted.{length_kept}
 
@@ -58,12 +58,13 @@ pub scripts_torn : {E : Type 0} (opening : Settings) (first : Noted) (scripts : 
     → IsTear opening (notes_of first done) found d
     → AllZip (λ (s : Script) (d : Done E). d.notes.events ≡ events_of_script s) scripts done
     → AllZip IsTaken (notes_of first done) told
-    → DifferAt d.worker found.journal (claims_of (asked_of_all first.events scripts) told d.worker) d.place
-    ⊎ ((d.worker ≡ 0) × (found.opening ≢ opening))
+    → EachIsAnswered (asked_of_all first.events scripts) told
+    × IsTornAt opening (asked_of_all first.events scripts) told found d.worker d.place
 scripts_torn {E} opening first scripts done found told d tear each taken =
     let same = told_taken (notes_of first done) told taken in
-    let asked = asked_scripts first scripts done each in
-    subst (λ es. DifferAt d.worker found.journal (claims_of es told d.worker) d.place
-    ⊎ ((d.worker ≡ 0) × (found.opening ≢ opening))) asked
-    (subst (λ ts. DifferAt d.worker found.journal (claims_of (events_in (notes_of first done)) ts d.worker) d.place
-    ⊎ ((d.worker ≡ 0) × (found.opening ≢ opening))) (sym same.0) tear)
+    let asked = asked_scripts first scripts done each in (
+      subst (λ es. EachIsAnswered es told) asked same.1,
+      subst (λ es. IsTornAt opening es told found d.worker d.place) asked
+          (subst (λ ts. IsTornAt opening (events_in (notes_of first done)) ts found d.worker d.place) (sym same.0)
+          tear),
+    )

@@ -1,5 +1,5 @@
 -- What the workers of a fleet left.
-use Rattle.std.specs.Prelude.{◌≡◌, ◌≢◌, ◌⊎◌, ℕ, ◌+◌, ◌<◌, ◌≤◌, List, ◌∷◌, length, map, take, Result, Ok, Err, Some, slice_get}
+use Rattle.std.specs.Prelude.{◌≡◌, ℕ, ◌+◌, ◌<◌, ◌≤◌, List, ◌∷◌, length, map, take, Result, Ok, Err, Some, slice_get}
 use Rattle.kob_rights.specs.declared.event.Event.{Event}
 use Rattle.kob_names.specs.declared.settings.Settings.{Settings}
 use Rattle.kob_shared.specs.declared.compare.Difference.{Difference}
@@ -11,7 +11,7 @@ use Rattle.kob_shared.specs.declared.fleet_stop.FleetStop.{FleetStop}
 use Rattle.kob_shared.specs.declared.fleet_stop.FleetStop.TheVariants.{NotBegun, Memory, Stale, Full}
 use Rattle.kob_shared.specs.declared.journal.Receipt.{Receipt}
 use Rattle.kob_shared.specs.declared.work.Done.{Done}
-use Rattle.kob_shared.specs.Fleets.{IsAnswered, claims_of, entries_told, DifferAt, IsKept}
+use Rattle.kob_shared.specs.Fleets.{IsAnswered, IsKept, IsTornAt, entries_told}
 use Rattle.kob_shared.specs.Limits.{entry_limit}
 use Rattle.kob_shared.specs.Journals.{Record}
 use Rattle.kob_shared.specs.Noted.{Noted}
@@ -30,12 +30,10 @@ told_in notes = map (λ (n : Noted). n.told) notes
 abbrev pub IsAsNoted : List Noted → Record → Type 0
 IsAsNoted notes found = IsKept (events_in notes) (told_in notes) found.journal
 
--- the journal differs at the place from what the worker noted; or, for worker 0, another opening
--- was stored
+-- the journal isn't what the workers noted from this opening on: it is torn there
 abbrev pub IsTear : Settings → List Noted → Record → Difference → Type 0
 IsTear opening notes found d =
-    DifferAt d.worker found.journal (claims_of (events_in notes) (told_in notes) d.worker) d.place
-    ⊎ ((d.worker ≡ 0) × (found.opening ≢ opening))
+    IsTornAt opening (events_in notes) (told_in notes) found d.worker d.place
 
 -- the transcript has the receipts of the notes, one for each event, at rising places
 abbrev pub IsTaken : Noted → List Receipt → Type 0

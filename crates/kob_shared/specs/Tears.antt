@@ -1,17 +1,15 @@
 -- When a fleet is torn.
-use Rattle.std.specs.Prelude.{◌≡◌, ◌≢◌, ◌⊎◌, ◌≤◌, ℕ, List}
+use Rattle.std.specs.Prelude.{ℕ, List}
 use Rattle.kob_rights.specs.declared.event.Event.{Event}
 use Rattle.kob_names.specs.declared.settings.Settings.{Settings}
 use Rattle.kob_shared.specs.declared.fleet_fault.FleetFault.{FleetFault}
 use Rattle.kob_shared.specs.declared.fleet_fault.FleetFault.TheVariants.{TooManyWorkers, JournalFull, Stale, Full, Torn}
-use Rattle.kob_shared.specs.Fleets.{claims_of, DifferAt}
+use Rattle.kob_shared.specs.Fleets.{EachIsAnswered, IsTornAt, IsWorkerWithin}
 
--- the journal that is given back differs at the place from what the worker was told; or, for worker
--- 0, another opening was stored
+-- the journal that is given back is torn there, and each transcript has a receipt for each event
 abbrev pub IsTornOnlyWhere : Settings → List (List Event) → FleetFault → Type 0
 IsTornOnlyWhere opening asked (Torn worker place found told) =
-    DifferAt worker found.journal (claims_of asked told.items worker) place
-    ⊎ ((worker ≡ 0) × (found.opening ≢ opening))
+    EachIsAnswered asked told.items × IsTornAt opening asked told.items found worker place
 IsTornOnlyWhere opening asked fault = Unit {0}
 
 -- a fault that comes after the counts were found to fit
@@ -22,6 +20,6 @@ IsLater fault = Unit {0}
 
 -- the worker is one of so many, and not worker 0, whose events fit
 abbrev pub NamesWorkerWithin : ℕ → FleetFault → Type 0
-NamesWorkerWithin count (Stale worker length) = (1 ≤ worker) × (worker ≤ count)
-NamesWorkerWithin count (Full worker) = (1 ≤ worker) × (worker ≤ count)
+NamesWorkerWithin count (Stale worker length) = IsWorkerWithin count worker
+NamesWorkerWithin count (Full worker) = IsWorkerWithin count worker
 NamesWorkerWithin count fault = Unit {0}

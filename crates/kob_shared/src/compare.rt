@@ -1,9 +1,10 @@
 //! Holding a journal to what the workers of a fleet were told.
 
-ghost use Rattle.std.specs.Prelude.{◌≡◌, ◌<◌, ◌≤◌, ◌↔◌, IfSome, IsTrue, length, slice_get};
+ghost use Rattle.std.specs.Prelude.{◌≡◌, ◌<◌, ◌≤◌, ◌↔◌, IfSome, IsTrue, length, slice_get, take};
 ghost use Rattle.std.specs.Prelude.{MatchOption, Some};
 ghost use Rattle.std.specs.List.{All};
-ghost use Rattle.kob_shared.specs.Fleets.{IsRising, mine, claims, DifferAt, claims_of, IsKept};
+ghost use Rattle.kob_shared.specs.Fleets.{IsDifference, IsFirstDifference, IsKept, IsRising};
+ghost use Rattle.kob_shared.specs.Fleets.{claims, mine};
 ghost use Rattle.kob_shared.specs.Runs.{events_in, notes_of, told_in};
 
 use crate::journal::{Journal, Receipt};
@@ -16,7 +17,8 @@ use kob_rights::Event;
 fn find_difference(journal: &Journal, worker: usize, notes: &Notes) -> Option<usize>
     ensures { MatchOption result
         (mine worker journal.now ≡ claims worker notes.now.events notes.now.told)
-        (DifferAt worker journal.now (claims worker notes.now.events notes.now.told)) }
+        (IsFirstDifference worker journal.now
+        (claims worker notes.now.events notes.now.told)) }
 {
     walk(journal, worker, notes.events(), notes.receipts())
 }
@@ -25,7 +27,7 @@ fn walk(journal: &Journal, worker: usize, events: &[Event], told: &[Receipt]) ->
     requires counted { length events.now ≡ length told.now }
     requires rising { IsRising told.now }
     ensures { MatchOption result (mine worker journal.now ≡ claims worker events.now told.now)
-        (DifferAt worker journal.now (claims worker events.now told.now)) }
+        (IsFirstDifference worker journal.now (claims worker events.now told.now)) }
 {
     let mut next = 0;
     for place in 0..journal.len() {
@@ -77,8 +79,7 @@ pub struct Difference {
 pub(crate) fn compare<E>(journal: &Journal, first: &Notes, done: &[Done<E>]) -> Option<Difference>
     ensures { let notes = notes_of first.now done.now in
         MatchOption result (IsKept (events_in notes) (told_in notes) journal.now)
-        (λ d. DifferAt d.worker journal.now
-        (claims_of (events_in notes) (told_in notes) d.worker) d.place) }
+        (λ d. IsDifference (events_in notes) (told_in notes) journal.now d.worker d.place) }
 {
     if let Some(place) = find_difference(journal, 0, first) {
         return Some(Difference { worker: 0, place });
@@ -92,12 +93,13 @@ pub(crate) fn compare<E>(journal: &Journal, first: &Notes, done: &[Done<E>]) -> 
     find_stranger(journal, done.len() + 1)
 }
 
-/// An entry of a worker that is not among so many.
+/// The first entry of a worker that is not among so many.
 fn find_stranger(journal: &Journal, workers: usize) -> Option<Difference>
     ensures { MatchOption result (All (λ x. x.worker < workers) journal.now)
         (λ d. (workers ≤ d.worker)
         × IfSome (slice_get journal.now d.place) (λ x. x.worker ≡ d.worker)
-        × (d.place < length journal.now)) }
+        × (d.place < length journal.now)
+        × All (λ x. x.worker < workers) (take d.place journal.now)) }
 {
     for place in 0..journal.len() {
         let entry = journal.at(place);

@@ -79,9 +79,15 @@ impl<'a> Desk<'a> {
         ensures err { OnErr result (self.new ≡ self.old) }
         ensures stale { IfErr result (IsStaleOnlyBelow self.old.seat.seen) }
     {
-        make_room(&mut self.events, &mut self.receipts)?;
+        if make_room(&mut self.events, &mut self.receipts).is_err() {
+            drop(request);
+            return Err(CallFault::Memory);
+        }
         let event = self.session.event(alloc, request)?;
-        let noted = event.copy(alloc)?;
+        let Ok(noted) = event.copy(alloc) else {
+            drop(event);
+            return Err(CallFault::Memory);
+        };
         let receipt = match self.session.send(rt, alloc, event) {
             Ok(receipt) => receipt,
             Err(fault) => {

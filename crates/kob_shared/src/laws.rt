@@ -4,17 +4,26 @@ ghost use Rattle.std.specs.Prelude.{List};
 ghost use Rattle.kob_broker.specs.State.{State};
 ghost use Rattle.kob_names.specs.declared.settings.Settings.{Settings};
 ghost use Rattle.kob_partition.specs.Retained.{Retained};
-ghost use Rattle.kob_shared.specs.Decided.{EachEntryIsJust};
+ghost use Rattle.kob_shared.specs.Decided.{EachEntryIsJust, EachEntryIsOneStep};
 ghost use Rattle.kob_shared.specs.Journals.{IsLegal};
 ghost use Rattle.kob_shared.specs.Openings.{opened_by};
 ghost use Rattle.kob_shared.specs.declared.journal.Entry.{Entry};
 
 /// Each entry of a legal journal is served exactly where the bindings in force after the entries
-/// before it grant every right, whoever made those: so a worker reads its own writes, and once a
-/// change of bindings was answered, every later entry is decided with it.
+/// before it grant every right, whoever made those: so once a change of bindings was answered,
+/// every later entry is decided with it.
 pub fn each_entry_is_just()
     ensures { (opening : Settings) (journal : List Entry) (now : State Retained)
         → IsLegal (opened_by opening) journal now → EachEntryIsJust opening journal }
+{
+    // The contract is the law.
+}
+
+/// Each entry of a legal journal is answered as one step from the state after the entries before
+/// it, whoever made those: so a worker reads its own writes.
+pub fn each_entry_is_one_step()
+    ensures { (opening : Settings) (journal : List Entry) (now : State Retained)
+        → IsLegal (opened_by opening) journal now → EachEntryIsOneStep opening journal }
 {
     // The contract is the law.
 }

@@ -24,7 +24,7 @@ pub use fleet::{Ran, find_tear, run_fleet};
 pub use fleet_fault::FleetFault;
 pub use fleet_stop::FleetStop;
 pub use journal::{Entry, Journal, Receipt};
-pub use laws::each_entry_is_just;
+pub use laws::{each_entry_is_just, each_entry_is_one_step};
 pub use notes::Notes;
 pub use recorded::{ENTRY_LIMIT, Recorded};
 pub use script::{Script, Transcript};

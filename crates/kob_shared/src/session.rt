@@ -153,12 +153,23 @@ impl<'a> Session<'a> {
         ensures { IfOk result
             (λ event. event ≡ event_by self.now.principal self.now.host request) }
     {
-        let principal = self.principal.copy(alloc)?;
-        let host = self.host.copy(alloc)?;
+        let Ok((principal, host)) = self.asker(alloc) else {
+            drop(request);
+            return Err(AllocError);
+        };
         Ok(Event {
             principal,
             host,
             request,
         })
+    }
+
+    /// The principal and the host that ask.
+    fn asker(&self, alloc: Global) -> Result<(Principal, Host), AllocError>
+        ensures { IfOk result (λ asker. (asker.0 ≡ self.now.principal) × (asker.1 ≡ self.now.host)) }
+    {
+        let principal = self.principal.copy(alloc)?;
+        let host = self.host.copy(alloc)?;
+        Ok((principal, host))
     }
 }

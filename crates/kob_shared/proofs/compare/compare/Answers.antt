@@ -11,7 +11,7 @@ returns-in-Some-find_difference g c =
     let one = c.index-done-k.result in
     let at = slice_get_read done (length done) c.loop-k.k one refl c.loop-k-test.true c.index-done-k.is in
     differ_done c.args.first.now done c.loop-k.k one c.args.journal.now c.in-Some-find_difference.place at
-    c.in-Some-find_difference.ensures
+    c.loop-k.invariant c.in-Some-find_difference.ensures
 
 pub loop-k-preserved : goal.loop-k-preserved
 loop-k-preserved g c =
