@@ -41,7 +41,7 @@ pub fn on_write<'a>(
 pub fn opened(alloc: Global, everyone: bool) -> Result<Authorizer, Fail> {
     let mut supers = Vec::new(alloc);
     supers.push(Principal::parse(alloc, "User:root")?)?;
-    Ok(Authorizer::open(alloc, supers, everyone)?)
+    Ok(Authorizer::open(alloc, supers, everyone))
 }
 
 /// Puts the rules in force by one call, and answers their serials.

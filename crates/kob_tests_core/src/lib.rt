@@ -8,6 +8,8 @@ mod chunks;
 #[cfg(test)]
 mod cut;
 #[cfg(test)]
+mod long_key;
+#[cfg(test)]
 mod names;
 #[cfg(test)]
 mod one_name;

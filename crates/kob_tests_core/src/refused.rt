@@ -134,7 +134,7 @@ fn come_and_go(alloc: Global, authorizer: &mut Authorizer) -> Option<bool> {
 }
 
 fn ten_come_and_go(alloc: Global) -> Option<bool> {
-    let mut authorizer = Authorizer::open(alloc, Vec::new(alloc), false).ok()?;
+    let mut authorizer = Authorizer::open(alloc, Vec::new(alloc), false);
     let done = come_and_go(alloc, &mut authorizer);
     drop(authorizer);
     done

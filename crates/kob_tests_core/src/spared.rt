@@ -4,7 +4,7 @@ use crate::authorizer::{named, opened};
 use crate::refused::{ALL, NEW, SERIALS, WITHOUT_TWO, asker, batch, stands, ten_bindings};
 use kob_authorizer::Authorizer;
 use kob_chunks::ChunkList;
-use kob_names::{Batch, Binding, FilterPattern, Host, Principal};
+use kob_names::{Batch, Binding, FilterPattern, Host, Operation, Principal, ResourceKind, Verdict};
 use kob_partition::{AdvanceFault, PartitionLog, Placement};
 use kob_prefix_tree::{PatternKind, PrefixTree};
 use kob_producers::{Judgement, ProducerTable};
@@ -240,5 +240,23 @@ fn tells(alloc: Global, authorizer: &mut Authorizer) -> Result<bool, Fail> {
 fn an_authorizer_is_read(rt: HostRuntime) -> Result<(), Fail> {
     let mut authorizer = opened(rt.alloc(), false)?;
     assert!(rt; tells(rt.alloc(), &mut authorizer)?);
+    Ok(())
+}
+
+/// Whether an authorizer is opened, and tells a super user at once.
+fn opens(alloc: Global, supers: Vec<Principal>, root: &Principal, from: &Host) -> bool {
+    spare(alloc);
+    let authorizer = Authorizer::open(alloc, supers, false);
+    let verdict = authorizer.authorize(root, from, Operation::Write, ResourceKind::Topic, "orders");
+    verdict == Verdict::Super && authorizer.entries().len() == 0
+}
+
+#[test]
+fn an_authorizer_is_opened(rt: HostRuntime) -> Result<(), Fail> {
+    let root = Principal::parse(rt.alloc(), "User:root")?;
+    let from = Host::parse(rt.alloc(), "h")?;
+    let mut supers = Vec::new(rt.alloc());
+    supers.push(Principal::parse(rt.alloc(), "User:root")?)?;
+    assert!(rt; opens(rt.alloc(), supers, &root, &from));
     Ok(())
 }

@@ -2,6 +2,11 @@
 
 use crate::played::play;
 use crate::runs::plays;
+use kob_acl_cli::print_list;
+use kob_broker::Broker;
+use kob_names::{Binding, Items};
+use kob_rights::{Body, Reply};
+use kob_script::read_script;
 use kob_text::Ended;
 use std::alloc::Global;
 use std::test::Fail;
@@ -87,6 +92,39 @@ User:root h describe-acls - - - - - - -
 #[test]
 fn remove_by_topic_script(rt: HostRuntime) -> Result<(), Fail> {
     play(rt.alloc(), REMOVE_BY_TOPIC_SCRIPT, Ended::Clean)
+}
+
+/// The bindings that the reply to the last event of a script holds.
+fn last_bindings(alloc: Global, script: &str) -> Option<Items<(u64, Binding)>> {
+    let script = read_script(alloc, script.as_bytes()).ok()?;
+    let mut broker = Broker::open(alloc, script.settings).ok()?;
+    let replies = broker.run(alloc, script.events.as_slice());
+    drop(broker);
+    match replies.ok()?.pop()? {
+        Reply::Done(Body::Bindings(found)) => Some(found),
+        _ => None,
+    }
+}
+
+#[test]
+fn removed_bindings_are_printed(rt: HostRuntime) -> Result<(), Fail> {
+    let script = "super User:root
+User:root h acl --add --allow-principal User:a --producer --consumer --topic t --group g
+User:root h acl --remove --topic t
+";
+    let lines = "binding 1 ALLOW User:a * Write Topic LITERAL t
+binding 2 ALLOW User:a * Describe Topic LITERAL t
+binding 3 ALLOW User:a * Create Topic LITERAL t
+binding 4 ALLOW User:a * Read Topic LITERAL t
+";
+    let found = last_bindings(rt.alloc(), script);
+    assert!(rt; found.is_some());
+    let printed = match found {
+        Some(found) => print_list(rt.alloc(), found.as_slice())?,
+        None => return Ok(()),
+    };
+    assert_eq!(rt; printed.as_str(), lines);
+    Ok(())
 }
 
 const EACH_COMMAND_HAS_A_NUMBER: &str = "super User:root

@@ -1,25 +1,28 @@
 //! Whole runs: scripts with their outputs, and readers and writers that give little or fail.
 
-use crate::guide::{DENY_BEATS_ALLOW_OUT, DENY_BEATS_ALLOW_TXT};
+use crate::guide::DENY_BEATS_ALLOW_TXT;
+use crate::resumed::{FIRST_OUTPUT, FIRST_SCRIPT};
 use kob_text::{Ended, RunFault, SCRIPT_LIMIT, run_text};
 use std::alloc::{AllocError, Global};
 use std::io;
 use std::io::{Error, ErrorKind, Read};
 use std::test::Fail;
 
-/// Gives one byte a call, and fails at the call after so many.
+/// Gives one byte a call. The call after so many fails, and no other.
 #[derive(Drop)]
 struct Slow<'a> {
     rest: &'a [u8],
     calls: usize,
+    failed: bool,
 }
 
 impl Read for Slow<'_> {
     fn read(&mut self, buf: &mut [u8]) -> io::Result<usize> {
-        if self.calls == 0 {
+        if self.calls == 0 && !self.failed {
+            self.failed = true;
             return Err(Error::from(ErrorKind::Other));
         }
-        self.calls -= 1;
+        self.calls = self.calls.saturating_sub(1);
         match self.rest.split_first() {
             Some((first, others)) if !buf.is_empty() => {
                 buf[0] = *first;
@@ -28,6 +31,19 @@ impl Read for Slow<'_> {
             }
             _ => Ok(0),
         }
+    }
+}
+
+/// Interrupts each call, and counts them.
+#[derive(Drop)]
+struct Interrupting {
+    calls: u64,
+}
+
+impl Read for Interrupting {
+    fn read(&mut self, _buf: &mut [u8]) -> io::Result<usize> {
+        self.calls = self.calls.saturating_add(1);
+        Err(Error::from(ErrorKind::Interrupted))
     }
 }
 
@@ -95,21 +111,33 @@ fn each_prefix_ends(rt: HostRuntime) -> Result<(), Fail> {
 
 #[test]
 fn failed_reads_write_nothing(rt: HostRuntime) -> Result<(), Fail> {
-    for calls in 0..DENY_BEATS_ALLOW_TXT.len() + 2 {
+    for calls in 0..FIRST_SCRIPT.len() + 2 {
         let mut written = Vec::new(rt.alloc());
         let mut reader = Slow {
-            rest: DENY_BEATS_ALLOW_TXT.as_bytes(),
+            rest: FIRST_SCRIPT.as_bytes(),
             calls,
+            failed: false,
         };
         let ended = run_text(rt.alloc(), &mut reader, &mut written);
-        if calls <= DENY_BEATS_ALLOW_TXT.len() {
+        if calls <= FIRST_SCRIPT.len() {
             assert_eq!(rt; ended, Err(RunFault::ReadFailed));
             assert_eq!(rt; written.len(), 0);
         } else {
             assert_eq!(rt; ended, Ok(Ended::Clean));
-            assert_eq!(rt; written.as_slice(), DENY_BEATS_ALLOW_OUT.as_bytes());
+            assert_eq!(rt; written.as_slice(), FIRST_OUTPUT.as_bytes());
         }
     }
+    Ok(())
+}
+
+#[test]
+fn calls_of_a_reader_have_a_limit(rt: HostRuntime) -> Result<(), Fail> {
+    let mut written = Vec::new(rt.alloc());
+    let mut reader = Interrupting { calls: 0 };
+    let ended = run_text(rt.alloc(), &mut reader, &mut written);
+    assert_eq!(rt; ended, Err(RunFault::ReadFailed));
+    assert_eq!(rt; reader.calls, 20_000_000);
+    assert_eq!(rt; written.len(), 0);
     Ok(())
 }
 

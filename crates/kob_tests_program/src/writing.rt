@@ -1,19 +1,20 @@
 //! How output is written: in pieces, as far as a writer takes it, and again after an interruption.
 
-use crate::guide::{DENY_BEATS_ALLOW_OUT, DENY_BEATS_ALLOW_TXT};
+use crate::resumed::{FIRST_OUTPUT, FIRST_SCRIPT};
 use kob_text::{Ended, RunFault, run_text};
 use std::alloc::Global;
 use std::io;
 use std::io::{Error, ErrorKind, Read, Write};
 use std::test::Fail;
 
-/// Takes at most so many bytes a call, fails at the call after so many, and keeps the most bytes
-/// that it was given at once.
+/// Takes at most so many bytes a call, and keeps the most bytes that it was given at once. The call
+/// after so many fails, and no other.
 #[derive(Drop)]
 struct Narrow {
     taken: Vec<u8>,
     width: usize,
     calls: usize,
+    failed: bool,
     widest: usize,
 }
 
@@ -23,6 +24,7 @@ impl Narrow {
             taken: Vec::new(alloc),
             width,
             calls,
+            failed: false,
             widest: 0,
         }
     }
@@ -31,10 +33,11 @@ impl Narrow {
 impl Write for Narrow {
     fn write(&mut self, buf: &[u8]) -> io::Result<usize> {
         self.widest = self.widest.max(buf.len());
-        if self.calls == 0 {
+        if self.calls == 0 && !self.failed {
+            self.failed = true;
             return Err(Error::from(ErrorKind::Other));
         }
-        self.calls -= 1;
+        self.calls = self.calls.saturating_sub(1);
         let count = buf.len().min(self.width);
         match self.taken.extend_from_slice(&buf[..count]) {
             Ok(()) => Ok(count),
@@ -86,9 +89,9 @@ fn write_to<W: Write>(alloc: Global, script: &[u8], writer: &mut W) -> Result<En
 /// A writer that takes so many calls of so many bytes has their bytes of the output, and the run
 /// fails unless they are all.
 fn leaves_a_front(alloc: Global, width: u16, calls: u16) -> bool {
-    let output = DENY_BEATS_ALLOW_OUT.as_bytes();
+    let output = FIRST_OUTPUT.as_bytes();
     let mut writer = Narrow::new(alloc, width.into(), calls.into());
-    let ended = write_to(alloc, DENY_BEATS_ALLOW_TXT.as_bytes(), &mut writer);
+    let ended = write_to(alloc, FIRST_SCRIPT.as_bytes(), &mut writer);
     let count = output.len().min(usize::from(width) * usize::from(calls));
     let end = if count < output.len() {
         Err(RunFault::WriteFailed)
@@ -144,12 +147,16 @@ fn write_long(alloc: Global, script: &mut Vec<u8>, output: &mut Vec<u8>) -> Resu
     Ok(())
 }
 
-/// A writer that takes so many calls has a front of the output, and the run fails unless it is all;
-/// at once it is given no more than a piece or one reply.
+// 65,536 bytes of short replies; those before the first long reply; that one; the second one; 65,536
+// bytes of short replies; the rest.
+const PIECES: usize = 6;
+
+/// A writer that takes so many calls has a front of the output, and the run fails unless it takes
+/// each piece; at once it is given no more than a piece or one reply.
 fn takes_pieces(alloc: Global, script: &[u8], output: &[u8], calls: usize) -> bool {
     let mut writer = Narrow::new(alloc, output.len(), calls);
     let ended = write_to(alloc, script, &mut writer);
-    let end = if writer.taken.len() < output.len() {
+    let end = if calls < PIECES {
         Err(RunFault::WriteFailed)
     } else {
         Ok(Ended::Clean)
@@ -171,7 +178,7 @@ fn long_output_is_written_in_pieces(rt: HostRuntime) -> Result<(), Fail> {
 #[test]
 fn interrupted_calls_are_made_again(rt: HostRuntime) -> Result<(), Fail> {
     let mut reader = Shaken {
-        inner: DENY_BEATS_ALLOW_TXT.as_bytes(),
+        inner: FIRST_SCRIPT.as_bytes(),
         ready: false,
     };
     let mut writer = Shaken {
@@ -180,9 +187,6 @@ fn interrupted_calls_are_made_again(rt: HostRuntime) -> Result<(), Fail> {
     };
     let ended = run_text(rt.alloc(), &mut reader, &mut writer);
     assert_eq!(rt; ended, Ok(Ended::Clean));
-    assert_eq!(rt;
-        writer.inner.taken.as_slice(),
-        DENY_BEATS_ALLOW_OUT.as_bytes()
-    );
+    assert_eq!(rt; writer.inner.taken.as_slice(), FIRST_OUTPUT.as_bytes());
     Ok(())
 }

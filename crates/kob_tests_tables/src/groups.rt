@@ -1,7 +1,7 @@
 //! Commits of groups that want of memory stops. `.ci/refuse` runs them with each growth refused in
 //! turn.
 
-use kob_groups::{CommitPlace, Groups};
+use kob_groups::{CommitFault, CommitPlace, Groups};
 use kob_names::Text;
 use std::alloc::{AllocError, Global};
 use std::test::Fail;
@@ -35,6 +35,16 @@ pub(crate) fn places(alloc: Global) -> Result<Vec<CommitPlace>, AllocError> {
     Ok(places)
 }
 
+/// Commits an offset at a place.
+pub(crate) fn commit(
+    alloc: Global,
+    groups: &mut Groups,
+    place: &CommitPlace,
+    offset: u64,
+) -> Result<(), CommitFault> {
+    groups.commit(alloc, &place.group, &place.topic, place.partition, offset)
+}
+
 pub(crate) fn holds(groups: &Groups, places: &[CommitPlace], offsets: &Offsets) -> bool {
     places
         .iter()
@@ -52,14 +62,9 @@ fn commits(
 ) -> Result<bool, Fail> {
     let (place, offset, after) = step;
     let place = places.get(*place).ok_or("no place")?;
-    let first = CommitPlace::copied(alloc, &place.group, &place.topic, place.partition)?;
-    let again = CommitPlace::copied(alloc, &place.group, &place.topic, place.partition)?;
-    let committed = match groups.commit(alloc, first, *offset) {
-        Ok(()) => {
-            drop(again);
-            true
-        }
-        Err(_) => { holds(groups, places, before) && groups.commit(alloc, again, *offset).is_ok() }
+    let committed = match commit(alloc, groups, place, *offset) {
+        Ok(()) => true,
+        Err(_) => holds(groups, places, before) && commit(alloc, groups, place, *offset).is_ok(),
     };
     Ok(committed && holds(groups, places, after))
 }

@@ -1,6 +1,7 @@
 //! Groups that go and come again, and topics whose commits go, until slots of groups that went are
 //! filled.
 
+use crate::groups::commit;
 use kob_groups::{CommitPlace, GroupNotFound, Groups};
 use kob_names::Text;
 use std::alloc::{AllocError, Global};
@@ -20,8 +21,8 @@ fn place(alloc: Global, group: &str, topic: &str) -> Result<CommitPlace, AllocEr
 /// Each group commits 1 on the topic `a`, and 2 on `b`.
 fn commit_all(alloc: Global, groups: &mut Groups) -> Result<(), Fail> {
     for name in NAMES {
-        groups.commit(alloc, place(alloc, name, "a")?, 1)?;
-        groups.commit(alloc, place(alloc, name, "b")?, 2)?;
+        commit(alloc, groups, &place(alloc, name, "a")?, 1)?;
+        commit(alloc, groups, &place(alloc, name, "b")?, 2)?;
     }
     Ok(())
 }
@@ -86,12 +87,32 @@ fn commits_on_a_topic_that_went_are_gone(rt: HostRuntime) -> Result<(), Fail> {
     for name in ["g", "i", "j", "k", "l"] {
         assert_eq!(rt; fetched(alloc, &groups, name)?, [None, Some(2)]);
     }
-    groups.commit(alloc, place(alloc, "i", "a")?, 3)?;
+    commit(alloc, &mut groups, &place(alloc, "i", "a")?, 3)?;
     groups.forget_topic(&Text::copied(alloc, "b")?);
     assert_eq!(rt; fetched(alloc, &groups, "i")?, [Some(3), None]);
     assert_eq!(rt; fetched(alloc, &groups, "g")?, [None, None]);
     groups.forget_topic(&Text::copied(alloc, "a")?);
     assert_eq!(rt; fetched(alloc, &groups, "i")?, [None, None]);
     assert!(rt; are_named(alloc, &groups, &["g", "i", "j", "k", "l"])?);
+    Ok(())
+}
+
+/// A group that commits on the topic `a` and goes again.
+fn comes_and_goes(alloc: Global, groups: &mut Groups, number: u32) -> Result<bool, Fail> {
+    let name = format!(in alloc; "group {number}")?;
+    let place = place(alloc, name.as_str(), "a")?;
+    commit(alloc, groups, &place, 1)?;
+    let is_there = groups.fetch(&place.group, &place.topic, 0) == Some(1);
+    Ok(is_there && groups.remove(&place.group).is_ok())
+}
+
+/// However many groups come and go on a topic, none is left behind.
+#[test]
+fn a_hundred_thousand_groups_come_and_go(rt: HostRuntime) -> Result<(), Fail> {
+    let mut groups = Groups::new(rt.alloc());
+    for number in 0..100_000 {
+        assert!(rt; comes_and_goes(rt.alloc(), &mut groups, number)?);
+    }
+    assert_eq!(rt; groups.names(rt.alloc())?.len(), 0);
     Ok(())
 }

@@ -1,7 +1,7 @@
 //! Calls on groups that take no memory. `.ci/refuse` runs them with every growth refused from
 //! `spare` on.
 
-use crate::groups::{Offsets, STEPS, holds, places};
+use crate::groups::{Offsets, STEPS, commit, holds, places};
 use kob_catalog::Catalog;
 use kob_groups::{CommitPlace, GroupNotFound, Groups};
 use kob_names::Text;
@@ -39,10 +39,9 @@ fn groups_and_topics_begin_empty(rt: HostRuntime) -> Result<(), Fail> {
 }
 
 /// The place at which a step commits.
-fn place_of_step(alloc: Global, places: &[CommitPlace], step: usize) -> Result<CommitPlace, Fail> {
+fn place_of_step(places: &[CommitPlace], step: usize) -> Result<&CommitPlace, Fail> {
     let (at, _, _) = STEPS.get(step).ok_or("no step")?;
-    let place = places.get(*at).ok_or("no place")?;
-    Ok(CommitPlace::copied(alloc, &place.group, &place.topic, place.partition)?)
+    Ok(places.get(*at).ok_or("no place")?)
 }
 
 /// Commits what so many steps commit.
@@ -54,7 +53,7 @@ fn commit_steps(
 ) -> Result<(), Fail> {
     for step in 0..count {
         let (_, offset, _) = STEPS.get(step).ok_or("no step")?;
-        groups.commit(alloc, place_of_step(alloc, places, step)?, *offset)?;
+        commit(alloc, groups, place_of_step(places, step)?, *offset)?;
     }
     Ok(())
 }
@@ -63,9 +62,14 @@ fn commit_steps(
 fn commits_step(alloc: Global, groups: &mut Groups, step: usize) -> Result<bool, Fail> {
     let places = places(alloc)?;
     commit_steps(alloc, groups, &places, step)?;
-    let place = place_of_step(alloc, &places, step)?;
+    let place = place_of_step(&places, step)?;
     let (_, offset, after) = STEPS.get(step).ok_or("no step")?;
-    let prepared = groups.prepare_commit(alloc, place, *offset)?;
+    let CommitPlace {
+        group,
+        topic,
+        partition,
+    } = place;
+    let prepared = groups.prepare_commit(alloc, group, topic, *partition, *offset)?;
     spare(alloc);
     groups.commit_commit(prepared);
     Ok(holds(groups, &places, after))
