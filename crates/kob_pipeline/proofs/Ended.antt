@@ -1,12 +1,12 @@
 -- What is left where the journal is what was noted, and where it is not.
-use Rattle.std.proofs.Common.{◌≡◌, ◌≢◌, ◌⊎◌, List, [], ◌∷◌, length, map, arith, refl, sym, ap, ◌∙◌, subst}
+use Rattle.std.proofs.Common.{◌≡◌, List, [], ◌∷◌, map, arith, refl, sym, subst}
 use Rattle.std.specs.List.{AllZip}
 use Rattle.kob_broker.specs.Change.{state_of}
 use Rattle.kob_names.specs.declared.settings.Settings.{Settings}
 use Rattle.kob_shared.specs.declared.compare.Difference.{Difference}
 use Rattle.kob_shared.specs.declared.journal.Entry.{Entry}
 use Rattle.kob_shared.specs.declared.work.Done.{Done}
-use Rattle.kob_shared.specs.Fleets.{DifferAt, EachIsAnswered, Follows, IsKept, claims_of}
+use Rattle.kob_shared.specs.Fleets.{EachIsAnswered, Follows, IsKept, IsTornAt}
 use Rattle.kob_shared.specs.Journals.{IsLegal, Record}
 use Rattle.kob_shared.specs.Noted.{Noted}
 use Rattle.kob_shared.specs.Openings.{opened_by}
@@ -17,7 +17,7 @@ use Rattle.kob_pipeline.specs.declared.end.WorkerEnd.{WorkerEnd}
 use Rattle.kob_pipeline.specs.declared.worker.Worker.{Worker}
 use Rattle.kob_pipeline.specs.Ends.{IsEnd}
 use Rattle.kob_pipeline.specs.Leavings.{HasNoRefusal, inboxes_of, outboxes_of}
-use Rattle.kob_pipeline.specs.Workers.{IsLeft, Planned, planned_as}
+use Rattle.kob_pipeline.specs.Workers.{IsLeft, planned_as}
 
 all_planned : (workers : List Worker) (done : List (Done WorkerEnd))
     → AllZip (λ w d. IsLeft (planned_as w) d.notes d.end) workers done
@@ -52,6 +52,7 @@ ended opening first workers done found end legal kept follows each unrefused ans
       answered = answered;
       kept = subst (λ (ns : List Noted). IsKept (events_in ns) (told_in ns) end.journal) (sym transcripts) here;
       worker_0 = first;
+      asked = refl;
       done = done;
       each = all_planned workers done each;
       unrefused = unrefused;
@@ -63,9 +64,6 @@ ended opening first workers done found end legal kept follows each unrefused ans
 -- it is not
 pub torn : (opening : Settings) (first : Noted) (done : List (Done WorkerEnd)) (found : Record) (d : Difference)
     (notes : List Noted) → IsTear opening (notes_of first done) found d → notes ≡ notes_of first done
-    → DifferAt d.worker found.journal (claims_of (events_in notes) (told_in notes) d.worker) d.place
-    ⊎ ((d.worker ≡ 0) × (found.opening ≢ opening))
+    → IsTornAt opening (events_in notes) (told_in notes) found d.worker d.place
 torn opening first done found d notes tear same =
-    subst (λ (ns : List Noted). DifferAt d.worker found.journal
-    (claims_of (events_in ns) (told_in ns) d.worker) d.place ⊎ ((d.worker ≡ 0) × (found.opening ≢ opening)))
-    (sym same) tear
+    subst (λ (ns : List Noted). IsTornAt opening (events_in ns) (told_in ns) found d.worker d.place) (sym same) tear

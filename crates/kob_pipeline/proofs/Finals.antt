@@ -8,7 +8,7 @@ use Rattle.kob_shared.specs.Fleets.{events_of_script}
 use Rattle.kob_shared.specs.Noted.{Noted}
 use Rattle.kob_shared.specs.Openings.{opened_by}
 use Rattle.kob_shared.specs.Journals.{IsLegal}
-use Rattle.kob_shared.specs.Runs.{notes_of}
+use Rattle.kob_shared.specs.Runs.{events_in, notes_of}
 use Rattle.kob_shared.specs.declared.script.Script.{Script}
 use Rattle.kob_shared.specs.declared.work.Done.{Done}
 use Rattle.kob_shared.proofs.Zips.{length_all_zip}
@@ -30,7 +30,7 @@ use Rattle.kob_pipeline.specs.declared.worker.Worker.{Worker}
 use Rattle.kob_pipeline.specs.Counts.{workers_planned}
 use Rattle.kob_pipeline.specs.Ends.{IsEnd}
 use Rattle.kob_pipeline.specs.Leavings.{HasNoRefusal, IsKeptByStore, inbox_of, inboxes_of, outbox_of, outboxes_of}
-use Rattle.kob_pipeline.specs.Pipelines.{IsAdministered, IsConsumedBy, IsPipeline, IsServedBy}
+use Rattle.kob_pipeline.specs.Pipelines.{IsPipeline}
 use Rattle.kob_pipeline.specs.Services.{IsServiceRun}
 use Rattle.kob_pipeline.specs.Workers.{IsAdministratorLeft, IsConsumptionLeft, IsLeft, IsServiceLeft, Planned, planned_as, planned_workers}
 use Rattle.kob_pipeline.specs.Workers.Planned.{Serving, Consuming, Administering}
@@ -260,6 +260,8 @@ pipeline_left opening plan end same left =
     record {
       legal = subst (λ o. IsLegal o end.journal (state_of end.broker)) same left.legal;
       begins = left.begins;
+      first =
+          ap (λ (ns : List Noted). slice_get (events_in ns) 0) left.transcripts ∙ ap Some left.asked;
       answered = left.answered;
       kept = left.kept;
       counted =

@@ -1,5 +1,5 @@
 -- What workers left, one worker more at a time.
-use Rattle.std.proofs.Common.{◌≡◌, List, [], ◌∷◌, ◌++◌, length, map, sym, ap, ◌∙◌}
+use Rattle.std.proofs.Common.{◌≡◌, List, [], ◌∷◌, ◌++◌, length, sym, ap, ◌∙◌}
 use Rattle.std.proofs.lemmas.List.{flat_map_more, map-append}
 use Rattle.kob_shared.specs.Fleets.{EachIsAnswered, IsAnswered}
 use Rattle.kob_shared.specs.Noted.{Noted}

@@ -25,6 +25,7 @@ pub mod TopicReads
 pub mod TopicNames
 pub mod CommitReads
 pub mod BrokerSteps
+pub mod Breaches
 pub mod BrokerHistory
 pub mod ConsumerRuns
 pub mod Ended

@@ -1,9 +1,9 @@
 -- The numbers of an outbox's rows are positive, so that a read from 0 on gives all.
-use Rattle.std.proofs.Common.{◌≡◌, ℕ, suc, ◌<◌, List, [], ◌∷◌, ◌++◌, Bool, true, false, filter, cond, arith, refl, sym, ap, ◌∙◌, subst}
-use Rattle.std.specs.Prelude.{Option, None, Some, nat_lt, length}
+use Rattle.std.proofs.Common.{◌≡◌, ◌<◌, List, [], ◌∷◌, ◌++◌, Bool, true, false, filter, cond, arith, refl, sym, ap, ◌∙◌, subst}
+use Rattle.std.specs.Prelude.{Option, None, Some, nat_lt}
 use Rattle.std.specs.List.{AllByRecursion}
 use Rattle.std.proofs.lemmas.Bool.{cond-true, lt-ltb}
-use Rattle.kob_outbox.specs.Contents.{Contents, Event}
+use Rattle.kob_outbox.specs.Contents.{Event}
 use Rattle.kob_outbox.specs.Reading.{later_than}
 use Rattle.kob_outbox.specs.Recording.{next_seq}
 use Rattle.kob_outbox.specs.Events.{stored_event}

@@ -1,12 +1,11 @@
 -- Few opening bindings pass no limit.
-use Rattle.std.proofs.Common.{◌≡◌, ℕ, ◌+◌, ◌≤◌, List, [], ◌∷◌, ◌++◌, length, Bool, true, false, cond, ltb, arith, refl, sym, ap, ◌∙◌, subst, length-append}
-use Rattle.std.specs.Prelude.{Option, None, Some}
+use Rattle.std.proofs.Common.{◌≡◌, ℕ, ◌+◌, ◌≤◌, List, [], ◌∷◌, ◌++◌, length, Bool, true, false, cond, ltb, arith, sym, ◌∙◌, length-append}
+use Rattle.std.specs.Prelude.{None, Some}
 use Rattle.std.specs.List.{fold}
 use Rattle.std.proofs.lemmas.Bool.{cond-false, le-ltb}
 use Rattle.kob_authorizer.specs.AtOnce.{is_known, new_bindings, with_new}
 use Rattle.kob_authorizer.specs.Limits.{serial_limit}
 use Rattle.kob_authorizer.specs.Passing.{create_fault, limit_fault}
-use Rattle.kob_authorizer.specs.declared.fault.CreateFault.{CreateFault}
 use Rattle.kob_authorizer.specs.declared.fault.CreateFault.TheVariants.{TooMany, SerialsSpent}
 use Rattle.kob_authorizer.proofs.InTurn.{fault_by_count}
 use Rattle.kob_names.specs.Binding.{Binding}

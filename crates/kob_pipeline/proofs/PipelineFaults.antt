@@ -1,10 +1,9 @@
 -- The faults of a pipeline.
-use Rattle.std.proofs.Common.{ℕ, ◌≤◌, arith}
+use Rattle.std.proofs.Common.{◌≡◌, ℕ, zero, suc, ◌≤◌, ◌<◌, arith, refl}
 use Rattle.kob_names.specs.declared.settings.Settings.{Settings}
 use Rattle.kob_shared.specs.declared.fleet_stop.FleetStop.{FleetStop}
 use Rattle.kob_shared.specs.declared.fleet_stop.FleetStop.TheVariants.{NotBegun, Memory, Stale, Full}
-use Rattle.kob_shared.specs.Runs.{IsNamedWithin}
-use Rattle.kob_shared.proofs.NamedWorkers as fleets
+use Rattle.kob_shared.specs.Runs.{IsFullOnlyPast, IsNamedWithin}
 use Rattle.kob_pipeline.specs.declared.fault.PipelineFault.{PipelineFault}
 use Rattle.kob_pipeline.specs.declared.fault.PipelineFault.TheVariants as faults
 use Rattle.kob_pipeline.specs.Faults.{IsLater, IsOther, IsTornOnlyWhere, NamesWorkerWithin, as_fault}
@@ -21,16 +20,19 @@ torn_stopped opening Memory = tt
 torn_stopped opening (Stale worker length) = tt
 torn_stopped opening (Full worker) = tt
 
-pub named_stopped : (count : ℕ) (s : FleetStop) → IsNamedWithin count s → NamesWorkerWithin count (as_fault s)
-named_stopped count NotBegun named = tt
-named_stopped count Memory named = tt
-named_stopped count (Stale worker length) named = named
-named_stopped count (Full worker) named = named
+-- worker 0 is not named where its events fit
+not_first : (worker limit count : ℕ) → (worker ≡ 0 → limit < count) → count ≤ limit → 1 ≤ worker
+not_first zero limit count full fits = absurd (omega (arith, full refl, fits))
+not_first (suc worker) limit count full fits = omega arith
 
 -- a fleet of no more workers names one of them
-pub named_fleet : (low high : ℕ) (s : FleetStop) → low ≤ high → IsNamedWithin low s
-    → NamesWorkerWithin high (as_fault s)
-named_fleet low high s less named = named_stopped high s (fleets.named_more low high s less named)
+pub named_fleet : (low high limit count : ℕ) (s : FleetStop) → low ≤ high → IsNamedWithin low s
+    → IsFullOnlyPast limit count s → count ≤ limit → NamesWorkerWithin high (as_fault s)
+named_fleet low high limit count NotBegun less named full fits = tt
+named_fleet low high limit count Memory less named full fits = tt
+named_fleet low high limit count (Stale worker length) less named full fits = (named.0, omega (arith, named.1))
+named_fleet low high limit count (Full worker) less named full fits =
+    (not_first worker limit count full fits, omega (arith, named))
 
 -- memory and the store name no worker, and are no tear
 pub other_later : (f : PipelineFault) → IsOther f → IsLater f
@@ -65,7 +67,7 @@ other_named count (faults.Torn worker place found transcripts) other = absurd ot
 
 pub named_more : (low high : ℕ) (f : PipelineFault) → low ≤ high → NamesWorkerWithin low f → NamesWorkerWithin high f
 named_more low high (faults.Stale worker count) less named = (named.0, omega (arith, named.1))
-named_more low high (faults.Full worker) less named = omega arith
+named_more low high (faults.Full worker) less named = (named.0, omega (arith, named.1))
 named_more low high (faults.Torn worker place found told) less named = tt
 named_more low high faults.TooManyWorkers less named = tt
 named_more low high faults.JournalFull less named = tt

@@ -3,7 +3,7 @@ use Rattle.std.proofs.Common.{◌≡◌, ℕ, ◌+◌, ◌<◌, List, [], ◌∷
 use Rattle.std.proofs.lemmas.List.{take_more}
 use Rattle.kob_router.specs.declared.line.Call.{Call}
 use Rattle.kob_pipeline.specs.declared.plan.Loss.{Loss}
-use Rattle.kob_pipeline.specs.Steps.{Doing, Leads, Standing, Steps, standing}
+use Rattle.kob_pipeline.specs.Steps.{Leads, Standing, Steps, standing}
 
 -- one step more
 pub steps_push : {S T M : Type 0} (does : S → T → List M → List Loss → S → Type 0) (old mid new : S) (steps : List T)

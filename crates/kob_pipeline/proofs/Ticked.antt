@@ -1,6 +1,5 @@
 -- A tick as a step of its worker, and what its losses say of its calls.
 use Rattle.std.proofs.Common.{◌≡◌, ℕ, List, [], ◌∷◌, ◌++◌, drop, length, inl, inr, refl, sym, ap, ◌∙◌, subst}
-use Rattle.std.specs.Prelude.{None, Some}
 use Rattle.std.proofs.lemmas.List.{drop_at}
 use Rattle.kob_router.specs.declared.line.Call.{Call}
 use Rattle.kob_router.specs.Dispatches.{Dispatching}

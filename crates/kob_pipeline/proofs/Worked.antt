@@ -1,5 +1,5 @@
 -- What a worker's steps, its losses and its notes make together.
-use Rattle.std.proofs.Common.{◌≡◌, List, [], ◌∷◌, ◌++◌, map, Result, Ok, Err, IfOk, refl, sym, ap, ◌∙◌, subst}
+use Rattle.std.proofs.Common.{◌≡◌, List, [], ◌++◌, map, Result, Ok, Err, IfOk, sym, ap, ◌∙◌, subst}
 use Rattle.std.specs.List.{All, enumerate_from}
 use Rattle.kob_inbox.specs.Rows.{placed_intake}
 use Rattle.kob_inbox.specs.Run as consumers
@@ -20,7 +20,7 @@ use Rattle.kob_pipeline.specs.declared.plan.Service.{Service}
 use Rattle.kob_pipeline.specs.declared.plan.ServiceStep.{ServiceStep}
 use Rattle.kob_pipeline.specs.Consumers.{IsConsumerStep, IsConsumption}
 use Rattle.kob_pipeline.specs.Losses.{AreServedByLoss}
-use Rattle.kob_pipeline.specs.Served.{AreServed, served_by_notes}
+use Rattle.kob_pipeline.specs.Served.{served_by_notes}
 use Rattle.kob_pipeline.specs.Services.{IsServiceRun, IsServiceStep}
 use Rattle.kob_pipeline.specs.Steps.{Leads, Steps, standing}
 use Rattle.kob_pipeline.specs.Workers.{IsInboxLeft, IsOutboxLeft}

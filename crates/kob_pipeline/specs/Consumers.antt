@@ -1,5 +1,5 @@
 -- What the steps of a consumer do.
-use Rattle.std.specs.Prelude.{◌≡◌, ℕ, List, [], ◌∷◌, map}
+use Rattle.std.specs.Prelude.{◌≡◌, List, [], ◌∷◌, map}
 use Rattle.std.specs.List.{All, enumerate_from}
 use Rattle.kob_inbox.specs.Rows.{placed_intake}
 use Rattle.kob_inbox.specs.Run.{IsConsumerRun, Move, State, calls_of, start}

@@ -23,6 +23,7 @@ pub record IsEnd (opening : Settings) (first : List Event) (planned : List Plann
   pub answered : EachIsAnswered (events_in end.transcripts.items) (told_in end.transcripts.items)
   pub kept : IsKept (events_in end.transcripts.items) (told_in end.transcripts.items) end.journal
   pub worker_0 : Noted
+  pub asked : worker_0.events ≡ first
   pub done : List (Done WorkerEnd)
   pub each : AllZip (λ w d. IsLeft w d.notes d.end) planned done
   pub unrefused : HasNoRefusal done

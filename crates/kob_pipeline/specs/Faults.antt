@@ -1,9 +1,9 @@
 -- How a pipeline may fail.
-use Rattle.std.specs.Prelude.{◌≡◌, ◌≢◌, ◌⊎◌, ℕ, ◌≤◌}
+use Rattle.std.specs.Prelude.{◌≡◌, ℕ}
 use Rattle.kob_names.specs.declared.settings.Settings.{Settings}
 use Rattle.kob_shared.specs.declared.fleet_stop.FleetStop.{FleetStop}
 use Rattle.kob_shared.specs.declared.fleet_stop.FleetStop.TheVariants as stops
-use Rattle.kob_shared.specs.Fleets.{DifferAt, claims_of}
+use Rattle.kob_shared.specs.Fleets.{EachIsAnswered, IsTornAt, IsWorkerWithin}
 use Rattle.kob_shared.specs.Runs.{events_in, told_in}
 use Rattle.kob_pipeline.specs.declared.fault.PipelineFault.{PipelineFault}
 use Rattle.kob_pipeline.specs.declared.fault.PipelineFault.TheVariants.{TooManyWorkers, JournalFull, NotBegun, Memory, Stale, Full, Store, Torn}
@@ -18,13 +18,11 @@ as_fault (stops.Full worker) = Full worker
 abbrev pub IsAsFault : FleetStop → PipelineFault → Type 0
 IsAsFault stop fault = fault ≡ as_fault stop
 
--- the journal that is given back differs at the place from the worker's transcript; or, for worker
--- 0, other settings were stored as those that it was opened with
+-- the journal that is given back is torn there, and each transcript has a receipt for each event
 abbrev pub IsTornOnlyWhere : Settings → PipelineFault → Type 0
 IsTornOnlyWhere opening (Torn worker place found transcripts) =
-    DifferAt worker found.journal
-    (claims_of (events_in transcripts.items) (told_in transcripts.items) worker) place
-    ⊎ ((worker ≡ 0) × (found.opening ≢ opening))
+    EachIsAnswered (events_in transcripts.items) (told_in transcripts.items)
+    × IsTornAt opening (events_in transcripts.items) (told_in transcripts.items) found worker place
 IsTornOnlyWhere opening fault = Unit {0}
 
 -- a fault that comes after the counts were found to fit
@@ -33,13 +31,13 @@ IsLater TooManyWorkers = ⊥
 IsLater JournalFull = ⊥
 IsLater fault = Unit {0}
 
--- the worker is one of worker 0 and so many more, and worker 0 is not stale
+-- the worker is one of so many, and not worker 0, whose events fit
 abbrev pub NamesWorkerWithin : ℕ → PipelineFault → Type 0
-NamesWorkerWithin count (Stale worker length) = (1 ≤ worker) × (worker ≤ count)
-NamesWorkerWithin count (Full worker) = worker ≤ count
+NamesWorkerWithin count (Stale worker length) = IsWorkerWithin count worker
+NamesWorkerWithin count (Full worker) = IsWorkerWithin count worker
 NamesWorkerWithin count fault = Unit {0}
 
--- a fault of putting together what was left: want of memory, or a database that refused
+-- a fault of putting together what was left: out of memory, or a database that refused
 abbrev pub IsOther : PipelineFault → Type 0
 IsOther Memory = Unit {0}
 IsOther Store = Unit {0}

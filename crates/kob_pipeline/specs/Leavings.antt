@@ -5,7 +5,7 @@ use Rattle.kob_shared.specs.declared.work.Done.{Done}
 use Rattle.kob_pipeline.specs.declared.end.InboxEnd.{InboxEnd}
 use Rattle.kob_pipeline.specs.declared.end.OutboxEnd.{OutboxEnd}
 use Rattle.kob_pipeline.specs.declared.end.WorkerEnd.{WorkerEnd}
-use Rattle.kob_pipeline.specs.declared.end.WorkerEnd.TheVariants.{Outbox, Inbox, Nothing, StoreRefused}
+use Rattle.kob_pipeline.specs.declared.end.WorkerEnd.TheVariants.{Outbox, Inbox, StoreRefused}
 
 -- the outbox that a worker left, if it left one
 abbrev pub outbox_of : WorkerEnd → List OutboxEnd

@@ -1,5 +1,5 @@
 -- What a pipeline leaves of a plan.
-use Rattle.std.specs.Prelude.{◌≡◌, ℕ, ◌+◌, List, length, Some, slice_get}
+use Rattle.std.specs.Prelude.{◌≡◌, ℕ, ◌+◌, length, Some, slice_get}
 use Rattle.kob_broker.specs.Change.{state_of}
 use Rattle.kob_shared.specs.Fleets.{BeginsWith, EachIsAnswered, IsKept, events_of_script}
 use Rattle.kob_shared.specs.Journals.{IsLegal}
@@ -49,12 +49,13 @@ pub record IsAdministered (end : PipelineEnd) (worker : ℕ) (script : Script) :
   pub transcript : slice_get end.transcripts.items worker ≡ Some noted
   pub events : noted.events ≡ events_of_script script
 
--- The journal is legal from the plan's settings on and begins with the first events, as worker 0's.
--- Each worker's transcript is its entries, with a receipt for each event, at rising places, and
--- nobody else has an entry. Each worker did its steps.
+-- The journal is legal from the plan's settings on and begins with the first events, which are all
+-- that worker 0 asked. Each worker's transcript is its entries, with a receipt for each event, at
+-- rising places, and nobody else has an entry. Each worker did its steps.
 pub record IsPipeline (plan : Plan) (end : PipelineEnd) : Type 0 where
   pub legal : IsLegal (opened_by plan.settings) end.journal (state_of end.broker)
   pub begins : BeginsWith plan.first end.journal
+  pub first : slice_get (events_in end.transcripts.items) 0 ≡ Some plan.first
   pub answered : EachIsAnswered (events_in end.transcripts.items) (told_in end.transcripts.items)
   pub kept : IsKept (events_in end.transcripts.items) (told_in end.transcripts.items) end.journal
   pub counted : length end.transcripts.items ≡ workers_planned plan + 1

@@ -1,9 +1,11 @@
 -- What a pipeline leaves of partitions, outboxes and inboxes, as the laws speak of it.
-use Rattle.std.specs.Prelude.{◌≡◌, ℕ, List, [], map}
+use Rattle.std.specs.Prelude.{◌≡◌, ℕ, List, [], map, Some, slice_get}
+use Rattle.std.specs.List.{AllByRecursion}
 use Rattle.kob_names.specs.declared.record.Record.{Record}
 use Rattle.kob_partition.specs.Batches.{records_of}
 use Rattle.kob_outbox.specs.Contents as outboxes
 use Rattle.kob_outbox.specs.Events.{stored_row}
+use Rattle.kob_router.specs.Dispatches.{dispatch_of}
 use Rattle.kob_router.specs.declared.place.Place.{Place}
 use Rattle.kob_inbox.specs.Contents as inboxes
 use Rattle.kob_inbox.specs.Intake.{taken_in}
@@ -12,12 +14,15 @@ use Rattle.kob_inbox.specs.Run.{taken_of}
 use Rattle.kob_inbox.specs.declared.inbox_row.InboxRow.{InboxRow}
 use Rattle.kob_pipeline.specs.BrokerView.{view_after}
 use Rattle.kob_pipeline.specs.Taking.{IsTakenInOrder}
-use Rattle.kob_pipeline.specs.Pipelines.{IsConsumedBy}
+use Rattle.kob_pipeline.specs.PlanRows.{rows_of_service}
+use Rattle.kob_pipeline.specs.Pipelines.{IsConsumedBy, service_number}
+use Rattle.kob_pipeline.specs.Waiting.{IsWaitingOrSent}
 use Rattle.kob_pipeline.specs.declared.end.InboxEnd.{InboxEnd}
 use Rattle.kob_pipeline.specs.declared.end.OutboxEnd.{OutboxEnd}
 use Rattle.kob_pipeline.specs.declared.end.PipelineEnd.{PipelineEnd}
 use Rattle.kob_pipeline.specs.declared.plan.ConsumerPlan.{ConsumerPlan}
 use Rattle.kob_pipeline.specs.declared.plan.Plan.{Plan}
+use Rattle.kob_pipeline.specs.declared.plan.Service.{Service}
 
 -- all records that a partition has accepted by the end of the journal, each at its offset
 abbrev pub records_at : Plan → PipelineEnd → Place → List Record
@@ -39,3 +44,12 @@ pub record TakesInOrder (plan : Plan) (end : PipelineEnd) (worker k : ℕ) (cons
   pub by : IsConsumedBy end worker k consumer
   pub order : IsTakenInOrder place (records_at plan end place) (taken_of by.run.moves)
   pub inbox : inbox_in by.left ≡ taken_in [] (taken_of by.run.moves)
+
+-- no row that a service recorded is lost: it stands past the mark in the outbox that is left, or the
+-- journal has a PRODUCE of its record that was done
+abbrev pub IsNoneLost : Plan → PipelineEnd → Type 0
+IsNoneLost plan end = (k : ℕ) (service : Service) (left : OutboxEnd)
+    → slice_get plan.services.items k ≡ Some service
+    → slice_get end.outboxes.items k ≡ Some left
+    → AllByRecursion (IsWaitingOrSent (dispatch_of service.target) (service_number plan k)
+    end.journal (outbox_in left)) (rows_of_service service)

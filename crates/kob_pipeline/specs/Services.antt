@@ -1,7 +1,6 @@
 -- What the steps of a service do.
-use Rattle.std.specs.Prelude.{◌≡◌, ◌⊎◌, ℕ, List, [], ◌∷◌, map}
+use Rattle.std.specs.Prelude.{◌≡◌, ◌⊎◌, List, [], ◌∷◌, map}
 use Rattle.std.specs.List.{All, AllByRecursion}
-use Rattle.kob_outbox.specs.Contents.{Contents}
 use Rattle.kob_outbox.specs.Events.{stored_row}
 use Rattle.kob_router.specs.Dispatches.{Dispatching, dispatch_of}
 use Rattle.kob_router.specs.Run.{IsRecordable, IsRouterRun, Move, State, calls_of, start}

@@ -1,6 +1,6 @@
 //! A consumer at work: its inbox and how far it has come, step by step.
 
-ghost use Rattle.std.specs.Prelude.{◌≡◌, [], map, IfOk, OnOk};
+ghost use Rattle.std.specs.Prelude.{◌≡◌, [], map, IfOk, OnErr, OnOk};
 ghost use Rattle.std.specs.List.{enumerate_from};
 ghost use Rattle.kob_inbox.specs.Rows.{placed_intake};
 ghost use Rattle.kob_inbox.specs.Run.{calls_of, start};
@@ -70,7 +70,7 @@ impl Consuming {
         Ok(())
     }
 
-    /// Makes one step. Want of memory and a refusal of the database end it, and so does a call that
+    /// Makes one step. Out of memory and a refusal of the database end it, and so does a call that
     /// was not served though it was not to be lost.
     fn step<R: Wait, G: Gate>(
         &mut self,
@@ -145,7 +145,8 @@ impl Consuming {
 
 /// Whether neither memory nor the database stopped a tick.
 fn goes_on(tick: Tick) -> Result<(), StepFault>
-    ensures { OnOk result (GoesOn tick) }
+    ensures ok { OnOk result (GoesOn tick) }
+    ensures err { OnErr result (¬ (GoesOn tick)) }
 {
     match tick {
         Tick::Stopped(StopReason::Memory) => Err(StepFault::Call(CallFault::Memory)),

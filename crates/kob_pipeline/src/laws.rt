@@ -1,19 +1,16 @@
 //! The laws of a pipeline: what its journal says of its outboxes, topics and inboxes.
 
 ghost use Rattle.std.specs.Prelude.{◌≡◌, List, ℕ, Some, slice_get};
-ghost use Rattle.std.specs.List.{AllByRecursion};
 ghost use Rattle.kob_router.specs.Dispatches.{dispatch_of};
 ghost use Rattle.kob_router.specs.declared.place.Place.{Place as PlaceValue};
 ghost use Rattle.kob_pipeline.specs.Delivery.{IsDelivered};
 ghost use Rattle.kob_pipeline.specs.Pipelines.{IsPipeline, consumer_number, service_number};
-ghost use Rattle.kob_pipeline.specs.PlanEnds.{TakesInOrder, inbox_in, outbox_in, records_at};
+ghost use Rattle.kob_pipeline.specs.PlanEnds.{IsNoneLost, TakesInOrder, inbox_in, records_at};
 ghost use Rattle.kob_pipeline.specs.PlanRows.{rows_of_service};
 ghost use Rattle.kob_pipeline.specs.Premises.{ArePrivate, IsNeverDeleted};
 ghost use Rattle.kob_pipeline.specs.Premises.{IsSoleCommitter, IsSoleProducer};
 ghost use Rattle.kob_pipeline.specs.Reaching.{ReachesInOrder};
-ghost use Rattle.kob_pipeline.specs.Waiting.{IsWaitingOrSent};
 ghost use Rattle.kob_pipeline.specs.declared.end.InboxEnd.{InboxEnd as InboxLeft};
-ghost use Rattle.kob_pipeline.specs.declared.end.OutboxEnd.{OutboxEnd as OutboxLeft};
 ghost use Rattle.kob_pipeline.specs.declared.plan.ConsumerPlan.{ConsumerPlan as Consumer};
 ghost use Rattle.kob_pipeline.specs.declared.plan.Service.{Service as ServicePlan};
 
@@ -37,11 +34,7 @@ pub fn router_law(plan: &Plan, end: &PipelineEnd)
         → IsNeverDeleted place.topic end.now.journal
         → IsDelivered (dispatch_of service.target) place (rows_of_service service)
         (records_at plan.now end.now place) }
-    ensures none_lost { (k : ℕ) (service : ServicePlan) (left : OutboxLeft)
-        → slice_get plan.now.services.items k ≡ Some service
-        → slice_get end.now.outboxes.items k ≡ Some left
-        → AllByRecursion (IsWaitingOrSent (dispatch_of service.target)
-        (service_number plan.now k) end.now.journal (outbox_in left)) (rows_of_service service) }
+    ensures none_lost { IsNoneLost plan.now end.now }
 {
     // By the definitions.
 }
@@ -68,10 +61,12 @@ pub fn consumer_law(plan: &Plan, end: &PipelineEnd)
 /// each aggregate the events that the service recorded, from the first on and none left out, in
 /// their order, each once, with its row's key and value.
 ///
+/// No recorded row is lost, as `router_law` says.
+///
 /// It makes no call and takes no memory. The condition is what `pipeline` answers.
 pub fn pipeline_law(plan: &Plan, end: &PipelineEnd)
     requires { IsPipeline plan.now end.now }
-    ensures { (i k : ℕ) (service : ServicePlan) (consumer : Consumer) (left : InboxLeft)
+    ensures reached { (i k : ℕ) (service : ServicePlan) (consumer : Consumer) (left : InboxLeft)
         → slice_get plan.now.services.items i ≡ Some service
         → slice_get plan.now.consumers.items k ≡ Some consumer
         → slice_get end.now.inboxes.items k ≡ Some left
@@ -79,6 +74,7 @@ pub fn pipeline_law(plan: &Plan, end: &PipelineEnd)
         consumer.subscription.group consumer.subscription.assignment end.now.journal
         → (kind id : List ℕ)
         → ReachesInOrder (rows_of_service service) (inbox_in left) kind id }
+    ensures none_lost { IsNoneLost plan.now end.now }
 {
     // By the definitions.
 }

@@ -61,6 +61,7 @@ impl<'a, R: Wait, G: Gate> DeskLine<'a, R, G> {
     pub(crate) fn lose(&mut self, loss: Loss)
         ensures calls { self.new.calls ≡ self.old.calls }
         ensures unmade { self.new.unmade ≡ self.old.unmade }
+        ensures loss { self.new.loss ≡ loss }
     {
         self.loss = loss;
     }
@@ -136,6 +137,7 @@ impl<'a, R: Wait, G: Gate> DeskLine<'a, R, G> {
     fn make(&mut self, alloc: Global, request: Request, loss: Loss) -> Option<(Reply, Reply)>
         ensures calls { self.new.calls ≡ self.old.calls }
         ensures unmade { self.new.unmade ≡ self.old.unmade }
+        ensures heard { IfSome result (λ _. loss ≡ Loss.None) }
         ensures same { IfSome result (λ r. r.0 ≡ r.1) }
         ensures fits { IfSome result (λ r. Fits request r.1) }
         ensures within { IfSome result (λ r. OffsetsWithin r.1) }
@@ -146,11 +148,11 @@ impl<'a, R: Wait, G: Gate> DeskLine<'a, R, G> {
         }
         match replies_of(self.rt, alloc, &mut self.desk, request) {
             Ok(replies) => {
-                if loss == Loss::AfterServe {
-                    drop(replies);
-                    return None;
+                if loss == Loss::None {
+                    return Some(replies);
                 }
-                Some(replies)
+                drop(replies);
+                None
             }
             Err(fault) => {
                 self.fault = Some(fault);

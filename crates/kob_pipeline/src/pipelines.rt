@@ -72,6 +72,7 @@ fn run_plan<R: Threads + Wait + Sync, G: Gate + Sync>(
 ) -> Result<PipelineEnd, PipelineFault>
     requires runnable { IsRunnable plan.now }
     requires workers { workers_planned plan.now ≤ worker_limit }
+    requires fits { entries_planned plan.now ≤ entry_limit }
     ensures ok { IfOk result (IsPipeline plan.now) }
     ensures torn { IfErr result (IsTornOnlyWhere (settings_of (opened_by plan.now.settings))) }
     ensures later { IfErr result IsLater }

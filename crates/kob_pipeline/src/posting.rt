@@ -1,8 +1,11 @@
 //! A service at work: its router and its outbox, step by step.
 
-ghost use Rattle.std.specs.Prelude.{◌≡◌, ◌≤◌, [], map, IfOk, None, OnOk, option_map};
-ghost use Rattle.kob_outbox.specs.Events.{stored_row};
+ghost use Rattle.std.specs.Prelude.{◌≡◌, ◌≤◌, ◌⊎◌, ◌^◌, [], map, IfOk, IsErrOf, None};
+ghost use Rattle.std.specs.Prelude.{OnErr, OnOk, false, option_map};
+ghost use Rattle.kob_outbox.specs.Events.{id_text, stored_row};
+ghost use Rattle.kob_outbox.specs.Fields.{first_bad};
 ghost use Rattle.kob_outbox.specs.Reading.{later_than};
+ghost use Rattle.kob_outbox.specs.Recording.{is_recorded, next_seq};
 ghost use Rattle.kob_router.specs.Dispatches.{dispatch_of};
 ghost use Rattle.kob_router.specs.Run.{calls_of, start};
 ghost use Rattle.kob_router.specs.Tick.{IsFirst, hand_of, state_of};
@@ -74,7 +77,7 @@ impl Posting {
         Ok(())
     }
 
-    /// Makes one step. Want of memory and a refusal of the database end it, and so does a call that
+    /// Makes one step. Out of memory and a refusal of the database end it, and so does a call that
     /// was not served though it was not to be lost.
     fn step<R: Wait, G: Gate>(
         &mut self,
@@ -107,7 +110,8 @@ impl Posting {
         }
     }
 
-    /// Records an event. A text that does not fit and an id that is spent leave all as it is.
+    /// Records an event. A text that does not fit and an id that is spent leave all as it is, and the
+    /// service goes on.
     fn note(&mut self, change: &Change, event: &OutboxEvent) -> Result<(), StepFault>
         requires { IsFirst (option_map hand_of self.old.router.hand) self.old.outbox }
         ensures first { OnOk result (IsFirst (option_map hand_of self.new.router.hand)
@@ -118,6 +122,10 @@ impl Posting {
             (standing (state_of self.old.router self.old.outbox) calls self.old.losses.items)
             (steps.Record change.now event.now)
             (standing (state_of self.new.router self.new.outbox) calls self.new.losses.items)) }
+        ensures fits { OnErr result (first_bad change.now event.now ≡ None) }
+        ensures fresh { IsErrOf result StepFault.Store
+            → (is_recorded self.old.outbox.ids (id_text event.now.id) ≡ false)
+            ⊎ (next_seq self.old.outbox ≡ 2 ^ 63) }
     {
         match self.outbox.record(change, event) {
             Ok(_) => Ok(()),
@@ -194,7 +202,8 @@ impl Posting {
 
 /// Whether neither memory nor the database stopped a tick.
 fn goes_on(tick: Tick) -> Result<(), StepFault>
-    ensures { OnOk result (GoesOn tick) }
+    ensures ok { OnOk result (GoesOn tick) }
+    ensures err { OnErr result (¬ (GoesOn tick)) }
 {
     match tick {
         Tick::Stopped(StopReason::Memory) => Err(StepFault::Call(CallFault::Memory)),

@@ -1,4 +1,4 @@
-use Rattle.std.proofs.Common.{◌≡◌, List, map, Vec, IfOk, refl, sym, subst}
+use Rattle.std.proofs.Common.{◌≡◌, List, map, Vec, subst}
 use Rattle.std.specs.List.{enumerate_from}
 use Rattle.kob_inbox.specs.Rows.{placed_intake}
 use Rattle.kob_inbox.specs.Run.{calls_of}

@@ -1,4 +1,4 @@
-use Rattle.std.proofs.Common.{◌≡◌, ◌≤◌, drop, length}
+use Rattle.std.proofs.Common.{◌≤◌, drop, length}
 use Rattle.kob_pipeline.specs.Losses.{AreServedByLoss}
 use Rattle.kob_pipeline.specs.Served.{served_by_notes}
 use Rattle.kob_pipeline.proofs.noted.are_served.Given as goal

@@ -1,4 +1,4 @@
-use Rattle.std.proofs.Common.{Err, ap, ◌∙◌, sym, subst, length, ◌≤◌}
+use Rattle.std.proofs.Common.{Err, ap, sym, subst, length, ◌≤◌}
 use Rattle.kob_pipeline.proofs.Opened.{few_open}
 use Rattle.kob_pipeline.proofs.pipelines.broker_of.Goals as goal
 

@@ -13,5 +13,8 @@ returns-clause-ok c =
 pub returns-in-Some-clause-torn : goal.returns-in-Some-clause-torn
 returns-in-Some-clause-torn c =
     let ran = c.args.ran in
-    torn c.args.opening.now ran.first ran.done.items ran.found c.in-Some.difference
-    c.in_ok-transcripts.field-0.transcripts.items c.in-Some.ensures c.in_ok-transcripts.ensures.transcripts
+    let left = c.in_ok-transcripts.ensures in (
+      left.answered,
+      torn c.args.opening.now ran.first ran.done.items ran.found c.in-Some.difference
+          c.in_ok-transcripts.field-0.transcripts.items c.in-Some.ensures left.transcripts,
+    )

@@ -1,5 +1,6 @@
-use Rattle.std.proofs.Common.{arith, length, map, ap, ◌∙◌}
+use Rattle.std.proofs.Common.{◌≤◌, arith, length, map, ap, ◌∙◌, vec_len}
 use Rattle.std.proofs.lemmas.Result.{IfOk-weaker, err_from_is_err_and}
+use Rattle.kob_shared.specs.Limits.{entry_limit}
 use Rattle.kob_pipeline.specs.Counts.{workers_planned}
 use Rattle.kob_pipeline.specs.Ends.{IsEnd}
 use Rattle.kob_pipeline.specs.Pipelines.{IsPipeline}
@@ -14,8 +15,11 @@ returns-in_err-ran-clause-named g c =
     let plan = c.args.plan.now in
     let count = workers_counted plan c.in_ok-workers.workers.items c.in_ok-workers.ensures in
     let same = ap length c.deref.ensures.value in
-    rw (given.1, given.2) (named_fleet (length c.deref.result.now) (workers_planned plan) _
-    (omega (arith, count, same)) c.in_err-ran.ensures.named)
+    let first = ap length c.in_ok-broker.ensures.first in
+    let fits : length plan.first ≤ entry_limit = omega (arith, c.requires.fits) in
+    rw (given.1, given.2) (named_fleet (length c.deref.result.now) (workers_planned plan) entry_limit
+    (vec_len c.in_ok-broker.first) _ (omega (arith, count, same)) c.in_err-ran.ensures.named
+    c.in_err-ran.ensures.full (omega (arith, first, fits, c.in_ok-broker.first.ok.0)))
 
 pub returns-clause-ok : goal.returns-clause-ok
 returns-clause-ok g c =

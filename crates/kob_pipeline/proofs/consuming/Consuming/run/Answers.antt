@@ -1,4 +1,4 @@
-use Rattle.std.proofs.Common.{length, get_or, ◌<◌, arith, refl, sym, ap, ◌∙◌, subst}
+use Rattle.std.proofs.Common.{length, get_or, ◌<◌, arith, sym, ◌∙◌, subst}
 use Rattle.std.proofs.lemmas.Option.{get_or_from_slice_get, slice_get-get_or}
 use Rattle.kob_inbox.specs.Run.{calls_of}
 use Rattle.kob_inbox.specs.Tick.{state_of}

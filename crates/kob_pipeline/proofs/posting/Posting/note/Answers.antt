@@ -1,13 +1,13 @@
-use Rattle.std.proofs.Common.{◌≡◌, [], ◌∷◌, inl, inr, refl, sym, ap, ◌∙◌, subst}
-use Rattle.std.specs.Prelude.{Err, None, Some, option_map}
-use Rattle.kob_outbox.specs.Contents.{Contents}
+use Rattle.std.proofs.Common.{[], ◌∷◌, inl, inr, refl, sym, ap, subst}
+use Rattle.std.specs.Prelude.{Err, option_map}
 use Rattle.kob_router.specs.Dispatches.{dispatch_of}
 use Rattle.kob_router.specs.Run.{calls_of}
 use Rattle.kob_router.specs.Run.Move.{Recorded}
 use Rattle.kob_router.specs.Tick.{IsFirst, hand_of, state_of}
 use Rattle.kob_pipeline.specs.declared.plan.ServiceStep.TheVariants as steps
 use Rattle.kob_pipeline.specs.Services.{IsServiceStep}
-use Rattle.kob_pipeline.proofs.Outboxes.{first_recorded}
+use Rattle.kob_outbox.specs.Fields.{first_bad}
+use Rattle.kob_pipeline.proofs.Outboxes.{first_recorded, fits_unless}
 use Rattle.kob_pipeline.proofs.Stepping.{leads_still}
 use Rattle.kob_pipeline.proofs.posting.Posting.note.Goals as goal
 
@@ -53,3 +53,14 @@ returns-in-Err-BadField-clause-done c = λ calls.
       );
     })
     refl refl
+
+pub returns-in-Err-Memory-clause-fits : goal.returns-in-Err-Memory-clause-fits
+returns-in-Err-Memory-clause-fits c =
+    fits_unless (first_bad c.args.change.now c.args.event.now) (λ column there.
+    let bad = (c.in-Err-Memory.ensures.bad column).1 there in let memory = c.in-Err-Memory.field-0-is in cc)
+
+pub returns-in-Err-Store-clause-fits : goal.returns-in-Err-Store-clause-fits
+returns-in-Err-Store-clause-fits c = (c.in-Err-Store.ensures.store (ap Err c.in-Err-Store.field-0-is)).0
+
+pub returns-in-Err-Store-clause-fresh : goal.returns-in-Err-Store-clause-fresh
+returns-in-Err-Store-clause-fresh c = λ stored. (c.in-Err-Store.ensures.store (ap Err c.in-Err-Store.field-0-is)).1

@@ -1,4 +1,4 @@
-use Rattle.std.proofs.Common.{length, ◌<◌, arith, sym, ap, ◌∙◌, subst}
+use Rattle.std.proofs.Common.{length, ◌<◌, arith, ◌∙◌, subst}
 use Rattle.kob_router.specs.Dispatches.{dispatch_of}
 use Rattle.kob_router.specs.Run.{calls_of}
 use Rattle.kob_router.specs.Tick.{state_of}

@@ -1,4 +1,4 @@
-use Rattle.std.proofs.Common.{◌≡◌, List, map, Vec, IfOk, sym, subst}
+use Rattle.std.proofs.Common.{◌≡◌, List, map, Vec, IfOk, subst}
 use Rattle.kob_outbox.specs.Events.{stored_row}
 use Rattle.kob_outbox.specs.Reading.{later_than}
 use Rattle.kob_router.specs.Dispatches.{dispatch_of}

@@ -1,0 +1,7 @@
+use Rattle.std.proofs.Common.{take}
+use Rattle.std.specs.List.{AllByRecursion}
+use Rattle.kob_pipeline.specs.Premises.{IsOwnProduce}
+use Rattle.kob_pipeline.proofs.premises.other_producer.Given as goal
+
+abbrev pub invariant-loop-place : goal.invariant-loop-place
+invariant-loop-place l = AllByRecursion (λ e. IsOwnProduce l.worker l.topic e) (take l.place l.journal)
