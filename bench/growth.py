@@ -8,7 +8,8 @@ is given. A workload is a script in two parts, what is there before and the work
 program without that of the first part alone: both are run in turn, at least five times each and until that took
 three seconds, and the least of each counts. Memory is the most that the program had.
 
-What is to be seen: where the work is doubled, the seconds grow at most 2.2 times.
+What is to be seen: where the work is doubled, the seconds grow at most 2.2 times; and names that somebody picked so that a
+hasher with a fixed seed would have made them alike take at most twice the seconds of plain ones.
 """
 
 import argparse
@@ -58,6 +59,40 @@ def produce_batches_of_100(n):
 def produce_idempotent(n):
     before = [*topics(1), f"{ROOT} init-producer"]
     return before, lines(n, "{ROOT} produce t000000 0 0:0:{i} x")
+
+
+
+# 24 bytes behind which any eight bytes hashed alike under a hasher with a fixed seed, and 24 others.
+PICKED, PLAIN = "outbox.evenabvqmf.SXhkB1", "outbox.event.abvqmfSXhkB"
+
+
+def commits_of_groups(start, n):
+    """A first commit of each of n groups whose names begin so."""
+    return topics(1), [f"{ROOT} commit {start}{i:08} t000000 0 0" for i in range(n)]
+
+
+@workload(2_500)
+def groups_with_picked_names(n):
+    return commits_of_groups(PICKED, n)
+
+
+@workload(2_500)
+def groups_with_plain_names(n):
+    return commits_of_groups(PLAIN, n)
+
+
+def creations_of_topics(start, n):
+    return [], [f"{ROOT} create-topic {start}{i:08} 1" for i in range(n)]
+
+
+@workload(2_500)
+def topics_with_picked_names(n):
+    return creations_of_topics(PICKED, n)
+
+
+@workload(2_500)
+def topics_with_plain_names(n):
+    return creations_of_topics(PLAIN, n)
 
 
 def decisions(bindings, name, asked):

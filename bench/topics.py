@@ -56,7 +56,7 @@ def row_of(program, count, asked):
         (filled, filled + list(fetches(count, asked))),
         (grouped, grouped + list(commits(count, asked, CALLS))),
     )
-    return [(least(program, more, RUNS) - least(program, fewer, RUNS)) / CALLS for fewer, more in pairs]
+    return [(least(program, more, RUNS)[0] - least(program, fewer, RUNS)[0]) / CALLS for fewer, more in pairs]
 
 
 def measure(program):
