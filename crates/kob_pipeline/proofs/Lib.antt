@@ -42,3 +42,4 @@ pub mod Worked
 pub mod PlanRows
 pub mod PlanServed
 pub mod PlanLaws
+pub mod Reserving

@@ -21,3 +21,4 @@ pub mod Steps
 pub mod Workers
 pub mod PlanRows
 pub mod PlanEnds
+pub mod Reserved

@@ -2,6 +2,7 @@
 //! an inbox.
 #![tactic(auto)]
 
+mod access_laws;
 mod consumer_worker;
 mod consuming;
 mod delivery_laws;
@@ -23,6 +24,7 @@ mod step_fault;
 mod worker;
 mod workers;
 
+pub use access_laws::{bindings_leave_one_committer, bindings_leave_one_producer};
 pub use delivery_laws::{
     a_consumer_takes_each_offset_in_order, a_partition_holds_what_was_routed,
     a_row_waits_or_was_sent, an_inbox_holds_a_prefix_of_each_aggregate,

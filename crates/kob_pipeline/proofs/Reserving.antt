@@ -1,0 +1,214 @@
+-- From the bindings in force to the worker whose entry it is.
+use Rattle.std.proofs.Common.{◌≡◌, ◌⊎◌, ℕ, List, [], ◌∷◌, take, Bool, true, false, ◌&&◌, cond, inl, inr, refl, ap, ◌∙◌, subst}
+use Rattle.std.specs.Prelude.{Option, None, Some, IsTrue, slice_get, filter}
+use Rattle.std.specs.List.{AllByRecursion}
+use Rattle.std.proofs.lemmas.Option.{slice_get-get_or, slice_get_within}
+use Rattle.kob_names.specs.Granted.{is_granted}
+use Rattle.kob_names.specs.declared.kinds.Operation.{Operation}
+use Rattle.kob_names.specs.declared.kinds.Operation.TheVariants.{Read, Write as WriteTo}
+use Rattle.kob_names.specs.declared.kinds.Permission.TheVariants.{Allow, Deny}
+use Rattle.kob_names.specs.declared.kinds.ResourceKind.{ResourceKind}
+use Rattle.kob_names.specs.declared.kinds.ResourceKind.TheVariants.{Group, Topic}
+use Rattle.kob_names.specs.declared.settings.Settings.{Settings}
+use Rattle.kob_names.specs.Binding.{Binding}
+use Rattle.kob_authorizer.specs.Contents.{Contents}
+use Rattle.kob_authorizer.specs.Decide.{decide, first_serial, hits, is_hit, is_super, is_unmatched, unless_open, verdict_of}
+use Rattle.kob_authorizer.specs.Question.{question_of}
+use Rattle.kob_broker.specs.InForce.{access_after, changed_access, in_force}
+use Rattle.kob_broker.specs.Justice.{Grants, IsJust}
+use Rattle.kob_partition.specs.Retained.{Retained}
+use Rattle.kob_broker.specs.State.{State}
+use Rattle.kob_rights.specs.Check.{on_group, on_topic}
+use Rattle.kob_rights.specs.Writes.{Write, write_of}
+use Rattle.kob_rights.specs.Writes.Write.{Append, CommitOffset, RemoveGroup, AddTopic, RemoveTopic, AdvanceStart, GiveProducerId, AddBindings, RemoveBindings}
+use Rattle.kob_rights.specs.declared.event.Event.{Event}
+use Rattle.kob_rights.specs.declared.reply.Body.{Body}
+use Rattle.kob_rights.specs.declared.reply.Reply.{Reply}
+use Rattle.kob_rights.specs.declared.reply.Reply.TheVariants.{Denied, Refused, Done}
+use Rattle.kob_rights.specs.declared.request.Request.{Request}
+use Rattle.kob_rights.specs.declared.request.Request.TheVariants as requests
+use Rattle.kob_names.specs.declared.batch.Idem.{Idem}
+use Rattle.kob_rights.specs.Table.{produce_rights, rights}
+use Rattle.kob_broker.specs.Justice.{EachGranted}
+use Rattle.kob_shared.specs.Decided.{bindings_after}
+use Rattle.kob_shared.specs.Journals.{IsLegal, events_of, journaled_replies}
+use Rattle.kob_shared.specs.Openings.{opened_by}
+use Rattle.kob_shared.specs.declared.journal.Entry.{Entry}
+use Rattle.kob_shared.proofs.Decided.{entry_is_just}
+use Rattle.kob_pipeline.specs.Premises.{Commits, IsSoleCommitter, IsSoleProducer, Produces}
+use Rattle.kob_pipeline.specs.Reserved.{ActsAlone, IsReserved, IsReservedFor, NoSuperUser}
+use Rattle.kob_pipeline.proofs.Lists.{all_at, all_contained}
+
+-- ---- super users stay
+
+changed_supers : (write : Option Write) (access : Contents) → (changed_access write access).supers ≡ access.supers
+changed_supers None access = refl
+changed_supers (Some (AddBindings create)) access = refl
+changed_supers (Some (RemoveBindings delete)) access = refl
+changed_supers (Some (Append produce)) access = refl
+changed_supers (Some (CommitOffset commit)) access = refl
+changed_supers (Some (RemoveGroup delete)) access = refl
+changed_supers (Some (AddTopic create)) access = refl
+changed_supers (Some (RemoveTopic delete)) access = refl
+changed_supers (Some (AdvanceStart delete)) access = refl
+changed_supers (Some GiveProducerId) access = refl
+
+supers_after : (reply : Reply) (request : Request) (access : Contents)
+    → (access_after reply request access).supers ≡ access.supers
+supers_after (Done body) request access = changed_supers (write_of request) access
+supers_after (Denied code verdicts) request access = refl
+supers_after (Refused code reason) request access = refl
+
+supers_stay : (events : List Event) (replies : List Reply) (access : Contents)
+    → (in_force events replies access).supers ≡ access.supers
+supers_stay [] replies access = refl
+supers_stay (event ∷ events) [] access = refl
+supers_stay (event ∷ events) (reply ∷ replies) access =
+    supers_stay events replies (access_after reply event.request access) ∙ supers_after reply event.request access
+
+-- ---- who is granted a right is a super user, or an allow hits, or it is open to everyone
+
+granted_how : (opened super : Bool) (deny : Option ℕ) (found : List (ℕ × Binding))
+    → IsTrue (is_granted (unless_open opened (verdict_of super deny (first_serial found))))
+    → IsTrue super ⊎ (((x : ℕ × Binding) × (rest : List (ℕ × Binding)) × (found ≡ x ∷ rest)) ⊎ IsTrue opened)
+granted_how opened true deny found granted = inl refl
+granted_how opened false None (x ∷ rest) granted = inr (inl (x, rest, refl))
+granted_how true false None [] granted = inr (inr refl)
+granted_how false false None [] granted = absurd (cc)
+granted_how true false (Some serial) found granted = absurd (cc)
+granted_how false false (Some serial) found granted = absurd (cc)
+
+-- what holds of an element that passes holds, where one passes
+of_first : {X : Type 0} (test : X → Bool) (P : Type 0) (xs : List X) (x : X) (rest : List X)
+    → filter test xs ≡ x ∷ rest → AllByRecursion (λ y. IsTrue (test y) → P) xs → P
+of_first test P [] x rest first all = absurd (cc)
+of_first {X} test P (y ∷ ys) x rest first all =
+    by (λ later. of_first test P ys x rest later all.1) (test y) refl first
+  where
+    by : (filter test ys ≡ x ∷ rest → P) → (t : Bool) → test y ≡ t
+        → cond t (y ∷ filter test ys) (filter test ys) ≡ x ∷ rest → P
+    by further true on here = all.0 on
+    by further false off here = further here
+
+-- so it is the principal, where the name is reserved and no super user asks
+by_reservation : (principal who host : List ℕ) (operation : Operation) (resource : ResourceKind) (name : List ℕ)
+    (access : Contents) → IsReservedFor principal operation resource name access
+    → is_super access.supers who ≡ false
+    → IsTrue (is_granted (decide access (question_of who host operation resource name))) → who ≡ principal
+by_reservation principal who host operation resource name access reserved common granted =
+    let asked = question_of who host operation resource name in
+    elim (granted_how (access.everyone && is_unmatched access.entries asked) (is_super access.supers who)
+    (first_serial (hits access.entries Deny asked)) (hits access.entries Allow asked) granted) [
+      | inl super ↦ absurd (let no = common in let yes = super in cc)
+      | inr (inl found) ↦ of_first (is_hit Allow asked) (who ≡ principal) access.entries found.0 found.1 found.2
+          (reserved.allowed who host)
+      | inr (inr opened) ↦ absurd (let no = reserved.closed who host in let yes = opened in cc)
+    ]
+
+-- ---- the right that a request of the kind needs
+
+write_granted : (access : Contents) (event : Event) (idem : Option Idem) (topic : List ℕ)
+    → EachGranted access event (produce_rights idem topic) → Grants access event (on_topic WriteTo topic)
+write_granted access event None topic granted = elim granted.0 [ inl given ↦ given | inr none ↦ absurd none ]
+write_granted access event (Some idem) topic granted = elim (granted.1).0 [ inl given ↦ given | inr none ↦ absurd none ]
+
+produce_needs : (access : Contents) (event : Event) (topic : List ℕ) (request : Request) (reply : Reply)
+    → ((body : Body) → reply ≡ Done body → EachGranted access event (rights request))
+    → Produces topic request reply → Grants access event (on_topic WriteTo topic)
+produce_needs access event topic (requests.Produce asked) (Done body) just is =
+    subst (λ (name : List ℕ). Grants access event (on_topic WriteTo name)) is
+    (write_granted access event asked.batch.idem asked.topic (just body refl))
+produce_needs access event topic (requests.Produce asked) (Denied code verdicts) just is = absurd is
+produce_needs access event topic (requests.Produce asked) (Refused code reason) just is = absurd is
+produce_needs access event topic (requests.OffsetCommit commit) reply just is = absurd is
+produce_needs access event topic (requests.Fetch asked) reply just is = absurd is
+produce_needs access event topic (requests.ListOffsets asked) reply just is = absurd is
+produce_needs access event topic (requests.Metadata asked) reply just is = absurd is
+produce_needs access event topic (requests.OffsetFetch asked) reply just is = absurd is
+produce_needs access event topic requests.ListGroups reply just is = absurd is
+produce_needs access event topic (requests.DeleteGroups delete) reply just is = absurd is
+produce_needs access event topic (requests.CreateTopics create) reply just is = absurd is
+produce_needs access event topic (requests.DeleteTopics delete) reply just is = absurd is
+produce_needs access event topic (requests.DeleteRecords delete) reply just is = absurd is
+produce_needs access event topic requests.InitProducerId reply just is = absurd is
+produce_needs access event topic (requests.DescribeAcls asked) reply just is = absurd is
+produce_needs access event topic (requests.CreateAcls create) reply just is = absurd is
+produce_needs access event topic (requests.DeleteAcls delete) reply just is = absurd is
+
+commit_needs : (access : Contents) (event : Event) (group topic : List ℕ) (request : Request) (reply : Reply)
+    → ((body : Body) → reply ≡ Done body → EachGranted access event (rights request))
+    → Commits group topic request reply → Grants access event (on_group Read group)
+commit_needs access event group topic (requests.OffsetCommit asked) (Done body) just is =
+    subst (λ (name : List ℕ). Grants access event (on_group Read name)) is.0
+    (elim (just body refl).0 [ inl given ↦ given | inr none ↦ absurd none ])
+commit_needs access event group topic (requests.OffsetCommit asked) (Denied code verdicts) just is = absurd is
+commit_needs access event group topic (requests.OffsetCommit asked) (Refused code reason) just is = absurd is
+commit_needs access event group topic (requests.Produce asked) reply just is = absurd is
+commit_needs access event group topic (requests.Fetch asked) reply just is = absurd is
+commit_needs access event group topic (requests.ListOffsets asked) reply just is = absurd is
+commit_needs access event group topic (requests.Metadata asked) reply just is = absurd is
+commit_needs access event group topic (requests.OffsetFetch asked) reply just is = absurd is
+commit_needs access event group topic requests.ListGroups reply just is = absurd is
+commit_needs access event group topic (requests.DeleteGroups delete) reply just is = absurd is
+commit_needs access event group topic (requests.CreateTopics create) reply just is = absurd is
+commit_needs access event group topic (requests.DeleteTopics delete) reply just is = absurd is
+commit_needs access event group topic (requests.DeleteRecords delete) reply just is = absurd is
+commit_needs access event group topic requests.InitProducerId reply just is = absurd is
+commit_needs access event group topic (requests.DescribeAcls asked) reply just is = absurd is
+commit_needs access event group topic (requests.CreateAcls create) reply just is = absurd is
+commit_needs access event group topic (requests.DeleteAcls delete) reply just is = absurd is
+
+-- ---- over a journal
+
+-- an entry of the kind, for which the operation on the name has to be granted, is the worker's
+module _ (opening : Settings) (journal : List Entry) (now : State Retained) (worker : ℕ) (principal : List ℕ)
+    (Kind : Request → Reply → Type 0) (operation : Operation) (resource : ResourceKind) (name : List ℕ)
+    (needs : (access : Contents) (event : Event) (reply : Reply) → IsJust access event reply → Kind event.request reply
+        → Grants access event (record { operation = operation; resource = resource; name = name }))
+    (legal : IsLegal (opened_by opening) journal now)
+    (reserved : IsReserved opening journal principal operation resource name)
+    (alone : ActsAlone worker principal journal) (common : NoSuperUser opening.supers Kind journal) where
+
+  own_at : (k : ℕ) (e : Entry) → slice_get journal k ≡ Some e → Kind e.event.request e.reply → e.worker ≡ worker
+  own_at k e at is =
+      let before = take k journal in
+      let access = bindings_after opening before in
+      let stay = supers_stay (events_of before) (journaled_replies before) (opened_by opening).access in
+      all_at (λ (x : Entry). x.event.principal ≡ principal → x.worker ≡ worker) journal k e at alone
+      (by_reservation principal e.event.principal e.event.host operation resource name access
+      (reserved k (slice_get_within journal k e at))
+      (ap (λ (supers : List (List ℕ)). is_super supers e.event.principal) stay
+      ∙ all_at (λ (x : Entry). Kind x.event.request x.reply → is_super opening.supers x.event.principal ≡ false) journal
+      k e at common is)
+      (needs access e.event e.reply (entry_is_just opening journal now legal k e at) is))
+
+  all_own : AllByRecursion (λ (e : Entry). Kind e.event.request e.reply → e.worker ≡ worker) journal
+  all_own =
+      all_contained (λ (e : Entry). Kind e.event.request e.reply → e.worker ≡ worker) journal
+      (λ e within. own_at within.0 e (slice_get-get_or journal within.0 e within.1 ∙ ap Some within.2))
+
+-- what is just of an event that was done
+granted_where_done : (access : Contents) (event : Event) (reply : Reply) → IsJust access event reply → (body : Body)
+    → reply ≡ Done body → EachGranted access event (rights event.request)
+granted_where_done access event reply just body done =
+    subst (λ (r : Reply). IsJust access event r) done just
+
+pub sole_producer : (opening : Settings) (journal : List Entry) (now : State Retained) (worker : ℕ)
+    (principal topic : List ℕ) → IsLegal (opened_by opening) journal now
+    → IsReserved opening journal principal WriteTo Topic topic → ActsAlone worker principal journal
+    → NoSuperUser opening.supers (Produces topic) journal → IsSoleProducer worker topic journal
+sole_producer opening journal now worker principal topic legal reserved alone common =
+    all_own opening journal now worker principal (Produces topic) WriteTo Topic topic
+    (λ access event reply just is.
+    produce_needs access event topic event.request reply (granted_where_done access event reply just) is)
+    legal reserved alone common
+
+pub sole_committer : (opening : Settings) (journal : List Entry) (now : State Retained) (worker : ℕ)
+    (principal group topic : List ℕ) → IsLegal (opened_by opening) journal now
+    → IsReserved opening journal principal Read Group group → ActsAlone worker principal journal
+    → NoSuperUser opening.supers (Commits group topic) journal → IsSoleCommitter worker group topic journal
+sole_committer opening journal now worker principal group topic legal reserved alone common =
+    all_own opening journal now worker principal (Commits group topic) Read Group group
+    (λ access event reply just is.
+    commit_needs access event group topic event.request reply (granted_where_done access event reply just) is)
+    legal reserved alone common
