@@ -166,6 +166,38 @@ pub(crate) fn none_is_lost(end: &PipelineEnd, topic: &[u128]) -> bool {
     true
 }
 
+/// What a service was answered.
+#[derive(Clone, Copy)]
+pub(crate) enum Told {
+    Producer(u64),
+    Offset(u64),
+}
+
+fn is_told(reply: &Reply, told: Told) -> bool {
+    match (reply, told) {
+        (Reply::Done(Body::Producer { id, .. }), Told::Producer(due)) => *id == due,
+        (Reply::Done(Body::Offset(found)), Told::Offset(due)) => *found == due,
+        _ => false,
+    }
+}
+
+/// Whether these are the replies to the service's calls, in order, those that it did not get too.
+pub(crate) fn are_told(end: &PipelineEnd, told: &[Told]) -> bool {
+    let Some(notes) = end.transcripts.get(1) else {
+        return false;
+    };
+    let receipts = notes.receipts();
+    if receipts.len() != told.len() {
+        return false;
+    }
+    for (receipt, due) in receipts.iter().zip(told) {
+        if !is_told(&receipt.reply, *due) {
+            return false;
+        }
+    }
+    true
+}
+
 /// Whether the last reply to worker 2 denies its right to the group, since no binding allows it.
 fn is_denied(end: &PipelineEnd) -> bool {
     let Some(notes) = end.transcripts.get(2) else {

@@ -4,7 +4,7 @@ ghost use Rattle.std.specs.Prelude.{IfOk, IfSome};
 ghost use Rattle.kob_pipeline.specs.Pipelines.{IsPipeline};
 
 use crate::gates::{Hold, Holding, Open};
-use crate::left::{Due, call_laws, is_due};
+use crate::left::{Due, Told, are_told, call_laws, is_due};
 use crate::plans::{Act, Cast, plan, sweeping};
 use kob_pipeline::{ConsumerStep, Loss, PipelineEnd, PipelineFault, Plan, pipeline};
 use kob_shared::Gate;
@@ -144,33 +144,47 @@ fn two_consumers(rt: HostRuntime) -> Result<(), Fail> {
     Ok(())
 }
 
-/// The second event's first call is lost so; then come these steps.
-fn lost<R: Threads + Wait + Sync>(
+/// Whether a service that takes these steps before the consumer begins, as its calls come to this
+/// number, is answered so and leaves what it is to leave.
+fn leaves<R: Threads + Wait + Sync>(
     rt: &R,
     alloc: Global,
-    loss: Loss,
-    then: [Act; 3],
+    service: &[Act],
     comes_to: u64,
+    told: &[Told],
     due: Due<'_>,
 ) -> Result<bool, Fail> {
-    let [one, two, three] = then;
     let cast = Cast {
-        service: &[
-            Act::Note(0xA),
-            Act::Note(0xB),
-            TICK,
-            Act::Tick(loss),
-            one,
-            two,
-            three,
-        ],
+        service,
         groups: &["g"],
         consumer: &[STEP, STEP, STEP],
         revoked: false,
     };
-    is_played(rt, alloc, cast, &[after(comes_to)], due)
+    let plan = plan(alloc, cast)?;
+    let end = play(rt, alloc, &plan, &Holding::at(&[after(comes_to)]));
+    drop(plan);
+    let Some(end) = end else {
+        return Ok(false);
+    };
+    let mut end = end;
+    let is_left = are_told(&end, told) && is_due(alloc, &mut end, due);
+    drop(end);
+    Ok(is_left)
 }
 
+/// Two events, of which the second one's first call is lost so.
+const fn two_and_lost(loss: Loss) -> [Act; 6] {
+    [
+        Act::Note(0xA),
+        Act::Note(0xB),
+        TICK,
+        Act::Tick(loss),
+        TICK,
+        TICK,
+    ]
+}
+
+/// The broker has the second batch already, and answers its repeat with the old offset.
 #[test]
 fn reply_lost(rt: HostRuntime) -> Result<(), Fail> {
     let due = Due {
@@ -181,11 +195,18 @@ fn reply_lost(rt: HostRuntime) -> Result<(), Fail> {
         commit: Some(2),
         denied: false,
     };
-    let then = [TICK, TICK, Act::Sweep];
-    assert!(rt; lost(&rt, rt.alloc(), Loss::AfterServe, then, 5, due)?);
+    let told = [
+        Told::Producer(0),
+        Told::Offset(0),
+        Told::Offset(1),
+        Told::Offset(1),
+    ];
+    let service = two_and_lost(Loss::AfterServe);
+    assert!(rt; leaves(&rt, rt.alloc(), &service, 5, &told, due)?);
     Ok(())
 }
 
+/// The second event is sent again under a new producer id, and so gets a second offset.
 #[test]
 fn reply_lost_then_restart(rt: HostRuntime) -> Result<(), Fail> {
     let due = Due {
@@ -196,11 +217,27 @@ fn reply_lost_then_restart(rt: HostRuntime) -> Result<(), Fail> {
         commit: Some(3),
         denied: false,
     };
-    let then = [Act::Restart, TICK, TICK];
-    assert!(rt; lost(&rt, rt.alloc(), Loss::AfterServe, then, 6, due)?);
+    let told = [
+        Told::Producer(0),
+        Told::Offset(0),
+        Told::Offset(1),
+        Told::Producer(1),
+        Told::Offset(2),
+    ];
+    let service = [
+        Act::Note(0xA),
+        Act::Note(0xB),
+        TICK,
+        Act::Tick(Loss::AfterServe),
+        Act::Restart,
+        TICK,
+        TICK,
+    ];
+    assert!(rt; leaves(&rt, rt.alloc(), &service, 6, &told, due)?);
     Ok(())
 }
 
+/// The broker never got the second batch, and gets it with the next tick.
 #[test]
 fn request_lost(rt: HostRuntime) -> Result<(), Fail> {
     let due = Due {
@@ -211,8 +248,37 @@ fn request_lost(rt: HostRuntime) -> Result<(), Fail> {
         commit: Some(2),
         denied: false,
     };
-    let then = [TICK, TICK, Act::Sweep];
-    assert!(rt; lost(&rt, rt.alloc(), Loss::BeforeServe, then, 5, due)?);
+    let told = [Told::Producer(0), Told::Offset(0), Told::Offset(1)];
+    let service = two_and_lost(Loss::BeforeServe);
+    assert!(rt; leaves(&rt, rt.alloc(), &service, 5, &told, due)?);
+    Ok(())
+}
+
+/// An id that was recorded before and a text that is too long are not recorded; a row that no topic
+/// is for stops the router at each tick. None of them ends the pipeline.
+#[test]
+fn refused_records_and_bad_topics_are_passed_over(rt: HostRuntime) -> Result<(), Fail> {
+    let due = Due {
+        entries: 8,
+        topic: &[0xA, 0xB],
+        inbox: &[0xA, 0xB],
+        mark: 2,
+        commit: Some(2),
+        denied: false,
+    };
+    let told = [Told::Producer(0), Told::Offset(0), Told::Offset(1)];
+    let service = [
+        Act::Note(0xA),
+        TICK,
+        Act::Note(0xA),
+        Act::TooLong(0xC),
+        Act::Note(0xB),
+        TICK,
+        Act::Unroutable(0xD),
+        TICK,
+        TICK,
+    ];
+    assert!(rt; leaves(&rt, rt.alloc(), &service, 4, &told, due)?);
     Ok(())
 }
 

@@ -24,6 +24,10 @@ pub(crate) const ORDERS: &str = "outbox.event.orders";
 pub(crate) enum Act {
     /// Records the event with this id.
     Note(u128),
+    /// Records the event with this id about a kind of things that no topic is named after.
+    Unroutable(u128),
+    /// Records the event with this id about a kind of things whose name is a byte too long.
+    TooLong(u128),
     Tick(Loss),
     Restart,
     Sweep,
@@ -47,7 +51,7 @@ const WRITE: Grant = Grant {
     name: "outbox.event.",
 };
 
-/// What a service and the consumers of the groups `g` and `g2` may do.
+/// What a service and the consumers of the group `g` may do, and then those of the group `g2`.
 const GRANTS: [Grant; 5] = [
     WRITE,
     Grant {
@@ -112,9 +116,10 @@ pub(crate) fn write_given(alloc: Global) -> Result<Request, Fail> {
     giving(alloc, &[WRITE])
 }
 
-/// All grants are given.
-pub(crate) fn grants(alloc: Global) -> Result<Event, Fail> {
-    event(alloc, "User:root", giving(alloc, &GRANTS)?)
+/// What a service and so many groups, of `g` and `g2`, need is given.
+pub(crate) fn grants(alloc: Global, groups: usize) -> Result<Event, Fail> {
+    let given = if groups < 2 { 4 } else { 5 };
+    event(alloc, "User:root", giving(alloc, &GRANTS[..given])?)
 }
 
 /// A topic with one partition is created.
@@ -127,11 +132,11 @@ pub(crate) fn creation(alloc: Global, topic: &str) -> Result<Event, Fail> {
     event(alloc, "User:root", request)
 }
 
-/// The topic is created, and the grants are given.
-fn first(alloc: Global) -> Result<Items<Event>, Fail> {
+/// The topic is created, and what so many groups need is given.
+fn first(alloc: Global, groups: usize) -> Result<Items<Event>, Fail> {
     let mut first = Vec::new(alloc);
     first.push(creation(alloc, ORDERS)?)?;
-    first.push(grants(alloc)?)?;
+    first.push(grants(alloc, groups)?)?;
     Ok(Items::from_vec(first))
 }
 
@@ -164,9 +169,15 @@ fn note(alloc: Global, kind: &str, id: u128) -> Result<OutboxEvent, AllocError> 
     })
 }
 
+fn recording(alloc: Global, kind: &str, id: u128) -> Result<ServiceStep, AllocError> {
+    Ok(ServiceStep::Record(change(alloc)?, note(alloc, kind, id)?))
+}
+
 fn step(alloc: Global, kind: &str, act: Act) -> Result<ServiceStep, AllocError> {
     match act {
-        Act::Note(id) => Ok(ServiceStep::Record(change(alloc)?, note(alloc, kind, id)?)),
+        Act::Note(id) => recording(alloc, kind, id),
+        Act::Unroutable(id) => recording(alloc, "orders and refunds", id),
+        Act::TooLong(id) => recording(alloc, "a".repeat(alloc, 256)?.as_str(), id),
         Act::Tick(loss) => Ok(ServiceStep::Tick(loss)),
         Act::Restart => Ok(ServiceStep::Restart),
         Act::Sweep => Ok(ServiceStep::Sweep),
@@ -323,7 +334,7 @@ pub(crate) fn plan_with(
     administrators: Vec<Script>,
 ) -> Result<Plan, Fail> {
     let settings = root_alone(alloc)?;
-    let first = first(alloc)?;
+    let first = first(alloc, cast.groups.len())?;
     let services = services(alloc, cast.service)?;
     let consumers = consumers(alloc, cast)?;
     Ok(Plan {

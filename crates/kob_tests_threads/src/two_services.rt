@@ -11,10 +11,13 @@ use crate::left::{are_records, is_committed};
 use crate::pipelines::{STEP, TICK, play};
 use crate::plans::{Act, ORDERS, acting, consuming, creation, grants, root_alone, subscription};
 use kob_inbox::InboxRow;
-use kob_names::Items;
-use kob_pipeline::{ConsumerPlan, ConsumerStep, OutboxEnd, PipelineEnd, Plan, Service};
-use kob_rights::{Event, Reply, Request};
-use kob_shared::{Entry, Journal};
+use kob_names::{Items, Text};
+use kob_pipeline::{
+    Breach, ConsumerPlan, ConsumerStep, OutboxEnd, PipelineEnd, Plan, Premise, Service,
+    first_breach, other_producer,
+};
+use kob_rights::Event;
+use kob_shared::Journal;
 use std::alloc::Global;
 use std::sync::Wait;
 use std::test::Fail;
@@ -60,7 +63,7 @@ fn first(alloc: Global) -> Result<Items<Event>, Fail> {
     let mut first = Vec::new(alloc);
     first.push(creation(alloc, ORDERS)?)?;
     first.push(creation(alloc, REFUNDS)?)?;
-    first.push(grants(alloc)?)?;
+    first.push(grants(alloc, 1)?)?;
     Ok(Items::from_vec(first))
 }
 
@@ -118,25 +121,30 @@ fn has_taken(end: &PipelineEnd, due: &[Stood]) -> bool {
     true
 }
 
-/// Whether each PRODUCE to a topic that was done is this worker's, and there is one.
-fn sends_alone(journal: &Journal, worker: usize, topic: &str) -> bool {
-    let mut sends = false;
-    for entry in journal.iter() {
-        if !is_sent_to(entry, topic) {
-            continue;
-        }
-        if entry.worker != worker {
-            return false;
-        }
-        sends = true;
-    }
-    sends
+/// Whether each PRODUCE to a topic that was done is this worker's.
+fn sends_alone(alloc: Global, journal: &Journal, worker: usize, topic: &str) -> bool {
+    let Ok(topic) = Text::copied(alloc, topic) else {
+        return false;
+    };
+    other_producer(journal, worker, &topic).is_none()
 }
 
-/// Whether an entry is a PRODUCE to a topic that was done.
-fn is_sent_to(entry: &Entry, topic: &str) -> bool {
-    match (&entry.event.request, &entry.reply) {
-        (Request::Produce(asked), Reply::Done(_)) => asked.topic.as_str() == topic,
+/// Whether `pipeline_law` does not speak of the first service and the consumer, since the second
+/// service sends to the second topic of the assignment.
+fn breaks_on_the_second_topic(alloc: Global, journal: &Journal) -> Result<bool, Fail> {
+    let taken = subscription(alloc, "g", &[ORDERS, REFUNDS], 1)?;
+    let found = first_breach(journal, 1, 3, &taken.group, taken.assignment.as_slice());
+    drop(taken);
+    match found {
+        Some(found) => Ok(found.assigned == 1 && is_other_producer(journal, found)),
+        None => Ok(false),
+    }
+}
+
+/// Whether the breach is a PRODUCE of the second service.
+fn is_other_producer(journal: &Journal, found: Breach) -> bool {
+    match (found.premise, journal.get(found.entry)) {
+        (Premise::SoleProducer, Some(entry)) => entry.worker == 2,
         _ => false,
     }
 }
@@ -156,8 +164,8 @@ fn have_sent(outboxes: &[OutboxEnd]) -> bool {
 fn is_due(alloc: Global, end: &mut PipelineEnd) -> bool {
     end.journal.len() == 19
         && have_sent(&end.outboxes)
-        && sends_alone(&end.journal, 1, ORDERS)
-        && sends_alone(&end.journal, 2, REFUNDS)
+        && sends_alone(alloc, &end.journal, 1, ORDERS)
+        && sends_alone(alloc, &end.journal, 2, REFUNDS)
         && are_records(alloc, &mut end.broker, ORDERS, &[0xA, 0xB])
         && are_records(alloc, &mut end.broker, REFUNDS, &[0xC, 0xD])
         && has_taken(end, &TAKEN)
@@ -174,7 +182,7 @@ fn reaches_one_inbox<R: Threads + Wait + Sync>(rt: &R, alloc: Global) -> Result<
         return Ok(false);
     };
     let mut end = end;
-    let is_due = is_due(alloc, &mut end);
+    let is_due = is_due(alloc, &mut end) && breaks_on_the_second_topic(alloc, &end.journal)?;
     drop(end);
     Ok(is_due)
 }
