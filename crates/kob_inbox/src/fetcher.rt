@@ -21,6 +21,23 @@ pub struct Subscription {
     pub max: u64,
 }
 
+impl Subscription {
+    ghost use Rattle.std.specs.Prelude.{IfOk};
+
+    /// An equal subscription. The error is out of memory.
+    pub fn copy(&self, alloc: Global) -> Result<Subscription, AllocError>
+        ensures { IfOk result (λ made. made ≡ self.now) }
+    {
+        let group = self.group.copy(alloc)?;
+        let assignment = self.assignment.copy(alloc)?;
+        Ok(Subscription {
+            group,
+            assignment,
+            max: self.max,
+        })
+    }
+}
+
 /// What a consumer holds: how far it has come, and which of its assigned partitions has the turn.
 #[derive(Debug, Drop)]
 pub struct Fetcher {

@@ -1,6 +1,9 @@
 //! What is handed out of an inbox.
 
-use kob_names::{Bytes, Text};
+ghost use Rattle.std.specs.Prelude.{◌≡◌, IfOk};
+
+use kob_names::{Bytes, PlainValue, Text};
+use std::alloc::{AllocError, Global};
 use uuid::Uuid;
 
 /// An event that was taken in.
@@ -15,4 +18,24 @@ pub struct InboxRow {
     pub offset: u64,
     pub key: Option<Bytes>,
     pub value: Bytes,
+}
+
+impl InboxRow {
+    /// An equal row. The error is out of memory.
+    pub fn copy(&self, alloc: Global) -> Result<InboxRow, AllocError>
+        ensures { IfOk result (λ made. made ≡ self.now) }
+    {
+        let topic = self.topic.copy(alloc)?;
+        let key = self.key.copy(alloc)?;
+        let value = self.value.copy(alloc)?;
+        Ok(InboxRow {
+            place: self.place,
+            id: self.id,
+            topic,
+            partition: self.partition,
+            offset: self.offset,
+            key,
+            value,
+        })
+    }
 }
