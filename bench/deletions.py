@@ -4,10 +4,10 @@
     python3 bench/deletions.py [PROGRAM]
 
 PROGRAM is that of bindings.py. A super user produces batches of 1,000 records to one partition; after each of them it
-deletes all records that are there, or lists the end. The whole script is read before anything runs, so from the most
-bytes that the program had in memory those are taken away that it had for the same script on a topic that is not there,
-whose requests are refused. A batch moves from its event into the partition, so what is told is by how much a partition
-grows beyond what the events took.
+deletes all records that are there, or lists the end. From the most bytes that the program had in memory those are taken
+away that it had for the same script on a topic that is not there, whose requests are refused. In both the whole script
+is held as bytes before anything runs, in blocks that are freed as their lines are served; an event is made from its
+line when that is served, and freed behind it. So what is told is by how much a partition grows beyond the script.
 
 What is to be seen: with deletions a partition takes no more after 1,000,000 records than after 125,000; without
 them it grows.
