@@ -120,7 +120,8 @@ def table(title, calls, counts, of_ours, of_peer):
             both = [rows[at][place] for rows in (of_ours, of_peer) if rows]
             grown = [f"{rows[at][place] / rows[at - 1][place]:.2f}" for rows in (of_ours, of_peer) if rows and at]
             told = "  ".join(f"{it:>{width},.1f}" for it, width in zip(both, (14, 12)))
-            print(f"{call:<24} {n:>7,}  {told}  {both[0] / both[-1]:>6.1f}  {', '.join(grown)}", flush=True)
+            times = f"{both[0] / both[1]:>6.1f}" if of_peer else ""
+            print(f"{call:<24} {n:>7,}  {told}  {times}  {', '.join(grown)}", flush=True)
 
 
 def main():
