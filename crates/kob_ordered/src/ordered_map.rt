@@ -17,10 +17,11 @@ use std::alloc::{AllocError, Global};
 use std::marker::Model;
 use std::mem;
 
-/// A map from names to values in order of insertion. A removal moves nothing: it leaves a hole, and
-/// the holes go when room is made, once there are more of them than entries. So a call costs the
-/// same on the average however many entries there are. Contracts see the entries in order, and the
-/// room that is there for more.
+/// A map from names to values in order of insertion. Names are found by binary search in a list of
+/// places that is sorted by name, so no choice of names makes a look-up slow; an insertion and a
+/// removal shift that list. A removal leaves a hole among the entries, which an iteration passes.
+/// The holes go when room is made, once there are more of them than entries. Contracts see the
+/// entries in order, and the room that is there for more.
 #[derive(Drop)]
 pub struct OrderedMap<V> {
     slots: Vec<Slot<V>>,
