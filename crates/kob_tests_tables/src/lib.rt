@@ -5,6 +5,8 @@
 #[cfg(test)]
 mod catalog;
 #[cfg(test)]
+mod copies;
+#[cfg(test)]
 mod groups;
 #[cfg(test)]
 mod groups_gone;
