@@ -1,12 +1,12 @@
 //! The two steps of a commit.
 
-ghost use Rattle.std.specs.Prelude.{[], ◌≡◌, Some, IfOk};
+ghost use Rattle.std.specs.Prelude.{[], ◌≡◌, IfOk};
 ghost use Rattle.kob_groups.specs.Kept.{CanPut};
 
-use crate::commits::{Commits, NewTopic};
+use crate::commits::{Commits, Offsets};
 use crate::lists::Listing;
 use crate::place::CommitPlace;
-use kob_names::{PlainValue, Text};
+use indexmap::IndexMap;
 use std::alloc::{AllocError, Global};
 use thiserror::Error;
 
@@ -19,22 +19,20 @@ pub enum CommitFault {
     Memory,
 }
 
-/// A commit for which all memory is there: the empty maps are put in for a new group or topic, the
-/// names are those of a new group and a new topic, and the listing that of a group not yet listed
-/// for the topic.
+/// A commit for which all memory is there: the empty maps are put in for a new group or topic under
+/// the names of the place, and the listing is that of a group not yet listed for the topic.
 #[derive(Drop)]
 pub struct PreparedCommit {
     pub(crate) place: CommitPlace,
     pub(crate) offset: u64,
     pub(crate) commits: Commits,
-    pub(crate) new_topic: NewTopic,
-    pub(crate) name: Option<Text>,
+    pub(crate) offsets: Offsets,
     pub(crate) listing: Option<Listing>,
 }
 
 impl PreparedCommit {
-    /// A commit of a new group: its name, and empty maps with room for one topic and one offset.
-    /// The error is want of memory.
+    /// A commit of a new group: empty maps with room for one topic and one offset. The error is want
+    /// of memory.
     pub(crate) fn of_new_group(
         alloc: Global,
         place: CommitPlace,
@@ -44,19 +42,16 @@ impl PreparedCommit {
         ensures place { IfOk result (λ made. made.place ≡ place) }
         ensures offset { IfOk result (λ made. made.offset ≡ offset) }
         ensures listing { IfOk result (λ made. made.listing ≡ listing) }
-        ensures name { IfOk result (λ made. made.name ≡ Some place.group) }
-        ensures topic { IfOk result (λ made. CanPut made.new_topic place.topic made.commits) }
+        ensures topic { IfOk result (λ made. CanPut made.offsets place.topic made.commits) }
         ensures no_commits { IfOk result (λ made. made.commits.by_topic.entries ≡ []) }
     {
-        let name = Some(place.group.copy(alloc)?);
         let commits = Commits::with_room(alloc)?;
-        let new_topic = NewTopic::with_room(alloc, &place.topic)?;
+        let offsets = IndexMap::with_capacity(alloc, 1)?;
         Ok(PreparedCommit {
             place,
             offset,
             commits,
-            new_topic,
-            name,
+            offsets,
             listing,
         })
     }

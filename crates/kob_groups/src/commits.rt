@@ -1,12 +1,12 @@
 //! The commits of one group.
 
-ghost use Rattle.std.specs.Prelude.{[], ◌≡◌, ◌<◌, Some, nat_eq, IfOk};
+ghost use Rattle.std.specs.Prelude.{[], ◌≡◌, ◌<◌, nat_eq, IfOk};
 ghost use Rattle.std.specs.Map.{lookup};
-ghost use Rattle.indexmap.specs.IndexMap.{IsEmpty, spare};
+ghost use Rattle.indexmap.specs.IndexMap.{spare};
 ghost use Rattle.kob_groups.specs.Groups.{offsets_on, with_offset, without_offsets};
 
 use indexmap::IndexMap;
-use kob_names::{PlainValue, Text};
+use kob_names::Text;
 use kob_ordered::OrderedMap;
 use std::alloc::{AllocError, Global};
 
@@ -17,37 +17,6 @@ pub(crate) type Offsets = IndexMap<u64, u64>;
 #[derive(Drop)]
 pub(crate) struct Commits {
     pub(crate) by_topic: OrderedMap<Offsets>,
-}
-
-/// What is put in for a topic on which the group has no commits: its name, and the empty offsets. A
-/// topic on which it has some needs no name.
-#[derive(Drop)]
-pub(crate) struct NewTopic {
-    pub(crate) name: Option<Text>,
-    pub(crate) offsets: Offsets,
-}
-
-impl NewTopic {
-    /// No name and no offsets; no memory is taken.
-    fn unnamed(alloc: Global) -> NewTopic
-        ensures { IsEmpty result.offsets }
-    {
-        NewTopic {
-            name: None,
-            offsets: IndexMap::new(alloc),
-        }
-    }
-
-    /// A topic's name, and no offsets, with room for one. The error is want of memory.
-    pub(crate) fn with_room(alloc: Global, topic: &Text) -> Result<NewTopic, AllocError>
-        ensures name { IfOk result (λ made. made.name ≡ Some topic.now) }
-        ensures empty { IfOk result (λ made. IsEmpty made.offsets) }
-        ensures room { IfOk result (λ made. 0 < spare made.offsets) }
-    {
-        let name = Some(topic.copy(alloc)?);
-        let offsets = IndexMap::with_capacity(alloc, 1)?;
-        Ok(NewTopic { name, offsets })
-    }
 }
 
 impl Commits {
@@ -81,9 +50,10 @@ impl Commits {
         self.by_topic.get(topic)?.get(&partition).copied()
     }
 
-    /// Makes room for one more topic, and for one more offset on this one; what is put in for a new
-    /// topic comes back. The commits stay, also after an error, which is want of memory.
-    pub(crate) fn reserve(&mut self, alloc: Global, topic: &Text) -> Result<NewTopic, AllocError>
+    /// Makes room for one more topic, and for one more offset on this one. What comes back is for a
+    /// new topic: no offsets, with room for one. The commits stay, also after an error, which is want
+    /// of memory.
+    pub(crate) fn reserve(&mut self, alloc: Global, topic: &Text) -> Result<Offsets, AllocError>
         ensures commits { commits_in self.new ≡ commits_in self.old }
         ensures ready { IfOk result (λ made. CanPut made topic.now self.new) }
     {
@@ -91,24 +61,23 @@ impl Commits {
         match self.by_topic.get_mut(topic) {
             Some(offsets) => {
                 offsets.reserve(1)?;
-                Ok(NewTopic::unnamed(alloc))
+                Ok(IndexMap::new(alloc))
             }
-            None => NewTopic::with_room(alloc, topic),
+            None => IndexMap::with_capacity(alloc, 1),
         }
     }
 
     /// Writes an offset in the room that is there; no memory is taken.
-    pub(crate) fn put(&mut self, topic: &Text, partition: u64, offset: u64, made: NewTopic)
-        requires { CanPut made topic.now self.old }
+    pub(crate) fn put(&mut self, topic: Text, partition: u64, offset: u64, mut made: Offsets)
+        requires { CanPut made topic self.old }
         ensures { commits_in self.new
-            ≡ with_offset topic.now partition offset (commits_in self.old) }
+            ≡ with_offset topic partition offset (commits_in self.old) }
     {
-        let NewTopic { name, mut offsets } = made;
-        match self.by_topic.get_mut(topic) {
+        match self.by_topic.get_mut(&topic) {
             Some(offsets) => put_offset(offsets, partition, offset),
             None => {
-                put_offset(&mut offsets, partition, offset);
-                self.by_topic.insert(name.unwrap(), offsets);
+                put_offset(&mut made, partition, offset);
+                self.by_topic.insert(topic, made);
             }
         }
     }

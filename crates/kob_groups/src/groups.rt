@@ -122,14 +122,13 @@ impl Groups {
         let listing = self.lists.reserve(alloc, &place.topic, &place.group)?;
         match self.by_name.get_mut(&place.group) {
             Some(commits) => {
-                let new_topic = commits.reserve(alloc, &place.topic)?;
+                let offsets = commits.reserve(alloc, &place.topic)?;
                 let commits = Commits::new(alloc);
                 Ok(PreparedCommit {
                     place,
                     offset,
                     commits,
-                    new_topic,
-                    name: None,
+                    offsets,
                     listing,
                 })
             }
@@ -146,8 +145,7 @@ impl Groups {
             place,
             offset,
             mut commits,
-            new_topic,
-            name,
+            offsets,
             listing,
         } = made;
         let CommitPlace {
@@ -157,10 +155,10 @@ impl Groups {
         } = place;
         self.lists.put(listing, &topic);
         match self.by_name.get_mut(&group) {
-            Some(commits) => commits.put(&topic, partition, offset, new_topic),
+            Some(commits) => commits.put(topic, partition, offset, offsets),
             None => {
-                commits.put(&topic, partition, offset, new_topic);
-                self.by_name.insert(name.unwrap(), commits);
+                commits.put(topic, partition, offset, offsets);
+                self.by_name.insert(group, commits);
             }
         }
     }

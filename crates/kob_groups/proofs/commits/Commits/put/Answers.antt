@@ -1,4 +1,4 @@
-use Rattle.std.proofs.Common.{◌≡◌, [], ◌∷◌, ◌++◌, nat_eq, unwrap_or, ap, sym, ◌∙◌}
+use Rattle.std.proofs.Common.{[], nat_eq, unwrap_or, ap, sym, ◌∙◌}
 use Rattle.std.specs.Option.{option_copied_mut}
 use Rattle.indexmap.specs.IndexMap.{insert_entry}
 use Rattle.kob_names.specs.Same.{same_text}
@@ -8,8 +8,8 @@ use Rattle.kob_groups.proofs.commits.Commits.put.Goals as goal
 
 pub returns-in-Some : goal.returns-in-Some
 returns-in-Some c =
-    let entries = c.args.self.now.by_topic.entries in let topic = c.args.topic.now in
-    let fresh = c.args.made.offsets in
+    let entries = c.args.self.now.by_topic.entries in let topic = c.args.topic in
+    let fresh = c.args.made in
     let old = c.in-Some.offsets.now in let final = c.put_offset.new.offsets in
     let found = sym c.get_mut.ensures.value ∙ ap option_copied_mut c.in-Some.is in
     ap (seen offsets_in) (written_inserted same_text entries topic old final found)
@@ -19,13 +19,10 @@ returns-in-Some c =
 
 pub returns-in-None : goal.returns-in-None
 returns-in-None c =
-    let entries = c.args.self.now.by_topic.entries in let topic = c.args.topic.now in
-    let fresh = c.args.made.offsets in let final = c.put_offset-in-None.new.offsets in
+    let entries = c.args.self.now.by_topic.entries in let topic = c.args.topic in
+    let fresh = c.args.made in let final = c.put_offset-in-None.new.offsets in
     let absent = sym c.get_mut.ensures.value ∙ ap option_copied_mut c.in-None.is in
-    let named = c.requires.named absent in let unwrapped = c.unwrap.ensures in
-    let name : c.unwrap.result ≡ topic = cc in
-    ap (seen offsets_in) (c.insert.ensures.entries ∙ ap (λ n. entries ++ (n, final) ∷ []) name
-    ∙ inserted_new same_text entries topic final absent)
+    ap (seen offsets_in) (c.insert.ensures.entries ∙ inserted_new same_text entries topic final absent)
     ∙ seen_changed offsets_in same_text entries topic fresh fresh final []
     (λ offsets. insert_entry nat_eq offsets c.args.partition c.args.offset)
     c.put_offset-in-None.ensures (sym (ap (λ o. unwrap_or o fresh) absent)) c.requires.no_offsets

@@ -25,9 +25,8 @@ returns-in_ok-reserve-in-Some-clause-ready c =
     let found = sym c.get_mut.ensures.value ∙ ap option_copied_mut c.in-Some.is in
     let now = found_written (same_text c.args.topic.now) c.reserve.new.self.entries _
     c.reserve-in-Some.new.self found in
-    let fresh = c.unnamed.result.offsets in record {
+    let fresh = c.new.result in record {
       topics = c.in_ok-reserve.ensures.room;
       offsets = subst (λ o. 0 < spare (unwrap_or o fresh)) (sym now) c.in_ok-reserve-in-Some.ensures.ok;
-      no_offsets = c.unnamed.ensures;
-      named = λ none. cc;
+      no_offsets = c.new.ensures.empty;
     }

@@ -1,4 +1,4 @@
-use Rattle.std.proofs.Common.{◌≡◌, [], ◌∷◌, ◌++◌, unwrap_or, ap, subst, sym, ◌∙◌}
+use Rattle.std.proofs.Common.{◌≡◌, [], unwrap_or, ap, subst, sym, ◌∙◌}
 use Rattle.std.specs.Option.{option_copied_mut}
 use Rattle.std.specs.Map.{set_value}
 use Rattle.kob_names.specs.Same.{same_text}
@@ -18,12 +18,12 @@ put-requires c =
 pub put-requires-in-Some : goal.put-requires-in-Some
 put-requires-in-Some c =
     let made = c.args.made in let found = sym c.get_mut.ensures.value ∙ ap option_copied_mut c.in-Some.is in
-    subst (λ o. CanPut made.new_topic made.place.topic (unwrap_or o made.commits)) found c.requires.topic
+    subst (λ o. CanPut made.offsets made.place.topic (unwrap_or o made.commits)) found c.requires.topic
 
 pub put-requires-in-None : goal.put-requires-in-None
 put-requires-in-None c =
     let made = c.args.made in let absent = sym c.get_mut.ensures.value ∙ ap option_copied_mut c.in-None.is in
-    subst (λ o. CanPut made.new_topic made.place.topic (unwrap_or o made.commits)) absent c.requires.topic
+    subst (λ o. CanPut made.offsets made.place.topic (unwrap_or o made.commits)) absent c.requires.topic
 
 pub invariant_of-self : goal.invariant_of-self
 invariant_of-self c =
@@ -42,15 +42,13 @@ invariant_of-self c =
           c.args.self.now.listed (c.put.ensures made.place.group c.requires.listing));
     }
 
-pub invariant_of-self-in-None-get_mut : goal.invariant_of-self-in-None-get_mut
-invariant_of-self-in-None-get_mut c =
+pub invariant_of-self-in-None : goal.invariant_of-self-in-None
+invariant_of-self-in-None c =
     let entries = c.args.self.now.by_name.entries in let made = c.args.made in let final = c.put-in-None.new.self in
     let absent = sym c.get_mut.ensures.value ∙ ap option_copied_mut c.in-None.is in
-    let named = c.requires.named absent in let unwrapped = c.unwrap.ensures in
-    let name : c.unwrap.result ≡ made.place.group = cc in
     let committed : groups_in (c.insert.new.self.entries)
     ≡ with_commit made.place made.offset (groups_of c.args.self.now) =
-    ap (seen commits_in) (c.insert.ensures.entries ∙ ap (λ n. entries ++ (n, final) ∷ []) name
+    ap (seen commits_in) (c.insert.ensures.entries
     ∙ inserted_new same_text entries made.place.group final absent)
     ∙ seen_changed commits_in same_text entries made.place.group made.commits made.commits final []
     (with_offset made.place.topic made.place.partition made.offset) c.put-in-None.ensures
@@ -76,9 +74,7 @@ pub returns-in-None : goal.returns-in-None
 returns-in-None c =
     let entries = c.args.self.now.by_name.entries in let made = c.args.made in let final = c.put-in-None.new.self in
     let absent = sym c.get_mut.ensures.value ∙ ap option_copied_mut c.in-None.is in
-    let named = c.requires.named absent in let unwrapped = c.unwrap.ensures in
-    let name : c.unwrap.result ≡ made.place.group = cc in
-    ap (seen commits_in) (c.insert.ensures.entries ∙ ap (λ n. entries ++ (n, final) ∷ []) name
+    ap (seen commits_in) (c.insert.ensures.entries
     ∙ inserted_new same_text entries made.place.group final absent)
     ∙ seen_changed commits_in same_text entries made.place.group made.commits made.commits final []
     (with_offset made.place.topic made.place.partition made.offset) c.put-in-None.ensures

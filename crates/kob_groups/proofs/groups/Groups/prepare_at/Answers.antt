@@ -42,30 +42,29 @@ invariant_of-self-in-Some c =
           c.reserve-2.ensures.kept);
     }
 
-pub returns-in_err-new_topic-in-Some-clause-groups : goal.returns-in_err-new_topic-in-Some-clause-groups
-returns-in_err-new_topic-in-Some-clause-groups c =
+pub returns-in_err-offsets-in-Some-clause-groups : goal.returns-in_err-offsets-in-Some-clause-groups
+returns-in_err-offsets-in-Some-clause-groups c =
     let found = sym c.get_mut.ensures.value ∙ ap option_copied_mut c.in-Some.is in
     seen_written commits_in (same_text c.args.place.group) c.reserve.new.self.entries _ _ found
     c.reserve-in-Some.ensures.commits
     ∙ ap (seen commits_in) c.reserve.ensures.entries
 
-pub returns-in_ok-new_topic-in-Some-clause-groups : goal.returns-in_ok-new_topic-in-Some-clause-groups
-returns-in_ok-new_topic-in-Some-clause-groups c =
+pub returns-in_ok-offsets-in-Some-clause-groups : goal.returns-in_ok-offsets-in-Some-clause-groups
+returns-in_ok-offsets-in-Some-clause-groups c =
     let found = sym c.get_mut.ensures.value ∙ ap option_copied_mut c.in-Some.is in
     seen_written commits_in (same_text c.args.place.group) c.reserve.new.self.entries _ _ found
     c.reserve-in-Some.ensures.commits
     ∙ ap (seen commits_in) c.reserve.ensures.entries
 
-pub returns-in_ok-new_topic-in-Some-clause-ready : goal.returns-in_ok-new_topic-in-Some-clause-ready
-returns-in_ok-new_topic-in-Some-clause-ready c =
+pub returns-in_ok-offsets-in-Some-clause-ready : goal.returns-in_ok-offsets-in-Some-clause-ready
+returns-in_ok-offsets-in-Some-clause-ready c =
     let found = sym c.get_mut.ensures.value ∙ ap option_copied_mut c.in-Some.is in
-    let made = c.in_ok-new_topic-in-Some.new_topic in let fresh = c.new-commits.result in
+    let made = c.in_ok-offsets-in-Some.offsets in let fresh = c.new-commits.result in
     let now = found_written (same_text c.args.place.group) c.reserve.new.self.entries _
     c.reserve-in-Some.new.self found in record {
       groups = c.in_ok-reserve.ensures.room;
       topic = subst (λ o. CanPut made c.args.place.topic (unwrap_or o fresh)) (sym now)
-          c.in_ok-new_topic-in-Some.ensures.ready;
+          c.in_ok-offsets-in-Some.ensures.ready;
       no_commits = c.new-commits.ensures;
-      named = λ none. cc;
       listing = c.in_ok-listing.ensures.ready;
     }
