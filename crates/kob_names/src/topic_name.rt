@@ -65,6 +65,20 @@ impl TopicName {
     {
         self.text.as_str()
     }
+
+    /// The name's text; no memory is taken.
+    pub fn as_text(&self) -> &Text
+        ensures { result.now ≡ self.now }
+    {
+        &self.text
+    }
+
+    /// Gives the name's text away; no memory is taken.
+    pub fn into_text(self) -> Text
+        ensures { result ≡ self }
+    {
+        self.text
+    }
 }
 
 impl PlainValue for TopicName {
