@@ -45,7 +45,7 @@ fn topics_created_and_refused(rt: HostRuntime) -> Result<(), Fail> {
     ];
     for (name, partitions, expected) in rows {
         let name = TopicName::parse(alloc, name)?;
-        assert_eq!(rt; catalog.create(alloc, &name, partitions), expected);
+        assert_eq!(rt; catalog.create(alloc, name, partitions), expected);
     }
     assert_eq!(rt; catalog.len(), 2);
     Ok(())
@@ -63,7 +63,7 @@ fn one_partition_is_written(rt: HostRuntime) -> Result<(), Fail> {
 fn create_two(rt: &impl Abort, alloc: Global, catalog: &mut Catalog) -> Result<(), Fail> {
     for name in ["a", "b"] {
         let name = TopicName::parse(alloc, name)?;
-        assert_eq!(rt; catalog.create(alloc, &name, 2), Ok(()));
+        assert_eq!(rt; catalog.create(alloc, name, 2), Ok(()));
     }
     Ok(())
 }
@@ -113,11 +113,10 @@ const ROWS: [Row; 8] = [
 fn creates(alloc: Global, catalog: &mut Catalog, row: &Row) -> Result<bool, Fail> {
     let (name, partitions, expected) = row;
     let text = Text::copied(alloc, name)?;
-    let name = TopicName::parse(alloc, name)?;
     let before = (catalog.len(), catalog.partitions(&text));
-    let mut created = catalog.create(alloc, &name, *partitions);
+    let mut created = catalog.create(alloc, TopicName::parse(alloc, name)?, *partitions);
     if created == Err(CreateFault::Memory) && (catalog.len(), catalog.partitions(&text)) == before {
-        created = catalog.create(alloc, &name, *partitions);
+        created = catalog.create(alloc, TopicName::parse(alloc, name)?, *partitions);
     }
     Ok(created == *expected)
 }

@@ -10,7 +10,8 @@ use std::test::Fail;
 /// Groups that commit on the topics `a` and `b`, in this order.
 const NAMES: [&str; 6] = ["g", "h", "i", "j", "k", "l"];
 
-fn place(alloc: Global, group: &str, topic: &str) -> Result<CommitPlace, AllocError> {
+/// Partition 0 of a topic, as a group commits on it.
+pub(crate) fn place(alloc: Global, group: &str, topic: &str) -> Result<CommitPlace, AllocError> {
     Ok(CommitPlace {
         group: Text::copied(alloc, group)?,
         topic: Text::copied(alloc, topic)?,

@@ -2,8 +2,9 @@
 //! `spare` on.
 
 use crate::groups::{Offsets, STEPS, commit, holds, places};
+use crate::groups_gone::place;
 use kob_catalog::Catalog;
-use kob_groups::{CommitPlace, GroupNotFound, Groups};
+use kob_groups::{CommitFault, CommitPlace, GROUP_LIMIT, GroupNotFound, Groups};
 use kob_names::Text;
 use std::alloc::Global;
 use std::test::Fail;
@@ -138,5 +139,32 @@ fn looks_up_and_forgets(alloc: Global, groups: &mut Groups) -> Result<bool, Fail
 fn commits_are_looked_up_and_go(rt: HostRuntime) -> Result<(), Fail> {
     let mut groups = Groups::new(rt.alloc());
     assert!(rt; looks_up_and_forgets(rt.alloc(), &mut groups)?);
+    Ok(())
+}
+
+/// A text whose copies take memory.
+pub(crate) const LONG: &str = "longer-than-the-texts-that-stand-in-place";
+
+/// As many groups as there may be commit on the topic `a`.
+fn fill(alloc: Global, groups: &mut Groups) -> Result<(), Fail> {
+    for number in 0..GROUP_LIMIT {
+        let name = format!(in alloc; "group {number}")?;
+        commit(alloc, groups, &place(alloc, name.as_str(), "a")?, 1)?;
+    }
+    Ok(())
+}
+
+/// Whether a group too many is refused by the rule.
+fn refuses_one_more(alloc: Global, groups: &mut Groups) -> Result<bool, Fail> {
+    fill(alloc, groups)?;
+    let place = place(alloc, LONG, LONG)?;
+    spare(alloc);
+    Ok(commit(alloc, groups, &place, 1) == Err(CommitFault::TooMany))
+}
+
+#[test]
+fn a_group_too_many_is_refused(rt: HostRuntime) -> Result<(), Fail> {
+    let mut groups = Groups::new(rt.alloc());
+    assert!(rt; refuses_one_more(rt.alloc(), &mut groups)?);
     Ok(())
 }

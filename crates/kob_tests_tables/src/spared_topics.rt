@@ -2,8 +2,8 @@
 //! growth refused from `spare` on.
 
 use crate::catalog::batch;
-use crate::spared::spare;
-use kob_catalog::{Catalog, PartitionFault, UnknownTopic};
+use crate::spared::{LONG, spare};
+use kob_catalog::{Catalog, CreateFault, PartitionFault, UnknownTopic};
 use kob_names::{Batch, Text, TopicName};
 use kob_partition::Placement;
 use std::alloc::{AllocError, Global};
@@ -11,8 +11,8 @@ use std::test::Fail;
 
 /// The topics `a` of two partitions and `b` of 300.
 fn create_two(alloc: Global, catalog: &mut Catalog) -> Result<(), Fail> {
-    catalog.create(alloc, &TopicName::parse(alloc, "a")?, 2)?;
-    catalog.create(alloc, &TopicName::parse(alloc, "b")?, 300)?;
+    catalog.create(alloc, TopicName::parse(alloc, "a")?, 2)?;
+    catalog.create(alloc, TopicName::parse(alloc, "b")?, 300)?;
     Ok(())
 }
 
@@ -115,6 +115,28 @@ fn third_comes_and_first_goes(alloc: Global, catalog: &mut Catalog) -> Result<bo
 fn a_topic_comes_and_one_goes(rt: HostRuntime) -> Result<(), Fail> {
     let mut catalog = Catalog::new(rt.alloc());
     assert!(rt; third_comes_and_first_goes(rt.alloc(), &mut catalog)?);
+    Ok(())
+}
+
+/// Whether creations are refused by the rules that they break.
+fn refuses_creations(alloc: Global, catalog: &mut Catalog) -> Result<bool, Fail> {
+    catalog.create(alloc, TopicName::parse(alloc, LONG)?, 1)?;
+    let there = TopicName::parse(alloc, LONG)?;
+    let again = TopicName::parse(alloc, LONG)?;
+    let other = TopicName::parse(alloc, "another-name-whose-copies-take-memory")?;
+    spare(alloc);
+    Ok(
+        catalog.prepare_create(alloc, &there, 1).err() == Some(CreateFault::Exists)
+            && catalog.prepare_create(alloc, &other, 0).err() == Some(CreateFault::BadPartitions)
+            && catalog.create(alloc, again, 1) == Err(CreateFault::Exists)
+            && catalog.create(alloc, other, 0) == Err(CreateFault::BadPartitions),
+    )
+}
+
+#[test]
+fn broken_rules_are_told(rt: HostRuntime) -> Result<(), Fail> {
+    let mut catalog = Catalog::new(rt.alloc());
+    assert!(rt; refuses_creations(rt.alloc(), &mut catalog)?);
     Ok(())
 }
 
