@@ -51,8 +51,8 @@ impl Commits {
     }
 
     /// Makes room for one more topic, and for one more offset on this one. What comes back is for a
-    /// new topic: no offsets, with room for one. The commits stay, also after an error, which is want
-    /// of memory.
+    /// new topic: no offsets, with room for one. The commits stay, also after an error, which is
+    /// want of memory.
     pub(crate) fn reserve(&mut self, alloc: Global, topic: &Text) -> Result<Offsets, AllocError>
         ensures commits { commits_in self.new ≡ commits_in self.old }
         ensures ready { IfOk result (λ made. CanPut made topic.now self.new) }
