@@ -32,7 +32,7 @@ misread_words args =
 abbrev pub bad_names : List (List ℕ) → List CommandFault
 bad_names words = map (λ word. BadName word) words
 
--- the fault is the first of those that stand, or want of memory
+-- the fault is the first of those that stand, or lack of memory
 abbrev pub IsFirstFault : List CommandFault → CommandFault → Type 0
 IsFirstFault [] fault = fault ≡ Memory
 IsFirstFault (first ∷ others) fault = (fault ≡ first) ⊎ (fault ≡ Memory)

@@ -10,7 +10,7 @@ use std::alloc::{AllocError, Global};
 
 /// One line a binding, each with a line feed: `binding SERIAL PERMISSION PRINCIPAL HOST OPERATION
 /// RESOURCE PATTERN NAME`. Bytes of names outside 0x21 to 0x7e, and each `%` and `=`, are `%` and
-/// two lower-case hexadecimal digits. The error is want of memory.
+/// two lower-case hexadecimal digits. The error is out of memory.
 pub fn print_list(alloc: Global, bindings: &[(u64, Binding)]) -> Result<String, AllocError>
     ensures { IfOk result (λ text. string_bytes text ≡ list_text bindings.now) }
 {

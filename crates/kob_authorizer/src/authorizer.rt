@@ -171,7 +171,7 @@ impl Authorizer {
         Ok(self.commit_create(prepared))
     }
 
-    /// The first step of [`create`](Authorizer::create): makes all growths and shows the answer.
+    /// The first step of [`create`](Authorizer::create): allocates, and shows the answer.
     /// The contents stay, also where it is refused.
     pub fn prepare_create(
         &mut self,
@@ -247,7 +247,7 @@ impl Authorizer {
         Ok(self.commit_delete(prepared))
     }
 
-    /// The first step of [`delete`](Authorizer::delete): makes all growths and shows the answer.
+    /// The first step of [`delete`](Authorizer::delete): allocates, and shows the answer.
     #[tactic(auto, using(crate::proofs::Rising::rising_filter))]
     pub fn prepare_delete(
         &self,

@@ -44,7 +44,7 @@ impl SuperUsers {
         }
     }
 
-    /// Makes the tree, if it is not there yet. The error is want of memory.
+    /// Makes the tree, if it is not there yet. The error is out of memory.
     pub fn index(&mut self, alloc: Global) -> Result<(), AllocError>
         ensures { self.new ≡ self.old }
     {
@@ -81,7 +81,7 @@ fn is_listed(users: &[Principal], who: &Principal) -> bool
     users.iter().any(|user| who == user)
 }
 
-/// A tree of the texts of these users. The error is want of memory.
+/// A tree of the texts of these users. The error is out of memory.
 #[tactic(auto, using(std::proofs::lemmas::List::Sums::fold_more))]
 fn texts_of(alloc: Global, users: &[Principal]) -> Result<PrefixTree, AllocError>
     ensures { IfOk result (λ texts. texts ≡ texts_of users.now) }

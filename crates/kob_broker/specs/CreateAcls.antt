@@ -39,7 +39,7 @@ create_acls_reasons access create =
 abbrev pub created_serials : Contents → CreateAcls → List ℕ
 created_serials access create = (addition access.entries access.next create.drafts).serials
 
--- a fault that is no want of memory is the reason
+-- a fault that is no lack of memory is the reason
 abbrev pub IsUnlessRefused : Option Reason → DraftFault → Type 0
 IsUnlessRefused against (Refused reason) = against ≡ Some reason
 IsUnlessRefused against Memory = Unit {0}

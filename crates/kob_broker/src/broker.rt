@@ -62,7 +62,7 @@ impl Broker {
 
     /// The super users and the switch, and the bindings in force now as the opening list, in rising
     /// serials.
-    /// Opened with these, a broker has new serials from 1 on. The error is want of memory.
+    /// Opened with these, a broker has new serials from 1 on. The error is out of memory.
     pub fn opening(&self, alloc: Global) -> Result<Settings, AllocError>
         ensures { IfOk result (λ settings. settings ≡ settings_of (state_of self.now)) }
     {
@@ -101,8 +101,8 @@ impl Broker {
         }
     }
 
-    /// The first step of serving an event: all growths and the reply. The contents stay, also after
-    /// want of memory, which is the error.
+    /// The first step of serving an event: all allocations and the reply. The contents stay, also
+    /// when out of memory, which is the error.
     pub fn prepare(&mut self, alloc: Global, event: &Event) -> Result<Prepared, AllocError>
         ensures state { state_of self.new ≡ state_of self.old }
         ensures ok { IfOk result
@@ -191,7 +191,7 @@ impl Broker {
         reply
     }
 
-    /// Serves one event. The error is want of memory, and the contents are then as before.
+    /// Serves one event. The error is out of memory, and the contents are then as before.
     pub fn serve(&mut self, alloc: Global, event: &Event) -> Result<Reply, AllocError>
         ensures reply { IfOk result (λ reply. reply
             ≡ (step retained_meaning (state_of self.old) event.now).reply) }

@@ -1,8 +1,8 @@
-//! Runs that want of memory stopped.
+//! Runs that lack of memory stopped.
 
 use kob_rights::Reply;
 
-/// A run that want of memory stopped after so many events, with their replies.
+/// A run that lack of memory stopped after so many events, with their replies.
 #[derive(Debug, Drop)]
 pub struct Stopped {
     pub done: usize,

@@ -32,7 +32,7 @@ pub struct PreparedCommit {
 
 impl PreparedCommit {
     /// A commit of a new group: empty maps with room for one topic and one offset. The error is
-    /// want of memory.
+    /// lack of memory.
     pub(crate) fn of_new_group(
         alloc: Global,
         place: CommitPlace,

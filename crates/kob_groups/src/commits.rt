@@ -32,7 +32,7 @@ impl Commits {
         }
     }
 
-    /// No commits, with room for one topic. The error is want of memory.
+    /// No commits, with room for one topic. The error is out of memory.
     pub(crate) fn with_room(alloc: Global) -> Result<Commits, AllocError>
         ensures empty { IfOk result (λ commits. commits.by_topic.entries ≡ []) }
         ensures room { IfOk result (λ commits. 0 < commits.by_topic.room) }
@@ -52,7 +52,7 @@ impl Commits {
 
     /// Makes room for one more topic, and for one more offset on this one. What comes back is for a
     /// new topic: no offsets, with room for one. The commits stay, also after an error, which is
-    /// want of memory.
+    /// lack of memory.
     pub(crate) fn reserve(&mut self, alloc: Global, topic: &Text) -> Result<Offsets, AllocError>
         ensures commits { commits_in self.new ≡ commits_in self.old }
         ensures ready { IfOk result (λ made. CanPut made topic.now self.new) }

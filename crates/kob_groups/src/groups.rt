@@ -59,7 +59,7 @@ impl Groups {
         !self.by_name.contains_key(group) && self.by_name.len() >= GROUP_LIMIT
     }
 
-    /// The first step of a commit: all growths. The groups stay, also after an error. `TooMany`
+    /// The first step of a commit: all allocations. The groups stay, also after an error. `TooMany`
     /// comes where the group is a new one and there are 10,000.
     pub fn prepare_commit(
         &mut self,
@@ -183,7 +183,7 @@ impl Groups {
         Ok(())
     }
 
-    /// The names of the groups, in order of their first commit. The error is want of memory.
+    /// The names of the groups, in order of their first commit. The error is out of memory.
     pub fn names(&self, alloc: Global) -> Result<Items<Text>, AllocError>
         ensures { IfOk result (λ names. names ≡ group_names (groups_of self.now)) }
     {

@@ -52,7 +52,7 @@ impl GroupsByTopic {
     }
 
     /// Makes room for a group among those of a topic, unless it is listed already, and copies the
-    /// names that are new. The lists stay, also after an error, which is want of memory.
+    /// names that are new. The lists stay, also after an error, which is out of memory.
     pub(crate) fn reserve(
         &mut self,
         alloc: Global,
@@ -163,7 +163,7 @@ impl GroupsByTopic {
     }
 }
 
-/// No names, with room for one. The error is want of memory.
+/// No names, with room for one. The error is out of memory.
 fn no_names_with_room(alloc: Global) -> Result<GroupNames, AllocError>
     ensures empty { IfOk result (λ fresh. fresh.entries ≡ []) }
     ensures room { IfOk result (λ fresh. 0 < fresh.room) }

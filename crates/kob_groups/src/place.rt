@@ -15,7 +15,7 @@ pub struct CommitPlace {
 }
 
 impl CommitPlace {
-    /// The place of these parts, which are copied. The error is want of memory.
+    /// The place of these parts, which are copied. The error is out of memory.
     pub fn copied(
         alloc: Global,
         group: &Text,

@@ -79,7 +79,7 @@ IsAnswer t Idle moves =
 IsAnswer t Repeat moves = (moves ≡ []) ⊎ ((request : Request) × IsCall moves request None 0)
 IsAnswer t (Stopped reason) moves = IsReason reason moves
 
--- how often calls were not made for want of memory, after a tick without a call: only a loss tells
+-- how often calls were not made for lack of memory, after a tick without a call: only a loss tells
 -- of one
 abbrev pub unmade_after : Tick → ℕ → ℕ
 unmade_after Repeat unmade = one_more unmade

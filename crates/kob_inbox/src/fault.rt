@@ -8,7 +8,7 @@ use thiserror::Error as Fault;
 pub enum InboxFault {
     #[error("out of memory")]
     Memory,
-    /// The database refused for another cause than want of memory, or every place was taken.
+    /// The database refused for another cause than lack of memory, or every place was taken.
     #[error("the database refused")]
     Store,
 }

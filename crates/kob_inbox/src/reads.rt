@@ -1,4 +1,4 @@
-//! What is read of the table. Over memory only want of memory can stop a read.
+//! What is read of the table. Over memory only lack of memory can stop a read.
 
 ghost use Rattle.std.specs.Prelude.{◌≡◌, ◌<◌, ◌^◌, length, map, IfErr, IfOk};
 ghost use Rattle.std.specs.List.{enumerate_from};

@@ -53,7 +53,7 @@ impl<T> Items<T> {
 }
 
 impl<T: PlainValue> Items<T> {
-    /// Equal items in the same order. The error is want of memory.
+    /// Equal items in the same order. The error is out of memory.
     pub fn copied(alloc: Global, items: &[T]) -> Result<Items<T>, AllocError>
         ensures { IfOk result (λ made. made ≡ items.now) }
     {

@@ -6,7 +6,7 @@ use std::alloc::{AllocError, Global};
 
 /// A value that is plain data: whoever keeps it may copy it and compare it by its contents.
 pub trait PlainValue: Sized + Drop {
-    /// An equal value. The error is want of memory.
+    /// An equal value. The error is out of memory.
     fn copy(&self, alloc: Global) -> Result<Self, AllocError>
         ensures { IfOk result (λ made. made ≡ self.now) };
 

@@ -105,7 +105,7 @@ impl<V: Drop> OrderedMap<V> {
     }
 
     /// Makes room for one more entry, and fills the holes if there are more of them than entries.
-    /// The entries stay, also after an error, which is want of memory.
+    /// The entries stay, also after an error, which is out of memory.
     pub fn reserve(&mut self) -> Result<(), AllocError>
         ensures entries { self.new.entries ≡ self.old.entries }
         ensures room { OnOk result (0 < self.new.room) }

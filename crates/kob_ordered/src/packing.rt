@@ -6,7 +6,7 @@ ghost use Rattle.kob_ordered.specs.Slots.{entries_in, rank, IsSound};
 use crate::slot::Slot;
 use std::alloc::{AllocError, Global};
 
-/// Takes the holes away. After an error, which is want of memory, all stays.
+/// Takes the holes away. After an error, which is out of memory, all stays.
 pub(crate) fn pack<V: Drop>(
     alloc: Global,
     slots: &mut Vec<Slot<V>>,

@@ -15,7 +15,7 @@ pub struct Change {
 }
 
 impl Change {
-    /// A change with the same texts. The error is want of memory.
+    /// A change with the same texts. The error is out of memory.
     pub fn copy(&self, alloc: Global) -> Result<Change, AllocError>
         ensures kind { IfOk result (λ made. string_bytes made.kind ≡ string_bytes self.now.kind) }
         ensures id { IfOk result (λ made. string_bytes made.id ≡ string_bytes self.now.id) }

@@ -28,7 +28,7 @@ pub struct Row {
 }
 
 impl OutboxEvent {
-    /// An event with the same id and texts. The error is want of memory.
+    /// An event with the same id and texts. The error is out of memory.
     pub fn copy(&self, alloc: Global) -> Result<OutboxEvent, AllocError>
         ensures id { IfOk result (λ made. made.id ≡ self.now.id) }
         ensures stored { IfOk result (λ made. stored_event 0 made ≡ stored_event 0 self.now) }
@@ -48,7 +48,7 @@ impl OutboxEvent {
 }
 
 impl Row {
-    /// A row with the same number and an equal event. The error is want of memory.
+    /// A row with the same number and an equal event. The error is out of memory.
     pub fn copy(&self, alloc: Global) -> Result<Row, AllocError>
         ensures seq { IfOk result (λ made. made.seq ≡ self.now.seq) }
         ensures id { IfOk result (λ made. made.event.id ≡ self.now.event.id) }

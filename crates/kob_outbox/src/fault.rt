@@ -9,7 +9,7 @@ use thiserror::Error as Fault;
 pub enum OutboxFault {
     #[error("out of memory")]
     Memory,
-    /// The database refused for another cause than want of memory.
+    /// The database refused for another cause than lack of memory.
     #[error("the database refused")]
     Store,
 }
@@ -25,7 +25,7 @@ pub enum RecordFault {
     DuplicateId,
     #[error("out of memory")]
     Memory,
-    /// The database refused for another cause than want of memory, or every number was given.
+    /// The database refused for another cause than lack of memory, or every number was given.
     #[error("the database refused")]
     Store,
 }
@@ -41,7 +41,7 @@ pub enum MarkFault {
     Ahead,
     #[error("out of memory")]
     Memory,
-    /// The database refused for another cause than want of memory.
+    /// The database refused for another cause than lack of memory.
     #[error("the database refused")]
     Store,
 }

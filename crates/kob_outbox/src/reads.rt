@@ -1,4 +1,4 @@
-//! What is read of the tables. Over memory only want of memory can stop a read.
+//! What is read of the tables. Over memory only lack of memory can stop a read.
 
 ghost use Rattle.std.specs.Prelude.{◌≡◌, option_map, string_bytes, ◌<◌, ◌^◌, length, map, IfErr};
 ghost use Rattle.std.specs.Prelude.{IfOk};

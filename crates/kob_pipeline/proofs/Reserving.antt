@@ -164,11 +164,10 @@ commit_needs access event group topic (requests.DeleteAcls delete) reply just is
 module _ (opening : Settings) (journal : List Entry) (now : State Retained) (worker : ℕ) (principal : List ℕ)
     (Kind : Request → Reply → Type 0) (operation : Operation) (resource : ResourceKind) (name : List ℕ)
     (needs : (access : Contents) (event : Event) (reply : Reply) → IsJust access event reply → Kind event.request reply
-        → Grants access event (record { operation = operation; resource = resource; name = name }))
+    → Grants access event (record { operation = operation; resource = resource; name = name }))
     (legal : IsLegal (opened_by opening) journal now)
     (reserved : IsReserved opening journal principal operation resource name)
     (alone : ActsAlone worker principal journal) (common : NoSuperUser opening.supers Kind journal) where
-
   own_at : (k : ℕ) (e : Entry) → slice_get journal k ≡ Some e → Kind e.event.request e.reply → e.worker ≡ worker
   own_at k e at is =
       let before = take k journal in

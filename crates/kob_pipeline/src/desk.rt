@@ -7,7 +7,7 @@ use kob_names::{Host, PlainValue, Principal};
 use kob_shared::{Desk, SharedBroker};
 use std::alloc::{AllocError, Global};
 
-/// A desk for a worker, for one principal at one host. The error is want of memory.
+/// A desk for a worker, for one principal at one host. The error is out of memory.
 pub(crate) fn desk_at<'a>(
     alloc: Global,
     shared: &'a SharedBroker,

@@ -38,6 +38,6 @@ pub(crate) enum WorkerEnd {
     Outbox(OutboxEnd),
     Inbox(InboxEnd),
     Nothing,
-    /// Its database refused for another cause than want of memory.
+    /// Its database refused for another cause than lack of memory.
     StoreRefused,
 }

@@ -25,7 +25,7 @@ pub enum PipelineFault {
     Full {
         worker: usize,
     },
-    /// A worker's database refused for another cause than want of memory.
+    /// A worker's database refused for another cause than lack of memory.
     Store,
     /// The journal and what the worker was told differ at the place.
     Torn {

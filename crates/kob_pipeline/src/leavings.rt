@@ -24,7 +24,7 @@ impl Leavings {
     ghost use Rattle.std.specs.Prelude.{◌++◌, OnOk};
     ghost use Rattle.kob_pipeline.specs.Leavings.{IsKeptByStore, inbox_of, outbox_of};
 
-    /// Keeps what a worker left of its database. The error is want of memory, or `Store` where the
+    /// Keeps what a worker left of its database. The error is out of memory, or `Store` where the
     /// database refused.
     fn keep(&mut self, end: WorkerEnd) -> Result<(), PipelineFault>
         ensures transcripts { self.new.transcripts ≡ self.old.transcripts }
@@ -45,7 +45,7 @@ impl Leavings {
     }
 }
 
-/// Takes apart what the workers left. The error is want of memory, or `Store` where a worker's
+/// Takes apart what the workers left. The error is out of memory, or `Store` where a worker's
 /// database refused.
 pub(crate) fn leavings_of(
     alloc: Global,

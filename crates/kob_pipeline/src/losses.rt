@@ -8,7 +8,7 @@ use kob_router::Call;
 use std::alloc::AllocError;
 
 /// Notes how the calls of a tick are lost: the first as the plan says, and no other. The error is
-/// want of memory.
+/// lack of memory.
 pub(crate) fn note_losses(
     losses: &mut Vec<Loss>,
     loss: Loss,

@@ -85,7 +85,7 @@ fn run_plan<R: Threads + Wait + Sync, G: Gate + Sync>(
 }
 
 /// A broker as the plan opens it, what it stores of its opening, and the first events. The error is
-/// want of memory.
+/// lack of memory.
 fn opened(alloc: Global, plan: &Plan) -> Result<(Broker, Settings, Vec<Event>), AllocError>
     requires { length plan.now.settings.opening ≤ 100000 }
     ensures broker { IfOk result (λ o. state_of o.0 ≡ opened_by plan.now.settings) }
@@ -103,7 +103,7 @@ fn opened(alloc: Global, plan: &Plan) -> Result<(Broker, Settings, Vec<Event>), 
     }
 }
 
-/// A broker with these settings. The error is want of memory.
+/// A broker with these settings. The error is out of memory.
 fn broker_of(alloc: Global, settings: &Settings) -> Result<Broker, AllocError>
     requires { length settings.now.opening ≤ 100000 }
     ensures { IfOk result (λ broker. state_of broker ≡ opened_by settings.now) }

@@ -10,7 +10,7 @@ use std::alloc::AllocError;
 pub(crate) enum StepFault {
     /// A call was not served, or memory was refused.
     Call(CallFault),
-    /// The database refused for another cause than want of memory.
+    /// The database refused for another cause than lack of memory.
     Store,
 }
 

@@ -97,7 +97,7 @@ EndsUnmarked moves =
     × (moves
     ≡ front ++ Called (record { request = Produce produce; heard = Some (Done body) }) false ∷ [])
 
--- the last call was lost, or it could not be made for want of memory
+-- the last call was lost, or it could not be made for lack of memory
 abbrev pub EndsLost : List Move → ℕ → ℕ → Type 0
 EndsLost moves unmade then_unmade =
     ((front : List Move) × (request : Request)

@@ -29,7 +29,7 @@ pub struct Dispatch {
 }
 
 impl Target {
-    /// An equal target. The error is want of memory.
+    /// An equal target. The error is out of memory.
     pub fn copy(&self, alloc: Global) -> Result<Target, AllocError>
         ensures { IfOk result (λ made. made ≡ self.now) }
     {

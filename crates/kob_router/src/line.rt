@@ -15,7 +15,7 @@ pub struct Call {
 }
 
 impl Call {
-    /// An equal call. The error is want of memory.
+    /// An equal call. The error is out of memory.
     pub fn copy(&self, alloc: Global) -> Result<Call, AllocError>
         ensures { IfOk result (λ made. made ≡ self.now) }
     {
@@ -59,7 +59,7 @@ pub trait Line {
     fn made_calls(&self) -> &[Call]
         ensures { result.now ≡ calls self.now };
 
-    /// How often a call was not made for want of memory, counted up to 18,446,744,073,709,551,615.
+    /// How often a call was not made for lack of memory, counted up to 18,446,744,073,709,551,615.
     fn unmade_calls(&self) -> u64
         ensures { result ≡ unmade self.now };
 }

@@ -55,7 +55,7 @@ impl Route {
         })
     }
 
-    /// An equal route. The error is want of memory.
+    /// An equal route. The error is out of memory.
     pub fn copy(&self, alloc: Global) -> Result<Route, AllocError>
         ensures { IfOk result (λ made. made ≡ self.now) }
     {

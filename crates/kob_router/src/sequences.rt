@@ -56,7 +56,7 @@ impl Sequences {
         use_one(&mut self.items, place)
     }
 
-    /// Makes room for a place, where it has none. The error is want of memory.
+    /// Makes room for a place, where it has none. The error is out of memory.
     pub fn prepare(&mut self, alloc: Global, place: &Place) -> Result<(), AllocError>
         ensures ok { OnOk result (self.new ≡ with_sequence_for self.old place.now) }
         ensures err { OnErr result (self.new ≡ self.old) }

@@ -47,7 +47,7 @@ impl RouteSettings {
         })
     }
 
-    /// Equal settings. The error is want of memory.
+    /// Equal settings. The error is out of memory.
     pub fn copy(&self, alloc: Global) -> Result<RouteSettings, AllocError>
         ensures { IfOk result (λ made. made ≡ self.now) }
     {

@@ -1,4 +1,4 @@
--- The program's status: 0 for a script that was served, 2 for want of memory, 1 for every other
+-- The program's status: 0 for a script that was served, 2 for lack of memory, 1 for every other
 -- end.
 use Rattle.std.specs.Prelude.{ℕ, Result, Ok, Err}
 use Rattle.kob_text.specs.declared.fault.RunFault.{RunFault}

@@ -19,7 +19,7 @@ use Rattle.kob_script.specs.Reading.{◌>>=◌, each, found_or}
 use Rattle.kob_script.specs.Texts.{text_of}
 use Rattle.kob_script.specs.Word.{Word}
 
--- the kind of a fault of options; want of memory is never one of theirs
+-- the kind of a fault of options; lack of memory is never one of theirs
 abbrev pub kind_of : CommandFault → FaultKind
 kind_of command.NoAction = NoAction
 kind_of (command.BadName word) = BadName

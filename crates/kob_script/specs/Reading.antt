@@ -13,7 +13,7 @@ abbrev pub ◌>>=◌ : {A B : Type 0} → Result A FaultKind → (A → Result B
 (Ok x) >>= f = f x
 (Err kind) >>= f = Err kind
 
--- A function failed with the fault of reading, or by want of memory.
+-- A function failed with the fault of reading, or by lack of memory.
 abbrev pub Fails : {A : Type 0} → LineError → Result A FaultKind → Type 0
 Fails Memory read = Unit {0}
 Fails (Fault kind) read = read ≡ Err kind

@@ -92,7 +92,7 @@ impl AskerText<'_> {
 }
 
 impl Asker {
-    /// An equal value. The error is want of memory.
+    /// An equal value. The error is out of memory.
     pub fn copy(&self, alloc: Global) -> Result<Asker, AllocError>
         ensures { IfOk result (λ made. made ≡ self.now) }
     {

@@ -39,7 +39,7 @@ struct Checking {
 
 /// Checks a script in blocks of whole lines, with fewer than 2^63 bytes, in time linear in its
 /// size: what a line asks for is counted, and its bytes are held until it is served. The error is
-/// the first line with a fault, or want of memory, which 2^64 requests count as. What the words of
+/// the first line with a fault, or lack of memory, which 2^64 requests count as. What the words of
 /// an `acl` line mean is answered by `clap`, and for some words what its port states leaves more
 /// than one answer open; a script without such lines has one reading.
 pub fn check_script(alloc: Global, blocks: Vec<Bytes>) -> Result<CheckedScript, ScriptError>

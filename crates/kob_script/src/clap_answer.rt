@@ -14,7 +14,7 @@ use kob_names::Text;
 use std::alloc::{AllocError, Global};
 
 /// What `clap` answers to a line's words: the options of `acl`, or nothing where it refuses them,
-/// where they are no texts and where the line doesn't ask by `acl`. The error is want of memory.
+/// where they are no texts and where the line doesn't ask by `acl`. The error is out of memory.
 pub fn answer_to(alloc: Global, words: &[Word<'_>]) -> Result<Option<CliArgs>, AllocError>
     ensures { IfOk result (λ answer. IsAnswerTo words.now answer) }
 {

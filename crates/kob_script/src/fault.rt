@@ -45,7 +45,7 @@ pub struct Fault {
     pub kind: FaultKind,
 }
 
-/// Why a script was not read: its first fault, or want of memory.
+/// Why a script was not read: its first fault, or lack of memory.
 #[derive(Clone, Copy, Debug, PartialEq, Eq, Error)]
 pub enum ScriptError {
     #[error("out of memory")]

@@ -7,7 +7,7 @@ use crate::fault::{Fault, FaultKind};
 use kob_words::push_number;
 use std::alloc::AllocError;
 
-/// Prints the line `fault line LINE KIND` with its line feed. The error is want of memory; `out`
+/// Prints the line `fault line LINE KIND` with its line feed. The error is out of memory; `out`
 /// has then grown by a part of it.
 #[tactic(auto, using(kob_words::proofs::Appending::appending))]
 pub fn print_fault(out: &mut Vec<u8>, fault: Fault) -> Result<(), AllocError>

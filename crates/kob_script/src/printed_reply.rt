@@ -10,7 +10,7 @@ use kob_rights::{Code, Reply};
 use kob_words::push_number;
 use std::alloc::AllocError;
 
-/// Prints a reply behind its number, with a line feed after it. The error is want of memory; `out`
+/// Prints a reply behind its number, with a line feed after it. The error is out of memory; `out`
 /// has then grown by a part of it.
 #[tactic(auto, using(kob_words::proofs::Appending::appending))]
 pub fn print_reply(out: &mut Vec<u8>, number: u64, reply: &Reply) -> Result<(), AllocError>

@@ -74,7 +74,7 @@ impl Requests {
     }
 
     /// The event of the next request, of which there has to be one. A block is freed once a request
-    /// behind it is asked for. The error is want of memory, after which all that was left is left.
+    /// behind it is asked for. The error is out of memory, after which all that was left is left.
     pub fn next_event(&mut self, alloc: Global) -> Result<Event, AllocError>
         requires { 0 < length self.old }
         ensures next { IfOk result (λ event. self.old ≡ event ∷ self.new) }

@@ -20,7 +20,7 @@ pub struct Script {
 
 /// Reads a script to its end, in time linear in its size, by a copy of its bytes. Lines end with a
 /// line feed, before which one carriage return is dropped; the last line may lack it. The error is
-/// the first line with a fault, or want of memory. What the words of an `acl` line mean is answered
+/// the first line with a fault, or lack of memory. What the words of an `acl` line mean is answered
 /// by `clap`, and for some words what its port states leaves more than one answer open; a script
 /// without such lines has one reading.
 pub fn read_script(alloc: Global, text: &[u8]) -> Result<Script, ScriptError>

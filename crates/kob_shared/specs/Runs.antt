@@ -77,7 +77,7 @@ pub record IsFirstFault {T : Type 0} (results : List (Result T CallFault)) (k : 
   pub here : slice_get results k ≡ Some (Err fault)
 
 -- the first result that is a fault is this one, and its worker is named. Workers count from 1, and
--- want of memory names none
+-- lack of memory names none
 abbrev pub NamesFirstFault : {T : Type 0} → List (Result T CallFault) → FleetStop → Type 0
 NamesFirstFault results (Stale worker length) =
     (k : ℕ) × (worker ≡ k + 1) × IsFirstFault results k (calls.Stale length)

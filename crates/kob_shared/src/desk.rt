@@ -113,7 +113,7 @@ impl<'a> Desk<'a> {
     }
 }
 
-/// Makes room for one more event and its receipt. The error is want of memory.
+/// Makes room for one more event and its receipt. The error is out of memory.
 fn make_room(events: &mut Vec<Event>, receipts: &mut Vec<Receipt>) -> Result<(), AllocError>
     ensures events { events.new.items ≡ events.old.items }
     ensures receipts { receipts.new.items ≡ receipts.old.items }

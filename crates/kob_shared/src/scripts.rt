@@ -56,7 +56,7 @@ fn has_room(first: &[Event], scripts: &[Script]) -> bool
     true
 }
 
-/// What each worker was told, worker 0 first. The error is want of memory.
+/// What each worker was told, worker 0 first. The error is out of memory.
 fn transcripts_of(
     alloc: Global,
     first: Notes,

@@ -1,5 +1,5 @@
-//! Calls that want of memory stops: what they leave, and that they are served when they are made
-//! again. `.ci/refuse` runs them with each growth refused in turn.
+//! Calls that lack of memory stops: what they leave, and that they are served when they are made
+//! again. `.ci/refuse` runs them with each allocation refused in turn.
 
 use crate::authorizer::named;
 use kob_authorizer::{Authorizer, CreateFault};
@@ -81,7 +81,7 @@ pub(crate) fn stands(
         && may_write(authorizer, asker, "payments") == verdicts[1]
 }
 
-/// Whether the ten get their serials. Want of memory leaves none in force.
+/// Whether the ten get their serials. Lack of memory leaves none in force.
 fn gets_serials(
     alloc: Global,
     authorizer: &mut Authorizer,
@@ -102,7 +102,7 @@ fn gets_serials(
     Ok(serials.as_slice() == SERIALS)
 }
 
-/// Whether two bindings are taken away. Want of memory leaves all in force.
+/// Whether two bindings are taken away. Lack of memory leaves all in force.
 fn takes_two(
     alloc: Global,
     authorizer: &mut Authorizer,
@@ -169,7 +169,7 @@ pub(crate) fn batch(alloc: Global, idem: Option<Idem>, count: usize) -> Result<B
     })
 }
 
-/// What a log of 200 records answers to 100 records of a new producer. Want of memory leaves the
+/// What a log of 200 records answers to 100 records of a new producer. Lack of memory leaves the
 /// log, and the producer unknown.
 fn appended(alloc: Global, log: &mut PartitionLog) -> Result<u64, AppendFault> {
     let appended = log.append(batch(alloc, Some(NEW), 100)?);

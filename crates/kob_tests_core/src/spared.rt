@@ -1,4 +1,4 @@
-//! Calls that take no memory. `.ci/refuse` runs them with every growth refused from `spare` on.
+//! Calls that take no memory. `.ci/refuse` runs them with every allocation refused from `spare` on.
 
 use crate::authorizer::{named, opened};
 use crate::refused::{ALL, NEW, SERIALS, WITHOUT_TWO, asker, batch, stands, ten_bindings};
@@ -11,7 +11,7 @@ use kob_producers::{Judgement, ProducerTable};
 use std::alloc::{AllocError, Global};
 use std::test::Fail;
 
-/// The size of the growth by which `.ci/refuse` knows that all that come after it are to be
+/// The size of the allocation by which `.ci/refuse` knows that all that come after it are to be
 /// refused.
 const CUE: usize = 7_654_321;
 

@@ -1,4 +1,4 @@
-//! Calls on names and bindings that take no memory. `.ci/refuse` runs them with every growth
+//! Calls on names and bindings that take no memory. `.ci/refuse` runs them with every allocation
 //! refused from `spare` on.
 
 use crate::authorizer::{named, on_write};

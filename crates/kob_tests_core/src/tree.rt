@@ -354,7 +354,7 @@ fn many_serials_out_in_one_pass(rt: HostRuntime) -> Result<(), Fail> {
 }
 
 /// Three additions, of which the last cuts a node in two. Wherever memory was refused, the tree is
-/// as it was before that addition; run with each growth refused in turn.
+/// as it was before that addition; run with each allocation refused in turn.
 #[test]
 fn refused_addition_leaves_the_tree(rt: HostRuntime) {
     let mut tree = PrefixTree::new();

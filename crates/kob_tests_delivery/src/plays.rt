@@ -120,7 +120,7 @@ pub(crate) fn ending_of(alloc: Global, play: &Play<'_>) -> Option<Ending> {
 }
 
 /// Steps until there is nothing to do, at most so many: whether it came to that with no denial or
-/// refusal. Want of memory is answered as it is, or as a loss.
+/// refusal. Lack of memory is answered as it is, or as a loss.
 fn comes_to_the_end(
     alloc: Global,
     line: &mut LentLine<'_>,

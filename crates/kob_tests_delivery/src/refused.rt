@@ -1,4 +1,4 @@
-//! A router that want of memory stops. `.ci/refuse` runs it with each growth refused in turn.
+//! A router that lack of memory stops. `.ci/refuse` runs it with each allocation refused in turn.
 
 use crate::access::allow;
 use crate::lent_line::LentLine;
@@ -11,7 +11,7 @@ use kob_router::Router;
 use std::alloc::Global;
 use std::test::Fail;
 
-/// Whether ticks came to the end, with moves and repeats alone, but for want of memory, which may
+/// Whether ticks came to the end, with moves and repeats alone, but for lack of memory, which may
 /// stop the last one too.
 fn come_to_the_end(told: &[Told; STEPS]) -> bool {
     for told in told {
@@ -37,7 +37,7 @@ fn sends_all(alloc: Global, outbox: &mut Outbox, broker: &mut Broker) -> Result<
     Ok(come_to_the_end(&told))
 }
 
-/// The topic and the rights to it, each twice, so that one refused growth takes none of them.
+/// The topic and the rights to it, each twice, so that one refused allocation takes none of them.
 fn open_topic(alloc: Global, broker: &mut Broker) -> Result<(), Fail> {
     let creation = creation(alloc).ok_or("memory")?;
     drop(broker.serve(alloc, &creation));
@@ -62,7 +62,7 @@ fn sends_two(alloc: Global, outbox: &mut Outbox, broker: &mut Broker) -> Result<
     Ok(sent && mark == 2 && has_both)
 }
 
-/// Where one growth is refused, whichever it is, the ticks that follow make up for it.
+/// Where one allocation is refused, whichever it is, the ticks that follow make up for it.
 #[test]
 fn a_router_makes_up(rt: HostRuntime) -> Result<(), Fail> {
     let mut outbox = outbox(rt.alloc(), &["orders", "orders"])?;

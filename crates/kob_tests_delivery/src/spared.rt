@@ -1,5 +1,5 @@
 //! Calls on routers, consumers and prepared changes that take no memory. `.ci/refuse` runs them
-//! with every growth refused from `spare` on.
+//! with every allocation refused from `spare` on.
 
 use crate::access::allow;
 use crate::lent_line::LentLine;
@@ -17,7 +17,7 @@ use kob_router::{Call, Line, Place, Route, Router};
 use std::alloc::Global;
 use std::test::Fail;
 
-/// The size of the growth by which `.ci/refuse` knows that all that come after it are to be
+/// The size of the allocation by which `.ci/refuse` knows that all that come after it are to be
 /// refused.
 const CUE: usize = 7_654_321;
 

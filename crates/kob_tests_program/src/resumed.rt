@@ -1,5 +1,5 @@
-//! Scripts on a broker that goes on where want of memory stopped it, and as the program runs them.
-//! `.ci/refuse` runs them with each growth refused in turn.
+//! Scripts on a broker that goes on where lack of memory stopped it, and as the program runs them.
+//! `.ci/refuse` runs them with each allocation refused in turn.
 
 use kob_broker::{Broker, Stopped};
 use kob_rights::{Event, Reply};
@@ -53,7 +53,7 @@ fn printed(alloc: Global, script: &str) -> Option<Vec<u8>> {
     Some(text)
 }
 
-/// Whether that is the output. Where want of memory stops more than a run, all is done once more.
+/// Whether that is the output. Where lack of memory stops more than a run, all is done once more.
 fn goes_on(alloc: Global, script: &str, output: &str) -> bool {
     match printed(alloc, script).or_else(|| printed(alloc, script)) {
         Some(text) => text.as_slice() == output.as_bytes(),
@@ -135,7 +135,7 @@ fn is_stopped(alloc: Global, text: &[u8], output: &str) -> Option<bool> {
     Some(false)
 }
 
-/// Whether a script's output is right. None where want of memory cut it to a front of it, and said
+/// Whether a script's output is right. None where lack of memory cut it to a front of it, and said
 /// so.
 fn is_told(alloc: Global, script: &str, output: &str) -> Option<bool> {
     let mut written = Vec::with_capacity(alloc, 4096).ok()?;

@@ -1,12 +1,12 @@
-//! Changes that are committed without memory. `.ci/refuse` runs them with every growth refused from
-//! `spare` on.
+//! Changes that are committed without memory. `.ci/refuse` runs them with every allocation refused
+//! from `spare` on.
 
 use kob_broker::Broker;
 use kob_rights::{Event, Reply};
 use kob_script::{Script, read_script};
 use std::alloc::Global;
 
-/// The size of the growth by which `.ci/refuse` knows that all that come after it are to be
+/// The size of the allocation by which `.ci/refuse` knows that all that come after it are to be
 /// refused.
 const CUE: usize = 7_654_321;
 

@@ -109,7 +109,7 @@ const ROWS: [Row; 8] = [
     ("f", 1_000, Ok(())),
 ];
 
-/// Whether a creation is answered so. Want of memory leaves the topics.
+/// Whether a creation is answered so. Lack of memory leaves the topics.
 fn creates(alloc: Global, catalog: &mut Catalog, row: &Row) -> Result<bool, Fail> {
     let (name, partitions, expected) = row;
     let text = Text::copied(alloc, name)?;

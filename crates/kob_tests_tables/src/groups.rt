@@ -1,5 +1,5 @@
-//! Commits of groups that want of memory stops. `.ci/refuse` runs them with each growth refused in
-//! turn.
+//! Commits of groups that lack of memory stops. `.ci/refuse` runs them with each allocation refused
+//! in turn.
 
 use kob_groups::{CommitFault, CommitPlace, Groups};
 use kob_names::Text;
@@ -52,7 +52,7 @@ pub(crate) fn holds(groups: &Groups, places: &[CommitPlace], offsets: &Offsets) 
         .eq(offsets.iter().copied())
 }
 
-/// Whether an offset is committed. Want of memory leaves what was committed before.
+/// Whether an offset is committed. Lack of memory leaves what was committed before.
 fn commits(
     alloc: Global,
     groups: &mut Groups,

@@ -1,4 +1,4 @@
-//! The rows of an inbox: which are taken, seen or refused, what they keep, and want of memory.
+//! The rows of an inbox: which are taken, seen or refused, what they keep, and lack of memory.
 
 use kob_inbox::{Inbox, InboxFault, InboxRow, TakeIn};
 use kob_names::{Bytes, Header, Items, Record, Text};

@@ -1,4 +1,4 @@
-//! The rows, mark and limits of an outbox, and want of memory.
+//! The rows, mark and limits of an outbox, and lack of memory.
 
 use kob_outbox::{Change, Column, MarkFault, Outbox, OutboxEvent, RecordFault};
 use std::alloc::{AllocError, Global};

@@ -1,4 +1,4 @@
-//! Calls on groups that take no memory. `.ci/refuse` runs them with every growth refused from
+//! Calls on groups that take no memory. `.ci/refuse` runs them with every allocation refused from
 //! `spare` on.
 
 use crate::groups::{Offsets, STEPS, commit, holds, places};
@@ -9,7 +9,7 @@ use kob_names::Text;
 use std::alloc::Global;
 use std::test::Fail;
 
-/// The size of the growth by which `.ci/refuse` knows that all that come after it are to be
+/// The size of the allocation by which `.ci/refuse` knows that all that come after it are to be
 /// refused.
 const CUE: usize = 7_654_321;
 

@@ -1,5 +1,5 @@
 //! Calls on requests, records and sequences that take no memory. `.ci/refuse` runs them with every
-//! growth refused from `spare` on.
+//! allocation refused from `spare` on.
 
 ghost use Rattle.std.specs.Prelude.{◌≡◌, true};
 ghost use Rattle.kob_router.specs.Places.{has_place};

@@ -1,5 +1,5 @@
 //! Calls on topics and their partitions that take no memory. `.ci/refuse` runs them with every
-//! growth refused from `spare` on.
+//! allocation refused from `spare` on.
 
 use crate::catalog::batch;
 use crate::spared::{LONG, spare};

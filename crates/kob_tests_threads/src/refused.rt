@@ -1,5 +1,5 @@
-//! Sessions, fleets and pipelines that want of memory stops. `.ci/refuse` runs them with each
-//! growth and each start of a thread refused in turn.
+//! Sessions, fleets and pipelines that lack of memory stops. `.ci/refuse` runs them with each
+//! allocation and each start of a thread refused in turn.
 
 ghost use Rattle.std.specs.Prelude.{◌≤◌};
 
@@ -18,7 +18,7 @@ use std::sync::Wait;
 use std::test::Fail;
 use std::thread::Threads;
 
-/// What a call is answered, or where want of memory stopped it and the session has seen no more
+/// What a call is answered, or where lack of memory stopped it and the session has seen no more
 /// than before, what another is.
 fn called<R: Wait>(
     rt: &R,

@@ -1,5 +1,5 @@
 //! Calls on shared brokers, desks and what pipelines leave that take no memory. `.ci/refuse` runs
-//! them with every growth refused from `spare` on.
+//! them with every allocation refused from `spare` on.
 
 ghost use Rattle.kob_pipeline.specs.Pipelines.{IsPipeline};
 
@@ -17,7 +17,7 @@ use std::sync::Wait;
 use std::test::Fail;
 use std::thread::Threads;
 
-/// The size of the growth by which `.ci/refuse` knows that all that come after it are to be
+/// The size of the allocation by which `.ci/refuse` knows that all that come after it are to be
 /// refused.
 const CUE: usize = 7_654_321;
 

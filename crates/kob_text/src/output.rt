@@ -26,7 +26,7 @@ pub enum Ended {
     Clean,
     /// The script has a fault, and nothing was served.
     Fault,
-    /// Want of memory stopped the run after some of the requests.
+    /// Lack of memory stopped the run after some of the requests.
     Stopped,
 }
 

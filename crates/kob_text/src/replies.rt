@@ -28,7 +28,7 @@ use kob_script::{CheckedScript, Requests, print_reply};
 use std::alloc::{AllocError, Global};
 use std::io::Write;
 
-// A script opens no bindings, so that want of memory is the only error.
+// A script opens no bindings, so that lack of memory is the only error.
 fn broker_by(alloc: Global, settings: Settings) -> Result<Broker, RunFault>
     ensures answers { IfOk result (λ broker. (events : List event.Event)
         → replies_of retained_meaning events (state_of broker) ≡ replies_to settings events) }
@@ -80,7 +80,7 @@ fn print_next(
 
 /// Serves requests and writes the replies as they are made, at most 65,536 bytes or one reply at a
 /// time. Each event is read when it is its turn and given away to the broker, and what the broker
-/// doesn't keep of it is freed before the next. Want of memory ends the run as `Stopped`. The fault
+/// doesn't keep of it is freed before the next. Lack of memory ends the run as `Stopped`. The fault
 /// is `WriteFailed`.
 fn write_replies<W: Write>(
     alloc: Global,

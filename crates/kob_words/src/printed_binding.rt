@@ -13,7 +13,7 @@ use kob_names::{Binding, Draft};
 use std::alloc::AllocError;
 
 /// Prints a binding with its serial, as `binding SERIAL PERMISSION PRINCIPAL HOST OPERATION
-/// RESOURCE PATTERN NAME`, with no line feed after it. The error is want of memory; `out` has then
+/// RESOURCE PATTERN NAME`, with no line feed after it. The error is out of memory; `out` has then
 /// grown by a part of it.
 #[tactic(auto, using(crate::proofs::Appending::appending))]
 pub fn print_binding(out: &mut Vec<u8>, serial: u64, binding: &Binding) -> Result<(), AllocError>
