@@ -14,7 +14,6 @@ mod key;
 mod laws;
 mod limits;
 mod look_up;
-mod patterns;
 mod question;
 mod removal;
 mod super_users;
