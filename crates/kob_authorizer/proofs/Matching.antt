@@ -95,14 +95,14 @@ module _ (index : Index) (entries : List (ℕ × Binding)) (indexed : Indexes in
   -- every binding that matches is looked up
   pub looked_up : (resource : ResourceKind) (name : List ℕ) (entry : ℕ × Binding) → Contains entries entry
       → entry.1.resource ≡ resource → IsTrue (matches entry.1.pattern name)
-      → Contains (matching_serials (held (tree_of index resource)) name) entry.0
+      → Contains (matching_serials (held (tree_of index.patterns resource)) name) entry.0
   looked_up resource name entry there of_kind matched =
       let on : same_resource entry.1.resource resource ≡ true =
       (resource_decides entry.1.resource resource).1 of_kind in
       let among : Contains (entries_on resource entries) entry =
       kept_by_filter (λ (e : ℕ × Binding). same_resource e.1.resource resource) entries entry there on in
-      looked_up_by (held (tree_of index resource)) entry.1.pattern.kind entry.1.pattern.name name entry.0 matched
-      (at_its_place pattern_place (tree_of index resource) (entries_on resource entries) entry
+      looked_up_by (held (tree_of index.patterns resource)) entry.1.pattern.kind entry.1.pattern.name name entry.0 matched
+      (at_its_place pattern_place (tree_of index.patterns resource) (entries_on resource entries) entry
       (indexed.patterns resource) among)
 
   -- every hit is looked up among the keys of who asks and of `User:*`

@@ -16,15 +16,16 @@ use Rattle.kob_prefix_tree.specs.Lists.{without_in_turn}
 use Rattle.kob_prefix_tree.specs.PrefixMap.{PrefixMap, held, removed_all}
 use Rattle.kob_prefix_tree.specs.declared.kind.PatternKind.{PatternKind}
 use Rattle.kob_prefix_tree.specs.declared.kind.PatternKind.TheVariants.{Literal, Prefixed}
-use Rattle.kob_authorizer.proofs.IndexSteps.{keys_removed, indexes_empty, indexes_put_all, patterns_stay}
+use Rattle.kob_authorizer.proofs.IndexSteps.{are_patterns, keys_removed, tree_changed}
 use Rattle.kob_authorizer.proofs.Passes.{none_sought, one_more_there, pass_again, pass_leaves, serials_there, stands_at}
 use Rattle.kob_authorizer.proofs.TreeSteps.{and_false, and_true, apart}
 use Rattle.kob_authorizer.specs.Contents.{IsRising}
 use Rattle.kob_authorizer.specs.Deletion.{bindings_left, bindings_taken}
-use Rattle.kob_authorizer.specs.Index.{Indexes, tree_of, with_tree, without_key}
-use Rattle.kob_authorizer.specs.Places.{IsIndex, addition, key_place, kind_in_tree, same_kind}
-use Rattle.kob_authorizer.specs.Removal.{Removal, begins_with, index_of, is_first_there, removal_of, removals_of, serials_beside, with_removal, without_removal}
+use Rattle.kob_authorizer.specs.Index.{Indexes, patterns_of, tree_of}
+use Rattle.kob_authorizer.specs.Places.{addition, key_place, kind_in_tree, same_kind, without_addition}
+use Rattle.kob_authorizer.specs.Removal.{Removal, begins_with, is_first_there, removal_of, removals_of, serials_beside, with_removal, without_removal}
 use Rattle.kob_authorizer.specs.declared.index.Index.{Index}
+use Rattle.kob_authorizer.specs.declared.patterns.Patterns.{Patterns}
 
 -- the list after a pass, where there is one
 abbrev passed : Bool → List ℕ → List ℕ → List ℕ
@@ -58,75 +59,58 @@ after_pass m key kind ss other name =
           ∙ ap (λ b. passed b ss (serials_of other (held m name))) (and_false (same_kind kind other))
     ] refl
 
--- a change of the tree of one kind of resource leaves the others
-tree_changed : (index : Index) (change : PrefixMap → PrefixMap) (resource other : ResourceKind)
-    → tree_of (with_tree index resource (change (tree_of index resource))) other
-    ≡ cond (same_resource resource other) (change (tree_of index other)) (tree_of index other)
-tree_changed index change Topic Topic = refl
-tree_changed index change Topic other = refl
-tree_changed index change Group Group = refl
-tree_changed index change Group other = refl
-tree_changed index change Cluster Cluster = refl
-tree_changed index change Cluster other = refl
-tree_changed index change TransactionalId TransactionalId = refl
-tree_changed index change TransactionalId other = refl
-
 kind_told : (one other : PatternKind) → same_kind one other ≡ true → one ≡ other
 kind_told Literal Literal same = refl
 kind_told Literal Prefixed same = cc
 kind_told Prefixed Literal same = cc
 kind_told Prefixed Prefixed same = refl
 
--- the index of some entries alone is that of these entries
-pub index_of_indexes : (entries : List (ℕ × Binding)) → Indexes (index_of entries) entries
-index_of_indexes entries = indexes_put_all entries _ [] indexes_empty
-
 -- each place is named where its first entry is met
-named : (index : Index) (rest : List (ℕ × Binding)) (so_far : List Removal)
-    → fold (with_removal index) so_far rest
-    ≡ so_far ++ map (removal_of index) (filter (is_first_there index) rest)
-named index [] so_far = sym (append-nil so_far)
-named index (x ∷ xs) so_far =
-    let firsts : List (ℕ × Binding) = filter (is_first_there index) xs in
-    elim (is_first_there index x) as (λ b.
-    fold (with_removal index) (cond b (so_far ++ removal_of index x ∷ []) so_far) xs
-    ≡ so_far ++ map (removal_of index) (cond b (x ∷ firsts) firsts)) [
-      | true ↦ named index xs (so_far ++ removal_of index x ∷ [])
-          ∙ append_assoc so_far (removal_of index x ∷ []) (map (removal_of index) firsts)
-      | false ↦ named index xs so_far
+named : (patterns : Patterns) (rest : List (ℕ × Binding)) (so_far : List Removal)
+    → fold (with_removal patterns) so_far rest
+    ≡ so_far ++ map (removal_of patterns) (filter (is_first_there patterns) rest)
+named patterns [] so_far = sym (append-nil so_far)
+named patterns (x ∷ xs) so_far =
+    let firsts : List (ℕ × Binding) = filter (is_first_there patterns) xs in
+    elim (is_first_there patterns x) as (λ b.
+    fold (with_removal patterns) (cond b (so_far ++ removal_of patterns x ∷ []) so_far) xs
+    ≡ so_far ++ map (removal_of patterns) (cond b (x ∷ firsts) firsts)) [
+      | true ↦ named patterns xs (so_far ++ removal_of patterns x ∷ [])
+          ∙ append_assoc so_far (removal_of patterns x ∷ []) (map (removal_of patterns) firsts)
+      | false ↦ named patterns xs so_far
     ]
 
 module _ (resource : ResourceKind) (kind : PatternKind) (key : List ℕ) where
-  -- the serials of this place in an index
-  abbrev found_there : Index → List ℕ
-  found_there index = serials_of kind (held (tree_of index resource) key)
+  -- the serials of this place among the patterns
+  abbrev found_there : Patterns → List ℕ
+  found_there patterns = serials_of kind (held (tree_of patterns resource) key)
 
   -- an entry that stands there finds all that do
   beside : (taken : List (ℕ × Binding)) (d : ℕ × Binding) → stands_at resource kind key d ≡ true
-      → serials_beside (index_of taken) d ≡ serials_there resource kind key taken
+      → serials_beside (patterns_of taken) d ≡ serials_there resource kind key taken
   beside taken d is =
       let parts = and_parts _ _ is in
       let places = and_parts _ _ parts.1 in
       let on = (resource_decides d.1.resource resource).0 parts.0 in
       let of_kind = kind_told (kind_in_tree d.1.pattern.kind) kind places.0 in
       let named_so = (bytes_eq-Decides d.1.pattern.name key).0 places.1 in
-      (λ i. serials_of (of_kind i) (held (tree_of (index_of taken) (on i)) (named_so i)))
-      ∙ (index_of_indexes taken).patterns resource kind key
+      (λ i. serials_of (of_kind i) (held (tree_of (patterns_of taken) (on i)) (named_so i)))
+      ∙ are_patterns taken resource kind key
 
-  after_one : (index : Index) (removal : Removal)
-      → found_there (without_removal index removal)
+  after_one : (patterns : Patterns) (removal : Removal)
+      → found_there (without_removal patterns removal)
       ≡ passed (same_resource removal.resource resource
       && (same_kind (kind_in_tree removal.pattern.kind) kind && same_text removal.pattern.name key)) removal.serials
-      (found_there index)
-  after_one index removal =
+      (found_there patterns)
+  after_one patterns removal =
       let change : PrefixMap → PrefixMap =
       λ m. removed_all m removal.pattern.name (kind_in_tree removal.pattern.kind) removal.serials in
       let same : Bool = same_kind (kind_in_tree removal.pattern.kind) kind && same_text removal.pattern.name key in
-      ap (λ (m : PrefixMap). serials_of kind (held m key)) (tree_changed index change removal.resource resource)
+      ap (λ (m : PrefixMap). serials_of kind (held m key)) (tree_changed patterns change removal.resource resource)
       ∙ elim (same_resource removal.resource resource) as (λ b.
-      serials_of kind (held (cond b (change (tree_of index resource)) (tree_of index resource)) key)
-      ≡ passed (b && same) removal.serials (found_there index)) [
-        | true ↦ after_pass (tree_of index resource) removal.pattern.name (kind_in_tree removal.pattern.kind)
+      serials_of kind (held (cond b (change (tree_of patterns resource)) (tree_of patterns resource)) key)
+      ≡ passed (b && same) removal.serials (found_there patterns)) [
+        | true ↦ after_pass (tree_of patterns resource) removal.pattern.name (kind_in_tree removal.pattern.kind)
             removal.serials kind key
         | false ↦ refl
       ]
@@ -137,76 +121,76 @@ module _ (resource : ResourceKind) (kind : PatternKind) (key : List ℕ) where
     abbrev sought : List ℕ
     sought = serials_there resource kind key taken
 
-    abbrev without_places : Index → List (ℕ × Binding) → Index
-    without_places index ds = fold without_removal index (map (removal_of (index_of taken)) ds)
+    abbrev without_places : Patterns → List (ℕ × Binding) → Patterns
+    without_places patterns ds = fold without_removal patterns (map (removal_of (patterns_of taken)) ds)
 
-    after_entry : (index : Index) (d : ℕ × Binding) (xs : List ℕ) → found_there index ≡ xs
-        → found_there (without_removal index (removal_of (index_of taken) d))
+    after_entry : (patterns : Patterns) (d : ℕ × Binding) (xs : List ℕ) → found_there patterns ≡ xs
+        → found_there (without_removal patterns (removal_of (patterns_of taken) d))
         ≡ passed (stands_at resource kind key d) sought xs
-    after_entry index d xs is =
-        after_one index (removal_of (index_of taken) d)
+    after_entry patterns d xs is =
+        after_one patterns (removal_of (patterns_of taken) d)
         ∙ elim (stands_at resource kind key d) as (λ b. stands_at resource kind key d ≡ b
-        → passed b (serials_beside (index_of taken) d) (found_there index) ≡ passed b sought xs) [
+        → passed b (serials_beside (patterns_of taken) d) (found_there patterns) ≡ passed b sought xs) [
           | true ↦ λ stands. (λ i. without_in_turn (beside taken d stands i) (is i))
           | false ↦ λ _. is
         ] refl
 
     -- what a pass has left stays
-    left_stays : (ds : List (ℕ × Binding)) (index : Index) → found_there index ≡ left
-        → found_there (without_places index ds) ≡ left
-    left_stays [] index is = is
-    left_stays (d ∷ ds) index is =
-        left_stays ds (without_removal index (removal_of (index_of taken) d))
-        (after_entry index d left is
+    left_stays : (ds : List (ℕ × Binding)) (patterns : Patterns) → found_there patterns ≡ left
+        → found_there (without_places patterns ds) ≡ left
+    left_stays [] patterns is = is
+    left_stays (d ∷ ds) patterns is =
+        left_stays ds (without_removal patterns (removal_of (patterns_of taken) d))
+        (after_entry patterns d left is
         ∙ elim (stands_at resource kind key d) as (λ b. passed b sought left ≡ left) [ true ↦ again | false ↦ refl ])
 
     -- the place is passed where an entry that stands there is met
-    after_entries : (ds : List (ℕ × Binding)) (index : Index) → found_there index ≡ before
-        → found_there (without_places index ds) ≡ cond (list_any (stands_at resource kind key) ds) left before
-    after_entries [] index is = is
-    after_entries (d ∷ ds) index is =
-        let after : Index = without_removal index (removal_of (index_of taken) d) in
+    after_entries : (ds : List (ℕ × Binding)) (patterns : Patterns) → found_there patterns ≡ before
+        → found_there (without_places patterns ds) ≡ cond (list_any (stands_at resource kind key) ds) left before
+    after_entries [] patterns is = is
+    after_entries (d ∷ ds) patterns is =
+        let after : Patterns = without_removal patterns (removal_of (patterns_of taken) d) in
         elim (stands_at resource kind key d) as (λ b. stands_at resource kind key d ≡ b
         → found_there (without_places after ds)
         ≡ cond (b || list_any (stands_at resource kind key) ds) left before) [
-          | true ↦ λ stands. left_stays ds after (after_entry index d before is
+          | true ↦ λ stands. left_stays ds after (after_entry patterns d before is
               ∙ ap (λ b. passed b sought before) stands ∙ leaves)
-          | false ↦ λ stands. after_entries ds after (after_entry index d before is
+          | false ↦ λ stands. after_entries ds after (after_entry patterns d before is
               ∙ ap (λ b. passed b sought before) stands)
         ] refl
 
   -- where some of the entries stand there, one is the first
   some_first : (taken rest : List (ℕ × Binding)) (s : ℕ) (ss : List ℕ) → serials_there resource kind key rest ≡ s ∷ ss
       → begins_with (serials_there resource kind key taken) s ≡ true
-      → list_any (stands_at resource kind key) (filter (is_first_there (index_of taken)) rest) ≡ true
+      → list_any (stands_at resource kind key) (filter (is_first_there (patterns_of taken)) rest) ≡ true
   some_first taken [] s ss is begins = absurd (cc)
   some_first taken (x ∷ xs) s ss is begins =
       let stands : ℕ × Binding → Bool = stands_at resource kind key in
-      let firsts : List (ℕ × Binding) = filter (is_first_there (index_of taken)) xs in
+      let firsts : List (ℕ × Binding) = filter (is_first_there (patterns_of taken)) xs in
       let there : cond (stands x) (x.0 ∷ serials_there resource kind key xs) (serials_there resource kind key xs)
       ≡ s ∷ ss = sym (one_more_there resource kind key x xs) ∙ is in
       elim (stands x) as (λ b. stands x ≡ b
       → cond b (x.0 ∷ serials_there resource kind key xs) (serials_there resource kind key xs) ≡ s ∷ ss
-      → list_any stands (cond (is_first_there (index_of taken) x) (x ∷ firsts) firsts) ≡ true) [
+      → list_any stands (cond (is_first_there (patterns_of taken) x) (x ∷ firsts) firsts) ≡ true) [
         | true ↦ λ so here.
             let number : x.0 ≡ s = cc in
-            let first : is_first_there (index_of taken) x ≡ true =
+            let first : is_first_there (patterns_of taken) x ≡ true =
             ap (λ xs. begins_with xs x.0) (beside taken x so)
             ∙ ap (begins_with (serials_there resource kind key taken)) number ∙ begins in
             ap (λ b. list_any stands (cond b (x ∷ firsts) firsts)) first
             ∙ ap (λ b. b || list_any stands firsts) so
         | false ↦ λ so later.
             let more = some_first taken xs s ss later begins in
-            elim (is_first_there (index_of taken) x) as (λ b. list_any stands (cond b (x ∷ firsts) firsts) ≡ true)
+            elim (is_first_there (patterns_of taken) x) as (λ b. list_any stands (cond b (x ∷ firsts) firsts) ≡ true)
             [ true ↦ ap (λ b. b || list_any stands firsts) so ∙ more | false ↦ more ]
       ] refl there
 
   -- after all removals the place has the serials of the entries that stay
-  pub place_after : (wanted : BindingFilter) (low high : ℕ) (entries : List (ℕ × Binding)) (index : Index)
-      → IsRising low entries high → found_there index ≡ serials_there resource kind key entries
-      → found_there (fold without_removal index (removals_of (bindings_taken wanted entries)))
+  pub place_after : (wanted : BindingFilter) (low high : ℕ) (entries : List (ℕ × Binding)) (patterns : Patterns)
+      → IsRising low entries high → found_there patterns ≡ serials_there resource kind key entries
+      → found_there (fold without_removal patterns (removals_of (bindings_taken wanted entries)))
       ≡ serials_there resource kind key (bindings_left wanted entries)
-  place_after wanted low high entries index rising is =
+  place_after wanted low high entries patterns rising is =
       let test : ℕ × Binding → Bool = λ entry. takes wanted entry.1 in
       let taken : List (ℕ × Binding) = bindings_taken wanted entries in
       let before : List ℕ = serials_there resource kind key entries in
@@ -215,7 +199,7 @@ module _ (resource : ResourceKind) (kind : PatternKind) (key : List ℕ) where
       pass_leaves resource kind key test low high entries rising in
       let again : without_in_turn (serials_there resource kind key taken) left ≡ left =
       pass_again resource kind key test low high entries rising in
-      let firsts : List (ℕ × Binding) = filter (is_first_there (index_of taken)) taken in
+      let firsts : List (ℕ × Binding) = filter (is_first_there (patterns_of taken)) taken in
       let met : Bool = list_any (stands_at resource kind key) firsts in
       let all : (ss : List ℕ) → serials_there resource kind key taken ≡ ss → cond met left before ≡ left =
       λ ss. elim ss as (λ ss. serials_there resource kind key taken ≡ ss → cond met left before ≡ left) [
@@ -226,40 +210,19 @@ module _ (resource : ResourceKind) (kind : PatternKind) (key : List ℕ) where
         | s ∷ ss ↦ λ some. ap (λ b. cond b left before) (some_first taken taken s ss some
             (ap (λ xs. begins_with xs s) some ∙ eq-eqb s s refl))
       ] in
-      ap (λ rs. found_there (fold without_removal index rs)) (named (index_of taken) taken [])
-      ∙ after_entries taken before left leaves again firsts index is
+      ap (λ rs. found_there (fold without_removal patterns rs)) (named (patterns_of taken) taken [])
+      ∙ after_entries taken before left leaves again firsts patterns is
       ∙ all (serials_there resource kind key taken) refl
-
--- the keys know nothing of the trees of the patterns
-keys_stay : (rs : List Removal) (index : Index) → (fold without_removal index rs).keys ≡ index.keys
-keys_stay [] index = refl
-keys_stay (removal ∷ rs) index =
-    keys_stay rs (without_removal index removal) ∙ same removal.resource
-    (removed_all (tree_of index removal.resource) removal.pattern.name (kind_in_tree removal.pattern.kind)
-    removal.serials)
-  where
-    same : (resource : ResourceKind) (tree : PrefixMap) → (with_tree index resource tree).keys ≡ index.keys
-    same Topic tree = refl
-    same Group tree = refl
-    same Cluster tree = refl
-    same TransactionalId tree = refl
 
 -- the index after a deletion is that of the entries that stay
 pub indexes_deleted : (wanted : BindingFilter) (low high : ℕ) (entries : List (ℕ × Binding)) (index : Index)
     → IsRising low entries high → Indexes index entries
-    → Indexes (fold without_removal
-    (fold without_key index (map (addition key_place) (bindings_taken wanted entries)))
-    (removals_of (bindings_taken wanted entries))) (bindings_left wanted entries)
-indexes_deleted wanted low high entries index rising is =
-    let taken : List (ℕ × Binding) = bindings_taken wanted entries in
-    let after : Index = fold without_key index (map (addition key_place) taken) in
-    record {
-      patterns = λ resource kind key.
-          place_after resource kind key wanted low high entries after rising
-          (ap (λ (m : PrefixMap). serials_of kind (held m key))
-          (patterns_stay (map (addition key_place) taken) index resource)
-          ∙ is.patterns resource kind key);
-      keys = subst (λ (m : PrefixMap). IsIndex key_place m (bindings_left wanted entries))
-          (sym (keys_stay (removals_of taken) after))
-          (keys_removed wanted low high entries index [] rising is.keys);
-    }
+    → Indexes (record {
+      patterns = fold without_removal index.patterns (removals_of (bindings_taken wanted entries));
+      keys = fold without_addition index.keys (map (addition key_place) (bindings_taken wanted entries));
+    }) (bindings_left wanted entries)
+indexes_deleted wanted low high entries index rising is = record {
+  patterns = λ resource kind key.
+      place_after resource kind key wanted low high entries index.patterns rising (is.patterns resource kind key);
+  keys = keys_removed wanted low high entries index.keys [] rising is.keys;
+}

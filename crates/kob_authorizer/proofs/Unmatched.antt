@@ -68,7 +68,7 @@ kind_is Prefixed Prefixed same = refl
 
 module _ (index : Index) (entries : List (ℕ × Binding)) (indexed : Indexes index entries) (question : Question) where
   abbrev tree : PrefixMap
-  tree = tree_of index question.resource
+  tree = tree_of index.patterns question.resource
 
   -- a serial at a pattern that matches the name is of a binding that does
   of_match : (kind : PatternKind) (key : List ℕ) (serial : ℕ) → matches_by kind key question.name ≡ true

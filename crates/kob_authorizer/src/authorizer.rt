@@ -14,8 +14,9 @@ ghost use Rattle.kob_authorizer.specs.Question.{question_of};
 use crate::creation::{PreparedCreate, put_last};
 use crate::deletion::{PreparedDelete, copies_taken, remove_taken};
 use crate::fault::CreateFault;
-use crate::index::{Index, put_all, remove_all, remove_keys};
+use crate::index::{Index, put_all, remove_keys};
 use crate::look_up::verdict;
+use crate::patterns::remove_all;
 use crate::question::Question;
 use crate::super_users::SuperUsers;
 use kob_names::{Binding, BindingFilter, Host, Operation, Principal, ResourceKind, Verdict};
@@ -271,8 +272,8 @@ impl Authorizer {
         ensures taken { result.items ≡ prepared.taken }
     {
         let (filter, taken, keys, removals) = prepared.into_parts();
-        remove_keys(&mut self.index, keys);
-        remove_all(&mut self.index, removals);
+        remove_keys(&mut self.index.keys, keys);
+        remove_all(&mut self.index.patterns, removals);
         remove_taken(&mut self.entries, &filter);
         taken
     }

@@ -64,11 +64,11 @@ impl PreparedCreate {
         ensures fault { IfErr result (λ fault. fault ≢ CreateFault.Memory
             → create_fault entries.now next bindings.now ≡ Some fault) }
     {
-        let new = new_bindings(alloc, entries, index.keys(), bindings)?;
+        let new = new_bindings(alloc, entries, &index.keys, bindings)?;
         if let Some(fault) = limit_fault(entries.len(), next, new.len()) {
             return Err(fault);
         }
-        let serials = serials_in(alloc, entries, index.keys(), next, &new, bindings)?;
+        let serials = serials_in(alloc, entries, &index.keys, next, &new, bindings)?;
         let fresh = new.numbered(alloc, next)?;
         let leaves = index.prepare_all(alloc, fresh.as_slice())?;
         Ok(PreparedCreate {

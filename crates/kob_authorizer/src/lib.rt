@@ -14,6 +14,7 @@ mod key;
 mod laws;
 mod limits;
 mod look_up;
+mod patterns;
 mod question;
 mod removal;
 mod super_users;

@@ -51,9 +51,9 @@ pub fn verdict(
 /// name. No binding is looked at.
 fn is_unmatched(index: &Index, question: &Question) -> bool
     ensures { result ≡ (length (matching_serials
-        (held (tree_of index.now question.now.resource)) question.now.name.now) == 0) }
+        (held (tree_of index.now.patterns question.now.resource)) question.now.name.now) == 0) }
 {
-    let tree = index.tree(question.resource);
+    let tree = index.patterns.tree(question.resource);
     tree.walk(question.name.as_bytes()).next().is_none()
         && tree.literal("*".as_bytes()).next().is_none()
 }
@@ -67,7 +67,7 @@ fn first_hits(entries: &[(u64, Binding)], index: &Index, question: &Question) ->
     ensures allow { result.allow
         ≡ first_serial (hits entries.now Permission.Allow (question_view question.now)) }
 {
-    let keys = keys_on(index.keys(), question.resource);
+    let keys = keys_on(&index.keys, question.resource);
     let of_who = keys.behind(question.principal.as_str().as_bytes(), SEPARATOR);
     let of_everyone = keys.behind("User:*".as_bytes(), SEPARATOR);
     hits_of(entries, of_who, question).or_lesser(hits_of(entries, of_everyone, question))

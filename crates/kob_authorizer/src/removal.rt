@@ -5,8 +5,8 @@ ghost use Rattle.std.specs.Prelude.{◌≡◌, IfOk, map};
 ghost use Rattle.kob_authorizer.specs.Places.{addition, key_place};
 ghost use Rattle.kob_authorizer.specs.Removal.{is_first_there, removal_of, removals_of};
 
-use crate::index::Index;
 use crate::key::{binding_key, kind_in_tree};
+use crate::patterns::Patterns;
 use kob_names::{Binding, Pattern, PlainValue, ResourceKind};
 use kob_prefix_tree::PatternKind;
 use std::alloc::{AllocError, Global};
@@ -34,11 +34,11 @@ impl Model for Removal {
 }
 
 impl Removal {
-    /// All that stands in the index where this entry does.
-    fn of(alloc: Global, index: &Index, entry: &(u64, Binding)) -> Result<Removal, AllocError>
-        ensures { IfOk result (λ made. made ≡ removal_of index.now entry.now) }
+    /// All that stands among the patterns where this entry does.
+    fn of(alloc: Global, patterns: &Patterns, entry: &(u64, Binding)) -> Result<Removal, AllocError>
+        ensures { IfOk result (λ made. made ≡ removal_of patterns.now entry.now) }
     {
-        let serials = index.serials_beside(entry).collect(alloc)?;
+        let serials = patterns.serials_beside(entry).collect(alloc)?;
         let binding = entry.1.parts();
         let pattern = binding.pattern.copy(alloc)?;
         Ok(Removal {
@@ -65,26 +65,26 @@ impl Removal {
 
 /// All that goes from the trees of the patterns with these entries, each place once.
 ///
-/// The entries are indexed by themselves, so that each place gives its serials at once.
+/// Their patterns are put into trees of their own, so that each place gives its serials at once.
 #[tactic(auto, using(std::proofs::lemmas::List::Sums::fold_more))]
 pub fn removals_of(alloc: Global, taken: &[(u64, Binding)]) -> Result<Vec<Removal>, AllocError>
     ensures { IfOk result (λ made. made.items ≡ removals_of taken.now) }
 {
-    let index = Index::of(alloc, taken)?;
+    let patterns = Patterns::of(alloc, taken)?;
     let mut removals = Vec::new(alloc);
     for entry in taken {
-        if is_first_there(&index, entry) {
-            removals.push(Removal::of(alloc, &index, entry)?)?;
+        if is_first_there(&patterns, entry) {
+            removals.push(Removal::of(alloc, &patterns, entry)?)?;
         }
     }
     Ok(removals)
 }
 
 /// Whether no other entry stands before this one where it does.
-fn is_first_there(index: &Index, entry: &(u64, Binding)) -> bool
-    ensures { result ≡ is_first_there index.now entry.now }
+fn is_first_there(patterns: &Patterns, entry: &(u64, Binding)) -> bool
+    ensures { result ≡ is_first_there patterns.now entry.now }
 {
-    match index.serials_beside(entry).next() {
+    match patterns.serials_beside(entry).next() {
         None => false,
         Some(first) => first == entry.0,
     }

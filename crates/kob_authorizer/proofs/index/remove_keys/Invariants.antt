@@ -1,10 +1,10 @@
 use Rattle.std.proofs.Common.{◌≡◌}
 use Rattle.std.specs.List.{fold}
-use Rattle.kob_authorizer.specs.Index.{without_key}
+use Rattle.kob_authorizer.specs.Places.{without_addition}
 use Rattle.kob_authorizer.proofs.index.remove_keys.Given as goal
 
 abbrev pub invariant-loop-removal : goal.invariant-loop-removal
 invariant-loop-removal l =
     (goal.iterator-loop-removal).can_next l.removal-iterator ×
     (goal.iterator-loop-removal).is_finite l.removal-iterator ×
-    (l.index ≡ fold without_key l.fn.index l.yielded)
+    (l.keys ≡ fold without_addition l.fn.keys l.yielded)

@@ -24,8 +24,7 @@ returns c =
     let who : c.as_bytes.result.now ≡ question.principal = cc in
     let everyone : c.as_bytes-2.result.now ≡ codes "User:*" = cc in
     let on : List ℕ → Held = keys_on question.resource (held keys) in
-    let of_kind : part_of c.keys_on-keys.result ≡ on =
-    c.keys_on-keys.ensures ∙ ap (λ (m : PrefixMap). keys_on question.resource (held m)) c.keys.ensures in
+    let of_kind : part_of c.keys_on-keys.result ≡ on = c.keys_on-keys.ensures in
     let of_who : part_of c.behind-of_who.result ≡ behind question.principal on =
     c.behind-of_who.ensures ∙ (λ i key. of_kind i (who i ++ 255 ∷ key)) in
     let of_everyone : part_of c.behind-of_everyone.result ≡ behind (codes "User:*") on =

@@ -1,10 +1,10 @@
 use Rattle.std.proofs.Common.{◌≡◌}
 use Rattle.std.specs.List.{fold}
 use Rattle.kob_authorizer.specs.Removal.{without_removal}
-use Rattle.kob_authorizer.proofs.index.remove_all.Given as goal
+use Rattle.kob_authorizer.proofs.patterns.remove_all.Given as goal
 
 abbrev pub invariant-loop-removal : goal.invariant-loop-removal
 invariant-loop-removal l =
     (goal.iterator-loop-removal).can_next l.removal-iterator ×
     (goal.iterator-loop-removal).is_finite l.removal-iterator ×
-    (l.index ≡ fold without_removal l.fn.index l.yielded)
+    (l.patterns ≡ fold without_removal l.fn.patterns l.yielded)

@@ -1,0 +1,7 @@
+use Rattle.std.proofs.Common.{◌≡◌, take}
+use Rattle.std.specs.List.{fold}
+use Rattle.kob_authorizer.specs.Index.{no_patterns, with_entry}
+use Rattle.kob_authorizer.proofs.patterns.Patterns.of.Given as goal
+
+abbrev pub invariant-loop-entry : goal.invariant-loop-entry
+invariant-loop-entry l = l.patterns ≡ fold with_entry no_patterns (take l.entry-index l.entries)
