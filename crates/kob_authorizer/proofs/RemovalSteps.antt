@@ -9,7 +9,6 @@ use Rattle.kob_names.specs.Same.{same_resource, same_text}
 use Rattle.kob_names.specs.Binding.{Binding}
 use Rattle.kob_names.specs.declared.filter.BindingFilter.{BindingFilter}
 use Rattle.kob_names.specs.declared.kinds.ResourceKind.{ResourceKind}
-use Rattle.kob_names.specs.declared.kinds.ResourceKind.TheVariants.{Topic, Group, Cluster, TransactionalId}
 use Rattle.kob_prefix_tree.proofs.HeldLaws.{held_removed_all_other, held_removed_all_same}
 use Rattle.kob_prefix_tree.specs.Held.{Held, serials_of, without_serials}
 use Rattle.kob_prefix_tree.specs.Lists.{without_in_turn}
