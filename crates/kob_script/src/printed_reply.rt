@@ -21,8 +21,10 @@ pub fn print_reply(out: &mut Vec<u8>, number: u64, reply: &Reply) -> Result<(), 
     out.extend_from_slice(b"\n")
 }
 
+/// Prints a reply without a number or a line feed: `ok ..`, `denied ..` or `refused ..`. The error is
+/// out of memory; `out` has then grown by a part of it.
 #[tactic(auto, using(kob_words::proofs::Appending::appending))]
-fn push_outcome(out: &mut Vec<u8>, reply: &Reply) -> Result<(), AllocError>
+pub fn push_outcome(out: &mut Vec<u8>, reply: &Reply) -> Result<(), AllocError>
     ensures { OnOk result (out.new.items ≡ out.old.items ++ outcome_text reply.now) }
 {
     match reply {
