@@ -7,13 +7,11 @@ use Rattle.kob_acl_cli.specs.declared.args.CliArgs.{CliArgs}
 use Rattle.kob_names.specs.declared.settings.Settings.{Settings}
 use Rattle.kob_rights.specs.declared.event.Event.{Event}
 use Rattle.kob_script.specs.Checks.{with_answer}
-use Rattle.kob_script.specs.Acl.{acl_line}
-use Rattle.kob_script.specs.Askers.{AskerWords}
-use Rattle.kob_script.specs.CommandLines.{events_of, line_named}
+use Rattle.kob_script.specs.CommandLines.{acl_requests, alone, asked_by, events_of, line_fault, request_named}
 use Rattle.kob_script.specs.declared.fault.FaultKind.{FaultKind}
 use Rattle.kob_script.specs.declared.fault.FaultKind.TheVariants.{LateSetting}
 use Rattle.kob_script.specs.declared.script.Script.{Script}
-use Rattle.kob_script.specs.Reading.{◌>>=◌}
+use Rattle.kob_script.specs.Reading.{◌>>=◌, unless_found}
 use Rattle.kob_script.specs.Requests.{answer_for, asks_clap, items_or_none, line_words, requests_in, requests_of}
 use Rattle.kob_script.specs.Script.{with_line, with_setting, with_words}
 use Rattle.kob_script.specs.Settings.{is_setting}
@@ -25,15 +23,15 @@ abbrev pub answers_from : List Word → Option CliArgs → List (Option CliArgs)
 answers_from words answer others = if asks_clap words then answer ∷ others else others
 
 -- what a line asks for is the same by its own answer and by the first of those that were kept
-chosen_alike : {A : Type 0} (setting acl : Bool) (arguments : A) (by : Option CliArgs → Result (List Event) FaultKind)
-    (other : Result (List Event) FaultKind) (answer : Option CliArgs) (others : List (Option CliArgs))
+chosen_alike : {A B C : Type 0} (setting acl : Bool) (arguments : C) (x : B) (next : A → B)
+    (by : Option CliArgs → A) (other : A) (answer : Option CliArgs) (others : List (Option CliArgs))
     → let asks = is_some (if not setting && acl then Some arguments else None) in
-    (if setting then [] else items_or_none (if acl then
+    (if setting then x else next (if acl then
     by (if asks then slice_index_or (if asks then answer ∷ others else others) 0 None else None) else other))
-    ≡ (if setting then [] else items_or_none (if acl then by answer else other))
-chosen_alike true acl arguments by other answer others = refl
-chosen_alike false true arguments by other answer others = refl
-chosen_alike false false arguments by other answer others = refl
+    ≡ (if setting then x else next (if acl then by answer else other))
+chosen_alike true acl arguments x next by other answer others = refl
+chosen_alike false true arguments x next by other answer others = refl
+chosen_alike false false arguments x next by other answer others = refl
 
 answered_alike : (words : List Word) (answer : Option CliArgs) (others : List (Option CliArgs))
     → requests_of (answer_for words (answers_from words answer others)) words ≡ requests_of answer words
@@ -42,10 +40,9 @@ answered_alike [] answer others = refl
 answered_alike (first ∷ []) answer others = refl
 answered_alike (first ∷ host ∷ []) answer others = refl
 answered_alike (first ∷ host ∷ command ∷ arguments) answer others =
-    let asker : AskerWords = record { principal = first; host = host } in
-    chosen_alike (is_setting first) (bytes_eq command.decoded (codes "acl")) arguments
-    (λ given. acl_line given asker arguments)
-    (line_named command.decoded asker arguments >>= λ event. Ok (event ∷ [])) answer others
+    chosen_alike (is_setting first) (bytes_eq command.decoded (codes "acl")) arguments []
+    (λ asked. items_or_none (unless_found (line_fault (first ∷ host ∷ command ∷ arguments)) (asked_by first host asked)))
+    (λ given. acl_requests given arguments) (alone (request_named command.decoded arguments)) answer others
 
 kept_behind : (asks : Bool) (answers : List (Option CliArgs)) (answer : Option CliArgs) (others : List (Option CliArgs))
     → (if asks then answers ++ answer ∷ [] else answers) ++ others

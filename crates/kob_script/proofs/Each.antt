@@ -60,3 +60,26 @@ each_map read view (x ∷ xs) =
 pub each_fails_map : {X A B : Type 0} (read : A → Result B FaultKind) (view : X → A) (xs : List X) (e : LineError)
     → Fails e (each (λ x. read (view x)) xs) → Fails e (each read (map view xs))
 each_fails_map read view xs e fails = subst (Fails e) (sym (each_map read view xs)) fails
+
+-- the same, by the front of what is left
+module _ {A B : Type 0} (read : A → Result B FaultKind) (all : Result (List B) FaultKind) (xs more : List A) (x : A)
+    (front : List B) (kept : with_front front (each read xs) ≡ all) (split : xs ≡ x ∷ more) where
+  front_is : with_front front (one_more read more (read x)) ≡ all
+  unfolding each
+  front_is = ap (λ rest. with_front front (each read rest)) (sym split) ∙ kept
+
+  pub front_fails : (e : LineError) → Fails e (read x) → Fails e all
+  front_fails Memory fails = tt
+  front_fails (Fault kind) fails =
+      sym front_is ∙ ap (λ r. with_front front (one_more read more r)) fails
+
+  pub front_keeps : (y : B) → read x ≡ Ok y → with_front (front ++ y ∷ []) (each read more) ≡ all
+  front_keeps y gives =
+      with_front_more front y (each read more)
+      ∙ ap (λ r. with_front front (one_more read more r)) (sym gives) ∙ front_is
+
+pub front_ends : {A B : Type 0} (read : A → Result B FaultKind) (all : Result (List B) FaultKind) (xs : List A)
+    (front : List B) → with_front front (each read xs) ≡ all → xs ≡ [] → all ≡ Ok front
+unfolding each
+front_ends read all xs front kept none =
+    sym kept ∙ ap (λ rest. with_front front (each read rest)) none ∙ ap Ok (append-nil front)

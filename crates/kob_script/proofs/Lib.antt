@@ -3,12 +3,13 @@ pub mod AskedLines
 pub mod BlockLines
 pub mod CheckedLines
 pub mod Choices
-pub mod CountedLines
 pub mod Cuts
+pub mod Drafts
 pub mod Each
 pub mod Escapes
-pub mod FilterFaults
+pub mod FirstKinds
 pub mod LeftRequests
+pub mod LineFaults
 pub mod LineWords
 pub mod Lines
 pub mod Numbers

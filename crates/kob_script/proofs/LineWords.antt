@@ -1,26 +1,68 @@
--- The words of a line, by an iterator that gives them.
-use Rattle.std.proofs.Common.{◌≡◌, ◌<◌, ◌==◌, ℕ, List, [], ◌∷◌, Option, Some, None, true, length, get_or, slice_index, refl, sym, ap, arith}
-use Rattle.std.proofs.lemmas.Iterator.{YieldsList}
-use Rattle.std.proofs.lemmas.Iterator.Consumers.{YieldsList-turn, YieldsList-end}
-use Rattle.std.specs.Iterator.{Yields}
-use Rattle.kob_script.specs.Words.{is_skipped}
+-- The words of a line, cut off one after another.
+use Rattle.std.proofs.Common.{◌≡◌, ◌∙◌, ◌<◌, ◌==◌, ◌+◌, ℕ, true, false, List, [], ◌∷◌, filter, length, take, drop, nat_lt, slice_index, refl, sym, ap, subst, arith, zero, suc, length-take-le}
+use Rattle.std.specs.List.{position_or_len, slice_split}
+use Rattle.std.proofs.lemmas.Bool.{lt-ltb}
+use Rattle.std.proofs.lemmas.Grind.{get_or_default_zero}
+use Rattle.std.proofs.lemmas.List.Splits.{slice_split-cons_yes, slice_split_first, slice_split_none}
+use Rattle.std.proofs.lemmas.List.Sums.{position_or_len_is}
+use Rattle.memchr.specs.Find.{is_byte2, NoneBefore, Nowhere, Passes}
+use Rattle.kob_script.specs.Words.{is_blank, is_skipped, raw_words}
+use Rattle.kob_script.proofs.Choices.{chosen_true, false_from}
 
-module _ {S A B : Type 0} {steps : S → Option A → S → Type 0} {v : A → B} {s : S} (all : List B) (xs : List A) (t : S)
-    (yielded : Yields steps s xs t) (r : Option A) (u : S) where
-  -- the item that came next, by its index
-  pub item_next : (x : A) → r ≡ Some x → steps t r u → YieldsList steps v s all
-      → (length xs < length all) × (v x ≡ get_or all (length xs) (v x))
-  item_next x is step gives = YieldsList-turn gives xs t yielded r u x is step
+not_blank : (bytes : List ℕ) (k : ℕ) → (Passes (is_byte2 32 9) bytes k → ⊥) → is_blank (slice_index bytes k) ≡ false
+not_blank bytes k refuted = false_from (is_blank (slice_index bytes k)) (λ blank. blank) refuted
 
-  pub none_next : r ≡ None → steps t r u → YieldsList steps v s all → length xs ≡ length all
-  none_next is step gives = (YieldsList-end gives xs t yielded r u is step).1
+kept_first : (word : List ℕ) (words : List (List ℕ)) → 0 < length word
+    → filter (λ w. nat_lt 0 (length w)) (word ∷ words) ≡ word ∷ filter (λ w. nat_lt 0 (length w)) words
+kept_first word words some = chosen_true (nat_lt 0 (length word)) _ _ (lt-ltb 0 (length word) some)
+
+-- behind a blank
+pub blank_passed : (byte : ℕ) (others : List ℕ) → is_blank byte ≡ true → raw_words (byte ∷ others) ≡ raw_words others
+blank_passed byte others blank =
+    ap (filter (λ word. nat_lt 0 (length word))) (slice_split-cons_yes is_blank byte others blank)
+
+-- a word to the end
+pub word_ends : (bytes : List ℕ) → 0 < length bytes → Nowhere (Passes (is_byte2 32 9) bytes) 0 (length bytes)
+    → raw_words bytes ≡ bytes ∷ raw_words []
+word_ends bytes some nowhere =
+    ap (filter (λ word. nat_lt 0 (length word)))
+    (slice_split_none is_blank bytes (λ k d within.
+    subst (λ (byte : ℕ). is_blank byte ≡ false) (sym (get_or_default_zero bytes k d within))
+    (not_blank bytes k (nowhere k (omega arith) within))))
+    ∙ kept_first bytes [] some
+
+-- a word before a blank
+module _ (bytes : List ℕ) (end : ℕ) (first : NoneBefore (Passes (is_byte2 32 9) bytes) 0 (length bytes) end)
+    (blank : Passes (is_byte2 32 9) bytes end) where
+  ends_at : position_or_len is_blank bytes ≡ end
+  ends_at =
+      position_or_len_is is_blank bytes end 0 (omega (arith, first.high))
+      (λ k before. not_blank bytes k (first.before k (omega arith) before)) (λ within. blank)
+
+  some_before : is_blank (slice_index bytes 0) ≡ false → 0 < end
+  some_before begins = above end refl
+    where
+      above : (at : ℕ) → end ≡ at → 0 < at
+      above zero is =
+          let both : true ≡ false = sym (subst (λ (k : ℕ). is_blank (slice_index bytes k) ≡ true) is blank) ∙ begins in
+          absurd (cc both)
+      above (suc at) is = omega arith
+
+  pub word_cut : is_blank (slice_index bytes 0) ≡ false
+      → raw_words bytes ≡ take end bytes ∷ raw_words (drop (end + 1) bytes)
+  word_cut begins =
+      let within : position_or_len is_blank bytes < length bytes = omega (arith, ends_at, first.high) in
+      let long : length (take end bytes) ≡ end = length-take-le end bytes (omega (arith, first.high)) in
+      ap (filter (λ word. nat_lt 0 (length word)))
+      (slice_split_first is_blank bytes 0 within
+      ∙ ap (λ at. take at bytes ∷ slice_split is_blank (drop (at + 1) bytes)) ends_at)
+      ∙ kept_first (take end bytes) (slice_split is_blank (drop (end + 1) bytes))
+      (omega (arith, long, some_before begins))
 
 -- what the first word tells of a line
-pub skipped_by_first : (words : List (List ℕ)) (first : List ℕ)
-    → (0 < length words) × (first ≡ get_or words 0 first) → is_skipped words ≡ (slice_index first 0 == 35)
-skipped_by_first [] first found = absurd (omega (arith, found.0))
-skipped_by_first (word ∷ others) first found = ap (λ (bytes : List ℕ). slice_index bytes 0 == 35) (sym found.1)
+pub skipped_by_first : (words others : List (List ℕ)) (first : List ℕ) → words ≡ first ∷ others
+    → is_skipped words ≡ (slice_index first 0 == 35)
+skipped_by_first words others first split = ap is_skipped split
 
-pub skipped_by_none : (words : List (List ℕ)) → 0 ≡ length words → is_skipped words ≡ true
-skipped_by_none [] none = refl
-skipped_by_none (word ∷ others) none = absurd (omega (arith, none))
+pub skipped_by_none : (words : List (List ℕ)) → words ≡ [] → is_skipped words ≡ true
+skipped_by_none words none = ap is_skipped none

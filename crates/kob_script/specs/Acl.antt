@@ -1,23 +1,18 @@
 -- The command `acl`: words of `kafka-acls`, each command of which is a request of its own.
-use Rattle.std.specs.Prelude.{List, [], ◌∷◌, map, Option, Result, Ok, Err}
+use Rattle.std.specs.Prelude.{List, [], ◌∷◌, Option, Result, Ok, Err}
 use Rattle.kob_acl_cli.specs.Commands.{commands, faults}
 use Rattle.kob_acl_cli.specs.declared.args.CliArgs.{CliArgs}
 use Rattle.kob_acl_cli.specs.declared.commands.AclCommand.{AclCommand}
 use Rattle.kob_acl_cli.specs.declared.commands.AclCommand.TheVariants.{Create, Delete, Describe}
 use Rattle.kob_acl_cli.specs.declared.fault.CommandFault.{CommandFault}
 use Rattle.kob_acl_cli.specs.declared.fault.CommandFault.TheVariants as command
-use Rattle.kob_rights.specs.declared.event.Event.{Event}
 use Rattle.kob_rights.specs.declared.request.Request.{Request}
 use Rattle.kob_rights.specs.declared.request.Request.TheVariants.{CreateAcls, DescribeAcls, DeleteAcls}
-use Rattle.kob_script.specs.Askers.{AskerWords, asker_text, asker_of, asks}
-use Rattle.kob_script.specs.declared.asker.Asker.{Asker}
 use Rattle.kob_script.specs.declared.fault.FaultKind.{FaultKind}
 use Rattle.kob_script.specs.declared.fault.FaultKind.TheVariants.{Usage, NoAction, BadName, BadMix, NoResource, NoPrincipal}
 use Rattle.kob_script.specs.declared.fault.LineError.{LineError}
 use Rattle.kob_script.specs.declared.fault.LineError.TheVariants as line_error
-use Rattle.kob_script.specs.Reading.{◌>>=◌, each, found_or}
-use Rattle.kob_script.specs.Texts.{text_of}
-use Rattle.kob_script.specs.Word.{Word}
+use Rattle.kob_script.specs.Reading.{◌>>=◌, found_or}
 
 -- the kind of a fault of options; lack of memory is never one of theirs
 abbrev pub kind_of : CommandFault → FaultKind
@@ -38,30 +33,15 @@ abbrev pub unless_faults : List CommandFault → List AclCommand → Result (Lis
 unless_faults [] commands = Ok commands
 unless_faults (fault ∷ others) commands = Err (kind_of fault)
 
--- what options ask for
+-- the commands of options
 abbrev pub commands_in : CliArgs → Result (List AclCommand) FaultKind
 commands_in args = unless_faults (faults args) (commands args)
 
-abbrev pub request_of : AclCommand → Request
-request_of (Create drafts) = CreateAcls (record { drafts = drafts })
-request_of (Delete filter) = DeleteAcls (record { filter = filter })
-request_of (Describe filter) = DescribeAcls (record { filter = filter })
+-- the commands of clap's answer: options, or nothing where it refuses the words
+abbrev pub acl_commands : Option CliArgs → Result (List AclCommand) FaultKind
+acl_commands answer = found_or Usage answer >>= commands_in
 
--- one request for each command, in order
-abbrev pub requests_by : Asker → List AclCommand → List Event
-requests_by asker commands = map (λ command. asks asker (request_of command)) commands
-
--- who asks by words that are all texts
-unfoldable pub asker_before : AskerWords → List Word → Result Asker FaultKind
-asker_before asker arguments = do
-  texts ← asker_text asker
-  words ← each text_of arguments
-  asker_of texts
-
--- acl WORDS.., by clap's answer to the words: options, or nothing where it refuses them
-unfoldable pub acl_line : Option CliArgs → AskerWords → List Word → Result (List Event) FaultKind
-acl_line answer asker arguments = do
-  by ← asker_before asker arguments
-  args ← found_or Usage answer
-  found ← commands_in args
-  Ok (requests_by by found)
+abbrev pub acl_request : AclCommand → Request
+acl_request (Create drafts) = CreateAcls (record { drafts = drafts })
+acl_request (Delete filter) = DeleteAcls (record { filter = filter })
+acl_request (Describe filter) = DescribeAcls (record { filter = filter })

@@ -1,5 +1,5 @@
 -- Reading, up to the first fault.
-use Rattle.std.specs.Prelude.{◌≡◌, List, [], ◌∷◌, ◌++◌, Option, Some, None, Result, Ok, Err, codes, if◌then◌else◌}
+use Rattle.std.specs.Prelude.{◌≡◌, ℕ, List, [], ◌∷◌, ◌++◌, Option, Some, None, Result, Ok, Err, codes, length, if◌then◌else◌}
 use Rattle.std.specs.Str.{bytes_eq}
 use Rattle.kob_script.specs.declared.fault.FaultKind.{FaultKind}
 use Rattle.kob_script.specs.declared.fault.LineError.{LineError}
@@ -43,16 +43,24 @@ abbrev pub unless_fault : {A E : Type 0} → Option E → FaultKind → A → Re
 unless_fault None kind x = Ok x
 unless_fault (Some fault) kind x = Err kind
 
+-- the fault of what is read, if there is one
+abbrev pub fault_in : {A : Type 0} → Result A FaultKind → Option FaultKind
+fault_in (Ok x) = None
+fault_in (Err kind) = Some kind
+
+-- what is read, unless a fault was found
+abbrev pub unless_found : {A : Type 0} → Option FaultKind → Result A FaultKind → Result A FaultKind
+unless_found None read = read
+unless_found (Some kind) read = Err kind
+
+-- how many values are read
+abbrev pub counted : {A : Type 0} → Result (List A) FaultKind → Result ℕ FaultKind
+counted read = read >>= λ items. Ok (length items)
+
 -- what was found
 abbrev pub found_or : {A : Type 0} → FaultKind → Option A → Result A FaultKind
 found_or kind None = Err kind
 found_or kind (Some x) = Ok x
-
--- nothing where there is nothing
-abbrev pub optionally : {A B : Type 0} → (A → Result B FaultKind) → Option A
-    → Result (Option B) FaultKind
-optionally read None = Ok None
-optionally read (Some x) = read x >>= λ y. Ok (Some y)
 
 -- nothing for the word `-`, which has to stand without escapes
 abbrev pub unless_dash : {A : Type 0} → (Word → Result A FaultKind) → Word

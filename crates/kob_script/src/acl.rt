@@ -1,50 +1,25 @@
 //! The command `acl`: words of `kafka-acls`, each command of which is a request of its own.
 
-ghost use Rattle.std.specs.Prelude.{◌≡◌, IfOk};
-ghost use Rattle.kob_script.specs.Acl.{acl_line, asker_before, commands_in, error_of};
-ghost use Rattle.kob_script.specs.Acl.{request_of, requests_by};
-ghost use Rattle.kob_script.specs.Reading.{Gives, GivesSeen};
+ghost use Rattle.std.specs.Prelude.{◌≡◌, IfOk, map};
+ghost use Rattle.kob_script.specs.Acl.{acl_commands, acl_request, commands_in, error_of};
+ghost use Rattle.kob_script.specs.CommandLines.{event_by};
+ghost use Rattle.kob_script.specs.Reading.{GivesSeen};
 
-use crate::asker::{Asker, AskerWords};
 use crate::fault::{FaultKind, LineError};
-use crate::text::texts_of;
-use crate::word::Word;
 use kob_acl_cli::{AclCommand, CliArgs, CommandFault, commands_of};
+use kob_names::{Host, PlainValue, Principal};
 use kob_rights::{CreateAcls, DeleteAcls, DescribeAcls, Event, Request};
 use std::alloc::{AllocError, Global};
 
-/// `acl` and words of `kafka-acls`, by what `clap` answers to the words: options, or nothing where
-/// it refuses them. All words are looked at as texts, and then at who asks, before any option is.
-#[tactic(auto, unfolding(crate::specs::Acl::acl_line))]
-pub fn acl_line(
-    alloc: Global,
-    asker: &AskerWords<'_, '_>,
-    words: &[Word<'_>],
-    answer: &Option<CliArgs>,
-) -> Result<Vec<Event>, LineError>
-    ensures { GivesSeen (λ events. events.items) result
-        (acl_line answer.now asker.now words.now) }
+/// The commands of what `clap` answers to the words of a line: options, or nothing where it refuses
+/// them.
+pub fn acl_commands(alloc: Global, answer: &Option<CliArgs>) -> Result<Vec<AclCommand>, LineError>
+    ensures { GivesSeen (λ commands. commands.items) result (acl_commands answer.now) }
 {
-    let asker = asker_before(alloc, asker, words)?;
-    let Some(args) = answer else {
-        return Err(LineError::Fault(FaultKind::Usage));
-    };
-    let commands = commands_in(alloc, args)?;
-    let events = requests_by(alloc, &asker, commands)?;
-    Ok(events)
-}
-
-#[tactic(auto, unfolding(crate::specs::Acl::asker_before))]
-fn asker_before(
-    alloc: Global,
-    asker: &AskerWords<'_, '_>,
-    words: &[Word<'_>],
-) -> Result<Asker, LineError>
-    ensures { Gives result (asker_before asker.now words.now) }
-{
-    let texts = asker.text()?;
-    texts_of(alloc, words)?;
-    texts.asker(alloc)
+    match answer {
+        Some(args) => commands_in(alloc, args),
+        None => Err(LineError::Fault(FaultKind::Usage)),
+    }
 }
 
 fn commands_in(alloc: Global, args: &CliArgs) -> Result<Vec<AclCommand>, LineError>
@@ -69,23 +44,32 @@ fn error_of(fault: &CommandFault) -> LineError
     }
 }
 
-fn requests_by(
+/// The events that a principal at a host asks for commands, one each.
+pub fn acl_events(
     alloc: Global,
-    asker: &Asker,
+    principal: &Principal,
+    host: &Host,
     commands: Vec<AclCommand>,
 ) -> Result<Vec<Event>, AllocError>
-    ensures { IfOk result (λ events. events.items ≡ requests_by asker.now commands.items) }
+    ensures { IfOk result (λ events. events.items
+        ≡ map (λ request. event_by principal.now host.now request) (map acl_request commands.items)) }
 {
     let mut events = Vec::new(alloc);
     for command in commands {
-        let asker = asker.copy(alloc)?;
-        events.push(asker.asks(request_of(command)))?;
+        let principal = principal.copy(alloc)?;
+        let host = host.copy(alloc)?;
+        let request = acl_request(command);
+        events.push(Event {
+            principal,
+            host,
+            request,
+        })?;
     }
     Ok(events)
 }
 
-fn request_of(command: AclCommand) -> Request
-    ensures { result ≡ request_of command }
+fn acl_request(command: AclCommand) -> Request
+    ensures { result ≡ acl_request command }
 {
     match command {
         AclCommand::Create(drafts) => Request::CreateAcls(CreateAcls { drafts }),

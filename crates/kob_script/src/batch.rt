@@ -3,7 +3,9 @@
 ghost use Rattle.std.specs.Prelude.{◌≡◌, ◌==◌, IfOk, map};
 ghost use Rattle.std.specs.List.{slice_split};
 ghost use Rattle.std.specs.Option.{option_map};
-ghost use Rattle.kob_script.specs.Batches.{batch_of, idem_of, idem_parts, key_and_value, record_of};
+ghost use Rattle.kob_script.specs.Batches.{idem_of, key_and_value, record_of};
+ghost use Rattle.kob_script.specs.Escapes as escapes;
+ghost use Rattle.kob_script.specs.Numbers.{number_in};
 ghost use Rattle.kob_script.specs.Reading.{Gives};
 
 use crate::escape::bytes_of;
@@ -11,34 +13,34 @@ use crate::fault::{FaultKind, LineError};
 use crate::number::number_in;
 use crate::word::Word;
 use bstr::ByteSlice;
-use kob_names::{Batch, Bytes, Idem, Items, Record};
+use kob_names::{Bytes, Idem, Items, Record};
 use std::alloc::{AllocError, Global};
 
-/// The parts of ID:EPOCH:BASE, each with its escapes replaced.
-#[derive(Drop)]
-pub struct IdemParts {
-    id: Bytes,
-    epoch: Bytes,
-    base: Bytes,
-}
-
-/// `-`, or three parts with colons between them.
-#[tactic(auto, unfolding(crate::specs::Batches::idem_parts))]
-pub fn idem_parts(alloc: Global, word: &Word<'_>) -> Result<Option<IdemParts>, LineError>
-    ensures { Gives result (idem_parts word.now) }
+/// Who produced a batch: nobody for `-`, or `ID:EPOCH:BASE`. The fault is `BadLine` for other
+/// numbers of parts.
+#[tactic(auto, unfolding(crate::specs::Batches::idem_of))]
+pub fn idem_of(alloc: Global, word: &Word<'_>) -> Result<Option<Idem>, LineError>
+    ensures { Gives result (idem_of word.now) }
 {
     if word.is_dash() {
         return Ok(None);
     }
     let parts = split_at_colons(alloc, word.raw())?;
-    match parts.as_slice() {
-        [id, epoch, base] => Ok(Some(IdemParts {
-            id: bytes_of(alloc, id)?,
-            epoch: bytes_of(alloc, epoch)?,
-            base: bytes_of(alloc, base)?,
-        })),
-        _ => Err(LineError::Fault(FaultKind::BadLine)),
-    }
+    let [id, epoch, base] = parts.as_slice() else {
+        return Err(LineError::Fault(FaultKind::BadLine));
+    };
+    let id = number_at(alloc, id)?;
+    let epoch = number_at(alloc, epoch)?;
+    let base = number_at(alloc, base)?;
+    Ok(Some(Idem { id, epoch, base }))
+}
+
+// The number that a part of a word writes, once its escapes are replaced.
+fn number_at(alloc: Global, part: &[u8]) -> Result<u64, LineError>
+    ensures { Gives result (number_in (escapes.bytes_of part.now)) }
+{
+    let digits = bytes_of(alloc, part)?;
+    number_in(digits.as_slice())
 }
 
 fn split_at_colons(alloc: Global, word: &[u8]) -> Result<Vec<&[u8]>, AllocError>
@@ -46,20 +48,6 @@ fn split_at_colons(alloc: Global, word: &[u8]) -> Result<Vec<&[u8]>, AllocError>
         ≡ slice_split (λ byte. byte == 58) word.now) }
 {
     word.split(|byte| *byte == b':').collect(alloc)
-}
-
-/// The numbers that the parts write.
-#[tactic(auto, unfolding(crate::specs::Batches::idem_of))]
-pub fn idem_of(parts: Option<IdemParts>) -> Result<Option<Idem>, LineError>
-    ensures { Gives result (idem_of parts) }
-{
-    let Some(parts) = parts else {
-        return Ok(None);
-    };
-    let id = number_in(parts.id.as_slice())?;
-    let epoch = number_in(parts.epoch.as_slice())?;
-    let base = number_in(parts.base.as_slice())?;
-    Ok(Some(Idem { id, epoch, base }))
 }
 
 #[tactic(auto, unfolding(crate::specs::Batches::key_and_value))]
@@ -86,7 +74,7 @@ fn record_of(alloc: Global, word: &Word<'_>) -> Result<Record, AllocError>
 }
 
 /// The records that the words write, in order.
-fn records_of(alloc: Global, words: &[Word<'_>]) -> Result<Items<Record>, AllocError>
+pub fn records_of(alloc: Global, words: &[Word<'_>]) -> Result<Items<Record>, AllocError>
     ensures { IfOk result (λ records. records ≡ map record_of words.now) }
 {
     let mut records = Vec::with_capacity(alloc, words.len())?;
@@ -95,18 +83,4 @@ fn records_of(alloc: Global, words: &[Word<'_>]) -> Result<Items<Record>, AllocE
         records.push(message)?;
     }
     Ok(Items::from_vec(records))
-}
-
-/// The batch that the parts and the words of records write.
-#[tactic(auto, unfolding(crate::specs::Batches::batch_of))]
-pub fn batch_of(
-    alloc: Global,
-    parts: Option<IdemParts>,
-    records: &[Word<'_>],
-) -> Result<Batch, LineError>
-    ensures { Gives result (batch_of parts records.now) }
-{
-    let idem = idem_of(parts)?;
-    let records = records_of(alloc, records)?;
-    Ok(Batch { idem, records })
 }

@@ -11,8 +11,8 @@ ghost use Rattle.kob_script.specs.Script.{script_of, with_events, with_setting, 
 ghost use Rattle.kob_script.specs.ScriptReadings.{HasNoAclLine, MayRead, Reads};
 
 use crate::clap_answer::{answer_to, asks_clap};
+use crate::command_lines::count_of;
 use crate::fault::{Fault, FaultKind, LineError, ScriptError};
-use crate::line_checks::count_of;
 use crate::requests::Requests;
 use crate::setting::{everyone_of, is_setting, is_super, super_of};
 use crate::word::Word;

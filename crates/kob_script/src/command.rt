@@ -1,8 +1,11 @@
-//! The commands by which a line asks, each for one request, and the words for them.
+//! The table of commands: their names, and the words that each takes.
 
-ghost use Rattle.std.specs.Option.{option_copied};
+ghost use Rattle.std.specs.Option.{option_copied, option_map};
 ghost use Rattle.std.specs.Prelude.{◌≡◌};
 ghost use Rattle.kob_script.specs.Command.{command_among, command_named, command_word};
+ghost use Rattle.kob_script.specs.Command.{row, row_named};
+
+use crate::slots::{Place, Slot};
 
 /// What a line asks for. `acl` is none of these, since it may ask for more than one request, or
 /// none.
@@ -78,4 +81,57 @@ fn command_among<'a>(commands: &'a [Command], word: &[u8]) -> Option<&'a Command
     commands
         .iter()
         .find(|command| word == command_word(**command).as_bytes())
+}
+
+const FILTER: [Place; 7] = [
+    Place::OrDash(Slot::Resource),
+    Place::OrDash(Slot::Text),
+    Place::One(Slot::FilterPattern),
+    Place::OrDash(Slot::Principal),
+    Place::OrDash(Slot::Host),
+    Place::OrDash(Slot::Operation),
+    Place::OrDash(Slot::Permission),
+];
+
+/// The words after a command, in their order.
+fn row(command: Command) -> &'static [Place]
+    ensures { result.now ≡ row command }
+{
+    use Place::{One, OrNone, Records};
+    use Slot::{Host, Number, Principal, Text};
+    match command {
+        Command::CreateTopic => &[One(Text), One(Number)],
+        Command::DeleteTopic => &[One(Text)],
+        Command::Metadata => &[OrNone(Text)],
+        Command::Produce => &[One(Text), One(Number), One(Slot::Producer), Records],
+        Command::Fetch => &[One(Text), One(Number), One(Number), One(Number)],
+        Command::ListOffsets => &[One(Text), One(Number), One(Slot::StartOrEnd)],
+        Command::DeleteRecords => &[One(Text), One(Number), One(Slot::OffsetOrEnd)],
+        Command::InitProducer => &[],
+        Command::Commit => &[One(Text), One(Text), One(Number), One(Number)],
+        Command::Committed => &[One(Text), One(Text), One(Number)],
+        Command::Groups => &[],
+        Command::DeleteGroup => &[One(Text)],
+        Command::CreateAcl => &[
+            One(Slot::Permission),
+            One(Principal),
+            One(Host),
+            One(Slot::Operation),
+            One(Slot::Resource),
+            One(Slot::Pattern),
+            One(Text),
+        ],
+        Command::DescribeAcls => &FILTER,
+        Command::DeleteAcls => &FILTER,
+    }
+}
+
+/// The words after the command of that name, if there is such a command.
+pub fn row_named(name: &[u8]) -> Option<&'static [Place]>
+    ensures { option_map (λ places. places.now) result ≡ row_named name.now }
+{
+    if name == b"acl".as_slice() {
+        return Some(&[Place::Texts]);
+    }
+    Some(row(command_named(name)?))
 }

@@ -1,17 +1,41 @@
 //! What follows of the definitions.
 
-ghost use Rattle.std.specs.Prelude.{◌≡◌, ℕ, List, Result};
+ghost use Rattle.std.specs.Prelude.{◌≡◌, ◌≤◌, ℕ, List, Option, Some, None, Result, Ok, false};
+ghost use Rattle.kob_acl_cli.specs.declared.args.CliArgs.{CliArgs};
+ghost use Rattle.kob_script.specs.CommandLines.{asks_by_acl, events_of, line_fault};
 ghost use Rattle.kob_script.specs.Escapes.{LeavesWhole};
+ghost use Rattle.kob_script.specs.Faults.{IsAmong, faults_in, rank, row_fault};
+ghost use Rattle.kob_script.specs.Reading.{counted};
 ghost use Rattle.kob_script.specs.Script.{script_of};
 ghost use Rattle.kob_script.specs.ScriptReadings.{HasNoAclLine, ReadsAs};
+ghost use Rattle.kob_script.specs.Word.{Word};
 ghost use Rattle.kob_script.specs.declared.fault.Fault.{Fault};
+ghost use Rattle.kob_script.specs.declared.fault.FaultKind.{FaultKind};
 ghost use Rattle.kob_script.specs.declared.script.Script.{Script};
+ghost use Rattle.kob_script.specs.declared.slots.Place.{Place};
 
 /// A script without `acl` lines may be read in one way alone.
 #[tactic(auto, using(crate::proofs::PlainScripts::one_reading))]
 pub fn plain_scripts_have_one_reading()
     ensures { (text : List ℕ) (read : Result Script Fault)
         → HasNoAclLine text → ReadsAs text read → read ≡ script_of text }
+{
+    // By the definitions.
+}
+
+/// Over a whole line faults come in the order of their kinds: the fault of the words of a row is one
+/// that some word has, and no word has one of a kind that comes before. A line other than of `acl`
+/// whose words have none asks for one thing.
+pub fn faults_come_in_their_order()
+    ensures found { (places : List Place) (words : List Word) (kind : FaultKind)
+        → row_fault (Some places) words ≡ Some kind → IsAmong kind (faults_in places words) }
+    ensures first { (places : List Place) (words : List Word) (kind other : FaultKind)
+        → row_fault (Some places) words ≡ Some kind → IsAmong other (faults_in places words)
+        → rank kind ≤ rank other }
+    ensures none { (places : List Place) (words : List Word) (kind : FaultKind)
+        → row_fault (Some places) words ≡ None → IsAmong kind (faults_in places words) → ⊥ }
+    ensures asks { (answer : Option CliArgs) (words : List Word) → line_fault words ≡ None
+        → asks_by_acl words ≡ false → counted (events_of answer words) ≡ Ok 1 }
 {
     // By the definitions.
 }

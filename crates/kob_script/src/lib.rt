@@ -2,33 +2,30 @@
 #![tactic(auto)]
 
 mod acl;
-mod acl_lines;
+mod acl_requests;
 mod asked;
-mod asker;
 mod batch;
 mod blocks;
 mod checks;
 mod clap_answer;
 mod command;
 mod command_lines;
-mod draft;
 mod escape;
 mod fault;
-mod filter;
-mod group_lines;
+mod faults;
+mod group_requests;
 mod keyword;
 mod laws;
-mod line_checks;
 mod number;
-mod partition_lines;
 mod printed_body;
 mod printed_fault;
 mod printed_reply;
 mod requests;
 mod script;
 mod setting;
+mod slots;
 mod text;
-mod topic_lines;
+mod topic_requests;
 mod word;
 mod words;
 
@@ -37,7 +34,9 @@ pub use checks::{CheckedScript, check_script};
 pub use clap_answer::answer_to;
 pub use command_lines::events_of;
 pub use fault::{Fault, FaultKind, LineError, ScriptError};
-pub use laws::{cuts_leave_whole_escapes, plain_scripts_have_one_reading};
+pub use laws::{
+    cuts_leave_whole_escapes, faults_come_in_their_order, plain_scripts_have_one_reading,
+};
 pub use number::number_of;
 pub use printed_fault::print_fault;
 pub use printed_reply::{print_reply, push_outcome};

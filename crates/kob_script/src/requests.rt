@@ -9,7 +9,7 @@ ghost use Rattle.kob_script.specs.Requests.{requests_in, requests_of};
 use crate::asked::Asked;
 use crate::blocks::{Blocks, first_line};
 use crate::clap_answer::asks_clap;
-use crate::command_lines::events_of;
+use crate::command_lines::events_in;
 use crate::fault::LineError;
 use crate::setting::is_setting;
 use crate::word::Word;
@@ -168,6 +168,7 @@ fn words_again(alloc: Global, line: &[u8]) -> Result<Vec<Word<'_>>, AllocError>
     }
 }
 
+#[tactic(auto, using(crate::proofs::LineFaults::line_read, crate::proofs::LineFaults::line_not_read))]
 fn requests_of(
     alloc: Global,
     words: &[Word<'_>],
@@ -175,13 +176,15 @@ fn requests_of(
 ) -> Result<Asked, AllocError>
     ensures { IfOk result (λ asked. asked ≡ requests_of answer.now words.now) }
 {
-    match words {
-        [] => Ok(Asked::nothing(alloc)),
-        [first, ..] if is_setting(first) => Ok(Asked::nothing(alloc)),
-        _ => match events_of(alloc, words, answer) {
-            Ok(asked) => Ok(asked),
-            Err(LineError::Memory) => Err(AllocError),
-            Err(LineError::Fault(_)) => Ok(Asked::nothing(alloc)),
-        },
+    let Some((first, _)) = words.split_first() else {
+        return Ok(Asked::nothing(alloc));
+    };
+    if is_setting(first) {
+        return Ok(Asked::nothing(alloc));
+    }
+    match events_in(alloc, words, answer) {
+        Ok(asked) => Ok(asked),
+        Err(LineError::Memory) => Err(AllocError),
+        Err(LineError::Fault(_)) => Ok(Asked::nothing(alloc)),
     }
 }

@@ -1,7 +1,8 @@
 //! Names, principals and hosts.
 
-ghost use Rattle.kob_script.specs.Reading.{Gives, GivesSeen, each, unless_dash, optionally};
-ghost use Rattle.kob_script.specs.Texts.{text_in, text_of, principal_of, host_of};
+ghost use Rattle.kob_script.specs.Reading.{Gives, GivesSeen, each, unless_dash};
+ghost use Rattle.kob_script.specs.Texts.{host_of, named_host, named_principal, principal_of, text_in};
+ghost use Rattle.kob_script.specs.Texts.{text_of};
 
 use crate::fault::{FaultKind, LineError};
 use crate::word::Word;
@@ -69,6 +70,20 @@ pub fn host_of(alloc: Global, text: &str) -> Result<Host, LineError>
     }
 }
 
+/// The principal that a word names.
+pub fn named_principal(alloc: Global, word: &Word<'_>) -> Result<Principal, LineError>
+    ensures { Gives result (named_principal word.now) }
+{
+    principal_of(alloc, lent_text_of(word)?)
+}
+
+/// The host that a word names.
+pub fn named_host(alloc: Global, word: &Word<'_>) -> Result<Host, LineError>
+    ensures { Gives result (named_host word.now) }
+{
+    host_of(alloc, lent_text_of(word)?)
+}
+
 /// The text of a word that is not `-`.
 pub fn text_unless_dash(alloc: Global, word: &Word<'_>) -> Result<Option<Text>, LineError>
     ensures { Gives result (unless_dash text_of word.now) }
@@ -79,25 +94,22 @@ pub fn text_unless_dash(alloc: Global, word: &Word<'_>) -> Result<Option<Text>, 
     Ok(Some(text_of(alloc, word)?))
 }
 
-/// The principal that a text is, if there is one.
-pub fn optional_principal_of(
-    alloc: Global,
-    text: &Option<Text>,
-) -> Result<Option<Principal>, LineError>
-    ensures { Gives result (optionally principal_of text.now) }
+/// The principal that a word other than `-` names.
+pub fn principal_unless_dash(alloc: Global, word: &Word<'_>) -> Result<Option<Principal>, LineError>
+    ensures { Gives result (unless_dash named_principal word.now) }
 {
-    match text {
-        None => Ok(None),
-        Some(text) => Ok(Some(principal_of(alloc, text.as_str())?)),
+    if word.is_dash() {
+        return Ok(None);
     }
+    Ok(Some(named_principal(alloc, word)?))
 }
 
-/// The host that a text is, if there is one.
-pub fn optional_host_of(alloc: Global, text: &Option<Text>) -> Result<Option<Host>, LineError>
-    ensures { Gives result (optionally host_of text.now) }
+/// The host that a word other than `-` names.
+pub fn host_unless_dash(alloc: Global, word: &Word<'_>) -> Result<Option<Host>, LineError>
+    ensures { Gives result (unless_dash named_host word.now) }
 {
-    match text {
-        None => Ok(None),
-        Some(text) => Ok(Some(host_of(alloc, text.as_str())?)),
+    if word.is_dash() {
+        return Ok(None);
     }
+    Ok(Some(named_host(alloc, word)?))
 }

@@ -1,17 +1,21 @@
 //! The words of a line.
 
-ghost use Rattle.std.specs.Prelude.{◌≡◌, length};
+ghost use Rattle.std.specs.Prelude.{◌≡◌, ◌<◌, ◌∷◌, [], length, slice_index, false, MatchOption};
 ghost use Rattle.kob_script.specs.Reading.{GivesSeen, each};
 ghost use Rattle.kob_script.specs.Word.{word_of};
 ghost use Rattle.kob_script.specs.Words.{is_blank, is_skipped, raw_words, words_of};
 
 use crate::fault::LineError;
 use crate::word::Word;
+use memchr::memchr2;
 use std::alloc::Global;
 
+/// Room for the words of most lines.
+const MANY_WORDS: usize = 8;
+
 /// The words of a line, none where it is skipped: where it has none, or a first one that begins
-/// with `#`. The fault is `BadEscape`, the first to be looked for. They are counted first, and so
-/// their list never grows; that of a line that is skipped takes no memory.
+/// with `#`. The fault is `BadEscape`, the first to be looked for. A line that is skipped takes no
+/// memory.
 pub fn words_of(alloc: Global, line: &[u8]) -> Result<Vec<Word<'_>>, LineError>
     ensures { GivesSeen (λ words. words.items) result (words_of line.now) }
 {
@@ -21,43 +25,72 @@ pub fn words_of(alloc: Global, line: &[u8]) -> Result<Vec<Word<'_>>, LineError>
     each_read(alloc, line)
 }
 
+fn is_skipped(line: &[u8]) -> bool
+    ensures { result ≡ is_skipped (raw_words line.now) }
+{
+    match next_word(line) {
+        Some(cut) => cut.word.first() == Some(&b'#'),
+        None => true,
+    }
+}
+
+fn each_read(alloc: Global, line: &[u8]) -> Result<Vec<Word<'_>>, LineError>
+    ensures { GivesSeen (λ words. words.items) result (each word_of (raw_words line.entry.now)) }
+{
+    let mut words = Vec::with_capacity(alloc, MANY_WORDS)?;
+    let mut rest = line;
+    while let Some(cut) = next_word(rest) {
+        let word = Word::read(alloc, cut.word)?;
+        words.push(word)?;
+        rest = cut.rest;
+    }
+    Ok(words)
+}
+
+/// A word, and the bytes behind the blank that ends it.
+#[derive(Clone, Copy)]
+struct Cut<'a> {
+    word: &'a [u8],
+    rest: &'a [u8],
+}
+
+// The first word of bytes, if there is one.
+fn next_word(bytes: &[u8]) -> Option<Cut<'_>>
+    ensures { MatchOption result (raw_words bytes.entry.now ≡ []) (λ cut.
+        (raw_words bytes.entry.now ≡ cut.word.now ∷ raw_words cut.rest.now)
+        × (length cut.rest.now < length bytes.entry.now)) }
+{
+    let mut rest = bytes;
+    while let Some((byte, others)) = rest.split_first() {
+        if !is_blank(*byte) {
+            return Some(cut_word(rest));
+        }
+        rest = others;
+    }
+    None
+}
+
 fn is_blank(byte: u8) -> bool
     ensures { result ≡ is_blank byte }
 {
     byte == b' ' || byte == b'\t'
 }
 
-fn is_skipped(line: &[u8]) -> bool
-    ensures { result ≡ is_skipped (raw_words line.now) }
+// Cuts bytes that begin with a word behind it.
+fn cut_word(bytes: &[u8]) -> Cut<'_>
+    requires some { 0 < length bytes.now }
+    requires begins { is_blank (slice_index bytes.now 0) ≡ false }
+    ensures word { raw_words bytes.entry.now ≡ result.word.now ∷ raw_words result.rest.now }
+    ensures shorter { length result.rest.now < length bytes.entry.now }
 {
-    let mut words = line
-        .split(|byte| is_blank(*byte))
-        .filter(|word| !word.is_empty());
-    match words.next() {
-        Some(first) => first.first() == Some(&b'#'),
-        None => true,
+    match memchr2(b' ', b'\t', bytes) {
+        Some(end) => Cut {
+            word: &bytes[..end],
+            rest: &bytes[end + 1..],
+        },
+        None => Cut {
+            word: bytes,
+            rest: &[],
+        },
     }
-}
-
-// How many words stand between the blanks of a line.
-fn word_count(line: &[u8]) -> usize
-    ensures { result ≡ length (raw_words line.now) }
-{
-    line.split(|byte| is_blank(*byte))
-        .filter(|word| !word.is_empty())
-        .count()
-}
-
-fn each_read(alloc: Global, line: &[u8]) -> Result<Vec<Word<'_>>, LineError>
-    ensures { GivesSeen (λ words. words.items) result (each word_of (raw_words line.entry.now)) }
-{
-    let mut words = Vec::with_capacity(alloc, word_count(line))?;
-    for raw in line
-        .split(|byte| is_blank(*byte))
-        .filter(|word| !word.is_empty())
-    {
-        let word = Word::read(alloc, raw)?;
-        words.push(word)?;
-    }
-    Ok(words)
 }

@@ -5,8 +5,8 @@ use Rattle.std.specs.Result.{IfOk, IfErr, OnErr, IsErrOf}
 use Rattle.std.proofs.KnownBytes.{Appends-nil}
 use Rattle.std.specs.Io.KnownBytes.{Appends, Keeps}
 use Rattle.kob_script.specs.declared.fault.Fault as fault
-use Rattle.kob_text.specs.declared.fault.RunFault.{RunFault}
-use Rattle.kob_text.specs.declared.fault.RunFault.TheVariants as run_fault
+use Rattle.kob_text.specs.declared.fault.OutputFault.{OutputFault}
+use Rattle.kob_text.specs.declared.fault.OutputFault.TheVariants as output_fault
 use Rattle.kob_text.specs.declared.output.Ended.{Ended}
 use Rattle.kob_text.specs.declared.output.Ended.TheVariants.{Clean, Fault, Stopped}
 use Rattle.kob_rights.specs.declared.event.Event.{Event}
@@ -47,34 +47,29 @@ part_front : (a b : Option (List ℕ)) (read : Result Script fault.Fault) → Ha
     → HasOutput read (AppendsFront a b)
 part_front a b read (ended, text, is, part) = (ended, text, is, front_of_part a b text part)
 
-front_at_end : (r : Result Ended RunFault) (input : Option (List ℕ)) (bytes : List ℕ) (a b : Option (List ℕ))
+front_at_end : (e : OutputFault) (input : Option (List ℕ)) (bytes : List ℕ) (a b : Option (List ℕ))
     → IfSome input (λ all. bytes ≡ all)
-    → (IsErrOf r run_fault.WriteFailed → HasNoAclLine bytes → HasOutput (script_of bytes) (AppendsPart a b))
-    → (IsErrOf r run_fault.Memory → Keeps a b) → (IsErrOf r run_fault.ReadFailed → ⊥)
-    → (IsErrOf r run_fault.TooLong → ⊥)
-    → IfErr r (λ _. IfSome input (λ all. HasNoAclLine all → HasOutput (script_of all) (AppendsFront a b)))
-front_at_end (Ok ended) input bytes a b is part keeps no_read no_length = tt
-front_at_end (Err e) None bytes a b is part keeps no_read no_length = tt
-front_at_end (Err run_fault.WriteFailed) (Some all) bytes a b is part keeps no_read no_length =
+    → (e ≡ output_fault.WriteFailed → HasNoAclLine bytes → HasOutput (script_of bytes) (AppendsPart a b))
+    → (e ≡ output_fault.Memory → Keeps a b)
+    → IfSome input (λ all. HasNoAclLine all → HasOutput (script_of all) (AppendsFront a b))
+front_at_end e None bytes a b is part keeps = tt
+front_at_end output_fault.WriteFailed (Some all) bytes a b is part keeps =
     subst (λ t. HasNoAclLine t → HasOutput (script_of t) (AppendsFront a b)) is
     (λ plain. part_front a b (script_of bytes) (part refl plain))
-front_at_end (Err run_fault.Memory) (Some all) bytes a b is part keeps no_read no_length =
+front_at_end output_fault.Memory (Some all) bytes a b is part keeps =
     λ plain. kept_front a b (keeps refl) (script_of all)
-front_at_end (Err run_fault.ReadFailed) (Some all) bytes a b is part keeps no_read no_length = absurd (no_read refl)
-front_at_end (Err run_fault.TooLong) (Some all) bytes a b is part keeps no_read no_length = absurd (no_length refl)
 
 -- after either fault a front of an output was written
-pub front_of_end : (r : Result Ended RunFault) (input : Option (List ℕ)) (bytes : List ℕ)
+pub front_of_end : {T E : Type 0} (r : Result T E) (e : OutputFault) (input : Option (List ℕ)) (bytes : List ℕ)
     (old new a b : Option (List ℕ)) → IfSome input (λ all. bytes ≡ all) → a ≡ old → b ≡ new
-    → (IsErrOf r run_fault.WriteFailed → HasNoAclLine bytes → HasOutput (script_of bytes) (AppendsPart a b))
-    → (IsErrOf r run_fault.Memory → Keeps a b) → (IsErrOf r run_fault.ReadFailed → ⊥)
-    → (IsErrOf r run_fault.TooLong → ⊥)
+    → (e ≡ output_fault.WriteFailed → HasNoAclLine bytes → HasOutput (script_of bytes) (AppendsPart a b))
+    → (e ≡ output_fault.Memory → Keeps a b)
     → IfErr r (λ _. IfSome input (λ all. HasNoAclLine all → HasOutput (script_of all) (AppendsFront old new)))
-front_of_end r input bytes old new a b is first last part keeps no_read no_length =
-    subst (λ w. IfErr r (λ _. IfSome input (λ all. HasNoAclLine all → HasOutput (script_of all) (AppendsFront w new))))
-    first
-    (subst (λ w. IfErr r (λ _. IfSome input (λ all. HasNoAclLine all → HasOutput (script_of all) (AppendsFront a w))))
-    last (front_at_end r input bytes a b is part keeps no_read no_length))
+front_of_end (Ok x) e input bytes old new a b is first last part keeps = tt
+front_of_end (Err x) e input bytes old new a b is first last part keeps =
+    subst (λ w. IfSome input (λ all. HasNoAclLine all → HasOutput (script_of all) (AppendsFront w new))) first
+    (subst (λ w. IfSome input (λ all. HasNoAclLine all → HasOutput (script_of all) (AppendsFront a w))) last
+    (front_at_end e input bytes a b is part keeps))
 
 pub fault_written : (f : fault.Fault) (text : List ℕ) (a b : Option (List ℕ)) → text ≡ fault_text f
     → Appends a b text → Writes (Err f) Fault a b

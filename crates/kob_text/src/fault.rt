@@ -18,6 +18,13 @@ pub enum RunFault {
     Memory,
 }
 
+/// What kept the output of a script that was read from being written.
+#[derive(Clone, Copy, Debug, PartialEq, Eq)]
+pub enum OutputFault {
+    WriteFailed,
+    Memory,
+}
+
 impl From<AllocError> for RunFault {
     ghost use Rattle.std.specs.Prelude.{◌≡◌};
     ghost use Rattle.kob_text.specs.declared.fault.RunFault.TheVariants.{Memory};
@@ -51,13 +58,38 @@ impl From<ReadFailed> for RunFault {
     }
 }
 
-impl From<WriteFailed> for RunFault {
+impl From<OutputFault> for RunFault {
     ghost use Rattle.std.specs.Prelude.{◌≡◌};
-    ghost use Rattle.kob_text.specs.declared.fault.RunFault.TheVariants as variant;
+    ghost use Rattle.kob_text.specs.Faults.{run_fault};
+
+    ghost from_gives = { λ output fault. fault ≡ run_fault output };
+
+    fn from(fault: OutputFault) -> RunFault {
+        match fault {
+            OutputFault::WriteFailed => RunFault::WriteFailed,
+            OutputFault::Memory => RunFault::Memory,
+        }
+    }
+}
+
+impl From<AllocError> for OutputFault {
+    ghost use Rattle.std.specs.Prelude.{◌≡◌};
+    ghost use Rattle.kob_text.specs.declared.fault.OutputFault.TheVariants.{Memory};
+
+    ghost from_gives = { λ _ fault. fault ≡ Memory };
+
+    fn from(_error: AllocError) -> OutputFault {
+        OutputFault::Memory
+    }
+}
+
+impl From<WriteFailed> for OutputFault {
+    ghost use Rattle.std.specs.Prelude.{◌≡◌};
+    ghost use Rattle.kob_text.specs.declared.fault.OutputFault.TheVariants as variant;
 
     ghost from_gives = { λ _ fault. fault ≡ variant.WriteFailed };
 
-    fn from(_failed: WriteFailed) -> RunFault {
-        RunFault::WriteFailed
+    fn from(_failed: WriteFailed) -> OutputFault {
+        OutputFault::WriteFailed
     }
 }

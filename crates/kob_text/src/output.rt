@@ -10,7 +10,7 @@ ghost use Rattle.kob_script.specs.Blocks.{AreWholeLines};
 ghost use Rattle.kob_script.specs.Script.{script_of};
 ghost use Rattle.kob_script.specs.ScriptReadings.{HasNoAclLine};
 
-use crate::fault::RunFault;
+use crate::fault::OutputFault;
 use crate::replies::write_run;
 use crate::sink::Sink;
 use crate::transfer::write_all;
@@ -30,13 +30,13 @@ pub enum Ended {
     Stopped,
 }
 
-/// Runs a script in blocks of whole lines and writes its output. The error is `WriteFailed`, or `Memory` before the first
+/// Runs a script in blocks of whole lines and writes its output. `Memory` comes before the first
 /// request.
 pub fn write_output<W: Write>(
     alloc: Global,
     sink: &mut Sink<'_, W>,
     blocks: Vec<Bytes>,
-) -> Result<Ended, RunFault>
+) -> Result<Ended, OutputFault>
     requires whole { AreWholeLines blocks.items }
     requires short { length (concat blocks.items) ≤ script_limit }
     ensures same_reference { sink.new.writer.ghost_name ≡ sink.old.writer.ghost_name }
@@ -45,21 +45,19 @@ pub fn write_output<W: Write>(
     ensures plain { IfOk result (λ ended. HasNoAclLine (concat blocks.items)
         → Writes (script_of (concat blocks.items)) ended
         (W.contents sink.old.writer.now) (W.contents sink.new.writer.now)) }
-    ensures part_any { IsErrOf result RunFault.WriteFailed
+    ensures part_any { IsErrOf result OutputFault.WriteFailed
         → HasReading (concat blocks.items) (λ read. HasOutput read
         (AppendsPart (W.contents sink.old.writer.now) (W.contents sink.new.writer.now))) }
-    ensures part { IsErrOf result RunFault.WriteFailed → HasNoAclLine (concat blocks.items)
+    ensures part { IsErrOf result OutputFault.WriteFailed → HasNoAclLine (concat blocks.items)
         → HasOutput (script_of (concat blocks.items))
         (AppendsPart (W.contents sink.old.writer.now) (W.contents sink.new.writer.now)) }
-    ensures memory { IsErrOf result RunFault.Memory
+    ensures memory { IsErrOf result OutputFault.Memory
         → Keeps (W.contents sink.old.writer.now) (W.contents sink.new.writer.now) }
-    ensures failed { IsErrOf result RunFault.WriteFailed → sink.new.failed ≡ true }
-    ensures not_read { IsErrOf result RunFault.ReadFailed → ⊥ }
-    ensures not_too_long { IsErrOf result RunFault.TooLong → ⊥ }
+    ensures failed { IsErrOf result OutputFault.WriteFailed → sink.new.failed ≡ true }
 {
     match check_script(alloc, blocks) {
         Ok(script) => write_run(alloc, sink, script),
-        Err(ScriptError::Memory) => Err(RunFault::Memory),
+        Err(ScriptError::Memory) => Err(OutputFault::Memory),
         Err(ScriptError::Fault(fault)) => write_fault(alloc, sink, fault),
     }
 }
@@ -68,17 +66,15 @@ fn write_fault<W: Write>(
     alloc: Global,
     sink: &mut Sink<'_, W>,
     fault: Fault,
-) -> Result<Ended, RunFault>
+) -> Result<Ended, OutputFault>
     ensures same_reference { sink.new.writer.ghost_name ≡ sink.old.writer.ghost_name }
     ensures output { IfOk result (λ ended. Writes (Err fault) ended
         (W.contents sink.old.writer.now) (W.contents sink.new.writer.now)) }
-    ensures part { IsErrOf result RunFault.WriteFailed → HasOutput (Err fault)
+    ensures part { IsErrOf result OutputFault.WriteFailed → HasOutput (Err fault)
         (AppendsPart (W.contents sink.old.writer.now) (W.contents sink.new.writer.now)) }
-    ensures memory { IsErrOf result RunFault.Memory
+    ensures memory { IsErrOf result OutputFault.Memory
         → Keeps (W.contents sink.old.writer.now) (W.contents sink.new.writer.now) }
-    ensures failed { IsErrOf result RunFault.WriteFailed → sink.new.failed ≡ true }
-    ensures not_read { IsErrOf result RunFault.ReadFailed → ⊥ }
-    ensures not_too_long { IsErrOf result RunFault.TooLong → ⊥ }
+    ensures failed { IsErrOf result OutputFault.WriteFailed → sink.new.failed ≡ true }
 {
     let mut text = Vec::new(alloc);
     print_fault(&mut text, fault)?;

@@ -1,27 +1,25 @@
 //! Writing in pieces: texts are held until there are 65,536 bytes of them.
 
 ghost use Rattle.std.specs.Prelude.{◌≡◌, ◌≤◌, ◌++◌, vec_len, vec_capacity};
-ghost use Rattle.std.specs.Prelude.{OnOk, OnErr, IfErr, true};
+ghost use Rattle.std.specs.Prelude.{OnOk, OnErr, true};
 ghost use Rattle.std.specs.Io.KnownBytes.{Appends};
 ghost use Rattle.kob_script.specs.PrintedReply.{stopped_text};
 ghost use Rattle.kob_text.specs.Limits.{piece_limit};
 ghost use Rattle.kob_text.specs.Transfer.{AppendsPart, AppendsAllBut};
 
-use crate::fault::RunFault;
 use crate::limits::PIECE_LIMIT;
-use crate::sink::Sink;
+use crate::sink::{Sink, WriteFailed};
 use crate::transfer::write_all;
 use itoa::Buffer;
 use std::io::Write;
 
 /// Puts a text behind what is held. Where there would be more than 65,536 bytes, what is held is
-/// written first, and the text too where it alone is longer. No memory is taken. The fault is
-/// `WriteFailed`.
+/// written first, and the text too where it alone is longer. No memory is taken.
 pub fn put<W: Write>(
     sink: &mut Sink<'_, W>,
     held: &mut Vec<u8>,
     text: &[u8],
-) -> Result<(), RunFault>
+) -> Result<(), WriteFailed>
     requires piece { vec_len held.old ≤ piece_limit }
     requires room { piece_limit ≤ vec_capacity held.old }
     ensures piece { vec_len held.new ≤ piece_limit }
@@ -33,10 +31,9 @@ pub fn put<W: Write>(
         (W.contents sink.new.writer.now) (held.old.items ++ text.now)) }
     ensures sound { OnOk result (sink.new.failed ≡ sink.old.failed) }
     ensures failed { OnErr result (sink.new.failed ≡ true) }
-    ensures fault { IfErr result (λ fault. fault ≡ RunFault.WriteFailed) }
 {
     if text.len() <= PIECE_LIMIT - held.len() {
-        held.extend_from_slice(text)?;
+        held.extend_from_slice(text).unwrap();
         return Ok(());
     }
     write_all(sink, held)?;
@@ -44,17 +41,16 @@ pub fn put<W: Write>(
     if text.len() > PIECE_LIMIT {
         return write_all(sink, text);
     }
-    held.extend_from_slice(text)?;
+    held.extend_from_slice(text).unwrap();
     Ok(())
 }
 
-/// Writes what is held, and then the line `stopped after DONE` with its line feed. The fault is
-/// `WriteFailed`.
+/// Writes what is held, and then the line `stopped after DONE` with its line feed.
 pub fn write_stopped<W: Write>(
     sink: &mut Sink<'_, W>,
     held: &mut Vec<u8>,
     done: u64,
-) -> Result<(), RunFault>
+) -> Result<(), WriteFailed>
     requires piece { vec_len held.old ≤ piece_limit }
     requires room { piece_limit ≤ vec_capacity held.old }
     ensures same_reference { sink.new.writer.ghost_name ≡ sink.old.writer.ghost_name }
@@ -63,7 +59,6 @@ pub fn write_stopped<W: Write>(
     ensures part { OnErr result (AppendsPart (W.contents sink.old.writer.now)
         (W.contents sink.new.writer.now) (held.old.items ++ stopped_text done)) }
     ensures failed { OnErr result (sink.new.failed ≡ true) }
-    ensures fault { IfErr result (λ fault. fault ≡ RunFault.WriteFailed) }
 {
     let mut digits = Buffer::new();
     put(sink, held, b"stopped after ")?;

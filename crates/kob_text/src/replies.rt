@@ -2,7 +2,7 @@
 
 ghost use Rattle.std.specs.Prelude.{◌≡◌, ◌<◌, ◌≤◌, List, [], ◌∷◌, Ok, length, true};
 ghost use Rattle.std.specs.Prelude.{vec_len, vec_capacity};
-ghost use Rattle.std.specs.Prelude.{IfOk, IfErr, OnOk, OnErr, IsErrOf};
+ghost use Rattle.std.specs.Prelude.{IfOk, OnOk, OnErr, IsErrOf};
 ghost use Rattle.std.specs.Io.KnownBytes.{Keeps};
 ghost use Rattle.kob_broker.specs.Change.{state_of};
 ghost use Rattle.kob_broker.specs.Step.{step, replies_of};
@@ -15,11 +15,11 @@ ghost use Rattle.kob_text.specs.Output.{HasOutput, Writes, replies_to};
 ghost use Rattle.kob_text.specs.Runs.{WritesRun, WritesPartOfRun, replies_from};
 ghost use Rattle.kob_text.specs.Transfer.{AppendsPart};
 
-use crate::fault::RunFault;
+use crate::fault::OutputFault;
 use crate::limits::PIECE_LIMIT;
 use crate::output::Ended;
 use crate::pieces::{put, write_stopped};
-use crate::sink::Sink;
+use crate::sink::{Sink, WriteFailed};
 use crate::transfer::write_all;
 use kob_broker::{Broker, OpenFault};
 use kob_names::Settings;
@@ -29,14 +29,13 @@ use std::alloc::{AllocError, Global};
 use std::io::Write;
 
 // A script opens no bindings, so that lack of memory is the only error.
-fn broker_by(alloc: Global, settings: Settings) -> Result<Broker, RunFault>
-    ensures answers { IfOk result (λ broker. (events : List event.Event)
+fn broker_by(alloc: Global, settings: Settings) -> Result<Broker, AllocError>
+    ensures { IfOk result (λ broker. (events : List event.Event)
         → replies_of retained_meaning events (state_of broker) ≡ replies_to settings events) }
-    ensures memory { IfErr result (λ fault. fault ≡ RunFault.Memory) }
 {
     match Broker::open(alloc, settings) {
         Ok(broker) => Ok(broker),
-        Err(OpenFault::Memory | OpenFault::TooMany) => Err(RunFault::Memory),
+        Err(OpenFault::Memory | OpenFault::TooMany) => Err(AllocError),
     }
 }
 
@@ -80,15 +79,14 @@ fn print_next(
 
 /// Serves requests and writes the replies as they are made, at most 65,536 bytes or one reply at a
 /// time. Each event is read when it is its turn and given away to the broker, and what the broker
-/// doesn't keep of it is freed before the next. Lack of memory ends the run as `Stopped`. The fault
-/// is `WriteFailed`.
+/// doesn't keep of it is freed before the next. Lack of memory ends the run as `Stopped`.
 fn write_replies<W: Write>(
     alloc: Global,
     sink: &mut Sink<'_, W>,
     held: &mut Vec<u8>,
     broker: &mut Broker,
     mut requests: Requests,
-) -> Result<Ended, RunFault>
+) -> Result<Ended, WriteFailed>
     requires none { held.old.items ≡ [] }
     requires piece { vec_len held.old ≤ piece_limit }
     requires room { piece_limit ≤ vec_capacity held.old }
@@ -98,7 +96,6 @@ fn write_replies<W: Write>(
     ensures part { OnErr result (WritesPartOfRun (replies_from (state_of broker.old)) requests
         (W.contents sink.old.writer.now) (W.contents sink.new.writer.now)) }
     ensures failed { OnErr result (sink.new.failed ≡ true) }
-    ensures fault { IfErr result (λ fault. fault ≡ RunFault.WriteFailed) }
 {
     let mut text = Vec::new(alloc);
     for done in 0..requests.len() {
@@ -117,20 +114,19 @@ pub fn write_run<W: Write>(
     alloc: Global,
     sink: &mut Sink<'_, W>,
     script: CheckedScript,
-) -> Result<Ended, RunFault>
+) -> Result<Ended, OutputFault>
     ensures same_reference { sink.new.writer.ghost_name ≡ sink.old.writer.ghost_name }
     ensures output { IfOk result (λ ended. Writes (Ok (checked script)) ended
         (W.contents sink.old.writer.now) (W.contents sink.new.writer.now)) }
-    ensures part { IsErrOf result RunFault.WriteFailed → HasOutput (Ok (checked script))
+    ensures part { IsErrOf result OutputFault.WriteFailed → HasOutput (Ok (checked script))
         (AppendsPart (W.contents sink.old.writer.now) (W.contents sink.new.writer.now)) }
-    ensures memory { IsErrOf result RunFault.Memory
+    ensures memory { IsErrOf result OutputFault.Memory
         → Keeps (W.contents sink.old.writer.now) (W.contents sink.new.writer.now) }
-    ensures failed { IsErrOf result RunFault.WriteFailed → sink.new.failed ≡ true }
-    ensures not_read { IsErrOf result RunFault.ReadFailed → ⊥ }
-    ensures not_too_long { IsErrOf result RunFault.TooLong → ⊥ }
+    ensures failed { IsErrOf result OutputFault.WriteFailed → sink.new.failed ≡ true }
 {
     let CheckedScript { settings, requests } = script;
     let mut broker = broker_by(alloc, settings)?;
     let mut held = Vec::with_capacity(alloc, PIECE_LIMIT)?;
-    write_replies(alloc, sink, &mut held, &mut broker, requests)
+    let ended = write_replies(alloc, sink, &mut held, &mut broker, requests)?;
+    Ok(ended)
 }

@@ -57,5 +57,6 @@ pub fn run_text<R: Read, W: Write>(
         → IfSome (R.remaining reader.old) (λ input. length input ≤ script_limit) }
 {
     let blocks = read_all(alloc, &mut Source::new(reader))?;
-    write_output(alloc, &mut Sink::new(writer), blocks)
+    let ended = write_output(alloc, &mut Sink::new(writer), blocks)?;
+    Ok(ended)
 }

@@ -2,7 +2,7 @@
 
 ghost use Rattle.std.specs.List.{concat};
 ghost use Rattle.std.specs.Prelude.{◌≡◌, ◌⊎◌, ◌<◌, ◌≤◌, true, length};
-ghost use Rattle.std.specs.Prelude.{IfOk, IfErr, IfSome, OnOk, OnErr, IsErrOf};
+ghost use Rattle.std.specs.Prelude.{IfOk, IfSome, OnOk, OnErr, IsErrOf};
 ghost use Rattle.std.specs.Io.KnownBytes.{Appends};
 ghost use Rattle.kob_script.specs.Blocks.{AreWholeLines};
 ghost use Rattle.kob_text.specs.Limits.{script_limit};
@@ -11,7 +11,7 @@ ghost use Rattle.kob_text.specs.Transfer.{AppendsPart};
 use crate::fault::RunFault;
 use crate::input::Input;
 use crate::limits::SCRIPT_LIMIT;
-use crate::sink::Sink;
+use crate::sink::{Sink, WriteFailed};
 use crate::source::Source;
 use kob_names::Bytes;
 use std::alloc::Global;
@@ -47,9 +47,8 @@ pub fn read_all<R: Read>(alloc: Global, source: &mut Source<'_, R>) -> Result<Ve
     }
 }
 
-/// Writes all of the text. After the fault, which is `WriteFailed`, the writer has taken a front of
-/// it, and not all.
-pub fn write_all<W: Write>(sink: &mut Sink<'_, W>, text: &[u8]) -> Result<(), RunFault>
+/// Writes all of the text. After a failure the writer has taken a front of it, and not all.
+pub fn write_all<W: Write>(sink: &mut Sink<'_, W>, text: &[u8]) -> Result<(), WriteFailed>
     ensures same_reference { sink.new.writer.ghost_name ≡ sink.old.writer.ghost_name }
     ensures whole { OnOk result
         (Appends (W.contents sink.old.writer.now) (W.contents sink.new.writer.now) text.now) }
@@ -57,7 +56,6 @@ pub fn write_all<W: Write>(sink: &mut Sink<'_, W>, text: &[u8]) -> Result<(), Ru
         (AppendsPart (W.contents sink.old.writer.now) (W.contents sink.new.writer.now) text.now) }
     ensures sound { OnOk result (sink.new.failed ≡ sink.old.failed) }
     ensures failed { OnErr result (sink.new.failed ≡ true) }
-    ensures fault { IfErr result (λ fault. fault ≡ RunFault.WriteFailed) }
 {
     let mut rest = text;
     while !rest.is_empty() {

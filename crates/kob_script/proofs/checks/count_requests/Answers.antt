@@ -3,7 +3,7 @@ use Rattle.kob_rights.specs.declared.event.Event.{Event}
 use Rattle.kob_script.specs.Checks.{script_so_far}
 use Rattle.kob_script.specs.declared.fault.FaultKind.{FaultKind}
 use Rattle.kob_script.specs.Reading.{◌>>=◌}
-use Rattle.kob_script.proofs.CountedLines.{were_counted}
+use Rattle.kob_script.proofs.LineFaults.{were_counted}
 use Rattle.kob_script.proofs.checks.count_requests.Goals as goal
 
 pub returns : goal.returns

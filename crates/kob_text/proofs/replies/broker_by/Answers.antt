@@ -2,6 +2,6 @@ use Rattle.kob_broker.specs.State.{open_state}
 use Rattle.kob_broker.proofs.Lifting.{runs_alike}
 use Rattle.kob_text.proofs.replies.broker_by.Goals as goal
 
-pub returns-in-Ok-clause-answers : goal.returns-in-Ok-clause-answers
-returns-in-Ok-clause-answers c = λ events.
+pub returns-in-Ok : goal.returns-in-Ok
+returns-in-Ok c = λ events.
     rw c.in-Ok.ensures.ok ((runs_alike (open_state c.args.settings) events).replies)

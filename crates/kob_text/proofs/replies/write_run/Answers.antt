@@ -1,4 +1,4 @@
-use Rattle.std.proofs.Common.{refl}
+use Rattle.std.proofs.Common.{Err, Ok, refl}
 use Rattle.kob_broker.specs.Change.{state_of}
 use Rattle.kob_script.specs.Checks.{checked}
 use Rattle.kob_text.specs.Runs.{replies_from}
@@ -8,9 +8,9 @@ use Rattle.kob_text.proofs.replies.write_run.Goals as goal
 pub returns-clause-output : goal.returns-clause-output
 returns-clause-output g c =
     run_is_output (checked c.args.script) (replies_from (state_of c.in_ok-broker.broker)) c.args.script.requests refl
-    c.in_ok-broker.ensures.answers c.write_replies.result _ _ c.write_replies.ensures.output
+    c.in_ok-broker.ensures {E = Unit {0}} (Ok c.in_ok-ended.ended) _ _ c.in_ok-ended.ensures.output
 
-pub returns-clause-part : goal.returns-clause-part
-returns-clause-part g c =
+pub returns-in_err-ended-clause-part : goal.returns-in_err-ended-clause-part
+returns-in_err-ended-clause-part g c = λ failed.
     part_is_of_output (checked c.args.script) (replies_from (state_of c.in_ok-broker.broker)) c.args.script.requests
-    refl c.in_ok-broker.ensures.answers c.write_replies.result _ _ _ c.write_replies.ensures.part
+    refl c.in_ok-broker.ensures {E = Unit {0}} (Err tt) tt _ _ c.in_err-ended.ensures.part refl
