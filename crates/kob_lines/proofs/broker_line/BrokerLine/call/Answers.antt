@@ -1,0 +1,14 @@
+use Rattle.std.proofs.Common.{ap, subst}
+use Rattle.kob_broker.specs.Change.{state_of}
+use Rattle.kob_rights.specs.Bodies.{Fits}
+use Rattle.kob_rights.specs.declared.event.Event.{Event}
+use Rattle.kob_rights.specs.declared.request.Request.{Request}
+use Rattle.kob_lines.proofs.Fitting.{step_fits}
+use Rattle.kob_lines.proofs.broker_line.BrokerLine.call.Goals as goal
+
+pub returns-clause-fits : goal.returns-clause-fits
+returns-clause-fits c =
+    let made = c.in_ok-event in
+    let told = c.in_ok-reply in
+    subst (λ (request : Request). Fits request told.reply) (ap (λ (e : Event). e.request) made.ensures)
+    (step_fits (state_of c.args.self.now.broker.now) made.event told.reply told.ensures.reply)

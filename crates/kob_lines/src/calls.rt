@@ -1,0 +1,100 @@
+//! What a line keeps of its calls.
+
+ghost use Rattle.std.specs.Prelude.{◌≡◌, ◌<◌, [], None, IfSome, IfNone, OnSome};
+ghost use Rattle.std.specs.Prelude.{vec_capacity, vec_len};
+ghost use Rattle.kob_lines.specs.Heard.{IsHeardOf};
+ghost use Rattle.kob_rights.specs.Bodies.{Fits};
+ghost use Rattle.kob_rights.specs.Offsets.{OffsetsWithin};
+ghost use Rattle.kob_router.specs.Line.{Adds, IsFaithful, one_more};
+
+use kob_names::PlainValue;
+use kob_rights::{Reply, Request};
+use kob_router::{Call, Delivery};
+use kob_shared::CallFault;
+use std::alloc::Global;
+
+/// The calls of a line, the oldest first. A line makes room for a call before it makes it, and
+/// notes it after, so that each call that was made is noted.
+#[derive(Drop)]
+pub struct Calls {
+    pub made: Vec<Call>,
+    /// How often there was no memory to note a call, which was then not made, counted up to
+    /// 18,446,744,073,709,551,615.
+    pub unmade: u64,
+    /// Why the last call was not heard: it was not made or not served, or its reply could not be
+    /// kept. `None` where it was heard, or lost on purpose.
+    pub fault: Option<CallFault>,
+}
+
+impl Calls {
+    /// No calls. No memory is taken.
+    pub fn new(alloc: Global) -> Calls
+        ensures made { result.made.items ≡ [] }
+        ensures unmade { result.unmade ≡ 0 }
+        ensures fault { result.fault ≡ None }
+    {
+        Calls {
+            made: Vec::new(alloc),
+            unmade: 0,
+            fault: None,
+        }
+    }
+
+    /// Makes room for one more call, and gives an equal request to note it by. `None` where memory
+    /// is refused: the call is not to be made, and is counted.
+    pub fn room_for(&mut self, alloc: Global, request: &Request) -> Option<Request>
+        ensures made { self.new.made.items ≡ self.old.made.items }
+        ensures room { OnSome result (vec_len self.new.made < vec_capacity self.new.made) }
+        ensures same { IfSome result (λ noted. noted ≡ request.now) }
+        ensures counted { OnSome result (self.new.unmade ≡ self.old.unmade) }
+        ensures refused { IfNone result (self.new.unmade ≡ one_more self.old.unmade) }
+    {
+        if self.made.reserve(1).is_ok()
+            && let Ok(noted) = request.copy(alloc)
+        {
+            self.fault = None;
+            return Some(noted);
+        }
+        self.unmade = self.unmade.saturating_add(1);
+        self.fault = Some(CallFault::Memory);
+        None
+    }
+
+    /// Notes a call, for which there is room, with what was heard of it. Where there is no memory
+    /// for a second copy of the reply, it was not heard.
+    pub fn note(&mut self, alloc: Global, request: Request, heard: Option<Reply>) -> Delivery
+        requires room { vec_len self.old.made < vec_capacity self.old.made }
+        requires fits { IfSome heard (λ reply. Fits request reply) }
+        requires within { IfSome heard (λ reply. OffsetsWithin reply) }
+        ensures added { Adds self.old.made.items self.new.made.items self.old.unmade self.new.unmade
+            request result }
+        ensures faithful { IsFaithful request result }
+        ensures heard { IsHeardOf heard result }
+    {
+        let Some(reply) = heard else {
+            self.made.push_reserved(Call {
+                request,
+                heard: None,
+            });
+            return Delivery::Lost;
+        };
+        match reply.copy(alloc) {
+            Ok(kept) => {
+                self.made.push_reserved(Call {
+                    request,
+                    heard: Some(kept),
+                });
+                Delivery::Delivered(reply)
+            }
+            Err(_) => {
+                drop(reply);
+                self.fault = Some(CallFault::Memory);
+                self.made.push_reserved(Call {
+                    request,
+                    heard: None,
+                });
+                Delivery::Lost
+            }
+        }
+    }
+}

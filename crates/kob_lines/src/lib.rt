@@ -1,0 +1,17 @@
+//! Lines to a broker: over a borrowed one, over one with a journal, over a session, and a line that
+//! loses calls on purpose.
+#![tactic(auto)]
+
+mod broker_line;
+mod calls;
+mod event;
+mod lossy;
+mod offsets;
+mod recorded_line;
+mod session_line;
+
+pub use broker_line::BrokerLine;
+pub use calls::Calls;
+pub use lossy::{Loss, Lossy};
+pub use recorded_line::RecordedLine;
+pub use session_line::SessionLine;

@@ -1,0 +1,126 @@
+//! A line that loses calls on purpose.
+
+ghost use Rattle.std.specs.Prelude.{◌≡◌, [], None};
+ghost use Rattle.std.specs.Prelude.{IfSome};
+ghost use Rattle.kob_rights.specs.Bodies.{Fits};
+ghost use Rattle.kob_rights.specs.Offsets.{OffsetsWithin};
+ghost use Rattle.kob_lines.specs.Heard.{PassesOn, reply_of};
+ghost use Rattle.kob_router.specs.Line.{Adds, IsFaithful};
+
+use crate::calls::Calls;
+use kob_rights::{Reply, Request};
+use kob_router::{Call, Delivery, Line};
+use std::alloc::Global;
+
+/// What becomes of a call.
+#[derive(Clone, Copy, Debug, PartialEq, Eq)]
+pub enum Loss {
+    /// It is served, and its reply is heard.
+    None,
+    /// It never reaches the broker.
+    BeforeServe,
+    /// It is served, and its reply is lost.
+    AfterServe,
+}
+
+/// A line over another one, which loses the calls that were named before. Its calls are those that
+/// were made of it; the line below has those that reached it, with the replies that it gave.
+#[derive(Drop)]
+pub struct Lossy<L> {
+    pub line: L,
+    /// What becomes of the next call. All after it are heard.
+    pub loss: Loss,
+    pub calls: Calls,
+}
+
+impl<L: Line> Lossy<L> {
+    /// A line that has made no call, and loses none. No memory is taken.
+    pub fn over(alloc: Global, line: L) -> Lossy<L>
+        ensures line { result.line ≡ line }
+        ensures loss { result.loss ≡ Loss.None }
+        ensures made { result.calls.made.items ≡ [] }
+        ensures unmade { result.calls.unmade ≡ 0 }
+        ensures fault { result.calls.fault ≡ None }
+    {
+        Lossy {
+            line,
+            loss: Loss::None,
+            calls: Calls::new(alloc),
+        }
+    }
+
+    /// Says what becomes of the next call. All after it are heard.
+    pub fn lose(&mut self, loss: Loss)
+        ensures { self.new ≡ record self.old { loss = loss } }
+    {
+        self.loss = loss;
+    }
+
+    /// The line below, and the calls that were made, the oldest first. No memory is taken.
+    pub fn close(self) -> (L, Vec<Call>)
+        ensures line { result.0 ≡ self.line }
+        ensures calls { result.1.items ≡ self.calls.made.items }
+    {
+        let Lossy {
+            line,
+            loss: _,
+            calls,
+        } = self;
+        (line, calls.made)
+    }
+}
+
+impl<L: Line> Line for Lossy<L> {
+    ghost calls = { λ line. line.calls.made.items };
+
+    ghost unmade = { λ line. line.calls.unmade };
+
+    /// Makes a call, unless it is lost before it is served.
+    fn send(&mut self, alloc: Global, request: Request) -> Delivery
+        ensures added { Adds self.old.calls.made.items self.new.calls.made.items
+            self.old.calls.unmade self.new.calls.unmade request result }
+        ensures faithful { IsFaithful request result }
+        ensures loss { self.new.loss ≡ Loss.None }
+        ensures passed { PassesOn self.old.loss (L.calls self.old.line) (L.calls self.new.line)
+            request (reply_of result) }
+    {
+        let loss = self.loss;
+        self.loss = Loss::None;
+        let Some(noted) = self.calls.room_for(alloc, &request) else {
+            drop(request);
+            return Delivery::Lost;
+        };
+        let heard = pass_on(&mut self.line, alloc, request, loss);
+        self.calls.note(alloc, noted, heard)
+    }
+
+    fn made_calls(&self) -> &[Call] {
+        &self.calls.made
+    }
+
+    fn unmade_calls(&self) -> u64 {
+        self.calls.unmade
+    }
+}
+
+/// Makes a call of the line, unless it is lost before; the reply, unless it is lost.
+fn pass_on<L: Line>(line: &mut L, alloc: Global, request: Request, loss: Loss) -> Option<Reply>
+    ensures passed { PassesOn loss (L.calls line.old) (L.calls line.new) request result }
+    ensures fits { IfSome result (λ reply. Fits request reply) }
+    ensures within { IfSome result (λ reply. OffsetsWithin reply) }
+{
+    match loss {
+        Loss::BeforeServe => {
+            drop(request);
+            None
+        }
+        Loss::AfterServe => {
+            drop(line.send(alloc, request));
+            None
+        }
+        Loss::None => match line.send(alloc, request) {
+            Delivery::Delivered(reply) => Some(reply),
+            Delivery::Lost => None,
+        },
+    }
+}

@@ -1,0 +1,143 @@
+//! A line over a borrowed broker with its journal.
+
+ghost use Rattle.std.specs.Prelude.{◌≡◌, ◌≤◌, [], None, IfOk, IsErrOf, OnErr, OnOk, length};
+ghost use Rattle.kob_lines.specs.Heard.{IsServedAtMostOnce};
+ghost use Rattle.kob_router.specs.Line.{Adds, IsFaithful};
+ghost use Rattle.kob_shared.specs.Journals.{after_event, outcome_of};
+ghost use Rattle.kob_shared.specs.Sessions.{event_by};
+ghost use Rattle.kob_rights.specs.Bodies.{Fits};
+ghost use Rattle.kob_rights.specs.Offsets.{OffsetsWithin};
+
+use crate::calls::Calls;
+use crate::event::event_of;
+use kob_names::{Host, Principal};
+use kob_rights::{Reply, Request};
+use kob_router::{Call, Delivery, Line};
+use kob_shared::{Recorded, ServeFault};
+use std::alloc::Global;
+
+/// A line of one worker over a broker with its journal, which nobody else uses while the line is
+/// open.
+#[derive(Drop)]
+pub struct RecordedLine<'a> {
+    pub recorded: &'a mut Recorded,
+    /// The number under which the calls stand in the journal.
+    pub worker: usize,
+    pub principal: Principal,
+    pub host: Host,
+    pub calls: Calls,
+}
+
+impl<'a> RecordedLine<'a> {
+    /// A line that has made no call. No memory is taken. Once it is closed, or dropped, the broker
+    /// is free again.
+    pub fn open(
+        alloc: Global,
+        recorded: &'a mut Recorded,
+        worker: usize,
+        principal: Principal,
+        host: Host,
+    ) -> RecordedLine<'a>
+        ensures same_broker { result.recorded.ghost_name ≡ recorded.entry.ghost_name }
+        ensures recorded { result.recorded.now ≡ recorded.old }
+        ensures worker { result.worker ≡ worker }
+        ensures asker { (result.principal ≡ principal) × (result.host ≡ host) }
+        ensures made { result.calls.made.items ≡ [] }
+        ensures unmade { result.calls.unmade ≡ 0 }
+        ensures fault { result.calls.fault ≡ None }
+    {
+        RecordedLine {
+            recorded,
+            worker,
+            principal,
+            host,
+            calls: Calls::new(alloc),
+        }
+    }
+
+    /// Serves one request of the line's principal, which is not noted as a call. The journal gains
+    /// one entry, of this worker with this event and its reply; after a fault it is as before.
+    #[tactic(auto, using(kob_shared::proofs::Bodies::reply_fits, kob_shared::proofs::OffsetBounds::offsets_bounded))]
+    pub fn call(&mut self, alloc: Global, request: Request) -> Result<Reply, ServeFault>
+        ensures same_broker { self.new.recorded.ghost_name ≡ self.old.recorded.ghost_name }
+        ensures worker { self.new.worker ≡ self.old.worker }
+        ensures principal { self.new.principal ≡ self.old.principal }
+        ensures host { self.new.host ≡ self.old.host }
+        ensures calls { self.new.calls ≡ self.old.calls }
+        ensures reply { let event = event_by self.old.principal self.old.host request in
+            IfOk result (λ reply. reply ≡ (outcome_of self.old.recorded.now event).reply) }
+        ensures recorded { let event = event_by self.old.principal self.old.host request in
+            OnOk result (self.new.recorded.now
+            ≡ after_event self.old.recorded.now self.old.worker event) }
+        ensures kept { OnErr result (self.new.recorded.now ≡ self.old.recorded.now) }
+        ensures full { IsErrOf result ServeFault.JournalFull
+            → length self.old.recorded.now.journal ≡ self.old.recorded.now.limit }
+        ensures fits { IfOk result (λ reply. Fits request reply) }
+        ensures offsets { IfOk result (λ reply. OffsetsWithin reply) }
+    {
+        let event = event_of(alloc, &self.principal, &self.host, request)?;
+        let _ = self.recorded.journal();
+        let served = self.recorded.serve_as(alloc, self.worker, &event);
+        drop(event);
+        match served {
+            Ok(receipt) => Ok(receipt.reply),
+            Err(fault) => Err(fault),
+        }
+    }
+
+    /// The calls that were made, the oldest first. The broker is free again; no memory is taken.
+    pub fn close(self) -> Vec<Call>
+        ensures { result.items ≡ self.entry.calls.made.items }
+    {
+        let RecordedLine {
+            recorded: _,
+            worker: _,
+            principal: _,
+            host: _,
+            calls,
+        } = self;
+        calls.made
+    }
+}
+
+impl<'a> Line for RecordedLine<'a> {
+    ghost calls = { λ line. line.calls.made.items };
+
+    ghost unmade = { λ line. line.calls.unmade };
+
+    /// Makes a call: the broker serves it at once, as the line's worker's.
+    fn send(&mut self, alloc: Global, request: Request) -> Delivery
+        ensures added { Adds self.old.calls.made.items self.new.calls.made.items
+            self.old.calls.unmade self.new.calls.unmade request result }
+        ensures faithful { IsFaithful request result }
+        ensures same_broker { self.new.recorded.ghost_name ≡ self.old.recorded.ghost_name }
+        ensures worker { self.new.worker ≡ self.old.worker }
+        ensures principal { self.new.principal ≡ self.old.principal }
+        ensures host { self.new.host ≡ self.old.host }
+        ensures served { let event = event_by self.old.principal self.old.host request in
+            IsServedAtMostOnce self.old.recorded.now
+            (after_event self.old.recorded.now self.old.worker event) self.new.recorded.now
+            (outcome_of self.old.recorded.now event).reply result }
+    {
+        let Some(noted) = self.calls.room_for(alloc, &request) else {
+            drop(request);
+            return Delivery::Lost;
+        };
+        let heard = match self.call(alloc, request) {
+            Ok(reply) => Some(reply),
+            Err(fault) => {
+                self.calls.fault = Some(fault.into());
+                None
+            }
+        };
+        self.calls.note(alloc, noted, heard)
+    }
+
+    fn made_calls(&self) -> &[Call] {
+        &self.calls.made
+    }
+
+    fn unmade_calls(&self) -> u64 {
+        self.calls.unmade
+    }
+}
