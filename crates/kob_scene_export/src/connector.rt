@@ -1,0 +1,117 @@
+//! The router of a service, as Debezium's outbox event router takes it.
+
+ghost use Rattle.std.specs.Prelude.{◌≡◌, ◌++◌, OnOk};
+ghost use Rattle.kob_scene_export.specs.Connector.{table_text};
+ghost use Rattle.kob_scene_export.specs.Connector.{by_text, columns_text, connector_text};
+ghost use Rattle.kob_scene_export.specs.Connector.{converters_text, name_text, placement_text};
+ghost use Rattle.kob_scene_export.specs.Connector.{property_text, replacement_text, route_text, router_text};
+
+use crate::plain::{is_value, push_mark};
+use kob_names::Text;
+use kob_router::{RouteBy, RouteSettings};
+use kob_words::push_bytes;
+use std::alloc::AllocError;
+
+/// Adds a service: a comment with its name, the properties of Debezium's outbox event router, and
+/// as comments the columns of its outbox table. The error is out of memory; `out` has then grown by a
+/// part of it.
+#[tactic(auto, using(kob_words::proofs::Appending::appending))]
+pub fn export_connector(
+    out: &mut Vec<u8>,
+    name: &Text,
+    settings: &RouteSettings,
+) -> Result<(), AllocError>
+    ensures { OnOk result (out.new.items
+        ≡ out.old.items ++ connector_text name.now settings.now) }
+{
+    push_name(out, name)?;
+    push_route(out, settings)?;
+    out.extend_from_slice(columns_text().as_bytes())?;
+    out.extend_from_slice(converters_text().as_bytes())?;
+    out.extend_from_slice(table_text().as_bytes())
+}
+
+/// The transform.
+#[tactic(auto, unfolding(crate::specs::Connector::router_text))]
+fn router_text() -> &'static str
+    ensures { result.now ≡ router_text }
+{
+    "transforms=outbox\ntransforms.outbox.type=io.debezium.transforms.outbox.EventRouter\n"
+}
+
+/// The columns of an event.
+#[tactic(auto, unfolding(crate::specs::Connector::columns_text))]
+fn columns_text() -> &'static str
+    ensures { result.now ≡ columns_text }
+{
+    "transforms.outbox.table.field.event.id=id\ntransforms.outbox.table.field.event.key=aggregateid\ntransforms.outbox.table.field.event.type=type\ntransforms.outbox.table.field.event.payload=payload\n"
+}
+
+/// Keys and values as they are.
+#[tactic(auto, unfolding(crate::specs::Connector::converters_text))]
+fn converters_text() -> &'static str
+    ensures { result.now ≡ converters_text }
+{
+    "key.converter=org.apache.kafka.connect.storage.StringConverter\nvalue.converter=org.apache.kafka.connect.storage.StringConverter\n"
+}
+
+/// The table that is read.
+#[tactic(auto, unfolding(crate::specs::Connector::table_text))]
+fn table_text() -> &'static str
+    ensures { result.now ≡ table_text }
+{
+    "# CREATE TABLE outbox (id uuid PRIMARY KEY,\n#   aggregatetype varchar(255) NOT NULL,\n#   aggregateid varchar(255) NOT NULL,\n#   type varchar(255) NOT NULL,\n#   payload text NOT NULL);\n"
+}
+
+#[tactic(auto, using(kob_words::proofs::Appending::appending), unfolding(crate::specs::Connector::name_text))]
+fn push_name(out: &mut Vec<u8>, name: &Text) -> Result<(), AllocError>
+    ensures { OnOk result (out.new.items ≡ out.old.items ++ name_text name.now) }
+{
+    out.extend_from_slice(b"# service ")?;
+    push_bytes(out, name.as_str().as_bytes())?;
+    out.extend_from_slice(b"\n")
+}
+
+#[tactic(auto, using(kob_words::proofs::Appending::appending), unfolding(crate::specs::Connector::route_text))]
+fn push_route(out: &mut Vec<u8>, settings: &RouteSettings) -> Result<(), AllocError>
+    ensures { OnOk result (out.new.items ≡ out.old.items ++ route_text settings.now) }
+{
+    out.extend_from_slice(router_text().as_bytes())?;
+    out.extend_from_slice(by_text(settings.by).as_bytes())?;
+    push_property(out, replacement_text().as_bytes(), &settings.replacement)?;
+    push_property(out, placement_text().as_bytes(), &settings.placement)
+}
+
+#[tactic(auto, unfolding(crate::specs::Connector::replacement_text))]
+fn replacement_text() -> &'static str
+    ensures { result.now ≡ replacement_text }
+{
+    "transforms.outbox.route.topic.replacement="
+}
+
+#[tactic(auto, unfolding(crate::specs::Connector::placement_text))]
+fn placement_text() -> &'static str
+    ensures { result.now ≡ placement_text }
+{
+    "transforms.outbox.table.fields.additional.placement="
+}
+
+fn by_text(by: RouteBy) -> &'static str
+    ensures { result.now ≡ by_text by }
+{
+    match by {
+        RouteBy::AggregateType => "transforms.outbox.route.by.field=aggregatetype\n",
+        RouteBy::AggregateId => "transforms.outbox.route.by.field=aggregateid\n",
+    }
+}
+
+/// A property is a comment where its value is empty or has to be escaped.
+#[tactic(auto, using(kob_words::proofs::Appending::appending), unfolding(crate::specs::Connector::property_text))]
+fn push_property(out: &mut Vec<u8>, name: &[u8], value: &Text) -> Result<(), AllocError>
+    ensures { OnOk result (out.new.items ≡ out.old.items ++ property_text name.now value.now) }
+{
+    push_mark(out, is_value(value.as_str().as_bytes()))?;
+    out.extend_from_slice(name)?;
+    push_bytes(out, value.as_str().as_bytes())?;
+    out.extend_from_slice(b"\n")
+}

@@ -1,0 +1,3 @@
+pub mod SceneLines
+pub mod ScriptLines
+pub mod Ids

@@ -1,0 +1,82 @@
+-- A scene is read line by line.
+use Rattle.std.proofs.Common.{◌≡◌, ◌+◌, ℕ, false, List, [], ◌∷◌, Option, None, Result, Ok, Err, map, sym, subst, refl}
+use Rattle.kob_acl_cli.specs.declared.args.CliArgs.{CliArgs}
+use Rattle.kob_script.specs.ClapAnswer.{IsAnswerTo}
+use Rattle.kob_script.specs.declared.fault.FaultKind as script_kind
+use Rattle.kob_script.specs.declared.fault.LineError.{LineError}
+use Rattle.kob_script.specs.declared.fault.LineError.TheVariants as line_error
+use Rattle.kob_script.specs.Reading.{Fails as ScriptFails}
+use Rattle.kob_script.specs.Script.{lines_in}
+use Rattle.kob_script.specs.ScriptReadings.{IsAnswerToLine}
+use Rattle.kob_script.specs.Word.{Word}
+use Rattle.kob_script.specs.Words.{words_of}
+use Rattle.kob_scene_text.specs.declared.fault.SceneFault as fault
+use Rattle.kob_scene_text.specs.declared.fault.StepError.{StepError}
+use Rattle.kob_scene_text.specs.declared.fault.StepError.TheVariants.{Memory, Fault}
+use Rattle.kob_scene_text.specs.declared.reading.Reading as code
+use Rattle.kob_scene_text.specs.Reading.{◌>>>◌, as_scripts, step_error}
+use Rattle.kob_scene_text.specs.SceneReadings.{LinesFrom, MayRead, ReadsAs, ReadsLine, ReadsNext, fault_at}
+use Rattle.kob_scene_text.specs.Scenes.{Seen, nothing_yet, so_far, told, with_line, with_words}
+
+-- What the lines that are left may be read as, the text may be.
+abbrev pub Leads : List ℕ → Seen → ℕ → List (List ℕ) → Type 0
+Leads text s number rest = (read : Result Seen fault.SceneFault) → LinesFrom s number rest read → ReadsAs text read
+
+module _ (s : Seen) (line : List ℕ) (reading : code.Reading) where
+  -- a line that was read by clap's answer to its words
+  pub line_read : (words : List Word) (answer : Option CliArgs) (result : Result (Unit {0}) StepError)
+      → words_of line ≡ Ok words → IsAnswerTo words answer → ReadsNext reading result (with_words answer s words)
+      → ReadsLine s line reading result
+  unfolding with_line
+  line_read words answer (Ok done) has is reads =
+      subst (λ (read : Result (List Word) script_kind.FaultKind). (given : Option CliArgs) × IsAnswerToLine read given
+      × ((as_scripts read >>> with_words given s) ≡ Ok (so_far reading))) (sym has) (answer, is, reads)
+  line_read words answer (Err Memory) has is reads = tt
+  line_read words answer (Err (Fault kind)) has is reads =
+      subst (λ (read : Result (List Word) script_kind.FaultKind). (given : Option CliArgs) × IsAnswerToLine read given
+      × ((as_scripts read >>> with_words given s) ≡ Err kind)) (sym has) (answer, is, reads)
+
+  -- a line with an escape that is not whole
+  pub line_fails : (e : LineError) → ScriptFails e (words_of line) → ReadsLine s line reading (Err (step_error e))
+  unfolding with_line
+  line_fails line_error.Memory fails = tt
+  line_fails (line_error.Fault kind) fails =
+      subst (λ (read : Result (List Word) script_kind.FaultKind). (given : Option CliArgs) × IsAnswerToLine read given
+      × ((as_scripts read >>> with_words given s) ≡ as_scripts (Err kind))) (sym fails) (None, tt, refl)
+
+module _ (text : List ℕ) (s : Seen) (number : ℕ) (rest : List (List ℕ)) (line : List ℕ) (more : List (List ℕ))
+    (leads : Leads text s number rest) (split : rest ≡ line ∷ more) where
+  pub line_keeps : (reading : code.Reading) → ReadsLine s line reading (Ok tt)
+      → Leads text (so_far reading) (number + 1) more
+  unfolding LinesFrom
+  line_keeps reading reads =
+      λ read others. leads read (subst (λ (lines : List (List ℕ)). LinesFrom s number lines read) (sym split)
+      (Ok (so_far reading), reads, others))
+
+  pub line_stops : (reading : code.Reading) (e : StepError) → ReadsLine s line reading (Err e)
+      → MayRead text (Err (fault_at number e))
+  unfolding LinesFrom
+  line_stops reading Memory reads = tt
+  line_stops reading (Fault kind) reads =
+      let read : Result Seen fault.SceneFault = Err (record { line = number; kind = kind }) in
+      leads read (subst (λ (lines : List (List ℕ)). LinesFrom s number lines read) (sym split) (Err kind, reads, refl))
+
+pub lines_end : (text : List ℕ) (s : Seen) (number : ℕ) (rest : List (List ℕ)) → Leads text s number rest
+    → rest ≡ [] → ReadsAs text (Ok s)
+unfolding LinesFrom
+lines_end text s number rest leads empty =
+    let read : Result Seen fault.SceneFault = Ok s in
+    leads read (subst (λ (lines : List (List ℕ)). LinesFrom s number lines read) (sym empty) refl)
+
+pub lines_begin : (text : List ℕ) (reading : code.Reading) → reading.supers.items ≡ [] → reading.everyone ≡ false
+    → reading.services.items ≡ [] → reading.consumers.items ≡ [] → reading.steps.items ≡ []
+    → Leads text (so_far reading) 1 (lines_in text)
+lines_begin text reading nobody closed unserved unread still =
+    let same : so_far reading ≡ nothing_yet =
+    λ i. record {
+      settings = record { supers = nobody i; opening = []; everyone = closed i };
+      services = unserved i;
+      consumers = unread i;
+      steps = map told (still i);
+    } in
+    λ read may. subst (λ (s : Seen). LinesFrom s 1 (lines_in text) read) same may

@@ -1,0 +1,112 @@
+-- A script reads as the scene that it is.
+use Rattle.std.proofs.Common.{◌≡◌, ◌∙◌, ◌+◌, ◌&&◌, ℕ, Bool, true, false, if◌then◌else◌, List, [], ◌∷◌, ◌++◌, Option, None, Result, Ok, Err, map, nat_lt, length, suc, ◌==◌, rules, tests, sym, ap, refl}
+use Rattle.std.proofs.lemmas.List.{map-append}
+use Rattle.std.specs.List.{list_all}
+use Rattle.kob_acl_cli.specs.declared.args.CliArgs.{CliArgs}
+use Rattle.kob_names.specs.declared.settings.Settings.{Settings}
+use Rattle.kob_rights.specs.declared.event.Event.{Event}
+use Rattle.kob_script.specs.CommandLines.{events_of}
+use Rattle.kob_script.specs.declared.fault.Fault as script_fault
+use Rattle.kob_script.specs.declared.fault.FaultKind as script_kind
+use Rattle.kob_script.specs.declared.fault.FaultKind.TheVariants.{LateSetting}
+use Rattle.kob_script.specs.declared.script.Script.{Script}
+use Rattle.kob_script.specs.Reading.{◌>>=◌}
+use Rattle.kob_script.specs.Script as script
+use Rattle.kob_script.specs.ScriptReadings as script_readings
+use Rattle.kob_script.specs.Settings.{is_setting, settings_with}
+use Rattle.kob_script.specs.Word.{Word}
+use Rattle.kob_script.specs.Words.{words_of}
+use Rattle.kob_scene_text.specs.declared.fault.SceneFaultKind.{SceneFaultKind}
+use Rattle.kob_scene_text.specs.declared.fault.SceneFaultKind.TheVariants as kinds
+use Rattle.kob_scene_text.specs.declared.line.Head.{Head}
+use Rattle.kob_scene_text.specs.declared.line.Head.TheVariants.{Setting, Service, Consumer, Journal, Law, Of, Unknown, Request}
+use Rattle.kob_scene_text.specs.Heads.{head_by_word}
+use Rattle.kob_scene_text.specs.Reading.{◌>>>◌, as_scripts}
+use Rattle.kob_scene_text.specs.SceneReadings.{LinesFrom, ReadsAs, ThenLines}
+use Rattle.kob_scene_text.specs.Scenes.{Seen, asked, with_head, with_line, with_setting, with_steps, with_words}
+use Rattle.kob_scene_text.specs.ScriptScenes.{HasNoWorkerLine, as_line, as_scene, is_request, is_script_line, scene_of}
+
+both : (a b : Bool) → (a && b) ≡ true → (a ≡ true) × (b ≡ true)
+both true b e = (refl, e)
+both false b e = absurd cc
+
+settings_alike : (read : Result Settings script_kind.FaultKind)
+    → (as_scripts read >>> λ settings. Ok (scene_of (record { settings = settings; events = [] })))
+    ≡ as_line (read >>= λ settings. Ok (record { settings = settings; events = [] }))
+settings_alike (Ok settings) = refl
+settings_alike (Err kind) = refl
+
+not_none : (n : ℕ) → (suc n == 0) ≡ false
+not_none n = search (rules, tests)
+
+some : (n : ℕ) → nat_lt 0 (suc n) ≡ true
+some n = search (rules, tests)
+
+late_alike : (early late : Bool) (x : Result Seen SceneFaultKind) (y : Result Script script_kind.FaultKind)
+    → early ≡ false → late ≡ true
+    → (if early then x else Err (kinds.Script LateSetting)) ≡ as_line (if late then Err LateSetting else y)
+late_alike early late x y e l = rw (e, l) refl
+
+setting_alike : (settings : Settings) (events : List Event) (first : Word) (arguments : List Word)
+    → with_setting (scene_of (record { settings = settings; events = events })) first arguments
+    ≡ as_line (script.with_setting (record { settings = settings; events = events }) first arguments)
+setting_alike settings [] first arguments = settings_alike (settings_with settings first arguments)
+setting_alike settings (event ∷ events) first arguments =
+    late_alike _ _ _ _ (ap (λ (none : Bool). none && true && true) (not_none (length (map asked events))))
+    (some (length events))
+
+events_alike : (s : Script) (read : Result (List Event) script_kind.FaultKind)
+    → (as_scripts read >>> λ events. Ok (with_steps (scene_of s) (map asked events)))
+    ≡ as_line (read >>= λ events. Ok (record { settings = s.settings; events = s.events ++ events }))
+events_alike s (Ok events) =
+    ap (λ steps. Ok (record { settings = s.settings; services = []; consumers = []; steps = steps }))
+    (sym (map-append asked s.events events))
+events_alike s (Err kind) = refl
+
+head_alike : (answer : Option CliArgs) (s : Script) (first : Word) (rest : List Word) (setting : Bool) (head : Head)
+    → (if setting then true else is_request head) ≡ true
+    → with_head answer (if setting then Setting else head) (scene_of s) first rest
+    ≡ as_line (if setting then script.with_setting s first rest else script.with_events answer s (first ∷ rest))
+head_alike answer s first rest true head plain = setting_alike s.settings s.events first rest
+head_alike answer s first rest false Request plain = events_alike s (events_of answer (first ∷ rest))
+head_alike answer s first rest false Setting plain = absurd cc
+head_alike answer s first rest false Service plain = absurd cc
+head_alike answer s first rest false Consumer plain = absurd cc
+head_alike answer s first rest false Journal plain = absurd cc
+head_alike answer s first rest false Law plain = absurd cc
+head_alike answer s first rest false (Of worker) plain = absurd cc
+head_alike answer s first rest false Unknown plain = absurd cc
+
+words_alike : (answer : Option CliArgs) (s : Script) (line : Result (List Word) script_kind.FaultKind)
+    → is_script_line line ≡ true
+    → (as_scripts line >>> with_words answer (scene_of s)) ≡ as_line (line >>= script.with_words answer s)
+unfolding with_words
+words_alike answer s (Err kind) plain = refl
+words_alike answer s (Ok []) plain = refl
+words_alike answer s (Ok (first ∷ rest)) plain =
+    head_alike answer s first rest (is_setting first) (head_by_word None first.decoded rest) plain
+
+then_alike : (number : ℕ) (lines : List (List ℕ)) (first : Result Script script_kind.FaultKind)
+    (read : Result Script script_fault.Fault)
+    → ((next : Script) → script_readings.LinesFrom next (number + 1) lines read
+    → LinesFrom (scene_of next) (number + 1) lines (as_scene read))
+    → script_readings.ThenLines number first (λ next. script_readings.LinesFrom next (number + 1) lines read) read
+    → ThenLines number (as_line first) (λ next. LinesFrom next (number + 1) lines (as_scene read)) (as_scene read)
+then_alike number lines (Ok next) read others may = others next may
+then_alike number lines (Err kind) read others may = ap as_scene may
+
+lines_alike : (s : Script) (number : ℕ) (lines : List (List ℕ)) (read : Result Script script_fault.Fault)
+    → list_all (λ line. is_script_line (words_of line)) lines ≡ true → script_readings.LinesFrom s number lines read
+    → LinesFrom (scene_of s) number lines (as_scene read)
+unfolding LinesFrom script_readings.LinesFrom with_line script.with_line
+lines_alike s number [] read plain may = ap as_scene may
+lines_alike s number (line ∷ lines) read plain (first, (answer, is, gives), others) =
+    let here = both (is_script_line (words_of line)) (list_all (λ l. is_script_line (words_of l)) lines) plain in (
+      as_line first,
+      (answer, is, words_alike answer s (words_of line) here.0 ∙ ap as_line gives),
+      then_alike number lines first read (λ next may. lines_alike next (number + 1) lines read here.1 may) others,
+    )
+
+pub script_is_scene : (text : List ℕ) (read : Result Script script_fault.Fault) → HasNoWorkerLine text
+    → script_readings.ReadsAs text read → ReadsAs text (as_scene read)
+script_is_scene text read plain may = lines_alike script.empty_script 1 (script.lines_in text) read plain may

@@ -1,0 +1,12 @@
+-- The steps so far, and those that are left, are the steps before and all that was asked.
+use Rattle.std.proofs.Common.{◌≡◌, ◌++◌, length, map}
+use Rattle.kob_scene_text.specs.Scenes.{asked, told}
+use Rattle.kob_scene_text.proofs.line.push_others.Given as goal
+
+abbrev pub invariant-loop-event : goal.invariant-loop-event
+invariant-loop-event l =
+    map told l.steps.items ++ map asked l.others.items
+    ≡ map told l.initial.steps.items ++ map asked l.fn.others.items
+
+abbrev pub decreases-loop-event : goal.decreases-loop-event
+decreases-loop-event l = length l.others.items

@@ -1,0 +1,193 @@
+-- A scene: settings, workers, and steps, a line each.
+use Rattle.std.specs.Prelude.{ℕ, ◌+◌, Bool, ◌&&◌, ◌==◌, List, [], ◌∷◌, ◌++◌, Option, Some, Result, Ok, Err, length, map, if◌then◌else◌}
+use Rattle.kob_acl_cli.specs.declared.args.CliArgs.{CliArgs}
+use Rattle.kob_names.specs.declared.settings.Settings.{Settings}
+use Rattle.kob_rights.specs.declared.event.Event.{Event}
+use Rattle.kob_script.specs.CommandLines.{events_of}
+use Rattle.kob_script.specs.declared.fault.FaultKind.TheVariants.{LateSetting}
+use Rattle.kob_script.specs.Settings.{no_settings, settings_with}
+use Rattle.kob_script.specs.Word.{Word}
+use Rattle.kob_script.specs.Words.{words_of}
+use Rattle.kob_scene_text.specs.declared.consumer_lines.DeclaredConsumer.{DeclaredConsumer}
+use Rattle.kob_scene_text.specs.declared.fault.SceneFaultKind.{SceneFaultKind}
+use Rattle.kob_scene_text.specs.declared.fault.SceneFaultKind.TheVariants.{Script, UnknownWorker}
+use Rattle.kob_scene_text.specs.declared.name.Worker.{Worker}
+use Rattle.kob_scene_text.specs.declared.name.Worker.TheVariants as workers
+use Rattle.kob_scene_text.specs.declared.line.Head.{Head}
+use Rattle.kob_scene_text.specs.declared.line.Head.TheVariants as heads
+use Rattle.kob_scene_text.specs.declared.reading.Reading.{Reading}
+use Rattle.kob_scene_text.specs.declared.scene.Consumer.{Consumer}
+use Rattle.kob_scene_text.specs.declared.scene.Scene.{Scene}
+use Rattle.kob_scene_text.specs.declared.scene.Service.{Service}
+use Rattle.kob_scene_text.specs.declared.scene.Step.{Step}
+use Rattle.kob_scene_text.specs.declared.scene.Step.TheVariants as step_forms
+use Rattle.kob_scene_text.specs.declared.service_lines.DeclaredService.{DeclaredService}
+use Rattle.kob_scene_text.specs.Consumers.{consumer_of}
+use Rattle.kob_scene_text.specs.Heads.{head_of}
+use Rattle.kob_scene_text.specs.Names.{consumer_named, new_name, service_named, worker_named}
+use Rattle.kob_scene_text.specs.Reading.{◌>>>◌, as_scripts, bad_line}
+use Rattle.kob_scene_text.specs.Services.{service_of}
+use Rattle.kob_scene_text.specs.Steps.{ServiceTold, consumer_step_of, service_step_of, service_told}
+
+-- a step as it is seen: of a service by the texts that it writes, else as it is
+pub data Told : Type 0 where
+  OfService : ℕ → ServiceTold → Told
+  Plain : Step → Told
+
+abbrev pub told : Step → Told
+told (step_forms.Service place s) = OfService place (service_told s)
+told s = Plain s
+
+-- a scene as it is seen
+pub record Seen : Type 0 where
+  pub settings : Settings
+  pub services : List Service
+  pub consumers : List Consumer
+  pub steps : List Told
+
+abbrev pub seen : Scene → Seen
+seen scene = record {
+  settings = scene.settings;
+  services = scene.services.items;
+  consumers = scene.consumers.items;
+  steps = map told scene.steps.items;
+}
+
+-- what is read so far, in which no binding is opened
+abbrev pub so_far : Reading → Seen
+so_far reading = record {
+  settings = record { supers = reading.supers.items; opening = []; everyone = reading.everyone };
+  services = reading.services.items;
+  consumers = reading.consumers.items;
+  steps = map told reading.steps.items;
+}
+
+abbrev pub nothing_yet : Seen
+nothing_yet = record { settings = no_settings; services = []; consumers = []; steps = [] }
+
+-- nothing but settings so far
+abbrev pub is_early : Seen → Bool
+is_early s =
+    length s.steps == 0 && length s.services == 0 && length s.consumers == 0
+
+-- with steps more
+abbrev pub with_steps : Seen → List Told → Seen
+with_steps s more = record {
+  settings = s.settings;
+  services = s.services;
+  consumers = s.consumers;
+  steps = s.steps ++ more;
+}
+
+-- a setting comes before every request, declaration and step
+abbrev pub with_setting : Seen → Word → List Word → Result Seen SceneFaultKind
+with_setting s first arguments =
+    if is_early s then
+    (as_scripts (settings_with s.settings first arguments) >>> λ settings. Ok (record {
+      settings = settings;
+      services = s.services;
+      consumers = s.consumers;
+      steps = s.steps;
+    }))
+    else Err (Script LateSetting)
+
+-- workers have numbers from 1 on, services and consumers counted together
+abbrev pub next_worker : Seen → ℕ
+next_worker s = length s.services + length s.consumers + 1
+
+abbrev pub service_at : ℕ → List ℕ → DeclaredService → Service
+service_at number name declared = record {
+  name = name;
+  worker = number;
+  principal = declared.who.principal;
+  host = declared.who.host;
+  settings = declared.route.settings;
+  routed = declared.route.routed;
+}
+
+-- service NAME and its declaration
+abbrev pub with_service : Seen → List Word → Result Seen SceneFaultKind
+with_service s [] = Err bad_line
+with_service s (name ∷ words) =
+    new_name s.services s.consumers name >>> λ name. service_of words >>> λ declared. Ok (record {
+      settings = s.settings;
+      services = s.services ++ service_at (next_worker s) name declared ∷ [];
+      consumers = s.consumers;
+      steps = s.steps;
+    })
+
+abbrev pub consumer_at : ℕ → List ℕ → DeclaredConsumer → Consumer
+consumer_at number name declared = record {
+  name = name;
+  worker = number;
+  principal = declared.who.principal;
+  host = declared.who.host;
+  subscription = declared.subscription;
+}
+
+-- consumer NAME and its declaration
+abbrev pub with_consumer : Seen → List Word → Result Seen SceneFaultKind
+with_consumer s [] = Err bad_line
+with_consumer s (name ∷ words) =
+    new_name s.services s.consumers name >>> λ name. as_scripts (consumer_of words)
+    >>> λ declared. Ok (record {
+      settings = s.settings;
+      services = s.services;
+      consumers = s.consumers ++ consumer_at (next_worker s) name declared ∷ [];
+      steps = s.steps;
+    })
+
+-- journal
+abbrev pub with_journal : Seen → List Word → Result Seen SceneFaultKind
+with_journal s [] = Ok (with_steps s (Plain step_forms.Journal ∷ []))
+with_journal s (word ∷ words) = Err bad_line
+
+abbrev pub with_law_of : Seen → Option ℕ → Option ℕ → Result Seen SceneFaultKind
+with_law_of s (Some service) (Some consumer) =
+    Ok (with_steps s (Plain (step_forms.Law service consumer) ∷ []))
+with_law_of s _ _ = Err UnknownWorker
+
+-- law SERVICE CONSUMER
+abbrev pub with_law : Seen → List Word → Result Seen SceneFaultKind
+with_law s (service ∷ consumer ∷ []) =
+    with_law_of s (service_named s.services service.decoded)
+    (consumer_named s.consumers consumer.decoded)
+with_law s _ = Err bad_line
+
+-- a worker's step
+abbrev pub with_step : Seen → Worker → List Word → Result Seen SceneFaultKind
+with_step s (workers.Service place) words =
+    service_step_of words >>> λ step. Ok (with_steps s (OfService place step ∷ []))
+with_step s (workers.Consumer place) words =
+    as_scripts (consumer_step_of words)
+    >>> λ found. Ok (with_steps s (Plain (step_forms.Consumer place found) ∷ []))
+
+-- a line's requests, by clap's answer to it
+abbrev pub asked : Event → Told
+asked event = Plain (step_forms.Request event)
+
+abbrev pub with_requests : Option CliArgs → Seen → List Word → Result Seen SceneFaultKind
+with_requests answer s words =
+    as_scripts (events_of answer words) >>> λ events. Ok (with_steps s (map asked events))
+
+-- what a line says that begins so
+abbrev pub with_head : Option CliArgs → Head → Seen → Word → List Word
+    → Result Seen SceneFaultKind
+with_head answer heads.Setting s first rest = with_setting s first rest
+with_head answer heads.Service s first rest = with_service s rest
+with_head answer heads.Consumer s first rest = with_consumer s rest
+with_head answer heads.Journal s first rest = with_journal s rest
+with_head answer heads.Law s first rest = with_law s rest
+with_head answer (heads.Of worker) s first rest = with_step s worker rest
+with_head answer heads.Unknown s first rest = Err UnknownWorker
+with_head answer heads.Request s first rest = with_requests answer s (first ∷ rest)
+
+-- the scene with a line more; a skipped line has no words
+unfoldable pub with_words : Option CliArgs → Seen → List Word → Result Seen SceneFaultKind
+with_words answer s [] = Ok s
+with_words answer s (first ∷ rest) =
+    with_head answer
+    (head_of (worker_named s.services s.consumers first.decoded) first rest) s first rest
+
+unfoldable pub with_line : Option CliArgs → Seen → List ℕ → Result Seen SceneFaultKind
+with_line answer s line = as_scripts (words_of line) >>> with_words answer s

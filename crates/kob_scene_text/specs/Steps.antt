@@ -1,0 +1,146 @@
+-- Lines that are a step of a worker, and steps as they are seen.
+use Rattle.std.specs.Prelude.{ℕ, Bool, ◌||◌, List, [], ◌∷◌, Option, Some, None, Result, Ok, Err, codes, if◌then◌else◌, string_bytes}
+use Rattle.std.specs.Str.{bytes_eq}
+use Rattle.uuid.specs.Text.{parsed}
+use Rattle.kob_outbox.specs.Contents.{Event, Key}
+use Rattle.kob_outbox.specs.Events.{id_text, key_of, stored_event}
+use Rattle.kob_outbox.specs.declared.change.Change.{Change}
+use Rattle.kob_script.specs.declared.fault.FaultKind.{FaultKind}
+use Rattle.kob_script.specs.declared.fault.FaultKind.TheVariants.{BadLine}
+use Rattle.kob_script.specs.Reading.{◌>>=◌}
+use Rattle.kob_script.specs.Texts.{text_of}
+use Rattle.kob_script.specs.Word.{Word}
+use Rattle.kob_scene_text.specs.declared.fault.SceneFaultKind.{SceneFaultKind}
+use Rattle.kob_scene_text.specs.declared.fault.SceneFaultKind.TheVariants.{BadId}
+use Rattle.kob_scene_text.specs.declared.scene.ConsumerStep.{ConsumerStep}
+use Rattle.kob_scene_text.specs.declared.scene.ConsumerStep.TheVariants as consumer_steps
+use Rattle.kob_scene_text.specs.declared.scene.Lost.{Lost}
+use Rattle.kob_scene_text.specs.declared.scene.Lost.TheVariants as losses
+use Rattle.kob_scene_text.specs.declared.scene.ServiceStep.{ServiceStep}
+use Rattle.kob_scene_text.specs.declared.scene.ServiceStep.TheVariants as service_steps
+use Rattle.kob_scene_text.specs.Reading.{◌>>>◌, as_scripts, bad_line}
+
+-- a business row: its key and its state
+abbrev pub Written : Type 0
+Written = Key × List ℕ
+
+abbrev pub written : Change → Written
+written change = (key_of change, string_bytes change.state)
+
+-- a step of a service, a record by the texts that it writes; its event has no number yet
+pub data ServiceTold : Type 0 where
+  Recorded : Written → Event → ServiceTold
+  Plain : ServiceStep → ServiceTold
+
+abbrev pub service_told : ServiceStep → ServiceTold
+service_told (service_steps.Record change event) = Recorded (written change) (stored_event 0 event)
+service_told step = Plain step
+
+-- the words that begin a step
+abbrev pub begins_step : List ℕ → Bool
+begins_step word =
+    bytes_eq word (codes "record") || bytes_eq word (codes "tick") || bytes_eq word (codes "run")
+    || bytes_eq word (codes "restart") || bytes_eq word (codes "sweep")
+    || bytes_eq word (codes "outbox") || bytes_eq word (codes "business")
+    || bytes_eq word (codes "inbox")
+
+-- [lose-request|lose-reply]
+abbrev pub lost_of : List Word → Result (Option Lost) FaultKind
+lost_of [] = Ok None
+lost_of (word ∷ []) =
+    if bytes_eq word.decoded (codes "lose-request") then Ok (Some losses.Request)
+    else (if bytes_eq word.decoded (codes "lose-reply") then Ok (Some losses.Reply) else Err BadLine)
+lost_of _ = Err BadLine
+
+-- a UUID in one of its forms
+abbrev pub id_in : Option (List ℕ) → Result (List ℕ) SceneFaultKind
+id_in None = Err BadId
+id_in (Some id) = Ok id
+
+abbrev pub id_of : Word → Result (List ℕ) SceneFaultKind
+id_of word = as_scripts (text_of word) >>> λ text. id_in (parsed text)
+
+-- KIND KEY STATE
+abbrev pub written_of : List Word → Result Written FaultKind
+written_of (kind ∷ key ∷ state ∷ []) =
+    text_of kind >>= λ kind. text_of key >>= λ key. text_of state >>= λ state.
+    Ok ((kind, key), state)
+written_of _ = Err BadLine
+
+-- AGGREGATETYPE AGGREGATEID TYPE PAYLOAD
+abbrev pub event_of : List ℕ → Word → Word → Word → Word → Result Event FaultKind
+event_of id aggregate_type aggregate_id event_type payload =
+    text_of aggregate_type >>= λ aggregate_type. text_of aggregate_id >>= λ aggregate_id.
+    text_of event_type >>= λ event_type. text_of payload >>= λ payload. Ok (record {
+      seq = 0;
+      id = id_text id;
+      aggregate_type = aggregate_type;
+      aggregate_id = aggregate_id;
+      event_type = event_type;
+      payload = payload;
+    })
+
+abbrev pub record_with : Word → Word → Word → Word → Word → List Word
+    → Result ServiceTold SceneFaultKind
+record_with id aggregate_type aggregate_id event_type payload change =
+    id_of id >>> λ id. as_scripts (event_of id aggregate_type aggregate_id event_type payload)
+    >>> λ event. as_scripts (written_of change) >>> λ change. Ok (Recorded change event)
+
+-- ID AGGREGATETYPE AGGREGATEID TYPE PAYLOAD KIND KEY STATE
+abbrev pub record_of : List Word → Result ServiceTold SceneFaultKind
+record_of (id ∷ aggregate_type ∷ aggregate_id ∷ event_type ∷ payload ∷ change) =
+    record_with id aggregate_type aggregate_id event_type payload change
+record_of _ = Err bad_line
+
+-- KIND KEY
+abbrev pub business_of : List Word → Result ServiceTold FaultKind
+business_of (kind ∷ key ∷ []) =
+    text_of kind >>= λ kind. text_of key >>= λ key. Ok (Plain (service_steps.Business kind key))
+business_of _ = Err BadLine
+
+-- the steps of one word
+abbrev pub bare_service_step : List ℕ → Result ServiceTold FaultKind
+bare_service_step name =
+    if bytes_eq name (codes "run") then Ok (Plain service_steps.Run)
+    else (if bytes_eq name (codes "restart") then Ok (Plain service_steps.Restart)
+    else (if bytes_eq name (codes "sweep") then Ok (Plain service_steps.Sweep)
+    else (if bytes_eq name (codes "outbox") then Ok (Plain service_steps.Outbox)
+    else Err BadLine)))
+
+abbrev pub bare_service_line : List ℕ → List Word → Result ServiceTold FaultKind
+bare_service_line name [] = bare_service_step name
+bare_service_line name (word ∷ words) = Err BadLine
+
+-- the steps but `record`
+abbrev pub service_line : List ℕ → List Word → Result ServiceTold FaultKind
+service_line name words =
+    if bytes_eq name (codes "tick")
+    then (lost_of words >>= λ lost. Ok (Plain (service_steps.Tick lost)))
+    else (if bytes_eq name (codes "business") then business_of words
+    else bare_service_line name words)
+
+-- a step of a service, by its words
+abbrev pub service_step_of : List Word → Result ServiceTold SceneFaultKind
+service_step_of [] = Err bad_line
+service_step_of (first ∷ words) =
+    if bytes_eq first.decoded (codes "record") then record_of words
+    else as_scripts (service_line first.decoded words)
+
+abbrev pub bare_consumer_step : List ℕ → Result ConsumerStep FaultKind
+bare_consumer_step name =
+    if bytes_eq name (codes "run") then Ok consumer_steps.Run
+    else (if bytes_eq name (codes "restart") then Ok consumer_steps.Restart
+    else (if bytes_eq name (codes "inbox") then Ok consumer_steps.Inbox
+    else Err BadLine))
+
+abbrev pub bare_consumer_line : List ℕ → List Word → Result ConsumerStep FaultKind
+bare_consumer_line name [] = bare_consumer_step name
+bare_consumer_line name (word ∷ words) = Err BadLine
+
+-- a step of a consumer, by its words
+abbrev pub consumer_step_of : List Word → Result ConsumerStep FaultKind
+consumer_step_of [] = Err BadLine
+consumer_step_of (first ∷ words) =
+    if bytes_eq first.decoded (codes "tick")
+    then (lost_of words >>= λ lost. Ok (consumer_steps.Tick lost))
+    else bare_consumer_line first.decoded words

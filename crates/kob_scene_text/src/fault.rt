@@ -1,0 +1,100 @@
+//! Why a scene is refused.
+
+use kob_script::{FaultKind, LineError};
+use std::alloc::{AllocError, AllocFailed};
+use thiserror::Error;
+
+/// What is wrong with a line. BadEscape is looked for first, over the whole line. A line of a script
+/// has the kinds of scripts in their order. In a line of a worker the words are looked at from left
+/// to right: the name, then each part behind it.
+#[derive(Clone, Copy, Debug, PartialEq, Eq, Error)]
+pub enum SceneFaultKind {
+    /// One of the faults of scripts.
+    #[error("{0}")]
+    Script(FaultKind),
+    #[error("no worker of that name is declared before")]
+    UnknownWorker,
+    #[error("not a name of a worker: 1 to 64 letters, digits, `-` and `_`, and no keyword")]
+    BadWorkerName,
+    #[error("a worker of that name is declared before")]
+    NameTaken,
+    #[error("not a number of partitions from 1 to 1,000")]
+    BadPartitions,
+    #[error("not a replacement or a placement of a route")]
+    BadRoute,
+    #[error("not a UUID")]
+    BadId,
+}
+
+/// The first line of a scene with a fault, counted from 1, and the fault's kind.
+#[derive(Clone, Copy, Debug, PartialEq, Eq, Error)]
+#[error("line {line}: {kind}")]
+pub struct SceneFault {
+    pub line: u64,
+    pub kind: SceneFaultKind,
+}
+
+/// Why a scene was not read: its first fault, or out of memory.
+#[derive(Clone, Copy, Debug, PartialEq, Eq, Error)]
+pub enum SceneError {
+    #[error("out of memory")]
+    Memory,
+    #[error("{0}")]
+    Fault(SceneFault),
+}
+
+/// Why a line of a scene was not read.
+#[derive(Clone, Copy, Debug, PartialEq, Eq, Error)]
+pub(crate) enum StepError {
+    #[error("out of memory")]
+    Memory,
+    #[error("{0}")]
+    Fault(SceneFaultKind),
+}
+
+impl From<LineError> for StepError {
+    ghost use Rattle.std.specs.Prelude.{◌≡◌};
+    ghost use Rattle.kob_scene_text.specs.Reading.{step_error};
+
+    ghost from_gives = { λ error made. made ≡ step_error error };
+
+    fn from(error: LineError) -> StepError {
+        match error {
+            LineError::Memory => StepError::Memory,
+            LineError::Fault(kind) => StepError::Fault(SceneFaultKind::Script(kind)),
+        }
+    }
+}
+
+impl From<AllocError> for StepError {
+    ghost use Rattle.std.specs.Prelude.{◌≡◌};
+    ghost use Rattle.kob_scene_text.specs.declared.fault.StepError.TheVariants.{Memory};
+
+    ghost from_gives = { λ _ error. error ≡ Memory };
+
+    fn from(_error: AllocError) -> StepError {
+        StepError::Memory
+    }
+}
+
+impl<T: Drop> From<AllocFailed<T>> for StepError {
+    ghost use Rattle.std.specs.Prelude.{◌≡◌};
+    ghost use Rattle.kob_scene_text.specs.declared.fault.StepError.TheVariants.{Memory};
+
+    ghost from_gives = { λ _ error. error ≡ Memory };
+
+    fn from(_error: AllocFailed<T>) -> StepError {
+        StepError::Memory
+    }
+}
+
+impl From<AllocError> for SceneError {
+    ghost use Rattle.std.specs.Prelude.{◌≡◌};
+    ghost use Rattle.kob_scene_text.specs.declared.fault.SceneError.TheVariants.{Memory};
+
+    ghost from_gives = { λ _ error. error ≡ Memory };
+
+    fn from(_error: AllocError) -> SceneError {
+        SceneError::Memory
+    }
+}

@@ -1,0 +1,17 @@
+//! What follows from the definitions.
+
+ghost use Rattle.std.specs.Prelude.{ℕ, List, Result};
+ghost use Rattle.kob_script.specs.declared.fault.Fault.{Fault};
+ghost use Rattle.kob_script.specs.declared.script.Script.{Script};
+ghost use Rattle.kob_script.specs.ScriptReadings.{ReadsAs as ReadsAsScript};
+ghost use Rattle.kob_scene_text.specs.SceneReadings.{ReadsAs};
+ghost use Rattle.kob_scene_text.specs.ScriptScenes.{HasNoWorkerLine, as_scene};
+
+/// What a text without lines of workers may be read as by `kob_script`, a script or its first fault,
+/// it may be read as by `read_scene`.
+pub fn scripts_are_scenes()
+    ensures { (text : List ℕ) (read : Result Script Fault)
+        → HasNoWorkerLine text → ReadsAsScript text read → ReadsAs text (as_scene read) }
+{
+    // By the definitions.
+}

@@ -1,0 +1,298 @@
+//! A line of a scene is read.
+
+ghost use Rattle.std.specs.Prelude.{◌≡◌, ◌++◌, map, IfOk, OnOk};
+ghost use Rattle.kob_scene_text.specs.Heads.{asks_step, head_by, head_by_word, head_named};
+ghost use Rattle.kob_scene_text.specs.Heads.{head_of};
+ghost use Rattle.kob_scene_text.specs.SceneReadings.{ReadsLine, ReadsNext};
+ghost use Rattle.kob_scene_text.specs.Scenes.{asked, is_early, next_worker, so_far, told};
+ghost use Rattle.kob_scene_text.specs.Scenes.{with_consumer, with_journal, with_law};
+ghost use Rattle.kob_scene_text.specs.Scenes.{with_requests, with_service, with_setting};
+ghost use Rattle.kob_scene_text.specs.Scenes.{with_step, with_steps, with_words};
+ghost use Rattle.std.specs.Prelude.{Ok, [], ◌∷◌};
+
+use crate::consumer_lines::consumer_of;
+use crate::fault::{SceneFaultKind, StepError};
+use crate::name::{Worker, consumer_named, new_name, service_named, worker_named};
+use crate::reading::Reading;
+use crate::scene::{Consumer, Service, Step};
+use crate::service_lines::service_of;
+use crate::step_lines::{begins_step, consumer_step, service_step};
+use kob_acl_cli::CliArgs;
+use kob_rights::Event;
+use kob_script::{
+    Asked, FaultKind, Word, answer_to, events_of, everyone_of, is_setting, is_super, super_of,
+    words_of,
+};
+use std::alloc::{AllocError, Global};
+use std::collections::VecDeque;
+
+/// What a line begins with.
+#[derive(Clone, Copy, Debug, PartialEq, Eq)]
+pub(crate) enum Head {
+    Setting,
+    Service,
+    Consumer,
+    Journal,
+    Law,
+    Of(Worker),
+    Unknown,
+    Request,
+}
+
+/// Reads a line more.
+pub(crate) fn read_line(alloc: Global, reading: &mut Reading, line: &[u8]) -> Result<(), StepError>
+    ensures { ReadsLine (so_far reading.old) line.now reading.new result }
+{
+    let words = words_of(alloc, line)?;
+    let answer = answer_to(alloc, &words)?;
+    reading.add(alloc, &words, &answer)
+}
+
+/// Whether the word after the first begins a step.
+fn asks_step(rest: &[Word<'_>]) -> bool
+    ensures { result ≡ asks_step rest.now }
+{
+    match rest {
+        [second, ..] => begins_step(second.decoded()),
+        [] => false,
+    }
+}
+
+fn head_by(worker: Option<Worker>, rest: &[Word<'_>]) -> Head
+    ensures { result ≡ head_by worker rest.now }
+{
+    match worker {
+        Some(worker) => Head::Of(worker),
+        None if asks_step(rest) => Head::Unknown,
+        None => Head::Request,
+    }
+}
+
+/// A first word with a colon is a principal, and else a worker's name.
+fn head_named(worker: Option<Worker>, name: &[u8], rest: &[Word<'_>]) -> Head
+    ensures { result ≡ head_named worker name.now rest.now }
+{
+    if name.contains(&b':') {
+        return Head::Request;
+    }
+    head_by(worker, rest)
+}
+
+fn head_by_word(worker: Option<Worker>, name: &[u8], rest: &[Word<'_>]) -> Head
+    ensures { result ≡ head_by_word worker name.now rest.now }
+{
+    if name == b"service".as_slice() {
+        Head::Service
+    } else if name == b"consumer".as_slice() {
+        Head::Consumer
+    } else if name == b"journal".as_slice() {
+        Head::Journal
+    } else if name == b"law".as_slice() {
+        Head::Law
+    } else {
+        head_named(worker, name, rest)
+    }
+}
+
+fn head_of(worker: Option<Worker>, first: &Word<'_>, rest: &[Word<'_>]) -> Head
+    ensures { result ≡ head_of worker first.now rest.now }
+{
+    if is_setting(first) {
+        return Head::Setting;
+    }
+    head_by_word(worker, first.decoded(), rest)
+}
+
+/// Adds the steps that ask for these events, in order.
+fn push_others(steps: &mut Vec<Step>, mut others: VecDeque<Event>) -> Result<(), AllocError>
+    ensures { OnOk result (map told steps.new.items
+        ≡ map told steps.old.items ++ map asked others.items) }
+{
+    while let Some(event) = others.pop_front() {
+        steps.push(Step::Request(event))?;
+    }
+    Ok(())
+}
+
+/// Adds the steps that ask for what a line asks.
+fn push_asked(steps: &mut Vec<Step>, line: Asked) -> Result<(), AllocError>
+    ensures { OnOk result (map told steps.new.items
+        ≡ map told steps.old.items ++ map asked line) }
+{
+    let Asked { first, others } = line;
+    if let Some(event) = first {
+        steps.push(Step::Request(event))?;
+    }
+    push_others(steps, others)
+}
+
+impl Reading {
+    #[tactic(auto, unfolding(crate::specs::Scenes::with_words))]
+    fn add(
+        &mut self,
+        alloc: Global,
+        words: &[Word<'_>],
+        answer: &Option<CliArgs>,
+    ) -> Result<(), StepError>
+        ensures { ReadsNext self.new result (with_words answer.now (so_far self.old) words.now) }
+    {
+        match words {
+            [] => Ok(()),
+            [first, rest @ ..] => {
+                let worker = worker_named(&self.services, &self.consumers, first.decoded());
+                match head_of(worker, first, rest) {
+                    Head::Setting => self.add_setting(alloc, first, rest),
+                    Head::Service => self.add_service(alloc, rest),
+                    Head::Consumer => self.add_consumer(alloc, rest),
+                    Head::Journal => self.add_journal(rest),
+                    Head::Law => self.add_law(rest),
+                    Head::Of(worker) => self.add_step(alloc, worker, rest),
+                    Head::Unknown => Err(StepError::Fault(SceneFaultKind::UnknownWorker)),
+                    Head::Request => self.add_requests(alloc, words, answer),
+                }
+            }
+        }
+    }
+
+    /// A setting comes before every request, declaration and step.
+    fn add_setting(
+        &mut self,
+        alloc: Global,
+        first: &Word<'_>,
+        arguments: &[Word<'_>],
+    ) -> Result<(), StepError>
+        ensures { ReadsNext self.new result
+            (with_setting (so_far self.old) first.now arguments.now) }
+    {
+        if !self.is_early() {
+            return Err(StepError::Fault(SceneFaultKind::Script(FaultKind::LateSetting)));
+        }
+        if is_super(first) {
+            let principal = super_of(alloc, arguments)?;
+            self.supers.push(principal)?;
+        } else {
+            self.everyone = everyone_of(arguments)?;
+        }
+        Ok(())
+    }
+
+    fn is_early(&self) -> bool
+        ensures { result ≡ is_early (so_far self.now) }
+    {
+        self.steps.is_empty() && self.services.is_empty() && self.consumers.is_empty()
+    }
+
+    /// The number of the worker that is declared next.
+    fn next_worker(&self) -> Result<usize, AllocError>
+        ensures { IfOk result (λ number. number ≡ next_worker (so_far self.now)) }
+    {
+        match self.services.len().checked_add(self.consumers.len()) {
+            Some(workers) => workers.checked_add(1).ok_or(AllocError),
+            None => Err(AllocError),
+        }
+    }
+
+    fn add_service(&mut self, alloc: Global, words: &[Word<'_>]) -> Result<(), StepError>
+        ensures { ReadsNext self.new result (with_service (so_far self.old) words.now) }
+    {
+        let [name, rest @ ..] = words else {
+            return Err(StepError::Fault(SceneFaultKind::Script(FaultKind::BadLine)));
+        };
+        let worker = self.next_worker()?;
+        let name = new_name(alloc, &self.services, &self.consumers, name)?;
+        let declared = service_of(alloc, rest)?;
+        self.services.push(Service {
+            name,
+            worker,
+            principal: declared.who.principal,
+            host: declared.who.host,
+            settings: declared.route.settings,
+            routed: declared.route.routed,
+        })?;
+        Ok(())
+    }
+
+    fn add_consumer(&mut self, alloc: Global, words: &[Word<'_>]) -> Result<(), StepError>
+        ensures { ReadsNext self.new result (with_consumer (so_far self.old) words.now) }
+    {
+        let [name, rest @ ..] = words else {
+            return Err(StepError::Fault(SceneFaultKind::Script(FaultKind::BadLine)));
+        };
+        let worker = self.next_worker()?;
+        let name = new_name(alloc, &self.services, &self.consumers, name)?;
+        let declared = consumer_of(alloc, rest)?;
+        self.consumers.push(Consumer {
+            name,
+            worker,
+            principal: declared.who.principal,
+            host: declared.who.host,
+            subscription: declared.subscription,
+        })?;
+        Ok(())
+    }
+
+    fn push_step(&mut self, step: Step) -> Result<(), StepError>
+        ensures { ReadsNext self.new result (Ok (with_steps (so_far self.old) (told step ∷ []))) }
+    {
+        self.steps.push(step)?;
+        Ok(())
+    }
+
+    fn add_journal(&mut self, words: &[Word<'_>]) -> Result<(), StepError>
+        ensures { ReadsNext self.new result (with_journal (so_far self.old) words.now) }
+    {
+        match words {
+            [] => self.push_step(Step::Journal),
+            _ => Err(StepError::Fault(SceneFaultKind::Script(FaultKind::BadLine))),
+        }
+    }
+
+    /// `law SERVICE CONSUMER`
+    fn add_law(&mut self, words: &[Word<'_>]) -> Result<(), StepError>
+        ensures { ReadsNext self.new result (with_law (so_far self.old) words.now) }
+    {
+        let [service, consumer] = words else {
+            return Err(StepError::Fault(SceneFaultKind::Script(FaultKind::BadLine)));
+        };
+        let service = service_named(&self.services, service.decoded());
+        let consumer = consumer_named(&self.consumers, consumer.decoded());
+        match (service, consumer) {
+            (Some(service), Some(consumer)) => self.push_step(Step::Law { service, consumer }),
+            _ => Err(StepError::Fault(SceneFaultKind::UnknownWorker)),
+        }
+    }
+
+    fn add_step(
+        &mut self,
+        alloc: Global,
+        worker: Worker,
+        words: &[Word<'_>],
+    ) -> Result<(), StepError>
+        ensures { ReadsNext self.new result (with_step (so_far self.old) worker words.now) }
+    {
+        match worker {
+            Worker::Service(place) => {
+                let step = service_step(alloc, words)?;
+                self.push_step(Step::Service(place, step))
+            }
+            Worker::Consumer(place) => {
+                let step = consumer_step(words)?;
+                self.push_step(Step::Consumer(place, step))
+            }
+        }
+    }
+
+    fn add_requests(
+        &mut self,
+        alloc: Global,
+        words: &[Word<'_>],
+        answer: &Option<CliArgs>,
+    ) -> Result<(), StepError>
+        ensures { ReadsNext self.new result
+            (with_requests answer.now (so_far self.old) words.now) }
+    {
+        let asked = events_of(alloc, words, answer)?;
+        push_asked(&mut self.steps, asked)?;
+        Ok(())
+    }
+}

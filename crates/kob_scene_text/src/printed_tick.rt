@@ -1,0 +1,183 @@
+//! How the answers to steps are printed, each on a line behind its number.
+
+ghost use Rattle.std.specs.Prelude.{◌≡◌, ◌++◌, OnOk, codes};
+ghost use Rattle.std.specs.Fmt.{decimal};
+ghost use Rattle.kob_scene_text.specs.PrintedTick.{bad_field_text, consumer_tick_text, numbered};
+ghost use Rattle.kob_scene_text.specs.PrintedTick.{recorded_text, service_tick_text};
+
+use kob_outbox::{Column, RecordFault};
+use kob_rights::Reply;
+use kob_script::push_outcome;
+use kob_words::push_number;
+use std::alloc::AllocError;
+
+/// Prints what a tick of a service came to: `N moved SEQ`, `N idle`, `N repeat`, or `N stopped` with
+/// the reason. The error is out of memory; `out` has then grown by a part of it.
+pub fn print_service_tick(
+    out: &mut Vec<u8>,
+    number: u64,
+    tick: kob_router::Tick,
+) -> Result<(), AllocError>
+    ensures { OnOk result (out.new.items
+        ≡ out.old.items ++ numbered number (service_tick_text tick)) }
+{
+    match tick {
+        kob_router::Tick::Moved(seq) => print_counted(out, number, b" moved ", seq),
+        kob_router::Tick::Idle => print_word(out, number, b" idle"),
+        kob_router::Tick::Repeat => print_word(out, number, b" repeat"),
+        kob_router::Tick::Stopped(reason) => print_service_stop(out, number, reason),
+    }
+}
+
+ghost use Rattle.kob_router.specs.declared.tick.Tick.TheVariants as service_tick;
+
+fn print_service_stop(
+    out: &mut Vec<u8>,
+    number: u64,
+    reason: kob_router::StopReason,
+) -> Result<(), AllocError>
+    ensures { OnOk result (out.new.items
+        ≡ out.old.items ++ numbered number (service_tick_text (service_tick.Stopped reason))) }
+{
+    match reason {
+        kob_router::StopReason::Denied { code, verdicts } => {
+            print_stopped(out, number, &Reply::Denied { code, verdicts })
+        }
+        kob_router::StopReason::Refused { code, reason } => {
+            print_stopped(out, number, &Reply::Refused { code, reason })
+        }
+        kob_router::StopReason::BadTopic => print_word(out, number, b" stopped bad-topic"),
+        kob_router::StopReason::Memory => print_word(out, number, b" stopped memory"),
+        kob_router::StopReason::Store => print_word(out, number, b" stopped store"),
+    }
+}
+
+ghost use Rattle.kob_script.specs.PrintedReply.{outcome_text};
+
+#[tactic(auto, using(kob_words::proofs::Appending::appending))]
+fn print_stopped(out: &mut Vec<u8>, number: u64, reply: &Reply) -> Result<(), AllocError>
+    ensures { OnOk result (out.new.items
+        ≡ out.old.items ++ numbered number (codes " stopped" ++ outcome_text reply.now)) }
+{
+    push_number(out, number)?;
+    out.extend_from_slice(b" stopped")?;
+    push_outcome(out, reply)?;
+    out.extend_from_slice(b"\n")
+}
+
+#[tactic(auto, using(kob_words::proofs::Appending::appending))]
+fn print_word(out: &mut Vec<u8>, number: u64, word: &[u8]) -> Result<(), AllocError>
+    ensures { OnOk result (out.new.items ≡ out.old.items ++ numbered number word.now) }
+{
+    push_number(out, number)?;
+    out.extend_from_slice(word)?;
+    out.extend_from_slice(b"\n")
+}
+
+#[tactic(auto, using(kob_words::proofs::Appending::appending))]
+fn print_counted(out: &mut Vec<u8>, number: u64, word: &[u8], count: u64) -> Result<(), AllocError>
+    ensures { OnOk result (out.new.items
+        ≡ out.old.items ++ numbered number (word.now ++ decimal count)) }
+{
+    push_number(out, number)?;
+    out.extend_from_slice(word)?;
+    push_number(out, count)?;
+    out.extend_from_slice(b"\n")
+}
+
+/// Prints what a tick of a consumer came to: `N placed POSITION`, `N took COUNT`, `N committed`,
+/// `N idle`, `N repeat`, or `N stopped` with the reason. The error is out of memory; `out` has then
+/// grown by a part of it.
+pub fn print_consumer_tick(
+    out: &mut Vec<u8>,
+    number: u64,
+    tick: kob_inbox::Tick,
+) -> Result<(), AllocError>
+    ensures { OnOk result (out.new.items
+        ≡ out.old.items ++ numbered number (consumer_tick_text tick)) }
+{
+    match tick {
+        kob_inbox::Tick::Placed(position) => print_counted(out, number, b" placed ", position),
+        kob_inbox::Tick::Took(count) => print_counted(out, number, b" took ", count),
+        kob_inbox::Tick::Committed => print_word(out, number, b" committed"),
+        kob_inbox::Tick::Idle => print_word(out, number, b" idle"),
+        kob_inbox::Tick::Repeat => print_word(out, number, b" repeat"),
+        kob_inbox::Tick::Stopped(reason) => print_consumer_stop(out, number, reason),
+    }
+}
+
+ghost use Rattle.kob_inbox.specs.declared.tick.Tick.TheVariants as consumer_tick;
+
+fn print_consumer_stop(
+    out: &mut Vec<u8>,
+    number: u64,
+    reason: kob_inbox::StopReason,
+) -> Result<(), AllocError>
+    ensures { OnOk result (out.new.items
+        ≡ out.old.items ++ numbered number (consumer_tick_text (consumer_tick.Stopped reason))) }
+{
+    match reason {
+        kob_inbox::StopReason::Denied { code, verdicts } => {
+            print_stopped(out, number, &Reply::Denied { code, verdicts })
+        }
+        kob_inbox::StopReason::Refused { code, reason } => {
+            print_stopped(out, number, &Reply::Refused { code, reason })
+        }
+        kob_inbox::StopReason::Memory => print_word(out, number, b" stopped memory"),
+        kob_inbox::StopReason::Store => print_word(out, number, b" stopped store"),
+    }
+}
+
+/// What is printed of a text that its column doesn't take: the column's name in the tables, and
+/// `key` for the id of a business row.
+fn bad_field_text(column: Column) -> &'static str
+    ensures { result.now ≡ bad_field_text column }
+{
+    match column {
+        Column::Kind => " refused BadField kind",
+        Column::Id => " refused BadField key",
+        Column::State => " refused BadField state",
+        Column::AggregateType => " refused BadField aggregatetype",
+        Column::AggregateId => " refused BadField aggregateid",
+        Column::Type => " refused BadField type",
+        Column::Payload => " refused BadField payload",
+    }
+}
+
+/// Prints what became of a record: `N ok recorded SEQ`, `N refused BadField COLUMN`,
+/// `N refused DuplicateId`, `N stopped memory` or `N stopped store`. The error is out of memory;
+/// `out` has then grown by a part of it.
+pub fn print_recorded(
+    out: &mut Vec<u8>,
+    number: u64,
+    recorded: Result<u64, RecordFault>,
+) -> Result<(), AllocError>
+    ensures { OnOk result (out.new.items
+        ≡ out.old.items ++ numbered number (recorded_text recorded)) }
+{
+    match recorded {
+        Ok(seq) => print_counted(out, number, b" ok recorded ", seq),
+        Err(RecordFault::BadField(column)) => {
+            print_word(out, number, bad_field_text(column).as_bytes())
+        }
+        Err(RecordFault::DuplicateId) => print_word(out, number, b" refused DuplicateId"),
+        Err(RecordFault::Memory) => print_word(out, number, b" stopped memory"),
+        Err(RecordFault::Store) => print_word(out, number, b" stopped store"),
+    }
+}
+
+/// Prints `N ok restarted`. The error is out of memory; `out` has then grown by a part of it.
+pub fn print_restarted(out: &mut Vec<u8>, number: u64) -> Result<(), AllocError>
+    ensures { OnOk result (out.new.items
+        ≡ out.old.items ++ numbered number (codes " ok restarted")) }
+{
+    print_word(out, number, b" ok restarted")
+}
+
+/// Prints `N ok swept COUNT`. The error is out of memory; `out` has then grown by a part of it.
+pub fn print_swept(out: &mut Vec<u8>, number: u64, count: u64) -> Result<(), AllocError>
+    ensures { OnOk result (out.new.items
+        ≡ out.old.items ++ numbered number (codes " ok swept " ++ decimal count)) }
+{
+    print_counted(out, number, b" ok swept ", count)
+}

@@ -1,0 +1,85 @@
+//! A scene is read: every line before the first step is played.
+
+ghost use Rattle.kob_scene_text.specs.SceneReadings.{MayRead};
+
+use crate::fault::{SceneError, SceneFault, StepError};
+use crate::line::read_line;
+use crate::scene::{Consumer, Scene, Service, Step};
+use bstr::ByteSlice;
+use kob_names::{Items, Principal, Settings};
+use std::alloc::Global;
+
+/// What is read of a scene so far.
+#[derive(Drop)]
+pub(crate) struct Reading {
+    pub(crate) supers: Vec<Principal>,
+    pub(crate) everyone: bool,
+    pub(crate) services: Vec<Service>,
+    pub(crate) consumers: Vec<Consumer>,
+    pub(crate) steps: Vec<Step>,
+}
+
+/// Reads a scene to its end. Lines, words, escapes and comments are those of scripts. The error is
+/// the first line with a fault, or out of memory. What the words of an `acl` line mean is answered
+/// by `clap`, and for some words what its port states leaves more than one answer open.
+pub fn read_scene(alloc: Global, text: &[u8]) -> Result<Scene, SceneError>
+    ensures { MayRead text.now result }
+{
+    let mut reading = Reading {
+        supers: Vec::new(alloc),
+        everyone: false,
+        services: Vec::new(alloc),
+        consumers: Vec::new(alloc),
+        steps: Vec::new(alloc),
+    };
+    let mut number: u64 = 0;
+    for line in text.lines() {
+        match number.checked_add(1) {
+            Some(next) => number = next,
+            None => return Err(SceneError::Memory),
+        }
+        match read_line(alloc, &mut reading, line) {
+            Ok(()) => {}
+            Err(error) => return Err(fault_at(error, number)),
+        }
+    }
+    Ok(reading.finished(alloc))
+}
+
+ghost use Rattle.std.specs.Prelude.{◌≡◌};
+ghost use Rattle.kob_scene_text.specs.SceneReadings.{fault_at};
+
+fn fault_at(error: StepError, line: u64) -> SceneError
+    ensures { result ≡ fault_at line error }
+{
+    match error {
+        StepError::Memory => SceneError::Memory,
+        StepError::Fault(kind) => SceneError::Fault(SceneFault { line, kind }),
+    }
+}
+
+ghost use Rattle.kob_scene_text.specs.Scenes.{seen, so_far};
+
+impl Reading {
+    fn finished(self, alloc: Global) -> Scene
+        ensures { seen result ≡ so_far self }
+    {
+        let Reading {
+            supers,
+            everyone,
+            services,
+            consumers,
+            steps,
+        } = self;
+        Scene {
+            settings: Settings {
+                supers: Items::from_vec(supers),
+                opening: Items::from_vec(Vec::new(alloc)),
+                everyone,
+            },
+            services,
+            consumers,
+            steps,
+        }
+    }
+}

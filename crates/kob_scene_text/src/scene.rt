@@ -1,0 +1,142 @@
+//! What a scene plays: settings, workers that are declared, and steps in the order of the text.
+
+ghost use Rattle.std.specs.Prelude.{◌≡◌, ◌≤◌};
+
+use kob_inbox::Subscription;
+use kob_names::{Host, Principal, Settings, Text};
+use kob_outbox::{Change, OutboxEvent};
+use kob_rights::Event;
+use kob_router::{Route, RouteSettings, Target};
+use std::marker::Model;
+
+/// A scene: the settings of its broker, which open no bindings, its workers, and its steps.
+///
+/// Workers have numbers from 1 on in the order of their declaration, services and consumers counted
+/// together; requests of a principal are worker 0's.
+#[derive(Debug, Drop)]
+pub struct Scene {
+    pub settings: Settings,
+    pub services: Vec<Service>,
+    pub consumers: Vec<Consumer>,
+    pub steps: Vec<Step>,
+}
+
+/// How a service's rows are routed: 1 to 1,000 partitions for every topic.
+#[derive(Debug, Drop)]
+pub struct Routed {
+    target: Target,
+}
+
+impl Model for Routed {
+    ghost use Rattle.std.specs.Prelude.{◌≤◌};
+    ghost use Rattle.kob_router.specs.declared.dispatch.Target.{Target};
+
+    ghost Value = { Target };
+
+    ghost view = { λ routed. routed.target };
+
+    ghost invariant = { λ routed. (1 ≤ routed.target.partitions)
+        × (routed.target.partitions ≤ 1000) };
+}
+
+impl Routed {
+    /// Rows by this route, to so many partitions. No memory is taken.
+    pub fn new(route: Route, partitions: u32) -> Routed
+        requires some { 1 ≤ partitions }
+        requires most { partitions ≤ 1000 }
+        ensures { result ≡ record { route = route; partitions = partitions } }
+    {
+        Routed {
+            target: Target { route, partitions },
+        }
+    }
+
+    /// The target that a router takes. No memory is taken.
+    pub fn into_target(self) -> Target
+        ensures value { result ≡ self }
+        ensures some { 1 ≤ result.partitions }
+        ensures most { result.partitions ≤ 1000 }
+    {
+        self.target
+    }
+
+    /// The target, borrowed.
+    pub fn as_target(&self) -> &Target
+        ensures { result.now ≡ self.now }
+    {
+        &self.target
+    }
+}
+
+/// A service: its name in the text, its worker number, who it is, and how its rows are routed, as it
+/// is set and as it is read.
+#[derive(Debug, Drop)]
+pub struct Service {
+    pub name: Text,
+    pub worker: usize,
+    pub principal: Principal,
+    pub host: Host,
+    pub settings: RouteSettings,
+    pub routed: Routed,
+}
+
+/// A consumer: its name in the text, its worker number, who it is, and what it reads.
+#[derive(Debug, Drop)]
+pub struct Consumer {
+    pub name: Text,
+    pub worker: usize,
+    pub principal: Principal,
+    pub host: Host,
+    pub subscription: Subscription,
+}
+
+/// A step, by the place of its service or consumer in the scene's list, from 0.
+#[derive(Debug, Drop)]
+pub enum Step {
+    /// A request of a principal, which is worker 0's.
+    Request(Event),
+    Service(usize, ServiceStep),
+    Consumer(usize, ConsumerStep),
+    /// Prints every entry of the journal.
+    Journal,
+    /// Asks whether the laws of delivery speak of a service and a consumer, by their places.
+    Law { service: usize, consumer: usize },
+}
+
+/// Which message of a tick's first call is lost.
+#[derive(Clone, Copy, Debug, PartialEq, Eq)]
+pub enum Lost {
+    /// The request never reaches the broker.
+    Request,
+    /// The broker serves the request, and its reply is lost.
+    Reply,
+}
+
+/// A step of a service.
+#[derive(Debug, Drop)]
+pub enum ServiceStep {
+    /// Records a business row together with an outbox row.
+    Record(Change, OutboxEvent),
+    /// One step of the router, whose first call loses a message or not.
+    Tick(Option<Lost>),
+    /// Ticks until one neither moves nor repeats.
+    Run,
+    Restart,
+    Sweep,
+    /// Shows the mark and the rows that wait.
+    Outbox,
+    /// Shows the state of a business row.
+    Business { kind: Text, key: Text },
+}
+
+/// A step of a consumer.
+#[derive(Debug, Drop)]
+pub enum ConsumerStep {
+    /// One step of the consumer, whose first call loses a message or not.
+    Tick(Option<Lost>),
+    /// Ticks until a whole round of its partitions is idle, or it stops.
+    Run,
+    Restart,
+    /// Shows the rows that were taken in.
+    Inbox,
+}

@@ -1,0 +1,169 @@
+//! Lines that declare a service, behind its name.
+
+ghost use Rattle.std.specs.Prelude.{◌≤◌, IfOk};
+ghost use Rattle.kob_script.specs.Reading.{Gives as ScriptGives, GivesSeen as ScriptGivesSeen};
+ghost use Rattle.kob_scene_text.specs.Reading.{Gives};
+ghost use Rattle.kob_scene_text.specs.Services.{by_first, by_named, declared_route, partitions_of};
+ghost use Rattle.kob_scene_text.specs.Services.{route_of, service_of, service_with, settings_of};
+ghost use Rattle.kob_scene_text.specs.Services.{text_first};
+
+use crate::fault::{SceneFaultKind, StepError};
+use crate::name::{Who, who_of};
+use crate::scene::Routed;
+use kob_names::Text;
+use kob_router::{Route, RouteBy, RouteFault, RouteSettings};
+use kob_script::{FaultKind, LineError, Word, number_of, text_of};
+use std::alloc::Global;
+
+/// What a declaration says behind the worker's name.
+#[derive(Drop)]
+pub(crate) struct DeclaredService {
+    pub(crate) who: Who,
+    pub(crate) route: DeclaredRoute,
+}
+
+/// A route as it is set, and as it is read, to so many partitions.
+#[derive(Drop)]
+pub(crate) struct DeclaredRoute {
+    pub(crate) settings: RouteSettings,
+    pub(crate) routed: Routed,
+}
+
+/// `PRINCIPAL HOST partitions N [by COLUMN] [replacement TEXT] [placement TEXT]`: the words are
+/// looked at from left to right.
+pub(crate) fn service_of(alloc: Global, words: &[Word<'_>]) -> Result<DeclaredService, StepError>
+    ensures { Gives result (service_of words.now) }
+{
+    match words {
+        [principal, host, keyword, partitions, rest @ ..]
+            if keyword.decoded() == b"partitions".as_slice() => service_with(
+            alloc, principal, host, partitions, rest,
+        ),
+        _ => Err(StepError::Fault(SceneFaultKind::Script(FaultKind::BadLine))),
+    }
+}
+
+fn service_with(
+    alloc: Global,
+    principal: &Word<'_>,
+    host: &Word<'_>,
+    partitions: &Word<'_>,
+    words: &[Word<'_>],
+) -> Result<DeclaredService, StepError>
+    ensures { Gives result (service_with principal.now host.now partitions.now words.now) }
+{
+    let who = who_of(alloc, principal, host)?;
+    let route = declared_route(alloc, partitions, words)?;
+    Ok(DeclaredService { who, route })
+}
+
+/// So many partitions, and the route that the words behind say.
+fn declared_route(
+    alloc: Global,
+    partitions: &Word<'_>,
+    words: &[Word<'_>],
+) -> Result<DeclaredRoute, StepError>
+    ensures { Gives result (declared_route partitions.now words.now) }
+{
+    let partitions = partitions_of(partitions)?;
+    let settings = settings_of(alloc, words)?;
+    let route = route_of(alloc, &settings)?;
+    Ok(DeclaredRoute {
+        settings,
+        routed: Routed::new(route, partitions),
+    })
+}
+
+/// From 1 to 1,000. `BadNumber` comes before `BadPartitions`.
+fn partitions_of(word: &Word<'_>) -> Result<u32, StepError>
+    ensures value { Gives result (partitions_of word.now) }
+    ensures some { IfOk result (λ partitions. 1 ≤ partitions) }
+    ensures most { IfOk result (λ partitions. partitions ≤ 1000) }
+{
+    let number = number_of(word)?;
+    if 1 <= number && number <= 1_000 {
+        Ok(number as u32)
+    } else {
+        Err(StepError::Fault(SceneFaultKind::BadPartitions))
+    }
+}
+
+/// The settings of a route, each as by default where it is not given.
+fn settings_of(alloc: Global, words: &[Word<'_>]) -> Result<RouteSettings, LineError>
+    ensures { ScriptGives result (settings_of words.now) }
+{
+    let (by, words) = by_first(words)?;
+    let (replacement, words) = text_first(
+        alloc,
+        b"replacement",
+        "outbox.event.${routedByValue}",
+        words,
+    )?;
+    let (placement, words) = text_first(alloc, b"placement", "", words)?;
+    match words {
+        [] => Ok(RouteSettings {
+            by,
+            replacement,
+            placement,
+        }),
+        _ => Err(LineError::Fault(FaultKind::BadLine)),
+    }
+}
+
+/// The column by which rows are routed, and the words behind it.
+fn by_first<'w, 'l>(words: &'w [Word<'l>]) -> Result<(RouteBy, &'w [Word<'l>]), LineError>
+    ensures { ScriptGivesSeen (λ read. (read.0, read.1.now)) result (by_first words.entry.now) }
+{
+    match words {
+        [keyword, word, rest @ ..] if keyword.decoded() == b"by".as_slice() => {
+            let by = by_named(word)?;
+            Ok((by, rest))
+        }
+        _ => Ok((RouteBy::AggregateType, words)),
+    }
+}
+
+fn by_named(word: &Word<'_>) -> Result<RouteBy, LineError>
+    ensures { ScriptGives result (by_named word.now) }
+{
+    if word.decoded() == b"aggregatetype".as_slice() {
+        Ok(RouteBy::AggregateType)
+    } else if word.decoded() == b"aggregateid".as_slice() {
+        Ok(RouteBy::AggregateId)
+    } else {
+        Err(LineError::Fault(FaultKind::BadWord))
+    }
+}
+
+/// The text behind a keyword, and the words behind that.
+fn text_first<'w, 'l>(
+    alloc: Global,
+    expected: &[u8],
+    default: &str,
+    words: &'w [Word<'l>],
+) -> Result<(Text, &'w [Word<'l>]), LineError>
+    ensures { ScriptGivesSeen (λ read. (read.0, read.1.now)) result
+        (text_first expected.entry.now default.entry.now words.entry.now) }
+{
+    match words {
+        [keyword, word, rest @ ..] if keyword.decoded() == expected => {
+            let text = text_of(alloc, word)?;
+            Ok((text, rest))
+        }
+        _ => {
+            let text = Text::copied(alloc, default)?;
+            Ok((text, words))
+        }
+    }
+}
+
+/// The fault is `BadRoute`.
+fn route_of(alloc: Global, settings: &RouteSettings) -> Result<Route, StepError>
+    ensures { Gives result (route_of settings.now) }
+{
+    match Route::new(alloc, settings) {
+        Ok(route) => Ok(route),
+        Err(RouteFault::Memory) => Err(StepError::Memory),
+        Err(_) => Err(StepError::Fault(SceneFaultKind::BadRoute)),
+    }
+}

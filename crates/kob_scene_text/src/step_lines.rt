@@ -1,0 +1,244 @@
+//! Lines that are a step of a worker.
+
+ghost use Rattle.std.specs.Prelude.{◌≡◌, string_bytes};
+ghost use Rattle.uuid.specs.Text.{parsed};
+ghost use Rattle.kob_outbox.specs.Events.{stored_event};
+ghost use Rattle.kob_script.specs.Reading.{Gives as ScriptGives, GivesSeen as ScriptGivesSeen};
+ghost use Rattle.kob_script.specs.Texts.{text_of};
+ghost use Rattle.kob_scene_text.specs.Reading.{Gives, GivesSeen};
+ghost use Rattle.kob_scene_text.specs.Steps.{bare_consumer_step, bare_service_line};
+ghost use Rattle.kob_scene_text.specs.Steps.{bare_service_step, begins_step, business_of};
+ghost use Rattle.kob_scene_text.specs.Steps.{consumer_step_of, event_of, id_of, lost_of};
+ghost use Rattle.kob_scene_text.specs.Steps.{id_in, record_of, record_with, service_line};
+ghost use Rattle.kob_scene_text.specs.Steps.{service_step_of};
+ghost use Rattle.kob_scene_text.specs.Steps.{service_told, written, written_of};
+
+use crate::fault::{SceneFaultKind, StepError};
+use crate::scene::{ConsumerStep, Lost, ServiceStep};
+use kob_outbox::{Change, OutboxEvent};
+use kob_script::{FaultKind, LineError, Word, lent_text_of, text_of};
+use std::alloc::Global;
+use uuid::Uuid;
+
+/// Whether a word begins a step.
+pub(crate) fn begins_step(word: &[u8]) -> bool
+    ensures { result ≡ begins_step word.now }
+{
+    word == b"record".as_slice()
+        || word == b"tick".as_slice()
+        || word == b"run".as_slice()
+        || word == b"restart".as_slice()
+        || word == b"sweep".as_slice()
+        || word == b"outbox".as_slice()
+        || word == b"business".as_slice()
+        || word == b"inbox".as_slice()
+}
+
+/// Which message a tick loses, by the words after `tick`.
+fn lost_of(words: &[Word<'_>]) -> Result<Option<Lost>, LineError>
+    ensures { ScriptGives result (lost_of words.now) }
+{
+    match words {
+        [] => Ok(None),
+        [word] if word.decoded() == b"lose-request".as_slice() => Ok(Some(Lost::Request)),
+        [word] if word.decoded() == b"lose-reply".as_slice() => Ok(Some(Lost::Reply)),
+        _ => Err(LineError::Fault(FaultKind::BadLine)),
+    }
+}
+
+/// A step of a service, by its words.
+pub(crate) fn service_step(alloc: Global, words: &[Word<'_>]) -> Result<ServiceStep, StepError>
+    ensures { GivesSeen service_told result (service_step_of words.now) }
+{
+    match words {
+        [first, rest @ ..] => {
+            if first.decoded() == b"record".as_slice() {
+                record_step(alloc, rest)
+            } else {
+                Ok(service_line(alloc, first.decoded(), rest)?)
+            }
+        }
+        [] => Err(StepError::Fault(SceneFaultKind::Script(FaultKind::BadLine))),
+    }
+}
+
+/// A step that is no record.
+fn service_line(alloc: Global, name: &[u8], words: &[Word<'_>]) -> Result<ServiceStep, LineError>
+    ensures { ScriptGivesSeen service_told result (service_line name.now words.now) }
+{
+    if name == b"tick".as_slice() {
+        return Ok(ServiceStep::Tick(lost_of(words)?));
+    }
+    if name == b"business".as_slice() {
+        return business_step(alloc, words);
+    }
+    match words {
+        [] => bare_service_step(name),
+        _ => Err(LineError::Fault(FaultKind::BadLine)),
+    }
+}
+
+fn bare_service_step(name: &[u8]) -> Result<ServiceStep, LineError>
+    ensures { ScriptGivesSeen service_told result (bare_service_step name.now) }
+{
+    if name == b"run".as_slice() {
+        Ok(ServiceStep::Run)
+    } else if name == b"restart".as_slice() {
+        Ok(ServiceStep::Restart)
+    } else if name == b"sweep".as_slice() {
+        Ok(ServiceStep::Sweep)
+    } else if name == b"outbox".as_slice() {
+        Ok(ServiceStep::Outbox)
+    } else {
+        Err(LineError::Fault(FaultKind::BadLine))
+    }
+}
+
+/// A step of a consumer, by its words.
+pub(crate) fn consumer_step(words: &[Word<'_>]) -> Result<ConsumerStep, LineError>
+    ensures { ScriptGives result (consumer_step_of words.now) }
+{
+    match words {
+        [first, rest @ ..] if first.decoded() == b"tick".as_slice() => {
+            Ok(ConsumerStep::Tick(lost_of(rest)?))
+        }
+        [first] => bare_consumer_step(first.decoded()),
+        _ => Err(LineError::Fault(FaultKind::BadLine)),
+    }
+}
+
+fn bare_consumer_step(name: &[u8]) -> Result<ConsumerStep, LineError>
+    ensures { ScriptGives result (bare_consumer_step name.now) }
+{
+    if name == b"run".as_slice() {
+        Ok(ConsumerStep::Run)
+    } else if name == b"restart".as_slice() {
+        Ok(ConsumerStep::Restart)
+    } else if name == b"inbox".as_slice() {
+        Ok(ConsumerStep::Inbox)
+    } else {
+        Err(LineError::Fault(FaultKind::BadLine))
+    }
+}
+
+/// `KIND KEY`
+fn business_step(alloc: Global, words: &[Word<'_>]) -> Result<ServiceStep, LineError>
+    ensures { ScriptGivesSeen service_told result (business_of words.now) }
+{
+    match words {
+        [kind, key] => {
+            let kind = text_of(alloc, kind)?;
+            let key = text_of(alloc, key)?;
+            Ok(ServiceStep::Business { kind, key })
+        }
+        _ => Err(LineError::Fault(FaultKind::BadLine)),
+    }
+}
+
+fn string_of(alloc: Global, word: &Word<'_>) -> Result<String, LineError>
+    ensures { ScriptGivesSeen string_bytes result (text_of word.now) }
+{
+    let text = lent_text_of(word)?;
+    Ok(String::from_str(alloc, text)?)
+}
+
+/// `ID AGGREGATETYPE AGGREGATEID TYPE PAYLOAD KIND KEY STATE`: the words are looked at from left to
+/// right.
+fn record_step(alloc: Global, words: &[Word<'_>]) -> Result<ServiceStep, StepError>
+    ensures { GivesSeen service_told result (record_of words.now) }
+{
+    match words {
+        [
+            id,
+            aggregate_type,
+            aggregate_id,
+            event_type,
+            payload,
+            change @ ..,
+        ] => record_with(
+            alloc,
+            id,
+            aggregate_type,
+            aggregate_id,
+            event_type,
+            payload,
+            change,
+        ),
+        _ => Err(StepError::Fault(SceneFaultKind::Script(FaultKind::BadLine))),
+    }
+}
+
+fn record_with(
+    alloc: Global,
+    id: &Word<'_>,
+    aggregate_type: &Word<'_>,
+    aggregate_id: &Word<'_>,
+    event_type: &Word<'_>,
+    payload: &Word<'_>,
+    change: &[Word<'_>],
+) -> Result<ServiceStep, StepError>
+    ensures { GivesSeen service_told result (record_with id.now aggregate_type.now
+        aggregate_id.now event_type.now payload.now change.now) }
+{
+    let id = id_of(id)?;
+    let event = event_of(alloc, id, aggregate_type, aggregate_id, event_type, payload)?;
+    let change = change_of(alloc, change)?;
+    Ok(ServiceStep::Record(change, event))
+}
+
+/// `BadText` comes before `BadId`.
+fn id_of(word: &Word<'_>) -> Result<Uuid, StepError>
+    ensures { Gives result (id_of word.now) }
+{
+    let text = lent_text_of(word)?;
+    id_in(text)
+}
+
+/// The UUID that a text writes.
+fn id_in(text: &str) -> Result<Uuid, StepError>
+    ensures { Gives result (id_in (parsed text.now)) }
+{
+    match Uuid::parse_str(text) {
+        Ok(id) => Ok(id),
+        Err(_) => Err(StepError::Fault(SceneFaultKind::BadId)),
+    }
+}
+
+fn event_of(
+    alloc: Global,
+    id: Uuid,
+    aggregate_type: &Word<'_>,
+    aggregate_id: &Word<'_>,
+    event_type: &Word<'_>,
+    payload: &Word<'_>,
+) -> Result<OutboxEvent, LineError>
+    ensures { ScriptGivesSeen (stored_event 0) result
+        (event_of id aggregate_type.now aggregate_id.now event_type.now payload.now) }
+{
+    let aggregate_type = string_of(alloc, aggregate_type)?;
+    let aggregate_id = string_of(alloc, aggregate_id)?;
+    let event_type = string_of(alloc, event_type)?;
+    let payload = string_of(alloc, payload)?;
+    Ok(OutboxEvent {
+        id,
+        aggregate_type,
+        aggregate_id,
+        event_type,
+        payload,
+    })
+}
+
+/// `KIND KEY STATE`
+fn change_of(alloc: Global, words: &[Word<'_>]) -> Result<Change, LineError>
+    ensures { ScriptGivesSeen written result (written_of words.now) }
+{
+    match words {
+        [kind, key, state] => {
+            let kind = string_of(alloc, kind)?;
+            let id = string_of(alloc, key)?;
+            let state = string_of(alloc, state)?;
+            Ok(Change { kind, id, state })
+        }
+        _ => Err(LineError::Fault(FaultKind::BadLine)),
+    }
+}
