@@ -1,0 +1,36 @@
+use Rattle.std.proofs.Common.{◌≡◌, [], refl, sym, ap, subst, ◌∙◌}
+use Rattle.kob_inbox.specs.declared.tick.Tick.{Tick}
+use Rattle.kob_scene_play.specs.Workers.{Consumer, IsConsumerTick}
+use Rattle.kob_scene_play.proofs.Ticking.{consumer_ticked}
+use Rattle.kob_scene_play.proofs.consumer_worker.ConsumerWorker.tick.Goals as goal
+
+pub returns : goal.returns
+returns c =
+    let was = c.self.inside in
+    let ticked = c.tick-tick in
+    let old : Consumer =
+    record {
+      worker = was.worker;
+      principal = was.principal;
+      host = was.host;
+      fetcher = was.consumer;
+      inbox = was.inbox;
+    } in
+    let new : Consumer =
+    record {
+      worker = was.worker;
+      principal = was.principal;
+      host = was.host;
+      fetcher = ticked.new.self;
+      inbox = ticked.new.inbox;
+    } in
+    let line = c.lose.new.self in
+    let none = ap (λ l. l.calls.made.items) c.lose.ensures ∙ c.over-line.ensures.made in
+    let all = ap (λ l. l.calls.unmade) c.lose.ensures ∙ c.over-line.ensures.unmade in
+    let done =
+    consumer_ticked old new ticked.result line.calls.made.items ticked.new.line.calls.made.items line.calls.unmade
+    ticked.new.line.calls.unmade
+    (record { worker = refl; principal = refl; host = refl; subscription = ticked.ensures.same }) none all
+    ticked.ensures.done in
+    subst (λ (from : Consumer). IsConsumerTick from new c.in_ok-tick.tick) c.self.view_is
+    (subst (λ (told : Tick). IsConsumerTick old new told) (sym c.in_ok-tick.ensures) done)

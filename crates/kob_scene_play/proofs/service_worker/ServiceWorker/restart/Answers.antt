@@ -1,0 +1,22 @@
+use Rattle.std.proofs.Common.{refl, subst}
+use Rattle.kob_router.specs.Run.Move.{Restarted}
+use Rattle.kob_scene_play.specs.Workers.{Does, Service}
+use Rattle.kob_scene_play.proofs.service_worker.ServiceWorker.restart.Goals as goal
+
+pub returns : goal.returns
+returns c =
+    let was = c.self.inside in
+    let new : Service =
+    record {
+      worker = was.worker;
+      principal = was.principal;
+      host = was.host;
+      sender = c.restart.new.self;
+      outbox = was.outbox;
+    } in
+    let made = c.restart.ensures in
+    subst (λ (old : Service). Does Restarted old new) c.self.view_is (record {
+      same = record { worker = refl; principal = refl; host = refl; target = made.same };
+      may = tt;
+      done = made.done was.outbox;
+    })

@@ -1,0 +1,107 @@
+//! The steps of a consumer.
+
+use crate::consumer_worker::ConsumerWorker;
+use crate::fault::PlayFault;
+use crate::output::Output;
+use crate::service_steps::{RUN_LIMIT, loss_of};
+use kob_inbox::Tick;
+use kob_lines::Loss;
+use kob_scene_text::{ConsumerStep, print_consumer_tick, print_inbox, print_restarted};
+use kob_shared::Recorded;
+use std::alloc::Global;
+use std::io::Write;
+
+/// What a tick leaves to be done.
+#[derive(Clone, Copy, Debug, PartialEq, Eq)]
+enum Left {
+    /// The next tick has something to do.
+    Something,
+    /// Its partition has nothing more.
+    Idle,
+    /// The consumer is stopped.
+    Stopped,
+}
+
+/// Makes a step, and tells what it answers.
+pub(crate) fn play_consumer<W: Write>(
+    alloc: Global,
+    recorded: &mut Recorded,
+    consumer: &mut ConsumerWorker,
+    step: &ConsumerStep,
+    out: &mut Output<'_, W>,
+) -> Result<(), PlayFault> {
+    match step {
+        ConsumerStep::Tick(lost) => {
+            tick(alloc, recorded, consumer, loss_of(*lost), out)?;
+            Ok(())
+        }
+        ConsumerStep::Run => run(alloc, recorded, consumer, out),
+        ConsumerStep::Restart => restart(consumer, out),
+        ConsumerStep::Inbox => show_inbox(consumer, out),
+    }
+}
+
+fn tick<W: Write>(
+    alloc: Global,
+    recorded: &mut Recorded,
+    consumer: &mut ConsumerWorker,
+    loss: Loss,
+    out: &mut Output<'_, W>,
+) -> Result<Left, PlayFault> {
+    let tick = consumer.tick(alloc, recorded, loss)?;
+    let left = left_by(&tick);
+    let number = out.number();
+    print_consumer_tick(&mut out.text, number, tick)?;
+    out.tell()?;
+    Ok(left)
+}
+
+fn left_by(tick: &Tick) -> Left {
+    match tick {
+        Tick::Idle => Left::Idle,
+        Tick::Stopped(_) => Left::Stopped,
+        _ => Left::Something,
+    }
+}
+
+/// Ticks until each assigned partition was idle in turn, or the consumer is stopped.
+fn run<W: Write>(
+    alloc: Global,
+    recorded: &mut Recorded,
+    consumer: &mut ConsumerWorker,
+    out: &mut Output<'_, W>,
+) -> Result<(), PlayFault> {
+    let round = consumer.subscription().assignment.len();
+    let mut idle: usize = 0;
+    for _ in 0..RUN_LIMIT {
+        match tick(alloc, recorded, consumer, Loss::None, out)? {
+            Left::Something => idle = 0,
+            Left::Idle => idle = idle.saturating_add(1),
+            Left::Stopped => break,
+        }
+        if idle > 0 && idle >= round {
+            break;
+        }
+    }
+    Ok(())
+}
+
+fn restart<W: Write>(
+    consumer: &mut ConsumerWorker,
+    out: &mut Output<'_, W>,
+) -> Result<(), PlayFault> {
+    consumer.restart();
+    let number = out.number();
+    print_restarted(&mut out.text, number)?;
+    out.tell()
+}
+
+fn show_inbox<W: Write>(
+    consumer: &mut ConsumerWorker,
+    out: &mut Output<'_, W>,
+) -> Result<(), PlayFault> {
+    let rows = consumer.rows()?;
+    let number = out.number();
+    print_inbox(&mut out.text, number, &rows)?;
+    out.tell()
+}

@@ -1,0 +1,107 @@
+//! What ends a scene before its last step.
+
+ghost use Rattle.std.specs.Prelude.{◌≡◌, IfOk};
+
+use kob_inbox::InboxFault;
+use kob_lines::{Lossy, RecordedLine};
+use kob_outbox::OutboxFault;
+use kob_shared::{CallFault, ServeFault};
+use std::alloc::{AllocError, AllocFailed};
+use thiserror::Error;
+
+/// Why a step could not be made, or not be told. What it had done by then stays done.
+#[derive(Clone, Copy, Debug, PartialEq, Eq, Error)]
+pub enum PlayFault {
+    #[error("out of memory")]
+    Memory,
+    /// The journal has 1,000,000 entries, and takes no more.
+    #[error("the journal is full")]
+    JournalFull,
+    /// A database refused for another cause than lack of memory.
+    #[error("a database refused")]
+    Store,
+    /// The scene has no worker at the place that a step names.
+    #[error("a step names no worker of the scene")]
+    NoWorker,
+    #[error("the output could not be written")]
+    WriteFailed,
+}
+
+impl From<AllocError> for PlayFault {
+    ghost use Rattle.std.specs.Prelude.{◌≡◌};
+    ghost use Rattle.kob_scene_play.specs.declared.fault.PlayFault.TheVariants.{Memory};
+
+    ghost from_gives = { λ _ fault. fault ≡ Memory };
+
+    fn from(_refused: AllocError) -> PlayFault {
+        PlayFault::Memory
+    }
+}
+
+impl<T: Drop> From<AllocFailed<T>> for PlayFault {
+    ghost use Rattle.std.specs.Prelude.{◌≡◌};
+    ghost use Rattle.kob_scene_play.specs.declared.fault.PlayFault.TheVariants.{Memory};
+
+    ghost from_gives = { λ _ fault. fault ≡ Memory };
+
+    fn from(_refused: AllocFailed<T>) -> PlayFault {
+        PlayFault::Memory
+    }
+}
+
+impl From<ServeFault> for PlayFault {
+    fn from(fault: ServeFault) -> PlayFault {
+        match fault {
+            ServeFault::Memory => PlayFault::Memory,
+            ServeFault::JournalFull => PlayFault::JournalFull,
+        }
+    }
+}
+
+impl From<CallFault> for PlayFault {
+    fn from(fault: CallFault) -> PlayFault {
+        match fault {
+            CallFault::Memory => PlayFault::Memory,
+            CallFault::JournalFull | CallFault::Stale { .. } => PlayFault::JournalFull,
+        }
+    }
+}
+
+impl From<OutboxFault> for PlayFault {
+    fn from(fault: OutboxFault) -> PlayFault {
+        match fault {
+            OutboxFault::Memory => PlayFault::Memory,
+            OutboxFault::Store => PlayFault::Store,
+        }
+    }
+}
+
+impl From<InboxFault> for PlayFault {
+    fn from(fault: InboxFault) -> PlayFault {
+        match fault {
+            InboxFault::Memory => PlayFault::Memory,
+            InboxFault::Store => PlayFault::Store,
+        }
+    }
+}
+
+/// Why the last call of a line was not heard, where no loss was named for it.
+pub(crate) fn line_fault(line: &Lossy<RecordedLine<'_>>) -> Option<PlayFault> {
+    match line.calls.fault.or(line.line.calls.fault) {
+        Some(fault) => Some(fault.into()),
+        None => None,
+    }
+}
+
+/// The answer of a step, unless the step has failed.
+pub(crate) fn unless<T: Drop>(fault: Option<PlayFault>, answer: T) -> Result<T, PlayFault>
+    ensures { IfOk result (λ given. given ≡ answer) }
+{
+    match fault {
+        None => Ok(answer),
+        Some(fault) => {
+            drop(answer);
+            Err(fault)
+        }
+    }
+}

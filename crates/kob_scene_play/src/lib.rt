@@ -1,0 +1,24 @@
+//! Scenes played: each service and consumer of a scene over one broker with its journal, in the
+//! order of the scene.
+#![tactic(auto)]
+
+mod consumer_steps;
+mod consumer_worker;
+mod fault;
+mod journal;
+mod law;
+mod order;
+mod output;
+mod playing;
+mod service_steps;
+mod service_worker;
+mod stage;
+mod text;
+
+pub use consumer_worker::ConsumerWorker;
+pub use fault::PlayFault;
+pub use output::Output;
+pub use playing::play;
+pub use service_worker::ServiceWorker;
+pub use stage::{PlayedConsumer, PlayedService, Stage};
+pub use text::{Ended, play_text};

@@ -1,0 +1,92 @@
+//! The output of a scene, written in pieces.
+
+ghost use Rattle.std.specs.Prelude.{◌≡◌, IfOk, OnOk};
+
+use crate::fault::PlayFault;
+use kob_words::push_number;
+use std::alloc::{AllocError, Global};
+use std::io::Write;
+
+/// What is printed is written once there are so many bytes of it.
+const PIECE: usize = 65_536;
+
+/// The last line of an output, which takes less.
+const LAST_LINE: usize = 64;
+
+/// What is printed and not yet written, and how many answers were told. The answer to each request
+/// and to each step has the next number.
+#[derive(Drop)]
+pub struct Output<'a, W> {
+    writer: &'a mut W,
+    /// What is printed; its first bytes are whole lines, and the line of an answer may follow.
+    pub(crate) text: Vec<u8>,
+    whole: usize,
+    told: u64,
+}
+
+impl<'a, W: Write> Output<'a, W> {
+    /// An output with nothing told. The error is out of memory.
+    pub fn open(alloc: Global, writer: &'a mut W) -> Result<Output<'a, W>, AllocError>
+        ensures { IfOk result (λ output. output.told ≡ 0) }
+    {
+        let text = Vec::with_capacity(alloc, PIECE + LAST_LINE)?;
+        Ok(Output {
+            writer,
+            text,
+            whole: 0,
+            told: 0,
+        })
+    }
+
+    /// How many answers were told.
+    pub fn told(&self) -> u64
+        ensures { result ≡ self.now.told }
+    {
+        self.told
+    }
+
+    /// The number of the next answer.
+    pub(crate) fn number(&self) -> u64 {
+        self.told.saturating_add(1)
+    }
+
+    /// The answer that was printed is told.
+    pub(crate) fn tell(&mut self) -> Result<(), PlayFault> {
+        self.told = self.told.saturating_add(1);
+        self.end_line()
+    }
+
+    /// A line that was printed belongs to the answer before it.
+    pub(crate) fn end_line(&mut self) -> Result<(), PlayFault> {
+        self.whole = self.text.len();
+        if self.whole < PIECE {
+            return Ok(());
+        }
+        self.write()
+    }
+
+    /// Writes what is printed.
+    fn write(&mut self) -> Result<(), PlayFault> {
+        if self.writer.write_all(&self.text).is_err() {
+            return Err(PlayFault::WriteFailed);
+        }
+        self.text.clear();
+        self.whole = 0;
+        Ok(())
+    }
+
+    /// Writes what is left.
+    pub fn finish(&mut self) -> Result<(), PlayFault> {
+        self.write()
+    }
+
+    /// Writes the lines that are whole, and `stopped after M` with the number of the last answer.
+    pub fn stop(&mut self) -> Result<(), PlayFault> {
+        self.text.truncate(self.whole);
+        self.write()?;
+        self.text.extend_from_slice(b"stopped after ")?;
+        push_number(&mut self.text, self.told)?;
+        self.text.extend_from_slice(b"\n")?;
+        self.write()
+    }
+}

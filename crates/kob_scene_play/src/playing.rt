@@ -1,0 +1,76 @@
+//! A scene is played.
+
+use crate::consumer_steps::play_consumer;
+use crate::fault::PlayFault;
+use crate::journal::show_journal;
+use crate::law::show_law;
+use crate::output::Output;
+use crate::service_steps::play_service;
+use crate::stage::Stage;
+use kob_rights::Event;
+use kob_scene_text::{Scene, Step};
+use kob_script::print_reply;
+use kob_shared::Recorded;
+use std::alloc::Global;
+use std::io::Write;
+
+/// Plays a scene, one step after another, and tells what each answers. After a fault the answers of
+/// the steps before it are told.
+pub fn play<W: Write>(
+    alloc: Global,
+    scene: Scene,
+    out: &mut Output<'_, W>,
+) -> Result<(), PlayFault> {
+    let Scene {
+        settings,
+        services,
+        consumers,
+        steps,
+    } = scene;
+    let mut stage = Stage::open(alloc, settings, services, consumers)?;
+    for place in 0..steps.len() {
+        play_step(alloc, &mut stage, &steps, place, out)?;
+    }
+    out.finish()
+}
+
+/// Plays the step at a place that the scene has.
+fn play_step<W: Write>(
+    alloc: Global,
+    stage: &mut Stage,
+    steps: &[Step],
+    place: usize,
+    out: &mut Output<'_, W>,
+) -> Result<(), PlayFault> {
+    match steps.get(place) {
+        None => Ok(()),
+        Some(Step::Request(event)) => play_request(alloc, &mut stage.recorded, event, out),
+        Some(Step::Service(which, step)) => match stage.services.get_mut(*which) {
+            Some(played) => play_service(alloc, &mut stage.recorded, played, place, step, out),
+            None => Err(PlayFault::NoWorker),
+        },
+        Some(Step::Consumer(which, step)) => match stage.consumers.get_mut(*which) {
+            Some(played) => {
+                play_consumer(alloc, &mut stage.recorded, &mut played.consumer, step, out)
+            }
+            None => Err(PlayFault::NoWorker),
+        },
+        Some(Step::Journal) => show_journal(stage, out),
+        Some(Step::Law { service, consumer }) => {
+            show_law(alloc, stage, steps, *service, *consumer, out)
+        }
+    }
+}
+
+/// Serves a request of a principal, as worker 0's, and prints the reply.
+fn play_request<W: Write>(
+    alloc: Global,
+    recorded: &mut Recorded,
+    event: &Event,
+    out: &mut Output<'_, W>,
+) -> Result<(), PlayFault> {
+    let receipt = recorded.serve_as(alloc, 0, event)?;
+    let number = out.number();
+    print_reply(&mut out.text, number, &receipt.reply)?;
+    out.tell()
+}

@@ -1,0 +1,156 @@
+//! The steps of a service.
+
+use crate::fault::PlayFault;
+use crate::output::Output;
+use crate::service_worker::ServiceWorker;
+use crate::stage::PlayedService;
+use kob_lines::Loss;
+use kob_names::Text;
+use kob_outbox::{Change, OutboxEvent, RecordFault};
+use kob_router::Tick;
+use kob_scene_text::{
+    Lost, ServiceStep, print_outbox, print_recorded, print_restarted, print_service_tick,
+    print_state, print_swept,
+};
+use kob_shared::Recorded;
+use std::alloc::Global;
+use std::io::Write;
+
+/// A step `run` makes no more ticks than this.
+pub(crate) const RUN_LIMIT: u32 = 1_000_000;
+
+/// Makes the step at this place of the scene, and tells what it answers.
+pub(crate) fn play_service<W: Write>(
+    alloc: Global,
+    recorded: &mut Recorded,
+    played: &mut PlayedService,
+    place: usize,
+    step: &ServiceStep,
+    out: &mut Output<'_, W>,
+) -> Result<(), PlayFault> {
+    match step {
+        ServiceStep::Record(change, event) => record(played, place, change, event, out),
+        ServiceStep::Tick(lost) => {
+            tick(alloc, recorded, &mut played.service, loss_of(*lost), out)?;
+            Ok(())
+        }
+        ServiceStep::Run => run(alloc, recorded, &mut played.service, out),
+        ServiceStep::Restart => restart(&mut played.service, out),
+        ServiceStep::Sweep => sweep(&mut played.service, out),
+        ServiceStep::Outbox => show_outbox(&mut played.service, out),
+        ServiceStep::Business { kind, key } => show_state(&mut played.service, kind, key, out),
+    }
+}
+
+/// Records an event with its change; the place is noted where the row was made.
+fn record<W: Write>(
+    played: &mut PlayedService,
+    place: usize,
+    change: &Change,
+    event: &OutboxEvent,
+    out: &mut Output<'_, W>,
+) -> Result<(), PlayFault> {
+    played.recorded_by.reserve(1)?;
+    let recorded = played.service.record(change, event);
+    match recorded {
+        Ok(_) => played.recorded_by.push_reserved(place),
+        Err(RecordFault::Memory) => return Err(PlayFault::Memory),
+        Err(RecordFault::Store) => return Err(PlayFault::Store),
+        Err(RecordFault::BadField(_)) => {}
+        Err(RecordFault::DuplicateId) => {}
+    }
+    let number = out.number();
+    print_recorded(&mut out.text, number, recorded)?;
+    out.tell()
+}
+
+/// One tick; true where the next one has something to do.
+fn tick<W: Write>(
+    alloc: Global,
+    recorded: &mut Recorded,
+    service: &mut ServiceWorker,
+    loss: Loss,
+    out: &mut Output<'_, W>,
+) -> Result<bool, PlayFault> {
+    let tick = service.tick(alloc, recorded, loss)?;
+    let goes_on = goes_on(&tick);
+    let number = out.number();
+    print_service_tick(&mut out.text, number, tick)?;
+    out.tell()?;
+    Ok(goes_on)
+}
+
+/// Whether a tick moved the mark, or has to be made again.
+fn goes_on(tick: &Tick) -> bool {
+    match tick {
+        Tick::Moved(_) => true,
+        Tick::Repeat => true,
+        Tick::Idle => false,
+        Tick::Stopped(_) => false,
+    }
+}
+
+/// Ticks until one neither moves nor repeats.
+fn run<W: Write>(
+    alloc: Global,
+    recorded: &mut Recorded,
+    service: &mut ServiceWorker,
+    out: &mut Output<'_, W>,
+) -> Result<(), PlayFault> {
+    for _ in 0..RUN_LIMIT {
+        if !tick(alloc, recorded, service, Loss::None, out)? {
+            break;
+        }
+    }
+    Ok(())
+}
+
+fn restart<W: Write>(
+    service: &mut ServiceWorker,
+    out: &mut Output<'_, W>,
+) -> Result<(), PlayFault> {
+    service.restart();
+    let number = out.number();
+    print_restarted(&mut out.text, number)?;
+    out.tell()
+}
+
+fn sweep<W: Write>(service: &mut ServiceWorker, out: &mut Output<'_, W>) -> Result<(), PlayFault> {
+    let count = service.sweep()?;
+    let number = out.number();
+    print_swept(&mut out.text, number, count)?;
+    out.tell()
+}
+
+/// Tells the mark, and the rows after it.
+fn show_outbox<W: Write>(
+    service: &mut ServiceWorker,
+    out: &mut Output<'_, W>,
+) -> Result<(), PlayFault> {
+    let mark = service.mark()?;
+    let rows = service.rows_after(mark, u32::MAX)?;
+    let number = out.number();
+    print_outbox(&mut out.text, number, mark, &rows)?;
+    out.tell()
+}
+
+fn show_state<W: Write>(
+    service: &mut ServiceWorker,
+    kind: &Text,
+    key: &Text,
+    out: &mut Output<'_, W>,
+) -> Result<(), PlayFault> {
+    let state = service.business(kind.as_str(), key.as_str())?;
+    let number = out.number();
+    print_state(&mut out.text, number, &state)?;
+    out.tell()
+}
+
+/// What becomes of the first call of a tick.
+pub(crate) fn loss_of(lost: Option<Lost>) -> Loss {
+    match lost {
+        None => Loss::None,
+        Some(Lost::Request) => Loss::BeforeServe,
+        Some(Lost::Reply) => Loss::AfterServe,
+    }
+}

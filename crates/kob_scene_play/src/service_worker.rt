@@ -1,0 +1,167 @@
+//! A service as a worker of the journal.
+
+ghost use Rattle.std.specs.Prelude.{◌≡◌, ◌≤◌, [], None, IfOk, OnErr, OnOk, map, option_map};
+ghost use Rattle.std.specs.Prelude.{string_bytes};
+ghost use Rattle.kob_outbox.specs.Contents.{empty};
+ghost use Rattle.kob_outbox.specs.Events.{stored_row};
+ghost use Rattle.kob_outbox.specs.Reading.{first_after, state_at};
+ghost use Rattle.kob_router.specs.Run.Move.{Recorded as RecordedMove, Restarted, Swept};
+ghost use Rattle.kob_scene_play.specs.Workers.{Does, IsServiceTick};
+
+use crate::fault::{PlayFault, line_fault, unless};
+use kob_lines::{Loss, Lossy, RecordedLine};
+use kob_names::{Host, PlainValue, Principal};
+use kob_outbox::{Change, Outbox, OutboxEvent, OutboxFault, RecordFault, Row};
+use kob_router::{Router, StopReason, Target, Tick};
+use kob_shared::Recorded;
+use std::alloc::Global;
+use std::marker::Model;
+
+/// A service: its number in the journal, who it is, its router and its outbox.
+#[derive(Drop)]
+pub struct ServiceWorker {
+    worker: usize,
+    principal: Principal,
+    host: Host,
+    router: Router,
+    outbox: Outbox,
+}
+
+impl Model for ServiceWorker {
+    ghost use Rattle.std.specs.Coded.{codes};
+    ghost use Rattle.std.specs.Prelude.{option_map};
+    ghost use Rattle.kob_outbox.specs.Contents.{contents_code};
+    ghost use Rattle.kob_router.specs.Tick.{IsFirst, hand_of};
+    ghost use Rattle.kob_scene_play.specs.Workers.{Service};
+
+    ghost Value = { Service };
+
+    ghost coded = { Prim.hlevel (codes, contents_code) };
+
+    ghost view = { λ w. record {
+      worker = w.worker;
+      principal = w.principal;
+      host = w.host;
+      sender = w.router;
+      outbox = w.outbox;
+    } };
+
+    ghost invariant = { λ w. IsFirst (option_map hand_of w.router.hand) w.outbox };
+}
+
+impl ServiceWorker {
+    /// A service with an empty outbox and a router that has made no call.
+    pub fn open(
+        alloc: Global,
+        worker: usize,
+        principal: Principal,
+        host: Host,
+        target: Target,
+    ) -> Result<ServiceWorker, PlayFault>
+        requires some { 1 ≤ target.partitions }
+        requires most { target.partitions ≤ 1000 }
+        ensures { IfOk result (λ w. w ≡ record {
+          worker = worker;
+          principal = principal;
+          host = host;
+          sender = record { target = target; producer = None; sequences = []; hand = None };
+          outbox = empty;
+        }) }
+    {
+        let Target { route, partitions } = target;
+        let outbox = Outbox::open_in_memory(alloc)?;
+        Ok(ServiceWorker {
+            worker,
+            principal,
+            host,
+            router: Router::new(alloc, route, partitions),
+            outbox,
+        })
+    }
+
+    /// Its number in the journal.
+    pub fn number(&self) -> usize
+        ensures { result ≡ self.now.worker }
+    {
+        self.worker
+    }
+
+    /// Records an event together with the change that it tells of.
+    pub fn record(&mut self, change: &Change, event: &OutboxEvent) -> Result<u64, RecordFault>
+        ensures ok { OnOk result (Does (RecordedMove change.now event.now) self.old self.new) }
+        ensures err { OnErr result (self.new ≡ self.old) }
+    {
+        self.outbox.record(change, event)
+    }
+
+    /// One step of the router over the broker, whose first call is lost so.
+    pub fn tick(
+        &mut self,
+        alloc: Global,
+        recorded: &mut Recorded,
+        loss: Loss,
+    ) -> Result<Tick, PlayFault>
+        ensures { IfOk result (IsServiceTick self.old self.new) }
+    {
+        let principal = self.principal.copy(alloc)?;
+        let host = self.host.copy(alloc)?;
+        let line = RecordedLine::open(alloc, recorded, self.worker, principal, host);
+        let mut line = Lossy::over(alloc, line);
+        line.lose(loss);
+        let tick = self.router.tick(alloc, &mut self.outbox, &mut line);
+        let fault = stopped_by(&tick).or(line_fault(&line));
+        drop(line);
+        let tick = unless(fault, tick)?;
+        Ok(tick)
+    }
+
+    /// Starts the router again; the outbox stays. No memory is taken.
+    pub fn restart(&mut self)
+        ensures { Does Restarted self.old self.new }
+    {
+        self.router.restart();
+    }
+
+    /// Drops the rows up to the mark, and answers how many they were.
+    pub fn sweep(&mut self) -> Result<u64, OutboxFault>
+        ensures ok { OnOk result (Does Swept self.old self.new) }
+        ensures err { OnErr result (self.new ≡ self.old) }
+    {
+        self.outbox.sweep()
+    }
+
+    /// The mark of its outbox.
+    pub fn mark(&mut self) -> Result<u64, OutboxFault>
+        ensures value { IfOk result (λ mark. mark ≡ self.old.outbox.mark) }
+        ensures same { self.new ≡ self.old }
+    {
+        self.outbox.mark()
+    }
+
+    /// The first rows after this number that were not swept, at most so many.
+    pub fn rows_after(&mut self, seq: u64, limit: u32) -> Result<Vec<Row>, OutboxFault>
+        ensures rows { IfOk result (λ rows. map stored_row rows.items
+            ≡ first_after seq limit self.old.outbox.events) }
+        ensures same { self.new ≡ self.old }
+    {
+        self.outbox.after(seq, limit)
+    }
+
+    /// The state of its business row with this kind and id, if there is one.
+    pub fn business(&mut self, kind: &str, id: &str) -> Result<Option<String>, OutboxFault>
+        ensures value { IfOk result (λ found. option_map string_bytes found
+            ≡ state_at kind.now id.now self.old.outbox.business) }
+        ensures same { self.new ≡ self.old }
+    {
+        self.outbox.business(kind, id)
+    }
+}
+
+/// Why a tick that memory or the database stopped did.
+fn stopped_by(tick: &Tick) -> Option<PlayFault> {
+    match tick {
+        Tick::Stopped(StopReason::Memory) => Some(PlayFault::Memory),
+        Tick::Stopped(StopReason::Store) => Some(PlayFault::Store),
+        _ => None,
+    }
+}

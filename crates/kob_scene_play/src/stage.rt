@@ -1,0 +1,124 @@
+//! What a scene is played on.
+
+ghost use Rattle.std.specs.Prelude.{IfOk};
+ghost use Rattle.kob_shared.specs.Openings.{IsFresh};
+
+use crate::consumer_worker::ConsumerWorker;
+use crate::fault::PlayFault;
+use crate::service_worker::ServiceWorker;
+use kob_broker::{Broker, OpenFault};
+use kob_names::{Settings, Text};
+use kob_scene_text::{Consumer, Service};
+use kob_shared::{ENTRY_LIMIT, Recorded};
+use std::alloc::Global;
+
+/// A service of a scene, with its name, and which steps recorded its rows.
+#[derive(Drop)]
+pub struct PlayedService {
+    pub name: Text,
+    pub service: ServiceWorker,
+    pub recorded_by: Vec<usize>,
+}
+
+/// A consumer of a scene, with its name.
+#[derive(Drop)]
+pub struct PlayedConsumer {
+    pub name: Text,
+    pub consumer: ConsumerWorker,
+}
+
+/// The broker with its journal, and the workers of a scene, each with tables of its own.
+#[derive(Drop)]
+pub struct Stage {
+    pub recorded: Recorded,
+    pub services: Vec<PlayedService>,
+    pub consumers: Vec<PlayedConsumer>,
+}
+
+impl Stage {
+    /// A broker as it is opened, and workers that have made no step.
+    pub fn open(
+        alloc: Global,
+        settings: Settings,
+        services: Vec<Service>,
+        consumers: Vec<Consumer>,
+    ) -> Result<Stage, PlayFault> {
+        let recorded = recorded_by(alloc, settings)?;
+        let services = all_services(alloc, services)?;
+        let consumers = all_consumers(alloc, consumers)?;
+        Ok(Stage {
+            recorded,
+            services,
+            consumers,
+        })
+    }
+
+    /// The name of a worker; `-` for worker 0, which has none.
+    pub fn name_of(&self, worker: usize) -> &str {
+        for played in &self.services {
+            if played.service.number() == worker {
+                return played.name.as_str();
+            }
+        }
+        for played in &self.consumers {
+            if played.consumer.number() == worker {
+                return played.name.as_str();
+            }
+        }
+        "-"
+    }
+}
+
+fn broker_by(alloc: Global, settings: Settings) -> Result<Broker, OpenFault>
+    ensures { IfOk result IsFresh }
+{
+    Broker::open(alloc, settings)
+}
+
+// A scene opens no bindings, so that out of memory is the only fault.
+fn recorded_by(alloc: Global, settings: Settings) -> Result<Recorded, PlayFault> {
+    let Ok(broker) = broker_by(alloc, settings) else {
+        return Err(PlayFault::Memory);
+    };
+    Ok(Recorded::open(alloc, broker, ENTRY_LIMIT)?)
+}
+
+fn all_services(alloc: Global, services: Vec<Service>) -> Result<Vec<PlayedService>, PlayFault> {
+    let mut all = Vec::new(alloc);
+    for service in services {
+        let Service {
+            name,
+            worker,
+            principal,
+            host,
+            routed,
+            settings: _,
+        } = service;
+        let service = ServiceWorker::open(alloc, worker, principal, host, routed.into_target())?;
+        all.push(PlayedService {
+            name,
+            service,
+            recorded_by: Vec::new(alloc),
+        })?;
+    }
+    Ok(all)
+}
+
+fn all_consumers(
+    alloc: Global,
+    consumers: Vec<Consumer>,
+) -> Result<Vec<PlayedConsumer>, PlayFault> {
+    let mut all = Vec::new(alloc);
+    for consumer in consumers {
+        let Consumer {
+            name,
+            worker,
+            principal,
+            host,
+            subscription,
+        } = consumer;
+        let consumer = ConsumerWorker::open(alloc, worker, principal, host, subscription)?;
+        all.push(PlayedConsumer { name, consumer })?;
+    }
+    Ok(all)
+}
