@@ -16,8 +16,6 @@ mod one_name;
 #[cfg(test)]
 mod open_to_all;
 #[cfg(test)]
-mod partition;
-#[cfg(test)]
 mod principals;
 #[cfg(test)]
 mod producers;

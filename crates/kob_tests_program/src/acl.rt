@@ -3,7 +3,10 @@
 use kob_acl_cli::{
     AclCommand, CliArgs, CommandFault, LineFault, commands_of, print_list, read_line,
 };
+use kob_broker::Broker;
 use kob_names::{Binding, BindingFilter, Draft, Items};
+use kob_rights::{Body, Reply};
+use kob_script::read_script;
 use std::alloc::{AllocError, Global};
 use std::fmt::Debug;
 use std::test::Fail;
@@ -370,4 +373,37 @@ binding 4 ALLOW User:a * Read Group PREFIXED h
             ),
         ],
     )
+}
+
+/// The bindings that the reply to the last event of a script holds.
+fn last_bindings(alloc: Global, script: &str) -> Option<Items<(u64, Binding)>> {
+    let script = read_script(alloc, script.as_bytes()).ok()?;
+    let mut broker = Broker::open(alloc, script.settings).ok()?;
+    let replies = broker.run(alloc, script.events.as_slice());
+    drop(broker);
+    match replies.ok()?.pop()? {
+        Reply::Done(Body::Bindings(found)) => Some(found),
+        _ => None,
+    }
+}
+
+#[test]
+fn removed_bindings_are_printed(rt: HostRuntime) -> Result<(), Fail> {
+    let script = "super User:root
+User:root h acl --add --allow-principal User:a --producer --consumer --topic t --group g
+User:root h acl --remove --topic t
+";
+    let lines = "binding 1 ALLOW User:a * Write Topic LITERAL t
+binding 2 ALLOW User:a * Describe Topic LITERAL t
+binding 3 ALLOW User:a * Create Topic LITERAL t
+binding 4 ALLOW User:a * Read Topic LITERAL t
+";
+    let found = last_bindings(rt.alloc(), script);
+    assert!(rt; found.is_some());
+    let printed = match found {
+        Some(found) => print_list(rt.alloc(), found.as_slice())?,
+        None => return Ok(()),
+    };
+    assert_eq!(rt; printed.as_str(), lines);
+    Ok(())
 }

@@ -4,27 +4,11 @@
 #[cfg(test)]
 mod acl;
 #[cfg(test)]
-mod acl_lines;
-#[cfg(test)]
-mod deletions;
+mod faults;
 #[cfg(test)]
 mod full;
 #[cfg(test)]
-mod groups;
-#[cfg(test)]
-mod guide;
-#[cfg(test)]
-mod limits;
-#[cfg(test)]
-mod malicious;
-#[cfg(test)]
-mod open;
-#[cfg(test)]
-mod played;
-#[cfg(test)]
 mod resumed;
-#[cfg(test)]
-mod rows;
 #[cfg(test)]
 mod runs;
 #[cfg(test)]

@@ -1,6 +1,5 @@
 //! Whole runs: scripts with their outputs, and readers and writers that give little or fail.
 
-use crate::guide::DENY_BEATS_ALLOW_TXT;
 use crate::resumed::{FIRST_OUTPUT, FIRST_SCRIPT};
 use kob_text::{Ended, RunFault, SCRIPT_LIMIT, run_text};
 use std::alloc::{AllocError, Global};
@@ -83,28 +82,14 @@ pub(crate) fn plays(
 }
 
 #[test]
-fn empty_and_bad_script(rt: HostRuntime) -> Result<(), Fail> {
-    let cases = [
-        ("", "", Ended::Clean),
-        ("x", "fault line 1 BadLine\n", Ended::Fault),
-        (
-            "User:a h groups\nUser:root h create-topic %zz 1\n",
-            "fault line 2 BadEscape\n",
-            Ended::Fault,
-        ),
-    ];
-    for (script, output, end) in cases {
-        assert!(rt; plays(rt.alloc(), script, output, end)?);
-    }
-    Ok(())
-}
-
-#[test]
 fn each_prefix_ends(rt: HostRuntime) -> Result<(), Fail> {
-    let script = DENY_BEATS_ALLOW_TXT.as_bytes();
-    for end in 0..script.len() {
+    let script = FIRST_SCRIPT.as_bytes();
+    for end in 0..=script.len() {
         let (ended, _) = run(rt.alloc(), &script[..end])?;
-        assert!(rt; ended != Ended::Stopped);
+        assert!(rt;
+            ended == Ended::Clean || ended == Ended::Fault,
+            "the first {end} bytes"
+        );
     }
     Ok(())
 }
@@ -177,106 +162,6 @@ fn batches_have_a_limit(rt: HostRuntime) -> Result<(), Fail> {
         let script = producing(rt.alloc(), bytes)?;
         let (_, written) = run(rt.alloc(), script.as_slice())?;
         assert_eq!(rt; written.as_slice(), output.as_bytes());
-    }
-    Ok(())
-}
-
-/// A script in which one with Create on the cluster, one without it and the super user create
-/// topics whose names are so many letters long.
-fn creating() -> [(&'static str, usize, &'static str); 5] {
-    [
-        (
-            "User:root h create-acl allow User:a * Create Cluster literal kafka-cluster\n\
-             User:a h create-topic ",
-            249,
-            " 1\n",
-        ),
-        ("User:a h create-topic ", 250, " 1\n"),
-        ("User:b h create-topic ", 250, " 1\n"),
-        ("User:root h create-topic ", 1, " 0\n"),
-        ("User:root h create-topic ", 249, " 1\n"),
-    ]
-}
-
-#[test]
-fn create_topic_refusals(rt: HostRuntime) -> Result<(), Fail> {
-    let mut script = Vec::new(rt.alloc());
-    script.extend_from_slice(b"super User:root\n")?;
-    for (before, letters, after) in creating() {
-        script.extend_from_slice(before.as_bytes())?;
-        for _ in 0..letters {
-            script.push(b'a')?;
-        }
-        script.extend_from_slice(after.as_bytes())?;
-    }
-    let (_, written) = run(rt.alloc(), script.as_slice())?;
-    let output = "1 ok serials 1\n2 ok created\n3 refused 17 INVALID_TOPIC_EXCEPTION BadTopicName\n\
-         4 denied 29 TOPIC_AUTHORIZATION_FAILED no-allow,no-allow\n\
-         5 refused 37 INVALID_PARTITIONS BadPartitions\n\
-         6 refused 36 TOPIC_ALREADY_EXISTS TopicExists\n";
-    assert_eq!(rt; written.as_slice(), output.as_bytes());
-    Ok(())
-}
-
-/// Requests with so many of one piece, after a topic was created, and the line of their reply.
-fn long_requests() -> [(
-    &'static str,
-    &'static str,
-    usize,
-    &'static str,
-    &'static str,
-); 5] {
-    [
-        (
-            "produce t 0 -",
-            " v",
-            1_001,
-            "\n",
-            "2 refused 42 INVALID_REQUEST TooManyRecords\n",
-        ),
-        (
-            "commit ",
-            "g",
-            256,
-            " t 0 1\n",
-            "2 refused 24 INVALID_GROUP_ID BadGroupName\n",
-        ),
-        (
-            "committed ",
-            "g",
-            256,
-            " t 0\n",
-            "2 refused 24 INVALID_GROUP_ID BadGroupName\n",
-        ),
-        (
-            "delete-group ",
-            "g",
-            256,
-            "\n",
-            "2 refused 24 INVALID_GROUP_ID BadGroupName\n",
-        ),
-        (
-            "create-acl allow User:a * Read Topic literal ",
-            "a",
-            256,
-            "\n",
-            "2 refused 42 INVALID_REQUEST NameTooLong\n",
-        ),
-    ]
-}
-
-#[test]
-fn long_requests_are_refused(rt: HostRuntime) -> Result<(), Fail> {
-    for (before, piece, times, after, output) in long_requests() {
-        let mut script = Vec::new(rt.alloc());
-        script.extend_from_slice(b"super User:r\nUser:r h create-topic t 1\nUser:r h ")?;
-        script.extend_from_slice(before.as_bytes())?;
-        for _ in 0..times {
-            script.extend_from_slice(piece.as_bytes())?;
-        }
-        script.extend_from_slice(after.as_bytes())?;
-        let (_, written) = run(rt.alloc(), script.as_slice())?;
-        assert!(rt; written.as_slice().strip_prefix(b"1 ok created\n") == Some(output.as_bytes()));
     }
     Ok(())
 }

@@ -1,91 +1,13 @@
-//! Scripts: what is printed for each kind of fault, spellings that read alike, and how replies are
-//! printed.
+//! Scripts: spellings that read alike, and how replies are printed.
 
 use kob_names::{
     Binding, Bytes, Draft, Host, Items, Operation, Pattern, PatternKind, Permission, PlainValue,
     Principal, Record, ResourceKind, Text, Verdict,
 };
 use kob_rights::{Body, Code, Reason, Reply};
-use kob_script::{Script, ScriptError, print_fault, print_reply, read_script};
+use kob_script::{Script, ScriptError, print_reply, read_script};
 use std::alloc::{AllocError, Global};
 use std::test::Fail;
-
-// A host of 255 bytes, and one of 256 beside a number that is none.
-const LONG_HOST: &str = "User:a\thhhhhhhhhhhhhhhhhhhhhhhhhhhhhhhhhhhhhhhhhhhhhhhhhhhhhhhhhhhhhhh\
-hhhhhhhhhhhhhhhhhhhhhhhhhhhhhhhhhhhhhhhhhhhhhhhhhhhhhhhhhhhhhhhh\
-hhhhhhhhhhhhhhhhhhhhhhhhhhhhhhhhhhhhhhhhhhhhhhhhhhhhhhhhhhhhhhhh\
-hhhhhhhhhhhhhhhhhhhhhhhhhhhhhhhhhhhhhhhhhhhhhhhhhhhhhhhhhhhhhhhh groups\n\
-User:a hhhhhhhhhhhhhhhhhhhhhhhhhhhhhhhhhhhhhhhhhhhhhhhhhhhhhhhhhhhhhhhh\
-hhhhhhhhhhhhhhhhhhhhhhhhhhhhhhhhhhhhhhhhhhhhhhhhhhhhhhhhhhhhhhhh\
-hhhhhhhhhhhhhhhhhhhhhhhhhhhhhhhhhhhhhhhhhhhhhhhhhhhhhhhhhhhhhhhh\
-hhhhhhhhhhhhhhhhhhhhhhhhhhhhhhhhhhhhhhhhhhhhhhhhhhhhhhhhhhhhhhhh commit g t x 0\n";
-
-/// What is printed for a script that has a fault; for another one nothing.
-fn fault_line(alloc: Global, script: &[u8]) -> Result<Vec<u8>, AllocError> {
-    let mut out = Vec::new(alloc);
-    match read_script(alloc, script) {
-        Ok(_) => {}
-        Err(ScriptError::Memory) => return Err(AllocError),
-        Err(ScriptError::Fault(fault)) => print_fault(&mut out, fault)?,
-    }
-    Ok(out)
-}
-
-#[test]
-fn first_fault_is_printed(rt: HostRuntime) -> Result<(), Fail> {
-    let cases = [
-        ("", ""),
-        ("x", "fault line 1 BadLine\n"),
-        (
-            "\n \t\n# %zz\nUser:a h groups %f",
-            "fault line 4 BadEscape\n",
-        ),
-        ("User:a h groups\nsuper", "fault line 2 LateSetting\n"),
-        ("User:a h groups\nsuper %2", "fault line 2 BadEscape\n"),
-        ("a h list-offsets %ff x -3\n", "fault line 1 BadLine\n"),
-        ("User:a h produce t 0 %2d\n", "fault line 1 BadLine\n"),
-        ("User:a h delete-records t 0\n", "fault line 1 BadLine\n"),
-        (
-            "User:a h delete-records t 0 1 1\n",
-            "fault line 1 BadLine\n",
-        ),
-        ("User:a h Groups\n", "fault line 1 BadLine\n"),
-        ("a h create-topic %ff 1\n", "fault line 1 BadText\n"),
-        ("super a\nx", "fault line 1 BadPrincipal\n"),
-        (
-            "User:a h create-acl maybe Group:b h Read Topic Literal t\n",
-            "fault line 1 BadPrincipal\n",
-        ),
-        (LONG_HOST, "fault line 2 BadHost\n"),
-        ("User:a h commit g t +1 0\n", "fault line 1 BadNumber\n"),
-        (
-            "User:a h fetch t 00 7 18446744073709551616\n",
-            "fault line 1 BadNumber\n",
-        ),
-        (
-            "User:a h delete-records t 0 -2\n",
-            "fault line 1 BadNumber\n",
-        ),
-        (
-            "User:a h delete-records t 0 18446744073709551616\n",
-            "fault line 1 BadNumber\n",
-        ),
-        ("a h delete-records t x -2\n", "fault line 1 BadPrincipal\n"),
-        (
-            "User:a h create-acl allow User:b * Read Topic any t\n",
-            "fault line 1 BadWord\n",
-        ),
-        (
-            "User:a h delete-acls %2d - - - - - -\n",
-            "fault line 1 BadWord\n",
-        ),
-    ];
-    for (script, printed) in cases {
-        let out = fault_line(rt.alloc(), script.as_bytes())?;
-        assert_eq!(rt; out.as_slice(), printed.as_bytes());
-    }
-    Ok(())
-}
 
 fn read(alloc: Global, script: &str) -> Result<Script, ScriptError> {
     read_script(alloc, script.as_bytes())
