@@ -1,0 +1,62 @@
+-- A last step of reading, and what a line says.
+use Rattle.std.proofs.Common.{◌≡◌, ℕ, true, false, List, None, Result, Ok, Err, sym, subst, refl, ◌∙◌, Bool}
+use Rattle.std.proofs.lemmas.Bool.{false≢true}
+use Rattle.kob_script.specs.declared.fault.FaultKind.{FaultKind}
+use Rattle.kob_script.specs.declared.fault.LineError.{LineError}
+use Rattle.kob_script.specs.declared.fault.LineError.TheVariants.{Memory, Fault}
+use Rattle.kob_script.specs.Reading.{◌>>=◌, Fails, Gives, GivesSeen}
+use Rattle.kob_script.specs.ScriptReadings.{IsAnswerToLine}
+use Rattle.kob_script.specs.Words.{words_of}
+use Rattle.kob_policy_text.specs.declared.item.Item.{Item}
+use Rattle.kob_policy_text.specs.Lines.{Says, SaysBy, SaysByWords, is_listed, items_of, listed_items, script_line, words_items}
+use Rattle.kob_policy_text.specs.Outcomes.{MayFail, MayGive}
+use Rattle.kob_policy_text.specs.Pieces.{trimmed}
+
+pub gives_after : {A B : Type 0} (r : Result B LineError) (read : Result A FaultKind) (x : A)
+    (f : A → Result B FaultKind) → read ≡ Ok x → Gives r (f x) → Gives r (read >>= f)
+gives_after r read x f read_is gives = subst (λ (q : _). Gives r (q >>= f)) (sym read_is) gives
+
+listed_by : {A : Type 0} (view : A → List Item) (line : List ℕ) (r : Result A LineError)
+    → is_listed line ≡ true → (is_listed line ≡ false → ⊥) → GivesSeen view r (listed_items line)
+    → MayGive view r (SaysBy line)
+unfolding items_of
+listed_by view line (Ok x) listed unlisted gives = (None, λ off. absurd (unlisted off), rw listed gives)
+listed_by view line (Err Memory) listed unlisted gives = tt
+listed_by view line (Err (Fault kind)) listed unlisted gives = (None, λ off. absurd (unlisted off), rw listed gives)
+
+no_line_by : (line : List ℕ) (e : LineError)
+    → is_listed line ≡ false → Fails e (script_line line) → MayFail e (SaysBy line)
+unfolding items_of
+no_line_by line Memory unlisted fails = tt
+no_line_by line (Fault kind) unlisted fails = (None, λ _. rw fails tt, rw (unlisted, fails) refl)
+
+words_by : {A : Type 0} (view : A → List Item) (line text : List ℕ) (r : Result A LineError)
+    → is_listed line ≡ false → script_line line ≡ Ok text → MayGive view r (SaysByWords text)
+    → MayGive view r (SaysBy line)
+unfolding items_of
+words_by view line text (Ok x) unlisted is_text says =
+    (says.0, λ _. rw is_text says.1, rw (unlisted, is_text) says.2)
+words_by view line text (Err Memory) unlisted is_text says = tt
+words_by view line text (Err (Fault kind)) unlisted is_text says =
+    (says.0, λ _. rw is_text says.1, rw (unlisted, is_text) says.2)
+
+pub says_listed : {A : Type 0} (view : A → List Item) (given line : List ℕ) (test : Bool) (r : Result A LineError)
+    → line ≡ trimmed given → test ≡ is_listed line → test ≡ true → GivesSeen view r (listed_items line)
+    → MayGive view r (Says given)
+says_listed view given line test r trim is passed gives =
+    let listed : is_listed line ≡ true = sym is ∙ passed in
+    let not_unlisted : is_listed line ≡ false → ⊥ = λ off. false≢true (sym off ∙ listed) in
+    subst (λ (l : List ℕ). MayGive view r (SaysBy l)) trim (listed_by view line r listed not_unlisted gives)
+
+pub says_no_line : (given line : List ℕ) (test : Bool) (e : LineError)
+    → line ≡ trimmed given → test ≡ is_listed line → test ≡ false → Fails e (script_line line)
+    → MayFail e (Says given)
+says_no_line given line test e trim is failed fails =
+    subst (λ (l : List ℕ). MayFail e (SaysBy l)) trim (no_line_by line e (sym is ∙ failed) fails)
+
+pub says_words : {A : Type 0} (view : A → List Item) (given line text : List ℕ) (test : Bool)
+    (r : Result A LineError)
+    → line ≡ trimmed given → test ≡ is_listed line → test ≡ false → script_line line ≡ Ok text
+    → MayGive view r (SaysByWords text) → MayGive view r (Says given)
+says_words view given line text test r trim is failed is_text says =
+    subst (λ (l : List ℕ). MayGive view r (SaysBy l)) trim (words_by view line text r (sym is ∙ failed) is_text says)

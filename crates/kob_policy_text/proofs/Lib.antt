@@ -1,0 +1,4 @@
+pub mod Asking
+pub mod Chains
+pub mod Growing
+pub mod Making

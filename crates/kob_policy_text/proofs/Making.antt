@@ -1,0 +1,106 @@
+-- A file is read line by line, and a line thing by thing.
+use Rattle.std.proofs.Common.{◌≡◌, ◌∙◌, ◌+◌, ℕ, List, [], ◌∷◌, Result, Ok, Err, sym, subst, refl, ap, arith, length}
+use Rattle.kob_script.specs.declared.fault.Fault as fault
+use Rattle.kob_script.specs.declared.fault.FaultKind.{FaultKind}
+use Rattle.kob_script.specs.declared.fault.LineError.{LineError}
+use Rattle.kob_script.specs.declared.fault.LineError.TheVariants.{Memory, Fault}
+use Rattle.kob_script.specs.Reading.{◌>>=◌, Fails, GivesSeen}
+use Rattle.kob_policy_text.specs.declared.item.Item.{Item}
+use Rattle.kob_policy_text.specs.declared.origin.Origin.{Origin}
+use Rattle.kob_policy_text.specs.Policy.{FileMakes, IsStopped, LineMakes, LinesMake, Policy, at_file, fault_at, place, with_item, with_items}
+use Rattle.kob_policy_text.specs.Lines.{Says}
+use Rattle.kob_policy_text.specs.Outcomes.{MayFail, MayGive}
+use Rattle.kob_script.specs.Script.{lines_in}
+
+-- What the lines that are left may make, the file may make.
+abbrev pub Leads : List ℕ → List ℕ → Policy → Policy → ℕ → List (List ℕ) → Type 0
+Leads file text old policy number rest =
+    (read : Result Policy fault.Fault) → LinesMake file policy number rest read → FileMakes file text old read
+
+pub lines_begin : (file text : List ℕ) (old policy : Policy) → policy ≡ at_file old
+    → Leads file text old policy 1 (lines_in text)
+lines_begin file text old policy begun =
+    λ read may. subst (λ (p : Policy). LinesMake file p 1 (lines_in text) read) begun may
+
+pub line_keeps : (file text : List ℕ) (old policy next : Policy) (number : ℕ) (rest : List (List ℕ)) (line : List ℕ)
+    (more : List (List ℕ))
+    → Leads file text old policy number rest → rest ≡ line ∷ more → LineMakes file policy number line (Ok next)
+    → Leads file text old next (number + 1) more
+unfolding LinesMake
+line_keeps file text old policy next number rest line more leads split makes =
+    λ read others. leads read (subst (λ (lines : List (List ℕ)). LinesMake file policy number lines read) (sym split)
+    (Ok next, makes, others))
+
+pub line_stops : (file text : List ℕ) (old policy : Policy) (number : ℕ) (rest : List (List ℕ)) (line : List ℕ)
+    (more : List (List ℕ)) (kind : FaultKind)
+    → Leads file text old policy number rest → rest ≡ line ∷ more → LineMakes file policy number line (Err kind)
+    → FileMakes file text old (Err (record { line = number; kind = kind }))
+unfolding LinesMake
+line_stops file text old policy number rest line more kind leads split makes =
+    let read : Result Policy fault.Fault = Err (record { line = number; kind = kind }) in
+    leads read (subst (λ (lines : List (List ℕ)). LinesMake file policy number lines read) (sym split)
+    (Err kind, makes, refl))
+
+-- the same of an error, which may be want of memory
+pub stopped : (file text : List ℕ) (old policy : Policy) (number : ℕ) (rest : List (List ℕ))
+    (line : List ℕ) (more : List (List ℕ)) (e : LineError)
+    → Leads file text old policy number rest → rest ≡ line ∷ more → MayFail e (LineMakes file policy number line)
+    → IsStopped (fault_at number e) (FileMakes file text old)
+stopped file text old policy number rest line more Memory leads split makes = tt
+stopped file text old policy number rest line more (Fault kind) leads split makes =
+    line_stops file text old policy number rest line more kind leads split makes
+
+pub lines_end : (file text : List ℕ) (old policy : Policy) (number : ℕ) (rest : List (List ℕ))
+    → Leads file text old policy number rest → rest ≡ [] → FileMakes file text old (Ok policy)
+unfolding LinesMake
+lines_end file text old policy number rest leads none =
+    leads (Ok policy) (subst (λ (lines : List (List ℕ)). LinesMake file policy number lines (Ok policy)) (sym none) refl)
+
+-- the first of the things that are left was added
+pub item_keeps : (policy next : Policy) (origin : Origin) (rest more : List Item) (first : Item)
+    (whole : Result Policy FaultKind)
+    → with_items policy origin rest ≡ whole → rest ≡ first ∷ more → with_item policy origin first ≡ Ok next
+    → with_items next origin more ≡ whole
+unfolding with_items
+item_keeps policy next origin rest more first whole kept split gives =
+    sym (ap (with_items policy origin) split
+    ∙ ap (λ (r : Result Policy FaultKind). r >>= λ p. with_items p origin more) gives) ∙ kept
+
+-- it was not
+pub item_fails : (policy : Policy) (origin : Origin) (rest more : List Item) (first : Item)
+    (whole : Result Policy FaultKind) (e : LineError)
+    → with_items policy origin rest ≡ whole → rest ≡ first ∷ more → Fails e (with_item policy origin first)
+    → Fails e whole
+unfolding with_items
+item_fails policy origin rest more first whole Memory kept split fails = tt
+item_fails policy origin rest more first whole (Fault kind) kept split fails =
+    sym kept ∙ ap (with_items policy origin) split
+    ∙ ap (λ (r : Result Policy FaultKind). r >>= λ p. with_items p origin more) fails
+
+pub none_left : {A : Type 0} (xs : List A) → length xs ≡ 0 → xs ≡ []
+none_left [] empty = refl
+none_left (x ∷ xs) empty = absurd (omega (arith, empty))
+
+-- none is left
+pub items_end : (policy : Policy) (origin : Origin) (rest : List Item) (whole : Result Policy FaultKind)
+    → with_items policy origin rest ≡ whole → rest ≡ [] → whole ≡ Ok policy
+unfolding with_items
+items_end policy origin rest whole kept none = sym kept ∙ ap (with_items policy origin) none
+
+-- a line that says nothing readable, or says things one of which can't be added
+pub line_unread : (file : List ℕ) (policy : Policy) (number : ℕ) (line : List ℕ) (e : LineError)
+    → MayFail e (Says line) → MayFail e (LineMakes file policy number line)
+unfolding LineMakes
+line_unread file policy number line Memory says = tt
+line_unread file policy number line (Fault kind) says = (Err kind, says, refl)
+
+pub line_made : {A : Type 0} (file made : List ℕ) (policy new : Policy) (number : ℕ) (line : List ℕ)
+    (items : List Item) (r : Result A LineError)
+    → made ≡ file → Says line (Ok items) → GivesSeen (λ _. new) r (with_items policy (place made number) items)
+    → MayGive (λ _. new) r (LineMakes file policy number line)
+unfolding LineMakes
+line_made file made policy new number line items (Ok x) same says gives =
+    (Ok items, says, ap (λ (f : List ℕ). with_items policy (place f number) items) (sym same) ∙ gives)
+line_made file made policy new number line items (Err Memory) same says gives = tt
+line_made file made policy new number line items (Err (Fault kind)) same says gives =
+    (Ok items, says, ap (λ (f : List ℕ). with_items policy (place f number) items) (sym same) ∙ gives)

@@ -1,0 +1,6 @@
+use Rattle.std.proofs.Common.{◌≡◌, take}
+use Rattle.kob_policy_text.specs.AtHand.{with_bindings}
+use Rattle.kob_policy_text.proofs.at_hand.add_bindings.Given as goal
+
+abbrev pub invariant-loop-binding : goal.invariant-loop-binding
+invariant-loop-binding l = l.hand ≡ with_bindings l.initial.hand (take l.binding-index l.bindings)

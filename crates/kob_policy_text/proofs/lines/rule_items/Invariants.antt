@@ -1,0 +1,9 @@
+use Rattle.std.proofs.Common.{◌≡◌, ◌++◌}
+use Rattle.std.specs.Vec.Iter.{into_iter_items}
+use Rattle.kob_policy_text.specs.Lines.{rule_items}
+use Rattle.kob_policy_text.proofs.lines.rule_items.Given as goal
+
+abbrev pub invariant-loop-draft : goal.invariant-loop-draft
+invariant-loop-draft l =
+    (l.yielded ++ into_iter_items l.draft-iterator ≡ into_iter_items l.initial.draft-iterator)
+    × (l.items.items ≡ rule_items l.yielded)

@@ -1,0 +1,27 @@
+use Rattle.std.proofs.Common.{arith, List, ℕ, refl}
+use Rattle.std.specs.Borrow.{Bor}
+use Rattle.std.proofs.lemmas.Result.{err_from_is_err_and}
+use Rattle.kob_policy_text.specs.Lines.{super_item}
+use Rattle.kob_policy_text.specs.Pieces.{trimmed}
+use Rattle.kob_script.proofs.Each.{each_fails, each_fails_map, each_keeps, each_ends, each_map}
+use Rattle.kob_policy_text.proofs.lines.super_items.Goals as goal
+
+pub returns-in_err-item : goal.returns-in_err-item
+returns-in_err-item c =
+    let read = λ (part : Bor (List ℕ)). super_item (trimmed part.now) in
+    let p = err_from_is_err_and c.from_residual-in_err-item.result c.from_residual-in_err-item.ensures.1 in
+    rw (p.1, p.2) (each_fails_map (λ (part : List ℕ). super_item (trimmed part)) (λ (part : Bor (List ℕ)). part.now) _ _
+    (each_fails read _ c.loop-part.part-index _ _ _ _ c.loop-part.invariant
+    (omega arith) refl (rw c.trimmed.ensures at c.in_err-item.ensures)))
+
+pub loop-part-preserved : goal.loop-part-preserved
+loop-part-preserved c =
+    rw c.in_ok-push.ensures.items
+    (each_keeps (λ (part : Bor (List ℕ)). super_item (trimmed part.now)) _ c.loop-part.part-index _ _ _ _
+    c.loop-part.invariant (omega arith) refl (rw c.trimmed.ensures at c.in_ok-item.ensures))
+
+pub returns : goal.returns
+returns c =
+    rw (each_map (λ (part : List ℕ). super_item (trimmed part)) (λ (part : Bor (List ℕ)). part.now) c.args.parts.now)
+    (each_ends (λ (part : Bor (List ℕ)). super_item (trimmed part.now)) _ c.loop-part.part-index _
+    c.loop-part.invariant (omega arith))

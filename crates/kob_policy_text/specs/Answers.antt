@@ -1,0 +1,304 @@
+-- How answers are printed.
+use Rattle.std.specs.Prelude.{◌+◌, ◌&&◌, ◌||◌, not, ℕ, zero, suc, Bool, true, false, List, [], ◌∷◌, ◌++◌, flat_map, length, Option, Some, None, codes, slice_get, unwrap_or, if◌then◌else◌}
+use Rattle.std.specs.Fmt.{decimal}
+use Rattle.std.specs.List.{list_all, list_any}
+use Rattle.kob_authorizer.specs.Decide.{is_hit}
+use Rattle.kob_authorizer.specs.Question as authorizer
+use Rattle.kob_authorizer.specs.Question.{question_of}
+use Rattle.kob_names.specs.Binding.{Binding}
+use Rattle.kob_names.specs.declared.kinds.Operation.TheVariants.{Describe}
+use Rattle.kob_names.specs.declared.kinds.Permission.TheVariants.{Allow}
+use Rattle.kob_names.specs.declared.kinds.ResourceKind.TheVariants.{Topic}
+use Rattle.kob_names.specs.declared.verdict.Verdict.{Verdict}
+use Rattle.kob_names.specs.declared.verdict.Verdict.TheVariants as verdict
+use Rattle.kob_names.specs.Granted.{is_granted}
+use Rattle.kob_names.specs.Same.{same_permission}
+use Rattle.kob_rights.specs.Check.{Check}
+use Rattle.kob_rights.specs.Table.{rights}
+use Rattle.kob_rights.specs.declared.event.Event.{Event}
+use Rattle.kob_script.specs.PrintedReply.{verdict_text}
+use Rattle.kob_words.specs.Operation.{operation_name}
+use Rattle.kob_words.specs.PrintedBinding.{binding_text}
+use Rattle.kob_words.specs.PrintedText.{bytes_text}
+use Rattle.kob_words.specs.Resource.{resource_name}
+use Rattle.kob_policy_text.specs.AtHand.{AtHand, asked_at_hand, others_at_hand, with_bindings}
+use Rattle.kob_policy_text.specs.declared.item.LeftOut.{LeftOut}
+use Rattle.kob_policy_text.specs.declared.item.LeftOut.TheVariants as left_out
+use Rattle.kob_policy_text.specs.declared.origin.Omission.{Omission}
+use Rattle.kob_policy_text.specs.declared.origin.Origin.{Origin}
+use Rattle.kob_policy_text.specs.declared.question.Asker.{Asker}
+use Rattle.kob_policy_text.specs.declared.question.Question.{Question}
+use Rattle.kob_policy_text.specs.declared.question.Question.TheVariants.{May, Ask, Who, Sees, Unused, Shadowed}
+use Rattle.kob_policy_text.specs.declared.question.Right.{Right}
+use Rattle.kob_policy_text.specs.Judging.{deciding, is_yes, may, place_of, serials_of}
+use Rattle.kob_policy_text.specs.Policy.{Policy, without}
+use Rattle.kob_policy_text.specs.Questions.{Questions}
+
+-- FILE:LINE
+abbrev pub origin_text : Origin → List ℕ
+origin_text origin = bytes_text origin.file ++ codes ":" ++ decimal origin.line
+
+-- the words of scripts, behind `yes` or `no`
+abbrev pub yes_or_no : Bool → List ℕ
+yes_or_no true = codes "yes"
+yes_or_no false = codes "no"
+
+abbrev pub answer_text : Verdict → List ℕ
+answer_text verdict = yes_or_no (is_granted verdict) ++ codes " " ++ verdict_text verdict
+
+-- where a binding stands, behind a blank
+abbrev pub origin_behind : Option Origin → List ℕ
+origin_behind None = []
+origin_behind (Some origin) = codes " " ++ origin_text origin
+
+-- the first origin of the binding with a serial
+abbrev pub origin_at : Policy → Option ℕ → Option Origin
+origin_at policy None = None
+origin_at policy (Some place) = slice_get policy.origins place
+
+abbrev pub origin_by : Policy → Option ℕ → Option Origin
+origin_by policy None = None
+origin_by policy (Some serial) = origin_at policy (place_of policy serial)
+
+-- an answer, and from where the binding comes that decides
+abbrev pub reason_text : Policy → Verdict → List ℕ
+reason_text policy verdict =
+    answer_text verdict ++ origin_behind (origin_by policy (deciding verdict))
+
+-- a binding with its serial and its origin, on a line of its own
+abbrev pub binding_line : ℕ → Binding → Option Origin → List ℕ
+binding_line serial binding origin =
+    codes "  " ++ binding_text serial binding ++ origin_behind origin ++ codes "\n"
+
+abbrev pub line_of : Policy → ℕ → Option Binding → List ℕ
+line_of policy place None = []
+line_of policy place (Some binding) =
+    binding_line (unwrap_or (slice_get (serials_of policy) place) 0) binding
+    (slice_get policy.origins place)
+
+-- the line of the binding at a place
+abbrev pub line_at : Policy → Option ℕ → List ℕ
+line_at policy None = []
+line_at policy (Some place) = line_of policy place (slice_get policy.bindings place)
+
+abbrev pub line_by : Policy → Option ℕ → List ℕ
+line_by policy None = []
+line_by policy (Some serial) = line_at policy (place_of policy serial)
+
+-- an answer, and below it the binding that decides
+abbrev pub may_text : Policy → Verdict → List ℕ
+may_text policy verdict =
+    answer_text verdict ++ codes "\n" ++ line_by policy (deciding verdict)
+
+-- OPERATION RESOURCE NAME
+abbrev pub right_text : authorizer.Question → List ℕ
+right_text asked =
+    operation_name asked.operation ++ codes " " ++ resource_name asked.resource ++ codes " "
+    ++ bytes_text asked.name
+
+-- a right of a request with its answer, behind the number of its clause
+abbrev pub check_text : Policy → ℕ → authorizer.Question → List ℕ
+check_text policy number asked =
+    codes "  " ++ decimal number ++ codes " " ++ right_text asked ++ codes " "
+    ++ reason_text policy (may policy asked) ++ codes "\n"
+
+abbrev pub question_on : List ℕ → List ℕ → Check → authorizer.Question
+question_on principal host check =
+    question_of principal host check.operation check.resource check.name
+
+abbrev pub clause_text : Policy → ℕ → List ℕ → List ℕ → List Check → List ℕ
+clause_text policy number principal host clause =
+    flat_map (λ check. check_text policy number (question_on principal host check)) clause
+
+-- the clauses are numbered from 1
+unfoldable pub clauses_text : Policy → ℕ → List ℕ → List ℕ → List (List Check) → List ℕ
+clauses_text policy number principal host [] = []
+clauses_text policy number principal host (clause ∷ others) =
+    clause_text policy number principal host clause
+    ++ clauses_text policy (number + 1) principal host others
+
+-- each clause has an alternative that is granted
+abbrev pub is_clause_met : Policy → List ℕ → List ℕ → List Check → Bool
+is_clause_met policy principal host clause =
+    list_any (λ check. is_yes policy (question_on principal host check)) clause
+
+abbrev pub are_met : Policy → List ℕ → List ℕ → List (List Check) → Bool
+are_met policy principal host clauses =
+    list_all (is_clause_met policy principal host) clauses
+
+-- a request: yes or no, and then each clause with its answers
+abbrev pub request_text : Policy → Event → List ℕ
+request_text policy event =
+    yes_or_no (are_met policy event.principal event.host (rights event.request)) ++ codes "\n"
+    ++ clauses_text policy 1 event.principal event.host (rights event.request)
+
+-- what is at hand of a policy
+abbrev pub hand_of : Policy → List (List ℕ) → AtHand
+hand_of policy topics = with_bindings (others_at_hand topics) policy.bindings
+
+abbrev pub who_line : Policy → Right → List ℕ → List ℕ → List ℕ
+who_line policy right host principal =
+    codes "  " ++ bytes_text principal ++ codes " " ++ reason_text policy
+    (may policy (question_of principal host right.operation right.resource right.name))
+    ++ codes "\n"
+
+-- without a host, from one that no binding names
+abbrev pub who_text : Policy → Right → Option (List ℕ) → List ℕ
+who_text policy right host =
+    codes "who\n"
+    ++ flat_map (who_line policy right (unwrap_or host (codes "*"))) (hand_of policy []).principals
+
+-- a principal may describe a topic
+abbrev pub is_seen : Policy → Asker → List ℕ → Bool
+is_seen policy asker topic =
+    is_yes policy (question_of asker.principal asker.host Describe Topic topic)
+
+abbrev pub topic_text : List ℕ → List ℕ
+topic_text topic = codes " " ++ bytes_text topic
+
+-- a topic that a principal may describe, and nothing for another one
+abbrev pub seen_text : Policy → Asker → List ℕ → List ℕ
+seen_text policy asker topic = if is_seen policy asker topic then topic_text topic else []
+
+abbrev pub sees_text : Policy → List (List ℕ) → Asker → List ℕ
+sees_text policy topics asker =
+    codes "topics" ++ flat_map (seen_text policy asker) topics ++ codes "\n"
+
+-- no question at hand has another answer without the binding
+abbrev pub same_bool : Bool → Bool → Bool
+same_bool true answer = answer
+same_bool false answer = not answer
+
+abbrev pub same_answer : Policy → Policy → authorizer.Question → Bool
+same_answer one other asked = same_bool (is_yes one asked) (is_yes other asked)
+
+abbrev pub is_same : Policy → Policy → List authorizer.Question → Bool
+is_same one other asked = list_all (same_answer one other) asked
+
+abbrev pub is_unused : Policy → List authorizer.Question → ℕ → Bool
+is_unused policy asked place = is_same policy (without policy place) asked
+
+-- an allow is beaten where a deny decides, and does nothing for a super user
+abbrev pub is_beaten : Verdict → Bool
+is_beaten (verdict.DeniedBy serial) = true
+is_beaten verdict.Super = true
+is_beaten (verdict.AllowedBy serial) = false
+is_beaten verdict.NoAllow = false
+is_beaten verdict.NoAclFound = false
+
+abbrev pub is_beaten_at : Policy → Binding → authorizer.Question → Bool
+is_beaten_at policy binding asked =
+    not (is_hit Allow asked (0, binding)) || is_beaten (may policy asked)
+
+-- every question at hand of which the allow speaks is one where it is beaten
+abbrev pub is_always_beaten : Policy → List authorizer.Question → Binding → Bool
+is_always_beaten policy asked binding = list_all (is_beaten_at policy binding) asked
+
+abbrev pub is_shadowed : Policy → List authorizer.Question → Binding → Bool
+is_shadowed policy asked binding =
+    same_permission binding.permission Allow && is_always_beaten policy asked binding
+
+-- the line of a binding that no other needs
+abbrev pub unused_line : Policy → List authorizer.Question → ℕ → List ℕ
+unused_line policy asked place =
+    if is_unused policy asked place then line_at policy (Some place) else []
+
+-- the lines of those at the first places
+unfoldable pub unused_lines : Policy → List authorizer.Question → ℕ → List ℕ
+unused_lines policy asked zero = []
+unused_lines policy asked (suc place) =
+    unused_lines policy asked place ++ unused_line policy asked place
+
+abbrev pub is_shadowed_one : Policy → List authorizer.Question → Option Binding → Bool
+is_shadowed_one policy asked None = false
+is_shadowed_one policy asked (Some binding) = is_shadowed policy asked binding
+
+-- the binding at a place is shadowed
+unfoldable pub is_shadowed_at : Policy → List authorizer.Question → ℕ → Bool
+is_shadowed_at policy asked place =
+    is_shadowed_one policy asked (slice_get policy.bindings place)
+
+-- the line of a shadowed binding
+abbrev pub shadowed_line : Policy → List authorizer.Question → ℕ → List ℕ
+shadowed_line policy asked place =
+    if is_shadowed_at policy asked place then line_at policy (Some place) else []
+
+-- the lines of those at the first places
+unfoldable pub shadowed_lines : Policy → List authorizer.Question → ℕ → List ℕ
+shadowed_lines policy asked zero = []
+shadowed_lines policy asked (suc place) =
+    shadowed_lines policy asked place ++ shadowed_line policy asked place
+
+abbrev pub unused_text : Policy → List authorizer.Question → List ℕ
+unused_text policy asked = codes "unused\n" ++ unused_lines policy asked (length policy.bindings)
+
+abbrev pub shadowed_text : Policy → List authorizer.Question → List ℕ
+shadowed_text policy asked =
+    codes "shadowed\n" ++ shadowed_lines policy asked (length policy.bindings)
+
+-- the answer to a question, with the names of topics that are given
+abbrev pub question_text : Policy → List (List ℕ) → Question → List ℕ
+question_text policy topics (May asker right) = may_text policy
+    (may policy
+    (question_of asker.principal asker.host right.operation right.resource right.name))
+question_text policy topics (Ask event) = request_text policy event
+question_text policy topics (Who right host) = who_text policy right host
+question_text policy topics (Sees asker) = sees_text policy topics asker
+question_text policy topics Unused = unused_text policy (asked_at_hand (hand_of policy topics))
+question_text policy topics Shadowed = shadowed_text policy (asked_at_hand (hand_of policy topics))
+
+-- an answer behind its number
+abbrev pub answer_line : Policy → List (List ℕ) → ℕ → Question → List ℕ
+answer_line policy topics number question =
+    decimal number ++ codes " " ++ question_text policy topics question
+
+-- the answers, numbered from one on
+unfoldable pub answers_text : Policy → List (List ℕ) → ℕ → List Question → List ℕ
+answers_text policy topics number [] = []
+answers_text policy topics number (question ∷ others) =
+    answer_line policy topics number question ++ answers_text policy topics (number + 1) others
+
+-- PRINCIPAL HOST OPERATION RESOURCE NAME
+abbrev pub asked_text : authorizer.Question → List ℕ
+asked_text asked =
+    bytes_text asked.principal ++ codes " " ++ bytes_text asked.host ++ codes " "
+    ++ right_text asked
+
+-- a question whose answer changes, with both
+abbrev pub change_text : Policy → Policy → authorizer.Question → List ℕ
+change_text before after asked =
+    asked_text asked ++ codes " " ++ reason_text before (may before asked) ++ codes " -> "
+    ++ reason_text after (may after asked) ++ codes "\n"
+
+abbrev pub change_line : Policy → Policy → authorizer.Question → List ℕ
+change_line before after asked =
+    if same_answer before after asked then [] else change_text before after asked
+
+-- what is at hand of two policies
+abbrev pub hand_of_both : Policy → Policy → List (List ℕ) → AtHand
+hand_of_both before after topics = with_bindings (hand_of before topics) after.bindings
+
+-- each question at hand whose answer changes
+abbrev pub changes_text : Policy → Policy → List (List ℕ) → List ℕ
+changes_text before after topics =
+    flat_map (change_line before after) (asked_at_hand (hand_of_both before after topics))
+
+abbrev pub left_out_word : LeftOut → List ℕ
+left_out_word left_out.Resource = codes "resource"
+left_out_word left_out.Principal = codes "principal"
+left_out_word left_out.Operation = codes "operation"
+
+abbrev pub omission_line : Omission → List ℕ
+omission_line omission =
+    codes "left out " ++ origin_text omission.origin ++ codes " " ++ left_out_word omission.what
+    ++ codes "\n"
+
+-- what was left out
+abbrev pub omissions_text : Policy → List ℕ
+omissions_text policy = flat_map omission_line policy.omissions
+
+-- what changes, and then the answers of the second policy
+abbrev pub review_text : Policy → Policy → Questions → List ℕ
+review_text before after questions =
+    changes_text before after questions.topics
+    ++ answers_text after questions.topics 1 questions.asked

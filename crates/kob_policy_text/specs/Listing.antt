@@ -1,0 +1,212 @@
+-- The lines that `kafka-acls --list` prints. Those of Kafka 2.3 and later name a resource by
+-- `ResourcePattern(..)` and a binding by `(principal=.., host=.., ..)`; those of earlier versions by
+-- `Topic:orders` or `Topic:LITERAL:orders`, and by `User:x has Allow permission for operations: ..`.
+use Rattle.std.specs.Prelude.{◌||◌, ℕ, Bool, List, Option, Some, None, Result, Ok, Err, codes, nat_eq, if◌then◌else◌}
+use Rattle.std.specs.List.{starts_with}
+use Rattle.std.specs.Option.{option_map}
+use Rattle.std.specs.Str.{bytes_eq}
+use Rattle.kob_names.specs.declared.kinds.Operation.{Operation}
+use Rattle.kob_names.specs.declared.kinds.Operation.TheVariants.{ClusterAction, DescribeConfigs, AlterConfigs, IdempotentWrite}
+use Rattle.kob_names.specs.declared.kinds.PatternKind.{PatternKind}
+use Rattle.kob_names.specs.declared.kinds.PatternKind.TheVariants.{Literal, Prefixed}
+use Rattle.kob_names.specs.declared.kinds.Permission.{Permission}
+use Rattle.kob_names.specs.declared.kinds.Permission.TheVariants.{Allow, Deny}
+use Rattle.kob_names.specs.declared.kinds.ResourceKind.{ResourceKind}
+use Rattle.kob_names.specs.declared.kinds.ResourceKind.TheVariants.{TransactionalId}
+use Rattle.kob_words.specs.Operation.{operation_named}
+use Rattle.kob_words.specs.Pattern.{pattern_named}
+use Rattle.kob_words.specs.Permission.{permission_named}
+use Rattle.kob_words.specs.Resource.{resource_named}
+use Rattle.kob_script.specs.declared.fault.FaultKind.{FaultKind}
+use Rattle.kob_script.specs.declared.fault.FaultKind.TheVariants.{BadLine, BadWord}
+use Rattle.kob_script.specs.Reading.{◌>>=◌, found_or}
+use Rattle.kob_script.specs.Texts.{text_in, host_of}
+use Rattle.kob_policy_text.specs.declared.item.Grant.{Grant}
+use Rattle.kob_policy_text.specs.declared.item.Item.{Item}
+use Rattle.kob_policy_text.specs.declared.item.Item.TheVariants as item
+use Rattle.kob_policy_text.specs.declared.item.LeftOut.TheVariants as left_out
+use Rattle.kob_policy_text.specs.declared.item.Target.{Target}
+use Rattle.kob_policy_text.specs.Pieces.{around_first, around_last, first_parts}
+use Rattle.kob_policy_text.specs.Users.{user_in}
+
+-- an operation in capitals, with underscores, or as it stands in scripts; nothing for one that is
+-- left out
+abbrev pub listed_operation : List ℕ → Option (Option Operation)
+listed_operation word =
+    if bytes_eq word (codes "CLUSTER_ACTION") then Some (Some ClusterAction)
+    else (if bytes_eq word (codes "DESCRIBE_CONFIGS") then Some (Some DescribeConfigs)
+    else (if bytes_eq word (codes "ALTER_CONFIGS") then Some (Some AlterConfigs)
+    else (if bytes_eq word (codes "IDEMPOTENT_WRITE") then Some (Some IdempotentWrite)
+    else (if bytes_eq word (codes "CREATE_TOKENS") then Some None
+    else (if bytes_eq word (codes "DESCRIBE_TOKENS") then Some None
+    else (if bytes_eq word (codes "TWO_PHASE_COMMIT") then Some None
+    else option_map (λ operation. Some operation) (operation_named word)))))))
+
+-- a kind of resource in capitals, or as it stands in scripts; nothing for one that is left out
+abbrev pub listed_resource : List ℕ → Option (Option ResourceKind)
+listed_resource word =
+    if bytes_eq word (codes "TRANSACTIONAL_ID") then Some (Some TransactionalId)
+    else (if bytes_eq word (codes "DELEGATION_TOKEN") then Some None
+    else (if bytes_eq word (codes "DelegationToken") then Some None
+    else (if bytes_eq word (codes "USER") then Some None
+    else option_map (λ kind. Some kind) (resource_named word))))
+
+-- a permission, with the parenthesis that closes a binding or without it
+abbrev pub listed_permission : List ℕ → Option Permission
+listed_permission word =
+    if bytes_eq word (codes "ALLOW)") then Some Allow
+    else (if bytes_eq word (codes "DENY)") then Some Deny else permission_named word)
+
+-- a kind of pattern, with the parenthesis that closes a resource or without it
+abbrev pub listed_pattern : List ℕ → Option PatternKind
+listed_pattern word =
+    if bytes_eq word (codes "LITERAL)") then Some Literal
+    else (if bytes_eq word (codes "PREFIXED)") then Some Prefixed else pattern_named word)
+
+-- the parts of a listed binding, as they stand there
+pub record GrantWords : Type 0 where
+  pub principal : List ℕ
+  pub host : List ℕ
+  pub operation : List ℕ
+  pub permission : List ℕ
+
+-- a listed binding; a principal or an operation that is left out is told in its place
+abbrev pub granted : Permission → List ℕ → Option Operation → Option (List ℕ) → Item
+granted permission host None user = item.LeftOut left_out.Operation
+granted permission host (Some operation) None = item.LeftOut left_out.Principal
+granted permission host (Some operation) (Some user) = item.Grant (record {
+  permission = permission;
+  principal = user;
+  host = host;
+  operation = operation;
+})
+
+unfoldable pub grant_item : GrantWords → Result Item FaultKind
+grant_item words = do
+  permission ← found_or BadWord (listed_permission words.permission)
+  operation ← found_or BadWord (listed_operation words.operation)
+  user ← user_in words.principal
+  text ← text_in words.host
+  host ← host_of text
+  Ok (granted permission host operation user)
+
+-- PRINCIPAL, host=HOST, with the operation and the permission that stood behind
+unfoldable pub newer_holder : List ℕ → List ℕ → List ℕ → Result Item FaultKind
+newer_holder holder operation permission = do
+  by_host ← around_last holder (codes ", host=")
+  grant_item (record {
+    principal = by_host.0;
+    host = by_host.1;
+    operation = operation;
+    permission = permission;
+  })
+
+-- PRINCIPAL, host=HOST, operation=OPERATION, with the permission that stood behind
+unfoldable pub newer_operation : List ℕ → List ℕ → Result Item FaultKind
+newer_operation front permission = do
+  by_operation ← around_last front (codes ", operation=")
+  newer_holder by_operation.0 by_operation.1 permission
+
+-- PRINCIPAL, host=HOST, operation=OPERATION, permissionType=PERMISSION
+unfoldable pub newer_parts : List ℕ → Result Item FaultKind
+newer_parts inside = do
+  by_permission ← around_last inside (codes ", permissionType=")
+  newer_operation by_permission.0 by_permission.1
+
+-- (principal=PRINCIPAL, host=HOST, operation=OPERATION, permissionType=PERMISSION)
+unfoldable pub newer_grant : List ℕ → Result Item FaultKind
+newer_grant line = do
+  inside ← around_first line (codes "(principal=")
+  newer_parts inside.1
+
+-- PRINCIPAL has PERMISSION, with the operation and the host that stood behind
+unfoldable pub older_holder : List ℕ → List ℕ → List ℕ → Result Item FaultKind
+older_holder holder operation host = do
+  by_permission ← around_last holder (codes " has ")
+  grant_item (record {
+    principal = by_permission.0;
+    host = host;
+    operation = operation;
+    permission = by_permission.1;
+  })
+
+-- PRINCIPAL has PERMISSION permission for operations: OPERATION, with the host that stood behind
+unfoldable pub older_operation : List ℕ → List ℕ → Result Item FaultKind
+older_operation front host = do
+  by_operation ← around_last front (codes " permission for operations: ")
+  older_holder by_operation.0 by_operation.1 host
+
+-- PRINCIPAL has PERMISSION permission for operations: OPERATION from hosts: HOST
+unfoldable pub older_grant : List ℕ → Result Item FaultKind
+older_grant line = do
+  by_host ← around_last line (codes " from hosts: ")
+  older_operation by_host.0 by_host.1
+
+-- what the bindings below a heading are on, nothing where it is left out
+abbrev pub headed : Option ResourceKind → PatternKind → List ℕ → Option Target
+headed None pattern name = None
+headed (Some kind) pattern name =
+    Some (record { resource = kind; pattern = record { kind = pattern; name = name } })
+
+-- the words of a resource
+pub record TargetWords : Type 0 where
+  pub resource : List ℕ
+  pub pattern : List ℕ
+  pub name : List ℕ
+
+unfoldable pub target_item : TargetWords → Result Item FaultKind
+target_item words = do
+  kind ← found_or BadWord (listed_resource words.resource)
+  pattern ← found_or BadWord (listed_pattern words.pattern)
+  name ← text_in words.name
+  Ok (item.Resource (headed kind pattern name))
+
+-- NAME, patternType=PATTERN), with the kind of resource that stood before
+unfoldable pub newer_named : List ℕ → List ℕ → Result Item FaultKind
+newer_named resource rest = do
+  by_pattern ← around_last rest (codes ", patternType=")
+  target_item
+      (record { resource = resource; pattern = by_pattern.1; name = by_pattern.0 })
+
+-- ResourcePattern(resourceType=RESOURCE, and what stands behind the mark of the name
+unfoldable pub newer_target : List ℕ → List ℕ → Result Item FaultKind
+newer_target front rest = do
+  by_kind ← around_first front (codes "resourceType=")
+  newer_named by_kind.1 rest
+
+-- ResourcePattern(resourceType=RESOURCE, name=NAME, patternType=PATTERN)
+unfoldable pub newer_resource : List ℕ → Result Item FaultKind
+newer_resource text = do
+  by_name ← around_first text (codes ", name=")
+  newer_target by_name.0 by_name.1
+
+-- the word is a kind of pattern, as it stands before a name
+abbrev pub is_pattern_word : List ℕ → Bool
+is_pattern_word word = bytes_eq word (codes "LITERAL") || bytes_eq word (codes "PREFIXED")
+
+-- a name behind its pattern's kind, or a name alone, whose pattern is literal
+abbrev pub older_target : List ℕ → List ℕ → Option (List ℕ × List ℕ) → TargetWords
+older_target resource rest None =
+    record { resource = resource; pattern = codes "LITERAL"; name = rest }
+older_target resource rest (Some parts) =
+    if is_pattern_word parts.0 then record
+    { resource = resource; pattern = parts.0; name = parts.1 }
+    else record { resource = resource; pattern = codes "LITERAL"; name = rest }
+
+-- RESOURCE:NAME or RESOURCE:PATTERN:NAME
+unfoldable pub older_resource : List ℕ → Result Item FaultKind
+older_resource text = do
+  by_kind ← around_first text (codes ":")
+  target_item (older_target by_kind.0 by_kind.1 (first_parts by_kind.1 (codes ":")))
+
+abbrev pub resource_item : List ℕ → Result Item FaultKind
+resource_item text =
+    if starts_with nat_eq text (codes "ResourcePattern(") then newer_resource text
+    else older_resource text
+
+-- Current ACLs for resource `RESOURCE`:
+unfoldable pub heading_item : List ℕ → Result Item FaultKind
+heading_item line = do
+  quoted ← around_first line (codes "`")
+  text ← around_last quoted.1 (codes "`")
+  if bytes_eq text.1 (codes ":") then resource_item text.0 else Err BadLine

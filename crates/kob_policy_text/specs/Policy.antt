@@ -1,0 +1,147 @@
+-- A policy: the bindings of some files in the order in which they are read, the super users, and
+-- whether what no binding matches is open to everyone.
+use Rattle.std.specs.Prelude.{◌≡◌, ◌+◌, ℕ, Bool, false, List, [], ◌∷◌, ◌++◌, remove, Option, Some, None, Result, Ok, Err}
+use Rattle.kob_names.specs.Binding.{Binding}
+use Rattle.kob_names.specs.BindingRules.{draft_fault}
+use Rattle.kob_script.specs.declared.fault.FaultKind.{FaultKind}
+use Rattle.kob_script.specs.declared.fault.FaultKind.TheVariants.{BadName, NoResource}
+use Rattle.kob_script.specs.declared.fault.Fault.{Fault}
+use Rattle.kob_script.specs.declared.fault.ScriptError.{ScriptError}
+use Rattle.kob_script.specs.declared.fault.ScriptError.TheVariants as script_error
+use Rattle.kob_script.specs.declared.fault.LineError.{LineError}
+use Rattle.kob_script.specs.declared.fault.LineError.TheVariants as line_error
+use Rattle.kob_script.specs.Reading.{◌>>=◌, unless_fault}
+use Rattle.kob_script.specs.Script.{lines_in}
+use Rattle.kob_policy_text.specs.declared.item.Grant.{Grant}
+use Rattle.kob_policy_text.specs.declared.item.Item.{Item}
+use Rattle.kob_policy_text.specs.declared.item.Item.TheVariants as item
+use Rattle.kob_policy_text.specs.declared.item.LeftOut.{LeftOut}
+use Rattle.kob_policy_text.specs.declared.item.LeftOut.TheVariants as left_out
+use Rattle.kob_policy_text.specs.declared.item.Target.{Target}
+use Rattle.kob_policy_text.specs.declared.origin.Origin.{Origin}
+use Rattle.kob_policy_text.specs.declared.origin.Omission.{Omission}
+use Rattle.kob_policy_text.specs.Lines.{Says}
+
+-- each binding stands beside its origin; below a heading, the next listed bindings are on what it
+-- names, or are left out
+pub record Policy : Type 0 where
+  pub supers : List (List ℕ)
+  pub everyone : Bool
+  pub bindings : List Binding
+  pub origins : List Origin
+  pub omissions : List Omission
+  pub heading : Option (Option Target)
+
+abbrev pub empty_policy : Policy
+empty_policy = record {
+  supers = [];
+  everyone = false;
+  bindings = [];
+  origins = [];
+  omissions = [];
+  heading = None;
+}
+
+-- the policy without the binding at a place
+abbrev pub without : Policy → ℕ → Policy
+without policy place = record empty_policy {
+  supers = policy.supers;
+  everyone = policy.everyone;
+  bindings = remove policy.bindings place;
+}
+
+-- no heading stands above the first line of a file
+abbrev pub at_file : Policy → Policy
+at_file policy = record policy { heading = None }
+
+abbrev pub omission : Origin → LeftOut → Omission
+omission origin what = record { origin = origin; what = what }
+
+abbrev pub with_omission : Policy → Origin → LeftOut → Policy
+with_omission policy origin what =
+    record policy { omissions = policy.omissions ++ omission origin what ∷ [] }
+
+abbrev pub with_binding : Policy → Origin → Binding → Policy
+with_binding policy origin binding = record policy {
+  bindings = policy.bindings ++ binding ∷ [];
+  origins = policy.origins ++ origin ∷ [];
+}
+
+-- a binding whose pattern's name is one that a binding may have
+abbrev pub with_draft : Policy → Origin → Binding → Result Policy FaultKind
+with_draft policy origin draft =
+    unless_fault (draft_fault draft) BadName (with_binding policy origin draft)
+
+-- the listed binding with what its heading names
+abbrev pub draft_under : Target → Grant → Binding
+draft_under target grant = record {
+  permission = grant.permission;
+  principal = grant.principal;
+  host = grant.host;
+  operation = grant.operation;
+  resource = target.resource;
+  pattern = target.pattern;
+}
+
+abbrev pub with_grant : Policy → Origin → Option (Option Target) → Grant → Result Policy FaultKind
+with_grant policy origin None grant = Err NoResource
+with_grant policy origin (Some None) grant = Ok (with_omission policy origin left_out.Resource)
+with_grant policy origin (Some (Some target)) grant =
+    with_draft policy origin (draft_under target grant)
+
+-- the policy with one thing more that was said
+unfoldable pub with_item : Policy → Origin → Item → Result Policy FaultKind
+with_item policy origin (item.Super user) =
+    Ok (record policy { supers = policy.supers ++ user ∷ [] })
+with_item policy origin (item.Everyone everyone) = Ok (record policy { everyone = everyone })
+with_item policy origin (item.Rule draft) = with_draft policy origin draft
+with_item policy origin (item.Resource target) = Ok (record policy { heading = Some target })
+with_item policy origin (item.Grant grant) = with_grant policy origin policy.heading grant
+with_item policy origin (item.LeftOut what) = Ok (with_omission policy origin what)
+
+-- one thing after another, up to the first fault
+unfoldable pub with_items : Policy → Origin → List Item → Result Policy FaultKind
+with_items policy origin [] = Ok policy
+with_items policy origin (first ∷ rest) =
+    with_item policy origin first >>= λ next. with_items next origin rest
+
+abbrev pub place : List ℕ → ℕ → Origin
+place file line = record { file = file; line = line }
+
+-- with a line more, the policy may be this
+unfoldable pub LineMakes : List ℕ → Policy → ℕ → List ℕ → Result Policy FaultKind → Type 0
+LineMakes file policy number line read =
+    (said : Result (List Item) FaultKind) × Says line said
+    × ((said >>= with_items policy (place file number)) ≡ read)
+
+-- the lines after one may make this, unless that one has a fault
+abbrev pub ThenLines : ℕ → Result Policy FaultKind → (Policy → Type 0) → Result Policy Fault
+    → Type 0
+ThenLines number (Ok policy) Others read = Others policy
+ThenLines number (Err kind) Others read = read ≡ Err (record { line = number; kind = kind })
+
+-- the lines from one on, whose number is given, may make this
+unfoldable pub LinesMake : List ℕ → Policy → ℕ → List (List ℕ) → Result Policy Fault → Type 0
+LinesMake file policy number [] read = read ≡ Ok policy
+LinesMake file policy number (line ∷ lines) read =
+    (first : Result Policy FaultKind) × LineMakes file policy number line first
+    × ThenLines number first (λ next. LinesMake file next (number + 1) lines read) read
+
+-- A file may make this of a policy, or have this first fault, with lines counted from 1.
+abbrev pub FileMakes : List ℕ → List ℕ → Policy → Result Policy Fault → Type 0
+FileMakes file text policy read = LinesMake file (at_file policy) 1 (lines_in text) read
+
+-- a fault with the number of its line
+abbrev pub fault_at : ℕ → LineError → ScriptError
+fault_at line line_error.Memory = script_error.Memory
+fault_at line (line_error.Fault kind) = script_error.Fault (record { line = line; kind = kind })
+
+-- The fault that was reported is what reading may end with; nothing is said where memory ran out.
+abbrev pub IsStopped : {S : Type 0} → ScriptError → (Result S Fault → Type 0) → Type 0
+IsStopped script_error.Memory Makes = Unit {0}
+IsStopped (script_error.Fault fault) Makes = Makes (Err fault)
+
+-- What was read is what reading may make, unless memory ran out.
+abbrev pub IsRead : {A S : Type 0} → Result A ScriptError → S → (Result S Fault → Type 0) → Type 0
+IsRead (Ok x) new Makes = Makes (Ok new)
+IsRead (Err error) new Makes = IsStopped error Makes

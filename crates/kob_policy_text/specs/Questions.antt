@@ -1,0 +1,195 @@
+-- Questions, a line each.
+use Rattle.std.specs.Prelude.{◌+◌, ℕ, List, [], ◌∷◌, ◌++◌, Bool, is_some, Option, Some, None, Result, Ok, Err, codes, if◌then◌else◌}
+use Rattle.std.specs.Str.{bytes_eq}
+use Rattle.kob_names.specs.declared.batch.Idem.{Idem}
+use Rattle.kob_rights.specs.declared.event.Event.{Event}
+use Rattle.kob_rights.specs.declared.request.Request.{Request}
+use Rattle.kob_rights.specs.declared.request.Request.TheVariants.{Produce, OffsetCommit}
+use Rattle.kob_script.specs.CommandLines.{events_of}
+use Rattle.kob_script.specs.declared.fault.FaultKind.{FaultKind}
+use Rattle.kob_script.specs.declared.fault.FaultKind.TheVariants.{BadLine, BadWord}
+use Rattle.kob_script.specs.declared.fault.Fault.{Fault}
+use Rattle.kob_script.specs.Reading.{◌>>=◌, found_or}
+use Rattle.kob_script.specs.Script.{lines_in}
+use Rattle.kob_script.specs.Texts.{text_of, principal_of, host_of}
+use Rattle.kob_script.specs.Word.{Word}
+use Rattle.kob_script.specs.Words.{words_of}
+use Rattle.kob_words.specs.Operation.{operation_named}
+use Rattle.kob_words.specs.Resource.{resource_named}
+use Rattle.kob_policy_text.specs.declared.question.Asker.{Asker}
+use Rattle.kob_policy_text.specs.declared.question.Question.{Question}
+use Rattle.kob_policy_text.specs.declared.question.Question.TheVariants.{May, Ask, Who, Sees, Unused, Shadowed}
+use Rattle.kob_policy_text.specs.declared.question.Right.{Right}
+use Rattle.kob_policy_text.specs.Lines.{only_event}
+
+unfoldable pub host_in : Word → Result (List ℕ) FaultKind
+host_in word = text_of word >>= host_of
+
+unfoldable pub asker_of : Word → Word → Result Asker FaultKind
+asker_of principal host = do
+  text ← text_of principal
+  who ← principal_of text
+  place ← host_in host
+  Ok (record { principal = who; host = place })
+
+-- OPERATION RESOURCE NAME
+unfoldable pub right_of : Word → Word → Word → Result Right FaultKind
+right_of operation resource name = do
+  kind ← found_or BadWord (operation_named operation.decoded)
+  on ← found_or BadWord (resource_named resource.decoded)
+  text ← text_of name
+  Ok (record { operation = kind; resource = on; name = text })
+
+-- may PRINCIPAL HOST OPERATION RESOURCE NAME
+unfoldable pub may_right : Word → Word → Word → Word → Word → Result Question FaultKind
+may_right principal host operation resource name = do
+  asker ← asker_of principal host
+  right ← right_of operation resource name
+  Ok (May asker right)
+
+-- an idempotent producer puts its first batch on the topic, or another producer does
+abbrev pub first_of_producer : Option Idem
+first_of_producer = Some (record { id = 0; epoch = 0; base = 0 })
+
+abbrev pub asks : Asker → Request → Question
+asks asker request =
+    Ask (record { principal = asker.principal; host = asker.host; request = request })
+
+abbrev pub produces : Option Idem → List ℕ → Request
+produces idem topic =
+    Produce
+    (record { topic = topic; partition = 0; batch = record { idem = idem; records = [] } })
+
+-- may PRINCIPAL HOST produce TOPIC, and `idempotent` behind it
+unfoldable pub may_produce : Option Idem → Word → Word → Word → Result Question FaultKind
+may_produce idem principal host topic = do
+  asker ← asker_of principal host
+  name ← text_of topic
+  Ok (asks asker (produces idem name))
+
+-- may PRINCIPAL HOST consume TOPIC GROUP: fetch from the topic and commit offsets for the group
+unfoldable pub may_consume : Word → Word → Word → Word → Result Question FaultKind
+may_consume principal host topic group = do
+  asker ← asker_of principal host
+  name ← text_of topic
+  member ← text_of group
+  Ok (asks asker
+      (OffsetCommit (record { group = member; topic = name; partition = 0; offset = 0 })))
+
+abbrev pub event_or_bad_line : Option Event → Result Question FaultKind
+event_or_bad_line (Some event) = Ok (Ask event)
+event_or_bad_line None = Err BadLine
+
+-- may PRINCIPAL HOST COMMAND .., as a request stands in a script; `acl` is none
+unfoldable pub may_request : List Word → Result Question FaultKind
+may_request words = events_of None words >>= λ events. event_or_bad_line (only_event events)
+
+abbrev pub is_word : Word → List ℕ → Bool
+is_word word text = bytes_eq word.decoded text
+
+-- the words after `may`
+abbrev pub may_words : List Word → Result Question FaultKind
+may_words (principal ∷ host ∷ command ∷ topic ∷ []) =
+    if is_word command (codes "produce") then may_produce None principal host topic
+    else may_request (principal ∷ host ∷ command ∷ topic ∷ [])
+may_words (principal ∷ host ∷ command ∷ one ∷ other ∷ []) =
+    if is_some (operation_named command.decoded)
+    then may_right principal host command one other
+    else (if is_word command (codes "consume") then may_consume principal host one other
+    else (if is_word command (codes "produce") then
+    (if is_word other (codes "idempotent")
+    then may_produce first_of_producer principal host one else Err BadLine)
+    else may_request (principal ∷ host ∷ command ∷ one ∷ other ∷ [])))
+may_words words = may_request words
+
+-- who OPERATION RESOURCE NAME HOST
+unfoldable pub who_from : Word → Word → Word → Word → Result Question FaultKind
+who_from operation resource name host = do
+  right ← right_of operation resource name
+  place ← host_in host
+  Ok (Who right (Some place))
+
+unfoldable pub who_anywhere : Word → Word → Word → Result Question FaultKind
+who_anywhere operation resource name =
+    right_of operation resource name >>= λ right. Ok (Who right None)
+
+abbrev pub who_words : List Word → Result Question FaultKind
+who_words (operation ∷ resource ∷ name ∷ []) = who_anywhere operation resource name
+who_words (operation ∷ resource ∷ name ∷ host ∷ []) = who_from operation resource name host
+who_words _ = Err BadLine
+
+abbrev pub sees_words : List Word → Result Question FaultKind
+sees_words (principal ∷ host ∷ []) = asker_of principal host >>= λ asker. Ok (Sees asker)
+sees_words _ = Err BadLine
+
+-- a question of no other words
+abbrev pub alone : Question → List Word → Result Question FaultKind
+alone question [] = Ok question
+alone question _ = Err BadLine
+
+-- a question by its first word
+unfoldable pub question_by : Word → List Word → Result Question FaultKind
+question_by first words =
+    if is_word first (codes "may") then may_words words
+    else (if is_word first (codes "who") then who_words words
+    else (if is_word first (codes "sees") then sees_words words
+    else (if is_word first (codes "unused") then alone Unused words
+    else (if is_word first (codes "shadowed") then alone Shadowed words
+    else Err BadLine))))
+
+-- the names of topics that are given, and the questions in their order
+pub record Questions : Type 0 where
+  pub topics : List (List ℕ)
+  pub asked : List Question
+
+abbrev pub with_topic : Questions → List ℕ → Questions
+with_topic so_far name = record so_far { topics = so_far.topics ++ name ∷ [] }
+
+-- topic NAME
+abbrev pub topic_words : Questions → List Word → Result Questions FaultKind
+topic_words so_far (name ∷ []) = text_of name >>= λ text. Ok (with_topic so_far text)
+topic_words so_far _ = Err BadLine
+
+abbrev pub with_question : Questions → Word → List Word → Result Questions FaultKind
+with_question so_far first words =
+    question_by first words
+    >>= λ question. Ok (record so_far { asked = so_far.asked ++ question ∷ [] })
+
+-- a line more; a skipped line has no words
+abbrev pub with_words : Questions → List Word → Result Questions FaultKind
+with_words so_far [] = Ok so_far
+with_words so_far (first ∷ words) =
+    if is_word first (codes "topic") then topic_words so_far words
+    else with_question so_far first words
+
+unfoldable pub with_line : Questions → List ℕ → Result Questions FaultKind
+with_line so_far line = words_of line >>= with_words so_far
+
+-- a line of a file of names
+abbrev pub with_names : Questions → List Word → Result Questions FaultKind
+with_names so_far [] = Ok so_far
+with_names so_far (name ∷ []) = text_of name >>= λ text. Ok (with_topic so_far text)
+with_names so_far _ = Err BadLine
+
+unfoldable pub with_name_line : Questions → List ℕ → Result Questions FaultKind
+with_name_line so_far line = words_of line >>= with_names so_far
+
+abbrev pub then_lines : ℕ → Result Questions FaultKind → (Questions → Result Questions Fault)
+    → Result Questions Fault
+then_lines number (Ok next) others = others next
+then_lines number (Err kind) others = Err (record { line = number; kind = kind })
+
+-- the lines from one on, whose number is given, up to the first fault
+unfoldable pub lines_from : (Questions → List ℕ → Result Questions FaultKind) → Questions → ℕ
+    → List (List ℕ) → Result Questions Fault
+lines_from step so_far number [] = Ok so_far
+lines_from step so_far number (line ∷ lines) =
+    then_lines number (step so_far line) (λ next. lines_from step next (number + 1) lines)
+
+-- the questions that a text adds, or its first fault, with lines counted from 1
+abbrev pub with_questions : Questions → List ℕ → Result Questions Fault
+with_questions so_far text = lines_from with_line so_far 1 (lines_in text)
+
+-- the topics that a file of names adds, a name on a line
+abbrev pub with_topics : Questions → List ℕ → Result Questions Fault
+with_topics so_far text = lines_from with_name_line so_far 1 (lines_in text)

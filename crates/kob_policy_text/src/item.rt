@@ -1,0 +1,40 @@
+//! What the lines of a policy say.
+
+use kob_names::{Draft, Host, Operation, Pattern, Permission, Principal, ResourceKind};
+
+/// What a listed binding is on.
+#[derive(Debug, Drop)]
+pub struct Target {
+    pub resource: ResourceKind,
+    pub pattern: Pattern,
+}
+
+/// A listed binding, without what it is on, which its heading names.
+#[derive(Debug, Drop)]
+pub struct Grant {
+    pub permission: Permission,
+    pub principal: Principal,
+    pub host: Host,
+    pub operation: Operation,
+}
+
+/// Why a binding is left out: it speaks of a kind of resource, of principal or of operation that
+/// this product does not have.
+#[derive(Clone, Copy, Debug, PartialEq, Eq)]
+pub enum LeftOut {
+    Resource,
+    Principal,
+    Operation,
+}
+
+/// One thing that a line says.
+#[derive(Debug, Drop)]
+pub enum Item {
+    Super(Principal),
+    Everyone(bool),
+    Rule(Draft),
+    /// The bindings that are listed below are on this, or are left out.
+    Resource(Option<Target>),
+    Grant(Grant),
+    LeftOut(LeftOut),
+}

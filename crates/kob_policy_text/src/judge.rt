@@ -1,0 +1,113 @@
+//! How a policy decides.
+
+ghost use Rattle.std.specs.Prelude.{◌≡◌, ◌≢◌, [], IfErr, IfOk, Some};
+ghost use Rattle.kob_authorizer.specs.Creation.{addition};
+ghost use Rattle.kob_authorizer.specs.Passing.{create_fault};
+ghost use Rattle.kob_policy_text.specs.Judging.{deciding, is_yes, may, place_of, serials_of};
+
+use crate::asked::Asked;
+use crate::policy::Policy;
+use kob_authorizer::{Authorizer, CreateFault};
+use kob_names::{Items, Verdict};
+use std::alloc::{AllocError, Global};
+use std::marker::Model;
+
+/// A policy, and the authorizer that decides by it. Contracts see the policy.
+#[derive(Drop)]
+pub struct Judge {
+    policy: Policy,
+    authorizer: Authorizer,
+    serials: Vec<u64>,
+}
+
+impl Model for Judge {
+    ghost use Rattle.std.specs.Prelude.{◌≡◌};
+    ghost use Rattle.kob_policy_text.specs.Judging.{contents_of, serials_of};
+    ghost use Rattle.kob_policy_text.specs.Policy as seen;
+
+    ghost Value = { seen.Policy };
+
+    ghost view = { λ judge. judge.policy };
+
+    ghost invariant = { λ judge. (judge.authorizer.contents ≡ contents_of judge.policy)
+        × (judge.serials.items ≡ serials_of judge.policy) };
+}
+
+impl Judge {
+    /// The policy in force: its bindings get serials from 1 in their order, and equal ones one
+    /// serial. `TooMany` is more than 100,000 different bindings, `SerialsSpent` never comes.
+    #[tactic(auto, unfolding(crate::specs::Judging::contents_of, crate::specs::Judging::serials_of))]
+    pub fn open(alloc: Global, policy: Policy) -> Result<Judge, CreateFault>
+        ensures policy { IfOk result (λ judge. judge ≡ policy) }
+        ensures fault { IfErr result (λ fault. fault ≢ CreateFault.Memory
+            → create_fault [] 1 policy.bindings ≡ Some fault) }
+    {
+        let supers = match Items::copied(alloc, policy.supers()) {
+            Ok(supers) => supers.into_vec(),
+            Err(_) => {
+                drop(policy);
+                return Err(CreateFault::Memory);
+            }
+        };
+        let mut authorizer = Authorizer::open(alloc, supers, policy.everyone());
+        match authorizer.create(alloc, policy.bindings()) {
+            Ok(serials) => Ok(Judge {
+                policy,
+                authorizer,
+                serials,
+            }),
+            Err(fault) => Err(fault),
+        }
+    }
+
+    /// The policy by which is decided.
+    pub fn policy(&self) -> &Policy
+        ensures { result.now ≡ self.now }
+    {
+        &self.policy
+    }
+
+    /// Who may do what: the decision of the authorizer's contract on the bindings in their order.
+    pub fn verdict(&self, asked: &Asked<'_>) -> Verdict
+        ensures { result ≡ may self.now asked.now }
+    {
+        self.authorizer.authorize(
+            asked.principal,
+            asked.host,
+            asked.operation,
+            asked.resource,
+            asked.name,
+        )
+    }
+
+    /// Whether the answer is yes.
+    pub fn is_yes(&self, asked: &Asked<'_>) -> bool
+        ensures { result ≡ is_yes self.now asked.now }
+    {
+        self.verdict(asked).is_granted()
+    }
+
+    /// Where the first binding with a serial stands among the bindings.
+    pub fn place_of(&self, serial: u64) -> Option<usize>
+        ensures { result ≡ place_of self.now serial }
+    {
+        self.serials.iter().position(|other| *other == serial)
+    }
+
+    /// The serials of the bindings, in their order.
+    pub fn serials(&self) -> &[u64]
+        ensures { result.now ≡ serials_of self.now }
+    {
+        self.serials.as_slice()
+    }
+}
+
+/// The serial that decides, if one does.
+pub fn deciding(verdict: Verdict) -> Option<u64>
+    ensures { result ≡ deciding verdict }
+{
+    match verdict {
+        Verdict::DeniedBy(serial) | Verdict::AllowedBy(serial) => Some(serial),
+        Verdict::Super | Verdict::NoAllow | Verdict::NoAclFound => None,
+    }
+}

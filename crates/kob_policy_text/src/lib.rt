@@ -1,0 +1,25 @@
+//! Answers about a cluster's own access rules: the reading of bindings and of questions, and the
+//! answers.
+#![tactic(auto)]
+
+mod answer;
+mod asked;
+mod at_hand;
+mod item;
+mod judge;
+mod lines;
+mod listing;
+mod origin;
+mod pieces;
+mod policy;
+mod printed;
+mod question;
+mod users;
+
+pub use answer::{print_answers, print_changes, print_omissions, print_review};
+pub use asked::Asked;
+pub use item::LeftOut;
+pub use judge::Judge;
+pub use origin::{Omission, Origin};
+pub use policy::{Policy, read_file};
+pub use question::{Asker, Question, Questions, Right, read_questions, read_topics};

@@ -1,0 +1,368 @@
+//! The lines that `kafka-acls --list` prints.
+
+ghost use Rattle.std.specs.Prelude.{◌≡◌, codes};
+ghost use Rattle.kob_policy_text.specs.Listing.{grant_item, granted, headed, heading_item};
+ghost use Rattle.kob_policy_text.specs.Listing.{listed_operation, listed_pattern};
+ghost use Rattle.kob_policy_text.specs.Listing.{listed_permission, listed_resource};
+ghost use Rattle.kob_policy_text.specs.Listing.{newer_grant, newer_resource, older_grant};
+ghost use Rattle.kob_policy_text.specs.Listing.{older_resource, older_target, resource_item};
+ghost use Rattle.kob_policy_text.specs.Listing.{is_pattern_word, newer_holder, newer_parts};
+ghost use Rattle.kob_policy_text.specs.Listing.{newer_named, newer_operation, newer_target};
+ghost use Rattle.kob_policy_text.specs.Listing.{older_holder, older_operation, target_item};
+ghost use Rattle.kob_policy_text.specs.Pieces.{first_parts};
+ghost use Rattle.kob_script.specs.Reading.{Gives, GivesSeen, found_or};
+ghost use Rattle.kob_script.specs.declared.fault.FaultKind.TheVariants.{BadWord};
+
+use crate::item::{Grant, Item, LeftOut, Target};
+use crate::pieces::{around_first, around_last, first_parts};
+use crate::users::{text_in, user_in};
+use kob_names::{Host, Operation, Pattern, PatternKind, Permission, Principal, ResourceKind, Text};
+use kob_script::{FaultKind, LineError, host_of};
+use kob_words::{operation_named, pattern_named, permission_named, resource_named};
+use std::alloc::Global;
+use std::marker::Model;
+
+/// The parts of a listed binding, as they stand there.
+#[derive(Drop)]
+pub struct GrantWords<'a> {
+    principal: &'a [u8],
+    host: &'a [u8],
+    operation: &'a [u8],
+    permission: &'a [u8],
+}
+
+impl<'a> Model for GrantWords<'a> {
+    ghost use Rattle.kob_policy_text.specs.Listing.{GrantWords};
+
+    ghost Value = { GrantWords };
+
+    ghost view = { λ words. record {
+      principal = words.principal.now;
+      host = words.host.now;
+      operation = words.operation.now;
+      permission = words.permission.now;
+    } };
+}
+
+/// The words of a resource.
+#[derive(Drop)]
+pub struct TargetWords<'a> {
+    resource: &'a [u8],
+    pattern: &'a [u8],
+    name: &'a [u8],
+}
+
+impl<'a> Model for TargetWords<'a> {
+    ghost use Rattle.kob_policy_text.specs.Listing.{TargetWords};
+
+    ghost Value = { TargetWords };
+
+    ghost view = { λ words. record {
+      resource = words.resource.now;
+      pattern = words.pattern.now;
+      name = words.name.now;
+    } };
+}
+
+fn listed_operation(word: &[u8]) -> Option<Option<Operation>>
+    ensures { result ≡ listed_operation word.now }
+{
+    if word == b"CLUSTER_ACTION".as_slice() {
+        Some(Some(Operation::ClusterAction))
+    } else if word == b"DESCRIBE_CONFIGS".as_slice() {
+        Some(Some(Operation::DescribeConfigs))
+    } else if word == b"ALTER_CONFIGS".as_slice() {
+        Some(Some(Operation::AlterConfigs))
+    } else if word == b"IDEMPOTENT_WRITE".as_slice() {
+        Some(Some(Operation::IdempotentWrite))
+    } else if word == b"CREATE_TOKENS".as_slice() {
+        Some(None)
+    } else if word == b"DESCRIBE_TOKENS".as_slice() {
+        Some(None)
+    } else if word == b"TWO_PHASE_COMMIT".as_slice() {
+        Some(None)
+    } else {
+        match operation_named(word) {
+            Some(operation) => Some(Some(operation)),
+            None => None,
+        }
+    }
+}
+
+fn listed_resource(word: &[u8]) -> Option<Option<ResourceKind>>
+    ensures { result ≡ listed_resource word.now }
+{
+    if word == b"TRANSACTIONAL_ID".as_slice() {
+        Some(Some(ResourceKind::TransactionalId))
+    } else if word == b"DELEGATION_TOKEN".as_slice() {
+        Some(None)
+    } else if word == b"DelegationToken".as_slice() {
+        Some(None)
+    } else if word == b"USER".as_slice() {
+        Some(None)
+    } else {
+        match resource_named(word) {
+            Some(kind) => Some(Some(kind)),
+            None => None,
+        }
+    }
+}
+
+fn listed_permission(word: &[u8]) -> Option<Permission>
+    ensures { result ≡ listed_permission word.now }
+{
+    if word == b"ALLOW)".as_slice() {
+        Some(Permission::Allow)
+    } else if word == b"DENY)".as_slice() {
+        Some(Permission::Deny)
+    } else {
+        permission_named(word)
+    }
+}
+
+fn listed_pattern(word: &[u8]) -> Option<PatternKind>
+    ensures { result ≡ listed_pattern word.now }
+{
+    if word == b"LITERAL)".as_slice() {
+        Some(PatternKind::Literal)
+    } else if word == b"PREFIXED)".as_slice() {
+        Some(PatternKind::Prefixed)
+    } else {
+        pattern_named(word)
+    }
+}
+
+/// What was found, or `BadWord`.
+pub fn known<T: Drop>(found: Option<T>) -> Result<T, LineError>
+    ensures { Gives result (found_or BadWord found) }
+{
+    match found {
+        Some(value) => Ok(value),
+        None => Err(LineError::Fault(FaultKind::BadWord)),
+    }
+}
+
+fn granted(
+    permission: Permission,
+    host: Host,
+    operation: Option<Operation>,
+    user: Option<Principal>,
+) -> Item
+    ensures { result ≡ granted permission host operation user }
+{
+    let Some(operation) = operation else {
+        return Item::LeftOut(LeftOut::Operation);
+    };
+    match user {
+        None => Item::LeftOut(LeftOut::Principal),
+        Some(principal) => Item::Grant(Grant {
+            permission,
+            principal,
+            host,
+            operation,
+        }),
+    }
+}
+
+#[tactic(auto, unfolding(crate::specs::Listing::grant_item))]
+fn grant_item(alloc: Global, words: &GrantWords<'_>) -> Result<Item, LineError>
+    ensures { Gives result (grant_item words.now) }
+{
+    let permission = known(listed_permission(words.permission))?;
+    let operation = known(listed_operation(words.operation))?;
+    let user = user_in(alloc, words.principal)?;
+    let text = text_in(words.host)?;
+    let host = host_of(alloc, text)?;
+    Ok(granted(permission, host, operation, user))
+}
+
+#[tactic(auto, unfolding(crate::specs::Listing::newer_holder))]
+fn newer_holder(
+    alloc: Global,
+    holder: &[u8],
+    operation: &[u8],
+    permission: &[u8],
+) -> Result<Item, LineError>
+    ensures { Gives result (newer_holder holder.now operation.now permission.now) }
+{
+    let (principal, host) = around_last(holder, b", host=")?;
+    let words = GrantWords {
+        principal,
+        host,
+        operation,
+        permission,
+    };
+    grant_item(alloc, &words)
+}
+
+#[tactic(auto, unfolding(crate::specs::Listing::newer_operation))]
+fn newer_operation(alloc: Global, front: &[u8], permission: &[u8]) -> Result<Item, LineError>
+    ensures { Gives result (newer_operation front.now permission.now) }
+{
+    let (holder, operation) = around_last(front, b", operation=")?;
+    newer_holder(alloc, holder, operation, permission)
+}
+
+#[tactic(auto, unfolding(crate::specs::Listing::newer_parts))]
+fn newer_parts(alloc: Global, inside: &[u8]) -> Result<Item, LineError>
+    ensures { Gives result (newer_parts inside.now) }
+{
+    let (front, permission) = around_last(inside, b", permissionType=")?;
+    newer_operation(alloc, front, permission)
+}
+
+/// `(principal=PRINCIPAL, host=HOST, operation=OPERATION, permissionType=PERMISSION)`
+#[tactic(auto, unfolding(crate::specs::Listing::newer_grant))]
+pub fn newer_grant(alloc: Global, line: &[u8]) -> Result<Item, LineError>
+    ensures { Gives result (newer_grant line.now) }
+{
+    let (_, inside) = around_first(line, b"(principal=")?;
+    newer_parts(alloc, inside)
+}
+
+#[tactic(auto, unfolding(crate::specs::Listing::older_holder))]
+fn older_holder(
+    alloc: Global,
+    holder: &[u8],
+    operation: &[u8],
+    host: &[u8],
+) -> Result<Item, LineError>
+    ensures { Gives result (older_holder holder.now operation.now host.now) }
+{
+    let (principal, permission) = around_last(holder, b" has ")?;
+    let words = GrantWords {
+        principal,
+        host,
+        operation,
+        permission,
+    };
+    grant_item(alloc, &words)
+}
+
+#[tactic(auto, unfolding(crate::specs::Listing::older_operation))]
+fn older_operation(alloc: Global, front: &[u8], host: &[u8]) -> Result<Item, LineError>
+    ensures { Gives result (older_operation front.now host.now) }
+{
+    let (holder, operation) = around_last(front, b" permission for operations: ")?;
+    older_holder(alloc, holder, operation, host)
+}
+
+/// `PRINCIPAL has PERMISSION permission for operations: OPERATION from hosts: HOST`
+#[tactic(auto, unfolding(crate::specs::Listing::older_grant))]
+pub fn older_grant(alloc: Global, line: &[u8]) -> Result<Item, LineError>
+    ensures { Gives result (older_grant line.now) }
+{
+    let (front, host) = around_last(line, b" from hosts: ")?;
+    older_operation(alloc, front, host)
+}
+
+fn headed(kind: Option<ResourceKind>, pattern: PatternKind, name: Text) -> Option<Target>
+    ensures { result ≡ headed kind pattern name }
+{
+    match kind {
+        None => None,
+        Some(resource) => Some(Target {
+            resource,
+            pattern: Pattern {
+                kind: pattern,
+                name,
+            },
+        }),
+    }
+}
+
+#[tactic(auto, unfolding(crate::specs::Listing::target_item))]
+fn target_item(alloc: Global, words: &TargetWords<'_>) -> Result<Item, LineError>
+    ensures { Gives result (target_item words.now) }
+{
+    let kind = known(listed_resource(words.resource))?;
+    let pattern = known(listed_pattern(words.pattern))?;
+    let text = text_in(words.name)?;
+    let name = Text::copied(alloc, text)?;
+    Ok(Item::Resource(headed(kind, pattern, name)))
+}
+
+#[tactic(auto, unfolding(crate::specs::Listing::newer_named))]
+fn newer_named(alloc: Global, resource: &[u8], rest: &[u8]) -> Result<Item, LineError>
+    ensures { Gives result (newer_named resource.now rest.now) }
+{
+    let (name, pattern) = around_last(rest, b", patternType=")?;
+    let words = TargetWords {
+        resource,
+        pattern,
+        name,
+    };
+    target_item(alloc, &words)
+}
+
+#[tactic(auto, unfolding(crate::specs::Listing::newer_target))]
+fn newer_target(alloc: Global, front: &[u8], rest: &[u8]) -> Result<Item, LineError>
+    ensures { Gives result (newer_target front.now rest.now) }
+{
+    let (_, resource) = around_first(front, b"resourceType=")?;
+    newer_named(alloc, resource, rest)
+}
+
+#[tactic(auto, unfolding(crate::specs::Listing::newer_resource))]
+fn newer_resource(alloc: Global, text: &[u8]) -> Result<Item, LineError>
+    ensures { Gives result (newer_resource text.now) }
+{
+    let (front, rest) = around_first(text, b", name=")?;
+    newer_target(alloc, front, rest)
+}
+
+fn is_pattern_word(word: &[u8]) -> bool
+    ensures { result ≡ is_pattern_word word.now }
+{
+    word == b"LITERAL".as_slice() || word == b"PREFIXED".as_slice()
+}
+
+fn older_target<'a>(resource: &'a [u8], rest: &'a [u8]) -> TargetWords<'a>
+    ensures { result ≡ older_target resource.entry.now rest.entry.now
+        (first_parts rest.entry.now (codes ":")) }
+{
+    match first_parts(rest, b":") {
+        Some((pattern, name)) if is_pattern_word(pattern) => TargetWords {
+            resource,
+            pattern,
+            name,
+        },
+        _ => TargetWords {
+            resource,
+            pattern: b"LITERAL".as_slice(),
+            name: rest,
+        },
+    }
+}
+
+#[tactic(auto, unfolding(crate::specs::Listing::older_resource))]
+fn older_resource(alloc: Global, text: &[u8]) -> Result<Item, LineError>
+    ensures { Gives result (older_resource text.now) }
+{
+    let (kind, rest) = around_first(text, b":")?;
+    target_item(alloc, &older_target(kind, rest))
+}
+
+fn resource_item(alloc: Global, text: &[u8]) -> Result<Item, LineError>
+    ensures { Gives result (resource_item text.now) }
+{
+    if text.starts_with(b"ResourcePattern(") {
+        newer_resource(alloc, text)
+    } else {
+        older_resource(alloc, text)
+    }
+}
+
+/// ``Current ACLs for resource `RESOURCE`:``
+#[tactic(auto, unfolding(crate::specs::Listing::heading_item))]
+pub fn heading_item(alloc: Global, line: &[u8]) -> Result<Item, LineError>
+    ensures { Gives result (heading_item line.now) }
+{
+    let (_, quoted) = around_first(line, b"`")?;
+    let (text, end) = around_last(quoted, b"`")?;
+    if end == b":".as_slice() {
+        resource_item(alloc, text)
+    } else {
+        Err(LineError::Fault(FaultKind::BadLine))
+    }
+}

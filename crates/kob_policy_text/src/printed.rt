@@ -1,0 +1,192 @@
+//! How answers are printed: origins, verdicts, bindings and rights.
+
+ghost use Rattle.std.specs.Prelude.{◌≡◌, ◌++◌, OnOk, Some};
+ghost use Rattle.kob_policy_text.specs.Answers.{answer_text, asked_text, binding_line};
+ghost use Rattle.kob_policy_text.specs.Answers.{left_out_word, line_at, line_by, line_of, may_text};
+ghost use Rattle.kob_policy_text.specs.Answers.{omission_line, origin_behind, origin_by};
+ghost use Rattle.kob_policy_text.specs.Answers.{origin_text, reason_text, right_text, yes_or_no};
+ghost use Rattle.std.specs.Option.{option_copied};
+ghost use Rattle.kob_script.specs.PrintedReply.{verdict_text};
+
+use crate::asked::Asked;
+use crate::item::LeftOut;
+use crate::judge::{Judge, deciding};
+use crate::origin::{Omission, Origin};
+use kob_names::{Binding, Verdict};
+use kob_words::{operation_name, print_binding, push_bytes, push_number, resource_name};
+use std::alloc::AllocError;
+
+#[tactic(auto, using(kob_words::proofs::Appending::appending))]
+fn push_origin(out: &mut Vec<u8>, origin: &Origin) -> Result<(), AllocError>
+    ensures { OnOk result (out.new.items ≡ out.old.items ++ origin_text origin.now) }
+{
+    push_bytes(out, origin.file.as_str().as_bytes())?;
+    out.extend_from_slice(b":")?;
+    push_number(out, origin.line)
+}
+
+/// `yes` or `no`.
+pub fn push_yes_or_no(out: &mut Vec<u8>, yes: bool) -> Result<(), AllocError>
+    ensures { OnOk result (out.new.items ≡ out.old.items ++ yes_or_no yes) }
+{
+    if yes {
+        out.extend_from_slice(b"yes")
+    } else {
+        out.extend_from_slice(b"no")
+    }
+}
+
+#[tactic(auto, using(kob_words::proofs::Appending::appending))]
+fn push_verdict(out: &mut Vec<u8>, verdict: Verdict) -> Result<(), AllocError>
+    ensures { OnOk result (out.new.items ≡ out.old.items ++ verdict_text verdict) }
+{
+    match verdict {
+        Verdict::DeniedBy(serial) => {
+            out.extend_from_slice(b"deny:")?;
+            push_number(out, serial)
+        }
+        Verdict::AllowedBy(serial) => {
+            out.extend_from_slice(b"allow:")?;
+            push_number(out, serial)
+        }
+        Verdict::NoAllow => out.extend_from_slice(b"no-allow"),
+        Verdict::Super => out.extend_from_slice(b"super"),
+        Verdict::NoAclFound => out.extend_from_slice(b"no-acl-found"),
+    }
+}
+
+#[tactic(auto, using(kob_words::proofs::Appending::appending))]
+fn push_answer(out: &mut Vec<u8>, verdict: Verdict) -> Result<(), AllocError>
+    ensures { OnOk result (out.new.items ≡ out.old.items ++ answer_text verdict) }
+{
+    push_yes_or_no(out, verdict.is_granted())?;
+    out.extend_from_slice(b" ")?;
+    push_verdict(out, verdict)
+}
+
+#[tactic(auto, using(kob_words::proofs::Appending::appending))]
+fn push_origin_behind(out: &mut Vec<u8>, origin: Option<&Origin>) -> Result<(), AllocError>
+    ensures { OnOk result
+        (out.new.items ≡ out.old.items ++ origin_behind (option_copied origin.entry)) }
+{
+    match origin {
+        None => Ok(()),
+        Some(origin) => {
+            out.extend_from_slice(b" ")?;
+            push_origin(out, origin)
+        }
+    }
+}
+
+/// The first origin of the binding that decides.
+fn origin_by(judge: &Judge, serial: Option<u64>) -> Option<&Origin>
+    ensures { option_copied result ≡ origin_by judge.entry.now serial }
+{
+    let place = judge.place_of(serial?)?;
+    judge.policy().origins().get(place)
+}
+
+/// An answer, and from where the binding comes that decides.
+#[tactic(auto, using(kob_words::proofs::Appending::appending))]
+pub fn push_reason(out: &mut Vec<u8>, judge: &Judge, verdict: Verdict) -> Result<(), AllocError>
+    ensures { OnOk result (out.new.items ≡ out.old.items ++ reason_text judge.now verdict) }
+{
+    push_answer(out, verdict)?;
+    push_origin_behind(out, origin_by(judge, deciding(verdict)))
+}
+
+#[tactic(auto, using(kob_words::proofs::Appending::appending))]
+fn push_binding_line(
+    out: &mut Vec<u8>,
+    serial: u64,
+    binding: &Binding,
+    origin: Option<&Origin>,
+) -> Result<(), AllocError>
+    ensures { OnOk result (out.new.items ≡ out.old.items
+        ++ binding_line serial binding.now (option_copied origin.entry)) }
+{
+    out.extend_from_slice(b"  ")?;
+    print_binding(out, serial, binding)?;
+    push_origin_behind(out, origin)?;
+    out.extend_from_slice(b"\n")
+}
+
+/// The line of the binding at a place.
+pub fn push_line_at(out: &mut Vec<u8>, judge: &Judge, place: usize) -> Result<(), AllocError>
+    ensures { OnOk result (out.new.items ≡ out.old.items ++ line_at judge.now (Some place)) }
+{
+    let policy = judge.policy();
+    let serial = judge.serials().get(place).copied().unwrap_or(0);
+    match policy.bindings().get(place) {
+        None => Ok(()),
+        Some(binding) => push_binding_line(out, serial, binding, policy.origins().get(place)),
+    }
+}
+
+fn push_line_by(out: &mut Vec<u8>, judge: &Judge, serial: u64) -> Result<(), AllocError>
+    ensures { OnOk result (out.new.items ≡ out.old.items ++ line_by judge.now (Some serial)) }
+{
+    match judge.place_of(serial) {
+        None => Ok(()),
+        Some(place) => push_line_at(out, judge, place),
+    }
+}
+
+/// An answer, and below it the binding that decides.
+#[tactic(auto, using(kob_words::proofs::Appending::appending))]
+pub fn push_may(out: &mut Vec<u8>, judge: &Judge, verdict: Verdict) -> Result<(), AllocError>
+    ensures { OnOk result (out.new.items ≡ out.old.items ++ may_text judge.now verdict) }
+{
+    push_answer(out, verdict)?;
+    out.extend_from_slice(b"\n")?;
+    match deciding(verdict) {
+        None => Ok(()),
+        Some(serial) => push_line_by(out, judge, serial),
+    }
+}
+
+/// An operation on a resource.
+#[tactic(auto, using(kob_words::proofs::Appending::appending))]
+pub fn push_right(out: &mut Vec<u8>, asked: &Asked<'_>) -> Result<(), AllocError>
+    ensures { OnOk result (out.new.items ≡ out.old.items ++ right_text asked.now) }
+{
+    out.extend_from_slice(operation_name(asked.operation).as_bytes())?;
+    out.extend_from_slice(b" ")?;
+    out.extend_from_slice(resource_name(asked.resource).as_bytes())?;
+    out.extend_from_slice(b" ")?;
+    push_bytes(out, asked.name.as_bytes())
+}
+
+/// Who asks from where, and for what.
+#[tactic(auto, using(kob_words::proofs::Appending::appending))]
+pub fn push_asked(out: &mut Vec<u8>, asked: &Asked<'_>) -> Result<(), AllocError>
+    ensures { OnOk result (out.new.items ≡ out.old.items ++ asked_text asked.now) }
+{
+    push_bytes(out, asked.principal.as_str().as_bytes())?;
+    out.extend_from_slice(b" ")?;
+    push_bytes(out, asked.host.as_str().as_bytes())?;
+    out.extend_from_slice(b" ")?;
+    push_right(out, asked)
+}
+
+fn left_out_word(what: LeftOut) -> &'static str
+    ensures { result.now ≡ left_out_word what }
+{
+    match what {
+        LeftOut::Resource => "resource",
+        LeftOut::Principal => "principal",
+        LeftOut::Operation => "operation",
+    }
+}
+
+/// What was left out, on a line of its own.
+#[tactic(auto, using(kob_words::proofs::Appending::appending))]
+pub fn push_omission(out: &mut Vec<u8>, omission: &Omission) -> Result<(), AllocError>
+    ensures { OnOk result (out.new.items ≡ out.old.items ++ omission_line omission.now) }
+{
+    out.extend_from_slice(b"left out ")?;
+    push_origin(out, &omission.origin)?;
+    out.extend_from_slice(b" ")?;
+    out.extend_from_slice(left_out_word(omission.what).as_bytes())?;
+    out.extend_from_slice(b"\n")
+}
