@@ -27,7 +27,7 @@ import subprocess
 import sys
 import tempfile
 
-from growth import TOP
+TOP = pathlib.Path(__file__).resolve().parent.parent
 
 CRATES = """kob_names kob_prefix_tree kob_chunks kob_rights kob_producers kob_authorizer kob_ordered kob_groups kob_partition
 kob_catalog kob_broker kob_outbox kob_router kob_inbox""".split()
