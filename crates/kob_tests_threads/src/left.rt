@@ -156,7 +156,8 @@ fn is_denied(end: &PipelineEnd) -> bool {
 
 /// Whether a pipeline left what it was to leave.
 pub(crate) fn is_due(alloc: Global, end: &mut PipelineEnd, due: Due<'_>) -> bool {
-    end.journal.len() == FIRST_EVENTS + due.calls
+    end.journal.len() >= FIRST_EVENTS
+        && end.journal.len() - FIRST_EVENTS == due.calls
         && have_ids(end, due.inbox)
         && are_records(alloc, &mut end.broker, due.topic)
         && is_marked(end, due.mark)
