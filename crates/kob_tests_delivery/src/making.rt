@@ -1,13 +1,21 @@
-//! Events, routes, outboxes and brokers that the tests share.
+//! Rows, routes, outboxes, brokers and lines that the tests share.
 
-use kob_broker::{Broker, Settings};
+use kob_broker::Broker;
+use kob_lines::BrokerLine;
 use kob_names::{Host, Items, Principal, Text};
 use kob_outbox::{Change, Outbox, OutboxEvent, Row};
-use kob_rights::{CreateTopics, Event, Fetch, Reply, Request};
-use kob_router::{Route, RouteSettings};
+use kob_rights::{Event, Reply};
+use kob_router::{Place, Route, RouteSettings};
+use kob_script::{Script, read_script};
 use std::alloc::{AllocError, Global};
 use std::test::Fail;
 use uuid::Uuid;
+
+/// The topic of events about orders.
+pub(crate) const ORDERS: &str = "outbox.event.orders";
+
+/// The topic is created.
+const CREATED: &str = "super User:root\nUser:root h create-topic outbox.event.orders 1\n";
 
 /// An event of the aggregate `42` of this kind.
 pub(crate) fn event(alloc: Global, id: u128, kind: &str) -> Result<OutboxEvent, AllocError> {
@@ -52,73 +60,64 @@ fn change(alloc: Global) -> Result<Change, AllocError> {
     })
 }
 
-/// An outbox with events of these aggregate types, whose ids are 1, 2 and so on.
-pub(crate) fn outbox(alloc: Global, kinds: &[&str]) -> Result<Outbox, Fail> {
+/// An outbox with so many events about orders, whose ids are 1, 2 and so on.
+pub(crate) fn outbox(alloc: Global, count: u128) -> Result<Outbox, Fail> {
     let mut outbox = Outbox::open_in_memory(alloc)?;
     let change = change(alloc)?;
-    let mut id = 0_u128;
-    for kind in kinds {
-        id = id.wrapping_add(1);
-        outbox.record(&change, &event(alloc, id, kind)?)?;
+    for id in 0..count {
+        outbox.record(&change, &event(alloc, id.wrapping_add(1), "orders")?)?;
     }
     Ok(outbox)
 }
 
-/// An event of a principal at the host `h`, or none where memory is refused.
-pub(crate) fn asked(alloc: Global, who: &str, request: Request) -> Option<Event> {
-    match (Principal::parse(alloc, who), Host::parse(alloc, "h")) {
-        (Ok(principal), Ok(host)) => Some(Event {
-            principal,
-            host,
-            request,
-        }),
-        _ => {
-            drop(request);
-            None
-        }
-    }
+/// The one event of a script's line.
+pub(crate) fn event_of(alloc: Global, line: &str) -> Option<Event> {
+    read_script(alloc, line.as_bytes())
+        .ok()?
+        .events
+        .into_vec()
+        .pop()
 }
 
-fn root_alone(alloc: Global) -> Result<Settings, Fail> {
-    let mut supers = Vec::new(alloc);
-    supers.push(Principal::parse(alloc, "User:root")?)?;
-    Ok(Settings {
-        supers: Items::from_vec(supers),
-        opening: Items::from_vec(Vec::new(alloc)),
-        everyone: false,
-    })
-}
-
-pub(crate) fn creation(alloc: Global) -> Option<Event> {
-    let name = Text::copied(alloc, "outbox.event.orders").ok()?;
-    let request = Request::CreateTopics(CreateTopics {
-        name,
-        partitions: 1,
-    });
-    asked(alloc, "User:root", request)
-}
-
-/// A broker whose one super user is `User:root`, with the topic `outbox.event.orders` of one
-/// partition.
+/// A broker with the topic of orders.
 pub(crate) fn broker(alloc: Global) -> Result<Broker, Fail> {
-    let event = creation(alloc).ok_or("memory")?;
-    let mut broker = Broker::open(alloc, root_alone(alloc)?)?;
-    drop(broker.serve(alloc, &event));
-    drop(event);
-    Ok(broker)
+    let Script { settings, events } = read_script(alloc, CREATED.as_bytes())?;
+    let mut broker = Broker::open(alloc, settings)?;
+    let done = broker.run(alloc, events.as_slice());
+    let is_done = done.is_ok();
+    drop(done);
+    if is_done {
+        return Ok(broker);
+    }
+    drop(broker);
+    Err(Fail::from("memory"))
 }
 
-/// What `User:root` reads on partition 0 of `outbox.event.orders`, or none where memory is refused.
-pub(crate) fn fetched(alloc: Global, broker: &mut Broker) -> Option<Reply> {
-    let topic = Text::copied(alloc, "outbox.event.orders").ok()?;
-    let fetch = Request::Fetch(Fetch {
-        topic,
-        partition: 0,
-        offset: 0,
-        max: 100,
-    });
-    let event = asked(alloc, "User:root", fetch)?;
+/// What a line of a script is answered, or none where memory is refused.
+pub(crate) fn answer(alloc: Global, broker: &mut Broker, line: &str) -> Option<Reply> {
+    let event = event_of(alloc, line)?;
     let reply = broker.serve(alloc, &event).ok();
     drop(event);
     reply
+}
+
+/// A line of the super user.
+pub(crate) fn line_to(alloc: Global, broker: &mut Broker) -> Option<BrokerLine<'_>> {
+    let principal = Principal::parse(alloc, "User:root").ok()?;
+    let host = Host::parse(alloc, "h").ok()?;
+    Some(BrokerLine::open(alloc, broker, principal, host))
+}
+
+/// The group `g`, and the topic's one partition.
+pub(crate) fn group_and_assignment(alloc: Global) -> Option<(Text, Items<Place>)> {
+    let group = Text::copied(alloc, "g").ok()?;
+    let mut places = Vec::new(alloc);
+    let topic = Text::copied(alloc, ORDERS).ok()?;
+    places
+        .push(Place {
+            topic,
+            partition: 0,
+        })
+        .ok()?;
+    Some((group, Items::from_vec(places)))
 }

@@ -1,75 +1,210 @@
-//! A router that lack of memory stops. `.ci/refuse` runs it with each allocation refused in turn.
+//! A router and a consumer that out of memory stops. `.ci/refuse` runs them with each allocation
+//! refused in turn.
 
-use crate::access::allow;
-use crate::lent_line::LentLine;
-use crate::making::{broker, creation, default_route, outbox};
-use crate::runs::{STEPS, Step, Told, ids_of, run};
+ghost use Rattle.std.specs.Prelude.{option_map};
+ghost use Rattle.kob_router.specs.Tick.{IsFirst, hand_of};
+
+use crate::making::{ORDERS, answer, broker, default_route, group_and_assignment, line_to, outbox};
 use kob_broker::Broker;
-use kob_names::{Host, Principal};
+use kob_inbox::{Consumer, Inbox};
+use kob_lines::BrokerLine;
 use kob_outbox::Outbox;
-use kob_router::Router;
+use kob_rights::{Body, Reply};
+use kob_router::{Line, Router};
 use std::alloc::Global;
 use std::test::Fail;
 
-/// Whether ticks came to the end, with moves and repeats alone, but for lack of memory, which may
-/// stop the last one too.
-fn come_to_the_end(told: &[Told; STEPS]) -> bool {
-    for told in told {
-        if !matches!(
-            told,
-            Told::Moved(_) | Told::Repeat | Told::Memory | Told::Idle
-        ) {
-            return false;
-        }
-    }
-    told[STEPS - 2] == Told::Idle || told[STEPS - 1] == Told::Idle
+/// The most ticks that are made.
+const TICKS: usize = 8;
+
+/// What a tick came to.
+#[derive(Clone, Copy, Debug, PartialEq, Eq)]
+pub(crate) enum Came {
+    /// There was nothing to do.
+    Idle,
+    /// It moved on, or a call was lost, or memory was refused.
+    On,
+    /// It was denied or refused, or the database failed.
+    Stopped,
 }
 
-/// Whether a router that ticks over an outbox comes to the end.
+/// What a tick of a router comes to.
+pub(crate) fn router_tick<L: Line>(
+    alloc: Global,
+    outbox: &mut Outbox,
+    router: &mut Router,
+    line: &mut L,
+) -> Came
+    requires { IsFirst (option_map hand_of router.old.hand) outbox.old }
+    ensures { IsFirst (option_map hand_of router.new.hand) outbox.new }
+{
+    let tick = router.tick(alloc, outbox, line);
+    let came = match &tick {
+        kob_router::Tick::Idle => Came::Idle,
+        kob_router::Tick::Moved(_) | kob_router::Tick::Repeat => Came::On,
+        kob_router::Tick::Stopped(kob_router::StopReason::Memory) => Came::On,
+        kob_router::Tick::Stopped(_) => Came::Stopped,
+    };
+    drop(tick);
+    came
+}
+
+fn router_ticks(
+    alloc: Global,
+    outbox: &mut Outbox,
+    router: &mut Router,
+    line: &mut BrokerLine<'_>,
+) -> [Came; TICKS]
+    requires { IsFirst (option_map hand_of router.old.hand) outbox.old }
+{
+    let mut came = [Came::On; TICKS];
+    for i in 0..TICKS {
+        came[i] = router_tick(alloc, outbox, router, line);
+    }
+    came
+}
+
+/// What a tick of a consumer comes to.
+pub(crate) fn consumer_tick<L: Line>(
+    alloc: Global,
+    inbox: &mut Inbox,
+    consumer: &mut Consumer,
+    line: &mut L,
+) -> Came {
+    let tick = consumer.tick(alloc, inbox, line);
+    let came = match &tick {
+        kob_inbox::Tick::Idle => Came::Idle,
+        kob_inbox::Tick::Stopped(kob_inbox::StopReason::Memory) => Came::On,
+        kob_inbox::Tick::Stopped(_) => Came::Stopped,
+        _ => Came::On,
+    };
+    drop(tick);
+    came
+}
+
+fn consumer_ticks(
+    alloc: Global,
+    inbox: &mut Inbox,
+    consumer: &mut Consumer,
+    line: &mut BrokerLine<'_>,
+) -> [Came; TICKS] {
+    let mut came = [Came::On; TICKS];
+    for i in 0..TICKS {
+        came[i] = consumer_tick(alloc, inbox, consumer, line);
+    }
+    came
+}
+
+/// Whether no tick was stopped, and one of the last two was idle.
+fn came_to_the_end(came: &[Came; TICKS]) -> bool {
+    !came.contains(&Came::Stopped)
+        && (came[TICKS - 2] == Came::Idle || came[TICKS - 1] == Came::Idle)
+}
+
+/// Whether a router sends all that waits in an outbox.
 fn sends_all(alloc: Global, outbox: &mut Outbox, broker: &mut Broker) -> Result<bool, Fail> {
-    let principal = Principal::parse(alloc, "User:svc")?;
-    let host = Host::parse(alloc, "h")?;
     let mut router = Router::new(alloc, default_route(alloc)?, 1);
-    let mut line = LentLine::new(alloc, broker, principal, host, Vec::new(alloc));
-    let told = run(alloc, outbox, &mut router, &mut line, &[Step::Tick; STEPS]);
+    let mut line = line_to(alloc, broker).ok_or("memory")?;
+    let came = router_ticks(alloc, outbox, &mut router, &mut line);
     drop(line);
     drop(router);
-    Ok(come_to_the_end(&told))
+    Ok(came_to_the_end(&came))
 }
 
-/// The topic and the rights to it, each twice, so that one refused allocation takes none of them.
-fn open_topic(alloc: Global, broker: &mut Broker) -> Result<(), Fail> {
-    let creation = creation(alloc).ok_or("memory")?;
-    drop(broker.serve(alloc, &creation));
-    drop(creation);
-    allow(alloc, broker);
-    allow(alloc, broker);
-    Ok(())
-}
-
-/// Whether both events are read in the topic, once each.
-fn has_both(alloc: Global, broker: &mut Broker) -> bool {
-    ids_of(alloc, broker) == [1, 2, 0, 0]
+/// How many records the topic has.
+fn end(alloc: Global, broker: &mut Broker) -> Option<u64> {
+    let reply = answer(
+        alloc,
+        broker,
+        "User:root h list-offsets outbox.event.orders 0 -1",
+    )?;
+    let end = match &reply {
+        Reply::Done(Body::Offset(end)) => Some(*end),
+        _ => None,
+    };
+    drop(reply);
+    end
 }
 
 /// Whether two events are in the topic and known sent. What memory kept from being read is read
 /// again.
 fn sends_two(alloc: Global, outbox: &mut Outbox, broker: &mut Broker) -> Result<bool, Fail> {
-    open_topic(alloc, broker)?;
     let sent = sends_all(alloc, outbox, broker)?;
     let mark = outbox.mark().or_else(|_| outbox.mark())?;
-    let has_both = has_both(alloc, broker) || has_both(alloc, broker);
-    Ok(sent && mark == 2 && has_both)
+    let end = end(alloc, broker).or_else(|| end(alloc, broker));
+    Ok(sent && mark == 2 && end == Some(2))
 }
 
 /// Where one allocation is refused, whichever it is, the ticks that follow make up for it.
 #[test]
 fn a_router_makes_up(rt: HostRuntime) -> Result<(), Fail> {
-    let mut outbox = outbox(rt.alloc(), &["orders", "orders"])?;
+    let mut outbox = outbox(rt.alloc(), 2)?;
     let mut broker = broker(rt.alloc())?;
     let sent = sends_two(rt.alloc(), &mut outbox, &mut broker);
     drop(broker);
     drop(outbox);
     assert!(rt; sent?);
+    Ok(())
+}
+
+/// Whether a consumer takes in all that the topic holds.
+fn takes_all(alloc: Global, inbox: &mut Inbox, broker: &mut Broker) -> Result<bool, Fail> {
+    let (group, assignment) = group_and_assignment(alloc).ok_or("memory")?;
+    let mut consumer = Consumer::new(alloc, group, assignment, 2);
+    let mut line = line_to(alloc, broker).ok_or("memory")?;
+    let came = consumer_ticks(alloc, inbox, &mut consumer, &mut line);
+    drop(line);
+    drop(consumer);
+    Ok(came_to_the_end(&came))
+}
+
+/// Where the records of the inbox's rows stood.
+fn offsets(inbox: &mut Inbox) -> Result<[Option<u64>; 3], Fail> {
+    let rows = inbox.taken().or_else(|_| inbox.taken())?;
+    let offset = |place: usize| rows.get(place).map(|row| row.offset);
+    let offsets = [offset(0), offset(1), offset(2)];
+    drop(rows);
+    Ok(offsets)
+}
+
+/// Whether two events around a record without an event id are taken in, each once.
+fn takes_two(alloc: Global, broker: &mut Broker) -> Result<bool, Fail> {
+    let mut inbox = Inbox::open_in_memory(alloc)?;
+    let taken = takes_all(alloc, &mut inbox, broker)?;
+    let offsets = offsets(&mut inbox);
+    drop(inbox);
+    let offsets = offsets?;
+    Ok(taken && offsets == [Some(0), Some(2), None])
+}
+
+/// Sends one event, appends a record without an event id, and sends another event.
+fn fills(alloc: Global, broker: &mut Broker) -> Result<bool, Fail> {
+    let mut first = outbox(alloc, 1)?;
+    let mut both = outbox(alloc, 2)?;
+    both.set_mark(1)?;
+    let sent = sends_all(alloc, &mut first, broker)?;
+    let appended = answer(
+        alloc,
+        broker,
+        "User:root h produce outbox.event.orders 0 - none",
+    );
+    let is_appended = appended.is_some();
+    drop(appended);
+    let sent_again = sends_all(alloc, &mut both, broker)?;
+    drop(first);
+    drop(both);
+    Ok(sent && is_appended && sent_again)
+}
+
+/// Where one allocation is refused, whichever it is, the ticks that follow make up for it.
+#[test]
+fn a_consumer_makes_up(rt: HostRuntime) -> Result<(), Fail> {
+    let mut broker = broker(rt.alloc())?;
+    let filled = fills(rt.alloc(), &mut broker)?;
+    let taken = takes_two(rt.alloc(), &mut broker);
+    drop(broker);
+    let taken = taken?;
+    assert!(rt; filled);
+    assert!(rt; taken);
     Ok(())
 }

@@ -1,15 +1,11 @@
 //! Calls on routers, consumers and prepared changes that take no memory. `.ci/refuse` runs them
 //! with every allocation refused from `spare` on.
 
-use crate::access::allow;
-use crate::lent_line::LentLine;
-use crate::making::{broker, creation, default_route, outbox};
-use crate::plays::{line_to, ordered};
-use crate::reader::{Reader, first_partitions};
-use crate::runs::{STEPS, Step, Told, run};
-use crate::shelf::Order;
+use crate::making::{broker, default_route, event_of, group_and_assignment, line_to, outbox};
+use crate::refused::{Came, consumer_tick, router_tick};
 use kob_broker::Broker;
-use kob_inbox::Consumer;
+use kob_inbox::{Consumer, Inbox};
+use kob_lines::BrokerLine;
 use kob_names::{Items, Text};
 use kob_outbox::Outbox;
 use kob_rights::{Event, Reason, Reply, Request};
@@ -39,60 +35,32 @@ fn are_first_two(calls: &[Call]) -> bool {
     }
 }
 
-const TO_THE_END: [Step; STEPS] = [
-    Step::Tick,
-    Step::Tick,
-    Step::Nothing,
-    Step::Nothing,
-    Step::Nothing,
-    Step::Nothing,
-];
-
 /// Whether a router that has sent one row starts again, and another is made, without a call.
 fn starts_again(
     alloc: Global,
     outbox: &mut Outbox,
     [route, other]: [Route; 2],
-    line: &mut LentLine<'_>,
+    line: &mut BrokerLine<'_>,
 ) -> bool {
     let mut router = Router::new(alloc, route, 1);
-    let told = run(alloc, outbox, &mut router, line, &TO_THE_END);
+    let moved = router_tick(alloc, outbox, &mut router, line) == Came::On;
+    let idle = router_tick(alloc, outbox, &mut router, line) == Came::Idle;
     spare(alloc);
     router.restart();
     let other = Router::new(alloc, other, 1_000);
     drop(router);
     drop(other);
-    told[0] == Told::Moved(1)
-        && told[1] == Told::Idle
-        && are_first_two(line.made_calls())
-        && line.unmade_calls() == 0
-}
-
-/// The same over a line to a broker on which `User:svc` may write.
-fn starts_again_over(
-    alloc: Global,
-    broker: &mut Broker,
-    outbox: &mut Outbox,
-    routes: [Route; 2],
-) -> Option<bool> {
-    allow(alloc, broker);
-    let mut line = line_to(alloc, broker, "User:svc", &[])?;
-    let again = starts_again(alloc, outbox, routes, &mut line);
-    drop(line);
-    Some(again)
-}
-
-fn two_routes(alloc: Global) -> Result<[Route; 2], Fail> {
-    let route = default_route(alloc)?;
-    let other = default_route(alloc)?;
-    Ok([route, other])
+    moved && idle && are_first_two(line.made_calls()) && line.unmade_calls() == 0
 }
 
 fn router_starts_again(alloc: Global, broker: &mut Broker) -> Result<bool, Fail> {
-    let mut outbox = outbox(alloc, &["orders"])?;
-    let again = starts_again_over(alloc, broker, &mut outbox, two_routes(alloc)?);
+    let routes = [default_route(alloc)?, default_route(alloc)?];
+    let mut outbox = outbox(alloc, 1)?;
+    let mut line = line_to(alloc, broker).ok_or("memory")?;
+    let again = starts_again(alloc, &mut outbox, routes, &mut line);
+    drop(line);
     drop(outbox);
-    Ok(again == Some(true))
+    Ok(again)
 }
 
 #[test]
@@ -115,55 +83,41 @@ fn asked_and_fetched(calls: &[Call]) -> bool {
     }
 }
 
-/// Whether a consumer that has read a record starts again, and another is made, without a call.
+/// Whether a consumer that has asked twice starts again, and another is made, without a call.
 fn begins_again(
     alloc: Global,
-    line: &mut LentLine<'_>,
-    reader: &mut Reader,
-    (group, assignment): (Text, Items<Place>),
+    inbox: &mut Inbox,
+    line: &mut BrokerLine<'_>,
+    [one, other]: [(Text, Items<Place>); 2],
 ) -> bool {
-    let placed = reader.step(alloc, line) == ("placed", 0);
-    let took = reader.step(alloc, line) == ("took", 1);
+    let mut consumer = Consumer::new(alloc, one.0, one.1, 10);
+    let placed = consumer_tick(alloc, inbox, &mut consumer, line) == Came::On;
+    let idle = consumer_tick(alloc, inbox, &mut consumer, line) == Came::Idle;
     spare(alloc);
-    reader.restart();
-    drop(Consumer::new(alloc, group, assignment, 10));
-    placed && took && asked_and_fetched(line.made_calls()) && line.unmade_calls() == 0
+    consumer.restart();
+    drop(Consumer::new(alloc, other.0, other.1, 10));
+    drop(consumer);
+    placed && idle && asked_and_fetched(line.made_calls()) && line.unmade_calls() == 0
 }
 
-/// A group and what it is assigned.
-fn group_and_assignment(alloc: Global) -> Option<(Text, Items<Place>)> {
-    let group = Text::copied(alloc, "g").ok()?;
-    let assignment = first_partitions(alloc, &["t"])?;
-    Some((group, assignment))
-}
-
-/// The same over a line to a broker.
-fn begins_again_over(alloc: Global, broker: &mut Broker, reader: &mut Reader) -> Option<bool> {
-    let parts = group_and_assignment(alloc)?;
-    let mut line = line_to(alloc, broker, "User:con", &[])?;
-    let again = begins_again(alloc, &mut line, reader, parts);
+fn consumer_begins_again(alloc: Global, broker: &mut Broker) -> Result<bool, Fail> {
+    let one = group_and_assignment(alloc).ok_or("memory")?;
+    let other = group_and_assignment(alloc).ok_or("memory")?;
+    let mut inbox = Inbox::open_in_memory(alloc)?;
+    let mut line = line_to(alloc, broker).ok_or("memory")?;
+    let again = begins_again(alloc, &mut inbox, &mut line, [one, other]);
     drop(line);
-    Some(again)
-}
-
-fn begins_again_on(alloc: Global, broker: &mut Broker) -> Option<bool> {
-    let mut reader = Reader::new(alloc, &["t"], 10)?;
-    let again = begins_again_over(alloc, broker, &mut reader);
-    drop(reader);
-    again
-}
-
-/// The same over a broker whose topic `t` has one record.
-fn consumer_begins_again(alloc: Global) -> Option<bool> {
-    let mut broker = ordered(alloc, &[Order::Topic("t"), Order::Fill("t", 1)])?;
-    let again = begins_again_on(alloc, &mut broker);
-    drop(broker);
-    again
+    drop(inbox);
+    Ok(again)
 }
 
 #[test]
-fn a_consumer_begins_again(rt: HostRuntime) {
-    assert_eq!(rt; consumer_begins_again(rt.alloc()), Some(true));
+fn a_consumer_begins_again(rt: HostRuntime) -> Result<(), Fail> {
+    let mut broker = broker(rt.alloc())?;
+    let again = consumer_begins_again(rt.alloc(), &mut broker);
+    drop(broker);
+    assert!(rt; again?);
+    Ok(())
 }
 
 /// Whether a topic that is there is refused.
@@ -174,30 +128,30 @@ fn is_refused(reply: &Reply) -> bool {
     }
 }
 
-/// Whether what is prepared tells the reply that is then given.
-fn tells_reply(alloc: Global, broker: &mut Broker, event: &Event) -> Option<bool> {
+/// Whether what is prepared shows the reply that is then given.
+fn shows_reply(alloc: Global, broker: &mut Broker, event: &Event) -> Option<bool> {
     let prepared = broker.prepare(alloc, event).ok()?;
     spare(alloc);
-    let told = is_refused(prepared.reply());
+    let shown = is_refused(prepared.reply());
     let reply = broker.commit(prepared);
     let given = is_refused(&reply);
     drop(reply);
-    Some(told && given)
+    Some(shown && given)
 }
 
 /// The same of the creation of a topic that is there.
-fn tells_refusal(alloc: Global, broker: &mut Broker) -> Option<bool> {
-    let event = creation(alloc)?;
-    let told = tells_reply(alloc, broker, &event);
+fn shows_refusal(alloc: Global, broker: &mut Broker) -> Option<bool> {
+    let event = event_of(alloc, "User:root h create-topic outbox.event.orders 1")?;
+    let shown = shows_reply(alloc, broker, &event);
     drop(event);
-    told
+    shown
 }
 
 #[test]
 fn a_prepared_reply_is_told(rt: HostRuntime) -> Result<(), Fail> {
     let mut broker = broker(rt.alloc())?;
-    let told = tells_refusal(rt.alloc(), &mut broker);
+    let shown = shows_refusal(rt.alloc(), &mut broker);
     drop(broker);
-    assert_eq!(rt; told, Some(true));
+    assert_eq!(rt; shown, Some(true));
     Ok(())
 }

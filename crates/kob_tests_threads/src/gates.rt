@@ -154,11 +154,6 @@ impl<'t> Holding<'t> {
         self.gave_up.load(Ordering::SeqCst)
     }
 
-    /// The number of the request that a worker came to last, one more than it made once it is done.
-    pub(crate) fn came_to(&self, worker: usize) -> u64 {
-        self.number_of(worker).load(Ordering::SeqCst)
-    }
-
     /// The number of the request that a worker has come to.
     fn number_of(&self, worker: usize) -> &AtomicU64 {
         match worker {

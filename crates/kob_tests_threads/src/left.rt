@@ -2,23 +2,21 @@
 
 ghost use Rattle.kob_pipeline.specs.Pipelines.{IsPipeline};
 
-use crate::plans::ORDERS;
+use crate::plans::{FIRST_EVENTS, ORDERS};
 use kob_broker::Broker;
 use kob_inbox::InboxRow;
 use kob_names::{Host, Principal, Record, Text, Verdict};
-use kob_pipeline::{OutboxEnd, PipelineEnd, Plan, consumer_law, pipeline_law, router_law};
+use kob_pipeline::{PipelineEnd, Plan, consumer_law, pipeline_law, router_law};
 use kob_rights::{Body, Code, Event, Fetch, OffsetFetch, Reply, Request};
 use kob_router::event_id;
 use std::alloc::Global;
 use uuid::Uuid;
 
-/// The numbers of the ids of the events that the service records, in order.
-const RECORDED: [u128; 2] = [0xA, 0xB];
-
 /// What a pipeline is to leave.
 #[derive(Clone, Copy)]
 pub(crate) struct Due<'t> {
-    pub(crate) entries: usize,
+    /// The calls that were served, beside the first events.
+    pub(crate) calls: usize,
     /// The numbers of the ids of the topic's records, in order.
     pub(crate) topic: &'t [u128],
     /// Those of every inbox.
@@ -41,7 +39,7 @@ pub(crate) fn call_laws(plan: &Plan, end: &PipelineEnd)
     pipeline_law(plan, end);
 }
 
-pub(crate) fn has_ids(rows: &[InboxRow], ids: &[u128]) -> bool {
+fn has_ids(rows: &[InboxRow], ids: &[u128]) -> bool {
     if rows.len() != ids.len() {
         return false;
     }
@@ -63,7 +61,7 @@ pub(crate) fn begins(rows: &[InboxRow], ids: &[u128]) -> bool {
 
 fn have_ids(end: &PipelineEnd, ids: &[u128]) -> bool {
     for inbox in &end.inboxes {
-        if !begins(&inbox.rows, &RECORDED) || !has_ids(&inbox.rows, ids) {
+        if !has_ids(&inbox.rows, ids) {
             return false;
         }
     }
@@ -82,32 +80,27 @@ fn answer(alloc: Global, broker: &mut Broker, request: Request) -> Option<Reply>
     broker.serve(alloc, &event).ok()
 }
 
-/// What the group `g` has committed on a topic.
-fn commit(alloc: Global, broker: &mut Broker, topic: &str) -> Option<Reply> {
+/// What the group `g` has committed on the topic.
+fn commit(alloc: Global, broker: &mut Broker) -> Option<Reply> {
     let request = Request::OffsetFetch(OffsetFetch {
         group: Text::copied(alloc, "g").ok()?,
-        topic: Text::copied(alloc, topic).ok()?,
+        topic: Text::copied(alloc, ORDERS).ok()?,
         partition: 0,
     });
     answer(alloc, broker, request)
 }
 
-pub(crate) fn is_committed(
-    alloc: Global,
-    broker: &mut Broker,
-    topic: &str,
-    due: Option<u64>,
-) -> bool {
-    match commit(alloc, broker, topic) {
+fn is_committed(alloc: Global, broker: &mut Broker, due: Option<u64>) -> bool {
+    match commit(alloc, broker) {
         Some(Reply::Done(Body::Commit(found))) => found == due,
         _ => false,
     }
 }
 
-/// What a topic holds.
-fn records(alloc: Global, broker: &mut Broker, topic: &str) -> Option<Reply> {
+/// What the topic holds.
+fn records(alloc: Global, broker: &mut Broker) -> Option<Reply> {
     let request = Request::Fetch(Fetch {
-        topic: Text::copied(alloc, topic).ok()?,
+        topic: Text::copied(alloc, ORDERS).ok()?,
         partition: 0,
         offset: 0,
         max: 100,
@@ -127,9 +120,9 @@ fn are_of(found: &[(u64, Record)], ids: &[u128]) -> bool {
     true
 }
 
-/// Whether a topic holds records of these ids, in order.
-pub(crate) fn are_records(alloc: Global, broker: &mut Broker, topic: &str, ids: &[u128]) -> bool {
-    match records(alloc, broker, topic) {
+/// Whether the topic holds records of these ids, in order.
+pub(crate) fn are_records(alloc: Global, broker: &mut Broker, ids: &[u128]) -> bool {
+    match records(alloc, broker) {
         Some(Reply::Done(Body::Records(found))) => are_of(found.as_slice(), ids),
         _ => false,
     }
@@ -141,61 +134,6 @@ pub(crate) fn is_marked(end: &PipelineEnd, mark: u64) -> bool {
         Some(left) => left.mark == mark,
         None => false,
     }
-}
-
-/// Whether the event of an id waits past the mark.
-fn waits(left: &OutboxEnd, id: u128) -> bool {
-    for row in &left.rows {
-        if row.event.id == Uuid::from_u128(id) {
-            return left.mark < row.seq;
-        }
-    }
-    false
-}
-
-/// Whether each recorded event waits past the mark or is among those of the topic.
-pub(crate) fn none_is_lost(end: &PipelineEnd, topic: &[u128]) -> bool {
-    let Some(left) = end.outboxes.get(0) else {
-        return false;
-    };
-    for id in &RECORDED {
-        if !waits(left, *id) && !topic.contains(id) {
-            return false;
-        }
-    }
-    true
-}
-
-/// What a service was answered.
-#[derive(Clone, Copy)]
-pub(crate) enum Told {
-    Producer(u64),
-    Offset(u64),
-}
-
-fn is_told(reply: &Reply, told: Told) -> bool {
-    match (reply, told) {
-        (Reply::Done(Body::Producer { id, .. }), Told::Producer(due)) => *id == due,
-        (Reply::Done(Body::Offset(found)), Told::Offset(due)) => *found == due,
-        _ => false,
-    }
-}
-
-/// Whether these are the replies to the service's calls, in order, those that it did not get too.
-pub(crate) fn are_told(end: &PipelineEnd, told: &[Told]) -> bool {
-    let Some(notes) = end.transcripts.get(1) else {
-        return false;
-    };
-    let receipts = notes.receipts();
-    if receipts.len() != told.len() {
-        return false;
-    }
-    for (receipt, due) in receipts.iter().zip(told) {
-        if !is_told(&receipt.reply, *due) {
-            return false;
-        }
-    }
-    true
 }
 
 /// Whether the last reply to worker 2 denies its right to the group, since no binding allows it.
@@ -216,13 +154,13 @@ fn is_denied(end: &PipelineEnd) -> bool {
     }
 }
 
-/// Whether a pipeline left what it was to leave, and none of what was recorded is lost.
+/// Whether a pipeline left what it was to leave.
 pub(crate) fn is_due(alloc: Global, end: &mut PipelineEnd, due: Due<'_>) -> bool {
-    end.journal.len() == due.entries
+    end.journal.len() >= FIRST_EVENTS
+        && end.journal.len() - FIRST_EVENTS == due.calls
         && have_ids(end, due.inbox)
-        && are_records(alloc, &mut end.broker, ORDERS, due.topic)
+        && are_records(alloc, &mut end.broker, due.topic)
         && is_marked(end, due.mark)
-        && none_is_lost(end, due.topic)
-        && is_committed(alloc, &mut end.broker, ORDERS, due.commit)
+        && is_committed(alloc, &mut end.broker, due.commit)
         && is_denied(end) == due.denied
 }

@@ -8,8 +8,6 @@
 #[cfg(test)]
 mod chunks;
 #[cfg(test)]
-mod deleted;
-#[cfg(test)]
 mod fleets;
 #[cfg(test)]
 mod gates;
@@ -29,9 +27,3 @@ mod revoked;
 mod sessions;
 #[cfg(test)]
 mod spared;
-#[cfg(test)]
-mod sweeps;
-#[cfg(test)]
-mod two_services;
-#[cfg(test)]
-mod withdrawn;

@@ -4,7 +4,7 @@ ghost use Rattle.std.specs.Prelude.{IfOk, IfSome};
 ghost use Rattle.kob_pipeline.specs.Pipelines.{IsPipeline};
 
 use crate::gates::{Hold, Holding, Open};
-use crate::left::{Due, Told, are_told, call_laws, is_due};
+use crate::left::{Due, call_laws, is_due};
 use crate::plans::{Act, Cast, plan, sweeping};
 use kob_pipeline::{ConsumerStep, Loss, PipelineEnd, PipelineFault, Plan, pipeline};
 use kob_shared::Gate;
@@ -34,7 +34,7 @@ pub(crate) fn run<R: Threads + Wait + Sync, G: Gate + Sync>(
 
 /// What a plan leaves, of which the laws speak. None where there is a fault, or a hold was given
 /// up.
-pub(crate) fn play<R: Threads + Wait + Sync>(
+fn play<R: Threads + Wait + Sync>(
     rt: &R,
     alloc: Global,
     plan: &Plan,
@@ -54,7 +54,7 @@ pub(crate) fn play<R: Threads + Wait + Sync>(
 }
 
 /// Whether a plan, at this gate, leaves what it is to leave.
-pub(crate) fn is_left<R: Threads + Wait + Sync>(
+fn is_left<R: Threads + Wait + Sync>(
     rt: &R,
     alloc: Global,
     plan: &Plan,
@@ -86,7 +86,7 @@ fn is_played<R: Threads + Wait + Sync>(
 }
 
 /// Worker 2 begins once the service has come to this number.
-pub(crate) fn after(comes_to: u64) -> Hold {
+fn after(comes_to: u64) -> Hold {
     Hold {
         worker: 2,
         number: 1,
@@ -107,7 +107,7 @@ fn pipeline_two_events(rt: HostRuntime) -> Result<(), Fail> {
         revoked: false,
     };
     let due = Due {
-        entries: 8,
+        calls: 6,
         topic: &[0xA, 0xB],
         inbox: &[0xA, 0xB],
         mark: 2,
@@ -133,7 +133,7 @@ fn two_consumers(rt: HostRuntime) -> Result<(), Fail> {
         comes_to: 4,
     };
     let due = Due {
-        entries: 11,
+        calls: 9,
         topic: &[0xA, 0xB],
         inbox: &[0xA, 0xB],
         mark: 2,
@@ -145,13 +145,12 @@ fn two_consumers(rt: HostRuntime) -> Result<(), Fail> {
 }
 
 /// Whether a service that takes these steps before the consumer begins, as its calls come to this
-/// number, is answered so and leaves what it is to leave.
+/// number, leaves what it is to leave.
 fn leaves<R: Threads + Wait + Sync>(
     rt: &R,
     alloc: Global,
     service: &[Act],
     comes_to: u64,
-    told: &[Told],
     due: Due<'_>,
 ) -> Result<bool, Fail> {
     let cast = Cast {
@@ -160,70 +159,21 @@ fn leaves<R: Threads + Wait + Sync>(
         consumer: &[STEP, STEP, STEP],
         revoked: false,
     };
-    let plan = plan(alloc, cast)?;
-    let end = play(rt, alloc, &plan, &Holding::at(&[after(comes_to)]));
-    drop(plan);
-    let Some(end) = end else {
-        return Ok(false);
-    };
-    let mut end = end;
-    let is_left = are_told(&end, told) && is_due(alloc, &mut end, due);
-    drop(end);
-    Ok(is_left)
+    is_played(rt, alloc, cast, &[after(comes_to)], due)
 }
 
-/// Two events, of which the second one's first call is lost so.
-const fn two_and_lost(loss: Loss) -> [Act; 6] {
-    [
-        Act::Note(0xA),
-        Act::Note(0xB),
-        TICK,
-        Act::Tick(loss),
-        TICK,
-        TICK,
-    ]
-}
-
-/// The broker has the second batch already, and answers its repeat with the old offset.
-#[test]
-fn reply_lost(rt: HostRuntime) -> Result<(), Fail> {
-    let due = Due {
-        entries: 9,
-        topic: &[0xA, 0xB],
-        inbox: &[0xA, 0xB],
-        mark: 2,
-        commit: Some(2),
-        denied: false,
-    };
-    let told = [
-        Told::Producer(0),
-        Told::Offset(0),
-        Told::Offset(1),
-        Told::Offset(1),
-    ];
-    let service = two_and_lost(Loss::AfterServe);
-    assert!(rt; leaves(&rt, rt.alloc(), &service, 5, &told, due)?);
-    Ok(())
-}
-
-/// The second event is sent again under a new producer id, and so gets a second offset.
+/// The broker has the second batch already. It is sent again under a new producer id, and so gets a
+/// second offset; the consumer passes the repeat over.
 #[test]
 fn reply_lost_then_restart(rt: HostRuntime) -> Result<(), Fail> {
     let due = Due {
-        entries: 10,
+        calls: 8,
         topic: &[0xA, 0xB, 0xB],
         inbox: &[0xA, 0xB],
         mark: 2,
         commit: Some(3),
         denied: false,
     };
-    let told = [
-        Told::Producer(0),
-        Told::Offset(0),
-        Told::Offset(1),
-        Told::Producer(1),
-        Told::Offset(2),
-    ];
     let service = [
         Act::Note(0xA),
         Act::Note(0xB),
@@ -233,7 +183,7 @@ fn reply_lost_then_restart(rt: HostRuntime) -> Result<(), Fail> {
         TICK,
         TICK,
     ];
-    assert!(rt; leaves(&rt, rt.alloc(), &service, 6, &told, due)?);
+    assert!(rt; leaves(&rt, rt.alloc(), &service, 6, due)?);
     Ok(())
 }
 
@@ -241,16 +191,22 @@ fn reply_lost_then_restart(rt: HostRuntime) -> Result<(), Fail> {
 #[test]
 fn request_lost(rt: HostRuntime) -> Result<(), Fail> {
     let due = Due {
-        entries: 8,
+        calls: 6,
         topic: &[0xA, 0xB],
         inbox: &[0xA, 0xB],
         mark: 2,
         commit: Some(2),
         denied: false,
     };
-    let told = [Told::Producer(0), Told::Offset(0), Told::Offset(1)];
-    let service = two_and_lost(Loss::BeforeServe);
-    assert!(rt; leaves(&rt, rt.alloc(), &service, 5, &told, due)?);
+    let service = [
+        Act::Note(0xA),
+        Act::Note(0xB),
+        TICK,
+        Act::Tick(Loss::BeforeServe),
+        TICK,
+        TICK,
+    ];
+    assert!(rt; leaves(&rt, rt.alloc(), &service, 5, due)?);
     Ok(())
 }
 
@@ -259,14 +215,13 @@ fn request_lost(rt: HostRuntime) -> Result<(), Fail> {
 #[test]
 fn refused_records_and_bad_topics_are_passed_over(rt: HostRuntime) -> Result<(), Fail> {
     let due = Due {
-        entries: 8,
+        calls: 6,
         topic: &[0xA, 0xB],
         inbox: &[0xA, 0xB],
         mark: 2,
         commit: Some(2),
         denied: false,
     };
-    let told = [Told::Producer(0), Told::Offset(0), Told::Offset(1)];
     let service = [
         Act::Note(0xA),
         TICK,
@@ -278,27 +233,7 @@ fn refused_records_and_bad_topics_are_passed_over(rt: HostRuntime) -> Result<(),
         TICK,
         TICK,
     ];
-    assert!(rt; leaves(&rt, rt.alloc(), &service, 4, &told, due)?);
-    Ok(())
-}
-
-#[test]
-fn consumer_restart(rt: HostRuntime) -> Result<(), Fail> {
-    let cast = Cast {
-        service: &TWO,
-        groups: &["g"],
-        consumer: &[STEP, STEP, ConsumerStep::Restart, STEP, STEP, STEP],
-        revoked: false,
-    };
-    let due = Due {
-        entries: 10,
-        topic: &[0xA, 0xB],
-        inbox: &[0xA, 0xB],
-        mark: 2,
-        commit: Some(2),
-        denied: false,
-    };
-    assert!(rt; is_played(&rt, rt.alloc(), cast, &[after(4)], due)?);
+    assert!(rt; leaves(&rt, rt.alloc(), &service, 4, due)?);
     Ok(())
 }
 
@@ -324,7 +259,7 @@ fn revoked_while_consuming(rt: HostRuntime) -> Result<(), Fail> {
         comes_to: 2,
     };
     let due = Due {
-        entries: 9,
+        calls: 7,
         topic: &[0xA, 0xB],
         inbox: &[0xA, 0xB],
         mark: 2,

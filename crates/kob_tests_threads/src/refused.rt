@@ -5,10 +5,10 @@ ghost use Rattle.std.specs.Prelude.{◌≤◌};
 
 use crate::fleets::{scripts_of, tells_two_each};
 use crate::gates::Open;
-use crate::left::{are_records, begins, is_marked, none_is_lost};
+use crate::left::{are_records, begins, is_marked};
 use crate::making::{broker, offset_of, produce, shared};
 use crate::pipelines::{STEP, TWO, run};
-use crate::plans::{Cast, ORDERS, plan};
+use crate::plans::{Cast, plan};
 use crate::sessions::{create_topic, session};
 use kob_pipeline::{PipelineEnd, PipelineFault};
 use kob_rights::Request;
@@ -102,8 +102,7 @@ fn two_scripts(rt: HostRuntime) -> Result<(), Fail> {
 /// Whether the topic has both events. What memory kept from being read is read again.
 fn has_both(alloc: Global, end: &mut PipelineEnd) -> bool {
     let both = [0xA, 0xB];
-    are_records(alloc, &mut end.broker, ORDERS, &both)
-        || are_records(alloc, &mut end.broker, ORDERS, &both)
+    are_records(alloc, &mut end.broker, &both) || are_records(alloc, &mut end.broker, &both)
 }
 
 /// Whether both events were sent, and each inbox begins with them.
@@ -114,7 +113,6 @@ fn is_whole(alloc: Global, end: &mut PipelineEnd) -> bool {
         .all(|inbox| begins(&inbox.rows, &recorded))
         && has_both(alloc, end)
         && is_marked(end, 2)
-        && none_is_lost(end, &recorded)
 }
 
 /// Whether a pipeline comes to such an end. None where memory or a thread was wanting.

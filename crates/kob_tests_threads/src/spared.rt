@@ -7,7 +7,7 @@ use crate::gates::Open;
 use crate::left::{begins, call_laws, is_marked};
 use crate::making::{at_host, creation, event, metadata, recorded, shared};
 use crate::pipelines::{STEP, TWO, run};
-use crate::plans::{Cast, plan};
+use crate::plans::{Cast, FIRST_EVENTS, plan};
 use crate::sessions::session;
 use kob_names::{Host, PlainValue, Principal};
 use kob_pipeline::{PipelineEnd, Plan};
@@ -149,12 +149,12 @@ fn desks_open_and_close(rt: HostRuntime) -> Result<(), Fail> {
 }
 
 /// Whether a pipeline of a service that sends two events and of a consumer left what it is to leave
-/// whoever was first: eight entries, of which three are each worker's.
+/// whoever was first: six calls beside the first events, of which three are each worker's.
 fn is_whole(end: &PipelineEnd) -> bool {
     let counts = end.transcripts.iter().map(|notes| notes.len());
-    end.journal.len() == 8
-        && end.journal.iter().count() == 8
-        && counts.eq([2, 3, 3])
+    end.journal.len() == FIRST_EVENTS + 6
+        && end.journal.iter().count() == FIRST_EVENTS + 6
+        && counts.eq([FIRST_EVENTS, 3, 3])
         && is_marked(end, 2)
         && end
             .inboxes

@@ -1,0 +1,58 @@
+//! Brokers, and calls whose replies tell how many were served before.
+
+ghost use Rattle.std.specs.Prelude.{IfOk, ◌≤◌};
+ghost use Rattle.kob_shared.specs.Openings.{IsFresh};
+
+use kob_broker::{Broker, OpenFault, Settings};
+use kob_names::{Host, Items, Principal};
+use kob_rights::{Body, Reply, Request};
+use kob_router::{Delivery, Line};
+use kob_shared::Recorded;
+use std::alloc::Global;
+use std::test::Fail;
+
+fn opened(alloc: Global, settings: Settings) -> Result<Broker, OpenFault>
+    ensures { IfOk result IsFresh }
+{
+    Broker::open(alloc, settings)
+}
+
+/// A broker whose one super user is `User:root`.
+pub(crate) fn broker(alloc: Global) -> Result<Broker, Fail>
+    ensures { IfOk result IsFresh }
+{
+    let mut supers = Vec::new(alloc);
+    supers.push(root(alloc)?)?;
+    let settings = Settings {
+        supers: Items::from_vec(supers),
+        opening: Items::from_vec(Vec::new(alloc)),
+        everyone: false,
+    };
+    Ok(opened(alloc, settings)?)
+}
+
+/// Such a broker with a journal of at most so many entries.
+pub(crate) fn recorded(alloc: Global, limit: usize) -> Result<Recorded, Fail>
+    requires { limit ≤ 1000000 }
+{
+    let broker = broker(alloc)?;
+    Ok(Recorded::open(alloc, broker, limit).ok().ok_or("memory")?)
+}
+
+/// The super user.
+pub(crate) fn root(alloc: Global) -> Result<Principal, Fail> {
+    Ok(Principal::parse(alloc, "User:root")?)
+}
+
+/// Its host.
+pub(crate) fn host(alloc: Global) -> Result<Host, Fail> {
+    Ok(Host::parse(alloc, "10.0.0.1")?)
+}
+
+/// Asks for a producer id, of which the broker gives 0, 1, 2 and so on; the one that was heard.
+pub(crate) fn heard_id<L: Line>(alloc: Global, line: &mut L) -> Option<u64> {
+    match line.send(alloc, Request::InitProducerId) {
+        Delivery::Delivered(Reply::Done(Body::Producer { id, .. })) => Some(id),
+        _ => None,
+    }
+}
