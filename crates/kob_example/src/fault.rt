@@ -1,24 +1,23 @@
-//! Why the example has no whole output.
+//! Why the example prints nothing, or not all.
 
-use kob_names::{BindingFault, HostFault, PrincipalFault};
+use kob_names::{HostFault, PrincipalFault};
 use kob_pipeline::PipelineFault;
 use kob_router::RouteFault;
+use kob_script::ScriptError;
 use std::alloc::{AllocError, AllocFailed};
 use std::io;
 use thiserror::Error;
 
-/// Why the example has no whole output.
+/// Why the example prints nothing, or not all.
 #[derive(Clone, Copy, Debug, PartialEq, Eq, Error)]
 pub enum ExampleFault {
     #[error("out of memory")]
     Memory,
-    #[error("a principal, a host or a binding is none")]
-    BadName,
-    #[error("a route is none")]
-    BadRoute,
-    #[error("the plan is none that may be run")]
+    #[error("invalid principal, host, route or script")]
+    BadText,
+    #[error("the plan cannot be run")]
     BadPlan,
-    #[error("the pipeline did not come to its end")]
+    #[error("the pipeline did not run to its end")]
     Pipeline,
     #[error("the output could not be written")]
     WriteFailed,
@@ -38,25 +37,25 @@ impl<T: Drop> From<AllocFailed<T>> for ExampleFault {
 
 impl From<PrincipalFault> for ExampleFault {
     fn from(_fault: PrincipalFault) -> ExampleFault {
-        ExampleFault::BadName
+        ExampleFault::BadText
     }
 }
 
 impl From<HostFault> for ExampleFault {
     fn from(_fault: HostFault) -> ExampleFault {
-        ExampleFault::BadName
-    }
-}
-
-impl From<BindingFault> for ExampleFault {
-    fn from(_fault: BindingFault) -> ExampleFault {
-        ExampleFault::BadName
+        ExampleFault::BadText
     }
 }
 
 impl From<RouteFault> for ExampleFault {
     fn from(_fault: RouteFault) -> ExampleFault {
-        ExampleFault::BadRoute
+        ExampleFault::BadText
+    }
+}
+
+impl From<ScriptError> for ExampleFault {
+    fn from(_error: ScriptError) -> ExampleFault {
+        ExampleFault::BadText
     }
 }
 

@@ -1,20 +1,18 @@
-//! An event's whole way: services record events, their routers send them, consumers take them in,
-//! while calls are lost, a router starts again, and an administrator takes a right away and gives
-//! it back.
+//! An event's whole way, in threads: services record events, their routers send them, consumers
+//! take them in, while calls are lost, a router restarts, and an administrator revokes a right and
+//! grants it again.
 #![tactic(auto)]
 
-mod bindings;
 mod fault;
 mod order;
 mod plan;
 mod report;
-mod steps;
 
 use crate::fault::ExampleFault;
 use crate::order::Order;
 use crate::plan::plan_of;
 use crate::report::report;
-use kob_pipeline::pipeline;
+use kob_pipeline::{pipeline, pipeline_law};
 
 fn main(rt: HostRuntime) -> Result<(), ExampleFault> {
     let plan = plan_of(rt.alloc())?;
@@ -23,6 +21,7 @@ fn main(rt: HostRuntime) -> Result<(), ExampleFault> {
     }
     let order = Order::new();
     let end = pipeline(&rt, rt.alloc(), &plan, &order)?;
-    report(rt.stdout(), &end)?;
+    pipeline_law(&plan, &end);
+    report(rt.stdout(), &plan, &end)?;
     Ok(())
 }

@@ -4,18 +4,37 @@ use kob_shared::Gate;
 use std::sync::atomic::{AtomicUsize, Ordering};
 use std::thread;
 
-/// How many turns a worker waits before it goes on alone.
+/// How often a worker yields before it goes on alone.
 const TURNS: u32 = 10_000_000;
 
-/// The orders service, the payments service, two consumers and the administrator.
 const ORDERS: usize = 1;
 
 const PAYMENTS: usize = 2;
 
+const MAIL: usize = 3;
+
+const BOOKS: usize = 4;
+
 const ADMINISTRATOR: usize = 5;
 
-/// Lets the administrator take a right away before the third request of the payments service and
-/// give it back after that one, and lets consumers begin when both services are done.
+/// A worker, the number of a request of its own, another worker, and the number of the request that
+/// the other has to come to before the first makes its own.
+type Hold = (usize, usize, usize, usize);
+
+/// The right is revoked before the third request of the payments service and granted again after
+/// it. Consumers begin when both services have ended.
+const HOLDS: [Hold; 8] = [
+    (ADMINISTRATOR, 1, PAYMENTS, 3),
+    (PAYMENTS, 3, ADMINISTRATOR, 2),
+    (ADMINISTRATOR, 2, PAYMENTS, 4),
+    (PAYMENTS, 4, ADMINISTRATOR, 3),
+    (MAIL, 1, ORDERS, 7),
+    (MAIL, 1, PAYMENTS, 6),
+    (BOOKS, 1, ORDERS, 7),
+    (BOOKS, 1, PAYMENTS, 6),
+];
+
+/// Keeps the number of the request that each worker has come to.
 #[derive(Drop)]
 pub(crate) struct Order {
     orders: AtomicUsize,
@@ -31,40 +50,35 @@ impl Order {
             administrator: AtomicUsize::new(0),
         }
     }
-}
 
-/// Waits until the worker that counts here came to its request of this number.
-fn wait_for(count: &AtomicUsize, number: usize) {
-    for _ in 0..TURNS {
-        if count.load(Ordering::SeqCst) >= number {
-            return;
+    /// How far a worker has come, if another waits for it.
+    fn number_of(&self, worker: usize) -> Option<&AtomicUsize> {
+        match worker {
+            ORDERS => Some(&self.orders),
+            PAYMENTS => Some(&self.payments),
+            ADMINISTRATOR => Some(&self.administrator),
+            _ => None,
         }
-        thread::yield_now();
+    }
+
+    fn wait_for(&self, other: usize, comes_to: usize) {
+        for _ in 0..TURNS {
+            match self.number_of(other) {
+                Some(number) if number.load(Ordering::SeqCst) < comes_to => thread::yield_now(),
+                _ => return,
+            }
+        }
     }
 }
 
 impl Gate for Order {
     fn before(&self, worker: usize, k: usize) {
-        match worker {
-            ORDERS => self.orders.store(k, Ordering::SeqCst),
-            PAYMENTS => {
-                self.payments.store(k, Ordering::SeqCst);
-                if k == 3 {
-                    wait_for(&self.administrator, 2);
-                }
-                if k == 4 {
-                    wait_for(&self.administrator, 3);
-                }
-            }
-            ADMINISTRATOR => {
-                self.administrator.store(k, Ordering::SeqCst);
-                if k <= 2 {
-                    wait_for(&self.payments, k + 2);
-                }
-            }
-            _ => {
-                wait_for(&self.orders, 7);
-                wait_for(&self.payments, 6);
+        if let Some(number) = self.number_of(worker) {
+            number.store(k, Ordering::SeqCst);
+        }
+        for (held, number, other, comes_to) in HOLDS {
+            if held == worker && number == k {
+                self.wait_for(other, comes_to);
             }
         }
     }

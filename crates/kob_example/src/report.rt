@@ -1,8 +1,8 @@
 //! What the pipeline leaves, as it is printed.
 
-use kob_inbox::InboxRow;
+use kob_inbox::{InboxRow, Subscription};
 use kob_outbox::Row;
-use kob_pipeline::{InboxEnd, OutboxEnd, PipelineEnd};
+use kob_pipeline::{InboxEnd, OutboxEnd, PipelineEnd, Plan, first_breach};
 use std::io;
 use std::io::Write;
 
@@ -14,14 +14,22 @@ const CONSUMERS: [&str; 2] = ["mail", "books"];
 /// The aggregates of which events are recorded, with the key of their records.
 const AGGREGATES: [&str; 4] = ["41", "42", "7", "8"];
 
-/// Prints what waits in each outbox, and what each inbox holds of each aggregate.
-pub(crate) fn report<W: Write + Drop>(mut out: W, end: &PipelineEnd) -> io::Result<()> {
+/// Prints what waits in each outbox, what each inbox holds of each aggregate, and whether the law of
+/// delivery holds between each service and the consumer of its topic.
+pub(crate) fn report<W: Write + Drop>(
+    mut out: W,
+    plan: &Plan,
+    end: &PipelineEnd,
+) -> io::Result<()> {
     writeln!(out, "{} requests were served", end.journal.len())?;
     for (name, outbox) in SERVICES.iter().zip(end.outboxes.iter()) {
         report_outbox(&mut out, name, outbox)?;
     }
     for (name, inbox) in CONSUMERS.iter().zip(end.inboxes.iter()) {
         report_inbox(&mut out, name, inbox)?;
+    }
+    for (place, consumer) in plan.consumers.iter().enumerate() {
+        report_law(&mut out, place, &consumer.subscription, end)?;
     }
     Ok(())
 }
@@ -65,5 +73,24 @@ fn report_event<W: Write>(out: &mut W, aggregate: &str, row: &InboxRow) -> io::R
     match std::str::from_utf8(row.value.as_slice()) {
         Ok(event) => writeln!(out, "  {aggregate} {event}"),
         Err(_) => writeln!(out, "  {aggregate}"),
+    }
+}
+
+/// Services have the numbers 1 and 2, consumers 3 and 4.
+fn report_law<W: Write>(
+    out: &mut W,
+    place: usize,
+    subscription: &Subscription,
+    end: &PipelineEnd,
+) -> io::Result<()> {
+    let group = &subscription.group;
+    let assignment = subscription.assignment.as_slice();
+    let breach = match place {
+        0 => first_breach(&end.journal, 1, 3, group, assignment),
+        _ => first_breach(&end.journal, 2, 4, group, assignment),
+    };
+    match breach {
+        None => writeln!(out, "law of delivery to {}: holds", group.as_str()),
+        Some(_) => writeln!(out, "law of delivery to {}: says nothing", group.as_str()),
     }
 }
