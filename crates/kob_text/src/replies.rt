@@ -109,6 +109,33 @@ fn write_replies<W: Write>(
     Ok(Ended::Clean)
 }
 
+// What is dear to drop goes by a `drop` of its own: a proof takes it apart anew at each early return.
+fn write_served<W: Write>(
+    alloc: Global,
+    sink: &mut Sink<'_, W>,
+    held: &mut Vec<u8>,
+    script: CheckedScript,
+) -> Result<Ended, OutputFault>
+    requires none { held.old.items ≡ [] }
+    requires piece { vec_len held.old ≤ piece_limit }
+    requires room { piece_limit ≤ vec_capacity held.old }
+    ensures same_reference { sink.new.writer.ghost_name ≡ sink.old.writer.ghost_name }
+    ensures output { IfOk result (λ ended. Writes (Ok (checked script)) ended
+        (W.contents sink.old.writer.now) (W.contents sink.new.writer.now)) }
+    ensures part { IsErrOf result OutputFault.WriteFailed → HasOutput (Ok (checked script))
+        (AppendsPart (W.contents sink.old.writer.now) (W.contents sink.new.writer.now)) }
+    ensures memory { IsErrOf result OutputFault.Memory
+        → Keeps (W.contents sink.old.writer.now) (W.contents sink.new.writer.now) }
+    ensures failed { IsErrOf result OutputFault.WriteFailed → sink.new.failed ≡ true }
+{
+    let CheckedScript { settings, requests } = script;
+    let mut broker = broker_by(alloc, settings)?;
+    let written = write_replies(alloc, sink, held, &mut broker, requests);
+    drop(broker);
+    let ended = written?;
+    Ok(ended)
+}
+
 /// Serves a script and writes its output. `Memory` comes before the first request alone.
 pub fn write_run<W: Write>(
     alloc: Global,
@@ -124,9 +151,10 @@ pub fn write_run<W: Write>(
         → Keeps (W.contents sink.old.writer.now) (W.contents sink.new.writer.now) }
     ensures failed { IsErrOf result OutputFault.WriteFailed → sink.new.failed ≡ true }
 {
-    let CheckedScript { settings, requests } = script;
-    let mut broker = broker_by(alloc, settings)?;
-    let mut held = Vec::with_capacity(alloc, PIECE_LIMIT)?;
-    let ended = write_replies(alloc, sink, &mut held, &mut broker, requests)?;
-    Ok(ended)
+    let Ok(held) = Vec::with_capacity(alloc, PIECE_LIMIT) else {
+        drop(script);
+        return Err(OutputFault::Memory);
+    };
+    let mut held = held;
+    write_served(alloc, sink, &mut held, script)
 }

@@ -3,7 +3,7 @@ use Rattle.kob_broker.specs.Change.{state_of}
 use Rattle.kob_script.specs.Checks.{checked}
 use Rattle.kob_text.specs.Runs.{replies_from}
 use Rattle.kob_text.proofs.Outputs.{run_is_output, part_is_of_output}
-use Rattle.kob_text.proofs.replies.write_run.Goals as goal
+use Rattle.kob_text.proofs.replies.write_served.Goals as goal
 
 pub returns-clause-output : goal.returns-clause-output
 returns-clause-output g c =
