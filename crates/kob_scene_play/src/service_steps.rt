@@ -1,5 +1,13 @@
 //! The steps of a service.
 
+ghost use Rattle.std.specs.Prelude.{◌≡◌, IfOk, IsTrue, OnOk, string_bytes};
+ghost use Rattle.kob_router.specs.Line.{one_more};
+ghost use Rattle.kob_scene_play.specs.Printing.{Prints};
+ghost use Rattle.kob_scene_play.specs.Steps.{IsServiceStep, Tells, goes_on_after, loss_for};
+ghost use Rattle.kob_scene_play.specs.Workers.{IsSameService, IsServiceTick};
+ghost use Rattle.kob_scene_text.specs.PrintedTick.{numbered, service_tick_text};
+ghost use Rattle.kob_scene_text.specs.declared.scene.ServiceStep.TheVariants as service_steps;
+
 use crate::fault::PlayFault;
 use crate::output::Output;
 use crate::service_worker::ServiceWorker;
@@ -27,11 +35,16 @@ pub(crate) fn play_service<W: Write>(
     place: usize,
     step: &ServiceStep,
     out: &mut Output<'_, W>,
-) -> Result<(), PlayFault> {
+) -> Result<(), PlayFault>
+    ensures done { OnOk result (Tells (IsServiceStep step.now played.old.service
+        played.new.service (one_more out.old.told)) (W.contents out.old.writer.now) out.old.text.items
+        (W.contents out.new.writer.now) out.new.text.items) }
+    ensures name { played.new.name ≡ played.old.name }
+{
     match step {
         ServiceStep::Record(change, event) => record(played, place, change, event, out),
         ServiceStep::Tick(lost) => {
-            tick(alloc, recorded, &mut played.service, loss_of(*lost), out)?;
+            tick(alloc, recorded, &mut played.service, *lost, out)?;
             Ok(())
         }
         ServiceStep::Run => run(alloc, recorded, &mut played.service, out),
@@ -49,7 +62,13 @@ fn record<W: Write>(
     change: &Change,
     event: &OutboxEvent,
     out: &mut Output<'_, W>,
-) -> Result<(), PlayFault> {
+) -> Result<(), PlayFault>
+    ensures done { OnOk result (Tells (IsServiceStep (service_steps.Record change.now event.now) played.old.service
+        played.new.service (one_more out.old.told)) (W.contents out.old.writer.now) out.old.text.items
+        (W.contents out.new.writer.now) out.new.text.items) }
+    ensures told { OnOk result (out.new.told ≡ one_more out.old.told) }
+    ensures name { played.new.name ≡ played.old.name }
+{
     played.recorded_by.reserve(1)?;
     let recorded = played.service.record(change, event);
     match recorded {
@@ -69,10 +88,15 @@ fn tick<W: Write>(
     alloc: Global,
     recorded: &mut Recorded,
     service: &mut ServiceWorker,
-    loss: Loss,
+    lost: Option<Lost>,
     out: &mut Output<'_, W>,
-) -> Result<bool, PlayFault> {
-    let tick = service.tick(alloc, recorded, loss)?;
+) -> Result<bool, PlayFault>
+    ensures done { OnOk result (Tells (IsServiceStep (service_steps.Tick lost) service.old
+        service.new (one_more out.old.told)) (W.contents out.old.writer.now) out.old.text.items
+        (W.contents out.new.writer.now) out.new.text.items) }
+    ensures told { OnOk result (out.new.told ≡ one_more out.old.told) }
+{
+    let tick = service.tick(alloc, recorded, loss_of(lost))?;
     let goes_on = goes_on(&tick);
     let number = out.number();
     print_service_tick(&mut out.text, number, tick)?;
@@ -81,7 +105,9 @@ fn tick<W: Write>(
 }
 
 /// Whether a tick moved the mark, or has to be made again.
-fn goes_on(tick: &Tick) -> bool {
+fn goes_on(tick: &Tick) -> bool
+    ensures { result ≡ goes_on_after tick.now }
+{
     match tick {
         Tick::Moved(_) => true,
         Tick::Repeat => true,
@@ -96,26 +122,37 @@ fn run<W: Write>(
     recorded: &mut Recorded,
     service: &mut ServiceWorker,
     out: &mut Output<'_, W>,
-) -> Result<(), PlayFault> {
+) -> Result<(), PlayFault>
+    ensures done { OnOk result (Tells (IsServiceStep service_steps.Run service.old
+        service.new (one_more out.old.told)) (W.contents out.old.writer.now) out.old.text.items
+        (W.contents out.new.writer.now) out.new.text.items) }
+{
     for _ in 0..RUN_LIMIT {
-        if !tick(alloc, recorded, service, Loss::None, out)? {
+        if !tick(alloc, recorded, service, None, out)? {
             break;
         }
     }
     Ok(())
 }
 
-fn restart<W: Write>(
-    service: &mut ServiceWorker,
-    out: &mut Output<'_, W>,
-) -> Result<(), PlayFault> {
+fn restart<W: Write>(service: &mut ServiceWorker, out: &mut Output<'_, W>) -> Result<(), PlayFault>
+    ensures done { OnOk result (Tells (IsServiceStep service_steps.Restart service.old
+        service.new (one_more out.old.told)) (W.contents out.old.writer.now) out.old.text.items
+        (W.contents out.new.writer.now) out.new.text.items) }
+    ensures told { OnOk result (out.new.told ≡ one_more out.old.told) }
+{
     service.restart();
     let number = out.number();
     print_restarted(&mut out.text, number)?;
     out.tell()
 }
 
-fn sweep<W: Write>(service: &mut ServiceWorker, out: &mut Output<'_, W>) -> Result<(), PlayFault> {
+fn sweep<W: Write>(service: &mut ServiceWorker, out: &mut Output<'_, W>) -> Result<(), PlayFault>
+    ensures done { OnOk result (Tells (IsServiceStep service_steps.Sweep service.old
+        service.new (one_more out.old.told)) (W.contents out.old.writer.now) out.old.text.items
+        (W.contents out.new.writer.now) out.new.text.items) }
+    ensures told { OnOk result (out.new.told ≡ one_more out.old.told) }
+{
     let count = service.sweep()?;
     let number = out.number();
     print_swept(&mut out.text, number, count)?;
@@ -126,7 +163,12 @@ fn sweep<W: Write>(service: &mut ServiceWorker, out: &mut Output<'_, W>) -> Resu
 fn show_outbox<W: Write>(
     service: &mut ServiceWorker,
     out: &mut Output<'_, W>,
-) -> Result<(), PlayFault> {
+) -> Result<(), PlayFault>
+    ensures done { OnOk result (Tells (IsServiceStep service_steps.Outbox service.old
+        service.new (one_more out.old.told)) (W.contents out.old.writer.now) out.old.text.items
+        (W.contents out.new.writer.now) out.new.text.items) }
+    ensures told { OnOk result (out.new.told ≡ one_more out.old.told) }
+{
     let mark = service.mark()?;
     let rows = service.rows_after(mark, u32::MAX)?;
     let number = out.number();
@@ -139,7 +181,12 @@ fn show_state<W: Write>(
     kind: &Text,
     key: &Text,
     out: &mut Output<'_, W>,
-) -> Result<(), PlayFault> {
+) -> Result<(), PlayFault>
+    ensures done { OnOk result (Tells (IsServiceStep (service_steps.Business kind.now key.now) service.old
+        service.new (one_more out.old.told)) (W.contents out.old.writer.now) out.old.text.items
+        (W.contents out.new.writer.now) out.new.text.items) }
+    ensures told { OnOk result (out.new.told ≡ one_more out.old.told) }
+{
     let state = service.business(kind.as_str(), key.as_str())?;
     let number = out.number();
     print_state(&mut out.text, number, &state)?;
@@ -147,7 +194,9 @@ fn show_state<W: Write>(
 }
 
 /// What becomes of the first call of a tick.
-pub(crate) fn loss_of(lost: Option<Lost>) -> Loss {
+pub(crate) fn loss_of(lost: Option<Lost>) -> Loss
+    ensures { result ≡ loss_for lost }
+{
     match lost {
         None => Loss::None,
         Some(Lost::Request) => Loss::BeforeServe,

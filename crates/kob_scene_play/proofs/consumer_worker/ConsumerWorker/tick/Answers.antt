@@ -28,9 +28,9 @@ returns c =
     let none = ap (λ l. l.calls.made.items) c.lose.ensures ∙ c.over-line.ensures.made in
     let all = ap (λ l. l.calls.unmade) c.lose.ensures ∙ c.over-line.ensures.unmade in
     let done =
-    consumer_ticked old new ticked.result line.calls.made.items ticked.new.line.calls.made.items line.calls.unmade
-    ticked.new.line.calls.unmade
+    consumer_ticked c.args.loss old new ticked.result line.calls.made.items ticked.new.line.calls.made.items line.calls.unmade
+    ticked.new.line.calls.unmade c.heard-fault.ensures.lost
     (record { worker = refl; principal = refl; host = refl; subscription = ticked.ensures.same }) none all
     ticked.ensures.done in
-    subst (λ (from : Consumer). IsConsumerTick from new c.in_ok-tick.tick) c.self.view_is
-    (subst (λ (told : Tick). IsConsumerTick old new told) (sym c.in_ok-tick.ensures) done)
+    subst (λ (from : Consumer). IsConsumerTick c.args.loss from new c.in_ok-tick.tick) c.self.view_is
+    (subst (λ (told : Tick). IsConsumerTick c.args.loss old new told) (sym c.in_ok-tick.ensures) done)
