@@ -2,9 +2,7 @@
 
 ghost use Rattle.std.specs.Prelude.{◌≡◌, OnOk};
 ghost use Rattle.kob_router.specs.Line.{one_more};
-ghost use Rattle.kob_scene_play.specs.Printing.{Prints};
 ghost use Rattle.kob_scene_play.specs.Steps.{IsConsumerStep, Tells};
-ghost use Rattle.kob_scene_play.specs.Workers.{IsSameConsumer};
 ghost use Rattle.kob_scene_text.specs.declared.scene.ConsumerStep.TheVariants as consumer_steps;
 
 use crate::consumer_worker::ConsumerWorker;
@@ -37,7 +35,7 @@ pub(crate) fn play_consumer<W: Write>(
     out: &mut Output<'_, W>,
 ) -> Result<(), PlayFault>
     ensures done { OnOk result (Tells (IsConsumerStep step.now consumer.old
-        consumer.new (one_more out.old.told)) (W.contents out.old.writer.now) out.old.text.items
+        consumer.new out.old.told) (W.contents out.old.writer.now) out.old.text.items
         (W.contents out.new.writer.now) out.new.text.items) }
 {
     match step {
@@ -59,7 +57,7 @@ fn tick<W: Write>(
     out: &mut Output<'_, W>,
 ) -> Result<Left, PlayFault>
     ensures done { OnOk result (Tells (IsConsumerStep (consumer_steps.Tick lost) consumer.old
-        consumer.new (one_more out.old.told)) (W.contents out.old.writer.now) out.old.text.items
+        consumer.new out.old.told) (W.contents out.old.writer.now) out.old.text.items
         (W.contents out.new.writer.now) out.new.text.items) }
     ensures told { OnOk result (out.new.told ≡ one_more out.old.told) }
 {
@@ -80,6 +78,7 @@ fn left_by(tick: &Tick) -> Left {
 }
 
 /// Ticks until each assigned partition was idle in turn, or the consumer is stopped.
+#[tactic(auto, using(crate::proofs::ConsumerRunning::none_at_first, crate::proofs::ConsumerRunning::one_tick_more, crate::proofs::ConsumerRunning::all_read))]
 fn run<W: Write>(
     alloc: Global,
     recorded: &mut Recorded,
@@ -87,7 +86,7 @@ fn run<W: Write>(
     out: &mut Output<'_, W>,
 ) -> Result<(), PlayFault>
     ensures done { OnOk result (Tells (IsConsumerStep consumer_steps.Run consumer.old
-        consumer.new (one_more out.old.told)) (W.contents out.old.writer.now) out.old.text.items
+        consumer.new out.old.told) (W.contents out.old.writer.now) out.old.text.items
         (W.contents out.new.writer.now) out.new.text.items) }
 {
     let round = consumer.subscription().assignment.len();
@@ -110,7 +109,7 @@ fn restart<W: Write>(
     out: &mut Output<'_, W>,
 ) -> Result<(), PlayFault>
     ensures done { OnOk result (Tells (IsConsumerStep consumer_steps.Restart consumer.old
-        consumer.new (one_more out.old.told)) (W.contents out.old.writer.now) out.old.text.items
+        consumer.new out.old.told) (W.contents out.old.writer.now) out.old.text.items
         (W.contents out.new.writer.now) out.new.text.items) }
     ensures told { OnOk result (out.new.told ≡ one_more out.old.told) }
 {
@@ -125,7 +124,7 @@ fn show_inbox<W: Write>(
     out: &mut Output<'_, W>,
 ) -> Result<(), PlayFault>
     ensures done { OnOk result (Tells (IsConsumerStep consumer_steps.Inbox consumer.old
-        consumer.new (one_more out.old.told)) (W.contents out.old.writer.now) out.old.text.items
+        consumer.new out.old.told) (W.contents out.old.writer.now) out.old.text.items
         (W.contents out.new.writer.now) out.new.text.items) }
     ensures told { OnOk result (out.new.told ≡ one_more out.old.told) }
 {

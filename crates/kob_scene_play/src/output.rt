@@ -112,19 +112,26 @@ impl<'a, W: Write> Output<'a, W> {
         self.write()
     }
 
-    #[tactic(auto, using(kob_words::proofs::Appending::appending))]
     /// Writes the lines that are whole, and `stopped after M` with the number of the last answer.
+    #[tactic(auto, using(crate::proofs::Printed::written_behind))]
     pub fn stop(&mut self) -> Result<(), PlayFault>
         ensures same_writer { self.new.writer.ghost_name ≡ self.old.writer.ghost_name }
-        ensures written { OnOk result (Prints (W.contents self.old.writer.now)
-            (take self.old.whole self.old.text.items) (W.contents self.new.writer.now) []
-            (stopped_text self.old.told)) }
+        ensures written { OnOk result (Appends (W.contents self.old.writer.now)
+            (W.contents self.new.writer.now)
+            (take self.old.whole self.old.text.items ++ stopped_text self.old.told)) }
     {
         self.text.truncate(self.whole);
         self.write()?;
-        self.text.extend_from_slice(b"stopped after ")?;
-        push_number(&mut self.text, self.told)?;
-        self.text.extend_from_slice(b"\n")?;
+        print_stopped(&mut self.text, self.told)?;
         self.write()
     }
+}
+
+#[tactic(auto, using(kob_words::proofs::Appending::appending))]
+fn print_stopped(out: &mut Vec<u8>, told: u64) -> Result<(), AllocError>
+    ensures { OnOk result (out.new.items ≡ out.old.items ++ stopped_text told) }
+{
+    out.extend_from_slice(b"stopped after ")?;
+    push_number(out, told)?;
+    out.extend_from_slice(b"\n")
 }

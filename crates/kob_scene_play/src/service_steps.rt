@@ -1,11 +1,8 @@
 //! The steps of a service.
 
-ghost use Rattle.std.specs.Prelude.{◌≡◌, IfOk, IsTrue, OnOk, string_bytes};
+ghost use Rattle.std.specs.Prelude.{◌≡◌, IfOk, OnOk};
 ghost use Rattle.kob_router.specs.Line.{one_more};
-ghost use Rattle.kob_scene_play.specs.Printing.{Prints};
-ghost use Rattle.kob_scene_play.specs.Steps.{IsServiceStep, Tells, goes_on_after, loss_for};
-ghost use Rattle.kob_scene_play.specs.Workers.{IsSameService, IsServiceTick};
-ghost use Rattle.kob_scene_text.specs.PrintedTick.{numbered, service_tick_text};
+ghost use Rattle.kob_scene_play.specs.Steps.{IsServiceStep, IsTold, Tells, goes_on_after, loss_for};
 ghost use Rattle.kob_scene_text.specs.declared.scene.ServiceStep.TheVariants as service_steps;
 
 use crate::fault::PlayFault;
@@ -37,7 +34,7 @@ pub(crate) fn play_service<W: Write>(
     out: &mut Output<'_, W>,
 ) -> Result<(), PlayFault>
     ensures done { OnOk result (Tells (IsServiceStep step.now played.old.service
-        played.new.service (one_more out.old.told)) (W.contents out.old.writer.now) out.old.text.items
+        played.new.service out.old.told) (W.contents out.old.writer.now) out.old.text.items
         (W.contents out.new.writer.now) out.new.text.items) }
     ensures name { played.new.name ≡ played.old.name }
 {
@@ -64,7 +61,7 @@ fn record<W: Write>(
     out: &mut Output<'_, W>,
 ) -> Result<(), PlayFault>
     ensures done { OnOk result (Tells (IsServiceStep (service_steps.Record change.now event.now) played.old.service
-        played.new.service (one_more out.old.told)) (W.contents out.old.writer.now) out.old.text.items
+        played.new.service out.old.told) (W.contents out.old.writer.now) out.old.text.items
         (W.contents out.new.writer.now) out.new.text.items) }
     ensures told { OnOk result (out.new.told ≡ one_more out.old.told) }
     ensures name { played.new.name ≡ played.old.name }
@@ -91,8 +88,8 @@ fn tick<W: Write>(
     lost: Option<Lost>,
     out: &mut Output<'_, W>,
 ) -> Result<bool, PlayFault>
-    ensures done { OnOk result (Tells (IsServiceStep (service_steps.Tick lost) service.old
-        service.new (one_more out.old.told)) (W.contents out.old.writer.now) out.old.text.items
+    ensures done { IfOk result (λ goes_on. IsTold lost goes_on service.old service.new out.old.told
+        (W.contents out.old.writer.now) out.old.text.items
         (W.contents out.new.writer.now) out.new.text.items) }
     ensures told { OnOk result (out.new.told ≡ one_more out.old.told) }
 {
@@ -117,6 +114,7 @@ fn goes_on(tick: &Tick) -> bool
 }
 
 /// Ticks until one neither moves nor repeats.
+#[tactic(auto, using(crate::proofs::Running::none_at_first, crate::proofs::Running::one_tick_more, crate::proofs::Running::last_tick, crate::proofs::Running::spent))]
 fn run<W: Write>(
     alloc: Global,
     recorded: &mut Recorded,
@@ -124,12 +122,12 @@ fn run<W: Write>(
     out: &mut Output<'_, W>,
 ) -> Result<(), PlayFault>
     ensures done { OnOk result (Tells (IsServiceStep service_steps.Run service.old
-        service.new (one_more out.old.told)) (W.contents out.old.writer.now) out.old.text.items
+        service.new out.old.told) (W.contents out.old.writer.now) out.old.text.items
         (W.contents out.new.writer.now) out.new.text.items) }
 {
     for _ in 0..RUN_LIMIT {
         if !tick(alloc, recorded, service, None, out)? {
-            break;
+            return Ok(());
         }
     }
     Ok(())
@@ -137,7 +135,7 @@ fn run<W: Write>(
 
 fn restart<W: Write>(service: &mut ServiceWorker, out: &mut Output<'_, W>) -> Result<(), PlayFault>
     ensures done { OnOk result (Tells (IsServiceStep service_steps.Restart service.old
-        service.new (one_more out.old.told)) (W.contents out.old.writer.now) out.old.text.items
+        service.new out.old.told) (W.contents out.old.writer.now) out.old.text.items
         (W.contents out.new.writer.now) out.new.text.items) }
     ensures told { OnOk result (out.new.told ≡ one_more out.old.told) }
 {
@@ -149,7 +147,7 @@ fn restart<W: Write>(service: &mut ServiceWorker, out: &mut Output<'_, W>) -> Re
 
 fn sweep<W: Write>(service: &mut ServiceWorker, out: &mut Output<'_, W>) -> Result<(), PlayFault>
     ensures done { OnOk result (Tells (IsServiceStep service_steps.Sweep service.old
-        service.new (one_more out.old.told)) (W.contents out.old.writer.now) out.old.text.items
+        service.new out.old.told) (W.contents out.old.writer.now) out.old.text.items
         (W.contents out.new.writer.now) out.new.text.items) }
     ensures told { OnOk result (out.new.told ≡ one_more out.old.told) }
 {
@@ -165,7 +163,7 @@ fn show_outbox<W: Write>(
     out: &mut Output<'_, W>,
 ) -> Result<(), PlayFault>
     ensures done { OnOk result (Tells (IsServiceStep service_steps.Outbox service.old
-        service.new (one_more out.old.told)) (W.contents out.old.writer.now) out.old.text.items
+        service.new out.old.told) (W.contents out.old.writer.now) out.old.text.items
         (W.contents out.new.writer.now) out.new.text.items) }
     ensures told { OnOk result (out.new.told ≡ one_more out.old.told) }
 {
@@ -183,7 +181,7 @@ fn show_state<W: Write>(
     out: &mut Output<'_, W>,
 ) -> Result<(), PlayFault>
     ensures done { OnOk result (Tells (IsServiceStep (service_steps.Business kind.now key.now) service.old
-        service.new (one_more out.old.told)) (W.contents out.old.writer.now) out.old.text.items
+        service.new out.old.told) (W.contents out.old.writer.now) out.old.text.items
         (W.contents out.new.writer.now) out.new.text.items) }
     ensures told { OnOk result (out.new.told ≡ one_more out.old.told) }
 {
