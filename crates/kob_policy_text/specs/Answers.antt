@@ -136,7 +136,7 @@ request_text policy event =
 abbrev pub hand_of : Policy → List (List ℕ) → AtHand
 hand_of policy topics = with_bindings (others_at_hand topics) policy.bindings
 
-abbrev pub who_line : Policy → Right → List ℕ → List ℕ → List ℕ
+unfoldable pub who_line : Policy → Right → List ℕ → List ℕ → List ℕ
 who_line policy right host principal =
     codes "  " ++ bytes_text principal ++ codes " " ++ reason_text policy
     (may policy (question_of principal host right.operation right.resource right.name))
@@ -270,7 +270,7 @@ change_text before after asked =
     asked_text asked ++ codes " " ++ reason_text before (may before asked) ++ codes " -> "
     ++ reason_text after (may after asked) ++ codes "\n"
 
-abbrev pub change_line : Policy → Policy → authorizer.Question → List ℕ
+unfoldable pub change_line : Policy → Policy → authorizer.Question → List ℕ
 change_line before after asked =
     if same_answer before after asked then [] else change_text before after asked
 
@@ -288,7 +288,7 @@ left_out_word left_out.Resource = codes "resource"
 left_out_word left_out.Principal = codes "principal"
 left_out_word left_out.Operation = codes "operation"
 
-abbrev pub omission_line : Omission → List ℕ
+unfoldable pub omission_line : Omission → List ℕ
 omission_line omission =
     codes "left out " ++ origin_text omission.origin ++ codes " " ++ left_out_word omission.what
     ++ codes "\n"

@@ -31,7 +31,7 @@ use std::alloc::{AllocError, Global};
 fn one(alloc: Global, item: Item) -> Result<Vec<Item>, AllocError>
     ensures { IfOk result (λ items. items.items ≡ item ∷ []) }
 {
-    let mut items = Vec::with_capacity(alloc, 1)?;
+    let mut items = Vec::new(alloc);
     items.push(item)?;
     Ok(items)
 }
@@ -261,7 +261,10 @@ fn rules_in(alloc: Global, request: Request) -> Result<Vec<Item>, LineError>
 {
     match request {
         Request::CreateAcls(made) => Ok(rule_items(alloc, made.drafts.into_vec())?),
-        _ => Err(LineError::Fault(FaultKind::BadLine)),
+        other => {
+            drop(other);
+            Err(LineError::Fault(FaultKind::BadLine))
+        }
     }
 }
 
@@ -280,13 +283,23 @@ pub fn only_event(asked: Asked) -> Option<Event>
 {
     let Asked { first, mut others } = asked;
     match first {
-        Some(event) => { if others.is_empty() { Some(event) } else { None } }
-        None => {
-            if others.len() == 1 {
-                others.pop_front()
-            } else {
-                None
+        Some(event) => {
+            if others.is_empty() {
+                drop(others);
+                return Some(event);
             }
+            drop(others);
+            drop(event);
+            None
+        }
+        None => {
+            if others.len() != 1 {
+                drop(others);
+                return None;
+            }
+            let event = others.pop_front();
+            drop(others);
+            event
         }
     }
 }
@@ -317,7 +330,9 @@ fn script_items(alloc: Global, text: &[u8]) -> Result<Vec<Item>, LineError>
 {
     let words = words_of(alloc, text)?;
     let answer = answer_to(alloc, &words)?;
-    words_items(alloc, &answer, &words)
+    let items = words_items(alloc, &answer, &words);
+    drop(answer);
+    items
 }
 
 /// What a line says. What the words of an `acl` line mean is answered by `clap`.
