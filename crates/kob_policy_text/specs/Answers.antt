@@ -190,13 +190,30 @@ abbrev pub is_beaten_at : Policy → Binding → authorizer.Question → Bool
 is_beaten_at policy binding asked =
     not (is_hit Allow asked (0, binding)) || is_beaten (may policy asked)
 
+-- a deny decides what the allow speaks of
+abbrev pub is_denied : Verdict → Bool
+is_denied (verdict.DeniedBy serial) = true
+is_denied verdict.Super = false
+is_denied (verdict.AllowedBy serial) = false
+is_denied verdict.NoAllow = false
+is_denied verdict.NoAclFound = false
+
+abbrev pub is_denied_at : Policy → Binding → authorizer.Question → Bool
+is_denied_at policy binding asked =
+    is_hit Allow asked (0, binding) && is_denied (may policy asked)
+
 -- every question at hand of which the allow speaks is one where it is beaten
 abbrev pub is_always_beaten : Policy → List authorizer.Question → Binding → Bool
 is_always_beaten policy asked binding = list_all (is_beaten_at policy binding) asked
 
+-- in one of them by a deny
+abbrev pub is_ever_denied : Policy → List authorizer.Question → Binding → Bool
+is_ever_denied policy asked binding = list_any (is_denied_at policy binding) asked
+
 abbrev pub is_shadowed : Policy → List authorizer.Question → Binding → Bool
 is_shadowed policy asked binding =
-    same_permission binding.permission Allow && is_always_beaten policy asked binding
+    same_permission binding.permission Allow
+    && (is_always_beaten policy asked binding && is_ever_denied policy asked binding)
 
 -- the line of a binding that no other needs
 abbrev pub unused_line : Policy → List authorizer.Question → ℕ → List ℕ

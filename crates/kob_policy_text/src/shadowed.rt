@@ -4,6 +4,7 @@ ghost use Rattle.std.specs.Prelude.{◌≡◌, ◌++◌, OnOk, length};
 ghost use Rattle.kob_authorizer.specs.Decide.{is_hit};
 ghost use Rattle.kob_names.specs.declared.kinds.Permission.TheVariants.{Allow};
 ghost use Rattle.kob_policy_text.specs.Answers.{is_always_beaten, is_beaten, is_beaten_at};
+ghost use Rattle.kob_policy_text.specs.Answers.{is_denied, is_denied_at, is_ever_denied};
 ghost use Rattle.kob_policy_text.specs.Answers.{is_shadowed, is_shadowed_at, shadowed_line};
 ghost use Rattle.kob_policy_text.specs.Answers.{shadowed_lines, shadowed_text};
 ghost use Rattle.kob_policy_text.specs.AtHand.{asked_at_hand};
@@ -42,6 +43,29 @@ fn is_beaten_at(judge: &Judge, binding: &Binding, asked: &Asked<'_>) -> bool
     !is_allowing(binding, asked) || is_beaten(judge.verdict(asked))
 }
 
+fn is_denied(verdict: Verdict) -> bool
+    ensures { result ≡ is_denied verdict }
+{
+    match verdict {
+        Verdict::DeniedBy(_) => true,
+        Verdict::Super | Verdict::AllowedBy(_) | Verdict::NoAllow | Verdict::NoAclFound => false,
+    }
+}
+
+fn is_denied_at(judge: &Judge, binding: &Binding, asked: &Asked<'_>) -> bool
+    ensures { result ≡ is_denied_at judge.now binding.now asked.now }
+{
+    is_allowing(binding, asked) && is_denied(judge.verdict(asked))
+}
+
+fn is_ever_denied(judge: &Judge, asked: &[Asked<'_>], binding: &Binding) -> bool
+    ensures { result ≡ is_ever_denied judge.now asked.now binding.now }
+{
+    asked
+        .iter()
+        .any(|asked| is_denied_at(judge, binding, asked))
+}
+
 fn is_always_beaten(judge: &Judge, asked: &[Asked<'_>], binding: &Binding) -> bool
     ensures { result ≡ is_always_beaten judge.now asked.now binding.now }
 {
@@ -53,7 +77,9 @@ fn is_always_beaten(judge: &Judge, asked: &[Asked<'_>], binding: &Binding) -> bo
 fn is_shadowed(judge: &Judge, asked: &[Asked<'_>], binding: &Binding) -> bool
     ensures { result ≡ is_shadowed judge.now asked.now binding.now }
 {
-    binding.parts().permission == Permission::Allow && is_always_beaten(judge, asked, binding)
+    binding.parts().permission == Permission::Allow
+        && is_always_beaten(judge, asked, binding)
+        && is_ever_denied(judge, asked, binding)
 }
 
 fn push_shadowed_lines(
