@@ -6,6 +6,7 @@ Answers questions about access rules: who may do what, and by which binding.
 
 usage: kob_policy [--policy FILE]... [--skip] [QUESTION]...
        kob_policy --before FILE --after FILE [--policy FILE]... [QUESTION]...
+
   --policy FILE     bindings and settings; repeated, in order; - or none: standard input
   --questions FILE  questions, a line each; repeated
   --topics FILE     names of topics, a line each; repeated
