@@ -132,7 +132,7 @@ pub fn push_shadowed(
     ensures { OnOk result (out.new.items ≡ out.old.items
         ++ shadowed_text judge.now (asked_at_hand hand.now)) }
 {
-    let asked = hand.asked(alloc)?;
     out.extend_from_slice(b"shadowed\n")?;
+    let asked = hand.asked(alloc)?;
     push_shadowed_lines(out, judge, &asked)
 }

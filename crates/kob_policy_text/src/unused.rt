@@ -76,7 +76,7 @@ pub fn push_unused(
     ensures { OnOk result (out.new.items ≡ out.old.items
         ++ unused_text judge.now (asked_at_hand hand.now)) }
 {
-    let asked = hand.asked(alloc)?;
     out.extend_from_slice(b"unused\n")?;
+    let asked = hand.asked(alloc)?;
     push_unused_lines(alloc, out, judge, &asked)
 }

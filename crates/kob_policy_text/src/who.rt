@@ -65,13 +65,13 @@ pub fn push_who(
     ensures { OnOk result
         (out.new.items ≡ out.old.items ++ who_text judge.now right.now host.now) }
 {
+    out.extend_from_slice(b"who\n")?;
     let hand = hand_of(alloc, judge.policy(), &[])?;
     let every = every_host(alloc)?;
     let host = match host {
         Some(host) => host,
         None => &every,
     };
-    out.extend_from_slice(b"who\n")?;
     push_who_lines(out, judge, right, host, hand.principals())
 }
 
