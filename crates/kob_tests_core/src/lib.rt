@@ -13,8 +13,4 @@ mod refused;
 #[cfg(test)]
 mod spared;
 #[cfg(test)]
-mod spared_lists;
-#[cfg(test)]
-mod spared_names;
-#[cfg(test)]
 mod tree;

@@ -68,32 +68,6 @@ fn each_length_is_held(rt: HostRuntime) -> Result<(), Fail> {
     Ok(())
 }
 
-/// Texts of 29, 30 and 31 bytes, of which no two are equal.
-const DIFFERENT: [&str; 5] = [
-    "abcdefghijklmnopqrstuvwxyz012",
-    "abcdefghijklmnopqrstuvwxyz0123",
-    "abcdefghijklmnopqrstuvwxyz0124",
-    "bbcdefghijklmnopqrstuvwxyz0123",
-    "abcdefghijklmnopqrstuvwxyz01234",
-];
-
-/// Whether a copy of one text and a string of the other are equal just where the texts are.
-fn are_told_apart(alloc: Global, one: &str, other: &str) -> Option<bool> {
-    let copied = Text::copied(alloc, one).ok()?;
-    let taken_over = Text::from_string(String::from_str(alloc, other).ok()?);
-    let is_equal = one == other;
-    Some((copied == taken_over) == is_equal && taken_over.same(&copied) == is_equal)
-}
-
-#[test]
-fn different_texts_are_told_apart(rt: HostRuntime) {
-    for one in DIFFERENT {
-        for other in DIFFERENT {
-            assert_eq!(rt; are_told_apart(rt.alloc(), one, other), Some(true));
-        }
-    }
-}
-
 /// Whether the text prints as a struct that holds a string.
 fn prints(alloc: Global, text: &Text) -> Option<bool> {
     let printed = format!(in alloc; "{text:?}").ok()?;

@@ -1,14 +1,19 @@
-//! Calls on bindings, logs and producers that take no memory. `.ci/refuse` runs them with every
-//! allocation refused from `spare` on.
+//! Second steps, which take no memory: it was all taken by the first. `.ci/refuse` runs them with
+//! every allocation refused from `spare` on.
 
 use crate::refused::{
     ALL, Asked, NEW, SERIALS, WITHOUT_TWO, asker, batch, of_orders, stands, ten_bindings,
 };
 use kob_authorizer::Authorizer;
-use kob_names::{Batch, Binding, FilterPattern, Host, Operation, Principal, ResourceKind, Verdict};
+use kob_chunks::ChunkList;
+use kob_names::{
+    Batch, Binding, FilterPattern, Host, Operation, PlainValue, Principal, ResourceKind, Text,
+    Verdict,
+};
 use kob_partition::{AdvanceFault, PartitionLog, Placement};
-use kob_producers::{Judgement, ProducerTable};
-use std::alloc::Global;
+use kob_prefix_tree::{PatternKind, PrefixTree};
+use kob_producers::Judgement;
+use std::alloc::{AllocError, Global};
 use std::test::Fail;
 
 /// The size of the allocation by which `.ci/refuse` knows that all that come after it are to be
@@ -112,11 +117,13 @@ fn commits_batch(alloc: Global, log: &mut PartitionLog, batch: Batch) -> bool {
     };
     spare(alloc);
     log.commit_append(batch);
-    offset == 200
-        && log.judge(&NEW, 100) == Judgement::Repeat(200)
-        && log.advance(299).is_ok()
-        && log.start() == 299
-        && log.end() == 300
+    let beyond = log.prepare_advance(301) == Err(AdvanceFault::OutOfRange);
+    if log.prepare_advance(299).is_err() {
+        return false;
+    }
+    log.commit_advance(299);
+    let judged = log.judge(&NEW, 100) == Judgement::Repeat(200);
+    offset == 200 && beyond && judged && (log.start(), log.end()) == (299, 300)
 }
 
 #[test]
@@ -128,31 +135,61 @@ fn a_batch_is_committed(rt: HostRuntime) -> Result<(), Fail> {
     Ok(())
 }
 
-/// Whether the start of a log of 200 records is moved up in two steps.
-fn advances(log: &mut PartitionLog) -> bool {
-    let beyond = log.prepare_advance(201);
-    if log.prepare_advance(150).is_err() {
-        return false;
-    }
-    log.commit_advance(150);
-    beyond == Err(AdvanceFault::OutOfRange) && log.start() == 150 && log.end() == 200
+/// Whether a tree takes in what is prepared, in another order, which cuts a node in two, and lets
+/// all go.
+fn changes_tree(alloc: Global, tree: &mut PrefixTree) -> Result<bool, AllocError> {
+    tree.add(alloc, b"abcd", PatternKind::Prefixed, 1)?;
+    let second = tree.prepare_add(alloc, b"ab", PatternKind::Prefixed, 2)?;
+    let third = tree.prepare_add(alloc, b"ab", PatternKind::Prefixed, 3)?;
+    spare(alloc);
+    tree.commit_add(third);
+    tree.commit_add(second);
+    let found = tree.walk(b"abcd").eq([3, 2, 1])
+        && tree.listed(b"abcd", PatternKind::Prefixed).eq([1]);
+    let gone = tree.remove(b"abcd", PatternKind::Prefixed, 1)
+        && !tree.remove_all(b"ab", PatternKind::Literal, &[2])
+        && tree.remove_all(b"ab", PatternKind::Prefixed, &[3, 2]);
+    Ok(found && gone && tree.levels(b"abcd") == 1)
 }
 
 #[test]
-fn a_start_is_moved_up(rt: HostRuntime) -> Result<(), Fail> {
-    let mut log = PartitionLog::new(rt.alloc());
-    log.append(batch(rt.alloc(), None, 200)?)?;
-    spare(rt.alloc());
-    assert!(rt; advances(&mut log));
+fn a_tree_is_changed(rt: HostRuntime) -> Result<(), Fail> {
+    let mut tree = PrefixTree::new();
+    assert!(rt; changes_tree(rt.alloc(), &mut tree)?);
     Ok(())
 }
 
+/// Whether a list of 255 items takes two more and gives its first chunk back.
+fn changes_list(alloc: Global, list: &mut ChunkList<u64>) -> Result<bool, AllocError> {
+    for item in 0..255 {
+        list.reserve_one()?;
+        list.push_reserved(item);
+    }
+    list.reserve(2)?;
+    spare(alloc);
+    list.push_reserved(255);
+    list.push_reserved(256);
+    if list.len() != 257 {
+        return Ok(false);
+    }
+    list.drop_front_chunks(1);
+    Ok(list.get(0) == Some(&256) && list.len() == 1)
+}
+
 #[test]
-fn a_producer_is_accepted(rt: HostRuntime) -> Result<(), Fail> {
-    let mut table = ProducerTable::new(rt.alloc());
-    table.reserve(&NEW)?;
+fn a_list_is_changed(rt: HostRuntime) -> Result<(), Fail> {
+    let mut list = ChunkList::new(rt.alloc());
+    assert!(rt; changes_list(rt.alloc(), &mut list)?);
+    Ok(())
+}
+
+/// Texts of at most 30 bytes are copied, and copied once more.
+#[test]
+fn short_texts_are_copied(rt: HostRuntime) -> Result<(), Fail> {
     spare(rt.alloc());
-    table.accept(&NEW, 100, 7);
-    assert_eq!(rt; table.judge(&NEW, 100), Judgement::Repeat(7));
+    for content in ["abcdefghijklmnopqrstuvwxyz0123", "ééééééééééééééé", ""] {
+        let text = Text::copied(rt.alloc(), content)?;
+        assert!(rt; text.copy(rt.alloc())?.as_str() == content);
+    }
     Ok(())
 }
