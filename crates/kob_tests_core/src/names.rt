@@ -17,13 +17,23 @@ const TOPICS: [(&str, TopicNameFault); 3] = [
     ("a b", TopicNameFault::BadByte(1)),
 ];
 
+/// Whether the text is refused as a principal, for that fault.
+fn refuses_principal(alloc: Global, (text, fault): (&str, PrincipalFault)) -> bool {
+    matches!(&Principal::parse(alloc, text), Err(found) if *found == fault)
+}
+
+/// Whether the text is refused as a topic's name, for that fault.
+fn refuses_topic(alloc: Global, (text, fault): (&str, TopicNameFault)) -> bool {
+    matches!(&TopicName::parse(alloc, text), Err(found) if *found == fault)
+}
+
 #[test]
 fn parse_rules(rt: HostRuntime) {
-    for (text, fault) in PRINCIPALS {
-        assert_eq!(rt; Principal::parse(rt.alloc(), text).err(), Some(fault));
+    for row in PRINCIPALS {
+        assert!(rt; refuses_principal(rt.alloc(), row));
     }
-    for (text, fault) in TOPICS {
-        assert_eq!(rt; TopicName::parse(rt.alloc(), text).err(), Some(fault));
+    for row in TOPICS {
+        assert!(rt; refuses_topic(rt.alloc(), row));
     }
 }
 
@@ -74,11 +84,15 @@ fn prints(alloc: Global, text: &Text) -> Option<bool> {
     Some(printed.as_str() == "Text { content: \"a\\n\\\"b\\\"\" }")
 }
 
+fn both_print(alloc: Global) -> Option<bool> {
+    let copied = Text::copied(alloc, "a\n\"b\"").ok()?;
+    let is_printed = prints(alloc, &copied);
+    drop(copied);
+    let taken_over = Text::from_string(String::from_str(alloc, "a\n\"b\"").ok()?);
+    Some(is_printed? && prints(alloc, &taken_over)?)
+}
+
 #[test]
-fn a_text_is_printed(rt: HostRuntime) -> Result<(), Fail> {
-    let copied = Text::copied(rt.alloc(), "a\n\"b\"")?;
-    assert_eq!(rt; prints(rt.alloc(), &copied), Some(true));
-    let taken_over = Text::from_string(String::from_str(rt.alloc(), copied.as_str())?);
-    assert_eq!(rt; prints(rt.alloc(), &taken_over), Some(true));
-    Ok(())
+fn a_text_is_printed(rt: HostRuntime) {
+    assert!(rt; both_print(rt.alloc()) == Some(true));
 }

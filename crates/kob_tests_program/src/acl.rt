@@ -32,17 +32,18 @@ const MISREAD: [(&str, &str); 7] = [
 /// Whether the line's fault names that word.
 fn names(alloc: Global, line: &str, word: &str) -> Option<bool> {
     let words: Vec<&str> = line.split_ascii_whitespace().collect(alloc).ok()?;
-    let args = read_line(alloc, words.as_slice()).ok()?;
-    match commands_of(alloc, &args).err()? {
-        CommandFault::BadName(found) => Some(found.as_str() == word),
-        _ => None,
-    }
+    let args = read_line(alloc, words.as_slice());
+    drop(words);
+    let args = args.ok()?;
+    let found = commands_of(alloc, &args);
+    drop(args);
+    Some(matches!(&found, Err(CommandFault::BadName(found)) if found.as_str() == word))
 }
 
 #[test]
 fn the_first_misread_word_is_named(rt: HostRuntime) {
     for (line, word) in MISREAD {
-        assert_eq!(rt; names(rt.alloc(), line, word), Some(true), "{line}");
+        assert!(rt; names(rt.alloc(), line, word) == Some(true));
     }
 }
 

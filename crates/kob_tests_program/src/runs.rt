@@ -98,19 +98,21 @@ fn each_prefix_ends(rt: HostRuntime) {
     }
 }
 
-/// A reader that is asked once more after each byte and at the end.
+/// Whether a reader whose call after so many fails leaves nothing written, and one that is asked
+/// for each byte and the end before that plays the script.
+fn reads(alloc: Global, calls: usize) -> bool {
+    let (ended, written) = play(alloc, Shaken::new(SCRIPT.as_bytes(), 1, calls));
+    if calls <= SCRIPT.len() {
+        ended == Err(RunFault::ReadFailed) && written.is_empty()
+    } else {
+        ended == Ok(Ended::Clean) && written.as_slice() == OUTPUT.as_bytes()
+    }
+}
+
 #[test]
 fn failed_reads_write_nothing(rt: HostRuntime) {
     for calls in 0..SCRIPT.len() + 2 {
-        let reader = Shaken::new(SCRIPT.as_bytes(), 1, calls);
-        let (ended, written) = play(rt.alloc(), reader);
-        if calls <= SCRIPT.len() {
-            assert_eq!(rt; ended, Err(RunFault::ReadFailed));
-            assert_eq!(rt; written.len(), 0);
-        } else {
-            assert_eq!(rt; ended, Ok(Ended::Clean));
-            assert_eq!(rt; written.as_slice(), OUTPUT.as_bytes());
-        }
+        assert!(rt; reads(rt.alloc(), calls));
     }
 }
 
@@ -124,20 +126,21 @@ fn calls_of_a_reader_have_a_limit(rt: HostRuntime) {
     assert_eq!(rt; (reader.calls, written.len()), (10_000_000, 0));
 }
 
-#[test]
-fn scripts_have_a_limit(rt: HostRuntime) {
-    for (count, end) in [
-        (SCRIPT_LIMIT, Ok(Ended::Clean)),
-        (SCRIPT_LIMIT + 1, Err(RunFault::TooLong)),
-    ] {
-        let (ended, written) = play(rt.alloc(), io::repeat(b'#').take(count as u64));
-        assert_eq!(rt; ended, end);
-        assert_eq!(rt; written.len(), 0);
-    }
+/// How a comment of so many bytes ends; nothing is written.
+fn comment_ends(alloc: Global, bytes: usize) -> Option<Result<Ended, RunFault>> {
+    let (ended, written) = play(alloc, io::repeat(b'#').take(bytes as u64));
+    written.is_empty().then_some(ended)
 }
 
-/// A script that puts a record of so many bytes into a topic, and fetches it between short requests
-/// as often as it is said.
+#[test]
+fn scripts_have_a_limit(rt: HostRuntime) {
+    let longest = comment_ends(rt.alloc(), SCRIPT_LIMIT);
+    assert!(rt; longest == Some(Ok(Ended::Clean)));
+    let too_long = comment_ends(rt.alloc(), SCRIPT_LIMIT + 1);
+    assert!(rt; too_long == Some(Err(RunFault::TooLong)));
+}
+
+/// A script that puts a record of so many bytes into a topic.
 fn producing(alloc: Global, bytes: usize) -> Result<Vec<u8>, AllocError> {
     let mut script = Vec::new(alloc);
     script.extend_from_slice(b"super User:r\nUser:r h create-topic t 1\nUser:r h produce t 0 - ")?;
@@ -186,27 +189,25 @@ fn failed_writes_leave_a_front(rt: HostRuntime) {
     }
 }
 
-/// A script of a record of 70,000 bytes that is fetched twice between 10,000 short requests, and
-/// its output.
-fn long_run(alloc: Global) -> Result<(Vec<u8>, Vec<u8>), Fail> {
-    let mut script = producing(alloc, 70_000)?;
-    let mut output = Vec::new(alloc);
-    output.extend_from_slice(b"1 ok created\n2 ok offset 0\n")?;
-    let value = vec![in alloc; b'v'; 70_000]?;
-    for number in 3..10_003 {
-        let is_long = number == 5_000 || number == 5_001;
-        let body = if is_long { "records 0:" } else { "groups" };
-        let reply = format!(in alloc; "{number} ok {body}")?;
+/// Asks for a short reply, or twice for one that is longer than a piece, and puts down the reply.
+fn ask(
+    alloc: Global,
+    (script, output): (&mut Vec<u8>, &mut Vec<u8>),
+    number: u32,
+    value: &[u8],
+) -> Result<(), AllocError> {
+    if number == 5_000 || number == 5_001 {
+        script.extend_from_slice(b"\nUser:r h fetch t 0 0 1")?;
+        let reply = format!(in alloc; "{number} ok records 0:")?;
         output.extend_from_slice(reply.as_bytes())?;
-        if is_long {
-            output.extend_from_slice(value.as_slice())?;
-            script.extend_from_slice(b"\nUser:r h fetch t 0 0 1")?;
-        } else {
-            script.extend_from_slice(b"\nUser:r h groups")?;
-        }
-        output.extend_from_slice(b"\n")?;
+        output.extend_from_slice(value)?;
+    } else {
+        script.extend_from_slice(b"\nUser:r h groups")?;
+        let reply = format!(in alloc; "{number} ok groups")?;
+        output.extend_from_slice(reply.as_bytes())?;
     }
-    Ok((script, output))
+    output.push(b'\n')?;
+    Ok(())
 }
 
 // 65,536 bytes of short replies; those before the first long reply; that one; the second one; 65,536
@@ -226,11 +227,19 @@ fn takes_pieces(alloc: Global, script: &[u8], output: &[u8], calls: usize) -> bo
     ended == end && output.starts_with(writer.inner.as_slice()) && writer.widest < 70_030
 }
 
+fn is_written_in_pieces(alloc: Global, script: &mut Vec<u8>) -> Result<bool, AllocError> {
+    let value = vec![in alloc; b'v'; 70_000]?;
+    let mut output = Vec::from_slice(alloc, b"1 ok created\n2 ok offset 0\n")?;
+    for number in 3..10_003 {
+        ask(alloc, (script, &mut output), number, &value)?;
+    }
+    Ok((0..10).all(|calls| takes_pieces(alloc, script, &output, calls)))
+}
+
+/// A record of 70,000 bytes is fetched twice between 10,000 short requests.
 #[test]
 fn long_output_is_written_in_pieces(rt: HostRuntime) -> Result<(), Fail> {
-    let (script, output) = long_run(rt.alloc())?;
-    for calls in 0..10 {
-        assert!(rt; takes_pieces(rt.alloc(), script.as_slice(), output.as_slice(), calls));
-    }
+    let mut script = producing(rt.alloc(), 70_000)?;
+    assert!(rt; is_written_in_pieces(rt.alloc(), &mut script)?);
     Ok(())
 }

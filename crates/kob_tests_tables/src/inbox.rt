@@ -61,6 +61,14 @@ const FORMS: [(&[(&str, &[u8])], TakeIn); 12] = [
     (&[("id", OTHER)], TakeIn::Taken),
 ];
 
+fn is_first(row: &InboxRow) -> bool {
+    (row.place, row.partition, row.offset) == (1, 0, 0)
+        && row.id == Uuid::from_u128(0xA)
+        && row.topic.as_str() == "orders"
+        && row.key.is_none()
+        && row.value.as_slice() == [0, 255].as_slice()
+}
+
 fn takes_each_form(alloc: Global, inbox: &mut Inbox) -> Result<bool, Fail> {
     for (at, (headers, want)) in FORMS.into_iter().enumerate() {
         let message = record(alloc, headers)?;
@@ -70,64 +78,16 @@ fn takes_each_form(alloc: Global, inbox: &mut Inbox) -> Result<bool, Fail> {
     }
     inbox.is_in_order();
     let rows = inbox.taken()?;
-    Ok(rows.iter().map(|row| row.offset).eq([0, 11]))
+    match rows.as_slice() {
+        [first, second] => Ok(is_first(&first.copy(alloc)?) && second.offset == 11),
+        _ => Ok(false),
+    }
 }
 
 #[test]
 fn an_id_is_one_in_every_form(rt: HostRuntime) -> Result<(), Fail> {
     let mut inbox = Inbox::open_in_memory(rt.alloc())?;
     assert!(rt; takes_each_form(rt.alloc(), &mut inbox)?);
-    Ok(())
-}
-
-const GREATEST: u64 = 9_223_372_036_854_775_807;
-
-/// Whether a row is that of a record without a key at the greatest place.
-fn is_far(row: &InboxRow) -> bool {
-    (row.place, row.partition, row.offset) == (1, GREATEST, GREATEST)
-        && row.id == Uuid::from_u128(1)
-        && row.topic.as_str() == "ö"
-        && row.key.is_none()
-        && row.value.as_slice() == [0, 255].as_slice()
-}
-
-/// Whether a row is that of a record whose topic, key and value are empty.
-fn is_hollow(row: &InboxRow) -> bool {
-    (row.place, row.partition, row.offset) == (2, 0, 0)
-        && row.topic.len() == 0
-        && row.key.as_ref().map(|key| key.len()) == Some(0)
-        && row.value.len() == 0
-}
-
-/// A record whose key and value are empty.
-fn hollow(alloc: Global) -> Result<Record, AllocError> {
-    let mut hollow = carrying(alloc, 2)?;
-    hollow.key = Some(Bytes::copied(alloc, &[])?);
-    hollow.value = Bytes::copied(alloc, &[])?;
-    Ok(hollow)
-}
-
-fn takes_far_and_hollow(alloc: Global, inbox: &mut Inbox) -> Result<bool, Fail> {
-    let far = inbox.take_in("ö", GREATEST, GREATEST, &carrying(alloc, 1)?);
-    let empty = inbox.take_in("", 0, 0, &hollow(alloc)?);
-    let beyond = inbox.take_in("orders", GREATEST + 1, 0, &carrying(alloc, 3)?);
-    Ok(far == Ok(TakeIn::Taken) && empty == Ok(TakeIn::Taken) && beyond == Err(InboxFault::Store))
-}
-
-/// Whether the rows, the first one as its copy, are those two.
-fn keeps_far_and_hollow(alloc: Global, inbox: &mut Inbox) -> Result<bool, Fail> {
-    let rows = inbox.taken()?;
-    match rows.as_slice() {
-        [far, hollow] => Ok(is_far(&far.copy(alloc)?) && is_hollow(hollow)),
-        _ => Ok(false),
-    }
-}
-
-#[test]
-fn rows_keep_what_was_said(rt: HostRuntime) -> Result<(), Fail> {
-    let mut inbox = Inbox::open_in_memory(rt.alloc())?;
-    assert!(rt; takes_far_and_hollow(rt.alloc(), &mut inbox)?);
-    assert!(rt; keeps_far_and_hollow(rt.alloc(), &mut inbox)?);
     Ok(())
 }
 
