@@ -4,29 +4,38 @@ use crate::stop::Stop;
 use kob_names::Text;
 use kob_policy_text::{Policy, read_file};
 use std::fs;
-use std::io::Read;
+use std::io::{self, Read};
 use std::rt::Files;
+
+/// The length of the longest text that is read, in bytes.
+static LIMIT: usize = 67_108_864;
 
 /// The bytes of a file.
 pub fn text_of<R: AllocGlobal + Files + Input + Eprint>(
     rt: &R,
     file: &str,
 ) -> Result<Vec<u8>, Stop> {
-    let read = if file == "-" {
-        standard_input(rt)
-    } else {
-        fs::read(rt, file)
-    };
-    match read {
-        Ok(bytes) => Ok(bytes),
+    let mut bytes = Vec::new(rt.alloc());
+    match read_into(rt, file, &mut bytes) {
+        Ok(()) if bytes.len() <= LIMIT => Ok(bytes),
+        Ok(()) => Err(Stop::too_long(rt, file)),
         Err(error) => Err(Stop::of_file(rt, file, &error)),
     }
 }
 
-fn standard_input<R: AllocGlobal + Input>(rt: &R) -> std::io::Result<Vec<u8>> {
-    let mut bytes = Vec::new(rt.alloc());
-    rt.reader().read_to_end(&mut bytes)?;
-    Ok(bytes)
+fn read_into<R: Files + Input>(rt: &R, file: &str, bytes: &mut Vec<u8>) -> io::Result<()> {
+    if file == "-" {
+        read_all(rt.reader(), bytes)
+    } else {
+        read_all(fs::open(rt, file)?, bytes)
+    }
+}
+
+/// Reads a text, and of one past the limit a byte more than the limit.
+fn read_all<T: Read + Drop>(text: T, bytes: &mut Vec<u8>) -> io::Result<()> {
+    let mut text = text.take(67_108_865);
+    text.read_to_end(bytes)?;
+    Ok(())
 }
 
 /// Reads a file of a policy after those that were read before.

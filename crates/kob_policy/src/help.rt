@@ -13,6 +13,7 @@ usage: kob_policy [--policy FILE]... [--skip] [QUESTION]...
   --before FILE     what changes from these bindings ..
   --after FILE      .. to these; questions are answered by these; --policy counts for both
   --skip            go on after bindings that are left out
+  --next            begins another list with its questions; == FILE stands before each
   --help            this text
 
 A policy has lines of kafka-acls --list (1.x, 2.x and 3.x), kafka-acls --add .., lines

@@ -18,23 +18,42 @@ pub struct Options {
     pub help: bool,
 }
 
-/// The options that the words of the command line give.
-pub fn options_of(alloc: Global, words: &[String]) -> Result<Options, Stop> {
-    let command = command(alloc)?;
+/// The options of each part of the command line; `--next` stands between two parts.
+pub fn parts_of<R: AllocGlobal + Print + Eprint>(
+    rt: &R,
+    words: &[String],
+) -> Result<Vec<Options>, Stop> {
+    let mut parts = Vec::new(rt.alloc());
+    for part in words.split(|word| word.as_str() == "--next") {
+        parts.push(options_of(rt, part)?)?;
+    }
+    Ok(parts)
+}
+
+/// The options that words give. What is wrong with them is reported on standard error.
+fn options_of<R: AllocGlobal + Print + Eprint>(rt: &R, words: &[String]) -> Result<Options, Stop> {
+    let command = command(rt.alloc())?;
     match command.try_get_matches_from(words) {
-        Ok(matches) => Ok(options_in(alloc, &matches)?),
-        Err(error) => Err(match error.kind() {
-            ErrorKind::OutOfMemory => Stop::Memory,
-            _ => Stop::Usage,
-        }),
+        Ok(matches) => Ok(options_in(rt.alloc(), &matches)?),
+        Err(error) => {
+            if error.kind() == ErrorKind::OutOfMemory {
+                return Err(Stop::Memory);
+            }
+            let _reported = error.print(rt);
+            Err(Stop::Fault)
+        }
     }
 }
 
 fn command<'a>(alloc: Global) -> Result<Command<'a>, AllocError> {
-    let mut made = Command::new(alloc, "kob_policy").disable_help_flag(true);
-    for name in ["policy", "questions", "topics", "before", "after"] {
-        made = made.arg(Arg::new(alloc, name).long(name).action(ArgAction::Append))?;
+    let mut made = Command::new(alloc, "kob_policy")
+        .disable_help_flag(true)
+        .no_binary_name(true);
+    for name in ["policy", "questions", "topics"] {
+        made = made.arg(values(alloc, name))?;
     }
+    made = made.arg(values(alloc, "before").requires_arg("after")?)?;
+    made = made.arg(values(alloc, "after").requires_arg("before")?)?;
     for name in ["skip", "help"] {
         made = made.arg(Arg::new(alloc, name).long(name).action(ArgAction::SetTrue))?;
     }
@@ -43,6 +62,11 @@ fn command<'a>(alloc: Global) -> Result<Command<'a>, AllocError> {
             .num_args(0..)
             .action(ArgAction::Append),
     )
+}
+
+/// An option that is given any number of times, each with a value.
+fn values<'a>(alloc: Global, name: &'a str) -> Arg<'a> {
+    Arg::new(alloc, name).long(name).action(ArgAction::Append)
 }
 
 fn options_in(alloc: Global, matches: &ArgMatches<'_>) -> Result<Options, AllocError> {

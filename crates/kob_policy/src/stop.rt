@@ -1,4 +1,4 @@
-//! Why the program stops early.
+//! Why the program stops early. What is no fault of a line is reported on standard error.
 
 use kob_authorizer::CreateFault;
 use kob_script::{ScriptError, print_fault};
@@ -8,16 +8,14 @@ use std::io::{self, ErrorKind};
 /// Why nothing more is answered.
 #[derive(Debug, Drop)]
 pub enum Stop {
-    /// The words of the command line are no options.
-    Usage,
-    /// A fault, which was told.
+    /// A fault, which was reported.
     Fault,
     /// Out of memory.
     Memory,
 }
 
 impl Stop {
-    /// Tells a fault as `FILE fault line LINE KIND` in place of all that was to be printed.
+    /// Prints a fault as `FILE fault line LINE KIND` in place of all that was to be printed.
     pub fn fault(out: &mut Vec<u8>, file: &str, error: ScriptError) -> Stop {
         match error {
             ScriptError::Memory => Stop::Memory,
@@ -34,13 +32,30 @@ impl Stop {
         }
     }
 
-    /// The error of a file that could not be read.
+    /// A file that could not be read.
     pub fn of_file(rt: &impl Eprint, file: &str, error: &io::Error) -> Stop {
         if error.kind() == ErrorKind::OutOfMemory {
             return Stop::Memory;
         }
-        let _told = eprintln!(rt; "{file}: cannot be read");
+        let _reported = eprintln!(rt; "kob_policy: {file}: {error}");
         Stop::Fault
+    }
+
+    /// A file that is longer than what is read.
+    pub fn too_long(rt: &impl Eprint, file: &str) -> Stop {
+        let _reported = eprintln!(rt; "kob_policy: {file}: longer than 67,108,864 bytes");
+        Stop::Fault
+    }
+
+    /// Bindings that cannot all be in force.
+    pub fn of_policy(rt: &impl Eprint, fault: CreateFault) -> Stop {
+        match fault {
+            CreateFault::Memory => Stop::Memory,
+            CreateFault::TooMany | CreateFault::SerialsSpent => {
+                let _reported = eprintln!(rt; "kob_policy: more than 100,000 different bindings");
+                Stop::Fault
+            }
+        }
     }
 }
 
@@ -53,24 +68,5 @@ impl From<AllocError> for Stop {
 impl<T: Drop> From<AllocFailed<T>> for Stop {
     fn from(_error: AllocFailed<T>) -> Stop {
         Stop::Memory
-    }
-}
-
-impl From<io::Error> for Stop {
-    fn from(error: io::Error) -> Stop {
-        if error.kind() == ErrorKind::OutOfMemory {
-            Stop::Memory
-        } else {
-            Stop::Fault
-        }
-    }
-}
-
-impl From<CreateFault> for Stop {
-    fn from(fault: CreateFault) -> Stop {
-        match fault {
-            CreateFault::Memory => Stop::Memory,
-            CreateFault::TooMany | CreateFault::SerialsSpent => Stop::Fault,
-        }
     }
 }

@@ -136,7 +136,7 @@ request_text policy event =
 abbrev pub hand_of : Policy → List (List ℕ) → AtHand
 hand_of policy topics = with_bindings (others_at_hand topics) policy.bindings
 
-abbrev pub who_line : Policy → Right → List ℕ → List ℕ → List ℕ
+unfoldable pub who_line : Policy → Right → List ℕ → List ℕ → List ℕ
 who_line policy right host principal =
     codes "  " ++ bytes_text principal ++ codes " " ++ reason_text policy
     (may policy (question_of principal host right.operation right.resource right.name))
@@ -190,13 +190,30 @@ abbrev pub is_beaten_at : Policy → Binding → authorizer.Question → Bool
 is_beaten_at policy binding asked =
     not (is_hit Allow asked (0, binding)) || is_beaten (may policy asked)
 
+-- a deny decides what the allow speaks of
+abbrev pub is_denied : Verdict → Bool
+is_denied (verdict.DeniedBy serial) = true
+is_denied verdict.Super = false
+is_denied (verdict.AllowedBy serial) = false
+is_denied verdict.NoAllow = false
+is_denied verdict.NoAclFound = false
+
+abbrev pub is_denied_at : Policy → Binding → authorizer.Question → Bool
+is_denied_at policy binding asked =
+    is_hit Allow asked (0, binding) && is_denied (may policy asked)
+
 -- every question at hand of which the allow speaks is one where it is beaten
 abbrev pub is_always_beaten : Policy → List authorizer.Question → Binding → Bool
 is_always_beaten policy asked binding = list_all (is_beaten_at policy binding) asked
 
+-- in one of them by a deny
+abbrev pub is_ever_denied : Policy → List authorizer.Question → Binding → Bool
+is_ever_denied policy asked binding = list_any (is_denied_at policy binding) asked
+
 abbrev pub is_shadowed : Policy → List authorizer.Question → Binding → Bool
 is_shadowed policy asked binding =
-    same_permission binding.permission Allow && is_always_beaten policy asked binding
+    same_permission binding.permission Allow
+    && (is_always_beaten policy asked binding && is_ever_denied policy asked binding)
 
 -- the line of a binding that no other needs
 abbrev pub unused_line : Policy → List authorizer.Question → ℕ → List ℕ
@@ -270,7 +287,7 @@ change_text before after asked =
     asked_text asked ++ codes " " ++ reason_text before (may before asked) ++ codes " -> "
     ++ reason_text after (may after asked) ++ codes "\n"
 
-abbrev pub change_line : Policy → Policy → authorizer.Question → List ℕ
+unfoldable pub change_line : Policy → Policy → authorizer.Question → List ℕ
 change_line before after asked =
     if same_answer before after asked then [] else change_text before after asked
 
@@ -288,7 +305,7 @@ left_out_word left_out.Resource = codes "resource"
 left_out_word left_out.Principal = codes "principal"
 left_out_word left_out.Operation = codes "operation"
 
-abbrev pub omission_line : Omission → List ℕ
+unfoldable pub omission_line : Omission → List ℕ
 omission_line omission =
     codes "left out " ++ origin_text omission.origin ++ codes " " ++ left_out_word omission.what
     ++ codes "\n"

@@ -64,14 +64,14 @@ operations =
     ∷ AlterConfigs ∷ IdempotentWrite ∷ []
 
 -- every question at hand: each principal, from each host, on each name, for each operation
-abbrev pub asked_on : List ℕ → List ℕ → Target → List Question
+unfoldable pub asked_on : List ℕ → List ℕ → Target → List Question
 asked_on principal host target =
     map (λ operation. question_of principal host operation target.resource target.name) operations
 
-abbrev pub asked_from : List ℕ → List Target → List ℕ → List Question
+unfoldable pub asked_from : List ℕ → List Target → List ℕ → List Question
 asked_from principal targets host = flat_map (λ target. asked_on principal host target) targets
 
-abbrev pub asked_by : List (List ℕ) → List Target → List ℕ → List Question
+unfoldable pub asked_by : List (List ℕ) → List Target → List ℕ → List Question
 asked_by hosts targets principal = flat_map (λ host. asked_from principal targets host) hosts
 
 abbrev pub asked_at_hand : AtHand → List Question

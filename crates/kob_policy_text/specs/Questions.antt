@@ -1,5 +1,5 @@
 -- Questions, a line each.
-use Rattle.std.specs.Prelude.{◌+◌, ℕ, List, [], ◌∷◌, ◌++◌, Bool, is_some, Option, Some, None, Result, Ok, Err, codes, if◌then◌else◌}
+use Rattle.std.specs.Prelude.{◌+◌, ℕ, List, [], ◌∷◌, ◌++◌, Bool, not, is_some, Option, Some, None, Result, Ok, Err, codes, if◌then◌else◌}
 use Rattle.std.specs.Str.{bytes_eq}
 use Rattle.kob_names.specs.declared.batch.Idem.{Idem}
 use Rattle.kob_rights.specs.declared.event.Event.{Event}
@@ -87,19 +87,23 @@ may_request words = events_of None words >>= λ events. event_or_bad_line (only_
 abbrev pub is_word : Word → List ℕ → Bool
 is_word word text = bytes_eq word.decoded text
 
+-- may PRINCIPAL HOST with three words more, the first of which says what is asked
+unfoldable pub may_by : List Word → Word → Word → Word → Word → Word → Result Question FaultKind
+may_by words principal host command one other =
+    if is_some (operation_named command.decoded)
+    then may_right principal host command one other
+    else (if is_word command (codes "consume") then may_consume principal host one other
+    else (if not (is_word command (codes "produce")) then may_request words
+    else (if is_word other (codes "idempotent")
+    then may_produce first_of_producer principal host one else Err BadLine)))
+
 -- the words after `may`
 abbrev pub may_words : List Word → Result Question FaultKind
 may_words (principal ∷ host ∷ command ∷ topic ∷ []) =
     if is_word command (codes "produce") then may_produce None principal host topic
     else may_request (principal ∷ host ∷ command ∷ topic ∷ [])
 may_words (principal ∷ host ∷ command ∷ one ∷ other ∷ []) =
-    if is_some (operation_named command.decoded)
-    then may_right principal host command one other
-    else (if is_word command (codes "consume") then may_consume principal host one other
-    else (if is_word command (codes "produce") then
-    (if is_word other (codes "idempotent")
-    then may_produce first_of_producer principal host one else Err BadLine)
-    else may_request (principal ∷ host ∷ command ∷ one ∷ other ∷ [])))
+    may_by (principal ∷ host ∷ command ∷ one ∷ other ∷ []) principal host command one other
 may_words words = may_request words
 
 -- who OPERATION RESOURCE NAME HOST

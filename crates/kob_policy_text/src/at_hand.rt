@@ -1,11 +1,13 @@
 //! The principals, the hosts and the names at hand, and every question on them.
 
 ghost use Rattle.std.specs.Prelude.{◌≡◌, ◌++◌, IfOk, OnOk, codes, map};
+ghost use Rattle.kob_policy_text.specs.Answers.{hand_of};
 ghost use Rattle.kob_policy_text.specs.AtHand.{asked_at_hand, asked_by, asked_from, asked_on};
 ghost use Rattle.kob_policy_text.specs.AtHand.{is_known, is_known_target, others_at_hand, topic_target};
 ghost use Rattle.kob_policy_text.specs.AtHand.{with_binding, with_bindings, with_target, with_text};
 
 use crate::asked::Asked;
+use crate::policy::Policy;
 use kob_names::{Binding, Host, Operation, PlainValue, Principal, ResourceKind, Text};
 use std::alloc::{AllocError, Global};
 use std::marker::Model;
@@ -24,7 +26,7 @@ static OPERATIONS: [Operation; 10] = [
 ];
 
 /// A resource by its name.
-#[derive(Debug, Drop)]
+#[derive(Drop)]
 pub struct Target {
     pub resource: ResourceKind,
     pub name: Text,
@@ -117,6 +119,15 @@ pub fn add_bindings(
         hand.add(alloc, binding)?;
     }
     Ok(())
+}
+
+/// What is at hand of a policy, with the names of topics that are given.
+pub fn hand_of(alloc: Global, policy: &Policy, topics: &[Text]) -> Result<AtHand, AllocError>
+    ensures { IfOk result (λ hand. hand ≡ hand_of policy.now topics.now) }
+{
+    let mut hand = AtHand::new(alloc, topics)?;
+    add_bindings(alloc, &mut hand, policy.bindings())?;
+    Ok(hand)
 }
 
 fn every_user(alloc: Global) -> Result<Principal, AllocError>
@@ -220,6 +231,7 @@ fn all_asked<'a>(
     Ok(asked)
 }
 
+#[tactic(auto, unfolding(crate::specs::AtHand::asked_by))]
 fn push_by<'a>(
     asked: &mut Vec<Asked<'a>>,
     principal: &'a Principal,
@@ -235,6 +247,7 @@ fn push_by<'a>(
     Ok(())
 }
 
+#[tactic(auto, unfolding(crate::specs::AtHand::asked_from))]
 fn push_from<'a>(
     asked: &mut Vec<Asked<'a>>,
     principal: &'a Principal,
@@ -250,6 +263,7 @@ fn push_from<'a>(
     Ok(())
 }
 
+#[tactic(auto, unfolding(crate::specs::AtHand::asked_on))]
 fn push_on<'a>(
     asked: &mut Vec<Asked<'a>>,
     principal: &'a Principal,

@@ -3,14 +3,14 @@
 use kob_names::{Draft, Host, Operation, Pattern, Permission, Principal, ResourceKind};
 
 /// What a listed binding is on.
-#[derive(Debug, Drop)]
+#[derive(Drop)]
 pub struct Target {
     pub resource: ResourceKind,
     pub pattern: Pattern,
 }
 
 /// A listed binding, without what it is on, which its heading names.
-#[derive(Debug, Drop)]
+#[derive(Drop)]
 pub struct Grant {
     pub permission: Permission,
     pub principal: Principal,
@@ -20,7 +20,7 @@ pub struct Grant {
 
 /// Why a binding is left out: it speaks of a kind of resource, of principal or of operation that
 /// this product does not have.
-#[derive(Clone, Copy, Debug, PartialEq, Eq)]
+#[derive(Clone, Copy)]
 pub enum LeftOut {
     Resource,
     Principal,
@@ -28,7 +28,7 @@ pub enum LeftOut {
 }
 
 /// One thing that a line says.
-#[derive(Debug, Drop)]
+#[derive(Drop)]
 pub enum Item {
     Super(Principal),
     Everyone(bool),

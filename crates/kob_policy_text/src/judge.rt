@@ -1,9 +1,10 @@
 //! How a policy decides.
 
-ghost use Rattle.std.specs.Prelude.{◌≡◌, ◌≢◌, [], IfErr, IfOk, Some};
-ghost use Rattle.kob_authorizer.specs.Creation.{addition};
+ghost use Rattle.std.specs.Prelude.{◌≡◌, ◌≢◌, ◌<◌, [], IfErr, IfOk, Some, length};
 ghost use Rattle.kob_authorizer.specs.Passing.{create_fault};
-ghost use Rattle.kob_policy_text.specs.Judging.{deciding, is_yes, may, place_of, serials_of};
+ghost use Rattle.kob_policy_text.specs.Judging.{contents_of, deciding, is_yes, may, place_of};
+ghost use Rattle.kob_policy_text.specs.Judging.{serials_of};
+ghost use Rattle.kob_policy_text.specs.Policy.{without};
 
 use crate::asked::Asked;
 use crate::policy::Policy;
@@ -36,28 +37,31 @@ impl Model for Judge {
 impl Judge {
     /// The policy in force: its bindings get serials from 1 in their order, and equal ones one
     /// serial. `TooMany` is more than 100,000 different bindings, `SerialsSpent` never comes.
-    #[tactic(auto, unfolding(crate::specs::Judging::contents_of, crate::specs::Judging::serials_of))]
     pub fn open(alloc: Global, policy: Policy) -> Result<Judge, CreateFault>
         ensures policy { IfOk result (λ judge. judge ≡ policy) }
         ensures fault { IfErr result (λ fault. fault ≢ CreateFault.Memory
             → create_fault [] 1 policy.bindings ≡ Some fault) }
     {
-        let supers = match Items::copied(alloc, policy.supers()) {
-            Ok(supers) => supers.into_vec(),
-            Err(_) => {
-                drop(policy);
-                return Err(CreateFault::Memory);
-            }
-        };
-        let mut authorizer = Authorizer::open(alloc, supers, policy.everyone());
-        match authorizer.create(alloc, policy.bindings()) {
-            Ok(serials) => Ok(Judge {
+        match in_force(alloc, &policy) {
+            Ok((authorizer, serials)) => Ok(Judge {
                 policy,
                 authorizer,
                 serials,
             }),
-            Err(fault) => Err(fault),
+            Err(fault) => {
+                drop(policy);
+                Err(fault)
+            }
         }
+    }
+
+    /// The policy without the binding at a place, in force.
+    pub fn without(&self, alloc: Global, place: usize) -> Result<Judge, AllocError>
+        requires { place < length self.now.bindings }
+        ensures { IfOk result (λ judge. judge ≡ without self.now place) }
+    {
+        let policy = self.policy.without(alloc, place)?;
+        Judge::open(alloc, policy).map_err(|_| AllocError)
     }
 
     /// The policy by which is decided.
@@ -99,6 +103,25 @@ impl Judge {
         ensures { result.now ≡ serials_of self.now }
     {
         self.serials.as_slice()
+    }
+}
+
+/// The authorizer with the bindings of a policy, and their serials.
+#[tactic(auto, unfolding(crate::specs::Judging::contents_of, crate::specs::Judging::serials_of))]
+fn in_force(alloc: Global, policy: &Policy) -> Result<(Authorizer, Vec<u64>), CreateFault>
+    ensures made { IfOk result (λ made. (made.0.contents ≡ contents_of policy.now)
+        × (made.1.items ≡ serials_of policy.now)) }
+    ensures fault { IfErr result (λ fault. fault ≢ CreateFault.Memory
+        → create_fault [] 1 policy.now.bindings ≡ Some fault) }
+{
+    let supers = Items::copied(alloc, policy.supers())?.into_vec();
+    let mut authorizer = Authorizer::open(alloc, supers, policy.everyone());
+    match authorizer.create(alloc, policy.bindings()) {
+        Ok(serials) => Ok((authorizer, serials)),
+        Err(fault) => {
+            drop(authorizer);
+            Err(fault)
+        }
     }
 }
 

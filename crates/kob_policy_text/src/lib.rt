@@ -5,6 +5,7 @@
 mod answer;
 mod asked;
 mod at_hand;
+mod changes;
 mod item;
 mod judge;
 mod lines;
@@ -14,10 +15,16 @@ mod pieces;
 mod policy;
 mod printed;
 mod question;
+mod question_words;
+mod request;
+mod shadowed;
+mod unused;
 mod users;
+mod who;
 
-pub use answer::{print_answers, print_changes, print_omissions, print_review};
+pub use answer::{print_answers, print_omissions, print_review};
 pub use asked::Asked;
+pub use changes::print_changes;
 pub use item::LeftOut;
 pub use judge::Judge;
 pub use origin::{Omission, Origin};

@@ -1,6 +1,6 @@
 //! What a line of a policy says.
 
-ghost use Rattle.std.specs.Prelude.{◌≡◌, ◌∷◌, [], IfOk, map};
+ghost use Rattle.std.specs.Prelude.{◌≡◌, ◌∷◌, [], IfOk, Ok, map};
 ghost use Rattle.std.specs.List.{slice_split};
 ghost use Rattle.kob_policy_text.specs.Lines.{SaysBy, Says, between_semicolons, everyone_item};
 ghost use Rattle.kob_policy_text.specs.Lines.{base_name, has_other_kind, is_listed, is_tool, left_out_by};
@@ -28,10 +28,10 @@ use kob_script::{
 };
 use std::alloc::{AllocError, Global};
 
-fn one(alloc: Global, item: Item) -> Result<Vec<Item>, AllocError>
-    ensures { IfOk result (λ items. items.items ≡ item ∷ []) }
+fn one(alloc: Global, item: Item) -> Result<Vec<Item>, LineError>
+    ensures { GivesSeen (λ items. items.items) result (Ok (item ∷ [])) }
 {
-    let mut items = Vec::with_capacity(alloc, 1)?;
+    let mut items = Vec::new(alloc);
     items.push(item)?;
     Ok(items)
 }
@@ -88,7 +88,7 @@ fn property_by(alloc: Global, key: &[u8], value: &[u8]) -> Result<Vec<Item>, Lin
         let parts = between_semicolons(alloc, value)?;
         super_items(alloc, &parts)
     } else if key == b"allow.everyone.if.no.acl.found".as_slice() {
-        Ok(one(alloc, everyone_item(value)?)?)
+        one(alloc, everyone_item(value)?)
     } else {
         Err(LineError::Fault(FaultKind::BadLine))
     }
@@ -123,15 +123,15 @@ fn listed_items(alloc: Global, line: &[u8]) -> Result<Vec<Item>, LineError>
     if line.starts_with(b"#") {
         Ok(Vec::new(alloc))
     } else if line.starts_with(b"Current ACLs for resource ") {
-        Ok(one(alloc, heading_item(alloc, line)?)?)
+        one(alloc, heading_item(alloc, line)?)
     } else if line.starts_with(b"(principal=") {
-        Ok(one(alloc, newer_grant(alloc, line)?)?)
+        one(alloc, newer_grant(alloc, line)?)
     } else if line.starts_with(b"super.users")
         || line.starts_with(b"allow.everyone.if.no.acl.found")
     {
         property_items(alloc, line)
     } else {
-        Ok(one(alloc, older_grant(alloc, line)?)?)
+        one(alloc, older_grant(alloc, line)?)
     }
 }
 
@@ -198,7 +198,7 @@ fn setting_items(
     } else {
         Item::Everyone(everyone_of(arguments)?)
     };
-    Ok(one(alloc, item)?)
+    one(alloc, item)
 }
 
 fn names_left_out(word: &Word<'_>) -> bool
@@ -261,7 +261,10 @@ fn rules_in(alloc: Global, request: Request) -> Result<Vec<Item>, LineError>
 {
     match request {
         Request::CreateAcls(made) => Ok(rule_items(alloc, made.drafts.into_vec())?),
-        _ => Err(LineError::Fault(FaultKind::BadLine)),
+        other => {
+            drop(other);
+            Err(LineError::Fault(FaultKind::BadLine))
+        }
     }
 }
 
@@ -280,13 +283,23 @@ pub fn only_event(asked: Asked) -> Option<Event>
 {
     let Asked { first, mut others } = asked;
     match first {
-        Some(event) => { if others.is_empty() { Some(event) } else { None } }
-        None => {
-            if others.len() == 1 {
-                others.pop_front()
-            } else {
-                None
+        Some(event) => {
+            if others.is_empty() {
+                drop(others);
+                return Some(event);
             }
+            drop(others);
+            drop(event);
+            None
+        }
+        None => {
+            if others.len() != 1 {
+                drop(others);
+                return None;
+            }
+            let event = others.pop_front();
+            drop(others);
+            event
         }
     }
 }
@@ -306,7 +319,7 @@ fn words_items(
         return setting_items(alloc, first, arguments);
     }
     match left_out_by(answer, words) {
-        Some(what) => Ok(one(alloc, Item::LeftOut(what))?),
+        Some(what) => one(alloc, Item::LeftOut(what)),
         None => rules_of(alloc, events_of(alloc, words, answer)?),
     }
 }
@@ -317,7 +330,9 @@ fn script_items(alloc: Global, text: &[u8]) -> Result<Vec<Item>, LineError>
 {
     let words = words_of(alloc, text)?;
     let answer = answer_to(alloc, &words)?;
-    words_items(alloc, &answer, &words)
+    let items = words_items(alloc, &answer, &words);
+    drop(answer);
+    items
 }
 
 /// What a line says. What the words of an `acl` line mean is answered by `clap`.

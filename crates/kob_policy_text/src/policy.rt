@@ -145,8 +145,8 @@ impl Policy {
     ) -> Result<(), AllocError>
         ensures { OnOk result (self.new ≡ with_binding self.old origin.now binding) }
     {
-        self.origins.push(origin.copy(alloc)?)?;
         self.bindings.push(binding)?;
+        self.origins.push(origin.copy(alloc)?)?;
         Ok(())
     }
 
@@ -165,11 +165,19 @@ impl Policy {
             (with_grant self.old origin.now self.old.heading grant) }
     {
         match &self.heading {
-            None => Err(LineError::Fault(FaultKind::NoResource)),
-            Some(None) => Ok(self.add_omission(alloc, origin, LeftOut::Resource)?),
+            None => {
+                drop(grant);
+                Err(LineError::Fault(FaultKind::NoResource))
+            }
+            Some(None) => {
+                drop(grant);
+                Ok(self.add_omission(alloc, origin, LeftOut::Resource)?)
+            }
             Some(Some(target)) => {
                 let draft = draft_under(alloc, target, grant)?;
-                self.add_draft(alloc, origin, &draft)
+                let added = self.add_draft(alloc, origin, &draft);
+                drop(draft);
+                added
             }
         }
     }
@@ -187,7 +195,11 @@ impl Policy {
                 self.everyone = everyone;
                 Ok(())
             }
-            Item::Rule(draft) => self.add_draft(alloc, origin, &draft),
+            Item::Rule(draft) => {
+                let added = self.add_draft(alloc, origin, &draft);
+                drop(draft);
+                added
+            }
             Item::Resource(target) => {
                 self.heading = Some(target);
                 Ok(())
@@ -261,7 +273,10 @@ fn add_items(
 fn draft_under(alloc: Global, target: &Target, grant: Grant) -> Result<Draft, AllocError>
     ensures { IfOk result (λ draft. draft ≡ draft_under target.now grant) }
 {
-    let pattern = target.pattern.copy(alloc)?;
+    let Ok(pattern) = target.pattern.copy(alloc) else {
+        drop(grant);
+        return Err(AllocError);
+    };
     Ok(Draft {
         permission: grant.permission,
         principal: grant.principal,

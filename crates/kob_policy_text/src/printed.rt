@@ -180,7 +180,7 @@ fn left_out_word(what: LeftOut) -> &'static str
 }
 
 /// What was left out, on a line of its own.
-#[tactic(auto, using(kob_words::proofs::Appending::appending))]
+#[tactic(auto, using(kob_words::proofs::Appending::appending), unfolding(crate::specs::Answers::omission_line))]
 pub fn push_omission(out: &mut Vec<u8>, omission: &Omission) -> Result<(), AllocError>
     ensures { OnOk result (out.new.items ≡ out.old.items ++ omission_line omission.now) }
 {

@@ -1,0 +1,154 @@
+//! One policy with its questions, or two policies between which something changes.
+
+use crate::files::{policy_of, text_of};
+use crate::options::Options;
+use crate::stop::Stop;
+use kob_policy_text::{
+    Judge, Policy, Questions, print_answers, print_omissions, print_review, read_questions,
+    read_topics,
+};
+use std::alloc::AllocError;
+use std::rt::Files;
+
+/// `==` and the names of the files of bindings.
+pub fn push_heading(out: &mut Vec<u8>, options: &Options) -> Result<(), AllocError> {
+    out.extend_from_slice(b"==")?;
+    if options.policy.is_empty() && options.before.is_empty() {
+        out.extend_from_slice(b" -")?;
+    }
+    for files in [&options.policy, &options.before, &options.after] {
+        for file in files.as_slice() {
+            out.extend_from_slice(b" ")?;
+            out.extend_from_slice(file.as_bytes())?;
+        }
+    }
+    out.extend_from_slice(b"\n")
+}
+
+/// Answers the questions of a part.
+pub fn answer_part<R: AllocGlobal + Files + Input + Eprint>(
+    rt: &R,
+    out: &mut Vec<u8>,
+    options: &Options,
+) -> Result<(), Stop> {
+    let questions = questions_of(rt, out, options)?;
+    if options.before.is_empty() {
+        answer_by_one(rt, out, options, &questions)
+    } else {
+        review(rt, out, options, &questions)
+    }
+}
+
+/// The questions of the files, and then those of the words.
+fn questions_of<R: AllocGlobal + Files + Input + Eprint>(
+    rt: &R,
+    out: &mut Vec<u8>,
+    options: &Options,
+) -> Result<Questions, Stop> {
+    let alloc = rt.alloc();
+    let mut questions = Questions::new(alloc);
+    for file in options.topics.as_slice() {
+        let text = text_of(rt, file.as_str())?;
+        if let Err(error) = read_topics(alloc, &mut questions, &text) {
+            return Err(Stop::fault(out, file.as_str(), error));
+        }
+    }
+    for file in options.questions.as_slice() {
+        let text = text_of(rt, file.as_str())?;
+        if let Err(error) = read_questions(alloc, &mut questions, &text) {
+            return Err(Stop::fault(out, file.as_str(), error));
+        }
+    }
+    for word in options.words.as_slice() {
+        if let Err(error) = read_questions(alloc, &mut questions, word.as_str().as_bytes()) {
+            return Err(Stop::fault(out, "question", error));
+        }
+    }
+    Ok(questions)
+}
+
+/// The policy of the files, in force. What is left out is printed; without `--skip` nothing else is.
+fn judge_of<R: AllocGlobal + Files + Input + Eprint>(
+    rt: &R,
+    out: &mut Vec<u8>,
+    options: &Options,
+    policy: Policy,
+) -> Result<Judge, Stop> {
+    print_omissions(out, &policy)?;
+    if !options.skip && !policy.omissions().is_empty() {
+        return Err(Stop::Fault);
+    }
+    match Judge::open(rt.alloc(), policy) {
+        Ok(judge) => Ok(judge),
+        Err(fault) => Err(Stop::of_policy(rt, fault)),
+    }
+}
+
+fn answer_by_one<R: AllocGlobal + Files + Input + Eprint>(
+    rt: &R,
+    out: &mut Vec<u8>,
+    options: &Options,
+    questions: &Questions,
+) -> Result<(), Stop> {
+    let judge = one_side(rt, out, options)?;
+    Ok(print_answers(
+        rt.alloc(),
+        out,
+        &judge,
+        questions.topics(),
+        questions.asked(),
+    )?)
+}
+
+fn one_side<R: AllocGlobal + Files + Input + Eprint>(
+    rt: &R,
+    out: &mut Vec<u8>,
+    options: &Options,
+) -> Result<Judge, Stop> {
+    if options.policy.is_empty() {
+        let mut policy = Policy::new(rt.alloc());
+        policy_of(rt, out, &mut policy, "-")?;
+        judge_of(rt, out, options, policy)
+    } else {
+        side_of(rt, out, options, &[])
+    }
+}
+
+/// What changes, and then the answers of the second list.
+fn review<R: AllocGlobal + Files + Input + Eprint>(
+    rt: &R,
+    out: &mut Vec<u8>,
+    options: &Options,
+    questions: &Questions,
+) -> Result<(), Stop> {
+    let before = side_of(rt, out, options, options.before.as_slice())?;
+    review_from(rt, out, options, questions, &before)
+}
+
+fn review_from<R: AllocGlobal + Files + Input + Eprint>(
+    rt: &R,
+    out: &mut Vec<u8>,
+    options: &Options,
+    questions: &Questions,
+    before: &Judge,
+) -> Result<(), Stop> {
+    let after = side_of(rt, out, options, options.after.as_slice())?;
+    Ok(print_review(rt.alloc(), out, before, &after, questions)?)
+}
+
+/// The policy of the files of both sides and of one side.
+fn side_of<R: AllocGlobal + Files + Input + Eprint>(
+    rt: &R,
+    out: &mut Vec<u8>,
+    options: &Options,
+    side: &[String],
+) -> Result<Judge, Stop> {
+    let mut policy = Policy::new(rt.alloc());
+    for file in options.policy.as_slice() {
+        policy_of(rt, out, &mut policy, file.as_str())?;
+    }
+    for file in side {
+        policy_of(rt, out, &mut policy, file.as_str())?;
+    }
+    judge_of(rt, out, options, policy)
+}

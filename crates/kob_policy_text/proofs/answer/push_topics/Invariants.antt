@@ -1,6 +1,0 @@
-use Rattle.std.proofs.Common.{◌≡◌, ◌++◌, take, flat_map}
-use Rattle.kob_policy_text.specs.Answers.{seen_text}
-use Rattle.kob_policy_text.proofs.answer.push_topics.Given as goal
-
-abbrev pub invariant-loop-topic : goal.invariant-loop-topic
-invariant-loop-topic l = l.out.items ≡ l.initial.out.items ++ flat_map (seen_text l.judge l.asker) (take l.topic-index l.topics)

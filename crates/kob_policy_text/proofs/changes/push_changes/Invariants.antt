@@ -1,0 +1,6 @@
+use Rattle.std.proofs.Common.{◌≡◌, ◌++◌, take, flat_map}
+use Rattle.kob_policy_text.specs.Answers.{change_line}
+use Rattle.kob_policy_text.proofs.changes.push_changes.Given as goal
+
+abbrev pub invariant-loop-asked : goal.invariant-loop-asked
+invariant-loop-asked l = l.out.items ≡ l.initial.out.items ++ flat_map (change_line l.before l.after) (take l.asked-index l.fn.asked)

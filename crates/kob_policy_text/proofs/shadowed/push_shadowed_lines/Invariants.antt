@@ -1,0 +1,6 @@
+use Rattle.std.proofs.Common.{◌≡◌, ◌++◌}
+use Rattle.kob_policy_text.specs.Answers.{shadowed_lines}
+use Rattle.kob_policy_text.proofs.shadowed.push_shadowed_lines.Given as goal
+
+abbrev pub invariant-loop-place : goal.invariant-loop-place
+invariant-loop-place l = l.out.items ≡ l.initial.out.items ++ shadowed_lines l.judge l.asked l.place

@@ -1,0 +1,138 @@
+//! Allows that a deny always beats.
+
+ghost use Rattle.std.specs.Prelude.{◌≡◌, ◌++◌, OnOk, length};
+ghost use Rattle.kob_authorizer.specs.Decide.{is_hit};
+ghost use Rattle.kob_names.specs.declared.kinds.Permission.TheVariants.{Allow};
+ghost use Rattle.kob_policy_text.specs.Answers.{is_always_beaten, is_beaten, is_beaten_at};
+ghost use Rattle.kob_policy_text.specs.Answers.{is_denied, is_denied_at, is_ever_denied};
+ghost use Rattle.kob_policy_text.specs.Answers.{is_shadowed, is_shadowed_at, shadowed_line};
+ghost use Rattle.kob_policy_text.specs.Answers.{shadowed_lines, shadowed_text};
+ghost use Rattle.kob_policy_text.specs.AtHand.{asked_at_hand};
+
+use crate::asked::Asked;
+use crate::at_hand::AtHand;
+use crate::judge::Judge;
+use crate::printed::push_line_at;
+use kob_names::{Binding, Permission, Verdict};
+use std::alloc::{AllocError, Global};
+
+fn is_beaten(verdict: Verdict) -> bool
+    ensures { result ≡ is_beaten verdict }
+{
+    match verdict {
+        Verdict::DeniedBy(_) | Verdict::Super => true,
+        Verdict::AllowedBy(_) | Verdict::NoAllow | Verdict::NoAclFound => false,
+    }
+}
+
+/// Whether an allow speaks of what is asked.
+fn is_allowing(binding: &Binding, asked: &Asked<'_>) -> bool
+    ensures { result ≡ is_hit Allow asked.now (0, binding.now) }
+{
+    let parts = binding.parts();
+    parts.permission == Permission::Allow
+        && parts.resource == asked.resource
+        && parts.pattern.matches(asked.name)
+        && binding.covers(asked.principal, asked.host)
+        && Permission::Allow.reaches(parts.operation, asked.operation)
+}
+
+fn is_beaten_at(judge: &Judge, binding: &Binding, asked: &Asked<'_>) -> bool
+    ensures { result ≡ is_beaten_at judge.now binding.now asked.now }
+{
+    !is_allowing(binding, asked) || is_beaten(judge.verdict(asked))
+}
+
+fn is_denied(verdict: Verdict) -> bool
+    ensures { result ≡ is_denied verdict }
+{
+    match verdict {
+        Verdict::DeniedBy(_) => true,
+        Verdict::Super | Verdict::AllowedBy(_) | Verdict::NoAllow | Verdict::NoAclFound => false,
+    }
+}
+
+fn is_denied_at(judge: &Judge, binding: &Binding, asked: &Asked<'_>) -> bool
+    ensures { result ≡ is_denied_at judge.now binding.now asked.now }
+{
+    is_allowing(binding, asked) && is_denied(judge.verdict(asked))
+}
+
+fn is_ever_denied(judge: &Judge, asked: &[Asked<'_>], binding: &Binding) -> bool
+    ensures { result ≡ is_ever_denied judge.now asked.now binding.now }
+{
+    asked
+        .iter()
+        .any(|asked| is_denied_at(judge, binding, asked))
+}
+
+fn is_always_beaten(judge: &Judge, asked: &[Asked<'_>], binding: &Binding) -> bool
+    ensures { result ≡ is_always_beaten judge.now asked.now binding.now }
+{
+    asked
+        .iter()
+        .all(|asked| is_beaten_at(judge, binding, asked))
+}
+
+fn is_shadowed(judge: &Judge, asked: &[Asked<'_>], binding: &Binding) -> bool
+    ensures { result ≡ is_shadowed judge.now asked.now binding.now }
+{
+    binding.parts().permission == Permission::Allow
+        && is_always_beaten(judge, asked, binding)
+        && is_ever_denied(judge, asked, binding)
+}
+
+fn push_shadowed_lines(
+    out: &mut Vec<u8>,
+    judge: &Judge,
+    asked: &[Asked<'_>],
+) -> Result<(), AllocError>
+    ensures { OnOk result (out.new.items ≡ out.old.items
+        ++ shadowed_lines judge.now asked.now (length judge.now.bindings)) }
+{
+    for place in 0..judge.policy().bindings().len() {
+        push_shadowed_line(out, judge, asked, place)?;
+    }
+    Ok(())
+}
+
+#[tactic(auto, unfolding(crate::specs::Answers::is_shadowed_at))]
+fn is_shadowed_at(judge: &Judge, asked: &[Asked<'_>], place: usize) -> bool
+    ensures { result ≡ is_shadowed_at judge.now asked.now place }
+{
+    match judge.policy().bindings().get(place) {
+        None => false,
+        Some(binding) => is_shadowed(judge, asked, binding),
+    }
+}
+
+fn push_shadowed_line(
+    out: &mut Vec<u8>,
+    judge: &Judge,
+    asked: &[Asked<'_>],
+    place: usize,
+) -> Result<(), AllocError>
+    ensures { OnOk result (out.new.items ≡ out.old.items
+        ++ shadowed_line judge.now asked.now place) }
+{
+    if is_shadowed_at(judge, asked, place) {
+        push_line_at(out, judge, place)
+    } else {
+        Ok(())
+    }
+}
+
+#[tactic(auto, using(kob_words::proofs::Appending::appending))]
+pub fn push_shadowed(
+    alloc: Global,
+    out: &mut Vec<u8>,
+    judge: &Judge,
+    hand: &AtHand,
+) -> Result<(), AllocError>
+    ensures { OnOk result (out.new.items ≡ out.old.items
+        ++ shadowed_text judge.now (asked_at_hand hand.now)) }
+{
+    out.extend_from_slice(b"shadowed\n")?;
+    let asked = hand.asked(alloc)?;
+    push_shadowed_lines(out, judge, &asked)
+}
