@@ -1,33 +1,20 @@
-//! Tests of the crates from the names to the partition logs, over their public surface.
+//! Tests of the crates from the names to the partition logs, over their public surface: what no
+//! scene can show.
 #![tactic(auto)]
 
 #[cfg(test)]
-mod authorizer;
-#[cfg(test)]
 mod chunks;
 #[cfg(test)]
-mod cut;
-#[cfg(test)]
-mod long_key;
-#[cfg(test)]
 mod names;
-#[cfg(test)]
-mod one_name;
-#[cfg(test)]
-mod open_to_all;
-#[cfg(test)]
-mod principals;
 #[cfg(test)]
 mod producers;
 #[cfg(test)]
 mod refused;
 #[cfg(test)]
-mod rules;
-#[cfg(test)]
 mod spared;
 #[cfg(test)]
-mod spared_names;
+mod spared_lists;
 #[cfg(test)]
-mod texts;
+mod spared_names;
 #[cfg(test)]
 mod tree;

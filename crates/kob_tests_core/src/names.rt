@@ -1,48 +1,9 @@
-//! Names: what is read, and the first rule that a text breaks.
+//! Names: the first rule that a text breaks, and texts in place and in blocks of their own.
 
-use crate::rules::{Rule, draft};
-use kob_names::{
-    Binding, BindingFault, GroupName, Host, Operation, PatternKind, Permission, Principal,
-    PrincipalFault, ResourceKind, TopicName, TopicNameFault,
-};
+use kob_names::{PlainValue, Principal, PrincipalFault, Text, TopicName, TopicNameFault};
 use std::alloc::Global;
+use std::hash::{DefaultHasher, Hash, Hasher};
 use std::test::Fail;
-
-/// Whether the text is refused as a principal, for that fault.
-fn refuses_principal(alloc: Global, text: &str, fault: PrincipalFault) -> bool {
-    matches!(&Principal::parse(alloc, text), Err(found) if *found == fault)
-}
-
-/// Whether the text is refused as a topic's name, for that fault.
-fn refuses_topic(alloc: Global, text: &str, fault: TopicNameFault) -> bool {
-    matches!(&TopicName::parse(alloc, text), Err(found) if *found == fault)
-}
-
-fn keeps_principal(alloc: Global, text: &str) -> Result<bool, Fail> {
-    Ok(Principal::parse(alloc, text)?.as_str() == text)
-}
-
-fn keeps_topic(alloc: Global, text: &str) -> Result<bool, Fail> {
-    Ok(TopicName::parse(alloc, text)?.as_str() == text)
-}
-
-fn keeps_host(alloc: Global, text: &str) -> Result<bool, Fail> {
-    Ok(Host::parse(alloc, text)?.as_str() == text)
-}
-
-fn keeps_group(alloc: Global, text: &str) -> Result<bool, Fail> {
-    Ok(GroupName::parse(alloc, text)?.as_str() == text)
-}
-
-/// Whether each kind of name is read from a text that keeps its rules, and shows that text.
-fn keeps_texts(alloc: Global) -> Result<bool, Fail> {
-    Ok(
-        keeps_principal(alloc, "User:alice")?
-            && keeps_topic(alloc, "a.b_c-9")?
-            && keeps_host(alloc, "h")?
-            && keeps_group(alloc, "h")?,
-    )
-}
 
 const PRINCIPALS: [(&str, PrincipalFault); 3] = [
     ("alice", PrincipalFault::NoColon),
@@ -57,51 +18,93 @@ const TOPICS: [(&str, TopicNameFault); 3] = [
 ];
 
 #[test]
-fn parse_rules(rt: HostRuntime) -> Result<(), Fail> {
-    for (text, fault) in &PRINCIPALS {
-        assert!(rt; refuses_principal(rt.alloc(), text, *fault));
+fn parse_rules(rt: HostRuntime) {
+    for (text, fault) in PRINCIPALS {
+        assert_eq!(rt; Principal::parse(rt.alloc(), text).err(), Some(fault));
     }
-    for (text, fault) in &TOPICS {
-        assert!(rt; refuses_topic(rt.alloc(), text, *fault));
+    for (text, fault) in TOPICS {
+        assert_eq!(rt; TopicName::parse(rt.alloc(), text).err(), Some(fault));
     }
-    let kept = keeps_texts(rt.alloc())?;
-    assert!(rt; kept);
-    Ok(())
 }
 
-/// What becomes of a binding on the cluster under that name.
-fn on_cluster(alloc: Global, name: &str) -> Result<Result<Binding, BindingFault>, Fail> {
-    let draft = draft(
-        alloc,
-        &Rule {
-            permission: Permission::Allow,
-            principal: "User:a",
-            operation: Operation::Alter,
-            resource: ResourceKind::Cluster,
-            kind: PatternKind::Literal,
-            name,
-        },
-    )?;
-    Ok(Binding::new(alloc, &draft))
+/// A character, and how often it stands in a text: up to 30 bytes, and more.
+const REPEATED: [(&str, usize); 8] = [
+    ("a", 0),
+    ("a", 1),
+    ("a", 29),
+    ("a", 30),
+    ("a", 31),
+    ("a", 200),
+    ("é", 15),
+    ("é", 16),
+];
+
+/// The hash of a text under fixed keys.
+fn hashed(text: &Text) -> u64 {
+    let mut hasher = DefaultHasher::new();
+    text.hash(&mut hasher);
+    hasher.finish()
 }
 
-/// Whether a binding on the cluster under that name is made, with the name.
-fn has_name(alloc: Global, name: &str) -> Result<bool, Fail> {
-    let made = on_cluster(alloc, name)?;
-    Ok(matches!(&made, Ok(binding) if binding.parts().pattern.name.as_str() == name))
+/// Whether two texts hold that content, and are equal and hashed alike.
+fn are_alike(one: &Text, other: &Text, content: &str) -> bool {
+    let hold = one.as_str() == content && other.as_str() == content && one.len() == content.len();
+    hold && one == other && one.same(other) && hashed(one) == hashed(other)
 }
 
-/// Whether a binding on the cluster under that name is refused for the name.
-fn is_refused(alloc: Global, name: &str) -> Result<bool, Fail> {
-    let made = on_cluster(alloc, name)?;
-    Ok(matches!(&made, Err(BindingFault::BadCluster)))
+/// Whether a copy of a copy of the content and the string itself are alike.
+fn is_held(alloc: Global, content: &str) -> Option<bool> {
+    let copied = Text::copied(alloc, content).ok()?.copy(alloc).ok()?;
+    let taken_over = Text::from_string(String::from_str(alloc, content).ok()?);
+    Some(are_alike(&copied, &taken_over, content))
 }
 
 #[test]
-fn cluster_has_one_name(rt: HostRuntime) -> Result<(), Fail> {
-    let named = has_name(rt.alloc(), "kafka-cluster")?;
-    assert!(rt; named);
-    let refused = is_refused(rt.alloc(), "c")?;
-    assert!(rt; refused);
+fn each_length_is_held(rt: HostRuntime) -> Result<(), Fail> {
+    for (character, times) in REPEATED {
+        let content = character.repeat(rt.alloc(), times)?;
+        assert_eq!(rt; is_held(rt.alloc(), content.as_str()), Some(true));
+    }
+    Ok(())
+}
+
+/// Texts of 29, 30 and 31 bytes, of which no two are equal.
+const DIFFERENT: [&str; 5] = [
+    "abcdefghijklmnopqrstuvwxyz012",
+    "abcdefghijklmnopqrstuvwxyz0123",
+    "abcdefghijklmnopqrstuvwxyz0124",
+    "bbcdefghijklmnopqrstuvwxyz0123",
+    "abcdefghijklmnopqrstuvwxyz01234",
+];
+
+/// Whether a copy of one text and a string of the other are equal just where the texts are.
+fn are_told_apart(alloc: Global, one: &str, other: &str) -> Option<bool> {
+    let copied = Text::copied(alloc, one).ok()?;
+    let taken_over = Text::from_string(String::from_str(alloc, other).ok()?);
+    let is_equal = one == other;
+    Some((copied == taken_over) == is_equal && taken_over.same(&copied) == is_equal)
+}
+
+#[test]
+fn different_texts_are_told_apart(rt: HostRuntime) {
+    for one in DIFFERENT {
+        for other in DIFFERENT {
+            assert_eq!(rt; are_told_apart(rt.alloc(), one, other), Some(true));
+        }
+    }
+}
+
+/// Whether the text prints as a struct that holds a string.
+fn prints(alloc: Global, text: &Text) -> Option<bool> {
+    let printed = format!(in alloc; "{text:?}").ok()?;
+    Some(printed.as_str() == "Text { content: \"a\\n\\\"b\\\"\" }")
+}
+
+#[test]
+fn a_text_is_printed(rt: HostRuntime) -> Result<(), Fail> {
+    let copied = Text::copied(rt.alloc(), "a\n\"b\"")?;
+    assert_eq!(rt; prints(rt.alloc(), &copied), Some(true));
+    let taken_over = Text::from_string(String::from_str(rt.alloc(), copied.as_str())?);
+    assert_eq!(rt; prints(rt.alloc(), &taken_over), Some(true));
     Ok(())
 }

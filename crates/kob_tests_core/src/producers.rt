@@ -1,4 +1,4 @@
-//! Sequences of idempotent producers where they wrap.
+//! Sequences of idempotent producers where they wrap, which no script reaches.
 
 use kob_names::Idem;
 use kob_producers::{Judgement, ProducerTable, last_of, next_sequence};
@@ -10,48 +10,47 @@ fn batch(epoch: u64, base: u64) -> Idem {
     Idem { id: 0, epoch, base }
 }
 
-fn accept(
-    table: &mut ProducerTable,
-    idem: &Idem,
-    count: u64,
-    offset: u64,
-) -> Result<(), AllocError> {
-    table.reserve(idem)?;
-    table.accept(idem, count, offset);
-    Ok(())
+/// The greatest sequence.
+const LAST: u64 = 2_147_483_647;
+
+/// What is judged once the batch whose sequences are the greatest one and the two after it is
+/// accepted: epoch, base and count, and the judgement.
+const JUDGED: [(u64, u64, u64, Judgement); 4] = [
+    (0, 2, 1, Judgement::Next),
+    (0, LAST, 3, Judgement::Repeat(LAST)),
+    (1, 0, 1, Judgement::Next),
+    (1, 2, 1, Judgement::OutOfOrder),
+];
+
+/// Whether the table, once it has accepted as many records as there are sequences below the
+/// greatest, takes the three that follow, and judges so then.
+fn wraps(table: &mut ProducerTable) -> Result<bool, AllocError> {
+    table.reserve(&batch(0, 0))?;
+    table.accept(&batch(0, 0), LAST, 0);
+    let follows = table.judge(&batch(0, LAST), 3) == Judgement::Next;
+    table.reserve(&batch(0, LAST))?;
+    table.accept(&batch(0, LAST), 3, LAST);
+    Ok(follows && judges(table))
 }
 
-/// The batch whose sequences are the greatest one and the two after it.
-fn last() -> Idem {
-    batch(0, 2_147_483_647)
-}
-
-/// Whether the table judges that batch so.
-fn judges(table: &ProducerTable, idem: &Idem, count: u64, wanted: Judgement) -> bool {
-    table.judge(idem, count) == wanted
-}
-
-/// Whether the table, once it has accepted the last batch, knows it again, what follows it, and
-/// where a new epoch begins.
-fn judges_wrapped(table: &ProducerTable) -> bool {
-    judges(table, &batch(0, 2), 1, Judgement::Next)
-        && judges(table, &last(), 3, Judgement::Repeat(2_147_483_647))
-        && judges(table, &batch(1, 0), 1, Judgement::Next)
-        && judges(table, &batch(1, 2), 1, Judgement::OutOfOrder)
+fn judges(table: &ProducerTable) -> bool {
+    for (epoch, base, count, judgement) in JUDGED {
+        if table.judge(&batch(epoch, base), count) != judgement {
+            return false;
+        }
+    }
+    true
 }
 
 #[test]
 fn producer_table_wraps(rt: HostRuntime) -> Result<(), Fail> {
     let mut table = ProducerTable::new(rt.alloc());
-    accept(&mut table, &batch(0, 0), 2_147_483_647, 0)?;
-    assert!(rt; judges(&table, &last(), 3, Judgement::Next));
-    accept(&mut table, &last(), 3, 2_147_483_647)?;
-    assert!(rt; judges_wrapped(&table));
+    assert!(rt; wraps(&mut table)?);
     Ok(())
 }
 
 #[test]
 fn sequence_wraps(rt: HostRuntime) {
-    assert_eq!(rt; next_sequence(2_147_483_647), 0);
-    assert_eq!(rt; last_of(2_147_483_646, 3), 0);
+    assert_eq!(rt; next_sequence(LAST), 0);
+    assert_eq!(rt; last_of(LAST - 1, 3), 0);
 }

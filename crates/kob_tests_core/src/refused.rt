@@ -1,7 +1,6 @@
 //! Calls that lack of memory stops: what they leave, and that they are served when they are made
 //! again. `.ci/refuse` runs them with each allocation refused in turn.
 
-use crate::authorizer::named;
 use kob_authorizer::{Authorizer, CreateFault};
 use kob_names::{
     Batch, Binding, BindingFilter, Bytes, Draft, FilterPattern, Host, Idem, Items, Operation,
@@ -33,35 +32,55 @@ pub(crate) const ALL: [Verdict; 2] = [Verdict::AllowedBy(1), Verdict::AllowedBy(
 /// Those without the two that name `orders`.
 pub(crate) const WITHOUT_TWO: [Verdict; 2] = [Verdict::AllowedBy(3), Verdict::AllowedBy(4)];
 
-/// `User:svc` may write by this pattern, from every host.
-fn binding(alloc: Global, kind: PatternKind, name: &str) -> Option<Binding> {
-    let draft = Draft {
-        permission: Permission::Allow,
-        principal: Principal::parse(alloc, "User:svc").ok()?,
-        host: Host::parse(alloc, "*").ok()?,
-        operation: Operation::Write,
-        resource: ResourceKind::Topic,
-        pattern: Pattern {
-            kind,
-            name: Text::copied(alloc, name).ok()?,
-        },
-    };
-    Binding::new(alloc, &draft).ok()
-}
-
-/// Ten bindings, of which nine differ.
-pub(crate) fn ten_bindings(alloc: Global) -> Option<Vec<Binding>> {
-    let mut bindings = Vec::new(alloc);
-    for (kind, name) in PATTERNS {
-        bindings.push(binding(alloc, kind, name)?).ok()?;
-    }
-    Some(bindings)
-}
-
 /// Whoever asks, and from where.
 pub(crate) fn asker(alloc: Global) -> Option<(Principal, Host)> {
     let who = Principal::parse(alloc, "User:svc").ok()?;
     Some((who, Host::parse(alloc, "h").ok()?))
+}
+
+/// `User:svc` may write by this pattern, from the host `h`.
+pub(crate) fn binding(alloc: Global, kind: PatternKind, name: &str) -> Option<Binding> {
+    let name = Text::copied(alloc, name).ok()?;
+    let (principal, host) = asker(alloc)?;
+    let draft = Draft {
+        permission: Permission::Allow,
+        principal,
+        host,
+        operation: Operation::Write,
+        resource: ResourceKind::Topic,
+        pattern: Pattern { kind, name },
+    };
+    Binding::new(alloc, &draft).ok()
+}
+
+/// A filter by the name `orders` alone.
+pub(crate) fn of_orders(alloc: Global, pattern: FilterPattern) -> Option<BindingFilter> {
+    let name = Text::copied(alloc, "orders").ok()?;
+    Some(BindingFilter {
+        resource: None,
+        name: Some(name),
+        pattern,
+        principal: None,
+        host: None,
+        operation: None,
+        permission: None,
+    })
+}
+
+/// Whoever asks, and ten bindings, of which nine differ.
+#[derive(Drop)]
+pub(crate) struct Asked {
+    pub(crate) asker: (Principal, Host),
+    pub(crate) bindings: Vec<Binding>,
+}
+
+pub(crate) fn ten_bindings(alloc: Global) -> Option<Asked> {
+    let mut bindings = Vec::new(alloc);
+    for (kind, name) in PATTERNS {
+        bindings.push(binding(alloc, kind, name)?).ok()?;
+    }
+    let asker = asker(alloc)?;
+    Some(Asked { asker, bindings })
 }
 
 fn may_write(authorizer: &Authorizer, asker: &(Principal, Host), topic: &str) -> Verdict {
@@ -121,21 +140,25 @@ fn takes_two(
     Ok(taken.len() == 2)
 }
 
-/// Whether ten bindings come into force, and the two that name `orders` go.
-fn come_and_go(alloc: Global, authorizer: &mut Authorizer) -> Option<bool> {
-    let asker = asker(alloc)?;
-    let bindings = ten_bindings(alloc)?;
-    let filter = named(alloc, FilterPattern::Any, "orders").ok()?;
-    let come = gets_serials(alloc, authorizer, &asker, &bindings).ok()?
-        && stands(authorizer, &asker, 9, ALL);
-    let gone = takes_two(alloc, authorizer, &asker, &filter).ok()?
-        && stands(authorizer, &asker, 7, WITHOUT_TWO);
-    Some(come && gone)
+/// Whether the bindings come into force, and the two that name `orders` go.
+fn come_and_go(
+    alloc: Global,
+    authorizer: &mut Authorizer,
+    asker: &(Principal, Host),
+    bindings: &[Binding],
+) -> Option<bool> {
+    let come = gets_serials(alloc, authorizer, asker, bindings).ok()?
+        && stands(authorizer, asker, 9, ALL);
+    let filter = of_orders(alloc, FilterPattern::Any)?;
+    let taken = takes_two(alloc, authorizer, asker, &filter).ok();
+    drop(filter);
+    Some(come && taken? && stands(authorizer, asker, 7, WITHOUT_TWO))
 }
 
 fn ten_come_and_go(alloc: Global) -> Option<bool> {
+    let Asked { asker, bindings } = ten_bindings(alloc)?;
     let mut authorizer = Authorizer::open(alloc, Vec::new(alloc), false);
-    let done = come_and_go(alloc, &mut authorizer);
+    let done = come_and_go(alloc, &mut authorizer, &asker, &bindings);
     drop(authorizer);
     done
 }

@@ -1,10 +1,9 @@
-//! Tests of scripts and of the command line, over the public surface of their crates.
+//! Tests of scripts and of the command line, over the public surface of their crates: what no scene
+//! can show.
 #![tactic(auto)]
 
 #[cfg(test)]
 mod acl;
-#[cfg(test)]
-mod faults;
 #[cfg(test)]
 mod full;
 #[cfg(test)]
@@ -12,8 +11,4 @@ mod resumed;
 #[cfg(test)]
 mod runs;
 #[cfg(test)]
-mod script;
-#[cfg(test)]
 mod spared;
-#[cfg(test)]
-mod writing;
