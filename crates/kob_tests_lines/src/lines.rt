@@ -37,15 +37,19 @@ fn two_ids(alloc: Global, broker: &mut Broker) -> Result<[Option<u64>; 2], Fail>
     Ok(ids)
 }
 
+fn ids_of_two_lines(alloc: Global, broker: &mut Broker) -> Result<[[Option<u64>; 2]; 2], Fail> {
+    let first = two_ids(alloc, broker)?;
+    let next = two_ids(alloc, broker)?;
+    Ok([first, next])
+}
+
 // Two lines one after another over one broker: the second goes on where the first ended.
 #[test]
 fn a_broker_is_free_again(rt: HostRuntime) -> Result<(), Fail> {
     let mut broker = broker(rt.alloc())?;
-    let first = two_ids(rt.alloc(), &mut broker);
-    let next = two_ids(rt.alloc(), &mut broker);
+    let ids = ids_of_two_lines(rt.alloc(), &mut broker);
     drop(broker);
-    assert_eq!(rt; first?, [Some(0), Some(1)]);
-    assert_eq!(rt; next?, [Some(2), Some(3)]);
+    assert_eq!(rt; ids?, [[Some(0), Some(1)], [Some(2), Some(3)]]);
     Ok(())
 }
 
