@@ -1,10 +1,12 @@
 -- Workers of a scene, and what their steps do.
-use Rattle.std.specs.Prelude.{◌≡◌, ℕ, List, []}
+use Rattle.std.specs.Prelude.{◌≡◌, ℕ, List, [], ◌∷◌, None}
 use Rattle.kob_inbox.specs.Contents.{Contents as InboxContents}
 use Rattle.kob_inbox.specs.Run as consuming
 use Rattle.kob_inbox.specs.Tick as consumer_ticks
 use Rattle.kob_inbox.specs.declared.fetcher.Fetcher.{Fetcher}
 use Rattle.kob_inbox.specs.declared.tick.Tick.{Tick as ConsumerAnswer}
+use Rattle.kob_lines.specs.declared.lossy.Loss.{Loss}
+use Rattle.kob_lines.specs.declared.lossy.Loss.TheVariants as losses
 use Rattle.kob_outbox.specs.Contents.{Contents as OutboxContents}
 use Rattle.kob_router.specs.Dispatches.{dispatch_of}
 use Rattle.kob_router.specs.Run as routing
@@ -12,6 +14,13 @@ use Rattle.kob_router.specs.Tick as router_ticks
 use Rattle.kob_router.specs.declared.line.Call.{Call}
 use Rattle.kob_router.specs.declared.sender.Sender.{Sender}
 use Rattle.kob_router.specs.declared.tick.Tick.{Tick as RouterAnswer}
+
+-- where a message of the first call is lost, no reply to it is heard
+abbrev pub LosesFirst : Loss → List Call → Type 0
+LosesFirst loss [] = Unit {0}
+LosesFirst losses.None (call ∷ calls) = Unit {0}
+LosesFirst losses.BeforeServe (call ∷ calls) = call.heard ≡ None
+LosesFirst losses.AfterServe (call ∷ calls) = call.heard ≡ None
 
 -- a service: its number in the journal, who it is, its router and its outbox
 pub record Service : Type 0 where
@@ -37,10 +46,11 @@ pub record Does (move : routing.Move) (old new : Service) : Type 0 where
   pub may : routing.May (dispatch_of old.sender.target) (service_state old) move
   pub done : service_state new ≡ routing.after (service_state old) move
 
--- the moves of one tick of its router, over a line of its own
-pub record IsServiceTick (old new : Service) (tick : RouterAnswer) : Type 0 where
+-- the moves of one tick of its router, over a line of its own that loses the first call so
+pub record IsServiceTick (loss : Loss) (old new : Service) (tick : RouterAnswer) : Type 0 where
   pub same : IsSameService old new
   pub calls : List Call
+  pub lost : LosesFirst loss calls
   pub unmade : ℕ
   pub ticks :
       router_ticks.Ticks router_ticks.IsOneTick (dispatch_of old.sender.target)
@@ -72,10 +82,11 @@ pub record Consumes (move : consuming.Move) (old new : Consumer) : Type 0 where
   pub done :
       consumer_state new ≡ consuming.after old.fetcher.subscription (consumer_state old) move
 
--- the move of one tick of the consumer, over a line of its own
-pub record IsConsumerTick (old new : Consumer) (tick : ConsumerAnswer) : Type 0 where
+-- the move of one tick of the consumer, over a line of its own that loses the first call so
+pub record IsConsumerTick (loss : Loss) (old new : Consumer) (tick : ConsumerAnswer) : Type 0 where
   pub same : IsSameConsumer old new
   pub calls : List Call
+  pub lost : LosesFirst loss calls
   pub unmade : ℕ
   pub ticks :
       consumer_ticks.Ticks old.fetcher.subscription

@@ -1,12 +1,16 @@
 //! The steps of a consumer.
 
+ghost use Rattle.std.specs.Prelude.{◌≡◌, OnOk};
+ghost use Rattle.kob_router.specs.Line.{one_more};
+ghost use Rattle.kob_scene_play.specs.Steps.{IsConsumerStep, Tells};
+ghost use Rattle.kob_scene_text.specs.declared.scene.ConsumerStep.TheVariants as consumer_steps;
+
 use crate::consumer_worker::ConsumerWorker;
 use crate::fault::PlayFault;
 use crate::output::Output;
 use crate::service_steps::{RUN_LIMIT, loss_of};
 use kob_inbox::Tick;
-use kob_lines::Loss;
-use kob_scene_text::{ConsumerStep, print_consumer_tick, print_inbox, print_restarted};
+use kob_scene_text::{ConsumerStep, Lost, print_consumer_tick, print_inbox, print_restarted};
 use kob_shared::Recorded;
 use std::alloc::Global;
 use std::io::Write;
@@ -29,10 +33,14 @@ pub(crate) fn play_consumer<W: Write>(
     consumer: &mut ConsumerWorker,
     step: &ConsumerStep,
     out: &mut Output<'_, W>,
-) -> Result<(), PlayFault> {
+) -> Result<(), PlayFault>
+    ensures done { OnOk result (Tells (IsConsumerStep step.now consumer.old
+        consumer.new out.old.told) (W.contents out.old.writer.now) out.old.text.items
+        (W.contents out.new.writer.now) out.new.text.items) }
+{
     match step {
         ConsumerStep::Tick(lost) => {
-            tick(alloc, recorded, consumer, loss_of(*lost), out)?;
+            tick(alloc, recorded, consumer, *lost, out)?;
             Ok(())
         }
         ConsumerStep::Run => run(alloc, recorded, consumer, out),
@@ -45,10 +53,15 @@ fn tick<W: Write>(
     alloc: Global,
     recorded: &mut Recorded,
     consumer: &mut ConsumerWorker,
-    loss: Loss,
+    lost: Option<Lost>,
     out: &mut Output<'_, W>,
-) -> Result<Left, PlayFault> {
-    let tick = consumer.tick(alloc, recorded, loss)?;
+) -> Result<Left, PlayFault>
+    ensures done { OnOk result (Tells (IsConsumerStep (consumer_steps.Tick lost) consumer.old
+        consumer.new out.old.told) (W.contents out.old.writer.now) out.old.text.items
+        (W.contents out.new.writer.now) out.new.text.items) }
+    ensures told { OnOk result (out.new.told ≡ one_more out.old.told) }
+{
+    let tick = consumer.tick(alloc, recorded, loss_of(lost))?;
     let left = left_by(&tick);
     let number = out.number();
     print_consumer_tick(&mut out.text, number, tick)?;
@@ -65,16 +78,21 @@ fn left_by(tick: &Tick) -> Left {
 }
 
 /// Ticks until each assigned partition was idle in turn, or the consumer is stopped.
+#[tactic(auto, using(crate::proofs::ConsumerRunning::none_at_first, crate::proofs::ConsumerRunning::one_tick_more, crate::proofs::ConsumerRunning::all_read))]
 fn run<W: Write>(
     alloc: Global,
     recorded: &mut Recorded,
     consumer: &mut ConsumerWorker,
     out: &mut Output<'_, W>,
-) -> Result<(), PlayFault> {
+) -> Result<(), PlayFault>
+    ensures done { OnOk result (Tells (IsConsumerStep consumer_steps.Run consumer.old
+        consumer.new out.old.told) (W.contents out.old.writer.now) out.old.text.items
+        (W.contents out.new.writer.now) out.new.text.items) }
+{
     let round = consumer.subscription().assignment.len();
     let mut idle: usize = 0;
     for _ in 0..RUN_LIMIT {
-        match tick(alloc, recorded, consumer, Loss::None, out)? {
+        match tick(alloc, recorded, consumer, None, out)? {
             Left::Something => idle = 0,
             Left::Idle => idle = idle.saturating_add(1),
             Left::Stopped => break,
@@ -89,7 +107,12 @@ fn run<W: Write>(
 fn restart<W: Write>(
     consumer: &mut ConsumerWorker,
     out: &mut Output<'_, W>,
-) -> Result<(), PlayFault> {
+) -> Result<(), PlayFault>
+    ensures done { OnOk result (Tells (IsConsumerStep consumer_steps.Restart consumer.old
+        consumer.new out.old.told) (W.contents out.old.writer.now) out.old.text.items
+        (W.contents out.new.writer.now) out.new.text.items) }
+    ensures told { OnOk result (out.new.told ≡ one_more out.old.told) }
+{
     consumer.restart();
     let number = out.number();
     print_restarted(&mut out.text, number)?;
@@ -99,7 +122,12 @@ fn restart<W: Write>(
 fn show_inbox<W: Write>(
     consumer: &mut ConsumerWorker,
     out: &mut Output<'_, W>,
-) -> Result<(), PlayFault> {
+) -> Result<(), PlayFault>
+    ensures done { OnOk result (Tells (IsConsumerStep consumer_steps.Inbox consumer.old
+        consumer.new out.old.told) (W.contents out.old.writer.now) out.old.text.items
+        (W.contents out.new.writer.now) out.new.text.items) }
+    ensures told { OnOk result (out.new.told ≡ one_more out.old.told) }
+{
     let rows = consumer.rows()?;
     let number = out.number();
     print_inbox(&mut out.text, number, &rows)?;

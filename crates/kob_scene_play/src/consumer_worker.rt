@@ -7,7 +7,7 @@ ghost use Rattle.kob_inbox.specs.Run.Move.{Restarted};
 ghost use Rattle.kob_inbox.specs.Run.{start};
 ghost use Rattle.kob_scene_play.specs.Workers.{Consumes, IsConsumerTick, consumer_state};
 
-use crate::fault::{PlayFault, line_fault, unless};
+use crate::fault::{PlayFault, line_fault, loses_first, unless};
 use kob_inbox::{Consumer, Inbox, InboxFault, InboxRow, StopReason, Subscription, Tick};
 use kob_lines::{Loss, Lossy, RecordedLine};
 use kob_names::{Host, PlainValue, Principal};
@@ -95,7 +95,7 @@ impl ConsumerWorker {
         recorded: &mut Recorded,
         loss: Loss,
     ) -> Result<Tick, PlayFault>
-        ensures { IfOk result (IsConsumerTick self.old self.new) }
+        ensures { IfOk result (IsConsumerTick loss self.old self.new) }
     {
         let principal = self.principal.copy(alloc)?;
         let host = self.host.copy(alloc)?;
@@ -104,8 +104,9 @@ impl ConsumerWorker {
         line.lose(loss);
         let tick = self.consumer.tick(alloc, &mut self.inbox, &mut line);
         let fault = stopped_by(&tick).or(line_fault(&line));
+        let is_lost = loses_first(loss, &line.calls.made);
         drop(line);
-        let tick = unless(fault, tick)?;
+        let tick = unless(fault, is_lost, tick)?;
         Ok(tick)
     }
 

@@ -1,10 +1,12 @@
 //! What ends a scene before its last step.
 
-ghost use Rattle.std.specs.Prelude.{◌≡◌, IfOk};
+ghost use Rattle.std.specs.Prelude.{◌≡◌, IfOk, IsTrue, OnOk, true};
+ghost use Rattle.kob_scene_play.specs.Workers.{LosesFirst};
 
 use kob_inbox::InboxFault;
-use kob_lines::{Lossy, RecordedLine};
+use kob_lines::{Loss, Lossy, RecordedLine};
 use kob_outbox::OutboxFault;
+use kob_router::Call;
 use kob_shared::{CallFault, ServeFault};
 use std::alloc::{AllocError, AllocFailed};
 use thiserror::Error;
@@ -93,12 +95,35 @@ pub(crate) fn line_fault(line: &Lossy<RecordedLine<'_>>) -> Option<PlayFault> {
     }
 }
 
-/// The answer of a step, unless the step has failed.
-pub(crate) fn unless<T: Drop>(fault: Option<PlayFault>, answer: T) -> Result<T, PlayFault>
-    ensures { IfOk result (λ given. given ≡ answer) }
+/// Whether no reply to the first call was heard, where one of its messages was to be lost.
+pub(crate) fn loses_first(loss: Loss, calls: &[Call]) -> bool
+    ensures { IsTrue result → LosesFirst loss calls.now }
+{
+    match calls {
+        [] => true,
+        [first, ..] => match loss {
+            Loss::None => true,
+            Loss::BeforeServe => first.heard.is_none(),
+            Loss::AfterServe => first.heard.is_none(),
+        },
+    }
+}
+
+/// The answer of a step, unless the step has failed, or its loss was not as it was to be.
+pub(crate) fn unless<T: Drop>(
+    fault: Option<PlayFault>,
+    is_lost: bool,
+    answer: T,
+) -> Result<T, PlayFault>
+    ensures same { IfOk result (λ given. given ≡ answer) }
+    ensures lost { OnOk result (IsTrue is_lost) }
 {
     match fault {
-        None => Ok(answer),
+        None if is_lost => Ok(answer),
+        None => {
+            drop(answer);
+            Err(PlayFault::Memory)
+        }
         Some(fault) => {
             drop(answer);
             Err(fault)

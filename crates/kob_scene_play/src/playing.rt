@@ -1,5 +1,11 @@
 //! A scene is played.
 
+ghost use Rattle.std.specs.Prelude.{◌≡◌, OnOk};
+ghost use Rattle.kob_router.specs.Line.{one_more};
+ghost use Rattle.kob_scene_play.specs.Printing.{Prints};
+ghost use Rattle.kob_script.specs.PrintedReply.{reply_text};
+ghost use Rattle.kob_shared.specs.Journals.{after_event, outcome_of};
+
 use crate::consumer_steps::play_consumer;
 use crate::fault::PlayFault;
 use crate::journal::show_journal;
@@ -68,7 +74,13 @@ fn play_request<W: Write>(
     recorded: &mut Recorded,
     event: &Event,
     out: &mut Output<'_, W>,
-) -> Result<(), PlayFault> {
+) -> Result<(), PlayFault>
+    ensures recorded { OnOk result (recorded.new ≡ after_event recorded.old 0 event.now) }
+    ensures printed { OnOk result (Prints (W.contents out.old.writer.now) out.old.text.items
+        (W.contents out.new.writer.now) out.new.text.items
+        (reply_text (one_more out.old.told) (outcome_of recorded.old event.now).reply)) }
+    ensures told { OnOk result (out.new.told ≡ one_more out.old.told) }
+{
     let receipt = recorded.serve_as(alloc, 0, event)?;
     let number = out.number();
     print_reply(&mut out.text, number, &receipt.reply)?;

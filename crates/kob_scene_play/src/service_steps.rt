@@ -1,5 +1,10 @@
 //! The steps of a service.
 
+ghost use Rattle.std.specs.Prelude.{◌≡◌, IfOk, OnOk};
+ghost use Rattle.kob_router.specs.Line.{one_more};
+ghost use Rattle.kob_scene_play.specs.Steps.{IsServiceStep, IsTold, Tells, goes_on_after, loss_for};
+ghost use Rattle.kob_scene_text.specs.declared.scene.ServiceStep.TheVariants as service_steps;
+
 use crate::fault::PlayFault;
 use crate::output::Output;
 use crate::service_worker::ServiceWorker;
@@ -27,11 +32,16 @@ pub(crate) fn play_service<W: Write>(
     place: usize,
     step: &ServiceStep,
     out: &mut Output<'_, W>,
-) -> Result<(), PlayFault> {
+) -> Result<(), PlayFault>
+    ensures done { OnOk result (Tells (IsServiceStep step.now played.old.service
+        played.new.service out.old.told) (W.contents out.old.writer.now) out.old.text.items
+        (W.contents out.new.writer.now) out.new.text.items) }
+    ensures name { played.new.name ≡ played.old.name }
+{
     match step {
         ServiceStep::Record(change, event) => record(played, place, change, event, out),
         ServiceStep::Tick(lost) => {
-            tick(alloc, recorded, &mut played.service, loss_of(*lost), out)?;
+            tick(alloc, recorded, &mut played.service, *lost, out)?;
             Ok(())
         }
         ServiceStep::Run => run(alloc, recorded, &mut played.service, out),
@@ -49,7 +59,13 @@ fn record<W: Write>(
     change: &Change,
     event: &OutboxEvent,
     out: &mut Output<'_, W>,
-) -> Result<(), PlayFault> {
+) -> Result<(), PlayFault>
+    ensures done { OnOk result (Tells (IsServiceStep (service_steps.Record change.now event.now) played.old.service
+        played.new.service out.old.told) (W.contents out.old.writer.now) out.old.text.items
+        (W.contents out.new.writer.now) out.new.text.items) }
+    ensures told { OnOk result (out.new.told ≡ one_more out.old.told) }
+    ensures name { played.new.name ≡ played.old.name }
+{
     played.recorded_by.reserve(1)?;
     let recorded = played.service.record(change, event);
     match recorded {
@@ -69,10 +85,15 @@ fn tick<W: Write>(
     alloc: Global,
     recorded: &mut Recorded,
     service: &mut ServiceWorker,
-    loss: Loss,
+    lost: Option<Lost>,
     out: &mut Output<'_, W>,
-) -> Result<bool, PlayFault> {
-    let tick = service.tick(alloc, recorded, loss)?;
+) -> Result<bool, PlayFault>
+    ensures done { IfOk result (λ goes_on. IsTold lost goes_on service.old service.new out.old.told
+        (W.contents out.old.writer.now) out.old.text.items
+        (W.contents out.new.writer.now) out.new.text.items) }
+    ensures told { OnOk result (out.new.told ≡ one_more out.old.told) }
+{
+    let tick = service.tick(alloc, recorded, loss_of(lost))?;
     let goes_on = goes_on(&tick);
     let number = out.number();
     print_service_tick(&mut out.text, number, tick)?;
@@ -81,7 +102,9 @@ fn tick<W: Write>(
 }
 
 /// Whether a tick moved the mark, or has to be made again.
-fn goes_on(tick: &Tick) -> bool {
+fn goes_on(tick: &Tick) -> bool
+    ensures { result ≡ goes_on_after tick.now }
+{
     match tick {
         Tick::Moved(_) => true,
         Tick::Repeat => true,
@@ -91,31 +114,43 @@ fn goes_on(tick: &Tick) -> bool {
 }
 
 /// Ticks until one neither moves nor repeats.
+#[tactic(auto, using(crate::proofs::Running::none_at_first, crate::proofs::Running::one_tick_more, crate::proofs::Running::last_tick, crate::proofs::Running::spent))]
 fn run<W: Write>(
     alloc: Global,
     recorded: &mut Recorded,
     service: &mut ServiceWorker,
     out: &mut Output<'_, W>,
-) -> Result<(), PlayFault> {
+) -> Result<(), PlayFault>
+    ensures done { OnOk result (Tells (IsServiceStep service_steps.Run service.old
+        service.new out.old.told) (W.contents out.old.writer.now) out.old.text.items
+        (W.contents out.new.writer.now) out.new.text.items) }
+{
     for _ in 0..RUN_LIMIT {
-        if !tick(alloc, recorded, service, Loss::None, out)? {
-            break;
+        if !tick(alloc, recorded, service, None, out)? {
+            return Ok(());
         }
     }
     Ok(())
 }
 
-fn restart<W: Write>(
-    service: &mut ServiceWorker,
-    out: &mut Output<'_, W>,
-) -> Result<(), PlayFault> {
+fn restart<W: Write>(service: &mut ServiceWorker, out: &mut Output<'_, W>) -> Result<(), PlayFault>
+    ensures done { OnOk result (Tells (IsServiceStep service_steps.Restart service.old
+        service.new out.old.told) (W.contents out.old.writer.now) out.old.text.items
+        (W.contents out.new.writer.now) out.new.text.items) }
+    ensures told { OnOk result (out.new.told ≡ one_more out.old.told) }
+{
     service.restart();
     let number = out.number();
     print_restarted(&mut out.text, number)?;
     out.tell()
 }
 
-fn sweep<W: Write>(service: &mut ServiceWorker, out: &mut Output<'_, W>) -> Result<(), PlayFault> {
+fn sweep<W: Write>(service: &mut ServiceWorker, out: &mut Output<'_, W>) -> Result<(), PlayFault>
+    ensures done { OnOk result (Tells (IsServiceStep service_steps.Sweep service.old
+        service.new out.old.told) (W.contents out.old.writer.now) out.old.text.items
+        (W.contents out.new.writer.now) out.new.text.items) }
+    ensures told { OnOk result (out.new.told ≡ one_more out.old.told) }
+{
     let count = service.sweep()?;
     let number = out.number();
     print_swept(&mut out.text, number, count)?;
@@ -126,7 +161,12 @@ fn sweep<W: Write>(service: &mut ServiceWorker, out: &mut Output<'_, W>) -> Resu
 fn show_outbox<W: Write>(
     service: &mut ServiceWorker,
     out: &mut Output<'_, W>,
-) -> Result<(), PlayFault> {
+) -> Result<(), PlayFault>
+    ensures done { OnOk result (Tells (IsServiceStep service_steps.Outbox service.old
+        service.new out.old.told) (W.contents out.old.writer.now) out.old.text.items
+        (W.contents out.new.writer.now) out.new.text.items) }
+    ensures told { OnOk result (out.new.told ≡ one_more out.old.told) }
+{
     let mark = service.mark()?;
     let rows = service.rows_after(mark, u32::MAX)?;
     let number = out.number();
@@ -139,7 +179,12 @@ fn show_state<W: Write>(
     kind: &Text,
     key: &Text,
     out: &mut Output<'_, W>,
-) -> Result<(), PlayFault> {
+) -> Result<(), PlayFault>
+    ensures done { OnOk result (Tells (IsServiceStep (service_steps.Business kind.now key.now) service.old
+        service.new out.old.told) (W.contents out.old.writer.now) out.old.text.items
+        (W.contents out.new.writer.now) out.new.text.items) }
+    ensures told { OnOk result (out.new.told ≡ one_more out.old.told) }
+{
     let state = service.business(kind.as_str(), key.as_str())?;
     let number = out.number();
     print_state(&mut out.text, number, &state)?;
@@ -147,7 +192,9 @@ fn show_state<W: Write>(
 }
 
 /// What becomes of the first call of a tick.
-pub(crate) fn loss_of(lost: Option<Lost>) -> Loss {
+pub(crate) fn loss_of(lost: Option<Lost>) -> Loss
+    ensures { result ≡ loss_for lost }
+{
     match lost {
         None => Loss::None,
         Some(Lost::Request) => Loss::BeforeServe,

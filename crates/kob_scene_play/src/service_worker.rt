@@ -8,7 +8,7 @@ ghost use Rattle.kob_outbox.specs.Reading.{first_after, state_at};
 ghost use Rattle.kob_router.specs.Run.Move.{Recorded as RecordedMove, Restarted, Swept};
 ghost use Rattle.kob_scene_play.specs.Workers.{Does, IsServiceTick};
 
-use crate::fault::{PlayFault, line_fault, unless};
+use crate::fault::{PlayFault, line_fault, loses_first, unless};
 use kob_lines::{Loss, Lossy, RecordedLine};
 use kob_names::{Host, PlainValue, Principal};
 use kob_outbox::{Change, Outbox, OutboxEvent, OutboxFault, RecordFault, Row};
@@ -101,7 +101,7 @@ impl ServiceWorker {
         recorded: &mut Recorded,
         loss: Loss,
     ) -> Result<Tick, PlayFault>
-        ensures { IfOk result (IsServiceTick self.old self.new) }
+        ensures { IfOk result (IsServiceTick loss self.old self.new) }
     {
         let principal = self.principal.copy(alloc)?;
         let host = self.host.copy(alloc)?;
@@ -110,8 +110,9 @@ impl ServiceWorker {
         line.lose(loss);
         let tick = self.router.tick(alloc, &mut self.outbox, &mut line);
         let fault = stopped_by(&tick).or(line_fault(&line));
+        let is_lost = loses_first(loss, &line.calls.made);
         drop(line);
-        let tick = unless(fault, tick)?;
+        let tick = unless(fault, is_lost, tick)?;
         Ok(tick)
     }
 
