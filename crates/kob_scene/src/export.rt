@@ -145,9 +145,15 @@ fn push_topics(out: &mut Vec<u8>, topics: &[Topic]) -> Result<(), AllocError>
     ensures { OnOk result (out.new.items ≡ out.old.items ++ flat_map topic_line topics.now) }
 {
     for topic in topics {
-        export_topic(out, topic.name.as_str(), topic.partitions)?;
+        push_topic(out, topic)?;
     }
     Ok(())
+}
+
+fn push_topic(out: &mut Vec<u8>, topic: &Topic) -> Result<(), AllocError>
+    ensures { OnOk result (out.new.items ≡ out.old.items ++ topic_line topic.now) }
+{
+    export_topic(out, topic.name.as_str(), topic.partitions)
 }
 
 #[tactic(auto, using(kob_words::proofs::Appending::appending))]

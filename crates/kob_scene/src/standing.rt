@@ -1,10 +1,10 @@
 //! The topics that stand after the requests of a scene.
 
-ghost use Rattle.std.specs.Prelude.{◌≡◌, OnOk};
+ghost use Rattle.std.specs.Prelude.{◌≡◌, filter, OnOk};
 ghost use Rattle.kob_broker.specs.Change.{state_of};
 ghost use Rattle.kob_broker.specs.Step.{state_after};
 ghost use Rattle.kob_partition.specs.Retained.{retained_meaning};
-ghost use Rattle.kob_scene.specs.Standing.{topics_after, topics_done};
+ghost use Rattle.kob_scene.specs.Standing.{is_other, topics_after, topics_done};
 ghost use Rattle.kob_rights.specs.declared.request.Request.TheVariants as requests;
 
 use kob_broker::Broker;
@@ -70,7 +70,7 @@ fn note_done(alloc: Global, topics: &mut Vec<Topic>, request: &Request) -> Resul
     match request {
         Request::CreateTopics(asked) => push_topic(alloc, topics, asked),
         Request::DeleteTopics(asked) => {
-            topics.retain(|topic| topic.name != asked.name);
+            remove_topic(topics, &asked.name);
             Ok(())
         }
         _ => Ok(()),
@@ -91,4 +91,10 @@ fn push_topic(
         partitions: asked.partitions,
     })?;
     Ok(())
+}
+
+fn remove_topic(topics: &mut Vec<Topic>, name: &Text)
+    ensures { topics.new.items ≡ filter (is_other name.now) topics.old.items }
+{
+    topics.retain(|topic| topic.name != *name);
 }

@@ -113,7 +113,6 @@ impl<'a, W: Write> Output<'a, W> {
     }
 
     /// Writes the lines that are whole, and `stopped after M` with the number of the last answer.
-    #[tactic(auto, using(crate::proofs::Printed::written_behind))]
     pub fn stop(&mut self) -> Result<(), PlayFault>
         ensures same_writer { self.new.writer.ghost_name ≡ self.old.writer.ghost_name }
         ensures written { OnOk result (Appends (W.contents self.old.writer.now)
