@@ -22,14 +22,23 @@ const JUDGED: [(u64, u64, u64, Judgement); 4] = [
     (1, 2, 1, Judgement::OutOfOrder),
 ];
 
+fn accept(
+    table: &mut ProducerTable,
+    idem: &Idem,
+    count: u64,
+    offset: u64,
+) -> Result<(), AllocError> {
+    table.reserve(idem)?;
+    table.accept(idem, count, offset);
+    Ok(())
+}
+
 /// Whether the table, once it has accepted as many records as there are sequences below the
 /// greatest, takes the three that follow, and judges so then.
 fn wraps(table: &mut ProducerTable) -> Result<bool, AllocError> {
-    table.reserve(&batch(0, 0))?;
-    table.accept(&batch(0, 0), LAST, 0);
+    accept(table, &batch(0, 0), LAST, 0)?;
     let follows = table.judge(&batch(0, LAST), 3) == Judgement::Next;
-    table.reserve(&batch(0, LAST))?;
-    table.accept(&batch(0, LAST), 3, LAST);
+    accept(table, &batch(0, LAST), 3, LAST)?;
     Ok(follows && judges(table))
 }
 
