@@ -1,5 +1,8 @@
 //! Whether the laws of delivery speak of a service and a consumer, and what its inbox shows.
 
+ghost use Rattle.std.specs.Prelude.{◌≡◌};
+
+use crate::consumer_worker::ConsumerWorker;
 use crate::fault::PlayFault;
 use crate::order::first_out_of_order;
 use crate::output::Output;
@@ -23,16 +26,17 @@ pub(crate) fn show_law<W: Write>(
     service: usize,
     consumer: usize,
     out: &mut Output<'_, W>,
-) -> Result<(), PlayFault> {
+) -> Result<(), PlayFault>
+    ensures recorded { stage.new.recorded ≡ stage.old.recorded }
+    ensures services { stage.new.services ≡ stage.old.services }
+{
     let Some(sender) = stage.services.get(service) else {
         return Err(PlayFault::NoWorker);
     };
     let Some(taker) = stage.consumers.get_mut(consumer) else {
         return Err(PlayFault::NoWorker);
     };
-    let rows = rows_of(alloc, sender, steps)?;
-    let inbox = taker.consumer.rows()?;
-    let out_of_order = first_out_of_order(alloc, &rows, &inbox)?;
+    let misplaced = misplaced_row(alloc, sender, steps, &mut taker.consumer)?;
     let subscription = taker.consumer.subscription();
     let breach = first_breach(
         stage.recorded.journal(),
@@ -41,11 +45,38 @@ pub(crate) fn show_law<W: Write>(
         &subscription.group,
         subscription.assignment.as_slice(),
     );
+    print_law(subscription, breach, misplaced, out)
+}
+
+fn print_law<W: Write>(
+    subscription: &Subscription,
+    breach: Option<Breach>,
+    misplaced: Option<u64>,
+    out: &mut Output<'_, W>,
+) -> Result<(), PlayFault> {
     let number = out.number();
     push_number(&mut out.text, number)?;
     push_breach(&mut out.text, subscription, breach)?;
-    push_order(&mut out.text, out_of_order)?;
+    push_order(&mut out.text, misplaced)?;
     out.tell()
+}
+
+/// The place of the first row of the inbox that is out of order.
+fn misplaced_row(
+    alloc: Global,
+    sender: &PlayedService,
+    steps: &[Step],
+    consumer: &mut ConsumerWorker,
+) -> Result<Option<u64>, PlayFault> {
+    let inbox = consumer.rows()?;
+    let Ok(rows) = rows_of(alloc, sender, steps) else {
+        drop(inbox);
+        return Err(PlayFault::Memory);
+    };
+    match first_out_of_order(alloc, &rows, &inbox) {
+        Ok(place) => Ok(place),
+        Err(_) => Err(PlayFault::Memory),
+    }
 }
 
 /// The events that the service recorded, in their order.

@@ -86,22 +86,43 @@ fn recorded_by(alloc: Global, settings: Settings) -> Result<Recorded, PlayFault>
 fn all_services(alloc: Global, services: Vec<Service>) -> Result<Vec<PlayedService>, PlayFault> {
     let mut all = Vec::new(alloc);
     for service in services {
-        let Service {
-            name,
-            worker,
-            principal,
-            host,
-            routed,
-            settings: _,
-        } = service;
-        let service = ServiceWorker::open(alloc, worker, principal, host, routed.into_target())?;
-        all.push(PlayedService {
-            name,
-            service,
-            recorded_by: Vec::new(alloc),
-        })?;
+        add_service(alloc, &mut all, service)?;
     }
     Ok(all)
+}
+
+/// Adds a service that has made no step.
+fn add_service(
+    alloc: Global,
+    all: &mut Vec<PlayedService>,
+    service: Service,
+) -> Result<(), PlayFault> {
+    let Ok(()) = all.reserve(1) else {
+        drop(service);
+        return Err(PlayFault::Memory);
+    };
+    let Service {
+        name,
+        worker,
+        principal,
+        host,
+        routed,
+        settings: _,
+    } = service;
+    match ServiceWorker::open(alloc, worker, principal, host, routed.into_target()) {
+        Ok(service) => {
+            all.push_reserved(PlayedService {
+                name,
+                service,
+                recorded_by: Vec::new(alloc),
+            });
+            Ok(())
+        }
+        Err(fault) => {
+            drop(name);
+            Err(fault)
+        }
+    }
 }
 
 fn all_consumers(
@@ -110,15 +131,36 @@ fn all_consumers(
 ) -> Result<Vec<PlayedConsumer>, PlayFault> {
     let mut all = Vec::new(alloc);
     for consumer in consumers {
-        let Consumer {
-            name,
-            worker,
-            principal,
-            host,
-            subscription,
-        } = consumer;
-        let consumer = ConsumerWorker::open(alloc, worker, principal, host, subscription)?;
-        all.push(PlayedConsumer { name, consumer })?;
+        add_consumer(alloc, &mut all, consumer)?;
     }
     Ok(all)
+}
+
+/// Adds a consumer that has made no step.
+fn add_consumer(
+    alloc: Global,
+    all: &mut Vec<PlayedConsumer>,
+    consumer: Consumer,
+) -> Result<(), PlayFault> {
+    let Ok(()) = all.reserve(1) else {
+        drop(consumer);
+        return Err(PlayFault::Memory);
+    };
+    let Consumer {
+        name,
+        worker,
+        principal,
+        host,
+        subscription,
+    } = consumer;
+    match ConsumerWorker::open(alloc, worker, principal, host, subscription) {
+        Ok(consumer) => {
+            all.push_reserved(PlayedConsumer { name, consumer });
+            Ok(())
+        }
+        Err(fault) => {
+            drop(name);
+            Err(fault)
+        }
+    }
 }
