@@ -42,7 +42,10 @@ impl Patterns {
     {
         let mut patterns = Patterns::new();
         for entry in entries {
-            patterns.add(alloc, entry)?;
+            let Ok(()) = patterns.add(alloc, entry) else {
+                drop(patterns);
+                return Err(AllocError);
+            };
         }
         Ok(patterns)
     }

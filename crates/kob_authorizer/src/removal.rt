@@ -1,9 +1,11 @@
 //! What a deletion takes out of the trees: of those of the patterns all serials of a place at once,
 //! of that of the keys one serial at a time, since few bindings stand at one key.
 
-ghost use Rattle.std.specs.Prelude.{◌≡◌, IfOk, map};
+ghost use Rattle.std.specs.Prelude.{◌≡◌, IfOk, OnOk, [], map};
+ghost use Rattle.std.specs.List.{fold};
 ghost use Rattle.kob_authorizer.specs.Places.{addition, key_place};
 ghost use Rattle.kob_authorizer.specs.Removal.{is_first_there, removal_of, removals_of};
+ghost use Rattle.kob_authorizer.specs.Removal.{with_removal};
 
 use crate::key::{binding_key, kind_in_tree};
 use crate::patterns::Patterns;
@@ -66,18 +68,51 @@ impl Removal {
 /// All that goes from the trees of the patterns with these entries, each place once.
 ///
 /// Their patterns are put into trees of their own, so that each place gives its serials at once.
-#[tactic(auto, using(std::proofs::lemmas::List::Sums::fold_more))]
 pub fn removals_of(alloc: Global, taken: &[(u64, Binding)]) -> Result<Vec<Removal>, AllocError>
     ensures { IfOk result (λ made. made.items ≡ removals_of taken.now) }
 {
     let patterns = Patterns::of(alloc, taken)?;
+    let removals = removals_among(alloc, &patterns, taken);
+    drop(patterns);
+    removals
+}
+
+/// All that stands among these patterns where the entries do, each place once.
+#[tactic(auto, using(std::proofs::lemmas::List::Sums::fold_more))]
+fn removals_among(
+    alloc: Global,
+    patterns: &Patterns,
+    taken: &[(u64, Binding)],
+) -> Result<Vec<Removal>, AllocError>
+    ensures { IfOk result (λ made. made.items
+        ≡ fold (with_removal patterns.now) [] taken.now) }
+{
     let mut removals = Vec::new(alloc);
     for entry in taken {
-        if is_first_there(&patterns, entry) {
-            removals.push(Removal::of(alloc, &patterns, entry)?)?;
-        }
+        let Ok(()) = put_removal(alloc, &mut removals, patterns, entry) else {
+            drop(removals);
+            return Err(AllocError);
+        };
     }
     Ok(removals)
+}
+
+/// Puts all that stands where this entry does behind the others, if its place is met first.
+fn put_removal(
+    alloc: Global,
+    removals: &mut Vec<Removal>,
+    patterns: &Patterns,
+    entry: &(u64, Binding),
+) -> Result<(), AllocError>
+    ensures { OnOk result (removals.new.items
+        ≡ with_removal patterns.now removals.old.items entry.now) }
+{
+    if !is_first_there(patterns, entry) {
+        return Ok(());
+    }
+    let removal = Removal::of(alloc, patterns, entry)?;
+    removals.push(removal)?;
+    Ok(())
 }
 
 /// Whether no other entry stands before this one where it does.
