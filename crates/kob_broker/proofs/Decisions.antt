@@ -43,6 +43,14 @@ placed_makes broker produce own placed prepared same is makes =
     subst (MakesFor (requests.Produce produce) broker)
     (sym (is ∙ ap (λ (p : Produce). prepared_for p placed) same)) makes
 
+pub placed_makes_ok : {E : Type 0} (broker : Broker) (produce : Produce) (placed : Placed) (result : Result Prepared E)
+    → IfOk result (λ prepared. prepared ≡ prepared_for produce placed)
+    → MakesFor (requests.Produce produce) broker (prepared_for produce placed)
+    → IfOk result (MakesFor (requests.Produce produce) broker)
+placed_makes_ok broker produce placed (Ok prepared) is makes =
+    subst (MakesFor (requests.Produce produce) broker) (sym is) makes
+placed_makes_ok broker produce placed (Err fault) is makes = tt
+
 -- what makes the effect of a request for whoever asks makes it for the event that has it
 pub made_for : (broker : Broker) (request : Request) (event : Event) (prepared : Prepared) → event.request ≡ request
     → MakesFor request broker prepared

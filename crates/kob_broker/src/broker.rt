@@ -42,22 +42,13 @@ impl Broker {
         ensures many { IsErrOf result OpenFault.TooMany → create_fault [] 1 settings.opening
             ≡ Some limits.TooMany }
     {
-        let Settings {
-            supers,
-            opening,
-            everyone,
-        } = settings;
-        let mut authorizer = Authorizer::open(alloc, supers.into_vec(), everyone);
-        match authorizer.create(alloc, opening.as_slice()) {
-            Ok(_) => Ok(Broker {
-                catalog: Catalog::new(alloc),
-                groups: Groups::new(alloc),
-                authorizer,
-                next_producer: 0,
-            }),
-            Err(CreateFault::TooMany) => Err(OpenFault::TooMany),
-            Err(_) => Err(OpenFault::Memory),
-        }
+        let authorizer = opened_authorizer(alloc, settings)?;
+        Ok(Broker {
+            catalog: Catalog::new(alloc),
+            groups: Groups::new(alloc),
+            authorizer,
+            next_producer: 0,
+        })
     }
 
     /// The super users and the switch, and the bindings in force now as the opening list, in rising
@@ -67,7 +58,10 @@ impl Broker {
         ensures { IfOk result (λ settings. settings ≡ settings_of (state_of self.now)) }
     {
         let supers = Items::copied(alloc, self.authorizer.supers())?;
-        let opening = bindings_of(alloc, self.authorizer.entries())?;
+        let Ok(opening) = bindings_of(alloc, self.authorizer.entries()) else {
+            drop(supers);
+            return Err(AllocError);
+        };
         Ok(Settings {
             supers,
             opening,
@@ -120,10 +114,17 @@ impl Broker {
         ensures state { state_of self.new ≡ state_of self.old }
         ensures ok { IfOk result (Makes (step retained_meaning (state_of self.new) event) self.new) }
     {
-        if let Some(denial) = denial_of(alloc, &self.authorizer, &event)? {
-            return Ok(Prepared::new(denial, Change::Unchanged));
+        match denial_of(alloc, &self.authorizer, &event) {
+            Ok(None) => self.prepare_effect_owned(alloc, event),
+            Ok(Some(denied)) => {
+                drop(event);
+                Ok(Prepared::new(denied, Change::Unchanged))
+            }
+            Err(error) => {
+                drop(event);
+                Err(error)
+            }
         }
-        self.prepare_effect_owned(alloc, event)
     }
 
     /// Decides on the request of an event that is given away, whose rights are granted.
@@ -252,7 +253,57 @@ impl Broker {
     }
 }
 
-ghost use Rattle.std.specs.Prelude.{◌≡◌, IfOk, map};
+ghost use Rattle.std.specs.Prelude.{◌≡◌, ◌++◌, ◌∷◌, [], IfOk, IsErrOf, OnOk, Some, None, map};
+ghost use Rattle.kob_authorizer.specs.Contents.{fresh_contents};
+ghost use Rattle.kob_authorizer.specs.Passing.{create_fault};
+ghost use Rattle.kob_authorizer.specs.declared.fault.CreateFault.TheVariants as limits;
+ghost use Rattle.kob_broker.specs.State.{with_bindings};
+
+/// An authorizer with these super users, and the opening bindings in force.
+fn opened_authorizer(alloc: Global, settings: Settings) -> Result<Authorizer, OpenFault>
+    ensures ok { IfOk result (λ authorizer. authorizer.contents ≡ with_bindings settings.opening
+        (fresh_contents settings.supers settings.everyone)) }
+    ensures few { OnOk result (create_fault [] 1 settings.opening ≡ None) }
+    ensures many { IsErrOf result OpenFault.TooMany → create_fault [] 1 settings.opening
+        ≡ Some limits.TooMany }
+{
+    let Settings {
+        supers,
+        opening,
+        everyone,
+    } = settings;
+    let mut authorizer = Authorizer::open(alloc, supers.into_vec(), everyone);
+    let made = put_in_force(alloc, &mut authorizer, opening.as_slice());
+    drop(opening);
+    match made {
+        Ok(()) => Ok(authorizer),
+        Err(fault) => {
+            drop(authorizer);
+            Err(fault)
+        }
+    }
+}
+
+/// Puts bindings in force.
+fn put_in_force(
+    alloc: Global,
+    authorizer: &mut Authorizer,
+    bindings: &[Binding],
+) -> Result<(), OpenFault>
+    ensures ok { OnOk result (authorizer.new.contents
+        ≡ with_bindings bindings.now authorizer.old.contents) }
+    ensures few { OnOk result (create_fault authorizer.old.contents.entries
+        authorizer.old.contents.next bindings.now ≡ None) }
+    ensures many { IsErrOf result OpenFault.TooMany → create_fault
+        authorizer.old.contents.entries authorizer.old.contents.next bindings.now
+        ≡ Some limits.TooMany }
+{
+    match authorizer.create(alloc, bindings) {
+        Ok(_) => Ok(()),
+        Err(CreateFault::TooMany) => Err(OpenFault::TooMany),
+        Err(_) => Err(OpenFault::Memory),
+    }
+}
 
 /// Copies of the bindings, without their serials.
 fn bindings_of(alloc: Global, entries: &[(u64, Binding)]) -> Result<Items<Binding>, AllocError>
@@ -260,7 +311,19 @@ fn bindings_of(alloc: Global, entries: &[(u64, Binding)]) -> Result<Items<Bindin
 {
     let mut bindings = Vec::new(alloc);
     for entry in entries {
-        bindings.push(entry.1.copy(alloc)?)?;
+        let Ok(()) = put_copy(alloc, &mut bindings, &entry.1) else {
+            drop(bindings);
+            return Err(AllocError);
+        };
     }
     Ok(Items::from_vec(bindings))
+}
+
+/// Puts a copy of a binding last.
+fn put_copy(alloc: Global, bindings: &mut Vec<Binding>, binding: &Binding) -> Result<(), AllocError>
+    ensures { OnOk result (bindings.new.items ≡ bindings.old.items ++ binding.now ∷ []) }
+{
+    let copy = binding.copy(alloc)?;
+    bindings.push(copy)?;
+    Ok(())
 }

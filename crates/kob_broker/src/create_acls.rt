@@ -1,6 +1,7 @@
 //! The creation of bindings.
 
-ghost use Rattle.std.specs.Prelude.{◌≡◌, IfOk, IfErr, OnOk, MatchResult, Some, None};
+ghost use Rattle.std.specs.Prelude.{◌≡◌, ◌++◌, ◌∷◌, [], IfOk, IfErr, OnOk, MatchResult, Some};
+ghost use Rattle.std.specs.Prelude.{None};
 ghost use Rattle.std.specs.List.{flat_map};
 ghost use Rattle.kob_broker.specs.Change.{MakesFor, state_of};
 ghost use Rattle.kob_broker.specs.CreateAcls.{draft_reasons, IsUnlessRefused};
@@ -45,12 +46,28 @@ fn bindings_of(alloc: Global, drafts: &[Draft]) -> Result<Vec<Binding>, DraftFau
 {
     let mut bindings = Vec::new(alloc);
     for draft in drafts {
-        let binding = binding_of(alloc, draft)?;
-        if bindings.push(binding).is_err() {
-            return Err(DraftFault::Memory);
+        match put_binding(alloc, &mut bindings, draft) {
+            Ok(()) => {}
+            Err(fault) => {
+                drop(bindings);
+                return Err(fault);
+            }
         }
     }
     Ok(bindings)
+}
+
+/// Puts the binding of a draft last, if it breaks no rule.
+fn put_binding(alloc: Global, bindings: &mut Vec<Binding>, draft: &Draft) -> Result<(), DraftFault>
+    ensures ok { OnOk result (bindings.new.items ≡ bindings.old.items ++ draft.now ∷ []) }
+    ensures allowed { OnOk result (first_reason (draft_reasons draft.now) ≡ None) }
+    ensures refused { IfErr result (IsUnlessRefused (first_reason (draft_reasons draft.now))) }
+{
+    let binding = binding_of(alloc, draft)?;
+    if bindings.push(binding).is_err() {
+        return Err(DraftFault::Memory);
+    }
+    Ok(())
 }
 
 impl Broker {

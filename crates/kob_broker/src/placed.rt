@@ -1,10 +1,12 @@
 //! Where a batch goes.
 
-ghost use Rattle.std.specs.Prelude.{◌≡◌};
+ghost use Rattle.std.specs.Prelude.{◌≡◌, IfOk};
 ghost use Rattle.kob_broker.specs.Placed.{prepared_for, refused_for};
 
 use crate::prepared::{Change, Prepared};
+use kob_names::PlainValue;
 use kob_rights::{Body, Produce, Reason, Reply};
+use std::alloc::{AllocError, Global};
 
 /// Where a batch goes, told before its request is copied or moved.
 #[derive(Drop)]
@@ -33,6 +35,19 @@ impl Placed {
                 reply: Reply::Done(Body::Offset(offset)),
                 change: Change::Append(produce),
             },
+        }
+    }
+
+    /// The same for a request that is copied if its batch goes last.
+    pub(crate) fn with_copy(self, alloc: Global, produce: &Produce) -> Result<Prepared, AllocError>
+        ensures { IfOk result (λ prepared. prepared ≡ prepared_for produce.now self) }
+    {
+        match self {
+            Placed::Nowhere(prepared) => Ok(prepared),
+            Placed::Last(offset) => {
+                let copy = produce.copy(alloc)?;
+                Ok(Prepared::done(Body::Offset(offset), Change::Append(copy)))
+            }
         }
     }
 }

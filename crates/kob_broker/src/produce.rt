@@ -13,7 +13,7 @@ use crate::limits::{BATCH_BYTE_LIMIT, EPOCH_LIMIT, RECORD_LIMIT, SEQUENCE_LIMIT}
 use crate::placed::Placed;
 use crate::prepared::{Change, Prepared};
 use kob_catalog::PartitionFault;
-use kob_names::{Batch, Idem, PlainValue};
+use kob_names::{Batch, Idem};
 use kob_partition::{AppendFault, Placement};
 use kob_rights::{Body, Produce, Reason};
 use std::alloc::{AllocError, Global};
@@ -27,10 +27,8 @@ impl Broker {
         ensures state { state_of self.new ≡ state_of self.old }
         ensures ok { IfOk result (MakesFor (requests.Produce produce.now) self.new) }
     {
-        match self.place(produce)? {
-            Placed::Nowhere(prepared) => Ok(prepared),
-            placed => Ok(placed.with_request(produce.copy(alloc)?)),
-        }
+        let placed = self.place(produce)?;
+        placed.with_copy(alloc, produce)
     }
 
     /// The same of a request that is given away: it is moved.
@@ -38,7 +36,13 @@ impl Broker {
         ensures state { state_of self.new ≡ state_of self.old }
         ensures ok { IfOk result (MakesFor (requests.Produce produce) self.new) }
     {
-        Ok(self.place(&produce)?.with_request(produce))
+        match self.place(&produce) {
+            Ok(placed) => Ok(placed.with_request(produce)),
+            Err(error) => {
+                drop(produce);
+                Err(error)
+            }
+        }
     }
 
     /// Where the batch goes, with room for it there; nothing is copied, and the topic is looked up
