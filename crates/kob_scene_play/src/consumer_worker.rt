@@ -5,6 +5,7 @@ ghost use Rattle.std.specs.List.{enumerate_from};
 ghost use Rattle.kob_inbox.specs.Rows.{placed_intake};
 ghost use Rattle.kob_inbox.specs.Run.Move.{Restarted};
 ghost use Rattle.kob_inbox.specs.Run.{start};
+ghost use Rattle.kob_inbox.specs.Tick.{state_of};
 ghost use Rattle.kob_scene_play.specs.Workers.{Consumes, IsConsumerTick, consumer_state};
 
 use crate::fault::{PlayFault, line_fault, loses_first, unless};
@@ -58,20 +59,22 @@ impl ConsumerWorker {
         ensures subscription { IfOk result (λ w. w.fetcher.subscription ≡ subscription) }
         ensures state { IfOk result (λ w. consumer_state w ≡ start) }
     {
-        let Subscription {
-            group,
-            assignment,
-            max,
-        } = subscription.copy(alloc)?;
-        let inbox = Inbox::open_in_memory(alloc)?;
-        Ok(ConsumerWorker {
-            worker,
-            principal,
-            host,
-            subscription,
-            consumer: Consumer::new(alloc, group, assignment, max),
-            inbox,
-        })
+        match opened(alloc, &subscription) {
+            Ok((consumer, inbox)) => Ok(ConsumerWorker {
+                worker,
+                principal,
+                host,
+                subscription,
+                consumer,
+                inbox,
+            }),
+            Err(fault) => {
+                drop(principal);
+                drop(host);
+                drop(subscription);
+                Err(fault)
+            }
+        }
     }
 
     /// Its number in the journal.
@@ -125,6 +128,24 @@ impl ConsumerWorker {
     {
         self.inbox.taken()
     }
+}
+
+/// A consumer that knows no position, and an empty inbox.
+fn opened(alloc: Global, subscription: &Subscription) -> Result<(Consumer, Inbox), PlayFault>
+    ensures subscription { IfOk result (λ made. made.0.subscription ≡ subscription.now) }
+    ensures state { IfOk result (λ made. state_of made.0 made.1 ≡ start) }
+{
+    let inbox = Inbox::open_in_memory(alloc)?;
+    let Ok(copy) = subscription.copy(alloc) else {
+        drop(inbox);
+        return Err(PlayFault::Memory);
+    };
+    let Subscription {
+        group,
+        assignment,
+        max,
+    } = copy;
+    Ok((Consumer::new(alloc, group, assignment, max), inbox))
 }
 
 /// Why a tick that memory or the database stopped did.

@@ -1,8 +1,11 @@
 //! A scene is played.
 
-ghost use Rattle.std.specs.Prelude.{◌≡◌, OnOk};
+ghost use Rattle.std.specs.Prelude.{◌≡◌, OnOk, length, slice_get};
+ghost use Rattle.std.specs.Io.KnownBytes.{Appends};
 ghost use Rattle.kob_router.specs.Line.{one_more};
-ghost use Rattle.kob_scene_play.specs.Printing.{Prints};
+ghost use Rattle.kob_scene_play.specs.Printing.{Prints, Writes};
+ghost use Rattle.kob_scene_play.specs.Stages.{ArePlayed, CountsConsumer, CountsService, IsPlayed, IsRead, IsServed, IsStep, OthersStay};
+ghost use Rattle.kob_scene_play.specs.Steps.{Tells};
 ghost use Rattle.kob_script.specs.PrintedReply.{reply_text};
 ghost use Rattle.kob_shared.specs.Journals.{after_event, outcome_of};
 
@@ -14,19 +17,24 @@ use crate::output::Output;
 use crate::service_steps::play_service;
 use crate::stage::Stage;
 use kob_rights::Event;
-use kob_scene_text::{Scene, Step};
+use kob_scene_text::{ConsumerStep, Scene, ServiceStep, Step};
 use kob_script::print_reply;
 use kob_shared::Recorded;
 use std::alloc::Global;
 use std::io::Write;
 
-/// Plays a scene, one step after another, and tells what each answers. After a fault the answers of
-/// the steps before it are told.
+/// Plays a scene, one step after another, and prints what each answers; what is held by the output
+/// is written with it. After a fault the answers of the steps before it are printed.
+#[tactic(auto, using(crate::proofs::Playing::written_whole))]
 pub fn play<W: Write>(
     alloc: Global,
     scene: Scene,
     out: &mut Output<'_, W>,
-) -> Result<(), PlayFault> {
+) -> Result<(), PlayFault>
+    ensures same_writer { out.new.writer.ghost_name ≡ out.old.writer.ghost_name }
+    ensures played { OnOk result (Writes (IsPlayed scene out.old.told)
+        (W.contents out.old.writer.now) out.old.text.items (W.contents out.new.writer.now)) }
+{
     let Scene {
         settings,
         services,
@@ -34,37 +42,99 @@ pub fn play<W: Write>(
         steps,
     } = scene;
     let mut stage = Stage::open(alloc, settings, services, consumers)?;
-    for place in 0..steps.len() {
-        play_step(alloc, &mut stage, &steps, place, out)?;
-    }
+    play_steps(alloc, &mut stage, &steps, out)?;
     out.finish()
 }
 
-/// Plays the step at a place that the scene has.
+/// Plays all steps.
+#[tactic(auto, using(crate::proofs::Playing::no_step, crate::proofs::Playing::one_step_more))]
+fn play_steps<W: Write>(
+    alloc: Global,
+    stage: &mut Stage,
+    steps: &[Step],
+    out: &mut Output<'_, W>,
+) -> Result<(), PlayFault>
+    ensures { OnOk result (Tells (ArePlayed (length steps.now) steps.now stage.old stage.new
+        out.old.told out.new.told) (W.contents out.old.writer.now) out.old.text.items
+        (W.contents out.new.writer.now) out.new.text.items) }
+{
+    for place in 0..steps.len() {
+        play_step(alloc, stage, steps, place, out)?;
+    }
+    Ok(())
+}
+
+/// Plays the step at a place of the scene.
+#[tactic(auto, using(crate::proofs::Playing::no_such_step, crate::proofs::Playing::request_played, crate::proofs::Playing::service_played, crate::proofs::Playing::consumer_played, crate::proofs::Playing::journal_played, crate::proofs::Playing::law_played))]
 fn play_step<W: Write>(
     alloc: Global,
     stage: &mut Stage,
     steps: &[Step],
     place: usize,
     out: &mut Output<'_, W>,
-) -> Result<(), PlayFault> {
+) -> Result<(), PlayFault>
+    ensures { OnOk result (Tells (IsStep (slice_get steps.now place) stage.old stage.new
+        out.old.told out.new.told) (W.contents out.old.writer.now) out.old.text.items
+        (W.contents out.new.writer.now) out.new.text.items) }
+{
     match steps.get(place) {
         None => Ok(()),
         Some(Step::Request(event)) => play_request(alloc, &mut stage.recorded, event, out),
-        Some(Step::Service(which, step)) => match stage.services.get_mut(*which) {
-            Some(played) => play_service(alloc, &mut stage.recorded, played, place, step, out),
-            None => Err(PlayFault::NoWorker),
-        },
-        Some(Step::Consumer(which, step)) => match stage.consumers.get_mut(*which) {
-            Some(played) => {
-                play_consumer(alloc, &mut stage.recorded, &mut played.consumer, step, out)
-            }
-            None => Err(PlayFault::NoWorker),
-        },
+        Some(Step::Service(which, step)) => {
+            play_service_at(alloc, stage, *which, place, step, out)
+        }
+        Some(Step::Consumer(which, step)) => play_consumer_at(alloc, stage, *which, step, out),
         Some(Step::Journal) => show_journal(stage, out),
         Some(Step::Law { service, consumer }) => {
             show_law(alloc, stage, steps, *service, *consumer, out)
         }
+    }
+}
+
+/// Plays a step of the service at this place of the stage.
+#[tactic(auto, using(crate::proofs::Playing::served))]
+fn play_service_at<W: Write>(
+    alloc: Global,
+    stage: &mut Stage,
+    which: usize,
+    place: usize,
+    step: &ServiceStep,
+    out: &mut Output<'_, W>,
+) -> Result<(), PlayFault>
+    ensures consumers { stage.new.consumers ≡ stage.old.consumers }
+    ensures others { OthersStay which stage.old.services.items stage.new.services.items }
+    ensures done { OnOk result (Tells (IsServed which step.now stage.old.services.items
+        stage.new.services.items out.old.told) (W.contents out.old.writer.now) out.old.text.items
+        (W.contents out.new.writer.now) out.new.text.items) }
+    ensures told { OnOk result (CountsService step.now out.old.told out.new.told) }
+{
+    match stage.services.get_mut(which) {
+        Some(played) => play_service(alloc, &mut stage.recorded, played, place, step, out),
+        None => Err(PlayFault::NoWorker),
+    }
+}
+
+/// Plays a step of the consumer at this place of the stage.
+#[tactic(auto, using(crate::proofs::Playing::read))]
+fn play_consumer_at<W: Write>(
+    alloc: Global,
+    stage: &mut Stage,
+    which: usize,
+    step: &ConsumerStep,
+    out: &mut Output<'_, W>,
+) -> Result<(), PlayFault>
+    ensures services { stage.new.services ≡ stage.old.services }
+    ensures others { OthersStay which stage.old.consumers.items stage.new.consumers.items }
+    ensures done { OnOk result (Tells (IsRead which step.now stage.old.consumers.items
+        stage.new.consumers.items out.old.told) (W.contents out.old.writer.now) out.old.text.items
+        (W.contents out.new.writer.now) out.new.text.items) }
+    ensures told { OnOk result (CountsConsumer step.now out.old.told out.new.told) }
+{
+    match stage.consumers.get_mut(which) {
+        Some(played) => {
+            play_consumer(alloc, &mut stage.recorded, &mut played.consumer, step, out)
+        }
+        None => Err(PlayFault::NoWorker),
     }
 }
 

@@ -1,7 +1,10 @@
 //! What a scene is played on.
 
-ghost use Rattle.std.specs.Prelude.{IfOk};
-ghost use Rattle.kob_shared.specs.Openings.{IsFresh};
+ghost use Rattle.std.specs.Prelude.{◌≡◌, ◌++◌, ◌∷◌, [], IfOk, OnOk, map};
+ghost use Rattle.kob_broker.specs.Change.{state_of};
+ghost use Rattle.kob_broker.specs.State.{settings_of};
+ghost use Rattle.kob_scene_play.specs.Stages.{IsOpened, declared_consumer, declared_service, named_consumer, named_service};
+ghost use Rattle.kob_shared.specs.Openings.{IsFresh, opened_by};
 
 use crate::consumer_worker::ConsumerWorker;
 use crate::fault::PlayFault;
@@ -42,7 +45,13 @@ impl Stage {
         settings: Settings,
         services: Vec<Service>,
         consumers: Vec<Consumer>,
-    ) -> Result<Stage, PlayFault> {
+    ) -> Result<Stage, PlayFault>
+        ensures broker { IfOk result (IsOpened settings) }
+        ensures services { IfOk result (λ stage. map named_service stage.services.items
+            ≡ map declared_service services.items) }
+        ensures consumers { IfOk result (λ stage. map named_consumer stage.consumers.items
+            ≡ map declared_consumer consumers.items) }
+    {
         let recorded = recorded_by(alloc, settings)?;
         let services = all_services(alloc, services)?;
         let consumers = all_consumers(alloc, consumers)?;
@@ -69,56 +78,118 @@ impl Stage {
     }
 }
 
-fn broker_by(alloc: Global, settings: Settings) -> Result<Broker, OpenFault>
-    ensures { IfOk result IsFresh }
-{
-    Broker::open(alloc, settings)
-}
-
 // A scene opens no bindings, so that out of memory is the only fault.
-fn recorded_by(alloc: Global, settings: Settings) -> Result<Recorded, PlayFault> {
+fn recorded_by(alloc: Global, settings: Settings) -> Result<Recorded, PlayFault>
+    ensures { IfOk result (λ recorded. recorded ≡ record {
+      opening = settings_of (opened_by settings);
+      limit = 1000000;
+      journal = [];
+      broker = opened_by settings;
+    }) }
+{
     let Ok(broker) = broker_by(alloc, settings) else {
         return Err(PlayFault::Memory);
     };
     Ok(Recorded::open(alloc, broker, ENTRY_LIMIT)?)
 }
 
-fn all_services(alloc: Global, services: Vec<Service>) -> Result<Vec<PlayedService>, PlayFault> {
+fn broker_by(alloc: Global, settings: Settings) -> Result<Broker, OpenFault>
+    ensures fresh { IfOk result IsFresh }
+    ensures state { IfOk result (λ broker. state_of broker ≡ opened_by settings) }
+{
+    Broker::open(alloc, settings)
+}
+
+fn all_services(alloc: Global, services: Vec<Service>) -> Result<Vec<PlayedService>, PlayFault>
+    ensures { IfOk result (λ all. map named_service all.items
+        ≡ map declared_service services.items) }
+{
     let mut all = Vec::new(alloc);
     for service in services {
-        let Service {
-            name,
-            worker,
-            principal,
-            host,
-            routed,
-            settings: _,
-        } = service;
-        let service = ServiceWorker::open(alloc, worker, principal, host, routed.into_target())?;
-        all.push(PlayedService {
-            name,
-            service,
-            recorded_by: Vec::new(alloc),
-        })?;
+        add_service(alloc, &mut all, service)?;
     }
     Ok(all)
+}
+
+/// Adds a service that has made no step.
+fn add_service(
+    alloc: Global,
+    all: &mut Vec<PlayedService>,
+    service: Service,
+) -> Result<(), PlayFault>
+    ensures { OnOk result (map named_service all.new.items
+        ≡ map named_service all.old.items ++ declared_service service ∷ []) }
+{
+    let Ok(()) = all.reserve(1) else {
+        drop(service);
+        return Err(PlayFault::Memory);
+    };
+    let Service {
+        name,
+        worker,
+        principal,
+        host,
+        routed,
+        settings: _,
+    } = service;
+    match ServiceWorker::open(alloc, worker, principal, host, routed.into_target()) {
+        Ok(service) => {
+            all.push_reserved(PlayedService {
+                name,
+                service,
+                recorded_by: Vec::new(alloc),
+            });
+            Ok(())
+        }
+        Err(fault) => {
+            drop(name);
+            Err(fault)
+        }
+    }
 }
 
 fn all_consumers(
     alloc: Global,
     consumers: Vec<Consumer>,
-) -> Result<Vec<PlayedConsumer>, PlayFault> {
+) -> Result<Vec<PlayedConsumer>, PlayFault>
+    ensures { IfOk result (λ all. map named_consumer all.items
+        ≡ map declared_consumer consumers.items) }
+{
     let mut all = Vec::new(alloc);
     for consumer in consumers {
-        let Consumer {
-            name,
-            worker,
-            principal,
-            host,
-            subscription,
-        } = consumer;
-        let consumer = ConsumerWorker::open(alloc, worker, principal, host, subscription)?;
-        all.push(PlayedConsumer { name, consumer })?;
+        add_consumer(alloc, &mut all, consumer)?;
     }
     Ok(all)
+}
+
+/// Adds a consumer that has made no step.
+fn add_consumer(
+    alloc: Global,
+    all: &mut Vec<PlayedConsumer>,
+    consumer: Consumer,
+) -> Result<(), PlayFault>
+    ensures { OnOk result (map named_consumer all.new.items
+        ≡ map named_consumer all.old.items ++ declared_consumer consumer ∷ []) }
+{
+    let Ok(()) = all.reserve(1) else {
+        drop(consumer);
+        return Err(PlayFault::Memory);
+    };
+    let Consumer {
+        name,
+        worker,
+        principal,
+        host,
+        subscription,
+    } = consumer;
+    match ConsumerWorker::open(alloc, worker, principal, host, subscription) {
+        Ok(consumer) => {
+            all.push_reserved(PlayedConsumer { name, consumer });
+            Ok(())
+        }
+        Err(fault) => {
+            drop(name);
+            Err(fault)
+        }
+    }
 }

@@ -1,7 +1,7 @@
 use Rattle.std.proofs.Common.{[], ap, ◌∙◌}
 use Rattle.kob_inbox.specs.Contents.{Contents}
 use Rattle.kob_inbox.specs.Run.{State}
-use Rattle.kob_scene_play.proofs.consumer_worker.ConsumerWorker.open.Goals as goal
+use Rattle.kob_scene_play.proofs.consumer_worker.opened.Goals as goal
 
 pub returns-clause-state : goal.returns-clause-state
 returns-clause-state c =
