@@ -1,4 +1,4 @@
--- Which options may stand together, and what has to stand beside them.
+-- Which options may be used together, and what has to be beside them.
 use Rattle.std.specs.Prelude.{◌==◌, ◌&&◌, ◌||◌, not, ℕ, Bool, false, List, [], ◌∷◌, length, nat_lt, count_by, codes, Option, Some, None}
 use Rattle.std.specs.Str.{str_eq_ignore_ascii_case}
 use Rattle.kob_acl_cli.specs.declared.args.CliArgs.{CliArgs}
@@ -95,7 +95,7 @@ abbrev pub is_bad_mix_of_convenience : CliArgs → Bool
 is_bad_mix_of_convenience args =
     convenience_with_others args || (idempotent_without_producer args || group_of_producer args)
 
--- options that may not stand together
+-- options that may not be used together
 abbrev pub is_bad_mix : CliArgs → Bool
 is_bad_mix args =
     is_bad_mix_of_holders args || (is_bad_mix_of_action args || is_bad_mix_of_convenience args)

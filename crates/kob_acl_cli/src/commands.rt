@@ -26,7 +26,7 @@ pub enum AclCommand {
 
 /// What the options ask for, as `kafka-acls` has it (Kafka's documentation, "Authorization and
 /// ACLs"): one `Create` with all bindings, a `Delete` for each binding or resource, or a `Describe`
-/// for each resource and principal. The first fault that stands is answered, in the order
+/// for each resource and principal. The first fault that applies is returned, in the order
 /// `NoAction`, `BadName` (the first principal, host, operation or pattern type that isn't read),
 /// `BadMix`, `NoResource`, `NoPrincipal`. `Memory` may come in place of any answer but `NoAction`.
 pub fn commands_of(alloc: Global, args: &CliArgs) -> Result<Vec<AclCommand>, CommandFault>

@@ -17,19 +17,19 @@ pub enum LineFault {
     Memory,
 }
 
-/// Why options are no command. The first fault that stands is answered, in the order of the
+/// Why options are no command. The first fault that applies is returned, in the order of the
 /// variants.
 #[derive(Debug, PartialEq, Eq, Error, Drop)]
 pub enum CommandFault {
-    #[error("exactly one of --add, --remove and --list is wanted")]
+    #[error("exactly one of --add, --remove and --list is required")]
     NoAction,
-    #[error("this word is no principal, host, operation or pattern type")]
+    #[error("this word is not a principal, host, operation or pattern type")]
     BadName(Text),
-    #[error("these options may not stand together")]
+    #[error("these options may not be used together")]
     BadMix,
-    #[error("a topic, group, cluster or transactional id is wanted")]
+    #[error("a topic, group, cluster or transactional id is required")]
     NoResource,
-    #[error("a principal is wanted")]
+    #[error("a principal is required")]
     NoPrincipal,
     #[error("out of memory")]
     Memory,

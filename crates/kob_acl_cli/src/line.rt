@@ -44,7 +44,7 @@ static FLAGS: [&str; 8] = [
 /// The options that the words give, as `clap` reads them: no abbreviations, and a value follows `=`
 /// or is the next word, which must not begin with `-` unless it is `-` alone. Options that name
 /// something may be repeated; `--resource-pattern-type`, `--bootstrap-server`, `--command-config`
-/// and flags stand once at most. `--force`, `--bootstrap-server` and `--command-config` have no
+/// and flags occur at most once. `--force`, `--bootstrap-server` and `--command-config` have no
 /// effect. `Usage` is whatever `clap` refuses for another cause than memory, bare words and
 /// `--help` too. The contract speaks by `clap`'s own account of what it takes and gives; what that
 /// is for a line is shown by tests.

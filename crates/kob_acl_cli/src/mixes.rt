@@ -1,4 +1,4 @@
-//! Which options may stand together, and what has to stand beside them.
+//! Which options may be used together, and what has to be beside them.
 
 ghost use Rattle.std.specs.Prelude.{◌≡◌};
 ghost use Rattle.kob_acl_cli.specs.Mixes as mixes;
@@ -13,7 +13,7 @@ pub fn has_one_action(args: &CliArgs) -> bool
     u8::from(args.add) + u8::from(args.remove) + u8::from(args.list) == 1
 }
 
-/// Options stand together that may not.
+/// Options are used together that may not be.
 pub fn is_bad_mix(args: &CliArgs) -> bool
     ensures { result ≡ mixes.is_bad_mix args.now }
 {

@@ -12,7 +12,7 @@ use crate::misread::{read_hosts, read_operations, read_pattern_type, read_princi
 use kob_names::{FilterPattern, Items, Operation, Permission, Principal};
 use std::alloc::{AllocError, Global};
 
-/// The words of a line, read, with what stands for those that aren't given.
+/// The words of a line, read, with defaults for those that aren't given.
 #[derive(Debug, Drop)]
 pub struct Parts {
     pub allowed: Holders,

@@ -113,7 +113,7 @@ impl Authorizer {
     /// no memory is taken.
     ///
     /// The principal and the host that ask are plain texts: `User:*` and `*` stand for all in
-    /// bindings alone, and a super user is told by equality. The name is not checked: any text
+    /// bindings alone, and a super user is found by equality. The name is not checked: any text
     /// can be asked for. Bindings are compared with it as KIP-290 says.
     pub fn authorize(
         &self,

@@ -11,14 +11,14 @@ use kob_names::{Binding, PatternKind, ResourceKind};
 use kob_prefix_tree::{Part, PrefixTree};
 use std::alloc::{AllocError, Global};
 
-/// What stands between the texts of a key: no byte of UTF-8.
+/// The separator between the texts of a key: no byte of UTF-8.
 pub const SEPARATOR: u8 = 255;
 
 /// The byte of the kind of resource, and principal, host and name, with the separator between them.
 ///
-/// No other kind, principal, host and name make the same key. A binding stands in the list of its
-/// pattern's kind, so that no more bindings stand in one list than there are permissions and
-/// operations to tell them apart: 22.
+/// No other kind, principal, host and name make the same key. A binding is in the list of its
+/// pattern's kind, so that no more bindings are in one list than there are permissions and
+/// operations to distinguish them: 22.
 #[tactic(auto, unfolding(crate::specs::Key::binding_key), using(crate::proofs::Keys::in_turn))]
 pub fn binding_key(alloc: Global, binding: &Binding) -> Result<Vec<u8>, AllocError>
     ensures { IfOk result (λ key. key.items ≡ binding_key binding.now) }

@@ -91,7 +91,7 @@ impl Patterns {
         }
     }
 
-    /// The serials that stand where the pattern of this entry does, in order.
+    /// The serials at the place of this entry's pattern, in order.
     pub fn serials_beside(&self, entry: &(u64, Binding)) -> Walk<'_>
         ensures { left_of result ≡ serials_beside self.now entry.now }
     {

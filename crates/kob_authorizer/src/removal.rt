@@ -1,5 +1,5 @@
 //! What a deletion takes out of the trees: of those of the patterns all serials of a place at once,
-//! of that of the keys one serial at a time, since few bindings stand at one key.
+//! of that of the keys one serial at a time, since few bindings are at one key.
 
 ghost use Rattle.std.specs.Prelude.{◌≡◌, IfOk, OnOk, [], map};
 ghost use Rattle.std.specs.List.{fold};
@@ -36,7 +36,7 @@ impl Model for Removal {
 }
 
 impl Removal {
-    /// All that stands among the patterns where this entry does.
+    /// All entries at this entry's place among the patterns.
     fn of(alloc: Global, patterns: &Patterns, entry: &(u64, Binding)) -> Result<Removal, AllocError>
         ensures { IfOk result (λ made. made ≡ removal_of patterns.now entry.now) }
     {
@@ -77,7 +77,7 @@ pub fn removals_of(alloc: Global, taken: &[(u64, Binding)]) -> Result<Vec<Remova
     removals
 }
 
-/// All that stands among these patterns where the entries do, each place once.
+/// All entries at the places of these among the patterns, each place once.
 #[tactic(auto, using(std::proofs::lemmas::List::Sums::fold_more))]
 fn removals_among(
     alloc: Global,
@@ -97,7 +97,7 @@ fn removals_among(
     Ok(removals)
 }
 
-/// Puts all that stands where this entry does behind the others, if its place is met first.
+/// Appends all entries at this entry's place, if its place is met first.
 fn put_removal(
     alloc: Global,
     removals: &mut Vec<Removal>,
@@ -115,7 +115,7 @@ fn put_removal(
     Ok(())
 }
 
-/// Whether no other entry stands before this one where it does.
+/// Whether no other entry is before this one at its place.
 fn is_first_there(patterns: &Patterns, entry: &(u64, Binding)) -> bool
     ensures { result ≡ is_first_there patterns.now entry.now }
 {

@@ -108,7 +108,7 @@ impl Broker {
         }
     }
 
-    /// The first step for an event that is given away: the same as [`prepare`](Broker::prepare), but
+    /// The first step for an event that is moved: the same as [`prepare`](Broker::prepare), but
     /// a batch is moved and not copied.
     pub fn prepare_owned(&mut self, alloc: Global, event: Event) -> Result<Prepared, AllocError>
         ensures state { state_of self.new ≡ state_of self.old }
@@ -127,7 +127,7 @@ impl Broker {
         }
     }
 
-    /// Decides on the request of an event that is given away, whose rights are granted.
+    /// Decides on the request of an event that is moved, whose rights are granted.
     #[tactic(auto, using(crate::proofs::Decisions::made_for_ok))]
     fn prepare_effect_owned(&mut self, alloc: Global, event: Event) -> Result<Prepared, AllocError>
         ensures state { state_of self.new ≡ state_of self.old }
@@ -204,7 +204,7 @@ impl Broker {
         Ok(self.commit(prepared))
     }
 
-    /// Serves one event that is given away: the same as [`serve`](Broker::serve), but the batch of a
+    /// Serves one event that is moved: the same as [`serve`](Broker::serve), but the batch of a
     /// PRODUCE is moved into the log and not copied.
     pub fn serve_owned(&mut self, alloc: Global, event: Event) -> Result<Reply, AllocError>
         ensures reply { IfOk result (λ reply. reply
@@ -217,8 +217,8 @@ impl Broker {
         Ok(self.commit(prepared))
     }
 
-    /// Serves events in order, until memory stops the run; the broker then stands after the events
-    /// that are done.
+    /// Serves events in order, until memory stops the run; the broker is then as it is after the
+    /// events that are done.
     pub fn run(&mut self, alloc: Global, events: &[Event]) -> Result<Vec<Reply>, Stopped>
         ensures replies { IfOk result (λ replies. replies.items
             ≡ replies_of retained_meaning events.now (state_of self.old)) }

@@ -87,7 +87,7 @@ pub fn verdicts_are_by_bindings_where_nothing_is_open()
 }
 
 /// What a log keeps of its batches is enough: whatever broker and events, a broker over what is
-/// kept answers as one over all accepted batches, and stands after them where that one's batches
+/// kept answers as one over all accepted batches, and is after them where that one's batches
 /// are kept. Both open alike, so that what is proved of the one's replies holds of the other's.
 pub fn what_is_kept_is_enough()
     ensures opening { (settings : Settings) → OpensAlike settings }

@@ -8,7 +8,7 @@ use kob_names::PlainValue;
 use kob_rights::{Body, Produce, Reason, Reply};
 use std::alloc::{AllocError, Global};
 
-/// Where a batch goes, told before its request is copied or moved.
+/// Where a batch goes, computed before its request is copied or moved.
 #[derive(Drop)]
 pub(crate) enum Placed {
     /// Nowhere: it is refused, or a repeat.

@@ -31,7 +31,7 @@ impl Broker {
         placed.with_copy(alloc, produce)
     }
 
-    /// The same of a request that is given away: it is moved.
+    /// The same of a request that is moved.
     pub(crate) fn prepare_produce_owned(&mut self, produce: Produce) -> Result<Prepared, AllocError>
         ensures state { state_of self.new ≡ state_of self.old }
         ensures ok { IfOk result (MakesFor (requests.Produce produce) self.new) }

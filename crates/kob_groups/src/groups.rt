@@ -21,7 +21,7 @@ use thiserror::Error;
 pub struct GroupNotFound;
 
 /// The groups in order of their first commit, and the offsets that they committed. A group stays
-/// when its last commit goes with a topic. Beside them stand the groups with commits on each topic,
+/// when its last commit goes with a topic. Beside them are the groups with commits on each topic,
 /// so that a topic's deletion visits those alone. Contracts see what is held (`groups_of`), and
 /// beside it the room that is there for a commit.
 #[derive(Drop)]

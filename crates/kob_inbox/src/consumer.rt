@@ -61,7 +61,7 @@ impl Consumer {
     /// One step: one request on the assigned partition that has the turn.
     ///
     /// Where its position is not known, the group's commit is asked for (`Placed`). Where records
-    /// were passed and no commit of them was heard, the position is committed, and the next
+    /// were passed and no commit of them was acknowledged, the position is committed, and the next
     /// partition has the turn (`Committed`). Else records are fetched at the position and taken in
     /// one after another (`Took`), or there are none, and the next partition has the turn (`Idle`).
     /// After `Repeat` and `Stopped` the partition keeps the turn. Where the inbox keeps a record

@@ -11,7 +11,7 @@ pub struct Cursor {
     pub place: Place,
     /// The offset of the next record.
     pub position: u64,
-    /// Whether records were passed and no commit of them was heard.
+    /// Whether records were passed and no commit of them was acknowledged.
     pub uncommitted: bool,
 }
 
@@ -22,7 +22,7 @@ pub struct Standing {
     pub uncommitted: bool,
 }
 
-/// How a partition stands, if it has a cursor.
+/// The state of a partition, if it has a cursor.
 pub(crate) fn standing_of(cursors: &[Cursor], place: &Place) -> Option<Standing>
     ensures { result ≡ standing (cursor_of cursors.now place.now) }
 {

@@ -59,7 +59,7 @@ impl Fetcher {
     ghost use Rattle.kob_inbox.specs.Tick.{Hears, IsOnTurn, Ticks, scene_of, state_of};
 
     /// One step: one request on the partition that has the turn. Room for its cursor is made before
-    /// the request, so that only the inbox can fail once a reply is heard.
+    /// the request, so that only the inbox can fail once a reply is received.
     pub(crate) fn tick<L: Line>(&mut self, alloc: Global, inbox: &mut Inbox, line: &mut L) -> Tick
         requires { IsOnTurn self.old }
         ensures same { self.new.subscription ≡ self.old.subscription }
@@ -171,7 +171,7 @@ impl Fetcher {
         }
     }
 
-    /// A commit of the position was heard.
+    /// A commit of the position was acknowledged.
     fn committed(&mut self, place: &Place, position: u64)
         requires turn { self.old.turn < length self.old.subscription.assignment }
         requires known { IsKnown (cursor_of self.old.cursors.items place.now) }
@@ -191,7 +191,7 @@ impl Fetcher {
         self.pass_turn();
     }
 
-    /// Records were heard.
+    /// Records were received.
     fn take(
         &mut self,
         inbox: &mut Inbox,

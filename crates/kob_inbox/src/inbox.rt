@@ -24,7 +24,7 @@ use uuid::Uuid;
 /// What became of a record.
 #[derive(Clone, Copy, Debug, PartialEq, Eq)]
 pub enum TakeIn {
-    /// Its event id is new, and its event stands last in the inbox.
+    /// Its event id is new, and its event is the last in the inbox.
     Taken,
     /// Its event id is there, in whatever form it was written. Nothing is written.
     Seen,
@@ -65,9 +65,9 @@ impl Inbox {
         Ok(Inbox { conn, alloc })
     }
 
-    /// Takes a record in that stands at this offset of a partition.
+    /// Takes in the record at this offset of a partition.
     ///
-    /// The event id is told by the first header named `id`, in any form of a UUID. The table's
+    /// The event id is the value of the first header named `id`, in any form of a UUID. The table's
     /// unique id decides whether it is there, so that the cost does not grow with the number of
     /// rows. Where all 9,223,372,036,854,775,807 places are taken, or the number of the partition
     /// is greater than that, the answer is `Store`.

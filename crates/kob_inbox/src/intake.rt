@@ -12,7 +12,7 @@ use crate::inbox::Inbox;
 use kob_names::Record;
 use kob_router::Place;
 
-/// How many records were passed, where the next one stands, and what kept it out, if something did.
+/// How many records were passed, where the next one is, and what kept it out, if something did.
 #[derive(Clone, Copy, Debug, PartialEq, Eq)]
 pub(crate) struct Passed {
     pub count: u64,

@@ -1,6 +1,6 @@
-//! Where a record stands.
+//! Where a record is.
 
-/// The partition and the offset at which a record stands.
+/// The partition and the offset at which a record is.
 #[derive(Clone, Copy)]
 pub(crate) struct Origin<'a> {
     pub topic: &'a str,

@@ -18,9 +18,9 @@ pub enum StopReason {
         reason: Reason,
     },
     /// Memory was refused: nothing was sent, or the inbox took in only the first of the records
-    /// that were heard.
+    /// that were received.
     Memory,
-    /// The database refused, and took in only the first of the records that were heard.
+    /// The database refused, and took in only the first of the records that were received.
     Store,
 }
 

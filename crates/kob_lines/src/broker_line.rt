@@ -94,7 +94,7 @@ impl<'a> Line for BrokerLine<'a> {
     ghost unmade = { λ line. line.calls.unmade };
 
     /// Makes a call: the broker serves it at once. A reply with an offset past the limit of a log,
-    /// which no broker gives that began with [`Broker::open`], is not heard.
+    /// which no broker gives that began with [`Broker::open`], is not received.
     fn send(&mut self, alloc: Global, request: Request) -> Delivery
         ensures added { Adds self.old.calls.made.items self.new.calls.made.items
             self.old.calls.unmade self.new.calls.unmade request result }

@@ -21,8 +21,8 @@ pub struct Calls {
     /// How often there was no memory to note a call, which was then not made, counted up to
     /// 18,446,744,073,709,551,615.
     pub unmade: u64,
-    /// Why the last call was not heard: it was not made or not served, or its reply could not be
-    /// kept. `None` where it was heard, or lost on purpose.
+    /// Why the last call has no reply: it was not made or not served, or its reply could not be
+    /// kept. `None` where a reply was received, or lost on purpose.
     pub fault: Option<CallFault>,
 }
 
@@ -60,8 +60,8 @@ impl Calls {
         None
     }
 
-    /// Notes a call, for which there is room, with what was heard of it. Where there is no memory
-    /// for a second copy of the reply, it was not heard.
+    /// Notes a call, for which there is room, with its reply, if one was received. Where there is
+    /// no memory for a second copy of the reply, it counts as not received.
     pub fn note(&mut self, alloc: Global, request: Request, heard: Option<Reply>) -> Delivery
         requires room { vec_len self.old.made < vec_capacity self.old.made }
         requires fits { IfSome heard (λ reply. Fits request reply) }

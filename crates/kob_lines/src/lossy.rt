@@ -15,7 +15,7 @@ use std::alloc::Global;
 /// What becomes of a call.
 #[derive(Clone, Copy, Debug, PartialEq, Eq)]
 pub enum Loss {
-    /// It is served, and its reply is heard.
+    /// It is served, and its reply is received.
     None,
     /// It never reaches the broker.
     BeforeServe,
@@ -28,7 +28,7 @@ pub enum Loss {
 #[derive(Drop)]
 pub struct Lossy<L> {
     pub line: L,
-    /// What becomes of the next call. All after it are heard.
+    /// What becomes of the next call. All replies after it are received.
     pub loss: Loss,
     pub calls: Calls,
 }
@@ -49,7 +49,7 @@ impl<L: Line> Lossy<L> {
         }
     }
 
-    /// Says what becomes of the next call. All after it are heard.
+    /// Says what becomes of the next call. All replies after it are received.
     pub fn lose(&mut self, loss: Loss)
         ensures { self.new ≡ record self.old { loss = loss } }
     {

@@ -21,7 +21,7 @@ use std::alloc::Global;
 #[derive(Drop)]
 pub struct RecordedLine<'a> {
     pub recorded: &'a mut Recorded,
-    /// The number under which the calls stand in the journal.
+    /// The number of the calls' worker in the journal.
     pub worker: usize,
     pub principal: Principal,
     pub host: Host,

@@ -37,7 +37,7 @@ impl<'a, R: Wait> SessionLine<'a, R> {
         }
     }
 
-    /// Calls through the session, and keeps why no reply was heard.
+    /// Calls through the session, and keeps why no reply was received.
     fn hear(&mut self, alloc: Global, request: Request) -> Option<Reply>
         ensures made { self.new.calls.made ≡ self.old.calls.made }
         ensures unmade { self.new.calls.unmade ≡ self.old.calls.unmade }

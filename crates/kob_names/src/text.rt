@@ -16,14 +16,14 @@ use std::hash::{Hash, Hasher};
 use std::marker::Model;
 use std::mem::size_of;
 
-/// An owned text. It takes 32 bytes: one of at most 30 bytes stands in them, a longer one in a
+/// An owned text. It takes 32 bytes: one of at most 30 bytes is in them, a longer one in a
 /// block of its own.
 #[derive(Drop)]
 pub struct Text {
     content: Content,
 }
 
-/// Where the bytes of a text stand.
+/// Where the bytes of a text are.
 #[derive(Drop)]
 enum Content {
     Short(ShortText),

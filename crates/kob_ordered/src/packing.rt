@@ -23,7 +23,7 @@ pub(crate) fn pack<V: Drop>(
     Ok(())
 }
 
-/// How many entries stand before each place.
+/// How many entries are before each place.
 fn ranks_of<V>(alloc: Global, slots: &[Slot<V>]) -> Result<Vec<usize>, AllocError>
     ensures size { IfOk result (λ ranks. length ranks.items ≡ length slots.now) }
     ensures ranks { IfOk result (λ ranks. (place : ℕ) → place < length slots.now

@@ -7,7 +7,7 @@ ghost use Rattle.kob_ordered.specs.Slots.{is_entry, name_in, with_value_in};
 
 use kob_names::Text;
 
-/// What stands at one place of the order: an entry, or a hole where one went.
+/// What is at one place of the order: an entry, or a hole where one went.
 #[derive(Drop)]
 pub(crate) enum Slot<V> {
     Hole,
@@ -17,7 +17,7 @@ pub(crate) enum Slot<V> {
 impl<V> Slot<V> {
     ghost use Rattle.kob_ordered.specs.contracts.slot.Slot.{the_row};
 
-    /// Whether an entry stands here.
+    /// Whether an entry is here.
     pub(crate) fn is_entry(&self) -> bool
         ensures { result ≡ is_entry self.now }
     {
@@ -27,7 +27,7 @@ impl<V> Slot<V> {
         }
     }
 
-    /// The value of the entry that stands here.
+    /// The value of the entry that is here.
     pub(crate) fn value_mut(&mut self) -> &mut V
         requires { is_entry self.old ≡ true }
         ensures* lends { sem 𝓛 (Lends (the_row V.row) V.row self.entry result

@@ -1,4 +1,4 @@
-//! Which texts may stand in the tables.
+//! Which texts the tables may have.
 
 ghost use Rattle.std.specs.Prelude.{◌≡◌};
 ghost use Rattle.kob_outbox.specs.Fields.{first_bad, fits as fits_in};

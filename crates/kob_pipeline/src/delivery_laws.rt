@@ -37,7 +37,7 @@ pub fn a_partition_holds_what_was_routed()
 
 /// Of each partition of a topic on which the consumer alone commits for its group, and that nobody
 /// deletes, it takes in the offsets up to some bound, each for the first time after all lower ones,
-/// with the records that stand there.
+/// with the records that are there.
 pub fn a_consumer_takes_each_offset_in_order()
     ensures { (t : Subscription) (worker : ℕ) (journal : List Entry) (view : View)
         (moves : List ConsumerMove) (now : ConsumerState) (place : Place)
@@ -66,7 +66,7 @@ pub fn an_inbox_holds_a_prefix_of_each_aggregate()
     // By the definitions.
 }
 
-/// Each recorded row stands in the outbox past the mark, or the journal has a PRODUCE of the
+/// Each recorded row is in the outbox past the mark, or the journal has a PRODUCE of the
 /// service that is done, of this row's record to the place where the row is routed. Whatever others
 /// do: nothing is asked of the journal.
 pub fn a_row_waits_or_was_sent()

@@ -27,7 +27,7 @@ pub enum PipelineFault {
     },
     /// A worker's database refused for another cause than lack of memory.
     Store,
-    /// The journal and what the worker was told differ at the place.
+    /// The journal and the worker's receipts differ at the place.
     Torn {
         worker: usize,
         place: usize,

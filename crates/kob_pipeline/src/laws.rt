@@ -22,7 +22,7 @@ use crate::plan::Plan;
 /// those of the rows that the service recorded and that are routed there; and each record is what
 /// the route makes of a row.
 ///
-/// No recorded row is lost, whatever others do: it stands in the outbox past the mark, or the
+/// No recorded row is lost, whatever others do: it is in the outbox past the mark, or the
 /// broker said of its record that it is done.
 ///
 /// It makes no call and takes no memory. The condition is what `pipeline` answers.
@@ -41,7 +41,7 @@ pub fn router_law(plan: &Plan, end: &PipelineEnd)
 
 /// What each consumer takes in. Of each partition of a topic on which this consumer alone commits
 /// for its group, and that nobody deletes, it takes in the offsets below some bound, each for the
-/// first time after all lower ones, with the records that stand there.
+/// first time after all lower ones, with the records that are there.
 ///
 /// It makes no call and takes no memory. The condition is what `pipeline` answers.
 pub fn consumer_law(plan: &Plan, end: &PipelineEnd)

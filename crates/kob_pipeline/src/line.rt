@@ -18,7 +18,7 @@ use std::alloc::Global;
 use std::sync::Wait;
 
 /// A desk as a line. Each call is made once the gate lets it pass, and noted with the reply that
-/// was heard; what the plan loses is not heard, or not even made.
+/// was received; what the plan loses is not received, or not even made.
 #[derive(Drop)]
 pub(crate) struct DeskLine<'a, R, G> {
     rt: &'a R,
@@ -57,7 +57,7 @@ impl<'a, R: Wait, G: Gate> DeskLine<'a, R, G> {
         }
     }
 
-    /// Says what becomes of the next call. All after it are heard.
+    /// Says what becomes of the next call. All replies after it are received.
     pub(crate) fn lose(&mut self, loss: Loss)
         ensures calls { self.new.calls ≡ self.old.calls }
         ensures unmade { self.new.unmade ≡ self.old.unmade }
@@ -85,7 +85,7 @@ impl<'a, R: Wait, G: Gate> DeskLine<'a, R, G> {
     }
 
     /// What was noted, after the last call. It is held to the calls that were made, to how they
-    /// were to be lost, and to who made them, since the steps that made them tell of no more.
+    /// were to be lost, and to who made them, since the steps that made them say no more.
     pub(crate) fn settle(
         self,
         losses: &[Loss],
@@ -161,7 +161,7 @@ impl<'a, R: Wait, G: Gate> DeskLine<'a, R, G> {
         }
     }
 
-    /// Notes a call, of which this reply was heard, or none.
+    /// Notes a call, of which this reply was received, or none.
     fn note(&mut self, request: Request, replies: Option<(Reply, Reply)>) -> Delivery
         requires room { vec_len self.old.calls < vec_capacity self.old.calls }
         requires same { IfSome replies (λ r. r.0 ≡ r.1) }

@@ -34,7 +34,7 @@ use std::thread::Threads;
 /// Opens a broker with the plan's settings, serves the first events as worker 0, and then lets each
 /// service, consumer and administrator make its steps in a thread of its own, with a database of
 /// its own. The gate is asked before each request, also one that is lost, and once after the last.
-/// `Plan::is_runnable` tells whether a plan may be run.
+/// `Plan::is_runnable` returns whether a plan may be run.
 ///
 /// `TooManyWorkers` comes first, then `JournalFull`, both before anything begins. After any fault
 /// nothing is given back but what `Torn` holds.

@@ -14,7 +14,7 @@ use kob_shared::Script;
 /// What becomes of the first call that a tick makes.
 #[derive(Clone, Copy, Debug, PartialEq, Eq)]
 pub enum Loss {
-    /// It is served, and its reply is heard.
+    /// It is served, and its reply is received.
     None,
     /// It never reaches the broker.
     BeforeServe,
@@ -25,7 +25,7 @@ pub enum Loss {
 /// What a service does next.
 #[derive(Drop)]
 pub enum ServiceStep {
-    /// Records an event together with the change that it tells of.
+    /// Records an event together with the change that it reports.
     Record(Change, OutboxEvent),
     /// Its router makes one step.
     Tick(Loss),

@@ -18,7 +18,7 @@ pub struct Options {
     pub help: bool,
 }
 
-/// The options of each part of the command line; `--next` stands between two parts.
+/// The options of each part of the command line; `--next` separates two parts.
 pub fn parts_of<R: AllocGlobal + Print + Eprint>(
     rt: &R,
     words: &[String],

@@ -91,7 +91,7 @@ impl Judge {
         self.verdict(asked).is_granted()
     }
 
-    /// Where the first binding with a serial stands among the bindings.
+    /// Where the first binding with a serial is among the bindings.
     pub fn place_of(&self, serial: u64) -> Option<usize>
         ensures { result ≡ place_of self.now serial }
     {

@@ -56,7 +56,7 @@ fn between_semicolons(alloc: Global, value: &[u8]) -> Result<Vec<&[u8]>, AllocEr
         .collect(alloc)
 }
 
-/// The super users that stand between semicolons.
+/// The super users between semicolons.
 fn super_items(alloc: Global, parts: &[&[u8]]) -> Result<Vec<Item>, LineError>
     ensures { GivesSeen (λ items. items.items) result
         (each (λ part. super_item (trimmed part)) (map (λ part. part.now) parts.now)) }
@@ -135,7 +135,7 @@ fn listed_items(alloc: Global, line: &[u8]) -> Result<Vec<Item>, LineError>
     }
 }
 
-/// What stands after the last slash of a path.
+/// The part after the last slash of a path.
 fn base_name(path: &[u8]) -> &[u8]
     ensures { result.now ≡ base_name path.entry.now }
 {
@@ -174,7 +174,7 @@ fn tool_line(alloc: Global, arguments: &[u8]) -> Result<Vec<u8>, LineError>
     Ok(line)
 }
 
-/// The line as it stands in a script.
+/// The line as a script has it.
 #[tactic(auto, unfolding(crate::specs::Lines::script_line))]
 fn script_line(alloc: Global, line: &[u8]) -> Result<Vec<u8>, LineError>
     ensures { GivesSeen (λ made. made.items) result (script_line line.now) }

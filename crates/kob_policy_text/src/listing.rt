@@ -22,7 +22,7 @@ use kob_words::{operation_named, pattern_named, permission_named, resource_named
 use std::alloc::Global;
 use std::marker::Model;
 
-/// The parts of a listed binding, as they stand there.
+/// The parts of a listed binding, as they are there.
 #[derive(Drop)]
 pub struct GrantWords<'a> {
     principal: &'a [u8],

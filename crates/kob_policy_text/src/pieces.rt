@@ -9,7 +9,7 @@ ghost use Rattle.kob_script.specs.Reading.{GivesSeen};
 use bstr::ByteSlice;
 use kob_script::{FaultKind, LineError};
 
-/// What stands before the first mark, and what stands after it.
+/// The part before the first mark, and the part after it.
 #[tactic(auto, unfolding(crate::specs::Pieces::first_parts))]
 pub fn first_parts<'a>(bytes: &'a [u8], mark: &[u8]) -> Option<(&'a [u8], &'a [u8])>
     ensures { option_map (λ parts. (parts.0.now, parts.1.now)) result
@@ -18,7 +18,7 @@ pub fn first_parts<'a>(bytes: &'a [u8], mark: &[u8]) -> Option<(&'a [u8], &'a [u
     bytes.split_once_str(mark)
 }
 
-/// What stands before the last mark, and what stands after it.
+/// The part before the last mark, and the part after it.
 #[tactic(auto, unfolding(crate::specs::Pieces::last_parts))]
 pub fn last_parts<'a>(bytes: &'a [u8], mark: &[u8]) -> Option<(&'a [u8], &'a [u8])>
     ensures { option_map (λ parts. (parts.0.now, parts.1.now)) result
@@ -49,7 +49,7 @@ pub fn around_last<'a>(bytes: &'a [u8], mark: &[u8]) -> Result<(&'a [u8], &'a [u
     }
 }
 
-/// Whether the mark stands somewhere.
+/// Whether the mark is somewhere.
 pub fn holds_mark(bytes: &[u8], mark: &[u8]) -> bool
     ensures { result ≡ holds_mark bytes.now mark.now }
 {

@@ -209,7 +209,7 @@ impl Policy {
         }
     }
 
-    /// No heading stands above the first line of a file.
+    /// No heading is above the first line of a file.
     fn begin_file(&mut self)
         ensures { self.new ≡ at_file self.old }
     {

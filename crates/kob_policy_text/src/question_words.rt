@@ -150,7 +150,7 @@ fn may_consume(
     ))
 }
 
-/// A request as it stands in a script; `acl` is none.
+/// A request as a script has it; `acl` is not one.
 #[tactic(auto, unfolding(crate::specs::Questions::may_request))]
 fn may_request(alloc: Global, words: &[Word<'_>]) -> Result<Question, LineError>
     ensures { Gives result (may_request words.now) }

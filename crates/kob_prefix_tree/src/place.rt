@@ -35,7 +35,7 @@ impl<'a> Place<'a> {
         }
     }
 
-    /// The serials of one kind that stand here.
+    /// The serials of one kind that are here.
     pub(crate) fn serials(self, kind: PatternKind) -> Unread<'a>
         ensures { unread_of result ≡ serials_of kind (seen self.entry).0 }
     {

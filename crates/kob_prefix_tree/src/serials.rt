@@ -14,7 +14,7 @@ pub(crate) struct Serials {
     store: Store,
 }
 
-/// Where they stand. Most keys hold one, which needs no block.
+/// Where they are. Most keys hold one, which needs no block.
 #[derive(Drop)]
 enum Store {
     One(u64),
@@ -132,7 +132,7 @@ impl Serials {
     }
 }
 
-/// What is still to be read of a key's serials: one that stands without a block, and those from a
+/// What is still to be read of a key's serials: one that is without a block, and those from a
 /// link on.
 #[derive(Clone, Copy, Drop)]
 pub(crate) struct Unread<'a> {

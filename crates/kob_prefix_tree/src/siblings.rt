@@ -14,7 +14,7 @@ use std::alloc::Global;
 use std::mem::{replace, size_of, swap};
 use std_alloc::room::Vacant;
 
-/// What a node keeps: its bytes, by the first of which its siblings are told apart, and the serials
+/// What a node keeps: its bytes, by the first of which its siblings differ, and the serials
 /// of the key that ends there.
 #[derive(Drop)]
 pub(crate) struct Item {

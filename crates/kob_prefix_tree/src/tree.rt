@@ -88,7 +88,7 @@ impl PrefixTree {
     }
 
     /// Puts the serial last in the key's list of its kind. `AllocError` says that memory was short,
-    /// and nothing else. No node is made that stands already.
+    /// and nothing else. No node is made that is there already.
     pub fn add(
         &mut self,
         alloc: Global,

@@ -22,7 +22,7 @@ use std::alloc::{AllocError, Global};
 use std::mem::{replace, swap};
 
 impl Branch {
-    /// Goes on from here to another branch. What stands here becomes the way's last node, in the
+    /// Goes on from here to another branch. What is here becomes the way's last node, in the
     /// block.
     fn go_on(&mut self, above: &mut Link<Item>, room: Room, alloc: Global, byte: u8, branch: Branch)
         ensures here { self.new ≡ branch }
@@ -55,7 +55,7 @@ impl Branch {
         emptied.give_up();
     }
 
-    /// Goes back to the place that the way's last node keeps. What stands here is put below it, or
+    /// Goes back to the place that the way's last node keeps. What is here is put below it, or
     /// freed if it is bare.
     fn go_back(&mut self, above: &mut Link<Item>)
         requires { Leads above.old.nodes }
@@ -90,7 +90,7 @@ impl Branch {
         *self = place;
     }
 
-    /// Puts these bytes before what stands here, unless it is bare.
+    /// Puts these bytes before what is here, unless it is bare.
     fn put_behind(&mut self, tail: Tail)
         requires { self.old.tail ≡ [] }
         ensures { contents self.new ≡ kept_behind tail (contents self.old) }

@@ -1,4 +1,4 @@
-//! How a batch stands to those that its producer sent before.
+//! How a batch relates to those that its producer sent before.
 
 ghost use Rattle.std.specs.Prelude.{◌≡◌, ◌≤◌, length, find};
 ghost use Rattle.kob_producers.specs.Judge.{judge, judge_first, is_same, judge_base, memory_length};
@@ -8,7 +8,7 @@ use crate::sequence::{last_of, next_sequence};
 use circular_buffer::HeapCircularBuffer;
 use kob_names::Idem;
 
-/// How a batch stands to those that its producer sent before (the rules of Kafka's idempotent
+/// How a batch relates to those that its producer sent before (the rules of Kafka's idempotent
 /// producer).
 #[derive(Clone, Copy, Debug, PartialEq, Eq)]
 pub enum Judgement {
@@ -22,7 +22,7 @@ pub enum Judgement {
     OldEpoch,
 }
 
-/// How a batch stands to those in a producer's ring.
+/// How a batch relates to those in a producer's ring.
 pub(crate) fn judge_ring(ring: &HeapCircularBuffer<Sent>, idem: &Idem, count: u64) -> Judgement
     requires { length ring.now.items ≤ memory_length }
     ensures { result ≡ judge ring.now.items idem.now count }
@@ -43,7 +43,7 @@ pub(crate) fn judge_ring(ring: &HeapCircularBuffer<Sent>, idem: &Idem, count: u6
     }
 }
 
-/// How the first batch of a producer, or of its epoch, stands.
+/// How the first batch of a producer, or of its epoch, is judged.
 pub(crate) fn judge_first(base: u64) -> Judgement
     ensures { result ≡ judge_first base }
 {
@@ -54,7 +54,7 @@ pub(crate) fn judge_first(base: u64) -> Judgement
     }
 }
 
-/// How a batch that repeats none stands to the last one of its epoch.
+/// How a batch that repeats none relates to the last one of its epoch.
 fn judge_base(base: u64, last: &Sent) -> Judgement
     ensures { result ≡ judge_base base last.now }
 {

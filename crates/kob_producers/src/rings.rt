@@ -61,7 +61,7 @@ impl Rings {
         }
     }
 
-    /// How a batch of so many records stands to those that its producer sent before.
+    /// How a batch of so many records relates to those that its producer sent before.
     pub(crate) fn judge(&self, idem: &Idem, count: u64) -> Judgement
         ensures { result ≡ judge (sent_by self.now.recent idem.now.id) idem.now count }
     {
@@ -101,7 +101,7 @@ impl Rings {
     }
 }
 
-/// Puts an empty ring aside, where there is none.
+/// Puts an empty ring aside, where none is kept.
 fn fill(fresh: &mut Option<Ring>, alloc: Global) -> Result<(), AllocError>
     requires { IfSome fresh.old IsFresh }
     ensures fresh { IfSome fresh.new IsFresh }

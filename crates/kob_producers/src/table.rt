@@ -45,7 +45,7 @@ impl ProducerTable {
         ProducerTable { alloc, rings: None }
     }
 
-    /// How a batch of so many records stands to those that its producer sent before.
+    /// How a batch of so many records relates to those that its producer sent before.
     pub fn judge(&self, idem: &Idem, count: u64) -> Judgement
         ensures kept { result ≡ judge (sent_by self.now.recent idem.now.id) idem.now count }
         // It is the judgement by all batches ever accepted, whatever they were.

@@ -1,4 +1,4 @@
-//! Requests: one variant for each kind. Names and numbers stand in them as they were sent.
+//! Requests: one variant for each kind. They have names and numbers as they were sent.
 
 use crate::on_acls::{CreateAcls, DeleteAcls, DescribeAcls};
 use crate::on_groups::{DeleteGroups, OffsetCommit, OffsetFetch};

@@ -18,7 +18,7 @@ pub enum RouteFault {
 /// Why a row has no record.
 #[derive(Clone, Copy, Debug, PartialEq, Eq, Error)]
 pub enum RecordFault {
-    #[error("the name that the route makes is no topic's")]
+    #[error("the name that the route makes is not a topic name")]
     BadTopic,
     #[error("out of memory")]
     Memory,

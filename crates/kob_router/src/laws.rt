@@ -18,7 +18,7 @@ ghost use Rattle.kob_router.specs.declared.dispatch.Dispatch.{Dispatch};
 ghost use Rattle.kob_router.specs.declared.dispatch.Target.{Target};
 ghost use Rattle.kob_router.specs.declared.settings.Routing.{Routing};
 
-/// The record of a row tells the row's event id, whatever columns are placed in further headers:
+/// The record of a row has the row's event id, whatever columns are placed in further headers:
 /// the id that reads back from the header `id` is the id under which the event was recorded, which
 /// has 16 bytes.
 pub fn a_record_tells_its_event_id()

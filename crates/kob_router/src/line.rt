@@ -7,7 +7,7 @@ use kob_names::PlainValue;
 use kob_rights::{Reply, Request};
 use std::alloc::{AllocError, Global};
 
-/// A request that was made, and the reply that was heard, or none where the call was lost.
+/// A request that was made, and the reply that was received, or none where the call was lost.
 #[derive(Debug, Drop)]
 pub struct Call {
     pub request: Request,
@@ -33,12 +33,12 @@ impl Call {
 pub enum Delivery {
     /// The broker served the request, and this is its reply.
     Delivered(Reply),
-    /// No reply was heard. The broker may have served the request, or may not.
+    /// No reply was received. The broker may have served the request, or may not.
     Lost,
 }
 
 /// A way to a broker, by which requests are made one after another. It keeps what was asked and
-/// what was heard.
+/// what was received.
 pub trait Line {
     ghost use Rattle.kob_router.specs.declared.line.Call.{Call};
 

@@ -63,7 +63,7 @@ impl Router {
 
     /// One step. Without a producer id it first asks for one. Then it sends the first row after the
     /// mark, as a batch of one record with the next sequence of its partition, and moves the mark
-    /// once it heard that the broker has it: `Moved`. Where a call was lost, the answer is
+    /// once the broker acknowledged it: `Moved`. Where a call was lost, the answer is
     /// `Repeat`, and the next step makes the same call again. `Idle` says that no row waits.
     ///
     /// The condition is that the row in hand is the first one after this outbox's mark: a router

@@ -46,7 +46,7 @@ impl Sender {
     ghost use Rattle.kob_router.specs.Tick.{IsAtMostOne, IsHeld, IsOneTick, IsPlaced, Ticks};
     ghost use Rattle.kob_router.specs.Tick.{hand_of, scene_of, state_of};
 
-    /// One step: asks for a producer id where there is none, then sends the first row after the
+    /// One step: asks for a producer id if it has none, then sends the first row after the
     /// mark.
     pub(crate) fn tick<L: Line>(&mut self, alloc: Global, outbox: &mut Outbox, line: &mut L) -> Tick
         requires some { 0 < self.old.target.partitions }
@@ -77,7 +77,7 @@ impl Sender {
         self.hand = None;
     }
 
-    /// Asks for a producer id, where there is none.
+    /// Asks for a producer id, if it has none.
     fn introduce<L: Line>(&mut self, alloc: Global, line: &mut L) -> Result<Producer, Tick>
         ensures rest { self.new ≡ record self.old { producer = self.new.producer } }
         ensures made { Introduces self.old.producer self.new.producer

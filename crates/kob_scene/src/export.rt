@@ -1,4 +1,4 @@
-//! What stands at the end of a scene, as Kafka and Debezium take it.
+//! The state at the end of a scene, as Kafka and Debezium take it.
 
 ghost use Rattle.std.specs.Prelude.{◌≡◌, ◌++◌, flat_map, IfOk, OnOk};
 ghost use Rattle.kob_broker.specs.Change.{state_of};
@@ -18,7 +18,7 @@ use kob_scene_export::{
 use kob_scene_text::{Scene, Service, Step};
 use std::alloc::{AllocError, Global};
 
-/// Adds the settings of a scene, the topics and the bindings that stand at its end, and its
+/// Adds the settings of a scene, the topics and the bindings at its end, and its
 /// services. Topics and bindings are those that its requests leave: no step of a service or a
 /// consumer asks for a change of them. The error is out of memory.
 pub fn export_scene(alloc: Global, out: &mut Vec<u8>, scene: &Scene) -> Result<(), AllocError> {
@@ -57,7 +57,7 @@ fn push_request(alloc: Global, events: &mut Vec<Event>, step: &Step) -> Result<(
     Ok(())
 }
 
-/// What stands after these events on a broker with no topic.
+/// The state after these events on a broker with no topic.
 fn export_from(
     alloc: Global,
     out: &mut Vec<u8>,

@@ -1,4 +1,4 @@
-//! The topics that stand after the requests of a scene.
+//! The topics that exist after the requests of a scene.
 
 ghost use Rattle.std.specs.Prelude.{◌≡◌, filter, OnOk};
 ghost use Rattle.kob_broker.specs.Change.{state_of};
@@ -19,7 +19,7 @@ pub struct Topic {
     pub partitions: u64,
 }
 
-/// Serves events, and answers which topics stand then, of a broker that had none.
+/// Serves events, and returns which topics exist then, of a broker that had none.
 pub fn topics_by(
     alloc: Global,
     broker: &mut Broker,
@@ -34,7 +34,7 @@ pub fn topics_by(
     }
 }
 
-/// The topics that stand after these replies to these events.
+/// The topics that exist after these replies to these events.
 fn topics_told(
     alloc: Global,
     events: &[Event],
@@ -47,7 +47,7 @@ fn topics_told(
     Ok(topics)
 }
 
-/// Notes what a request did to the topics that stand.
+/// Notes what a request did to the topics that exist.
 fn note_topics(
     alloc: Global,
     topics: &mut Vec<Topic>,

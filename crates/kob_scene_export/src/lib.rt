@@ -1,4 +1,4 @@
-//! What stands at the end of a scene, as commands and properties of Kafka and Debezium.
+//! The state at the end of a scene, as commands and properties of Kafka and Debezium.
 #![tactic(auto)]
 
 mod bindings;

@@ -1,4 +1,4 @@
-//! Which words stand in a shell's line, or behind a property, without quotes.
+//! Which words can be in a shell's line, or behind a property, without quotes.
 
 ghost use Rattle.std.specs.List.{list_all};
 ghost use Rattle.std.specs.Prelude.{◌≡◌, ◌++◌, OnOk};
@@ -45,7 +45,7 @@ fn has_value_bytes(text: &[u8]) -> bool
     text.iter().all(|byte| is_value_byte(*byte))
 }
 
-/// Whether a text can stand as the value of a property as it is, and is not empty.
+/// Whether a text can be the value of a property as it is, and is not empty.
 pub fn is_value(text: &[u8]) -> bool
     ensures { result ≡ is_value text.now }
 {

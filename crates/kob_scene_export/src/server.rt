@@ -9,7 +9,7 @@ use kob_names::{Principal, Settings};
 use kob_words::push_bytes;
 use std::alloc::AllocError;
 
-/// Adds the comments that stand above an export: how its lines are used, and what Kafka does
+/// Adds the comments above an export: how its lines are used, and what Kafka does
 /// otherwise. The error is out of memory; `out` has then grown by a part of it.
 #[tactic(auto, using(kob_words::proofs::Appending::appending))]
 pub fn export_head(out: &mut Vec<u8>) -> Result<(), AllocError>

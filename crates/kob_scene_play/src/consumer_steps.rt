@@ -26,7 +26,7 @@ enum Left {
     Stopped,
 }
 
-/// Makes a step, and tells what it answers.
+/// Makes a step, and prints what it answers.
 pub(crate) fn play_consumer<W: Write>(
     alloc: Global,
     recorded: &mut Recorded,

@@ -11,7 +11,7 @@ use kob_shared::{CallFault, ServeFault};
 use std::alloc::{AllocError, AllocFailed};
 use thiserror::Error;
 
-/// Why a step could not be made, or not be told. What it had done by then stays done.
+/// Why a step could not be made, or its answer not printed. What it had done by then stays done.
 #[derive(Clone, Copy, Debug, PartialEq, Eq, Error)]
 pub enum PlayFault {
     #[error("out of memory")]
@@ -87,7 +87,7 @@ impl From<InboxFault> for PlayFault {
     }
 }
 
-/// Why the last call of a line was not heard, where no loss was named for it.
+/// Why the last call of a line has no reply, where no loss was named for it.
 pub(crate) fn line_fault(line: &Lossy<RecordedLine<'_>>) -> Option<PlayFault> {
     match line.calls.fault.or(line.line.calls.fault) {
         Some(fault) => Some(fault.into()),
@@ -95,7 +95,7 @@ pub(crate) fn line_fault(line: &Lossy<RecordedLine<'_>>) -> Option<PlayFault> {
     }
 }
 
-/// Whether no reply to the first call was heard, where one of its messages was to be lost.
+/// Whether no reply to the first call was received, where one of its messages was to be lost.
 pub(crate) fn loses_first(loss: Loss, calls: &[Call]) -> bool
     ensures { IsTrue result → LosesFirst loss calls.now }
 {

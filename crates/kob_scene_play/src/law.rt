@@ -14,7 +14,7 @@ use std::io::Write;
 
 /// Tells `N law holds` where only this service sends to the topics that the consumer reads, only
 /// this consumer commits for its group on them, and nobody deleted one; else `N law says nothing`
-/// with the premise that is broken, and the first entry that breaks it. Behind that it tells whether
+/// with the premise that is broken, and the first entry that breaks it. Behind that it says whether
 /// the inbox has of each aggregate the first rows that the service recorded, in their order.
 pub(crate) fn show_law<W: Write>(
     alloc: Global,

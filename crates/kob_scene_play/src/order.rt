@@ -5,7 +5,7 @@ use kob_outbox::OutboxEvent;
 use std::alloc::{AllocError, Global};
 use std::collections::HashMap;
 
-/// The rows that a service recorded: where each stands, by its event's id, and which row of the same
+/// The rows that a service recorded: where each is, by its event's id, and which row of the same
 /// aggregate was recorded before it.
 #[derive(Drop)]
 struct Recorded {

@@ -17,7 +17,7 @@ const PIECE: usize = 65_536;
 /// The last line of an output, which takes less.
 const LAST_LINE: usize = 64;
 
-/// What is printed and not yet written, and how many answers were told. The answer to each request
+/// What is printed and not yet written, and how many answers are printed. The answer to a request
 /// and to each step has the next number.
 #[derive(Drop)]
 pub struct Output<'a, W> {
@@ -29,7 +29,7 @@ pub struct Output<'a, W> {
 }
 
 impl<'a, W: Write> Output<'a, W> {
-    /// An output with nothing told. The error is out of memory.
+    /// An output with nothing printed. The error is out of memory.
     pub fn open(alloc: Global, writer: &'a mut W) -> Result<Output<'a, W>, AllocError>
         ensures same_writer { IfOk result
             (λ output. output.writer.ghost_name ≡ writer.entry.ghost_name) }
@@ -47,7 +47,7 @@ impl<'a, W: Write> Output<'a, W> {
         })
     }
 
-    /// How many answers were told.
+    /// How many answers were printed.
     pub fn told(&self) -> u64
         ensures { result ≡ self.now.told }
     {
@@ -61,7 +61,7 @@ impl<'a, W: Write> Output<'a, W> {
         self.told.saturating_add(1)
     }
 
-    /// The answer that was printed is told.
+    /// The answer that was printed is counted.
     pub(crate) fn tell(&mut self) -> Result<(), PlayFault>
         ensures same_writer { self.new.writer.ghost_name ≡ self.old.writer.ghost_name }
         ensures printed { OnOk result (Prints (W.contents self.old.writer.now) self.old.text.items

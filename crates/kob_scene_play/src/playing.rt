@@ -20,8 +20,8 @@ use kob_shared::Recorded;
 use std::alloc::Global;
 use std::io::Write;
 
-/// Plays a scene, one step after another, and tells what each answers. After a fault the answers of
-/// the steps before it are told.
+/// Plays a scene, one step after another, and prints what each answers. After a fault, answers of
+/// the steps before it are printed.
 pub fn play<W: Write>(
     alloc: Global,
     scene: Scene,

@@ -24,7 +24,7 @@ use std::io::Write;
 /// A step `run` makes no more ticks than this.
 pub(crate) const RUN_LIMIT: u32 = 1_000_000;
 
-/// Makes the step at this place of the scene, and tells what it answers.
+/// Makes the step at this place of the scene, and prints what it answers.
 pub(crate) fn play_service<W: Write>(
     alloc: Global,
     recorded: &mut Recorded,

@@ -86,7 +86,7 @@ impl ServiceWorker {
         self.worker
     }
 
-    /// Records an event together with the change that it tells of.
+    /// Records an event together with the change that it reports.
     pub fn record(&mut self, change: &Change, event: &OutboxEvent) -> Result<u64, RecordFault>
         ensures ok { OnOk result (Does (RecordedMove change.now event.now) self.old self.new) }
         ensures err { OnErr result (self.new ≡ self.old) }

@@ -30,7 +30,7 @@ pub fn print_scene_fault(out: &mut Vec<u8>, fault: SceneFault) -> Result<(), All
     out.extend_from_slice(b"\n")
 }
 
-/// The name of a kind that is none of scripts.
+/// The name of a kind that scripts do not have.
 fn kind_text(kind: SceneFaultKind) -> &'static str
     ensures { result.now ≡ kind_text kind }
 {

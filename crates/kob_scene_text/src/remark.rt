@@ -90,7 +90,7 @@ fn place_in_worker_line(kind: SceneFaultKind) -> usize {
     }
 }
 
-/// What is wrong, or that a byte order mark stands in the line.
+/// What is wrong, or that the line has a byte order mark.
 fn sentence(marked: bool, kind: SceneFaultKind) -> &'static str
     ensures { result.now ≡ sentence marked kind }
 {
@@ -126,10 +126,10 @@ fn script_sentence(kind: FaultKind) -> &'static str
         FaultKind::BadHost => "not a host",
         FaultKind::BadNumber => "not a decimal number of 64 bits",
         FaultKind::BadWord => "an unknown permission, operation, resource, pattern or column",
-        FaultKind::Usage => "words that are no options of kafka-acls",
+        FaultKind::Usage => "words that are not options of kafka-acls",
         FaultKind::NoAction => "not exactly one of --add, --remove and --list",
         FaultKind::BadName => "no principal, host, operation or pattern type in an option",
-        FaultKind::BadMix => "options that may not stand together",
+        FaultKind::BadMix => "options that may not be used together",
         FaultKind::NoResource => "no topic, group, cluster or transactional id",
         FaultKind::NoPrincipal => "no principal",
     }

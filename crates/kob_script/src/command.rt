@@ -7,7 +7,7 @@ ghost use Rattle.kob_script.specs.Command.{row, row_named};
 
 use crate::slots::{Place, Slot};
 
-/// What a line asks for. `acl` is none of these, since it may ask for more than one request, or
+/// What a line asks for. `acl` is not among these, since it may ask for more than one request, or
 /// none.
 #[derive(Clone, Copy, Debug, PartialEq, Eq)]
 pub enum Command {

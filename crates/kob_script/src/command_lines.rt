@@ -53,7 +53,7 @@ pub fn events_of(
     events_in(alloc, words, answer)
 }
 
-/// The same of words that have no fault; of others the first word that can't be read tells it.
+/// The same of words that have no fault; of others the first word that can't be read gives it.
 pub fn events_in(
     alloc: Global,
     words: &[Word<'_>],

@@ -39,7 +39,7 @@ pub fn bytes_of(alloc: Global, word: &[u8]) -> Result<Bytes, AllocError>
     Ok(Bytes::from_vec(bytes))
 }
 
-/// The byte that stands at the front of a word, and what comes after it, unless a percent sign
+/// The byte at the front of a word, and what comes after it, unless a percent sign
 /// there begins no escape.
 fn byte_at(first: u8, others: &[u8]) -> Option<(u8, &[u8])>
     ensures read { option_map (λ found. (found.0, found.1.now)) result ≡ byte_at first others.now }

@@ -3,7 +3,7 @@
 use std::alloc::{AllocError, AllocFailed};
 use thiserror::Error;
 
-/// What is wrong with a line. The kinds stand in the order in which they are looked for over a
+/// What is wrong with a line. The kinds are in the order in which they are looked for over a
 /// whole line.
 #[derive(Clone, Copy, Debug, PartialEq, Eq, Error)]
 pub enum FaultKind {
@@ -23,13 +23,13 @@ pub enum FaultKind {
     BadNumber,
     #[error("an unknown permission, operation, resource or pattern")]
     BadWord,
-    #[error("words that are no options of kafka-acls")]
+    #[error("words that are not options of kafka-acls")]
     Usage,
     #[error("not exactly one of --add, --remove and --list")]
     NoAction,
     #[error("no principal, host, operation or pattern type in an option")]
     BadName,
-    #[error("options that may not stand together")]
+    #[error("options that may not be used together")]
     BadMix,
     #[error("no topic, group, cluster or transactional id")]
     NoResource,

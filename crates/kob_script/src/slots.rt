@@ -23,7 +23,7 @@ pub enum Slot {
     FilterPattern,
 }
 
-/// The words that stand at a place of a row.
+/// The words that are at a place of a row.
 #[derive(Clone, Copy, Debug, PartialEq, Eq)]
 pub enum Place {
     One(Slot),

@@ -10,7 +10,7 @@ use bstr::ByteSlice;
 use kob_names::{Host, HostFault, Items, Principal, PrincipalFault, Text};
 use std::alloc::Global;
 
-/// The text of a word, as it stands there; no memory is taken.
+/// The text of a word, as it is there; no memory is taken.
 pub fn lent_text_of<'w>(word: &'w Word<'_>) -> Result<&'w str, LineError>
     ensures { GivesSeen (λ text. text.now) result (text_of word.entry.now) }
 {

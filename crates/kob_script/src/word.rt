@@ -11,7 +11,7 @@ use kob_names::Bytes;
 use std::alloc::Global;
 use std::marker::Model;
 
-/// A word as it stands in a line, and the bytes that it stands for. Contracts see both.
+/// A word as it is in a line, and the bytes that it stands for. Contracts see both.
 #[derive(Drop)]
 pub struct Word<'a> {
     raw: &'a [u8],
@@ -31,7 +31,7 @@ impl<'a> Model for Word<'a> {
 }
 
 impl<'a> Word<'a> {
-    /// The word that stands so in a line. The fault is `BadEscape`; a word without a percent sign
+    /// The word that is so in a line. The fault is `BadEscape`; a word without a percent sign
     /// takes no memory.
     pub fn read(alloc: Global, raw: &'a [u8]) -> Result<Word<'a>, LineError>
         ensures { Gives result (word_of raw.now) }
@@ -49,7 +49,7 @@ impl<'a> Word<'a> {
         Ok(Word { raw, replaced })
     }
 
-    /// The word as it stands in the line.
+    /// The word as it is in the line.
     pub fn raw(&self) -> &[u8]
         ensures { result.now ≡ self.now.raw }
     {
@@ -66,7 +66,7 @@ impl<'a> Word<'a> {
         }
     }
 
-    /// Whether it is `-`, which has to stand without escapes.
+    /// Whether it is `-`, which has to be without escapes.
     pub fn is_dash(&self) -> bool
         ensures { result ≡ bytes_eq self.now.raw (codes "-") }
     {

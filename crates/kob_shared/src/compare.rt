@@ -1,4 +1,4 @@
-//! Holding a journal to what the workers of a fleet were told.
+//! Comparing a journal with the receipts of a fleet's workers.
 
 ghost use Rattle.std.specs.Prelude.{◌≡◌, ◌<◌, ◌≤◌, ◌↔◌, IfSome, IsTrue, length, slice_get, take};
 ghost use Rattle.std.specs.Prelude.{MatchOption, Some};
@@ -67,7 +67,7 @@ fn is_at(events: &[Event], k: usize, event: &Event) -> bool
     events[k].same(event)
 }
 
-/// A place where the journal and what a worker was told differ.
+/// A place where the journal and a worker's receipts differ.
 #[derive(Clone, Copy)]
 pub struct Difference {
     pub worker: usize,

@@ -1,4 +1,4 @@
-//! Sessions that note what they are told.
+//! Sessions that note their receipts.
 
 ghost use Rattle.std.specs.Prelude.{◌≡◌, ◌<◌, ◌^◌, length, vec_len, vec_capacity, IfErr, OnOk};
 ghost use Rattle.std.specs.Prelude.{OnErr};

@@ -1,4 +1,4 @@
-//! A broker that threads share: under one lock stand the broker and the journal of its events.
+//! A broker that threads share: the broker and the journal of its events are under one lock.
 #![tactic(auto)]
 
 mod compare;

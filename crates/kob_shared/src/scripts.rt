@@ -30,7 +30,7 @@ pub const WORKER_LIMIT: usize = 64;
 
 const _: () = prove!(WORKER_LIMIT == 64);
 
-/// What a fleet leaves: the broker, the journal, and what each worker was told, worker 0 first.
+/// What a fleet leaves: the broker, the journal, and the receipts of each worker, worker 0 first.
 #[derive(Drop)]
 pub struct FleetEnd {
     pub broker: Broker,
@@ -56,7 +56,7 @@ fn has_room(first: &[Event], scripts: &[Script]) -> bool
     true
 }
 
-/// What each worker was told, worker 0 first. The error is out of memory.
+/// The receipts of each worker, worker 0 first. The error is out of memory.
 fn transcripts_of(
     alloc: Global,
     first: Notes,
@@ -72,7 +72,7 @@ fn transcripts_of(
     Ok(transcripts)
 }
 
-/// Holds the journal to what the workers were told.
+/// Compares the journal with the workers' receipts.
 fn end_of(
     alloc: Global,
     opening: &Settings,

@@ -37,7 +37,7 @@ fn parse_rules(rt: HostRuntime) {
     }
 }
 
-/// A character, and how often it stands in a text: up to 30 bytes, and more.
+/// A character, and how often it is in a text: up to 30 bytes, and more.
 const REPEATED: [(&str, usize); 8] = [
     ("a", 0),
     ("a", 1),

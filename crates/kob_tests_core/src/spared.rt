@@ -88,7 +88,7 @@ fn deletions_are_committed(rt: HostRuntime) {
     assert_eq!(rt; deletes(rt.alloc()), Some(true));
 }
 
-/// Whether an authorizer is opened, and tells a super user at once.
+/// Whether an authorizer is opened, and grants a super user at once.
 fn opens(alloc: Global, supers: Vec<Principal>, (root, from): &(Principal, Host)) -> bool {
     spare(alloc);
     let authorizer = Authorizer::open(alloc, supers, false);

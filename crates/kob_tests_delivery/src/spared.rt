@@ -22,7 +22,7 @@ fn spare(alloc: Global) -> bool {
     Vec::<u8>::with_capacity(alloc, CUE).is_ok()
 }
 
-/// Whether just two calls were made, both of them heard: for a producer id, and for a record.
+/// Whether just two calls were made, both with a reply: for a producer id, and for a record.
 fn are_first_two(calls: &[Call]) -> bool {
     match calls {
         [one, two] => {

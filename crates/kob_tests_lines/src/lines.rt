@@ -10,7 +10,7 @@ use std::alloc::Global;
 use std::sync::Wait;
 use std::test::Fail;
 
-/// Whether the reply of each of the first four calls was heard.
+/// Whether the reply of each of the first four calls was received.
 fn heard(calls: &[Call]) -> [Option<bool>; 4] {
     let heard = |place: usize| calls.get(place).map(|call| call.heard.is_some());
     [heard(0), heard(1), heard(2), heard(3)]
@@ -86,7 +86,7 @@ fn a_full_journal_is_named(rt: HostRuntime) -> Result<(), Fail> {
 }
 
 /// What four calls of a line hear of which the first never reaches the broker and the reply to the
-/// third is lost, and of which calls the line and the one below it heard a reply.
+/// third is lost, and of which calls the line and the one below it have a reply.
 fn lose(alloc: Global, recorded: &mut Recorded) -> Result<Losses, Fail> {
     let (principal, host) = (root(alloc)?, host(alloc)?);
     let line = RecordedLine::open(alloc, recorded, 3, principal, host);

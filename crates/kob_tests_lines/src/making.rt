@@ -1,4 +1,4 @@
-//! Brokers, and calls whose replies tell how many were served before.
+//! Brokers, and calls whose replies say how many were served before.
 
 ghost use Rattle.std.specs.Prelude.{IfOk, ◌≤◌};
 ghost use Rattle.kob_shared.specs.Openings.{IsFresh};
@@ -49,7 +49,7 @@ pub(crate) fn host(alloc: Global) -> Result<Host, Fail> {
     Ok(Host::parse(alloc, "10.0.0.1")?)
 }
 
-/// Asks for a producer id, of which the broker gives 0, 1, 2 and so on; the one that was heard.
+/// Asks for a producer id, of which the broker gives 0, 1, 2 and so on; the one that was received.
 pub(crate) fn heard_id<L: Line>(alloc: Global, line: &mut L) -> Option<u64> {
     match line.send(alloc, Request::InitProducerId) {
         Delivery::Delivered(Reply::Done(Body::Producer { id, .. })) => Some(id),

@@ -55,7 +55,7 @@ fn rights_are_told(rt: HostRuntime) -> Result<(), Fail> {
     Ok(())
 }
 
-/// Whether a record with an event id and one without are told apart.
+/// Whether a record with an event id and one without are distinguished.
 fn tells_ids(with_id: &Record, without_id: &Record) -> bool {
     event_id(with_id) == Some(Uuid::from_u128(0xA)) && event_id(without_id) == None
 }

@@ -25,7 +25,7 @@ fn writes_at<R: Wait>(
     Ok(receipt.place == place)
 }
 
-/// Worker 1 creates the topic, and then workers 2 and 1 write in turn: whether they are told the
+/// Worker 1 creates the topic, and then workers 2 and 1 write in turn: whether they receive the
 /// places one after another.
 fn take_turns<R: Wait>(
     rt: &R,
@@ -97,7 +97,7 @@ fn ends_whole(shared: SharedBroker) -> bool {
     whole
 }
 
-/// Whether the writers are told the places that the journal has.
+/// Whether the writers receive the places that the journal has.
 fn keeps_turns<R: Wait>(rt: &R, alloc: Global) -> Result<bool, Fail> {
     let shared = shared(alloc, Vec::new(alloc), ENTRIES)?;
     let told = write_in_turn(rt, alloc, &shared)?;

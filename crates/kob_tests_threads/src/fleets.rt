@@ -55,7 +55,7 @@ fn meet<R: Threads + Wait + Sync>(
     run(rt, Vec::new(alloc), Vec::new(alloc), scripts, gate, alloc)
 }
 
-/// Whether each of so many workers was told two replies, and nothing else happened.
+/// Whether each of so many workers received two replies, and nothing else happened.
 pub(crate) fn tells_two_each(end: &FleetEnd, workers: usize) -> bool
     requires { workers ≤ 64 }
 {
@@ -109,7 +109,7 @@ fn sixty_four_workers(rt: HostRuntime) -> Result<(), Fail> {
     Ok(())
 }
 
-/// Notes that an offset was told, and says whether it was not before.
+/// Notes that an offset was received, and says whether it was not before.
 fn note(offset: u64, seen: &mut [bool; 200]) -> bool {
     match seen.get_mut(offset as usize) {
         Some(slot) => {
@@ -121,7 +121,7 @@ fn note(offset: u64, seen: &mut [bool; 200]) -> bool {
     }
 }
 
-/// Notes the offsets that a worker was told: whether they rise, and no other worker was told them.
+/// Notes a worker's offsets: whether they rise, and no other worker received them.
 fn are_new(told: &Transcript, seen: &mut [bool; 200]) -> bool {
     let mut next = 0;
     for receipt in told.receipts() {
@@ -142,7 +142,7 @@ fn all_true(seen: &[bool; 200]) -> bool {
     seen.iter().all(|told| *told)
 }
 
-/// Whether each offset below 200 was told once.
+/// Whether each offset below 200 was received once.
 fn tells_all_once(end: &FleetEnd) -> bool {
     let mut seen = [false; 200];
     for told in end.transcripts.iter().skip(1) {
@@ -177,7 +177,7 @@ fn two_writers<R: Threads + Wait + Sync>(
     run(rt, Vec::new(alloc), first, scripts, gate, alloc)
 }
 
-/// Whether the writers are told each offset once, and nothing else happens.
+/// Whether the writers receive each offset once, and nothing else happens.
 fn serves_writers<R: Threads + Wait + Sync>(
     rt: &R,
     alloc: Global,

@@ -129,7 +129,7 @@ pub(crate) struct Hold {
     pub(crate) comes_to: u64,
 }
 
-/// Holds three workers where it is told to, and notes how far each has come.
+/// Holds three workers where it is asked to, and notes how far each has come.
 #[derive(Drop)]
 pub(crate) struct Holding<'t> {
     holds: &'t [Hold],

@@ -17,7 +17,7 @@ pub(crate) const TICK: Act = Act::Tick(Loss::None);
 
 pub(crate) const STEP: ConsumerStep = ConsumerStep::Tick(Loss::None);
 
-/// Runs a plan. None where it is none that may be run.
+/// Runs a plan. None where it may not be run.
 pub(crate) fn run<R: Threads + Wait + Sync, G: Gate + Sync>(
     rt: &R,
     alloc: Global,

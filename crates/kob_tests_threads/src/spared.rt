@@ -34,7 +34,7 @@ fn has_one(journal: &Journal) -> bool {
     }
 }
 
-/// Whether a record tells what it began from and its journal.
+/// Whether a record has what it began from and its journal.
 fn is_read(recorded: &Recorded) -> bool {
     let opening = recorded.opening();
     let is_told = opening.supers.len() == 1 && !opening.everyone && opening.same(opening);
@@ -97,7 +97,7 @@ fn a_record_goes_round(rt: HostRuntime) -> Result<(), Fail> {
     Ok(())
 }
 
-/// Whether one event was told, at the place 0.
+/// Whether one event was noted, at the place 0.
 fn are_of_one(receipts: &[Receipt]) -> bool {
     match receipts {
         [receipt] => receipt.place == 0 && receipt.same(receipt),
@@ -110,7 +110,7 @@ fn is_noted(notes: &Notes) -> bool {
     notes.len() == 1 && notes.events().len() == 1 && are_of_one(notes.receipts())
 }
 
-/// Whether what a desk noted is told, also once it is closed.
+/// Whether what a desk noted is returned, also once it is closed.
 fn closes(desk: Desk<'_>) -> bool {
     let told = desk.len() == 1 && are_of_one(desk.receipts());
     let notes = desk.close();

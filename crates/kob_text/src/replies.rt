@@ -39,7 +39,7 @@ fn broker_by(alloc: Global, settings: Settings) -> Result<Broker, AllocError>
     }
 }
 
-// Serves an event that is given away, and prints its reply behind its number in place of what
+// Serves an event that is moved, and prints its reply behind its number in place of what
 // `out` held.
 fn print_reply_to(
     alloc: Global,
@@ -78,7 +78,7 @@ fn print_next(
 }
 
 /// Serves requests and writes the replies as they are made, at most 65,536 bytes or one reply at a
-/// time. Each event is read when it is its turn and given away to the broker, and what the broker
+/// time. Each event is read when it is its turn and moved to the broker, and what the broker
 /// doesn't keep of it is freed before the next. Lack of memory ends the run as `Stopped`.
 fn write_replies<W: Write>(
     alloc: Global,

@@ -30,7 +30,7 @@ impl<'a, W: Write> Sink<'a, W> {
         }
     }
 
-    /// Writes some of the text, and tells how many bytes of it. An interrupted call is made again.
+    /// Writes some of the text, and returns the number of bytes. An interrupted call is made again.
     /// For an empty text the writer is not called.
     pub fn write(&mut self, text: &[u8]) -> Result<usize, WriteFailed>
         ensures same_reference { self.new.writer.ghost_name ≡ self.old.writer.ghost_name }
