@@ -72,6 +72,7 @@ User:root 10.0.0.1 create-acl allow User:svc * Write Topic literal outbox.event.
 User:svc 10.0.0.2 produce outbox.event.orders 0 - 42=paid
 User:bob 10.0.0.3 produce outbox.event.orders 0 - 42=void
 User:root 10.0.0.1 fetch outbox.event.orders 0 0 10
+User:svc 10.0.0.2 fetch outbox.event.orders 0 0 10
 ";
 
 const OUTPUT: &str = "1 ok created
@@ -79,6 +80,7 @@ const OUTPUT: &str = "1 ok created
 3 ok offset 0
 4 denied 29 TOPIC_AUTHORIZATION_FAILED no-allow
 5 ok records 0:42=paid
+6 denied 29 TOPIC_AUTHORIZATION_FAILED no-allow
 ";
 
 fn play<R: Read + Drop>(alloc: Global, reader: R) -> (Result<Ended, RunFault>, Vec<u8>) {
