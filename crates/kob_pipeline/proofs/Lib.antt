@@ -12,14 +12,11 @@ mod ConsumerKept
 mod ConsumerServed
 mod ConsumerRun
 mod RowsRun
-mod Once
+pub mod Once
 mod Arriving
 mod Aggregates
 mod Reaching
-mod DeliveryLaws
-mod Samples
-mod Example
-mod Needed
+pub mod DeliveryLaws
 pub mod Texts
 pub mod TopicReads
 pub mod TopicNames

@@ -30,7 +30,7 @@ use Rattle.kob_pipeline.specs.Premises.{ArePrivate, IsPrivate}
 use Rattle.kob_pipeline.specs.Reaching.{ReachesInOrder, rows_of_aggregate, taken_ids}
 use Rattle.kob_pipeline.specs.View.{IsHistory, IsSameView, View, opening_view, with_batch, with_commit, with_producer}
 use Rattle.kob_pipeline.proofs.DeliveryLaws.{holds_a_prefix}
-use Rattle.kob_pipeline.proofs.Samples.{batch, change, event, goes_here, held, here, id_of, message, producer, row, second_is_new, target}
+use Rattle.kob_example.proofs.Samples.{batch, change, event, goes_here, held, here, id_of, message, producer, row, second_is_new, target}
 
 -- what is asked
 

@@ -20,9 +20,9 @@ use Rattle.kob_pipeline.specs.Parts.{IsConsumerPart, IsServicePart}
 use Rattle.kob_pipeline.specs.Premises.{IsNeverDeleted, IsSoleCommitter}
 use Rattle.kob_pipeline.specs.Taking.{IsTakenInOrder}
 use Rattle.kob_pipeline.specs.View.{IsHistory, View, opening_view, with_batch, with_commit, without_topic}
-use Rattle.kob_pipeline.proofs.Example.{call, entry, position, same, subscription, taken_all}
+use Rattle.kob_example.proofs.Example.{call, entry, position, same, subscription, taken_all}
 use Rattle.kob_pipeline.proofs.Once.{next_number}
-use Rattle.kob_pipeline.proofs.Samples.{here, message, target}
+use Rattle.kob_example.proofs.Samples.{here, message, target}
 
 -- a stranger sends these without a producer id
 
