@@ -1,6 +1,8 @@
 -- Bindings, as `kafka-acls.sh` adds them.
 use Rattle.std.specs.Prelude.{ℕ, Bool, true, false, ◌&&◌, List, ◌++◌, codes}
 use Rattle.kob_names.specs.declared.draft.Draft.{Draft}
+use Rattle.kob_names.specs.Same.{same_operation}
+use Rattle.kob_names.specs.declared.kinds.Operation.TheVariants.{IdempotentWrite}
 use Rattle.kob_names.specs.declared.kinds.PatternKind.{PatternKind}
 use Rattle.kob_names.specs.declared.kinds.PatternKind.TheVariants.{Literal, Prefixed}
 use Rattle.kob_names.specs.declared.kinds.Permission.{Permission}
@@ -61,5 +63,12 @@ line_text command d = command ++ grant_text d ++ target_text d.resource d.patter
 unfoldable pub add_text : List ℕ
 add_text = codes "kafka-acls.sh --add"
 
+-- what Kafka does otherwise (KIP-679), above the line of a right that it does not ask for
+abbrev pub write_note : Bool → List ℕ
+write_note true = codes "# Since Kafka 3.0 a producer with an id needs Write on the topic alone.\n"
+write_note false = codes ""
+
 abbrev pub binding_line : Draft → List ℕ
-binding_line d = comment_unless (is_written d) ++ line_text add_text d
+binding_line d =
+    write_note (same_operation d.operation IdempotentWrite) ++ comment_unless (is_written d)
+    ++ line_text add_text d

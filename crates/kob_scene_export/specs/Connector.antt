@@ -31,8 +31,13 @@ converters_text = codes "key.converter=org.apache.kafka.connect.storage.StringCo
 unfoldable pub table_text : List ℕ
 table_text = codes "# CREATE TABLE outbox (id uuid PRIMARY KEY,\n#   aggregatetype varchar(255) NOT NULL,\n#   aggregateid varchar(255) NOT NULL,\n#   type varchar(255) NOT NULL,\n#   payload text NOT NULL);\n"
 
+-- what Kafka does otherwise
+abbrev pub producer_note : List ℕ
+producer_note =
+    codes "# Here its producer's first batch has base 0, and a repeat its number of records.\n"
+
 unfoldable pub name_text : List ℕ → List ℕ
-name_text name = codes "# service " ++ bytes_text name ++ codes "\n"
+name_text name = codes "# service " ++ bytes_text name ++ codes "\n" ++ producer_note
 
 -- the properties of a route
 unfoldable pub replacement_text : List ℕ

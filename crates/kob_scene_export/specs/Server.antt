@@ -9,8 +9,6 @@ abbrev pub head_text : List ℕ
 head_text =
     codes "# Put --bootstrap-server HOST:PORT behind each command.\n"
     ++ codes "# A line with a word that needs quotes is a comment; its escapes are those of scripts.\n"
-    ++ codes "# Here the first batch of a producer has base 0, and a repeat its number of records.\n"
-    ++ codes "# Here a producer with an id needs IdempotentWrite; since Kafka 3.0 Write is enough.\n"
 
 abbrev pub everyone_text : Bool → List ℕ
 everyone_text true = codes "allow.everyone.if.no.acl.found=true\n"

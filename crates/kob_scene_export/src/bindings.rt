@@ -4,23 +4,35 @@ ghost use Rattle.std.specs.Prelude.{◌≡◌, ◌++◌, OnOk};
 ghost use Rattle.kob_scene_export.specs.Bindings.{add_text, binding_line, grant_text, host_option};
 ghost use Rattle.kob_scene_export.specs.Bindings.{is_whole_cluster, is_written, line_text};
 ghost use Rattle.kob_scene_export.specs.Bindings.{named_text, pattern_text, principal_option};
-ghost use Rattle.kob_scene_export.specs.Bindings.{target_text};
+ghost use Rattle.kob_scene_export.specs.Bindings.{target_text, write_note};
 
 use crate::plain::{is_plain, push_mark};
-use kob_names::{Draft, Pattern, PatternKind, Permission, ResourceKind};
+use kob_names::{Draft, Operation, Pattern, PatternKind, Permission, ResourceKind};
 use kob_words::{operation_name, push_bytes};
 use std::alloc::AllocError;
 
 /// Adds the line `kafka-acls.sh --add ..` of a binding. Behind the first word its words are those of
 /// the command `acl` of a script, which creates the same binding by them. A line is a comment where
 /// a word of it needs quotes, and for a prefixed pattern of the cluster, which `kafka-acls.sh` can't
-/// write. The error is out of memory; `out` has then grown by a part of it.
+/// write. Above a line for IdempotentWrite a comment says what Kafka does otherwise. The error is
+/// out of memory; `out` has then grown by a part of it.
 #[tactic(auto, using(kob_words::proofs::Appending::appending))]
 pub fn export_binding(out: &mut Vec<u8>, binding: &Draft) -> Result<(), AllocError>
     ensures { OnOk result (out.new.items ≡ out.old.items ++ binding_line binding.now) }
 {
+    out.extend_from_slice(write_note(binding.operation == Operation::IdempotentWrite).as_bytes())?;
     push_mark(out, is_written(binding))?;
     push_line(out, add_text().as_bytes(), binding)
+}
+
+fn write_note(is_of_producers: bool) -> &'static str
+    ensures { result.now ≡ write_note is_of_producers }
+{
+    if is_of_producers {
+        "# Since Kafka 3.0 a producer with an id needs Write on the topic alone.\n"
+    } else {
+        ""
+    }
 }
 
 #[tactic(auto, unfolding(crate::specs::Bindings::add_text))]

@@ -12,9 +12,9 @@ use kob_router::{RouteBy, RouteSettings};
 use kob_words::push_bytes;
 use std::alloc::AllocError;
 
-/// Adds a service: a comment with its name, the properties of Debezium's outbox event router, and
-/// as comments the columns of its outbox table. The error is out of memory; `out` has then grown by a
-/// part of it.
+/// Adds a service: comments with its name and with what its producer does otherwise in Kafka, the
+/// properties of Debezium's outbox event router, and as comments the columns of its outbox table.
+/// The error is out of memory; `out` has then grown by a part of it.
 #[tactic(auto, using(kob_words::proofs::Appending::appending))]
 pub fn export_connector(
     out: &mut Vec<u8>,
@@ -69,7 +69,10 @@ fn push_name(out: &mut Vec<u8>, name: &Text) -> Result<(), AllocError>
 {
     out.extend_from_slice(b"# service ")?;
     push_bytes(out, name.as_str().as_bytes())?;
-    out.extend_from_slice(b"\n")
+    out.extend_from_slice(b"\n")?;
+    out.extend_from_slice(
+        b"# Here its producer's first batch has base 0, and a repeat its number of records.\n",
+    )
 }
 
 #[tactic(auto, using(kob_words::proofs::Appending::appending), unfolding(crate::specs::Connector::route_text))]

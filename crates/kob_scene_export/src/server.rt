@@ -9,8 +9,8 @@ use kob_names::{Principal, Settings};
 use kob_words::push_bytes;
 use std::alloc::AllocError;
 
-/// Adds the comments above an export: how its lines are used, and what Kafka does
-/// otherwise. The error is out of memory; `out` has then grown by a part of it.
+/// Adds the comments above an export: how its lines are used. The error is out of memory; `out` has
+/// then grown by a part of it.
 #[tactic(auto, using(kob_words::proofs::Appending::appending))]
 pub fn export_head(out: &mut Vec<u8>) -> Result<(), AllocError>
     ensures { OnOk result (out.new.items ≡ out.old.items ++ head_text) }
@@ -18,12 +18,6 @@ pub fn export_head(out: &mut Vec<u8>) -> Result<(), AllocError>
     out.extend_from_slice(b"# Put --bootstrap-server HOST:PORT behind each command.\n")?;
     out.extend_from_slice(
         b"# A line with a word that needs quotes is a comment; its escapes are those of scripts.\n",
-    )?;
-    out.extend_from_slice(
-        b"# Here the first batch of a producer has base 0, and a repeat its number of records.\n",
-    )?;
-    out.extend_from_slice(
-        b"# Here a producer with an id needs IdempotentWrite; since Kafka 3.0 Write is enough.\n",
     )
 }
 
