@@ -34,7 +34,7 @@ table_text = codes "# CREATE TABLE outbox (id uuid PRIMARY KEY,\n#   aggregatety
 -- what Kafka does otherwise
 abbrev pub producer_note : List ℕ
 producer_note =
-    codes "# Here its producer's first batch has base 0, and a repeat its number of records.\n"
+    codes "# Here the first batch of its producer on a partition has base 0; in Kafka it may have any.\n"
 
 unfoldable pub name_text : List ℕ → List ℕ
 name_text name = codes "# service " ++ bytes_text name ++ codes "\n" ++ producer_note

@@ -71,7 +71,7 @@ fn push_name(out: &mut Vec<u8>, name: &Text) -> Result<(), AllocError>
     push_bytes(out, name.as_str().as_bytes())?;
     out.extend_from_slice(b"\n")?;
     out.extend_from_slice(
-        b"# Here its producer's first batch has base 0, and a repeat its number of records.\n",
+        b"# Here the first batch of its producer on a partition has base 0; in Kafka it may have any.\n",
     )
 }
 

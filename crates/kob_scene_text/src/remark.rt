@@ -49,12 +49,14 @@ fn begins_with_mark(text: &[u8]) -> bool
     }
 }
 
-/// The word that a fault is about, else the first of its line.
+/// The word that a fault is about, else the first of its line; of a byte order mark the first.
 fn word_for(text: &[u8], fault: SceneFault) -> &[u8] {
     let before = fault.line.saturating_sub(1) as usize;
     let line = text.lines().nth(before).unwrap_or(b"".as_slice());
     let first = word_at(line, 0).unwrap_or(b"".as_slice());
-    let place = if first.contains(&b':') {
+    let place = if begins_with_mark(text) && fault.line == 1 {
+        0
+    } else if first.contains(&b':') {
         place_in_request(fault.kind)
     } else {
         place_in_worker_line(fault.kind)
