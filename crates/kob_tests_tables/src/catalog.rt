@@ -1,23 +1,10 @@
-//! Topics that are created and refused, and out of memory.
+//! Topics that are created and refused, and out of memory. `.ci/refuse` runs it with each allocation
+//! refused in turn.
 
 use kob_catalog::{Catalog, CreateFault};
-use kob_names::{Batch, Bytes, Items, Record, Text, TopicName};
-use std::alloc::{AllocError, Global};
+use kob_names::{Text, TopicName};
+use std::alloc::Global;
 use std::test::Fail;
-
-/// A batch of one record without a key.
-pub(crate) fn batch(alloc: Global, value: &[u8]) -> Result<Batch, AllocError> {
-    let mut records = Vec::new(alloc);
-    records.push(Record {
-        key: None,
-        value: Bytes::copied(alloc, value)?,
-        headers: Items::from_vec(Vec::new(alloc)),
-    })?;
-    Ok(Batch {
-        idem: None,
-        records: Items::from_vec(records),
-    })
-}
 
 /// A topic, the number of its partitions, and what its creation is answered.
 type Row = (&'static str, u64, Result<(), CreateFault>);
@@ -56,7 +43,7 @@ fn creates_all(alloc: Global, catalog: &mut Catalog) -> Result<bool, Fail> {
 }
 
 #[test]
-fn refused_growth_leaves_the_topics(rt: HostRuntime) -> Result<(), Fail> {
+fn refused_allocation_leaves_the_topics(rt: HostRuntime) -> Result<(), Fail> {
     let mut catalog = Catalog::new(rt.alloc());
     assert!(rt; creates_all(rt.alloc(), &mut catalog)?);
     Ok(())

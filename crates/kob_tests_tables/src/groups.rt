@@ -1,5 +1,5 @@
-//! Commits of groups that lack of memory stops. `.ci/refuse` runs them with each allocation refused
-//! in turn.
+//! Commits of groups that lack of memory stops, which `.ci/refuse` runs with each allocation refused
+//! in turn, and groups that come and go.
 
 use kob_groups::{CommitFault, CommitPlace, Groups};
 use kob_names::Text;
@@ -23,14 +23,21 @@ pub(crate) const STEPS: [Step; 5] = [
     (0, 9, [Some(9), Some(6), Some(7), Some(8)]),
 ];
 
+pub(crate) fn place(
+    alloc: Global,
+    (group, topic, partition): (&str, &str, u64),
+) -> Result<CommitPlace, AllocError> {
+    Ok(CommitPlace {
+        group: Text::copied(alloc, group)?,
+        topic: Text::copied(alloc, topic)?,
+        partition,
+    })
+}
+
 pub(crate) fn places(alloc: Global) -> Result<Vec<CommitPlace>, AllocError> {
     let mut places = Vec::new(alloc);
-    for (group, topic, partition) in PLACES {
-        places.push(CommitPlace {
-            group: Text::copied(alloc, group)?,
-            topic: Text::copied(alloc, topic)?,
-            partition,
-        })?;
+    for at in PLACES {
+        places.push(place(alloc, at)?)?;
     }
     Ok(places)
 }
@@ -58,33 +65,49 @@ fn commits(
     groups: &mut Groups,
     places: &[CommitPlace],
     before: &Offsets,
-    step: &Step,
-) -> Result<bool, Fail> {
-    let (place, offset, after) = step;
-    let place = places.get(*place).ok_or("no place")?;
-    let committed = match commit(alloc, groups, place, *offset) {
-        Ok(()) => true,
-        Err(_) => holds(groups, places, before) && commit(alloc, groups, place, *offset).is_ok(),
-    };
-    Ok(committed && holds(groups, places, after))
+    (place, offset, after): &Step,
+) -> Option<bool> {
+    let place = places.get(*place)?;
+    let committed = commit(alloc, groups, place, *offset).is_ok()
+        || holds(groups, places, before) && commit(alloc, groups, place, *offset).is_ok();
+    Some(committed && holds(groups, places, after))
 }
 
 fn commits_all(alloc: Global, groups: &mut Groups) -> Result<bool, Fail> {
     let places = places(alloc)?;
     let mut before = [None; 4];
     for step in &STEPS {
-        if !commits(alloc, groups, &places, &before, step)? {
+        if commits(alloc, groups, &places, &before, step) != Some(true) {
             return Ok(false);
         }
         before = step.2;
     }
-    let names = groups.names(alloc).or_else(|_| groups.names(alloc))?;
-    Ok(names.len() == 2)
+    Ok(groups.names(alloc).or_else(|_| groups.names(alloc))?.len() == 2)
 }
 
 #[test]
-fn refused_growth_leaves_the_commits(rt: HostRuntime) -> Result<(), Fail> {
+fn refused_allocation_leaves_the_commits(rt: HostRuntime) -> Result<(), Fail> {
     let mut groups = Groups::new(rt.alloc());
     assert!(rt; commits_all(rt.alloc(), &mut groups)?);
+    Ok(())
+}
+
+/// A group that commits on the topic `a` and goes again.
+fn comes_and_goes(alloc: Global, groups: &mut Groups, number: u32) -> Result<bool, Fail> {
+    let name = format!(in alloc; "group {number}")?;
+    let place = place(alloc, (name.as_str(), "a", 0))?;
+    commit(alloc, groups, &place, 1)?;
+    let is_there = groups.fetch(&place.group, &place.topic, 0) == Some(1);
+    Ok(is_there && groups.remove(&place.group).is_ok())
+}
+
+/// However many groups come and go on a topic, none is left behind.
+#[test]
+fn a_hundred_thousand_groups_come_and_go(rt: HostRuntime) -> Result<(), Fail> {
+    let mut groups = Groups::new(rt.alloc());
+    for number in 0..100_000 {
+        assert!(rt; comes_and_goes(rt.alloc(), &mut groups, number)?);
+    }
+    assert_eq!(rt; groups.names(rt.alloc())?.len(), 0);
     Ok(())
 }
