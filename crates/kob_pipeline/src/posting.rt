@@ -1,6 +1,6 @@
 //! A service at work: its router and its outbox, step by step.
 
-ghost use Rattle.std.specs.Prelude.{◌≡◌, ◌≤◌, ◌⊎◌, ◌^◌, [], map, IfOk, IsErrOf, None};
+ghost use Rattle.std.specs.Prelude.{◌≡◌, ◌≤◌, ◌⊎◌, ◌^◌, [], map, IfErr, IfOk, IsErrOf, None};
 ghost use Rattle.std.specs.Prelude.{OnErr, OnOk, false, option_map};
 ghost use Rattle.kob_outbox.specs.Events.{id_text, stored_row};
 ghost use Rattle.kob_outbox.specs.Fields.{first_bad};
@@ -123,6 +123,8 @@ impl Posting {
             (steps.Record change.now event.now)
             (standing (state_of self.new.router self.new.outbox) calls self.new.losses.items)) }
         ensures fits { OnErr result (first_bad change.now event.now ≡ None) }
+        ensures own { IfErr result (λ fault.
+            (fault ≡ StepFault.Store) ⊎ (fault ≡ StepFault.Call CallFault.Memory)) }
         ensures fresh { IsErrOf result StepFault.Store
             → (is_recorded self.old.outbox.ids (id_text event.now.id) ≡ false)
             ⊎ (next_seq self.old.outbox ≡ 2 ^ 63) }
@@ -212,8 +214,8 @@ fn goes_on(tick: Tick) -> Result<(), StepFault>
     }
 }
 
-/// All rows that were not swept. One read gives up to 4,294,967,295; as many are refused as want of
-/// memory, since there may be more.
+/// All rows that were not swept. One read gives up to 4,294,967,295; as many are out of memory,
+/// since there may be more.
 fn rows_of(outbox: &mut Outbox) -> Result<Vec<Row>, OutboxFault>
     ensures rows { IfOk result (λ rows.
         map stored_row rows.items ≡ later_than 0 outbox.old.events) }
