@@ -26,7 +26,7 @@ use crate::workers::workers_of;
 use kob_broker::{Broker, OpenFault, Settings};
 use kob_names::PlainValue;
 use kob_rights::Event;
-use kob_shared::{Gate, Ran, find_tear, run_fleet};
+use kob_shared::{Difference, Gate, Ran, Recorded, find_tear, run_fleet};
 use std::alloc::{AllocError, Global};
 use std::sync::Wait;
 use std::thread::Threads;
@@ -132,25 +132,58 @@ fn end_of(
 {
     let difference = find_tear(opening, &ran);
     let Ran { found, first, done } = ran;
+    let left = match leavings_of(alloc, first, done) {
+        Ok(left) => left,
+        Err(fault) => {
+            drop(found);
+            return Err(fault);
+        }
+    };
+    match difference {
+        Some(difference) => Err(torn(difference, found, left)),
+        None => Ok(end_with(found, left)),
+    }
+}
+
+/// The fault of a pipeline whose journal is torn there; no memory is taken.
+fn torn(difference: Difference, found: Recorded, left: Leavings) -> PipelineFault
+    ensures { result
+        ≡ PipelineFault.Torn difference.worker difference.place found left.transcripts }
+{
     let Leavings {
         transcripts,
         outboxes,
         inboxes,
-    } = leavings_of(alloc, first, done)?;
-    if let Some(difference) = difference {
-        return Err(PipelineFault::Torn {
-            worker: difference.worker,
-            place: difference.place,
-            found,
-            transcripts,
-        });
+    } = left;
+    drop(outboxes);
+    drop(inboxes);
+    PipelineFault::Torn {
+        worker: difference.worker,
+        place: difference.place,
+        found,
+        transcripts,
     }
+}
+
+/// What a pipeline leaves whose journal is what the workers noted; no memory is taken.
+fn end_with(found: Recorded, left: Leavings) -> PipelineEnd
+    ensures broker { state_of result.broker ≡ found.broker }
+    ensures journal { result.journal ≡ found.journal }
+    ensures transcripts { result.transcripts.items ≡ left.transcripts.items }
+    ensures outboxes { result.outboxes.items ≡ left.outboxes.items }
+    ensures inboxes { result.inboxes.items ≡ left.inboxes.items }
+{
     let (broker, journal) = found.into_parts();
-    Ok(PipelineEnd {
+    let Leavings {
+        transcripts,
+        outboxes,
+        inboxes,
+    } = left;
+    PipelineEnd {
         broker,
         journal,
         transcripts,
         outboxes,
         inboxes,
-    })
+    }
 }

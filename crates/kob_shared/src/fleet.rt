@@ -10,7 +10,9 @@ ghost use Rattle.kob_shared.specs.Openings.{IsFresh};
 ghost use Rattle.kob_shared.specs.Journals.{IsSound};
 ghost use Rattle.kob_shared.specs.Fleets.{Follows, entries_told};
 ghost use Rattle.kob_shared.specs.Runs.{HasBegun, IsAsNoted, IsFullOnlyPast, IsNamedWithin, IsTear};
-ghost use Rattle.kob_shared.specs.Runs.{NamesFirstFault, NamesNoWorker, as_of_worker, notes_of};
+ghost use Rattle.kob_shared.specs.Runs.{NamesFirstFault, NamesNoWorker, as_fault, as_of_worker};
+ghost use Rattle.kob_shared.specs.Runs.{notes_of};
+ghost use Rattle.kob_shared.specs.Tears.{NamesWorkerWithin};
 
 use crate::compare::{Difference, compare};
 use crate::faults::{CallFault, ServeFault};
@@ -23,7 +25,7 @@ use crate::work::{Done, Gate, Work};
 use kob_broker::{Broker, Settings};
 use kob_names::PlainValue;
 use kob_rights::Event;
-use std::alloc::Global;
+use std::alloc::{AllocError, Global};
 use std::snapshot::Snapshot;
 use std::sync::Wait;
 use std::thread;
@@ -109,6 +111,46 @@ fn serve_first(
     Ok(told)
 }
 
+/// Opens the journal of a broker that was just opened. The error is out of memory.
+fn open_journal(alloc: Global, broker: Broker) -> Result<Recorded, AllocError>
+    requires { IsFresh broker }
+    ensures journal { IfOk result (λ recorded. recorded.journal ≡ []) }
+    ensures limit { IfOk result (λ recorded. recorded.limit ≡ entry_limit) }
+    ensures opening { IfOk result (λ recorded. recorded.opening ≡ settings_of (state_of broker)) }
+{
+    match Recorded::open(alloc, broker, ENTRY_LIMIT) {
+        Ok(recorded) => Ok(recorded),
+        Err(refused) => {
+            drop(refused);
+            Err(AllocError)
+        }
+    }
+}
+
+/// Serves the first events, as worker 0, into an empty journal, and notes them.
+fn serve_and_note(
+    alloc: Global,
+    recorded: &mut Recorded,
+    first: Vec<Event>,
+) -> Result<Notes, FleetStop>
+    requires { recorded.old.journal ≡ [] }
+    ensures told { IfOk result (λ noted. (noted.events ≡ first.items) × Follows 0 noted.told) }
+    ensures served { IfOk result
+        (λ noted. recorded.new.journal ≡ entries_told 0 noted.events noted.told) }
+    ensures limit { recorded.new.limit ≡ recorded.old.limit }
+    ensures opening { recorded.new.opening ≡ recorded.old.opening }
+    ensures named { IfErr result (IsNamedWithin 0) }
+    ensures full { IfErr result (IsFullOnlyPast recorded.old.limit (vec_len first)) }
+{
+    match serve_first(alloc, recorded, first.as_slice()) {
+        Ok(told) => Ok(Notes::new(first, told)),
+        Err(stop) => {
+            drop(first);
+            Err(stop)
+        }
+    }
+}
+
 /// Opens the journal, and serves the first events.
 fn begin(alloc: Global, broker: Broker, first: Vec<Event>) -> Result<(Recorded, Notes), FleetStop>
     requires { IsFresh broker }
@@ -119,9 +161,17 @@ fn begin(alloc: Global, broker: Broker, first: Vec<Event>) -> Result<(Recorded, 
     ensures named { IfErr result (IsNamedWithin 0) }
     ensures full { IfErr result (IsFullOnlyPast entry_limit (vec_len first)) }
 {
-    let mut recorded = Recorded::open(alloc, broker, ENTRY_LIMIT)?;
-    let told = serve_first(alloc, &mut recorded, first.as_slice())?;
-    Ok((recorded, Notes::new(first, told)))
+    let Ok(mut recorded) = open_journal(alloc, broker) else {
+        drop(first);
+        return Err(FleetStop::Memory);
+    };
+    match serve_and_note(alloc, &mut recorded, first) {
+        Ok(noted) => Ok((recorded, noted)),
+        Err(stop) => {
+            drop(recorded);
+            Err(stop)
+        }
+    }
 }
 
 /// What a worker's fault is for the fleet.
@@ -167,7 +217,6 @@ pub struct Ran<E> {
 /// from 1. The journal is not compared yet with what was noted: that is for `find_tear`. `Full`
 /// names worker 0 only where there are more first events than a journal takes. Room for what the
 /// workers leave is made before they run.
-#[tactic(auto, using(crate::proofs::Crossing::shared_sync))]
 pub fn run_fleet<R: Threads + Wait + Sync, G: Gate + Sync, W: Work<Shared = SharedBroker> + Sync>(
     rt: &R,
     alloc: Global,
@@ -188,16 +237,86 @@ where
     ensures named { IfErr result (IsNamedWithin (length works.now)) }
     ensures full { IfErr result (IsFullOnlyPast entry_limit (vec_len first)) }
 {
-    let room = Vec::with_capacity(alloc, works.len())?;
-    let (recorded, noted) = begin(alloc, broker, first)?;
+    let Ok(room) = Vec::with_capacity(alloc, works.len()) else {
+        drop(broker);
+        drop(first);
+        return Err(FleetStop::Memory);
+    };
+    match begin(alloc, broker, first) {
+        Ok((recorded, noted)) => run_begun(rt, alloc, recorded, noted, works, room, gate),
+        Err(stop) => {
+            drop(room);
+            Err(stop)
+        }
+    }
+}
+
+/// Runs the workers over a broker whose first events were served.
+#[tactic(auto, using(crate::proofs::Crossing::shared_sync))]
+fn run_begun<R: Threads + Wait + Sync, G: Gate + Sync, W: Work<Shared = SharedBroker> + Sync>(
+    rt: &R,
+    alloc: Global,
+    recorded: Recorded,
+    noted: Notes,
+    works: &[W],
+    room: Vec<Done<W::End>>,
+    gate: &G,
+) -> Result<Ran<W::End>, FleetStop>
+where
+    W::End: Send + Drop,
+    requires few { length works.now ≤ worker_limit }
+    requires empty { room.items ≡ [] }
+    requires room { length works.now ≤ vec_capacity room }
+    ensures sound { IfOk result (λ ran. IsSound ran.found) }
+    ensures first { IfOk result (λ ran. ran.first ≡ noted) }
+    ensures each { IfOk result
+        (λ ran. AllZip (λ w d. W.keeps w d.notes d.end) works.now ran.done.items) }
+    ensures named { IfErr result
+        (λ stop. NamesWorkerWithin (length works.now) (as_fault stop)) }
+{
     let shared = SharedBroker::open(recorded);
-    let results = run_workers(rt, alloc, &shared, works, gate)?;
-    let done = gather(room, results)?;
-    Ok(Ran {
-        found: shared.finish(),
-        first: noted,
-        done,
-    })
+    match run_and_gather(rt, alloc, &shared, works, room, gate) {
+        Ok(done) => Ok(Ran {
+            found: shared.finish(),
+            first: noted,
+            done,
+        }),
+        Err(stop) => {
+            drop(shared);
+            drop(noted);
+            Err(stop)
+        }
+    }
+}
+
+/// Runs the workers, and puts what they left into the room. A worker that is named is one of them,
+/// from 1 on.
+fn run_and_gather<R: Threads + Wait + Sync, G: Gate + Sync, W: Work + Sync>(
+    rt: &R,
+    alloc: Global,
+    shared: &W::Shared,
+    works: &[W],
+    room: Vec<Done<W::End>>,
+    gate: &G,
+) -> Result<Vec<Done<W::End>>, FleetStop>
+where
+    W::Shared: Sync,
+    W::End: Send + Drop,
+    requires few { length works.now ≤ worker_limit }
+    requires empty { room.items ≡ [] }
+    requires room { length works.now ≤ vec_capacity room }
+    ensures each { IfOk result
+        (λ done. AllZip (λ w d. W.keeps w d.notes d.end) works.now done.items) }
+    ensures named { IfErr result
+        (λ stop. NamesWorkerWithin (length works.now) (as_fault stop)) }
+{
+    match run_workers(rt, alloc, shared, works, gate) {
+        Ok(results) => gather(room, results),
+        Err(stop) => {
+            drop(room);
+            Err(stop)
+        }
+    }
 }
 
 /// The first place where the journal differs from what the workers noted; place 0 of worker 0 also

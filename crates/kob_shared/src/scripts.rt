@@ -1,6 +1,7 @@
 //! Fleets of scripts.
 
-ghost use Rattle.std.specs.Prelude.{◌≡◌, ◌≤◌, ◌<◌, ◌↔◌, vec_len, IfOk, IfErr, IsTrue, IsErrOf};
+ghost use Rattle.std.specs.Prelude.{◌≡◌, ◌≤◌, ◌<◌, ◌↔◌, length, vec_len, IfOk, IfErr, IsTrue};
+ghost use Rattle.std.specs.Prelude.{IsErrOf};
 ghost use Rattle.std.specs.List.{AllZip};
 ghost use Rattle.kob_broker.specs.Change.{state_of};
 ghost use Rattle.kob_broker.specs.State.{settings_of};
@@ -12,11 +13,12 @@ ghost use Rattle.kob_shared.specs.Limits.{entry_limit, worker_limit};
 ghost use Rattle.kob_shared.specs.Tears.{IsTornOnlyWhere, IsLater, NamesWorkerWithin};
 ghost use Rattle.kob_shared.specs.Runs.{IsTaken, notes_of};
 
+use crate::compare::Difference;
 use crate::fleet::{Ran, find_tear, run_fleet};
 use crate::fleet_fault::FleetFault;
 use crate::journal::Journal;
 use crate::notes::Notes;
-use crate::recorded::ENTRY_LIMIT;
+use crate::recorded::{ENTRY_LIMIT, Recorded};
 use crate::script::{Script, Transcript};
 use crate::work::{Done, Gate};
 use kob_broker::{Broker, Settings};
@@ -95,14 +97,12 @@ fn end_of(
         first: noted,
         done,
     } = ran;
-    let transcripts = transcripts_of(alloc, noted, done)?;
+    let Ok(transcripts) = transcripts_of(alloc, noted, done) else {
+        drop(found);
+        return Err(FleetFault::Memory);
+    };
     if let Some(difference) = difference {
-        return Err(FleetFault::Torn {
-            worker: difference.worker,
-            place: difference.place,
-            found,
-            transcripts,
-        });
+        return Err(torn(difference, found, transcripts));
     }
     let (broker, journal) = found.into_parts();
     Ok(FleetEnd {
@@ -110,6 +110,18 @@ fn end_of(
         journal,
         transcripts,
     })
+}
+
+/// The fault of a fleet whose journal is torn there; no memory is taken.
+fn torn(difference: Difference, found: Recorded, transcripts: Vec<Transcript>) -> FleetFault
+    ensures { result ≡ FleetFault.Torn difference.worker difference.place found transcripts }
+{
+    FleetFault::Torn {
+        worker: difference.worker,
+        place: difference.place,
+        found,
+        transcripts,
+    }
 }
 
 /// Serves the first events as worker 0, and then runs each script in a thread of its own, numbered
@@ -134,16 +146,45 @@ pub fn run_scripts<R: Threads + Wait + Sync, G: Gate + Sync>(
     ensures named { IfErr result (NamesWorkerWithin (vec_len scripts)) }
 {
     if scripts.len() > WORKER_LIMIT {
+        drop(broker);
+        drop(first);
+        drop(scripts);
         return Err(FleetFault::TooManyWorkers);
     }
-    if !has_room(first.as_slice(), scripts.as_slice()) {
-        return Err(FleetFault::JournalFull);
-    }
-    run_all(rt, alloc, broker, first, scripts, gate)
+    run_few(rt, alloc, broker, first, scripts, gate)
 }
 
-#[tactic(auto, using(crate::proofs::FaultCases::later_stopped))]
-fn run_all<R: Threads + Wait + Sync, G: Gate + Sync>(
+/// Runs scripts that are not too many, if the events of all workers fit a journal.
+fn run_few<R: Threads + Wait + Sync, G: Gate + Sync>(
+    rt: &R,
+    alloc: Global,
+    broker: Broker,
+    first: Vec<Event>,
+    scripts: Vec<Script>,
+    gate: &G,
+) -> Result<FleetEnd, FleetFault>
+    requires fresh { IsFresh broker }
+    requires few { vec_len scripts ≤ worker_limit }
+    ensures ok { IfOk result (λ end. IsFleet (state_of broker) first.items scripts.items
+        end.journal (state_of end.broker) end.transcripts.items) }
+    ensures workers { IsErrOf result FleetFault.TooManyWorkers → ⊥ }
+    ensures full { IsErrOf result FleetFault.JournalFull
+        ↔ (entry_limit < entries_asked first.items scripts.items) }
+    ensures torn { IfErr result
+        (IsTornOnlyWhere (settings_of (state_of broker)) (asked_of_all first.items scripts.items)) }
+    ensures named { IfErr result (NamesWorkerWithin (vec_len scripts)) }
+{
+    if !has_room(first.as_slice(), scripts.as_slice()) {
+        drop(broker);
+        drop(first);
+        drop(scripts);
+        return Err(FleetFault::JournalFull);
+    }
+    run_fitting(rt, alloc, broker, first, scripts, gate)
+}
+
+/// Runs scripts whose counts fit; what the broker was opened with is stored first.
+fn run_fitting<R: Threads + Wait + Sync, G: Gate + Sync>(
     rt: &R,
     alloc: Global,
     broker: Broker,
@@ -161,7 +202,40 @@ fn run_all<R: Threads + Wait + Sync, G: Gate + Sync>(
     ensures later { IfErr result IsLater }
     ensures named { IfErr result (NamesWorkerWithin (vec_len scripts)) }
 {
-    let opening = broker.opening(alloc)?;
-    let ran = run_fleet(rt, alloc, broker, first, scripts.as_slice(), gate)?;
-    end_of(alloc, &opening, ran, scripts.as_slice())
+    let Ok(opening) = broker.opening(alloc) else {
+        drop(broker);
+        drop(first);
+        drop(scripts);
+        return Err(FleetFault::Memory);
+    };
+    let end = run_from(rt, alloc, &opening, broker, first, scripts.as_slice(), gate);
+    drop(opening);
+    drop(scripts);
+    end
+}
+
+/// Runs scripts over a broker that was opened with these settings, and holds the journal to what
+/// the workers were told.
+#[tactic(auto, using(crate::proofs::FaultCases::later_stopped))]
+fn run_from<R: Threads + Wait + Sync, G: Gate + Sync>(
+    rt: &R,
+    alloc: Global,
+    opening: &Settings,
+    broker: Broker,
+    first: Vec<Event>,
+    scripts: &[Script],
+    gate: &G,
+) -> Result<FleetEnd, FleetFault>
+    requires fresh { IsFresh broker }
+    requires few { length scripts.now ≤ worker_limit }
+    requires fits { entries_asked first.items scripts.now ≤ entry_limit }
+    ensures ok { IfOk result (λ end. IsFleet (opened_by opening.now) first.items scripts.now
+        end.journal (state_of end.broker) end.transcripts.items) }
+    ensures torn { IfErr result
+        (IsTornOnlyWhere opening.now (asked_of_all first.items scripts.now)) }
+    ensures later { IfErr result IsLater }
+    ensures named { IfErr result (NamesWorkerWithin (length scripts.now)) }
+{
+    let ran = run_fleet(rt, alloc, broker, first, scripts, gate)?;
+    end_of(alloc, opening, ran, scripts)
 }

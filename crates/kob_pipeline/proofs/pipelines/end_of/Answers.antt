@@ -1,20 +1,27 @@
+use Rattle.std.proofs.Common.{List, sym, subst, ◌∙◌}
+use Rattle.kob_shared.specs.Fleets.{EachIsAnswered}
+use Rattle.kob_shared.specs.Noted.{Noted}
+use Rattle.kob_shared.specs.Runs.{events_in, told_in}
 use Rattle.kob_pipeline.proofs.Ended.{ended, torn}
 use Rattle.kob_pipeline.proofs.pipelines.end_of.Goals as goal
 
-pub returns-clause-ok : goal.returns-clause-ok
-returns-clause-ok c =
+pub returns-in-None-clause-ok : goal.returns-in-None-clause-ok
+returns-in-None-clause-ok c =
     let ran = c.args.ran in
-    let parts = c.into_parts-broker.ensures in
-    let left = c.in_ok-transcripts.ensures in
+    let end = c.end_with.ensures in
+    let left = c.in-Ok.ensures in
     ended c.args.opening.now ran.first c.args.workers.now ran.done.items ran.found _ c.requires.sound.legal
-    c.in_default.ensures c.requires.first c.requires.each left.stores left.answered parts.broker parts.journal
-    left.transcripts left.outboxes left.inboxes
+    c.in-None.ensures c.requires.first c.requires.each left.stores
+    (subst (λ (ns : List Noted). EachIsAnswered (events_in ns) (told_in ns)) (sym end.transcripts) left.answered)
+    end.broker end.journal (end.transcripts ∙ left.transcripts) (end.outboxes ∙ left.outboxes)
+    (end.inboxes ∙ left.inboxes)
 
 pub returns-in-Some-clause-torn : goal.returns-in-Some-clause-torn
 returns-in-Some-clause-torn c =
     let ran = c.args.ran in
-    let left = c.in_ok-transcripts.ensures in (
+    let left = c.in-Ok.ensures in
+    rw c.torn.ensures (
       left.answered,
       torn c.args.opening.now ran.first ran.done.items ran.found c.in-Some.difference
-          c.in_ok-transcripts.field-0.transcripts.items c.in-Some.ensures left.transcripts,
+          c.in-Ok.left.transcripts.items c.in-Some.ensures left.transcripts,
     )

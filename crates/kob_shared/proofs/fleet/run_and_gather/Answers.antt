@@ -1,0 +1,41 @@
+use Rattle.std.proofs.Common.{◌≡◌, arith, length, map, Ok, IfOk}
+use Rattle.std.specs.List.{AllZip}
+use Rattle.std.proofs.lemmas.Result.{IfErr-weaker, IfOk-weaker}
+use Rattle.kob_shared.specs.Runs.{NamesFirstFault, as_fault}
+use Rattle.kob_shared.specs.Tears.{NamesWorkerWithin}
+use Rattle.kob_shared.proofs.NamedWorkers.{within_first, within_more, within_none}
+use Rattle.kob_shared.proofs.Noted.{kept_done}
+use Rattle.kob_shared.proofs.Zips.{length_all_zip}
+use Rattle.kob_shared.proofs.fleet.run_and_gather.Goals as goal
+
+pub gather-requires : goal.gather-requires
+gather-requires g c =
+    let results = c.in-Ok.results in
+    let same =
+    length_all_zip (λ w r. IfOk r (λ d. g.W.Work.keeps w d.notes d.end)) c.args.works.now results.items
+    c.in-Ok.ensures.each in
+    record { empty = c.requires.empty; room = omega (arith, same, results.ok.0, c.requires.room) }
+
+pub returns-in-Ok-clause-each : goal.returns-in-Ok-clause-each
+returns-in-Ok-clause-each g c =
+    let works = c.args.works.now in
+    let results = c.in-Ok.results.items in
+    IfOk-weaker c.gather.result (λ v. map Ok v.items ≡ results)
+    (λ v. AllZip (λ w d. g.W.Work.keeps w d.notes d.end) works v.items)
+    (λ v all. kept_done (λ w d. g.W.Work.keeps w d.notes d.end) works results v.items c.in-Ok.ensures.each all)
+    c.gather.ensures.all
+
+pub returns-in-Ok-clause-named : goal.returns-in-Ok-clause-named
+returns-in-Ok-clause-named g c =
+    let works = c.args.works.now in
+    let results = c.in-Ok.results.items in
+    let same =
+    length_all_zip (λ w r. IfOk r (λ d. g.W.Work.keeps w d.notes d.end)) works results c.in-Ok.ensures.each in
+    IfErr-weaker c.gather.result (NamesFirstFault results)
+    (λ f. NamesWorkerWithin (length works) (as_fault f))
+    (λ f named.
+    within_more (length results) (length works) (as_fault f) (omega (arith, same)) (within_first results f named))
+    c.gather.ensures.named
+
+pub returns-in-Err-clause-named : goal.returns-in-Err-clause-named
+returns-in-Err-clause-named g c = within_none _ _ c.in-Err.ensures.named
