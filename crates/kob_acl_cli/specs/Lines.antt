@@ -94,3 +94,18 @@ pub record IsReadOf (rows : List Row) (args : CliArgs) : Type 0 where
   pub producer : IsFlag rows (codes "producer") args.producer
   pub consumer : IsFlag rows (codes "consumer") args.consumer
   pub idempotent : IsFlag rows (codes "idempotent") args.idempotent
+
+-- the options with the texts that clap read for them
+abbrev pub with_texts : List Row → CliArgs → CliArgs
+with_texts rows args = record args {
+  allow_principals = values_of rows (codes "allow-principal");
+  deny_principals = values_of rows (codes "deny-principal");
+  allow_hosts = values_of rows (codes "allow-host");
+  deny_hosts = values_of rows (codes "deny-host");
+  operations = values_of rows (codes "operation");
+  topics = values_of rows (codes "topic");
+  groups = values_of rows (codes "group");
+  transactional_ids = values_of rows (codes "transactional-id");
+  principals = values_of rows (codes "principal");
+  pattern_type = first_of (codes "resource-pattern-type") rows;
+}

@@ -1,9 +1,9 @@
 //! Reading the words of a line by `clap`.
 
-ghost use Rattle.std.specs.Prelude.{◌≡◌, [], true, IfOk, IfErr};
+ghost use Rattle.std.specs.Prelude.{◌≡◌, ◌++◌, ◌∷◌, [], true, IfOk, IfErr, OnOk};
 ghost use Rattle.clap.specs.Words.{app_of, first_of, found_of, kind_of, rows_of};
 ghost use Rattle.kob_acl_cli.specs.Lines.{IsFlag, IsReadOf, is_taken, line_app, refusals};
-ghost use Rattle.kob_acl_cli.specs.Lines.{rows_of_line, texts, values_of, with_options};
+ghost use Rattle.kob_acl_cli.specs.Lines.{rows_of_line, texts, values_of, with_options, with_texts};
 
 use crate::args::CliArgs;
 use crate::fault::LineFault;
@@ -103,17 +103,17 @@ fn fault_of(error: &Error) -> LineFault
 fn args_of(alloc: Global, matches: &ArgMatches<'_>) -> Result<CliArgs, AllocError>
     ensures { IfOk result (λ args. IsReadOf (rows_of (found_of matches.now)) args) }
 {
-    Ok(CliArgs {
-        allow_principals: texts_of(alloc, matches, "allow-principal")?,
-        deny_principals: texts_of(alloc, matches, "deny-principal")?,
-        allow_hosts: texts_of(alloc, matches, "allow-host")?,
-        deny_hosts: texts_of(alloc, matches, "deny-host")?,
-        operations: texts_of(alloc, matches, "operation")?,
-        topics: texts_of(alloc, matches, "topic")?,
-        groups: texts_of(alloc, matches, "group")?,
-        transactional_ids: texts_of(alloc, matches, "transactional-id")?,
-        principals: texts_of(alloc, matches, "principal")?,
-        pattern_type: text_of(alloc, matches, "resource-pattern-type")?,
+    let mut args = CliArgs {
+        allow_principals: Items::from_vec(Vec::new(alloc)),
+        deny_principals: Items::from_vec(Vec::new(alloc)),
+        allow_hosts: Items::from_vec(Vec::new(alloc)),
+        deny_hosts: Items::from_vec(Vec::new(alloc)),
+        operations: Items::from_vec(Vec::new(alloc)),
+        topics: Items::from_vec(Vec::new(alloc)),
+        groups: Items::from_vec(Vec::new(alloc)),
+        transactional_ids: Items::from_vec(Vec::new(alloc)),
+        principals: Items::from_vec(Vec::new(alloc)),
+        pattern_type: None,
         add: flag_of(matches, "add"),
         remove: flag_of(matches, "remove"),
         list: flag_of(matches, "list"),
@@ -121,7 +121,29 @@ fn args_of(alloc: Global, matches: &ArgMatches<'_>) -> Result<CliArgs, AllocErro
         producer: flag_of(matches, "producer"),
         consumer: flag_of(matches, "consumer"),
         idempotent: flag_of(matches, "idempotent"),
-    })
+    };
+    let Ok(()) = fill_texts(alloc, matches, &mut args) else {
+        drop(args);
+        return Err(AllocError);
+    };
+    Ok(args)
+}
+
+/// Copies the texts of a line into its options, and leaves the flags as they are.
+fn fill_texts(alloc: Global, matches: &ArgMatches<'_>, args: &mut CliArgs) -> Result<(), AllocError>
+    ensures { OnOk result (args.new ≡ with_texts (rows_of (found_of matches.now)) args.old) }
+{
+    args.allow_principals = texts_of(alloc, matches, "allow-principal")?;
+    args.deny_principals = texts_of(alloc, matches, "deny-principal")?;
+    args.allow_hosts = texts_of(alloc, matches, "allow-host")?;
+    args.deny_hosts = texts_of(alloc, matches, "deny-host")?;
+    args.operations = texts_of(alloc, matches, "operation")?;
+    args.topics = texts_of(alloc, matches, "topic")?;
+    args.groups = texts_of(alloc, matches, "group")?;
+    args.transactional_ids = texts_of(alloc, matches, "transactional-id")?;
+    args.principals = texts_of(alloc, matches, "principal")?;
+    args.pattern_type = text_of(alloc, matches, "resource-pattern-type")?;
+    Ok(())
 }
 
 fn texts_of(alloc: Global, matches: &ArgMatches<'_>, id: &str) -> Result<Items<Text>, AllocError>
@@ -138,9 +160,21 @@ fn copies_of(alloc: Global, values: &[&str]) -> Result<Items<Text>, AllocError>
 {
     let mut made = Vec::new(alloc);
     for value in values {
-        made.push(Text::copied(alloc, value)?)?;
+        let Ok(()) = put_copy(alloc, &mut made, value) else {
+            drop(made);
+            return Err(AllocError);
+        };
     }
     Ok(Items::from_vec(made))
+}
+
+/// Puts a copy of a text last.
+fn put_copy(alloc: Global, made: &mut Vec<Text>, value: &str) -> Result<(), AllocError>
+    ensures { OnOk result (made.new.items ≡ made.old.items ++ value.now ∷ []) }
+{
+    let copy = Text::copied(alloc, value)?;
+    made.push(copy)?;
+    Ok(())
 }
 
 fn text_of(alloc: Global, matches: &ArgMatches<'_>, id: &str) -> Result<Option<Text>, AllocError>

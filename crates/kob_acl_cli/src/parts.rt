@@ -1,16 +1,18 @@
 //! What the words of a line mean.
 
-ghost use Rattle.std.specs.Prelude.{◌≡◌, IfOk};
+ghost use Rattle.std.specs.Prelude.{◌≡◌, [], codes, filter, IfErr, OnOk};
 ghost use Rattle.kob_names.specs.declared.kinds.Operation.TheVariants.{All};
-ghost use Rattle.kob_acl_cli.specs.Misread.{Reads, misread_words};
-ghost use Rattle.kob_acl_cli.specs.Parts.{or_default, parts};
+ghost use Rattle.kob_names.specs.declared.kinds.Permission.TheVariants.{Allow, Deny};
+ghost use Rattle.kob_acl_cli.specs.Misread.{IsFirstFault, Reads, bad_names, is_no_host};
+ghost use Rattle.kob_acl_cli.specs.Misread.{is_no_operation, misread_words};
+ghost use Rattle.kob_acl_cli.specs.Parts.{operations_named, or_default, parts};
 
 use crate::args::CliArgs;
 use crate::fault::CommandFault;
 use crate::holders::{Holders, hosts_or_every};
 use crate::misread::{read_hosts, read_operations, read_pattern_type, read_principals};
-use kob_names::{FilterPattern, Items, Operation, Permission, Principal};
-use std::alloc::{AllocError, Global};
+use kob_names::{FilterPattern, Host, Items, Operation, Permission, Principal, Text};
+use std::alloc::Global;
 
 /// The words of a line, read, with defaults for those that aren't given.
 #[derive(Debug, Drop)]
@@ -26,38 +28,68 @@ pub struct Parts {
 pub fn read_parts(alloc: Global, args: &CliArgs) -> Result<Parts, CommandFault>
     ensures { Reads (misread_words args.now) (parts args.now) result }
 {
-    let allow_principals = read_principals(alloc, &args.allow_principals)?;
-    let deny_principals = read_principals(alloc, &args.deny_principals)?;
-    let allow_hosts = read_hosts(alloc, &args.allow_hosts)?;
-    let deny_hosts = read_hosts(alloc, &args.deny_hosts)?;
-    let operations = read_operations(alloc, &args.operations)?;
-    let principals = read_principals(alloc, &args.principals)?;
-    let pattern = read_pattern_type(alloc, &args.pattern_type)?;
-    Ok(Parts {
+    let mut parts = Parts {
         allowed: Holders {
             permission: Permission::Allow,
-            principals: allow_principals,
-            hosts: hosts_or_every(alloc, allow_hosts)?,
+            principals: Items::from_vec(Vec::new(alloc)),
+            hosts: Items::from_vec(Vec::new(alloc)),
         },
         denied: Holders {
             permission: Permission::Deny,
-            principals: deny_principals,
-            hosts: hosts_or_every(alloc, deny_hosts)?,
+            principals: Items::from_vec(Vec::new(alloc)),
+            hosts: Items::from_vec(Vec::new(alloc)),
         },
-        operations: operations_or_all(alloc, operations)?,
-        principals,
-        pattern,
-    })
+        operations: Items::from_vec(Vec::new(alloc)),
+        principals: Items::from_vec(Vec::new(alloc)),
+        pattern: FilterPattern::Literal,
+    };
+    match fill_parts(alloc, args, &mut parts) {
+        Ok(()) => Ok(parts),
+        Err(fault) => {
+            drop(parts);
+            Err(fault)
+        }
+    }
 }
 
-fn operations_or_all(
-    alloc: Global,
-    operations: Items<Operation>,
-) -> Result<Items<Operation>, AllocError>
-    ensures { IfOk result (λ made. made ≡ or_default All operations) }
+/// Reads the words of a line into its parts, whose permissions stand already.
+fn fill_parts(alloc: Global, args: &CliArgs, made: &mut Parts) -> Result<(), CommandFault>
+    requires allowed { made.old.allowed.permission ≡ Allow }
+    requires denied { made.old.denied.permission ≡ Deny }
+    ensures all { OnOk result (misread_words args.now ≡ []) }
+    ensures read { OnOk result (made.new ≡ parts args.now) }
+    ensures fault { IfErr result (λ fault. IsFirstFault (bad_names (misread_words args.now)) fault) }
 {
+    made.allowed.principals = read_principals(alloc, &args.allow_principals)?;
+    made.denied.principals = read_principals(alloc, &args.deny_principals)?;
+    made.allowed.hosts = read_hosts_or_every(alloc, &args.allow_hosts)?;
+    made.denied.hosts = read_hosts_or_every(alloc, &args.deny_hosts)?;
+    made.operations = read_operations_or_all(alloc, &args.operations)?;
+    made.principals = read_principals(alloc, &args.principals)?;
+    made.pattern = read_pattern_type(alloc, &args.pattern_type)?;
+    Ok(())
+}
+
+/// The hosts that the words write, or every host where there are none.
+fn read_hosts_or_every(alloc: Global, words: &Items<Text>) -> Result<Items<Host>, CommandFault>
+    ensures { Reads (filter is_no_host words.now) (or_default (codes "*") words.now) result }
+{
+    let hosts = read_hosts(alloc, words)?;
+    Ok(hosts_or_every(alloc, hosts)?)
+}
+
+/// The operations that the words name, or all where there are none.
+fn read_operations_or_all(
+    alloc: Global,
+    words: &Items<Text>,
+) -> Result<Items<Operation>, CommandFault>
+    ensures { Reads (filter is_no_operation words.now)
+        (or_default All (operations_named words.now)) result }
+{
+    let operations = read_operations(alloc, words)?;
     if operations.len() > 0 {
         return Ok(operations);
     }
-    Items::copied(alloc, &[Operation::All])
+    drop(operations);
+    Ok(Items::copied(alloc, &[Operation::All])?)
 }

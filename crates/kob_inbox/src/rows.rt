@@ -16,16 +16,37 @@ fn row_of(row: &sqlite::Row) -> Result<InboxRow, InboxFault>
     ensures row { IfOk result (λ r. shown_intake (placed_intake r) ≡ row.now) }
     ensures memory { IfErr result (λ f. f ≡ InboxFault.Memory) }
 {
-    let id: String = row.get(1)?;
-    let key: Option<Vec<u8>> = row.get(5)?;
+    let place: u64 = row.get(0)?;
+    let partition: u64 = row.get(3)?;
+    let offset: u64 = row.get(4)?;
+    let text: String = row.get(1)?;
+    let parsed = Uuid::parse_str(&text);
+    drop(text);
+    let id = parsed.map_err(|_| InboxFault::Store)?;
+    let topic: String = row.get(2)?;
+    let key: Option<Vec<u8>> = match row.get(5) {
+        Ok(key) => key,
+        Err(error) => {
+            drop(topic);
+            return Err(InboxFault::from(error));
+        }
+    };
+    let value: Vec<u8> = match row.get(6) {
+        Ok(value) => value,
+        Err(error) => {
+            drop(topic);
+            drop(key);
+            return Err(InboxFault::from(error));
+        }
+    };
     Ok(InboxRow {
-        place: row.get(0)?,
-        id: Uuid::parse_str(&id).map_err(|_| InboxFault::Store)?,
-        topic: Text::from_string(row.get(2)?),
-        partition: row.get(3)?,
-        offset: row.get(4)?,
+        place,
+        id,
+        topic: Text::from_string(topic),
+        partition,
+        offset,
         key: key.map(Bytes::from_vec),
-        value: Bytes::from_vec(row.get(6)?),
+        value: Bytes::from_vec(value),
     })
 }
 
