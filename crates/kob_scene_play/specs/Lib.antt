@@ -1,3 +1,4 @@
 pub mod Printing
+pub mod Stages
 pub mod Steps
 pub mod Workers

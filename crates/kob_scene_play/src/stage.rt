@@ -1,7 +1,13 @@
 //! What a scene is played on.
 
-ghost use Rattle.std.specs.Prelude.{IfOk};
-ghost use Rattle.kob_shared.specs.Openings.{IsFresh};
+ghost use Rattle.std.specs.Prelude.{◌≡◌, ◌++◌, ◌∷◌, [], IfOk, OnOk, map};
+ghost use Rattle.std.specs.Option.{option_copied};
+ghost use Rattle.kob_broker.specs.Change.{state_of};
+ghost use Rattle.kob_broker.specs.State.{settings_of};
+ghost use Rattle.kob_scene_play.specs.Stages.{IsOpened, declared_consumer, declared_service};
+ghost use Rattle.kob_scene_play.specs.Stages.{consumer_numbered, name_by, service_numbered};
+ghost use Rattle.kob_scene_play.specs.Stages.{named_consumer, named_service, worker_name};
+ghost use Rattle.kob_shared.specs.Openings.{IsFresh, opened_by};
 
 use crate::consumer_worker::ConsumerWorker;
 use crate::fault::PlayFault;
@@ -42,7 +48,13 @@ impl Stage {
         settings: Settings,
         services: Vec<Service>,
         consumers: Vec<Consumer>,
-    ) -> Result<Stage, PlayFault> {
+    ) -> Result<Stage, PlayFault>
+        ensures broker { IfOk result (IsOpened settings) }
+        ensures services { IfOk result (λ stage. map named_service stage.services.items
+            ≡ map declared_service services.items) }
+        ensures consumers { IfOk result (λ stage. map named_consumer stage.consumers.items
+            ≡ map declared_consumer consumers.items) }
+    {
         let recorded = recorded_by(alloc, settings)?;
         let services = all_services(alloc, services)?;
         let consumers = all_consumers(alloc, consumers)?;
@@ -54,71 +66,155 @@ impl Stage {
     }
 
     /// The name of a worker; `-` for worker 0, which has none.
-    pub fn name_of(&self, worker: usize) -> &str {
-        for played in &self.services {
-            if played.service.number() == worker {
-                return played.name.as_str();
-            }
-        }
-        for played in &self.consumers {
-            if played.consumer.number() == worker {
-                return played.name.as_str();
-            }
-        }
-        "-"
+    pub fn name_of(&self, worker: usize) -> &str
+        ensures { result.now ≡ worker_name self.now worker }
+    {
+        let service = service_numbered(&self.services, worker);
+        let consumer = consumer_numbered(&self.consumers, worker);
+        name_by(service, consumer)
     }
 }
 
-fn broker_by(alloc: Global, settings: Settings) -> Result<Broker, OpenFault>
-    ensures { IfOk result IsFresh }
+/// The service's name, or else the consumer's; `-` where there is neither.
+fn name_by<'s>(service: Option<&'s PlayedService>, consumer: Option<&'s PlayedConsumer>) -> &'s str
+    ensures { result.now ≡ name_by (option_copied service.entry) (option_copied consumer.entry) }
 {
-    Broker::open(alloc, settings)
+    match service {
+        Some(played) => played.name.as_str(),
+        None => match consumer {
+            Some(played) => played.name.as_str(),
+            None => "-",
+        },
+    }
+}
+
+/// The first service with this number.
+fn service_numbered(services: &[PlayedService], worker: usize) -> Option<&PlayedService>
+    ensures { option_copied result ≡ service_numbered worker services.now }
+{
+    services
+        .iter()
+        .find(|played| played.service.number() == worker)
+}
+
+/// The first consumer with this number.
+fn consumer_numbered(consumers: &[PlayedConsumer], worker: usize) -> Option<&PlayedConsumer>
+    ensures { option_copied result ≡ consumer_numbered worker consumers.now }
+{
+    consumers
+        .iter()
+        .find(|played| played.consumer.number() == worker)
 }
 
 // A scene opens no bindings, so that out of memory is the only fault.
-fn recorded_by(alloc: Global, settings: Settings) -> Result<Recorded, PlayFault> {
+fn recorded_by(alloc: Global, settings: Settings) -> Result<Recorded, PlayFault>
+    ensures { IfOk result (λ recorded. recorded ≡ record {
+      opening = settings_of (opened_by settings);
+      limit = 1000000;
+      journal = [];
+      broker = opened_by settings;
+    }) }
+{
     let Ok(broker) = broker_by(alloc, settings) else {
         return Err(PlayFault::Memory);
     };
     Ok(Recorded::open(alloc, broker, ENTRY_LIMIT)?)
 }
 
-fn all_services(alloc: Global, services: Vec<Service>) -> Result<Vec<PlayedService>, PlayFault> {
+fn broker_by(alloc: Global, settings: Settings) -> Result<Broker, OpenFault>
+    ensures fresh { IfOk result IsFresh }
+    ensures state { IfOk result (λ broker. state_of broker ≡ opened_by settings) }
+{
+    Broker::open(alloc, settings)
+}
+
+fn all_services(alloc: Global, services: Vec<Service>) -> Result<Vec<PlayedService>, PlayFault>
+    ensures { IfOk result (λ all. map named_service all.items
+        ≡ map declared_service services.items) }
+{
     let mut all = Vec::new(alloc);
     for service in services {
-        let Service {
-            name,
-            worker,
-            principal,
-            host,
-            routed,
-            settings: _,
-        } = service;
-        let service = ServiceWorker::open(alloc, worker, principal, host, routed.into_target())?;
-        all.push(PlayedService {
-            name,
-            service,
-            recorded_by: Vec::new(alloc),
-        })?;
+        add_service(alloc, &mut all, service)?;
     }
     Ok(all)
 }
 
-fn all_consumers(
+/// Adds a service that has made no step.
+fn add_service(
     alloc: Global,
-    consumers: Vec<Consumer>,
-) -> Result<Vec<PlayedConsumer>, PlayFault> {
+    all: &mut Vec<PlayedService>,
+    service: Service,
+) -> Result<(), PlayFault>
+    ensures { OnOk result (map named_service all.new.items
+        ≡ map named_service all.old.items ++ declared_service service ∷ []) }
+{
+    let Ok(()) = all.reserve(1) else {
+        drop(service);
+        return Err(PlayFault::Memory);
+    };
+    let Service {
+        name,
+        worker,
+        principal,
+        host,
+        routed,
+        settings: _,
+    } = service;
+    match ServiceWorker::open(alloc, worker, principal, host, routed.into_target()) {
+        Ok(service) => {
+            all.push_reserved(PlayedService {
+                name,
+                service,
+                recorded_by: Vec::new(alloc),
+            });
+            Ok(())
+        }
+        Err(fault) => {
+            drop(name);
+            Err(fault)
+        }
+    }
+}
+
+fn all_consumers(alloc: Global, consumers: Vec<Consumer>) -> Result<Vec<PlayedConsumer>, PlayFault>
+    ensures { IfOk result (λ all. map named_consumer all.items
+        ≡ map declared_consumer consumers.items) }
+{
     let mut all = Vec::new(alloc);
     for consumer in consumers {
-        let Consumer {
-            name,
-            worker,
-            principal,
-            host,
-            subscription,
-        } = consumer;
-        let consumer = ConsumerWorker::open(alloc, worker, principal, host, subscription)?;
-        all.push(PlayedConsumer { name, consumer })?;
+        add_consumer(alloc, &mut all, consumer)?;
     }
     Ok(all)
+}
+
+/// Adds a consumer that has made no step.
+fn add_consumer(
+    alloc: Global,
+    all: &mut Vec<PlayedConsumer>,
+    consumer: Consumer,
+) -> Result<(), PlayFault>
+    ensures { OnOk result (map named_consumer all.new.items
+        ≡ map named_consumer all.old.items ++ declared_consumer consumer ∷ []) }
+{
+    let Ok(()) = all.reserve(1) else {
+        drop(consumer);
+        return Err(PlayFault::Memory);
+    };
+    let Consumer {
+        name,
+        worker,
+        principal,
+        host,
+        subscription,
+    } = consumer;
+    match ConsumerWorker::open(alloc, worker, principal, host, subscription) {
+        Ok(consumer) => {
+            all.push_reserved(PlayedConsumer { name, consumer });
+            Ok(())
+        }
+        Err(fault) => {
+            drop(name);
+            Err(fault)
+        }
+    }
 }

@@ -1,0 +1,93 @@
+-- The stage as a scene opens it: its broker, and its workers as they are declared.
+use Rattle.std.specs.List.{find}
+use Rattle.std.specs.Prelude.{◌≡◌, ◌==◌, ℕ, List, [], Option, None, Some, codes}
+use Rattle.kob_broker.specs.State.{settings_of}
+use Rattle.kob_inbox.specs.Run as consuming
+use Rattle.kob_inbox.specs.declared.fetcher.Subscription.{Subscription}
+use Rattle.kob_names.specs.declared.settings.Settings.{Settings}
+use Rattle.kob_outbox.specs.Contents.{empty}
+use Rattle.kob_scene_play.specs.Workers.{Service, consumer_state}
+use Rattle.kob_scene_play.specs.declared.stage.PlayedConsumer.{PlayedConsumer}
+use Rattle.kob_scene_play.specs.declared.stage.PlayedService.{PlayedService}
+use Rattle.kob_scene_play.specs.declared.stage.Stage.{Stage}
+use Rattle.kob_scene_text.specs.declared.scene.Consumer.{Consumer as DeclaredConsumer}
+use Rattle.kob_scene_text.specs.declared.scene.Service.{Service as DeclaredService}
+use Rattle.kob_shared.specs.Openings.{opened_by}
+
+-- the broker is as these settings open it, and its journal is empty
+pub record IsOpened (settings : Settings) (stage : Stage) : Type 0 where
+  pub broker : stage.recorded.broker ≡ opened_by settings
+  pub opening : stage.recorded.opening ≡ settings_of (opened_by settings)
+  pub journal : stage.recorded.journal ≡ []
+  pub limit : stage.recorded.limit ≡ 1000000
+
+-- a service by its name, with an empty outbox and a router that has made no call
+pub record NamedService : Type 0 where
+  pub name : List ℕ
+  pub service : Service
+
+abbrev pub declared_service : DeclaredService → NamedService
+declared_service declared = record {
+  name = declared.name;
+  service =
+      record {
+        worker = declared.worker;
+        principal = declared.principal;
+        host = declared.host;
+        sender = record { target = declared.routed; producer = None; sequences = []; hand = None };
+        outbox = empty;
+      };
+}
+
+abbrev pub named_service : PlayedService → NamedService
+named_service played = record { name = played.name; service = played.service }
+
+-- a consumer by its name, who it is, what it reads, and how far it has come
+pub record NamedConsumer : Type 0 where
+  pub name : List ℕ
+  pub worker : ℕ
+  pub principal : List ℕ
+  pub host : List ℕ
+  pub subscription : Subscription
+  pub state : consuming.State
+
+-- one that knows no position, with an empty inbox
+abbrev pub declared_consumer : DeclaredConsumer → NamedConsumer
+declared_consumer declared = record {
+  name = declared.name;
+  worker = declared.worker;
+  principal = declared.principal;
+  host = declared.host;
+  subscription = declared.subscription;
+  state = consuming.start;
+}
+
+abbrev pub named_consumer : PlayedConsumer → NamedConsumer
+named_consumer played = record {
+  name = played.name;
+  worker = played.consumer.worker;
+  principal = played.consumer.principal;
+  host = played.consumer.host;
+  subscription = played.consumer.fetcher.subscription;
+  state = consumer_state played.consumer;
+}
+
+-- the first service with this number
+abbrev pub service_numbered : ℕ → List PlayedService → Option PlayedService
+service_numbered worker services = find (λ played. played.service.worker == worker) services
+
+-- the first consumer with this number
+abbrev pub consumer_numbered : ℕ → List PlayedConsumer → Option PlayedConsumer
+consumer_numbered worker consumers = find (λ played. played.consumer.worker == worker) consumers
+
+-- the service's name, or else the consumer's; `-` where there is neither
+abbrev pub name_by : Option PlayedService → Option PlayedConsumer → List ℕ
+name_by (Some played) consumer = played.name
+name_by None (Some played) = played.name
+name_by None None = codes "-"
+
+-- the name of a worker of the stage by its number
+abbrev pub worker_name : Stage → ℕ → List ℕ
+worker_name stage worker =
+    name_by (service_numbered worker stage.services.items)
+    (consumer_numbered worker stage.consumers.items)
