@@ -1,10 +1,14 @@
--- What a step of a scene adds to its numbers.
-use Rattle.std.specs.Prelude.{◌≡◌, ℕ}
+-- What a step of a scene adds to its numbers, and what it leaves as it was.
+use Rattle.std.specs.Prelude.{◌≡◌, ◌≢◌, ℕ, List, slice_get}
 use Rattle.kob_router.specs.Line.{one_more}
 use Rattle.kob_scene_text.specs.declared.scene.ConsumerStep.{ConsumerStep}
 use Rattle.kob_scene_text.specs.declared.scene.ConsumerStep.TheVariants as consumer_steps
 use Rattle.kob_scene_text.specs.declared.scene.ServiceStep.{ServiceStep}
 use Rattle.kob_scene_text.specs.declared.scene.ServiceStep.TheVariants as service_steps
+
+-- at every other place stands what stood there
+abbrev pub OthersStay : {A : Type 0} → ℕ → List A → List A → Type 0
+OthersStay which old new = (k : ℕ) → k ≢ which → slice_get new k ≡ slice_get old k
 
 -- a step of a service tells one answer; of a run nothing is said here
 abbrev pub CountsService : ServiceStep → ℕ → ℕ → Type 0
