@@ -1,4 +1,5 @@
 pub mod Printing
+pub mod Scenes
 pub mod Stages
 pub mod Steps
 pub mod Workers

@@ -2,6 +2,7 @@
 
 ghost use Rattle.std.specs.Prelude.{◌≡◌, OnOk};
 ghost use Rattle.kob_router.specs.Line.{one_more};
+ghost use Rattle.kob_scene_play.specs.Scenes.{CountsConsumer};
 ghost use Rattle.kob_scene_play.specs.Steps.{IsConsumerStep, Tells};
 ghost use Rattle.kob_scene_text.specs.declared.scene.ConsumerStep.TheVariants as consumer_steps;
 
@@ -37,6 +38,7 @@ pub(crate) fn play_consumer<W: Write>(
     ensures done { OnOk result (Tells (IsConsumerStep step.now consumer.old
         consumer.new out.old.told) (W.contents out.old.writer.now) out.old.text.items
         (W.contents out.new.writer.now) out.new.text.items) }
+    ensures told { OnOk result (CountsConsumer step.now out.old.told out.new.told) }
 {
     match step {
         ConsumerStep::Tick(lost) => {

@@ -3,6 +3,7 @@
 ghost use Rattle.std.specs.Prelude.{◌≡◌, OnOk};
 ghost use Rattle.kob_router.specs.Line.{one_more};
 ghost use Rattle.kob_scene_play.specs.Printing.{Prints};
+ghost use Rattle.kob_scene_play.specs.Scenes.{CountsConsumer, CountsService, OthersStay};
 ghost use Rattle.kob_script.specs.PrintedReply.{reply_text};
 ghost use Rattle.kob_shared.specs.Journals.{after_event, outcome_of};
 
@@ -14,7 +15,7 @@ use crate::output::Output;
 use crate::service_steps::play_service;
 use crate::stage::Stage;
 use kob_rights::Event;
-use kob_scene_text::{Scene, Step};
+use kob_scene_text::{ConsumerStep, Scene, ServiceStep, Step};
 use kob_script::print_reply;
 use kob_shared::Recorded;
 use std::alloc::Global;
@@ -51,20 +52,55 @@ fn play_step<W: Write>(
     match steps.get(place) {
         None => Ok(()),
         Some(Step::Request(event)) => play_request(alloc, &mut stage.recorded, event, out),
-        Some(Step::Service(which, step)) => match stage.services.get_mut(*which) {
-            Some(played) => play_service(alloc, &mut stage.recorded, played, place, step, out),
-            None => Err(PlayFault::NoWorker),
-        },
-        Some(Step::Consumer(which, step)) => match stage.consumers.get_mut(*which) {
-            Some(played) => {
-                play_consumer(alloc, &mut stage.recorded, &mut played.consumer, step, out)
-            }
-            None => Err(PlayFault::NoWorker),
-        },
+        Some(Step::Service(which, step)) => {
+            play_service_at(alloc, stage, *which, place, step, out)
+        }
+        Some(Step::Consumer(which, step)) => play_consumer_at(alloc, stage, *which, step, out),
         Some(Step::Journal) => show_journal(stage, out),
         Some(Step::Law { service, consumer }) => {
             show_law(alloc, stage, steps, *service, *consumer, out)
         }
+    }
+}
+
+/// Plays a step of the service at this place of the stage.
+#[tactic(auto, using(crate::proofs::Places::others_stay))]
+fn play_service_at<W: Write>(
+    alloc: Global,
+    stage: &mut Stage,
+    which: usize,
+    place: usize,
+    step: &ServiceStep,
+    out: &mut Output<'_, W>,
+) -> Result<(), PlayFault>
+    ensures consumers { stage.new.consumers ≡ stage.old.consumers }
+    ensures others { OthersStay which stage.old.services.items stage.new.services.items }
+    ensures told { OnOk result (CountsService step.now out.old.told out.new.told) }
+{
+    match stage.services.get_mut(which) {
+        Some(played) => play_service(alloc, &mut stage.recorded, played, place, step, out),
+        None => Err(PlayFault::NoWorker),
+    }
+}
+
+/// Plays a step of the consumer at this place of the stage.
+#[tactic(auto, using(crate::proofs::Places::others_stay))]
+fn play_consumer_at<W: Write>(
+    alloc: Global,
+    stage: &mut Stage,
+    which: usize,
+    step: &ConsumerStep,
+    out: &mut Output<'_, W>,
+) -> Result<(), PlayFault>
+    ensures services { stage.new.services ≡ stage.old.services }
+    ensures others { OthersStay which stage.old.consumers.items stage.new.consumers.items }
+    ensures told { OnOk result (CountsConsumer step.now out.old.told out.new.told) }
+{
+    match stage.consumers.get_mut(which) {
+        Some(played) => {
+            play_consumer(alloc, &mut stage.recorded, &mut played.consumer, step, out)
+        }
+        None => Err(PlayFault::NoWorker),
     }
 }
 

@@ -2,6 +2,7 @@
 
 ghost use Rattle.std.specs.Prelude.{◌≡◌, IfOk, OnOk};
 ghost use Rattle.kob_router.specs.Line.{one_more};
+ghost use Rattle.kob_scene_play.specs.Scenes.{CountsService};
 ghost use Rattle.kob_scene_play.specs.Steps.{IsServiceStep, IsTold, Tells, goes_on_after, loss_for};
 ghost use Rattle.kob_scene_text.specs.declared.scene.ServiceStep.TheVariants as service_steps;
 
@@ -36,6 +37,7 @@ pub(crate) fn play_service<W: Write>(
     ensures done { OnOk result (Tells (IsServiceStep step.now played.old.service
         played.new.service out.old.told) (W.contents out.old.writer.now) out.old.text.items
         (W.contents out.new.writer.now) out.new.text.items) }
+    ensures told { OnOk result (CountsService step.now out.old.told out.new.told) }
     ensures name { played.new.name ≡ played.old.name }
 {
     match step {
