@@ -1,0 +1,176 @@
+//! Whether the laws of delivery speak of a service and a consumer, and what its inbox shows.
+
+ghost use Rattle.std.specs.Prelude.{◌≡◌, ◌++◌, OnOk};
+ghost use Rattle.kob_router.specs.Line.{one_more};
+ghost use Rattle.std.specs.Option.{option_copied};
+ghost use Rattle.kob_scene_play.specs.Laws.{IsAnswered, IsLaw, breach_text, law_text, order_text, premise_text, topic_text};
+ghost use Rattle.kob_scene_play.specs.Steps.{Tells};
+
+use crate::consumer_worker::ConsumerWorker;
+use crate::fault::PlayFault;
+use crate::order::first_out_of_order;
+use crate::output::Output;
+use crate::stage::{PlayedService, Stage};
+use kob_outbox::OutboxEvent;
+use kob_pipeline::{Breach, Premise, first_breach};
+use kob_router::Place;
+use kob_scene_text::{ServiceStep, Step};
+use kob_shared::Journal;
+use kob_words::{push_bytes, push_number};
+use std::alloc::{AllocError, Global};
+use std::io::Write;
+
+/// Tells `N law holds` where only this service sends to the topics that the consumer reads, only
+/// this consumer commits for its group on them, and nobody deleted one; else `N law says nothing`
+/// with the premise that is broken, and the first entry that breaks it. Behind that it says whether
+/// the inbox has of each aggregate the first rows that the service recorded, in their order.
+pub(crate) fn show_law<W: Write>(
+    alloc: Global,
+    stage: &mut Stage,
+    steps: &[Step],
+    service: usize,
+    consumer: usize,
+    out: &mut Output<'_, W>,
+) -> Result<(), PlayFault>
+    ensures recorded { stage.new.recorded ≡ stage.old.recorded }
+    ensures services { stage.new.services ≡ stage.old.services }
+    ensures done { OnOk result (Tells (IsAnswered service consumer stage.old out.old.told)
+        (W.contents out.old.writer.now) out.old.text.items
+        (W.contents out.new.writer.now) out.new.text.items) }
+    ensures told { OnOk result (out.new.told ≡ one_more out.old.told) }
+{
+    let Some(sender) = stage.services.get(service) else {
+        return Err(PlayFault::NoWorker);
+    };
+    let Some(taker) = stage.consumers.get_mut(consumer) else {
+        return Err(PlayFault::NoWorker);
+    };
+    let misplaced = misplaced_row(alloc, sender, steps, &mut taker.consumer)?;
+    answer(stage.recorded.journal(), sender.service.number(), &taker.consumer, misplaced, out)
+}
+
+/// Prints whether the laws speak of a service by its number and a consumer.
+fn answer<W: Write>(
+    journal: &Journal,
+    sender: usize,
+    taker: &ConsumerWorker,
+    misplaced: Option<u64>,
+    out: &mut Output<'_, W>,
+) -> Result<(), PlayFault>
+    ensures done { OnOk result (Tells (IsLaw sender taker.now.worker taker.now.fetcher.subscription
+        journal.now out.old.told)
+        (W.contents out.old.writer.now) out.old.text.items
+        (W.contents out.new.writer.now) out.new.text.items) }
+    ensures told { OnOk result (out.new.told ≡ one_more out.old.told) }
+{
+    let subscription = taker.subscription();
+    let assignment = subscription.assignment.as_slice();
+    let breach = first_breach(journal, sender, taker.number(), &subscription.group, assignment);
+    let number = out.number();
+    push_law(&mut out.text, number, assignment, breach, misplaced)?;
+    out.tell()
+}
+
+#[tactic(auto, using(kob_words::proofs::Appending::appending))]
+fn push_law(
+    out: &mut Vec<u8>,
+    number: u64,
+    assignment: &[Place],
+    breach: Option<Breach>,
+    misplaced: Option<u64>,
+) -> Result<(), AllocError>
+    ensures { OnOk result (out.new.items
+        ≡ out.old.items ++ law_text number assignment.now breach misplaced) }
+{
+    push_number(out, number)?;
+    push_breach(out, assignment, breach)?;
+    push_order(out, misplaced)
+}
+
+/// The place of the first row of the inbox that is out of order.
+fn misplaced_row(
+    alloc: Global,
+    sender: &PlayedService,
+    steps: &[Step],
+    consumer: &mut ConsumerWorker,
+) -> Result<Option<u64>, PlayFault>
+    ensures { consumer.new ≡ consumer.old }
+{
+    let inbox = consumer.rows()?;
+    let Ok(rows) = rows_of(alloc, sender, steps) else {
+        drop(inbox);
+        return Err(PlayFault::Memory);
+    };
+    match first_out_of_order(alloc, &rows, &inbox) {
+        Ok(place) => Ok(place),
+        Err(_) => Err(PlayFault::Memory),
+    }
+}
+
+/// The events that the service recorded, in their order.
+fn rows_of<'s>(
+    alloc: Global,
+    played: &PlayedService,
+    steps: &'s [Step],
+) -> Result<Vec<&'s OutboxEvent>, AllocError> {
+    let mut rows = Vec::new(alloc);
+    for place in &played.recorded_by {
+        if let Some(Step::Service(_, ServiceStep::Record(_, event))) = steps.get(*place) {
+            rows.push(event)?;
+        }
+    }
+    Ok(rows)
+}
+
+#[tactic(auto, using(kob_words::proofs::Appending::appending))]
+fn push_breach(
+    out: &mut Vec<u8>,
+    assignment: &[Place],
+    breach: Option<Breach>,
+) -> Result<(), AllocError>
+    ensures { OnOk result (out.new.items ≡ out.old.items ++ breach_text assignment.now breach) }
+{
+    let Some(breach) = breach else {
+        return out.extend_from_slice(b" law holds");
+    };
+    out.extend_from_slice(b" law says nothing: ")?;
+    out.extend_from_slice(premise_name(breach.premise).as_bytes())?;
+    push_topic(out, assignment.get(breach.assigned))?;
+    out.extend_from_slice(b" entry ")?;
+    push_number(out, breach.entry as u64)
+}
+
+#[tactic(auto, using(kob_words::proofs::Appending::appending))]
+fn push_topic(out: &mut Vec<u8>, place: Option<&Place>) -> Result<(), AllocError>
+    ensures { OnOk result (out.new.items ≡ out.old.items ++ topic_text (option_copied place.entry)) }
+{
+    let Some(place) = place else {
+        return Ok(());
+    };
+    out.extend_from_slice(b" ")?;
+    push_bytes(out, place.topic.as_str().as_bytes())
+}
+
+fn premise_name(premise: Premise) -> &'static str
+    ensures { result.now ≡ premise_text premise }
+{
+    match premise {
+        Premise::SoleProducer => "SoleProducer",
+        Premise::SoleCommitter => "SoleCommitter",
+        Premise::NeverDeleted => "NeverDeleted",
+    }
+}
+
+#[tactic(auto, using(kob_words::proofs::Appending::appending))]
+fn push_order(out: &mut Vec<u8>, misplaced: Option<u64>) -> Result<(), AllocError>
+    ensures { OnOk result (out.new.items ≡ out.old.items ++ order_text misplaced) }
+{
+    match misplaced {
+        None => out.extend_from_slice(b", in order\n"),
+        Some(place) => {
+            out.extend_from_slice(b", out of order at row ")?;
+            push_number(out, place)?;
+            out.extend_from_slice(b"\n")
+        }
+    }
+}
