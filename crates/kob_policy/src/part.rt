@@ -32,11 +32,13 @@ pub fn answer_part<R: AllocGlobal + Files + Input + Eprint>(
     options: &Options,
 ) -> Result<(), Stop> {
     let questions = questions_of(rt, out, options)?;
-    if options.before.is_empty() {
+    let ended = if options.before.is_empty() {
         answer_by_one(rt, out, options, &questions)
     } else {
         review(rt, out, options, &questions)
-    }
+    };
+    drop(questions);
+    ended
 }
 
 /// The questions of the files, and then those of the words.
@@ -45,26 +47,41 @@ fn questions_of<R: AllocGlobal + Files + Input + Eprint>(
     out: &mut Vec<u8>,
     options: &Options,
 ) -> Result<Questions, Stop> {
+    let mut questions = Questions::new(rt.alloc());
+    match push_questions(rt, out, &mut questions, options) {
+        Ok(()) => Ok(questions),
+        Err(stop) => {
+            drop(questions);
+            Err(stop)
+        }
+    }
+}
+
+fn push_questions<R: AllocGlobal + Files + Input + Eprint>(
+    rt: &R,
+    out: &mut Vec<u8>,
+    questions: &mut Questions,
+    options: &Options,
+) -> Result<(), Stop> {
     let alloc = rt.alloc();
-    let mut questions = Questions::new(alloc);
     for file in options.topics.as_slice() {
         let text = text_of(rt, file.as_str())?;
-        if let Err(error) = read_topics(alloc, &mut questions, &text) {
+        if let Err(error) = read_topics(alloc, questions, &text) {
             return Err(Stop::fault(out, file.as_str(), error));
         }
     }
     for file in options.questions.as_slice() {
         let text = text_of(rt, file.as_str())?;
-        if let Err(error) = read_questions(alloc, &mut questions, &text) {
+        if let Err(error) = read_questions(alloc, questions, &text) {
             return Err(Stop::fault(out, file.as_str(), error));
         }
     }
     for word in options.words.as_slice() {
-        if let Err(error) = read_questions(alloc, &mut questions, word.as_str().as_bytes()) {
+        if let Err(error) = read_questions(alloc, questions, word.as_str().as_bytes()) {
             return Err(Stop::fault(out, "question", error));
         }
     }
-    Ok(questions)
+    Ok(())
 }
 
 /// The policy of the files, in force. What is left out is printed; without `--skip` nothing else is.
@@ -74,13 +91,22 @@ fn judge_of<R: AllocGlobal + Files + Input + Eprint>(
     options: &Options,
     policy: Policy,
 ) -> Result<Judge, Stop> {
-    print_omissions(out, &policy)?;
-    if !options.skip && !policy.omissions().is_empty() {
-        return Err(Stop::Fault);
+    if let Err(stop) = show_omissions(out, options, &policy) {
+        drop(policy);
+        return Err(stop);
     }
     match Judge::open(rt.alloc(), policy) {
         Ok(judge) => Ok(judge),
         Err(fault) => Err(Stop::of_policy(rt, fault)),
+    }
+}
+
+fn show_omissions(out: &mut Vec<u8>, options: &Options, policy: &Policy) -> Result<(), Stop> {
+    print_omissions(out, policy)?;
+    if options.skip || policy.omissions().is_empty() {
+        Ok(())
+    } else {
+        Err(Stop::Fault)
     }
 }
 
@@ -91,13 +117,15 @@ fn answer_by_one<R: AllocGlobal + Files + Input + Eprint>(
     questions: &Questions,
 ) -> Result<(), Stop> {
     let judge = one_side(rt, out, options)?;
-    Ok(print_answers(
+    let printed = print_answers(
         rt.alloc(),
         out,
         &judge,
         questions.topics(),
         questions.asked(),
-    )?)
+    );
+    drop(judge);
+    Ok(printed?)
 }
 
 fn one_side<R: AllocGlobal + Files + Input + Eprint>(
@@ -107,8 +135,13 @@ fn one_side<R: AllocGlobal + Files + Input + Eprint>(
 ) -> Result<Judge, Stop> {
     if options.policy.is_empty() {
         let mut policy = Policy::new(rt.alloc());
-        policy_of(rt, out, &mut policy, "-")?;
-        judge_of(rt, out, options, policy)
+        match policy_of(rt, out, &mut policy, "-") {
+            Ok(()) => judge_of(rt, out, options, policy),
+            Err(stop) => {
+                drop(policy);
+                Err(stop)
+            }
+        }
     } else {
         side_of(rt, out, options, &[])
     }
@@ -122,7 +155,9 @@ fn review<R: AllocGlobal + Files + Input + Eprint>(
     questions: &Questions,
 ) -> Result<(), Stop> {
     let before = side_of(rt, out, options, options.before.as_slice())?;
-    review_from(rt, out, options, questions, &before)
+    let ended = review_from(rt, out, options, questions, &before);
+    drop(before);
+    ended
 }
 
 fn review_from<R: AllocGlobal + Files + Input + Eprint>(
@@ -133,7 +168,9 @@ fn review_from<R: AllocGlobal + Files + Input + Eprint>(
     before: &Judge,
 ) -> Result<(), Stop> {
     let after = side_of(rt, out, options, options.after.as_slice())?;
-    Ok(print_review(rt.alloc(), out, before, &after, questions)?)
+    let printed = print_review(rt.alloc(), out, before, &after, questions);
+    drop(after);
+    Ok(printed?)
 }
 
 /// The policy of the files of both sides and of one side.
@@ -144,11 +181,27 @@ fn side_of<R: AllocGlobal + Files + Input + Eprint>(
     side: &[String],
 ) -> Result<Judge, Stop> {
     let mut policy = Policy::new(rt.alloc());
+    match read_side(rt, out, &mut policy, options, side) {
+        Ok(()) => judge_of(rt, out, options, policy),
+        Err(stop) => {
+            drop(policy);
+            Err(stop)
+        }
+    }
+}
+
+fn read_side<R: AllocGlobal + Files + Input + Eprint>(
+    rt: &R,
+    out: &mut Vec<u8>,
+    policy: &mut Policy,
+    options: &Options,
+    side: &[String],
+) -> Result<(), Stop> {
     for file in options.policy.as_slice() {
-        policy_of(rt, out, &mut policy, file.as_str())?;
+        policy_of(rt, out, policy, file.as_str())?;
     }
     for file in side {
-        policy_of(rt, out, &mut policy, file.as_str())?;
+        policy_of(rt, out, policy, file.as_str())?;
     }
-    judge_of(rt, out, options, policy)
+    Ok(())
 }
