@@ -9,7 +9,7 @@ use kob_rights::{Event, Request};
 use kob_router::{Place, Route, RouteSettings, Target};
 use kob_script::read_script;
 use kob_shared::Script;
-use std::alloc::Global;
+use std::alloc::{AllocError, Global};
 use uuid::Uuid;
 
 /// How many partitions each topic has.
@@ -50,52 +50,67 @@ const PAYMENTS: [Happening; 3] = [
     (13, "payment", "7", "refunded"),
 ];
 
-fn record(alloc: Global, happening: Happening) -> Result<ServiceStep, ExampleFault> {
-    let (id, kind, aggregate, event) = happening;
-    let change = Change {
+fn change(alloc: Global, happening: Happening) -> Result<Change, AllocError> {
+    let (_, kind, aggregate, event) = happening;
+    Ok(Change {
         kind: String::from_str(alloc, kind)?,
         id: String::from_str(alloc, aggregate)?,
         state: String::from_str(alloc, event)?,
-    };
-    let event = OutboxEvent {
+    })
+}
+
+fn event(alloc: Global, happening: Happening) -> Result<OutboxEvent, AllocError> {
+    let (id, kind, aggregate, event) = happening;
+    Ok(OutboxEvent {
         id: Uuid::from_u128(id),
         aggregate_type: String::from_str(alloc, kind)?,
         aggregate_id: String::from_str(alloc, aggregate)?,
         event_type: String::from_str(alloc, event)?,
         payload: String::from_str(alloc, event)?,
+    })
+}
+
+fn record(alloc: Global, happening: Happening) -> Result<ServiceStep, AllocError> {
+    let change = change(alloc, happening)?;
+    let Ok(event) = event(alloc, happening) else {
+        drop(change);
+        return Err(AllocError);
     };
     Ok(ServiceStep::Record(change, event))
 }
 
-fn record_all(alloc: Global, all: [Happening; 3]) -> Result<Vec<ServiceStep>, ExampleFault> {
-    let mut steps = Vec::new(alloc);
+fn record_all(
+    alloc: Global,
+    steps: &mut Vec<ServiceStep>,
+    all: [Happening; 3],
+) -> Result<(), ExampleFault> {
     for it in all {
         steps.push(record(alloc, it)?)?;
     }
-    Ok(steps)
+    Ok(())
 }
 
 /// The reply to the second PRODUCE is lost and the router restarts, so that the broker gets this
 /// record twice.
-fn of_orders(alloc: Global) -> Result<Vec<ServiceStep>, ExampleFault> {
-    let mut steps = record_all(alloc, ORDERS)?;
+fn of_orders(alloc: Global, steps: &mut Vec<ServiceStep>) -> Result<(), ExampleFault> {
+    record_all(alloc, steps, ORDERS)?;
     steps.push(ServiceStep::Tick(Loss::None))?;
     steps.push(ServiceStep::Tick(Loss::AfterServe))?;
     steps.push(ServiceStep::Restart)?;
     steps.push(ServiceStep::Tick(Loss::None))?;
     steps.push(ServiceStep::Tick(Loss::None))?;
     steps.push(ServiceStep::Sweep)?;
-    Ok(steps)
+    Ok(())
 }
 
 /// The second PRODUCE is denied and sent again, and the third never reaches the broker, so that its
 /// row waits.
-fn of_payments(alloc: Global) -> Result<Vec<ServiceStep>, ExampleFault> {
-    let mut steps = record_all(alloc, PAYMENTS)?;
+fn of_payments(alloc: Global, steps: &mut Vec<ServiceStep>) -> Result<(), ExampleFault> {
+    record_all(alloc, steps, PAYMENTS)?;
     for loss in [Loss::None, Loss::None, Loss::None, Loss::BeforeServe] {
         steps.push(ServiceStep::Tick(loss))?;
     }
-    Ok(steps)
+    Ok(())
 }
 
 fn at_host(alloc: Global, who: &str) -> Result<(Principal, Host), ExampleFault> {
@@ -104,40 +119,84 @@ fn at_host(alloc: Global, who: &str) -> Result<(Principal, Host), ExampleFault> 
     Ok((principal, host))
 }
 
-fn service(alloc: Global, who: &str, steps: Vec<ServiceStep>) -> Result<Service, ExampleFault> {
-    let (principal, host) = at_host(alloc, who)?;
-    let route = Route::new(alloc, &RouteSettings::by_default(alloc)?)?;
-    Ok(Service {
-        principal,
-        host,
-        target: Target {
-            route,
-            partitions: PARTITIONS,
-        },
-        steps,
-    })
+fn route(alloc: Global) -> Result<Route, ExampleFault> {
+    let settings = RouteSettings::by_default(alloc)?;
+    let route = Route::new(alloc, &settings);
+    drop(settings);
+    Ok(route?)
 }
 
-fn services(alloc: Global) -> Result<Vec<Service>, ExampleFault> {
-    let mut services = Vec::new(alloc);
-    services.push(service(alloc, "User:orders", of_orders(alloc)?)?)?;
-    services.push(service(alloc, "User:payments", of_payments(alloc)?)?)?;
-    Ok(services)
+/// A service that does nothing yet.
+fn service(alloc: Global, who: &str) -> Result<Service, ExampleFault> {
+    let route = route(alloc)?;
+    match at_host(alloc, who) {
+        Ok((principal, host)) => Ok(Service {
+            principal,
+            host,
+            target: Target {
+                route,
+                partitions: PARTITIONS,
+            },
+            steps: Vec::new(alloc),
+        }),
+        Err(fault) => {
+            drop(route);
+            Err(fault)
+        }
+    }
 }
 
-fn subscription(alloc: Global, group: &str, topic: &str) -> Result<Subscription, ExampleFault> {
-    let mut assignment = Vec::new(alloc);
+fn orders(alloc: Global) -> Result<Service, ExampleFault> {
+    let mut service = service(alloc, "User:orders")?;
+    match of_orders(alloc, &mut service.steps) {
+        Ok(()) => Ok(service),
+        Err(fault) => {
+            drop(service);
+            Err(fault)
+        }
+    }
+}
+
+fn payments(alloc: Global) -> Result<Service, ExampleFault> {
+    let mut service = service(alloc, "User:payments")?;
+    match of_payments(alloc, &mut service.steps) {
+        Ok(()) => Ok(service),
+        Err(fault) => {
+            drop(service);
+            Err(fault)
+        }
+    }
+}
+
+fn push_places(
+    alloc: Global,
+    assignment: &mut Vec<Place>,
+    topic: &str,
+) -> Result<(), ExampleFault> {
     for partition in 0..PARTITIONS {
         assignment.push(Place {
             topic: Text::copied(alloc, topic)?,
             partition: partition as u64,
         })?;
     }
-    Ok(Subscription {
-        group: Text::copied(alloc, group)?,
-        assignment: Items::from_vec(assignment),
-        max: 10,
-    })
+    Ok(())
+}
+
+fn subscription(alloc: Global, group: &str, topic: &str) -> Result<Subscription, ExampleFault> {
+    let group = Text::copied(alloc, group)?;
+    let mut assignment = Vec::new(alloc);
+    match push_places(alloc, &mut assignment, topic) {
+        Ok(()) => Ok(Subscription {
+            group,
+            assignment: Items::from_vec(assignment),
+            max: 10,
+        }),
+        Err(fault) => {
+            drop(group);
+            drop(assignment);
+            Err(fault)
+        }
+    }
 }
 
 /// Ticks enough for both partitions, the second one lost, and a restart after the fourth.
@@ -148,53 +207,80 @@ fn consumer_steps(alloc: Global) -> Result<Vec<ConsumerStep>, ExampleFault> {
     Ok(steps)
 }
 
-fn consumers(alloc: Global) -> Result<Vec<ConsumerPlan>, ExampleFault> {
-    let mut consumers = Vec::new(alloc);
-    for (who, group, topic) in [
-        ("User:mail", "mail", "outbox.event.order"),
-        ("User:books", "books", "outbox.event.payment"),
-    ] {
-        let (principal, host) = at_host(alloc, who)?;
-        consumers.push(ConsumerPlan {
+fn consumer(
+    alloc: Global,
+    who: &str,
+    group: &str,
+    topic: &str,
+) -> Result<ConsumerPlan, ExampleFault> {
+    let subscription = subscription(alloc, group, topic)?;
+    let Ok(steps) = consumer_steps(alloc) else {
+        drop(subscription);
+        return Err(ExampleFault::Memory);
+    };
+    match at_host(alloc, who) {
+        Ok((principal, host)) => Ok(ConsumerPlan {
             principal,
             host,
-            subscription: subscription(alloc, group, topic)?,
-            steps: consumer_steps(alloc)?,
-        })?;
+            subscription,
+            steps,
+        }),
+        Err(fault) => {
+            drop(subscription);
+            drop(steps);
+            Err(fault)
+        }
     }
-    Ok(consumers)
 }
 
 fn request_of(event: Event) -> Request {
     event.request
 }
 
-fn administrators(alloc: Global) -> Result<Vec<Script>, ExampleFault> {
-    let mut requests = Vec::new(alloc);
-    for event in read_script(alloc, CHANGES.as_bytes())?.events.into_vec() {
-        requests.push(request_of(event))?;
+fn changes(alloc: Global) -> Result<Vec<Request>, ExampleFault> {
+    let events = read_script(alloc, CHANGES.as_bytes())?.events.into_vec();
+    Ok(events.into_iter().map(request_of).collect(alloc)?)
+}
+
+fn administrator(alloc: Global) -> Result<Script, ExampleFault> {
+    let requests = changes(alloc)?;
+    match at_host(alloc, "User:root") {
+        Ok((principal, host)) => Ok(Script {
+            principal,
+            host,
+            requests,
+        }),
+        Err(fault) => {
+            drop(requests);
+            Err(fault)
+        }
     }
-    let (principal, host) = at_host(alloc, "User:root")?;
-    let mut scripts = Vec::new(alloc);
-    scripts.push(Script {
-        principal,
-        host,
-        requests,
-    })?;
-    Ok(scripts)
+}
+
+fn push_workers(alloc: Global, plan: &mut Plan) -> Result<(), ExampleFault> {
+    plan.services.push(orders(alloc)?)?;
+    plan.services.push(payments(alloc)?)?;
+    plan.consumers.push(consumer(alloc, "User:mail", "mail", "outbox.event.order")?)?;
+    plan.consumers.push(consumer(alloc, "User:books", "books", "outbox.event.payment")?)?;
+    plan.administrators.push(administrator(alloc)?)?;
+    Ok(())
 }
 
 /// Two services, two consumers and an administrator.
 pub(crate) fn plan_of(alloc: Global) -> Result<Plan, ExampleFault> {
-    let services = services(alloc)?;
-    let consumers = consumers(alloc)?;
-    let administrators = administrators(alloc)?;
     let opening = read_script(alloc, OPENING.as_bytes())?;
-    Ok(Plan {
+    let mut plan = Plan {
         settings: opening.settings,
         first: opening.events,
-        services,
-        consumers,
-        administrators,
-    })
+        services: Vec::new(alloc),
+        consumers: Vec::new(alloc),
+        administrators: Vec::new(alloc),
+    };
+    match push_workers(alloc, &mut plan) {
+        Ok(()) => Ok(plan),
+        Err(fault) => {
+            drop(plan);
+            Err(fault)
+        }
+    }
 }
