@@ -1,7 +1,7 @@
 #!/usr/bin/env python3
 """What each kind of work costs the program that plays scripts.
 
-    python3 bench/measure.py [COLUMN ..] [--only WORD] [--program PROGRAM] [--write]
+    python3 bench/measure.py [COLUMN ..] [--only WORD] [--program PROGRAM] [--jobs N] [--write]
 
 A workload is a script in two parts: what is there before, and the work. Each number is that of the whole script less that
 of the first part alone. COLUMN is one or more of (none: seconds and memory)
@@ -11,13 +11,14 @@ of the first part alone. COLUMN is one or more of (none: seconds and memory)
   instructions  instructions of the work at n and their growth, by `valgrind --tool=callgrind`: the same on each run
   allocations   allocations and reallocations for one more of the work, by `valgrind --trace-malloc=yes`
   plain         beside bench/plain, an unproved Rust program that prints the same for these workloads and is built here by `rustc -O`:
-                its seconds at 4n, and how many times those the proved program takes
+                its seconds at 4n, and how many times those the proved program takes; nothing where it has not the command
 
 --only takes the workloads with WORD in their name. PROGRAM is crates/kob_run/out/kob_run if none is given, as `rt run` in
-crates/kob_run builds it. --write puts the table into bench/README.md, with the commit, the date and the machine.
+crates/kob_run builds it. --jobs measures N kinds of work side by side, which changes no count of instructions, bytes or allocations. --write puts the table into bench/README.md, with the commit, the date and the machine.
 Seconds are the least of at least five runs, of programs in turn. No contract speaks of cost; docs/DECISIONS.md has the goals.
 """
 import argparse
+import concurrent.futures
 import datetime
 import itertools
 import os
@@ -210,7 +211,7 @@ def instructions(programs, workload):
 
 
 def allocations(programs, workload):
-    n = max(1, workload[1] // 20)
+    n = workload[1] if "one line" in workload[0] else max(1, workload[1] // 20)
 
     def calls(script):
         found = re.findall(rb"(malloc|calloc|realloc|memalign)\(", valgrind(["--trace-malloc=yes"], programs[0], script))
@@ -222,8 +223,10 @@ def allocations(programs, workload):
 
 def plain(programs, workload):
     before, whole = texts(workload, 4 * workload[1])
-    printed = {subprocess.run([it], input=whole, capture_output=True, check=True).stdout for it in programs}
-    if len(printed) > 1:
+    ours, other = (subprocess.run([it], input=whole, capture_output=True, check=False) for it in programs)
+    if other.returncode:
+        return ["", ""]
+    if ours.stdout != other.stdout:
         sys.exit(f"{workload[0]}: the programs print different replies")
     (ready, *_), (other_ready, *_), (ours, *_), (other, *_) = least([(it, script) for script in (before, whole) for it in programs])
     ours, other = ours - ready, other - other_ready
@@ -257,6 +260,7 @@ def main():
     parser.add_argument("columns", nargs="*", choices=[*COLUMNS, []])
     parser.add_argument("--only", default="")
     parser.add_argument("--program", type=pathlib.Path, default=TOP / "crates/kob_run/out/kob_run")
+    parser.add_argument("--jobs", type=int, default=1)
     parser.add_argument("--write", action="store_true")
     given = parser.parse_args()
     if not given.program.exists():
@@ -264,12 +268,15 @@ def main():
     columns = given.columns or ["seconds", "memory"]
     table = [["work", "n", *(it for column in columns for it in HEADS[column])]]
     table.append(["---"] * len(table[0]))
-    with tempfile.TemporaryDirectory() as folder:
+    with tempfile.TemporaryDirectory() as folder, concurrent.futures.ThreadPoolExecutor(given.jobs) as pool:
         programs = [given.program, *([built(folder)] if "plain" in columns else [])]
-        for workload in (it for it in WORKLOADS if given.only in it[0]):
+
+        def row(workload):
             cells = [cell for column in columns for cell in globals()[column](programs, workload)]
-            table.append([workload[0], f"{workload[1]:,}", *cells])
-            print(*table[-1], sep="  ", flush=True)
+            print(workload[0], *cells, sep="  ", flush=True)
+            return [workload[0], f"{workload[1]:,}", *cells]
+
+        table.extend(pool.map(row, (it for it in WORKLOADS if given.only in it[0])))
     text = head() + "\n" + "".join("| " + " | ".join(row) + " |\n" for row in table)
     if given.write:
         page = README.read_text()
