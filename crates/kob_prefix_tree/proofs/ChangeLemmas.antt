@@ -5,7 +5,7 @@ use Rattle.kob_prefix_tree.specs.Trie.{Trie, void, sibling, Contents, bare, led_
 use Rattle.kob_prefix_tree.specs.Held.{Held, nothing}
 use Rattle.kob_prefix_tree.specs.Siblings.{siblings, value_at, with_value, without, behind_one, held_in, IsNeat}
 use Rattle.kob_prefix_tree.specs.Change.{ChangedAt}
-use Rattle.kob_prefix_tree.proofs.SiblingLemmas.{AllNeat, neat_list, neat_tree, neat_changed, neat_without, neat_at, at_first, at_past, at_changed, at_changed_other, at_without, at_without_other, some_not_none, differ}
+use Rattle.kob_prefix_tree.proofs.SiblingLemmas.{AllNeat, neat_list, neat_tree, neat_changed, neat_without, neat_at, at_first, at_past, at_changed, at_changed_other, at_without, at_without_other, differ}
 
 -- the serials of the place itself
 pub changed_here : (f : Held → Held) (h : Held) (t : Trie) → IsNeat t → ChangedAt [] f (h, t) (f h, t)
@@ -40,10 +40,6 @@ put_here f key {tail} {tail'} {h} {h'} {t} {t'} none no_tail same is below neat 
     (subst (λ c. ChangedAt key f c (h', t)) (sym was)
     (changed_own f key t none is (subst (λ (c : Contents). IsNeat c.1) was neat)))
 
--- what an empty key holds
-pub own_held : (key : List ℕ) (c : Contents) → length key ≡ 0 → c.0 ≡ held_in key c
-own_held key c none = ap (λ k. held_in k c) (no_bytes key none)
-
 pub held_in_bare : (key : List ℕ) → held_in key bare ≡ nothing
 held_in_bare [] = refl
 held_in_bare (byte ∷ key) = refl
@@ -73,15 +69,6 @@ neat_behind byte t {c} neat is = subst (λ (x : Contents). IsNeat x.1) (sym is)
 pub led_on : {A : Type 0} (o : Option A) → o ≢ None → (v : A) × (o ≡ Some v)
 led_on None some = absurd (some refl)
 led_on (Some v) some = (v, refl)
-
-pub led_nowhere : {A : Type 0} (o : Option A) → (o ≢ None → ⊥) → o ≡ None
-led_nowhere None none = refl
-led_nowhere (Some v) none = absurd (none (λ e. some_not_none v e))
-
--- something stands behind the byte, so the place is not bare
-pub not_bare : (byte : ℕ) (c : Contents) (h : Held) (t : Trie) → value_at byte (siblings t) ≡ Some c
-    → (h, t) ≢ bare
-not_bare byte c h t is e = some_not_none c (sym is ∙ ap (λ (x : Contents). value_at byte (siblings x.1)) e)
 
 module _ (f : Held → Held) (byte : ℕ) (rest : List ℕ) (h : Held) (t t' : Trie) where
   changed_below : IsNeat t' → behind_one (held_in rest) (value_at byte (siblings t'))

@@ -1,6 +1,7 @@
 -- A walk, step by step.
-use Rattle.std.proofs.Common.{◌≡◌, ℕ, ◌+◌, List, [], ◌∷◌, ◌++◌, map, length, Option, None, Some, refl, ap, ◌∙◌, append_assoc}
+use Rattle.std.proofs.Common.{◌≡◌, ℕ, ◌+◌, List, [], ◌∷◌, ◌++◌, length, Option, None, Some, refl, ap, ◌∙◌, append_assoc}
 use Rattle.std.specs.List.{flat_map}
+use Rattle.std.proofs.lemmas.List.Folds.{flat_map-map}
 use Rattle.kob_prefix_tree.specs.declared.serials.Unread.{Unread}
 use Rattle.kob_prefix_tree.specs.declared.walk.Ahead.{Ahead}
 use Rattle.kob_prefix_tree.specs.Held.{Held, nothing}
@@ -15,11 +16,6 @@ use Rattle.kob_prefix_tree.specs.SerialsLeft.{unread_of}
 abbrev pub steps_ahead : Option Ahead → ℕ
 steps_ahead None = 0
 steps_ahead (Some a) = length a.name.now + 1
-
-flat_map_map : (f : List ℕ → List ℕ) (byte : ℕ) (ps : List (List ℕ))
-    → flat_map f (map (λ prefix. byte ∷ prefix) ps) ≡ flat_map (λ prefix. f (byte ∷ prefix)) ps
-flat_map_map f byte [] = refl
-flat_map_map f byte (x ∷ ps) = ap (λ ys. f (byte ∷ x) ++ ys) (flat_map_map f byte ps)
 
 pub prefixes_longer : (name : List ℕ) → prefixes name ≡ [] ∷ longer_prefixes name
 prefixes_longer [] = refl
@@ -38,7 +34,7 @@ pub serials_beyond_child : (held child : List ℕ → Held) (byte : ℕ) (name :
     → ((key : List ℕ) → held (byte ∷ key) ≡ child key)
     → serials_beyond held (byte ∷ name) ≡ (child []).1 ++ serials_beyond child name
 serials_beyond_child held child byte name is =
-    (λ i. flat_map_map (λ prefix. (held prefix).1) byte (prefixes name) i ++ (is name i).0)
+    (λ i. flat_map-map (λ prefix. (held prefix).1) (λ prefix. byte ∷ prefix) (prefixes name) i ++ (is name i).0)
     ∙ (λ i. flat_map (λ prefix. (is prefix i).1) (prefixes name) ++ (child name).0)
     ∙ serials_along_first child name
 
@@ -55,7 +51,7 @@ serials_along_nothing name =
 pub serials_beyond_none : (held : List ℕ → Held) (byte : ℕ) (name : List ℕ)
     → ((key : List ℕ) → held (byte ∷ key) ≡ nothing) → serials_beyond held (byte ∷ name) ≡ []
 serials_beyond_none held byte name none =
-    (λ i. flat_map_map (λ prefix. (held prefix).1) byte (prefixes name) i ++ (none name i).0)
+    (λ i. flat_map-map (λ prefix. (held prefix).1) (λ prefix. byte ∷ prefix) (prefixes name) i ++ (none name i).0)
     ∙ ap (λ ys. ys ++ []) (nothing_along (λ prefix. (held (byte ∷ prefix)).1) (prefixes name)
     (λ p. ap (λ (h : Held). h.1) (none p)))
 

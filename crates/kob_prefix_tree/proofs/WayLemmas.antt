@@ -20,10 +20,7 @@ bare_when (h, void) e = λ i. (is_nothing_true h (sym (and-true (is_nothing h)) 
 bare_when (h, sibling byte held below after) e =
     absurd (true≢false (sym e ∙ and-false (is_nothing h)))
 
--- a bare child is left out, another stands in front
-pub child_bare : (byte : ℕ) (c : Contents) (t : Trie) → c ≡ bare → with_child byte c t ≡ t
-child_bare byte c t none = ap (λ x. with_child byte x t) none
-
+-- a child that is not bare stands in front
 pub child_put : (byte : ℕ) (c : Contents) (t : Trie) → c ≢ bare → with_child byte c t ≡ sibling byte c.0 c.1 t
 child_put byte c t some = elim (is_bare c) as (λ b. is_bare c ≡ b → cond b t (sibling byte c.0 c.1 t)
     ≡ sibling byte c.0 c.1 t) [

@@ -22,11 +22,6 @@ abbrev pub serials_of : PatternKind → Held → List ℕ
 serials_of Literal held = held.0
 serials_of Prefixed held = held.1
 
--- the one serial, of this kind
-abbrev pub one_serial : PatternKind → ℕ → Held
-one_serial Literal serial = (serial ∷ [], [])
-one_serial Prefixed serial = ([], serial ∷ [])
-
 -- the serial put last in the list of its kind
 abbrev pub with_serial : PatternKind → ℕ → Held → Held
 with_serial Literal serial held = (held.0 ++ serial ∷ [], held.1)
