@@ -1,10 +1,8 @@
-pub mod AddLemmas
 pub mod Blocks
 pub mod CellLemmas
 pub mod ChangeLemmas
 pub mod Ends
 pub mod EntriesLemmas
-pub mod ExchangeLemmas
 pub mod Firsts
 pub mod HeldLaws
 pub mod LevelsLemmas
@@ -12,6 +10,7 @@ pub mod ListLemmas
 pub mod MapLemmas
 pub mod Moves
 pub mod PartLemmas
+pub mod PartsLemmas
 pub mod PlaceLemmas
 pub mod Read
 pub mod SiblingLemmas

@@ -14,7 +14,7 @@ use Rattle.kob_prefix_tree.specs.declared.kind.PatternKind.{PatternKind}
 use Rattle.kob_prefix_tree.specs.declared.kind.PatternKind.TheVariants.{Literal, Prefixed}
 use Rattle.kob_prefix_tree.specs.Held.{Held, nothing, is_nothing, with_serial}
 use Rattle.kob_prefix_tree.specs.Entries.{Entries, held_at, AllInUse}
-use Rattle.kob_prefix_tree.specs.PrefixMap.{PrefixMap, held, added}
+use Rattle.kob_prefix_tree.specs.PrefixMap.{PrefixMap, held}
 
 abbrev pub bytes : List ℕ → List ℕ → Bool
 bytes x y = eq_by_cmp (slice_cmp nat_cmp) x y
@@ -36,10 +36,12 @@ is_nothing_true h e =
     let sum : length h.0 + length h.1 ≡ 0 = eqb-true (length h.0 + length h.1) 0 e in
     λ i. (no_length h.0 (length h.1) sum i, no_length_right (length h.0) h.1 sum i)
 
+pub something : (h : Held) → h ≢ nothing → is_nothing h ≡ false
+something h some = elim (is_nothing h) as (λ b. is_nothing h ≡ b → b ≡ false)
+    [ true ↦ λ e. absurd (some (is_nothing_true h e)) | false ↦ λ e. refl ] refl
+
 kept_some : (h : Held) → h ≢ nothing → kept h ≡ Some h
-kept_some h some =
-    elim (is_nothing h) as (λ b. is_nothing h ≡ b
-    → cond b None (Some h) ≡ Some h) [ true ↦ λ e. absurd (some (is_nothing_true h e)) | false ↦ λ e. refl ] refl
+kept_some h some = ap (λ b. cond b None (Some h)) (something h some)
 
 found_of_held : (key : List ℕ) (es : Entries) → AllInUse es → find (slice_cmp nat_cmp) key es ≡ kept (held_at es key)
 found_of_held key [] in_use = refl
@@ -79,7 +81,7 @@ same_map es m is =
     map.same_map nat_list_cmp_total (slice_cmp-IsAntisymmetric nat_cmp-IsAntisymmetric) (map_of es) m
     (λ key. get_of es key ∙ is key)
 
-pub some_behind : (xs : List ℕ) (x : ℕ) → xs ++ x ∷ [] ≢ []
+some_behind : (xs : List ℕ) (x : ℕ) → xs ++ x ∷ [] ≢ []
 some_behind [] x e = cc
 some_behind (y ∷ xs) x e = cc
 
@@ -87,26 +89,6 @@ some_behind (y ∷ xs) x e = cc
 pub with_some : (kind : PatternKind) (serial : ℕ) (h : Held) → with_serial kind serial h ≢ nothing
 with_some Literal serial h e = some_behind h.0 serial (ap (λ x. x.0) e)
 with_some Prefixed serial h e = some_behind h.1 serial (ap (λ x. x.1) e)
-
--- entries that took in one serial
-pub map_added : (es new : Entries) (key : List ℕ) (kind : PatternKind) (serial : ℕ) → AllInUse es → AllInUse new
-    → held_at new key ≡ with_serial kind serial (held_at es key)
-    → ((k : List ℕ) → k ≢ key → held_at new k ≡ held_at es k) → map_of new ≡ added (map_of es) key kind serial
-map_added es new key kind serial used new_used put elsewhere = same_map new (added (map_of es) key kind serial) (λ k.
-    found_of_held k new new_used ∙ at k ∙ sym
-    (map.get-insert nat_list_cmp_total (map_of es) key (with_serial kind serial (held (map_of es) key)) k))
-  where
-    at : (k : List ℕ) → kept (held_at new k)
-        ≡ cond (bytes k key) (Some (with_serial kind serial (held (map_of es) key))) (map.get (map_of es) k)
-    at k = elim (bytes k key) as (λ b. bytes k key ≡ b
-        → kept (held_at new k) ≡ cond b (Some (with_serial kind serial (held (map_of es) key)))
-        (map.get (map_of es) k)) [
-          | true ↦ λ e.
-              ap kept (ap (held_at new) (same_bytes k key e) ∙ put
-              ∙ ap (with_serial kind serial) (sym (held_of es key)))
-              ∙ kept_some _ (with_some kind serial (held (map_of es) key))
-          | false ↦ λ e. ap kept (elsewhere k (other_bytes k key e)) ∙ sym (found_of_held k es used) ∙ sym (get_of es k)
-        ] refl
 
 -- entries of which one key holds something else now, or nothing
 pub map_left : (es new : Entries) (key : List ℕ) (left : Held) → AllInUse es → AllInUse new

@@ -8,11 +8,12 @@ use Rattle.kob_prefix_tree.specs.Entries.{Entries, held_at, held_behind, behind,
 use Rattle.kob_prefix_tree.specs.declared.kind.PatternKind.{PatternKind}
 use Rattle.kob_prefix_tree.specs.declared.kind.PatternKind.TheVariants.{Literal, Prefixed}
 use Rattle.kob_prefix_tree.specs.Held.{is_nothing, with_serial, without_serial, without_serials}
+use Rattle.kob_prefix_tree.specs.Change.{ChangedAt}
 use Rattle.kob_prefix_tree.specs.Walked.{IsLongestInUse}
 use Rattle.kob_prefix_tree.specs.PrefixMap.{PrefixMap, held, added, removed, removed_all}
 use Rattle.std.specs.FinMap as map
 use Rattle.kob_prefix_tree.specs.Lists.{without_first, without_in_turn}
-use Rattle.kob_prefix_tree.proofs.MapLemmas.{map_of, map_added, map_left, map_same, held_of}
+use Rattle.kob_prefix_tree.proofs.MapLemmas.{map_of, map_left, map_same, held_of, something, with_some}
 use Rattle.kob_prefix_tree.proofs.EntriesLemmas.{held_at_own, held_at_below, all_in_use_entries_of}
 use Rattle.kob_prefix_tree.proofs.SiblingLemmas.{neat_list, neat_at}
 
@@ -113,42 +114,43 @@ without_one : (kind : PatternKind) (serial : ℕ) (h : Held)
 without_one Literal serial h i = (without_one_of serial h.0 i, h.1)
 without_one Prefixed serial h i = (h.0, without_one_of serial h.1 i)
 
-module _ (old new : Contents) (key : List ℕ) (kind : PatternKind) (serial : ℕ) (neat : IsNeat old.1)
-    (neat' : IsNeat new.1) where
+module _ (old new : Contents) (key : List ℕ) (neat : IsNeat old.1) where
   before : (k : List ℕ) → held_at (entries_in old) k ≡ held_in k old
   before k = held_of_entries k old neat
 
-  after : (k : List ℕ) → held_at (entries_in new) k ≡ held_in k new
-  after k = held_of_entries k new neat'
+  module _ (f : Held → Held) (done : ChangedAt key f old new) where
+    at_key : held_at (entries_in new) key ≡ f (held_at (entries_in old) key)
+    at_key = held_of_entries key new done.neat ∙ done.at ∙ ap f (sym (before key))
 
-  pub added_of : held_in key new ≡ with_serial kind serial (held_in key old)
-      → ((k : List ℕ) → k ≢ key → held_in k new ≡ held_in k old) → map_at new ≡ added (map_at old) key kind serial
-  added_of put elsewhere =
-      map_added (entries_in old) (entries_in new) key kind serial (in_use old neat) (in_use new neat')
-      (after key ∙ put ∙ ap (with_serial kind serial) (sym (before key)))
-      (λ k ne. after k ∙ elsewhere k ne ∙ sym (before k))
+    elsewhere : (k : List ℕ) → k ≢ key → held_at (entries_in new) k ≡ held_at (entries_in old) k
+    elsewhere k ne = held_of_entries k new done.neat ∙ done.elsewhere k ne ∙ sym (before k)
 
-  pub same_of : held_in key new ≡ held_in key old → ((k : List ℕ) → k ≢ key → held_in k new ≡ held_in k old)
-      → map_at new ≡ map_at old
-  same_of same elsewhere = map_same (entries_in old) (entries_in new) key (in_use old neat) (in_use new neat')
-      (after key ∙ same ∙ sym (before key)) (λ k ne. after k ∙ elsewhere k ne ∙ sym (before k))
+    left_of : map_at new ≡ cond (is_nothing (f (held (map_at old) key))) (map.remove (map_at old) key)
+        (map.insert (map_at old) key (f (held (map_at old) key)))
+    left_of =
+        map_left (entries_in old) (entries_in new) key (f (held (map_at old) key)) (in_use old neat)
+        (in_use new done.neat) (at_key ∙ ap f (sym (held_of (entries_in old) key))) elsewhere
 
-  -- at the key f was done, and elsewhere nothing
-  left_of : (f : Held → Held) → held_in key new ≡ f (held_in key old)
-      → ((k : List ℕ) → k ≢ key → held_in k new ≡ held_in k old)
-      → map_at new ≡ cond (is_nothing (f (held (map_at old) key))) (map.remove (map_at old) key)
-      (map.insert (map_at old) key (f (held (map_at old) key)))
-  left_of f taken elsewhere =
-      map_left (entries_in old) (entries_in new) key (f (held (map_at old) key)) (in_use old neat) (in_use new neat')
-      (after key ∙ taken ∙ ap f (sym (held_of_map key old neat))) (λ k ne. after k ∙ elsewhere k ne ∙ sym (before k))
+  pub same_of : ChangedAt key (λ held. held) old new → map_at new ≡ map_at old
+  same_of done = map_same (entries_in old) (entries_in new) key (in_use old neat) (in_use new done.neat)
+      (at_key (λ held. held) done) (elsewhere (λ held. held) done)
 
-  pub removed_all_of : (serials : List ℕ) → held_in key new ≡ without_serials kind serials (held_in key old)
-      → ((k : List ℕ) → k ≢ key → held_in k new ≡ held_in k old)
-      → map_at new ≡ removed_all (map_at old) key kind serials
-  removed_all_of serials taken elsewhere = left_of (without_serials kind serials) taken elsewhere
+  module _ (kind : PatternKind) where
+    pub added_of : (serial : ℕ) → ChangedAt key (with_serial kind serial) old new
+        → map_at new ≡ added (map_at old) key kind serial
+    added_of serial done =
+        let now : Held = with_serial kind serial (held (map_at old) key) in
+        left_of (with_serial kind serial) done
+        ∙ ap (λ b. cond b (map.remove (map_at old) key) (map.insert (map_at old) key now))
+        (something now (with_some kind serial (held (map_at old) key)))
 
-  pub removed_of : held_in key new ≡ without_serials kind (serial ∷ []) (held_in key old)
-      → ((k : List ℕ) → k ≢ key → held_in k new ≡ held_in k old)
-      → map_at new ≡ removed (map_at old) key kind serial
-  removed_of taken elsewhere =
-      left_of (without_serial kind serial) (taken ∙ without_one kind serial (held_in key old)) elsewhere
+    pub removed_all_of : (serials : List ℕ) → ChangedAt key (without_serials kind serials) old new
+        → map_at new ≡ removed_all (map_at old) key kind serials
+    removed_all_of serials done = left_of (without_serials kind serials) done
+
+    pub removed_of : (serial : ℕ) → ChangedAt key (without_serials kind (serial ∷ [])) old new
+        → map_at new ≡ removed (map_at old) key kind serial
+    removed_of serial done =
+        left_of (without_serials kind (serial ∷ [])) done
+        ∙ ap (λ h. cond (is_nothing h) (map.remove (map_at old) key) (map.insert (map_at old) key h))
+        (without_one kind serial (held (map_at old) key))

@@ -3,7 +3,7 @@ use Rattle.std.proofs.Common.{◌≡◌, ◌≢◌, ℕ, ◌==◌, true, false, 
 use Rattle.std.proofs.Math.Bool.{true≢false}
 use Rattle.std.proofs.lemmas.Bool.{eqb-true, eq-eqb}
 use Rattle.kob_prefix_tree.specs.Trie.{Trie, void, sibling, Contents, bare}
-use Rattle.kob_prefix_tree.specs.Siblings.{siblings, value_at, with_value, without, IsNeat}
+use Rattle.kob_prefix_tree.specs.Siblings.{siblings, value_at, without, IsNeat}
 
 ne_eqb : (a b : ℕ) → a ≢ b → a == b ≡ false
 ne_eqb a b ne =
@@ -23,32 +23,6 @@ module _ {A : Type 0} where
   pub some_not_none : (v : A) → Some v ≢ None
   some_not_none v e = cc
 
-  -- the value put there stands there
-  pub at_changed : (byte : ℕ) (v w : A) (xs : List (ℕ × A)) → value_at byte xs ≡ Some w
-      → value_at byte (with_value byte v xs) ≡ Some v
-  at_changed byte v w [] is = absurd (some_not_none w (sym is))
-  at_changed byte v w (x ∷ xs) is =
-      let rest = at_changed byte v w xs in
-      elim (x.0 == byte) as (λ b. x.0 == byte ≡ b → cond b (Some x.1) (value_at byte xs) ≡ Some w
-      → value_at byte (cond b ((x.0, v) ∷ xs) (x ∷ with_value byte v xs)) ≡ Some v) [
-        | true ↦ λ e _. ap (λ b. cond b (Some v) (value_at byte xs)) e
-        | false ↦ λ e later. ap (λ b. cond b (Some x.1) (value_at byte (with_value byte v xs))) e ∙ rest later
-      ] refl is
-
-  -- the others stay
-  pub at_changed_other : (byte other : ℕ) (v : A) (xs : List (ℕ × A)) → other ≢ byte
-      → value_at other (with_value byte v xs) ≡ value_at other xs
-  at_changed_other byte other v [] ne = refl
-  at_changed_other byte other v (x ∷ xs) ne =
-      let rest = at_changed_other byte other v xs ne in
-      elim (x.0 == byte) as (λ b. x.0 == byte ≡ b
-      → value_at other (cond b ((x.0, v) ∷ xs) (x ∷ with_value byte v xs)) ≡ value_at other (x ∷ xs)) [
-        | true ↦ λ e. let past : x.0 ≢ other =
-            λ same. ne (sym same ∙ eqb-true x.0 byte e) in
-            at_past other x.0 v xs past ∙ sym (at_past other x.0 x.1 xs past)
-        | false ↦ λ e. ap (λ o. cond (x.0 == other) (Some x.1) o) rest
-      ] refl
-
   pub at_without_other : (byte other : ℕ) (xs : List (ℕ × A)) → other ≢ byte
       → value_at other (without byte xs) ≡ value_at other xs
   at_without_other byte other [] ne = refl
@@ -58,41 +32,6 @@ module _ {A : Type 0} where
       → value_at other (cond b xs (x ∷ without byte xs)) ≡ value_at other (x ∷ xs)) [
         | true ↦ λ e. sym (at_past other x.0 x.1 xs (λ same. ne (sym same ∙ eqb-true x.0 byte e)))
         | false ↦ λ e. ap (λ o. cond (x.0 == other) (Some x.1) o) rest
-      ] refl
-
-  pub without_none : (byte : ℕ) (xs : List (ℕ × A)) → value_at byte xs ≡ None → without byte xs ≡ xs
-  without_none byte [] none = refl
-  without_none byte (x ∷ xs) none =
-      let rest = without_none byte xs in
-      elim (x.0 == byte) as (λ b. cond b (Some x.1) (value_at byte xs) ≡ None
-      → cond b xs (x ∷ without byte xs) ≡ x ∷ xs) [
-        | true ↦ λ is. absurd (some_not_none x.1 is)
-        | false ↦ λ is. ap (λ ys. x ∷ ys) (rest is)
-      ] none
-
-  -- of two changes at one byte the second counts
-  pub changed_twice : (byte : ℕ) (v w : A) (xs : List (ℕ × A))
-      → with_value byte v (with_value byte w xs) ≡ with_value byte v xs
-  changed_twice byte v w [] = refl
-  changed_twice byte v w (x ∷ xs) =
-      let rest = changed_twice byte v w xs in
-      elim (x.0 == byte) as (λ b. x.0 == byte ≡ b
-      → with_value byte v (cond b ((x.0, w) ∷ xs) (x ∷ with_value byte w xs))
-      ≡ cond b ((x.0, v) ∷ xs) (x ∷ with_value byte v xs)) [
-        | true ↦ λ e. ap (λ b. cond b ((x.0, v) ∷ xs) ((x.0, w) ∷ with_value byte v xs)) e
-        | false ↦ λ e. ap (λ b. cond b ((x.0, v) ∷ with_value byte w xs)
-            (x ∷ with_value byte v (with_value byte w xs))) e ∙ ap (λ ys. x ∷ ys) rest
-      ] refl
-
-  pub without_changed : (byte : ℕ) (w : A) (xs : List (ℕ × A)) → without byte (with_value byte w xs) ≡ without byte xs
-  without_changed byte w [] = refl
-  without_changed byte w (x ∷ xs) =
-      let rest = without_changed byte w xs in
-      elim (x.0 == byte) as (λ b. x.0 == byte ≡ b
-      → without byte (cond b ((x.0, w) ∷ xs) (x ∷ with_value byte w xs)) ≡ cond b xs (x ∷ without byte xs)) [
-        | true ↦ λ e. ap (λ b. cond b xs ((x.0, w) ∷ without byte xs)) e
-        | false ↦ λ e. ap (λ b. cond b (with_value byte w xs) (x ∷ without byte (with_value byte w xs))) e
-            ∙ ap (λ ys. x ∷ ys) rest
       ] refl
 
 -- neat siblings, as a list
@@ -107,16 +46,6 @@ neat_list (sibling first h below after) neat = (neat.0, (neat.1.0, (neat.1.1.0, 
 pub neat_tree : (t : Trie) → AllNeat (siblings t) → IsNeat t
 neat_tree void neat = tt
 neat_tree (sibling first h below after) neat = (neat.0, (neat.1.0, (neat.1.1.0, neat_tree after neat.1.1.1)))
-
-pub neat_changed : (byte : ℕ) (v : Contents) (ss : List (ℕ × Contents)) → AllNeat ss → v ≢ bare → IsNeat v.1
-    → AllNeat (with_value byte v ss)
-neat_changed byte v [] neat some below = tt
-neat_changed byte v (s ∷ ss) neat some below =
-    let rest = neat_changed byte v ss neat.1.1.1 some below in
-    elim (s.0 == byte) as (λ b. s.0 == byte ≡ b → AllNeat (cond b ((s.0, v) ∷ ss) (s ∷ with_value byte v ss))) [
-      | true ↦ λ e. (neat.0, (some, (below, neat.1.1.1)))
-      | false ↦ λ e. (at_changed_other byte s.0 v ss (differ s.0 byte e) ∙ neat.0, (neat.1.0, (neat.1.1.0, rest)))
-    ] refl
 
 pub neat_without : (byte : ℕ) (ss : List (ℕ × Contents)) → AllNeat ss → AllNeat (without byte ss)
 neat_without byte [] neat = tt

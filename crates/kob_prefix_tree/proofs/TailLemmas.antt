@@ -1,5 +1,5 @@
 -- A place from which some bytes alone lead on.
-use Rattle.std.proofs.Common.{◌≡◌, List, ℕ, [], ◌∷◌, ◌==◌, length, false, arith, ◌≢◌, refl, sym, ap, ◌∙◌}
+use Rattle.std.proofs.Common.{◌≡◌, List, ℕ, [], ◌∷◌, ◌==◌, length, false, arith, refl, ap}
 use Rattle.std.proofs.Math.Bool.{true≢false}
 use Rattle.kob_prefix_tree.specs.declared.kind.PatternKind.{PatternKind}
 use Rattle.kob_prefix_tree.specs.declared.kind.PatternKind.TheVariants.{Literal, Prefixed}
@@ -25,29 +25,15 @@ pub tail_of_bare : (tail : List ℕ) (c : Contents) → led_by tail c ≡ bare �
 tail_of_bare [] c e = refl
 tail_of_bare (x ∷ tail) c e = let e' : (led_by (x ∷ tail) c).1 ≡ void = ap (λ (y : Contents). y.1) e in cc
 
-within : (tail : List ℕ) (c : Contents) → tail ≢ [] → (led_by tail c).0 ≡ nothing
-within [] c some = absurd (some refl)
-within (x ∷ tail) c some = refl
-
-none_taken : (kind : PatternKind) (serials : List ℕ) → nothing ≡ without_serials kind serials nothing
+pub none_taken : (kind : PatternKind) (serials : List ℕ) → nothing ≡ without_serials kind serials nothing
 none_taken Literal serials = refl
 none_taken Prefixed serials = refl
 
-none_found : (kind : PatternKind) (serials : List ℕ) → false ≡ has_serials kind serials nothing
+pub none_found : (kind : PatternKind) (serials : List ℕ) → false ≡ has_serials kind serials nothing
 none_found Literal [] = refl
 none_found Literal (x ∷ serials) = refl
 none_found Prefixed [] = refl
 none_found Prefixed (x ∷ serials) = refl
-
-pub none_taken_before : (kind : PatternKind) (serials tail : List ℕ) (c : Contents) → tail ≢ []
-    → (led_by tail c).0 ≡ without_serials kind serials (led_by tail c).0
-none_taken_before kind serials tail c some =
-    let is = within tail c some in is ∙ none_taken kind serials ∙ ap (without_serials kind serials) (sym is)
-
-pub none_found_before : (kind : PatternKind) (serials tail : List ℕ) (c : Contents) → tail ≢ []
-    → false ≡ has_serials kind serials (led_by tail c).0
-none_found_before kind serials tail c some =
-    none_found kind serials ∙ ap (has_serials kind serials) (sym (within tail c some))
 
 pub no_nodes : (t : Tree Item) → trie_of t ≡ void → t ≡ leaf
 no_nodes leaf e = refl

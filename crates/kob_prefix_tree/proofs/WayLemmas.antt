@@ -10,10 +10,16 @@ use Rattle.kob_prefix_tree.specs.Held.{Held, nothing, is_nothing, with_serial}
 use Rattle.kob_prefix_tree.specs.Siblings.{siblings, value_at, without, behind_one, held_in, IsNeat}
 use Rattle.kob_prefix_tree.specs.Change.{ChangedAt}
 use Rattle.kob_prefix_tree.specs.Way.{is_bare, with_child, kept_behind, unwound, IsWay}
-use Rattle.kob_prefix_tree.proofs.MapLemmas.{is_nothing_true}
+use Rattle.kob_prefix_tree.proofs.MapLemmas.{is_nothing_true, with_some}
 use Rattle.kob_prefix_tree.proofs.SiblingLemmas.{AllNeat, at_first, at_without, neat_at, neat_list, neat_tree, neat_without, at_without_other, at_past}
-use Rattle.kob_prefix_tree.proofs.ChangeLemmas.{behind_tail, changed_here, put_back, taken_out, stands}
+use Rattle.kob_prefix_tree.proofs.ChangeLemmas.{behind_tail, changed_here, held_in_bare, taken_out, stands}
 use Rattle.kob_prefix_tree.proofs.TailLemmas.{tail_of_bare}
+
+-- a place where a serial was put is not bare
+pub some_put : (kind : PatternKind) (serial : ℕ) (key : List ℕ) (h : Held) {c : Contents}
+    → held_in key c ≡ with_serial kind serial h → c ≢ bare
+some_put kind serial key h put none =
+    with_some kind serial h (sym put ∙ ap (held_in key) none ∙ held_in_bare key)
 
 pub bare_when : (c : Contents) → is_bare c ≡ true → c ≡ bare
 bare_when (h, void) e = λ i. (is_nothing_true h (sym (and-true (is_nothing h)) ∙ e) i, void)
@@ -43,18 +49,18 @@ kept_here c = elim (is_bare c) as (λ b. is_bare c ≡ b → cond b bare c ≡ c
   | false ↦ λ e. refl
 ] refl
 
-neat_inside : (tail : List ℕ) (c : Contents) → IsNeat (led_by tail c).1 → IsNeat c.1
+pub neat_inside : (tail : List ℕ) (c : Contents) → IsNeat (led_by tail c).1 → IsNeat c.1
 neat_inside [] c neat = neat
 neat_inside (x ∷ tail) c neat = neat_inside tail c neat.1.1.0
 
-held_inside : (tail key : List ℕ) (c : Contents) → held_in key c ≡ held_in (tail ++ key) (led_by tail c)
+pub held_inside : (tail key : List ℕ) (c : Contents) → held_in key c ≡ held_in (tail ++ key) (led_by tail c)
 held_inside [] key c = refl
 held_inside (x ∷ tail) key c =
     held_inside tail key c ∙ sym (ap (behind_one (held_in (tail ++ key))) (at_first x (led_by tail c) []))
 
 module _ (f : Held → Held) where
   -- what is done behind bytes that alone lead on
-  through : (tail key : List ℕ) (c d : Contents) → IsNeat (led_by tail c).1 → ChangedAt key f c d
+  pub through : (tail key : List ℕ) (c d : Contents) → IsNeat (led_by tail c).1 → ChangedAt key f c d
       → ChangedAt (tail ++ key) f (led_by tail c) (kept_behind tail d)
   through [] key c d neat done = subst (ChangedAt key f c) (sym (kept_here d)) done
   through (x ∷ tail) key c d neat done =
@@ -70,13 +76,22 @@ module _ (f : Held → Held) where
         | false ↦ λ e. let some : d ≢ bare = λ none. true≢false (sym (ap is_bare none) ∙ e) in
             let kept = kept_some tail d some in
             let inner' = subst (ChangedAt (tail ++ key) f (led_by tail c)) kept inner in
-            put_back f x (tail ++ key) nothing t (led_by (x ∷ tail) d).1 neat was inner' there
-            (λ none. some (bare_behind tail d none))
-            (sym (ap (λ b. cond b ((x, led_by tail d) ∷ []) ((x, led_by tail c) ∷ [])) (eq-eqb x x refl)))
+            let kept_neat : (led_by tail d) ≢ bare = λ none. some (bare_behind tail d none) in
+            stands f x (tail ++ key) nothing t (led_by (x ∷ tail) d).1 neat was inner'
+            (refl, (kept_neat, (inner'.neat, tt)))
+            (at_first x (led_by tail d) [])
+            (λ b ne. at_past b x (led_by tail d) [] (λ same. ne (sym same))
+            ∙ sym (at_past b x (led_by tail c) [] (λ same. ne (sym same))))
       ] refl
     where
       bare_behind : (tail : List ℕ) (d : Contents) → led_by tail d ≡ bare → d ≡ bare
       bare_behind tail d none = sym (ap (λ bytes. led_by bytes d) (tail_of_bare tail d none)) ∙ none
+
+  -- the same, where something stays
+  pub behind : (tail key : List ℕ) (c d : Contents) → IsNeat (led_by tail c).1 → ChangedAt key f c d → d ≢ bare
+      → ChangedAt (tail ++ key) f (led_by tail c) (led_by tail d)
+  behind tail key c d neat done some =
+      subst (ChangedAt (tail ++ key) f (led_by tail c)) (kept_some tail d some) (through tail key c d neat done)
 
   -- what is done below a byte, whose node was taken out and comes back in front
   below_byte : (byte : ℕ) (rest : List ℕ) (h : Held) (t t' : Trie) (c d : Contents) → IsNeat t

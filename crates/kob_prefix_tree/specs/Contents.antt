@@ -14,8 +14,12 @@ trie_of (node item heap c below n after) =
     let first = led_by item.tail ((item.literal, item.prefixed), trie_of below) in
     sibling item.byte first.0 first.1 (trie_of after)
 
+-- what stands behind the bytes of a branch
+abbrev pub end_of : Branch → Contents
+end_of b = ((b.literal, b.prefixed), trie_of b.below.nodes)
+
 abbrev pub contents : Branch → Contents
-contents b = led_by b.tail ((b.literal, b.prefixed), trie_of b.below.nodes)
+contents b = led_by b.tail (end_of b)
 
 -- what stands behind a node's first byte
 abbrev pub node_contents : Node Item (Link Item) (Link Item) → Contents

@@ -1,5 +1,6 @@
 -- Nodes that are made ahead, in order beside one another.
-use Rattle.std.specs.Prelude.{◌≡◌, ℕ, ◌+◌, ◌*◌, ◌-◌, List, [], ◌∷◌, ◌++◌, length}
+use Rattle.std.specs.Prelude.{◌≡◌, ◌≢◌, ◌≤◌, ℕ, ◌+◌, ◌*◌, ◌-◌, List, [], ◌∷◌, ◌++◌}
+use Rattle.std.specs.Prelude.{drop, length, take}
 use Rattle.kob_prefix_tree.specs.Tree.{Tree, leaf, node}
 use Rattle.kob_prefix_tree.specs.declared.siblings.Item.{Item}
 use Rattle.kob_prefix_tree.specs.Siblings.{count}
@@ -17,3 +18,11 @@ room_of_first (node item heap c below n after) = 22 - length item.tail
 -- each but the first has 23 bytes
 abbrev pub ArePacked : Tree Item → Type 0
 ArePacked t = 23 * count t ≡ length (key_of t) + room_of_first t
+
+-- so many bytes of the tail begin the key, which goes on with the rest, and otherwise than the tail
+-- where this goes on
+pub record Parts (tail key : List ℕ) (count : ℕ) (rest : List ℕ) : Type 0 where
+  pub within : count ≤ length tail
+  pub key_is : key ≡ take count tail ++ rest
+  pub apart : (b : ℕ) (bytes : List ℕ) → drop count tail ≡ b ∷ bytes
+      → (byte : ℕ) (more : List ℕ) → rest ≡ byte ∷ more → byte ≢ b

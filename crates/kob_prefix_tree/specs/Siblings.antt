@@ -11,13 +11,7 @@ module _ {A : Type 0} where
   value_at byte [] = None
   value_at byte (x ∷ xs) = if x.0 == byte then Some x.1 else value_at byte xs
 
-  -- another value put in its place
-  abbrev pub with_value : ℕ → A → List (ℕ × A) → List (ℕ × A)
-  with_value byte value [] = []
-  with_value byte value (x ∷ xs) =
-      if x.0 == byte then (x.0, value) ∷ xs else x ∷ with_value byte value xs
-
-  -- all but that one
+  -- all but the first under this byte
   abbrev pub without : ℕ → List (ℕ × A) → List (ℕ × A)
   without byte [] = []
   without byte (x ∷ xs) = if x.0 == byte then xs else x ∷ without byte xs

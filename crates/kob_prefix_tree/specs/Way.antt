@@ -1,13 +1,15 @@
 -- The way from the root down to one place. Its nodes stand beside one another, the last one first.
 -- Each keeps the first byte of the node that the way goes on to, and, below it, the other nodes
 -- that follow the place that it leaves.
-use Rattle.std.specs.Prelude.{◌≡◌, ℕ, Bool, true, false, ◌&&◌, if◌then◌else◌, List}
+use Rattle.std.specs.Prelude.{◌≡◌, ◌≤◌, ℕ, Bool, true, false, ◌&&◌, if◌then◌else◌}
+use Rattle.std.specs.Prelude.{List, [], ◌∷◌, None, drop, length}
 use Rattle.kob_prefix_tree.specs.Tree.{Tree, leaf, node}
 use Rattle.kob_prefix_tree.specs.declared.siblings.Item.{Item}
 use Rattle.kob_prefix_tree.specs.Held.{Held, is_nothing}
 use Rattle.kob_prefix_tree.specs.Trie.{Trie, void, sibling, Contents, bare, led_by}
-use Rattle.kob_prefix_tree.specs.Contents.{trie_of}
-use Rattle.kob_prefix_tree.specs.Siblings.{held_in, IsNeat}
+use Rattle.kob_prefix_tree.specs.declared.branch.Branch.{Branch}
+use Rattle.kob_prefix_tree.specs.Contents.{contents, end_of, trie_of}
+use Rattle.kob_prefix_tree.specs.Siblings.{held_in, siblings, value_at, IsNeat}
 use Rattle.kob_prefix_tree.specs.Change.{ChangedAt}
 
 abbrev pub is_void : Trie → Bool
@@ -41,3 +43,14 @@ pub record IsWay (above : Tree Item) (rest key : List ℕ) (root here : Contents
   pub changed :
       (f : Held → Held) (after : Contents)
       → ChangedAt rest f here after → ChangedAt key f root (unwound above after)
+
+-- no sibling here begins with the first byte of the key
+abbrev pub LeadsNowhere : List ℕ → Contents → Type 0
+LeadsNowhere [] c = Unit {0}
+LeadsNowhere (byte ∷ key) c = value_at byte (siblings c.1) ≡ None
+
+-- behind the first bytes of the branch no byte leads on along the rest of a key
+pub record EndsAt (count : ℕ) (rest : List ℕ) (here : Branch) : Type 0 where
+  pub neat : IsNeat (contents here).1
+  pub within : count ≤ length here.tail
+  pub nowhere : LeadsNowhere rest (led_by (drop count here.tail) (end_of here))

@@ -1,8 +1,8 @@
 //! The nodes of a key that are made ahead: linked beside one another, each with some of its bytes.
-ghost use Rattle.std.specs.Prelude.{◌≡◌, ◌≤◌, [], ◌∷◌, ◌++◌, ◌+◌, ◌*◌, drop, length};
-ghost use Rattle.std.specs.Prelude.{IfOk, IfSome, MatchOption, OnOk};
+ghost use Rattle.std.specs.Prelude.{◌≡◌, ◌≤◌, [], ◌∷◌, ◌+◌, ◌*◌, drop, length};
+ghost use Rattle.std.specs.Prelude.{IfOk, MatchOption, OnOk};
 ghost use Rattle.kob_prefix_tree.specs.Nodes.{Leads};
-ghost use Rattle.kob_prefix_tree.specs.Path.{ArePacked, key_of};
+ghost use Rattle.kob_prefix_tree.specs.Path.{ArePacked, key_of, Parts};
 ghost use Rattle.kob_prefix_tree.specs.Siblings.{count};
 
 use crate::link::Link;
@@ -47,36 +47,23 @@ impl Link<Item> {
         emptied.give_up();
     }
 
-    /// Takes so many bytes off.
-    pub(crate) fn drop_bytes(&mut self, count: usize)
-        ensures { key_of self.new.nodes ≡ drop count (key_of self.old.nodes) }
+    /// Takes off the bytes with which a tail begins too, and says how many. It calls itself once a
+    /// byte, and so at most 22 times.
+    #[cycle(drop_common)]
+    pub(crate) fn drop_common(&mut self, tail: &[u8]) -> usize
+        ensures { Parts tail.now (key_of self.old.nodes) result (key_of self.new.nodes) }
     {
-        let mut left = count;
-        while left > 0 {
-            self.drop_byte();
-            left -= 1;
+        let Some((first, others)) = tail.split_first() else {
+            return 0;
+        };
+        let Some(byte) = self.first_byte() else {
+            return 0;
+        };
+        if *first != byte {
+            return 0;
         }
-    }
-
-    /// The byte of the key behind these bytes, if it begins with them.
-    pub(crate) fn byte_behind(&self, bytes: &[u8]) -> Option<u8>
-        ensures { IfSome result (λ byte. key_of self.now.nodes
-            ≡ bytes.now ++ byte ∷ drop (length bytes.now + 1) (key_of self.now.nodes)) }
-    {
-        let mut at = self;
-        let mut behind: &[u8] = &[];
-        let mut sought = bytes;
-        while let Some((first, more)) = sought.split_first() {
-            let (byte, next, others) = next_byte(at, behind)?;
-            if *first != byte {
-                return None;
-            }
-            at = next;
-            behind = others;
-            sought = more;
-        }
-        let (byte, _, _) = next_byte(at, behind)?;
-        Some(byte)
+        self.drop_byte();
+        self.drop_common(others) + 1
     }
 
     /// Puts one byte more in front: into the first node, where that has room, or into one more.
@@ -115,20 +102,23 @@ impl Link<Item> {
     }
 }
 
-/// The first byte of what is left of a node and of the nodes beside it, these, and what is then left
-/// of its node.
-fn next_byte<'a>(at: &'a Link<Item>, left: &'a [u8]) -> Option<(u8, &'a Link<Item>, &'a [u8])>
-    ensures { IfSome result (λ p. left.now ++ key_of at.now.nodes
-        ≡ p.0 ∷ (p.2.now ++ key_of p.1.now.nodes)) }
+/// How many bytes a tail and a key have in common at their beginning, and the rest of the key. It
+/// calls itself once a byte, and so at most 22 times.
+#[cycle(parted)]
+pub(crate) fn parted<'a>(tail: &[u8], key: &'a [u8]) -> (usize, &'a [u8])
+    ensures { Parts tail.now key.now result.0 result.1.now }
 {
-    if let Some((first, others)) = left.split_first() {
-        return Some((*first, at, others));
+    let Some((first, others)) = tail.split_first() else {
+        return (0, key);
+    };
+    let Some((byte, behind)) = key.split_first() else {
+        return (0, key);
+    };
+    if first != byte {
+        return (0, key);
     }
-    if at.is_null() {
-        return None;
-    }
-    let node = at.get();
-    Some((node.item.byte, &node.next, node.item.tail.as_slice()))
+    let (count, rest) = parted(others, behind);
+    (count + 1, rest)
 }
 
 /// Nodes for a key, one for every 23 bytes. One that can't be made frees the others.

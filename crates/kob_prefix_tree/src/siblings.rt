@@ -1,8 +1,8 @@
 //! The nodes that follow one place of the tree: siblings, each of another byte. The one that came
 //! last stands first.
-ghost use Rattle.std.specs.Prelude.{◌≡◌, Some, None, unwrap_or, MatchOption};
+ghost use Rattle.std.specs.Prelude.{◌≡◌, Some, None, MatchOption};
 ghost use Rattle.kob_prefix_tree.specs.Trie.{sibling};
-ghost use Rattle.kob_prefix_tree.specs.Siblings.{value_at, with_value, without, siblings};
+ghost use Rattle.kob_prefix_tree.specs.Siblings.{value_at, without, siblings};
 ghost use Rattle.kob_prefix_tree.specs.Contents.{contents, node_contents, trie_of};
 
 use crate::branch::Branch;
@@ -11,7 +11,7 @@ use crate::node::Node;
 use crate::serials::Serials;
 use crate::tail::Tail;
 use std::alloc::Global;
-use std::mem::{replace, size_of, swap};
+use std::mem::{replace, size_of};
 use std_alloc::room::Vacant;
 
 /// What a node keeps: its bytes, by the first of which its siblings differ, and the serials
@@ -78,29 +78,6 @@ impl Link<Item> {
         emptied.give_up();
     }
 
-    /// Exchanges what follows the first byte of its node, with all that is below, for a branch. The
-    /// node stays where it is. It calls itself once a sibling, and so at most 256 times.
-    #[cycle(exchange)]
-    pub(crate) fn exchange(&mut self, byte: u8, branch: &mut Branch)
-        ensures here { siblings (trie_of self.new.nodes)
-            ≡ with_value byte (contents branch.old) (siblings (trie_of self.old.nodes)) }
-        ensures there { contents branch.new
-            ≡ unwrap_or (value_at byte (siblings (trie_of self.old.nodes))) (contents branch.old) }
-    {
-        if self.is_null() {
-            return;
-        }
-        let node = self.get_mut();
-        if node.item.byte == byte {
-            swap(&mut node.item.tail, &mut branch.tail);
-            swap(&mut node.item.literal, &mut branch.literal);
-            swap(&mut node.item.prefixed, &mut branch.prefixed);
-            swap(&mut node.child, &mut branch.below);
-            return;
-        }
-        node.next.exchange(byte, branch);
-    }
-
     /// Takes the node that begins with this byte out, with all that is below, and its block. The one
     /// behind it takes its place. It calls itself once a sibling, and so at most 256 times.
     #[cycle(take_out)]
@@ -130,15 +107,5 @@ impl Link<Item> {
             below: node.child,
         };
         Some((branch, room, alloc))
-    }
-
-    /// Takes the node that begins with this byte out and frees it, with all that is below.
-    pub(crate) fn unlink(&mut self, byte: u8)
-        ensures { siblings (trie_of self.new.nodes)
-            ≡ without byte (siblings (trie_of self.old.nodes)) }
-    {
-        if let Some((_, room, _)) = self.take_out(byte) {
-            room.free();
-        }
     }
 }

@@ -31,9 +31,24 @@ impl Tail {
         }
     }
 
+    /// These bytes.
+    pub(crate) fn of(bytes: &[u8]) -> Tail
+        requires { length bytes.now ≤ 22 }
+        ensures { result ≡ bytes.now }
+    {
+        let mut tail = Tail::new();
+        let mut rest = bytes;
+        while let Some((byte, before)) = rest.split_last() {
+            tail.push_front(*byte);
+            rest = before;
+        }
+        tail
+    }
+
     /// The bytes, to be read.
     pub(crate) fn as_slice(&self) -> &[u8]
-        ensures { result.now ≡ self.now }
+        ensures bytes { result.now ≡ self.now }
+        ensures limit { length result.now ≤ 22 }
     {
         &self.bytes[self.start as usize..]
     }

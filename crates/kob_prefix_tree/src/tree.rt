@@ -25,9 +25,8 @@ use std::marker::Model;
 /// and its next sibling, and takes 72 bytes. No two siblings begin with one byte, and no node stays
 /// that holds nothing and leads nowhere. Where a key ends or parts within its bytes a node is cut
 /// in two, which no removal joins again. A key may be of any length: what adds or removes calls
-/// itself at most once for each byte of one node, and at each node once a sibling, from which it
-/// comes back before it goes on. All else is loops, freeing the tree too. A tree may be moved to
-/// another thread.
+/// itself at each node at most once a byte and once a sibling, from which it comes back before it
+/// goes on. All else is loops, freeing the tree too. A tree may be moved to another thread.
 #[derive(Drop)]
 pub struct PrefixTree {
     root: Branch,

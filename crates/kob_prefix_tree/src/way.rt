@@ -1,20 +1,21 @@
 //! The way from the root down to one place and up again, kept in the blocks of its own nodes, so
 //! that it needs no memory and no stack, however long the key is.
-ghost use Rattle.std.specs.Prelude.{◌≡◌, ◌≢◌, [], ◌∷◌, ◌++◌, ◌+◌, ℕ, List, false};
-ghost use Rattle.std.specs.Prelude.{IfSome, IsTrue, OnErr, OnOk};
+ghost use Rattle.std.specs.Prelude.{◌≡◌, [], ◌∷◌, ◌++◌, ◌+◌, ℕ, List, false, length, take};
+ghost use Rattle.std.specs.Prelude.{IsTrue, None, OnErr, OnOk};
 ghost use Rattle.kob_prefix_tree.specs.Nodes.{Leads};
 ghost use Rattle.kob_prefix_tree.specs.Held.{has_serials, with_serial, without_serials};
 ghost use Rattle.kob_prefix_tree.specs.Trie.{Contents, bare};
-ghost use Rattle.kob_prefix_tree.specs.Siblings.{count, held_in, IsNeat};
-ghost use Rattle.kob_prefix_tree.specs.Contents.{contents, trie_of};
+ghost use Rattle.kob_prefix_tree.specs.Siblings.{count, held_in, IsNeat, siblings, value_at};
+ghost use Rattle.kob_prefix_tree.specs.Contents.{contents, end_of, trie_of};
 ghost use Rattle.kob_prefix_tree.specs.Path.{key_of};
 ghost use Rattle.kob_prefix_tree.specs.Change.{ChangedAt};
-ghost use Rattle.kob_prefix_tree.specs.Way.{IsWay, kept_behind, unwound, with_child};
+ghost use Rattle.kob_prefix_tree.specs.Way.{EndsAt, IsWay, kept_behind, unwound, with_child};
 
 use crate::branch::Branch;
 use crate::kind::PatternKind;
 use crate::link::Link;
 use crate::node::Node;
+use crate::path::parted;
 use crate::serials::NewSerial;
 use crate::siblings::{Item, Room};
 use crate::tail::Tail;
@@ -91,7 +92,7 @@ impl Branch {
     }
 
     /// Puts these bytes before what is here, unless it is bare.
-    fn put_behind(&mut self, tail: Tail)
+    pub(crate) fn put_behind(&mut self, tail: Tail)
         requires { self.old.tail ≡ [] }
         ensures { contents self.new ≡ kept_behind tail (contents self.old) }
     {
@@ -117,14 +118,21 @@ impl Branch {
         self.below.put_front(room, alloc, byte, branch);
     }
 
-    /// Goes on to the node that begins with the byte, if there is one.
-    fn enter(&mut self, above: &mut Link<Item>, byte: u8) -> bool
+    /// Goes on to the node that begins with the byte, if the branch has no more bytes than these, and
+    /// there is one.
+    fn enter(&mut self, above: &mut Link<Item>, count: usize, byte: u8) -> bool
         ensures way { (rest key : List ℕ) (root : Contents) → IsTrue result
-            → IsWay above.old.nodes (self.old.tail ++ byte ∷ rest) key root (contents self.old)
+            → IsWay above.old.nodes (take count self.old.tail ++ byte ∷ rest) key root
+            (contents self.old)
             → IsWay above.new.nodes rest key root (contents self.new) }
         ensures stays { result ≡ false → (above.new.nodes ≡ above.old.nodes)
-            × (contents self.new ≡ contents self.old) }
+            × ((self.new.tail ≡ self.old.tail) × (end_of self.new ≡ end_of self.old)) }
+        ensures nowhere { result ≡ false → count ≡ length self.old.tail
+            → value_at byte (siblings (end_of self.old).1) ≡ None }
     {
+        if count != self.tail.as_slice().len() {
+            return false;
+        }
         let Some((branch, room, alloc)) = self.below.take_out(byte) else {
             return false;
         };
@@ -132,50 +140,47 @@ impl Branch {
         true
     }
 
-    /// The byte of the key behind those that alone lead on from here, and the rest of the key, if it
-    /// goes on with these.
-    fn byte_behind<'a>(&self, key: &'a [u8]) -> Option<(u8, &'a [u8])>
-        ensures { IfSome result (λ p. key.now ≡ self.now.tail ++ p.0 ∷ p.1.now) }
-    {
-        let behind = key.strip_prefix(self.tail.as_slice())?;
-        let (byte, rest) = behind.split_first()?;
-        Some((*byte, rest))
-    }
-
-    /// Goes down along the key as long as whole nodes lead on, and gives the way and the rest of the
-    /// key.
-    fn descend<'a>(&mut self, key: &'a [u8]) -> (Link<Item>, &'a [u8])
+    /// Goes down along the key as long as nodes lead on. It gives the way, how many bytes of the
+    /// branch lead on behind it, and the rest of the key.
+    fn descend<'a>(&mut self, key: &'a [u8]) -> (Link<Item>, usize, &'a [u8])
         requires { IsNeat (contents self.old).1 }
-        ensures { IsWay result.0.nodes result.1.now key.now
+        ensures way { IsWay result.0.nodes (take result.1 self.new.tail ++ result.2.now) key.now
             (contents self.old) (contents self.new) }
+        ensures end { EndsAt result.1 result.2.now self.new }
     {
         let mut above = Link::null();
         let mut rest = key;
-        while let Some((byte, others)) = self.byte_behind(rest) {
-            if !self.enter(&mut above, byte) {
-                break;
+        loop {
+            let (count, behind) = parted(self.tail.as_slice(), rest);
+            let Some((byte, others)) = behind.split_first() else {
+                return (above, count, behind);
+            };
+            if !self.enter(&mut above, count, *byte) {
+                return (above, count, behind);
             }
             rest = others;
         }
-        (above, rest)
     }
 
     /// As `descend`, along the key that the nodes of a path spell. Those of its bytes that stand
     /// already are dropped.
-    fn descend_path(&mut self, path: &mut Link<Item>) -> Link<Item>
+    fn descend_path(&mut self, path: &mut Link<Item>) -> (Link<Item>, usize)
         requires { IsNeat (contents self.old).1 }
-        ensures { IsWay result.nodes (key_of path.new.nodes) (key_of path.old.nodes)
-            (contents self.old) (contents self.new) }
+        ensures way { IsWay result.0.nodes (take result.1 self.new.tail ++ key_of path.new.nodes)
+            (key_of path.old.nodes) (contents self.old) (contents self.new) }
+        ensures end { EndsAt result.1 (key_of path.new.nodes) self.new }
     {
         let mut above = Link::null();
-        while let Some(byte) = path.byte_behind(self.tail.as_slice()) {
-            let count = self.tail.as_slice().len() + 1;
-            if !self.enter(&mut above, byte) {
-                break;
+        loop {
+            let count = path.drop_common(self.tail.as_slice());
+            let Some(byte) = path.first_byte() else {
+                return (above, count);
+            };
+            if !self.enter(&mut above, count, byte) {
+                return (above, count);
             }
-            path.drop_bytes(count);
+            path.drop_byte();
         }
-        above
     }
 
     /// Goes the way up to the root.
@@ -228,17 +233,13 @@ impl Branch {
         serial: NewSerial,
     ) -> Result<(), AllocError>
         requires neat { IsNeat (contents self.old).1 }
-        ensures neat { IsNeat (contents self.new).1 }
-        ensures put { OnOk result
-            (held_in key.now (contents self.new)
-            ≡ with_serial kind serial (held_in key.now (contents self.old))) }
-        ensures elsewhere { (other : List ℕ) → other ≢ key.now
-            → held_in other (contents self.new) ≡ held_in other (contents self.old) }
-        ensures refused { OnErr result
-            (held_in key.now (contents self.new) ≡ held_in key.now (contents self.old)) }
+        ensures put { OnOk result (ChangedAt key.now (with_serial kind serial)
+            (contents self.old) (contents self.new)) }
+        ensures refused { OnErr result (ChangedAt key.now (λ held. held)
+            (contents self.old) (contents self.new)) }
     {
-        let (above, rest) = self.descend(key);
-        let added = self.add_within(alloc, rest, kind, serial);
+        let (above, count, rest) = self.descend(key);
+        let added = self.add_here(alloc, count, rest, kind, serial);
         self.ascend(above);
         added
     }
@@ -255,15 +256,12 @@ impl Branch {
         serial: NewSerial,
     )
         requires neat { IsNeat (contents self.old).1 }
-        ensures neat { IsNeat (contents self.new).1 }
-        ensures put { held_in (key_of path.nodes) (contents self.new)
-            ≡ with_serial kind serial (held_in (key_of path.nodes) (contents self.old)) }
-        ensures elsewhere { (other : List ℕ) → other ≢ key_of path.nodes
-            → held_in other (contents self.new) ≡ held_in other (contents self.old) }
+        ensures { ChangedAt (key_of path.nodes) (with_serial kind serial)
+            (contents self.old) (contents self.new) }
     {
         let mut path = path;
-        let above = self.descend_path(&mut path);
-        self.grow_within(path, room, alloc, kind, serial);
+        let (above, count) = self.descend_path(&mut path);
+        self.graft(count, path, room, alloc, kind, serial);
         self.ascend(above);
     }
 
@@ -271,16 +269,13 @@ impl Branch {
     /// nodes that then keep nothing and lead nowhere.
     pub(crate) fn remove_all(&mut self, key: &[u8], kind: PatternKind, serials: &[u64]) -> bool
         requires neat { IsNeat (contents self.old).1 }
-        ensures neat { IsNeat (contents self.new).1 }
         ensures found { result
             ≡ has_serials kind serials.now (held_in key.now (contents self.old)) }
-        ensures taken { held_in key.now (contents self.new)
-            ≡ without_serials kind serials.now (held_in key.now (contents self.old)) }
-        ensures elsewhere { (other : List ℕ) → other ≢ key.now
-            → held_in other (contents self.new) ≡ held_in other (contents self.old) }
+        ensures taken { ChangedAt key.now (without_serials kind serials.now)
+            (contents self.old) (contents self.new) }
     {
-        let (above, rest) = self.descend(key);
-        let found = self.remove_within(rest, kind, serials);
+        let (above, count, rest) = self.descend(key);
+        let found = self.remove_here(count, rest, kind, serials);
         self.ascend(above);
         found
     }

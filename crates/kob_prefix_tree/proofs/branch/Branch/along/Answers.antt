@@ -3,23 +3,19 @@ use Rattle.kob_prefix_tree.specs.declared.branch.Branch.{Branch}
 use Rattle.kob_prefix_tree.specs.declared.link.Link.{Link}
 use Rattle.kob_prefix_tree.specs.declared.siblings.Item.{Item}
 use Rattle.kob_prefix_tree.specs.Held.{Held, with_serial}
-use Rattle.kob_prefix_tree.specs.Trie.{Contents, bare, led_by}
-use Rattle.kob_prefix_tree.specs.Contents.{trie_of}
+use Rattle.kob_prefix_tree.specs.Trie.{bare, led_by}
+use Rattle.kob_prefix_tree.specs.Contents.{end_of, trie_of}
 use Rattle.kob_prefix_tree.specs.Path.{key_of}
 use Rattle.kob_prefix_tree.specs.Change.{ChangedAt}
 use Rattle.kob_prefix_tree.specs.Way.{unwound}
-use Rattle.kob_prefix_tree.proofs.AddLemmas.{some_put}
+use Rattle.kob_prefix_tree.proofs.WayLemmas.{some_put}
 use Rattle.kob_prefix_tree.proofs.ChangeLemmas.{behind_tail}
 use Rattle.kob_prefix_tree.proofs.WayLemmas.{along_on, put_alone}
 use Rattle.kob_prefix_tree.proofs.branch.Branch.along.Goals as goal
 
--- what stands behind the bytes of a branch
-abbrev inner_of : Branch → Contents
-inner_of b = ((b.literal, b.prefixed), trie_of b.below.nodes)
-
 pub loop-path-init : goal.loop-path-init
 loop-path-init c = record {
-  inner = sym (ap (λ tail. led_by tail (inner_of c.new-here.result)) c.new-here.ensures.no_tail) ∙ c.new-here.ensures.bare;
+  inner = sym (ap (λ tail. led_by tail (end_of c.new-here.result)) c.new-here.ensures.no_tail) ∙ c.new-here.ensures.bare;
   changed = λ f d done some. subst
       (λ above. ChangedAt (c.args.tail ++ key_of c.args.path.nodes) f bare (unwound above (led_by c.args.tail d)))
       (sym c.null-above.ensures) (behind_tail f c.args.tail (key_of c.args.path.nodes) done some).0;
@@ -38,8 +34,8 @@ loop-path-preserved c =
     (λ f d done. c.loop-path.invariant.changed f d (subst (λ k. ChangedAt k f bare d) (sym key_is) done)) in
     let tail_is = ap (λ (b : Branch). b.tail) c.go_on.ensures.here ∙ c.swap.ensures.x_after in
     record {
-      inner = ap inner_of c.go_on.ensures.here
-          ∙ sym (ap (λ tail. led_by tail (inner_of made)) c.new-branch.ensures.no_tail) ∙ c.new-branch.ensures.bare;
+      inner = ap end_of c.go_on.ensures.here
+          ∙ sym (ap (λ tail. led_by tail (end_of made)) c.new-branch.ensures.no_tail) ∙ c.new-branch.ensures.bare;
       changed = λ f d done some. subst
           (λ tail. ChangedAt key f bare (unwound c.go_on.new.above.nodes (led_by tail d))) (sym tail_is) (on f d done some);
     }
@@ -50,9 +46,9 @@ returns c =
     let key = c.args.tail ++ key_of c.args.path.nodes in
     let put = put_alone c.args.kind c.args.serial c.loop-path.invariant.inner c.put.ensures.held
     (ap (λ (l : Link Item). trie_of l.nodes) c.put.ensures.below) in
-    let done : ChangedAt (key_of c.loop-path.path.nodes) f bare (inner_of now) =
-    subst (λ k. ChangedAt k f bare (inner_of now)) (sym (ap key_of (c.is_null.ensures.0 c.loop-path-test.false))) put in
+    let done : ChangedAt (key_of c.loop-path.path.nodes) f bare (end_of now) =
+    subst (λ k. ChangedAt k f bare (end_of now)) (sym (ap key_of (c.is_null.ensures.0 c.loop-path-test.false))) put in
     subst (ChangedAt key f bare)
     (sym (c.ascend.ensures
-    ∙ ap (λ tail. unwound c.loop-path.above.nodes (led_by tail (inner_of now))) c.put.ensures.tail))
-    (c.loop-path.invariant.changed f (inner_of now) done (some_put c.args.kind c.args.serial _ _ done.at))
+    ∙ ap (λ tail. unwound c.loop-path.above.nodes (led_by tail (end_of now))) c.put.ensures.tail))
+    (c.loop-path.invariant.changed f (end_of now) done (some_put c.args.kind c.args.serial _ _ done.at))

@@ -1,17 +1,25 @@
-use Rattle.std.proofs.Common.{◌∷◌, ◌++◌, ◌+◌, length, drop, sym, ap, ◌∙◌, subst}
-use Rattle.kob_prefix_tree.specs.Contents.{contents}
-use Rattle.kob_prefix_tree.specs.Path.{key_of}
-use Rattle.kob_prefix_tree.specs.Way.{IsWay}
+use Rattle.std.proofs.Common.{◌∷◌, ◌++◌, take, sym, ap, ◌∙◌, subst}
+use Rattle.kob_prefix_tree.specs.Contents.{contents, end_of}
+use Rattle.kob_prefix_tree.specs.Path.{key_of, Parts}
+use Rattle.kob_prefix_tree.specs.Way.{IsWay, LeadsNowhere}
+use Rattle.kob_prefix_tree.proofs.PartsLemmas.{ends}
 use Rattle.kob_prefix_tree.proofs.branch.Branch.descend_path.Goals as goal
+
+pub returns-then-not-enter-clause-end : goal.returns-then-not-enter-clause-end
+returns-then-not-enter-clause-end c =
+    let was = c.loop-byte.self in let key = key_of c.loop-byte.path.nodes in let count = c.drop_common-count.result in
+    let rest = key_of c.drop_common-count.new.self.nodes in let stays = c.enter.ensures.stays c.if-not-enter.true in
+    ends was c.enter.new.self key rest count stays.1.0 stays.1.1 c.loop-byte.invariant.neat
+    (subst (λ tail. Parts tail key count rest) c.as_slice.ensures.bytes c.drop_common-count.ensures)
+    (λ all. subst (λ r. LeadsNowhere r (end_of was)) (sym c.in-Some.ensures)
+    (c.enter.ensures.nowhere c.if-not-enter.true all))
 
 pub loop-byte-preserved : goal.loop-byte-preserved
 loop-byte-preserved c =
-    let tail = c.loop-byte.self.tail in let byte = c.in-Some.byte in let path = key_of c.loop-byte.path.nodes in
-    let rest = key_of c.drop_bytes.new.self.nodes in
-    let left = c.drop_bytes.ensures ∙ ap (λ bytes. drop (length bytes + 1) path) c.as_slice-in-Some.ensures in
-    let key_is = c.in-Some.ensures
-    ∙ ap (λ bytes. bytes ++ (byte ∷ drop (length bytes + 1) path)) c.as_slice.ensures
-    ∙ ap (λ r. tail ++ (byte ∷ r)) (sym left) in
-    c.enter.ensures.way rest (key_of c.args.path.now.nodes) (contents c.args.self.now) c.if-not-enter.false
-    (subst (λ key. IsWay c.loop-byte.above.nodes key (key_of c.args.path.now.nodes)
-    (contents c.args.self.now) (contents c.loop-byte.self)) key_is c.loop-byte.invariant)
+    let old = contents c.args.self.now in let rest = key_of c.drop_byte.new.self.nodes in
+    let rest_is = c.in-Some.ensures ∙ ap (λ r. c.in-Some.byte ∷ r) (sym c.drop_byte.ensures) in
+    let key_is = c.drop_common-count.ensures.key_is
+    ∙ (λ i. take c.drop_common-count.result (c.as_slice.ensures.bytes i) ++ rest_is i) in
+    c.enter.ensures.way rest (key_of c.args.path.now.nodes) old c.if-not-enter.false
+    (subst (λ key. IsWay c.loop-byte.above.nodes key (key_of c.args.path.now.nodes) old (contents c.loop-byte.self))
+    key_is c.loop-byte.invariant)

@@ -7,9 +7,6 @@ use Rattle.kob_prefix_tree.proofs.branch.Branch.grow.Goals as goal
 
 pub returns : goal.returns
 returns c =
-    let way = c.descend_path-above.ensures in let e = c.grow_within.ensures in
-    let all = subst (ChangedAt (key_of c.args.path.nodes) (with_serial c.args.kind c.args.serial) (contents c.args.self.now))
-    (sym c.ascend.ensures)
-    (way.changed (with_serial c.args.kind c.args.serial) (contents c.grow_within.new.self)
-    (record { neat = e.neat; at = e.put; elsewhere = e.elsewhere })) in
-    record { neat = all.neat; put = all.at; elsewhere = all.elsewhere }
+    let f = with_serial c.args.kind c.args.serial in
+    subst (ChangedAt (key_of c.args.path.nodes) f (contents c.args.self.now)) (sym c.ascend.ensures)
+    (c.descend_path-above.ensures.way.changed f (contents c.graft.new.self) c.graft.ensures)

@@ -1,6 +1,6 @@
 use Rattle.std.proofs.Common.{◌≡◌, [], IsTrue, sym, ap, ◌∙◌, subst}
 use Rattle.std.proofs.Math.Bool.{true≢false}
-use Rattle.kob_prefix_tree.specs.Contents.{trie_of}
+use Rattle.kob_prefix_tree.specs.Contents.{end_of, trie_of}
 use Rattle.kob_prefix_tree.specs.Trie.{Contents, bare, led_by}
 use Rattle.kob_prefix_tree.proofs.TailLemmas.{tail_of_bare, no_nodes}
 use Rattle.kob_prefix_tree.proofs.branch.Branch.is_bare.Goals as goal
@@ -8,14 +8,14 @@ use Rattle.kob_prefix_tree.proofs.branch.Branch.is_bare.Goals.{then-is_empty, el
 
 pub returns-then-not-is_empty : goal.returns-then-not-is_empty
 returns-then-not-is_empty c =
-    let b = c.args.self.now in let end : Contents = ((b.literal, b.prefixed), trie_of b.below.nodes) in (
+    let b = c.args.self.now in let end = end_of b in (
       λ e. absurd (true≢false (sym e)),
       λ none. absurd (true≢false (sym (c.is_empty.ensures.1 (tail_of_bare b.tail end none)) ∙ c.if-not-is_empty.true)),
     )
 
 pub returns-then-is_empty-2 : goal.returns-then-is_empty-2
 returns-then-is_empty-2 c =
-    let b = c.args.self.now in let end : Contents = ((b.literal, b.prefixed), trie_of b.below.nodes) in
+    let b = c.args.self.now in let end = end_of b in
     let none_more : b.tail ≡ [] = c.is_empty.ensures.0 c.if-not-is_empty.false in
     subst (λ x. (IsTrue c.is_null.result → x ≡ bare) × (x ≡ bare → IsTrue c.is_null.result))
     (sym (ap (λ tail. led_by tail end) none_more))

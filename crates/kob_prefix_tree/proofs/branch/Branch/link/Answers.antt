@@ -1,50 +1,42 @@
-use Rattle.std.proofs.Common.{[], ◌∷◌, ◌++◌, length, refl, sym, ap, ◌∙◌, subst}
-use Rattle.kob_prefix_tree.specs.declared.link.Link.{Link}
-use Rattle.kob_prefix_tree.specs.declared.siblings.Item.{Item}
+use Rattle.std.proofs.Common.{[], ◌∷◌, ◌++◌, unwrap_or, sym, ap, ◌∙◌, subst}
 use Rattle.kob_prefix_tree.specs.Held.{Held, with_serial}
-use Rattle.kob_prefix_tree.specs.Trie.{Trie, bare, led_by}
-use Rattle.kob_prefix_tree.specs.Contents.{contents, trie_of}
+use Rattle.kob_prefix_tree.specs.Trie.{Contents, bare, led_by}
+use Rattle.kob_prefix_tree.specs.Siblings.{siblings}
+use Rattle.kob_prefix_tree.specs.Contents.{contents, end_of, trie_of}
 use Rattle.kob_prefix_tree.specs.Path.{key_of}
-use Rattle.kob_prefix_tree.proofs.AddLemmas.{some_put}
 use Rattle.kob_prefix_tree.specs.Change.{ChangedAt}
-use Rattle.kob_prefix_tree.proofs.ChangeLemmas.{put_here, linked}
+use Rattle.kob_prefix_tree.specs.Way.{LeadsNowhere}
+use Rattle.kob_prefix_tree.proofs.ChangeLemmas.{changed_here, linked_front}
+use Rattle.kob_prefix_tree.proofs.WayLemmas.{behind, neat_inside, some_put}
 use Rattle.kob_prefix_tree.proofs.branch.Branch.link.Goals as goal
 
 pub returns-then-is_null : goal.returns-then-is_null
 returns-then-is_null c =
-    let key = key_of c.args.path.nodes in
-    let all = put_here (with_serial c.args.kind c.args.serial) key
-    (ap (λ path. length (key_of path)) (c.is_null.ensures.0 c.if-is_null.true)) c.requires.no_tail c.put.ensures.tail
-    c.put.ensures.held (ap (λ (l : Link Item). trie_of l.nodes) c.put.ensures.below) c.requires.neat in
-    record {
-      no_tail = c.put.ensures.tail ∙ c.requires.no_tail;
-      neat = all.neat;
-      some = some_put c.args.kind c.args.serial key _ all.at;
-      put = all.at;
-      elsewhere = all.elsewhere;
-    }
+    let b = c.args.self.now in let now = c.put.new.self in let f : Held → Held = with_serial c.args.kind c.args.serial in
+    let neat = neat_inside b.tail (end_of b) c.requires.neat in
+    let done : ChangedAt [] f (end_of b) (end_of now) =
+    subst (ChangedAt [] f (end_of b)) (λ i. (sym c.put.ensures.held i, trie_of (sym c.put.ensures.below i).nodes))
+    (changed_here f (end_of b).0 (end_of b).1 neat) in
+    let all = behind f b.tail [] (end_of b) (end_of now) c.requires.neat done
+    (some_put c.args.kind c.args.serial [] (end_of b).0 done.at) in
+    subst (λ k. ChangedAt (b.tail ++ k) f (contents b) (contents now))
+    (sym (ap key_of (c.is_null.ensures.0 c.if-is_null.true)))
+    (subst (λ bytes. ChangedAt (b.tail ++ []) f (contents b) (led_by bytes (end_of now))) (sym c.put.ensures.tail) all)
 
 pub returns : goal.returns
 returns c =
-    let node = c.take-node.result.0 in let item = node.item in let rest = key_of c.replace-rest.result.nodes in
-    let b = c.args.self.now in let h : Held = (b.literal, b.prefixed) in
-    let below : Trie = trie_of b.below.nodes in let new : Trie = trie_of c.put_front.new.self.nodes in
-    let f : Held → Held = with_serial c.args.kind c.args.serial in
-    let done : ChangedAt (item.tail ++ rest) f bare (contents c.along-branch.result) =
-    subst (λ tail. ChangedAt (tail ++ rest) f bare (contents c.along-branch.result)) c.replace-tail.ensures.value
-    c.along-branch.ensures in
+    let b = c.args.self.now in let f : Held → Held = with_serial c.args.kind c.args.serial in
+    let item = c.take-node.result.0.item in let rest = item.tail ++ key_of c.replace-rest.result.nodes in
+    let now : Contents = ((end_of b).0, trie_of c.put_front.new.self.nodes) in
     let key_is =
     ap key_of c.take-node.ensures ∙ ap (λ l. item.byte ∷ (item.tail ++ key_of l.nodes)) (sym c.replace-rest.ensures.value) in
-    let all =
-    linked f item.byte [] (item.tail ++ rest) below new key_is
-    (ap (λ tail. led_by tail (h, below)) c.requires.no_tail) (ap (λ tail. led_by tail (h, new)) c.requires.no_tail)
-    c.requires.neat (c.requires.absent item.byte (item.tail ++ rest) key_is) refl done
-    (some_put c.args.kind c.args.serial (item.tail ++ rest) _ done.at) refl
-    c.put_front.ensures in
-    record {
-      no_tail = c.requires.no_tail;
-      neat = all.neat;
-      some = some_put c.args.kind c.args.serial (key_of c.args.path.nodes) _ all.at;
-      put = all.at;
-      elsewhere = all.elsewhere;
-    }
+    let done : ChangedAt rest f bare (contents c.along-branch.result) =
+    subst (λ tail. ChangedAt (tail ++ key_of c.replace-rest.result.nodes) f bare (contents c.along-branch.result))
+    c.replace-tail.ensures.value c.along-branch.ensures in
+    let absent = subst (λ k. LeadsNowhere k (end_of b)) key_is c.requires.nowhere in
+    let below = linked_front f item.byte rest (end_of b).0 (end_of b).1 now.1
+    (neat_inside b.tail (end_of b) c.requires.neat) (ap (λ o. unwrap_or o bare) (sym absent)) done absent
+    (some_put c.args.kind c.args.serial rest _ done.at) (ap siblings c.put_front.ensures) in
+    subst (λ k. ChangedAt (b.tail ++ k) f (contents b) (led_by b.tail now)) (sym key_is)
+    (behind f b.tail (item.byte ∷ rest) (end_of b) now c.requires.neat below
+    (some_put c.args.kind c.args.serial (item.byte ∷ rest) _ below.at))

@@ -6,14 +6,10 @@ use Rattle.kob_prefix_tree.proofs.branch.Branch.remove_all.Goals as goal
 
 pub returns : goal.returns
 returns c =
-    let way = c.descend-above.ensures in let e = c.remove_within-found.ensures in
-    let all = subst (ChangedAt c.args.key.now (without_serials c.args.kind c.args.serials.now) (contents c.args.self.now))
-    (sym c.ascend.ensures)
-    (way.changed (without_serials c.args.kind c.args.serials.now) (contents c.remove_within-found.new.self)
-    (record { neat = e.neat; at = e.taken; elsewhere = e.elsewhere })) in
+    let way = c.descend-above.ensures.way in let e = c.remove_here-found.ensures in
+    let kind = c.args.kind in let serials = c.args.serials.now in
     record {
-      neat = all.neat;
-      found = e.found ∙ ap (has_serials c.args.kind c.args.serials.now) way.held;
-      taken = all.at;
-      elsewhere = all.elsewhere;
+      found = e.found ∙ ap (has_serials kind serials) way.held;
+      taken = subst (ChangedAt c.args.key.now (without_serials kind serials) (contents c.args.self.now))
+          (sym c.ascend.ensures) (way.changed (without_serials kind serials) (contents c.remove_here-found.new.self) e.taken);
     }

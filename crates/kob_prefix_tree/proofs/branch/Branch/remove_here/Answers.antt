@@ -1,18 +1,38 @@
-use Rattle.std.proofs.Common.{sym, ◌∙◌}
+use Rattle.std.proofs.Common.{length, sym, ap, ◌∙◌, arith}
 use Rattle.std.proofs.Math.Bool.{true≢false}
-use Rattle.kob_prefix_tree.specs.Contents.{trie_of}
-use Rattle.kob_prefix_tree.specs.Trie.{Contents}
-use Rattle.kob_prefix_tree.proofs.TailLemmas.{none_found_before, none_taken_before}
+use Rattle.std.proofs.lemmas.Bool.{eq-eqb, eqb-true}
+use Rattle.kob_prefix_tree.specs.Held.{has_serials, without_serials}
+use Rattle.kob_prefix_tree.specs.Trie.{led_by}
+use Rattle.kob_prefix_tree.specs.Contents.{end_of, trie_of}
+use Rattle.kob_prefix_tree.proofs.PartsLemmas.{none_here, held_at_end, changed_at_end}
 use Rattle.kob_prefix_tree.proofs.branch.Branch.remove_here.Goals as goal
 
-pub returns-then-not-is_empty-clause-found : goal.returns-then-not-is_empty-clause-found
-returns-then-not-is_empty-clause-found c =
-    let b = c.args.self.now in let end : Contents = ((b.literal, b.prefixed), trie_of b.below.nodes) in
-    none_found_before c.args.kind c.args.serials.now b.tail end
-    (λ none. true≢false (sym (c.is_empty.ensures.1 none) ∙ c.if-not-is_empty.true))
+pub returns-then-not-is_empty : goal.returns-then-not-is_empty
+returns-then-not-is_empty c =
+    let both = none_here c.args.count c.args.key.now c.args.self.now c.requires c.args.kind c.args.serials.now
+    (λ none. absurd (true≢false (sym (eq-eqb (length c.args.key.now) 0 none) ∙ sym c.if-not-is_empty.ensures))) in
+    record { found = both.0; taken = both.1 }
 
-pub returns-then-not-is_empty-clause-taken : goal.returns-then-not-is_empty-clause-taken
-returns-then-not-is_empty-clause-taken c =
-    let b = c.args.self.now in let end : Contents = ((b.literal, b.prefixed), trie_of b.below.nodes) in
-    none_taken_before c.args.kind c.args.serials.now b.tail end
-    (λ none. true≢false (sym (c.is_empty.ensures.1 none) ∙ c.if-not-is_empty.true))
+pub returns-then-count-as_slice : goal.returns-then-count-as_slice
+returns-then-count-as_slice c =
+    let same = ap length c.as_slice.ensures.bytes in
+    let both = none_here c.args.count c.args.key.now c.args.self.now c.requires c.args.kind c.args.serials.now
+    (λ none. omega (arith, c.requires.within, c.if-count-as_slice.true)) in
+    record { found = both.0; taken = both.1 }
+
+pub returns : goal.returns
+returns c =
+    let b = c.args.self.now in let kind = c.args.kind in let serials = c.args.serials.now in
+    let none = eqb-true (length c.args.key.now) 0 (sym c.if-not-is_empty.ensures) in
+    let all = c.if-count-as_slice.false ∙ ap length c.as_slice.ensures.bytes in
+    let taken = c.take_out-found.new.self in
+    let bare_tail = c.take_out-found.ensures.tail ∙ c.replace-tail.ensures.after ∙ c.new.ensures in
+    record {
+      found = c.take_out-found.ensures.found
+          ∙ ap (has_serials kind serials) (sym (held_at_end c.args.count c.args.key.now b c.requires none all));
+      taken = changed_at_end c.args.count c.args.key.now b c.requires (without_serials kind serials) none all
+          c.replace-tail.ensures.value
+          ((λ i. led_by (bare_tail i) (end_of taken))
+          ∙ (λ i. (c.take_out-found.ensures.taken i, trie_of (c.take_out-found.ensures.below i).nodes)))
+          c.put_behind.ensures;
+    }

@@ -14,7 +14,6 @@ returns-clause-found c =
 
 pub returns-clause-removed : goal.returns-clause-removed
 returns-clause-removed c =
-    removed_all_of (contents c.self.inside.root)
-    (contents c.remove_all.new.self) c.args.key.now c.args.kind 0 c.self.invariant c.remove_all.ensures.neat
-    c.args.serials.now c.remove_all.ensures.taken c.remove_all.ensures.elsewhere
+    removed_all_of (contents c.self.inside.root) (contents c.remove_all.new.self) c.args.key.now c.self.invariant
+    c.args.kind c.args.serials.now c.remove_all.ensures.taken
     ∙ ap (λ m. removed_all m c.args.key.now c.args.kind c.args.serials.now) c.self.view_is
