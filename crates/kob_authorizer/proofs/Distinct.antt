@@ -1,16 +1,16 @@
 -- What keeps the bindings in force distinct.
-use Rattle.std.proofs.Common.{◌≡◌, ◌≢◌, refl, arith, Bool, true, false, not, cond, ℕ, List, [], ◌∷◌}
+use Rattle.std.proofs.Common.{◌≡◌, ◌≢◌, ◌∙◌, refl, not, ℕ, List, [], ◌∷◌}
 use Rattle.std.specs.Prelude.{All, Option, Some, None}
-use Rattle.std.specs.List.{find, fold}
-use Rattle.std.specs.Option.{option_map}
-use Rattle.std.proofs.lemmas.List.Elements.{All-cons}
+use Rattle.std.specs.List.{fold}
 use Rattle.std.proofs.lemmas.List.Kept.{AllPairs-filter}
 use Rattle.std.proofs.lemmas.List.Quantifiers.{all_pairs_push}
+use Rattle.kob_authorizer.proofs.Elements.{all_of}
+use Rattle.kob_authorizer.proofs.FirstHit.{first_serial_found, none_is}
+use Rattle.kob_authorizer.specs.LookUp.{is_equal}
 use Rattle.kob_authorizer.specs.Creation.{Added, AreDistinct, add_one, addition, with_binding, serial_of}
 use Rattle.kob_authorizer.specs.Deletion.{bindings_left}
 use Rattle.kob_names.proofs.SameBindings.{same_binding_decides}
 use Rattle.kob_names.specs.Filter.{takes}
-use Rattle.kob_names.specs.SameBinding.{same_binding}
 use Rattle.kob_names.specs.Binding.{Binding}
 use Rattle.kob_names.specs.declared.filter.BindingFilter.{BindingFilter}
 
@@ -18,21 +18,12 @@ use Rattle.kob_names.specs.declared.filter.BindingFilter.{BindingFilter}
 abbrev NoneEqual : Binding → List (ℕ × Binding) → Type 0
 NoneEqual binding entries = All (λ (entry : ℕ × Binding). entry.1 ≢ binding) entries
 
-none_step : (binding : Binding) (entry : ℕ × Binding) (rest : List (ℕ × Binding)) (b : Bool)
-    → same_binding entry.1 binding ≡ b → option_map (λ (e : ℕ × Binding). e.0)
-    (cond b (Some entry) (find (λ (e : ℕ × Binding). same_binding e.1 binding) rest)) ≡ None
-    → (serial_of rest binding ≡ None → NoneEqual binding rest) → NoneEqual binding (entry ∷ rest)
-none_step binding entry rest true is none more = cc
-none_step binding entry rest false is none more =
-    let other : entry.1 ≢ binding = λ equal. (let same = (same_binding_decides entry.1 binding).1 equal in cc) in
-    All-cons (λ (e : ℕ × Binding). e.1 ≢ binding) entry rest other (more none)
-
 -- a binding without a serial is equal to none
 none_equal : (entries : List (ℕ × Binding)) (binding : Binding) → serial_of entries binding ≡ None
     → NoneEqual binding entries
-none_equal [] binding none = λ k d h. absurd (omega (arith, h))
-none_equal (entry ∷ rest) binding none =
-    none_step binding entry rest (same_binding entry.1 binding) refl none (none_equal rest binding)
+none_equal entries binding none = all_of (λ entry. entry.1 ≢ binding) entries (λ entry there equal.
+    none_is (is_equal binding) entries (first_serial_found (is_equal binding) entries ∙ none) entry there
+    ((same_binding_decides entry.1 binding).1 equal))
 
 step_distinct : (so_far : Added) (binding : Binding) (o : Option ℕ) → serial_of so_far.entries binding ≡ o
     → AreDistinct so_far.entries → AreDistinct (with_binding o so_far binding).entries

@@ -1,41 +1,21 @@
 -- What was created is in force under the serials that were answered.
-use Rattle.std.proofs.Common.{◌≡◌, refl, sym, subst, Bool, true, false, cond, ℕ, List, [], ◌∷◌, ◌++◌, append_assoc, append-nil}
+use Rattle.std.proofs.Common.{◌≡◌, refl, sym, ◌∙◌, subst, ℕ, List, [], ◌∷◌, ◌++◌, append_assoc, append-nil}
 use Rattle.std.specs.Prelude.{Contains, Option, Some, None}
-use Rattle.std.specs.List.{find, fold}
-use Rattle.std.specs.Option.{option_map}
-use Rattle.std.proofs.lemmas.List.Elements.{Contains-append_left, Contains-append_right, Contains-push}
+use Rattle.std.specs.List.{fold}
+use Rattle.std.proofs.lemmas.List.Elements.{Contains-append_left, Contains-push}
+use Rattle.kob_authorizer.proofs.FirstHit.{first_is, first_serial_found}
+use Rattle.kob_authorizer.specs.LookUp.{is_equal}
 use Rattle.kob_authorizer.specs.Creation.{Added, AreInForce, add_one, addition, with_binding, serial_of}
 use Rattle.kob_names.proofs.SameBindings.{same_binding_decides}
-use Rattle.kob_names.specs.SameBinding.{same_binding}
 use Rattle.kob_names.specs.Binding.{Binding}
-
--- the serial of the first of some entries
-abbrev serial_in : Option (ℕ × Binding) → Option ℕ
-serial_in found = option_map (λ (entry : ℕ × Binding). entry.0) found
-
--- the search in the entries after the first
-abbrev later : List (ℕ × Binding) → Binding → Option (ℕ × Binding)
-later rest binding = find (λ (entry : ℕ × Binding). same_binding entry.1 binding) rest
-
-found_step : (binding : Binding) (entry : ℕ × Binding) (rest : List (ℕ × Binding)) (serial : ℕ) (b : Bool)
-    → same_binding entry.1 binding ≡ b → serial_in (cond b (Some entry) (later rest binding)) ≡ Some serial
-    → (serial_in (later rest binding) ≡ Some serial → Contains rest (serial, binding))
-    → Contains (entry ∷ rest) (serial, binding)
-found_step binding entry rest serial true same found more =
-    let equal : entry.1 ≡ binding = (same_binding_decides entry.1 binding).0 same in
-    let number : entry.0 ≡ serial = cc in
-    let whole : (entry.0, entry.1) ≡ (serial, binding) = cc in
-    subst (λ (x : ℕ × Binding). Contains (entry ∷ rest) x) whole
-    (Contains-append_left (entry ∷ []) rest entry (Contains-push [] entry))
-found_step binding entry rest serial false same found more =
-    Contains-append_right (entry ∷ []) rest (serial, binding) (more found)
 
 -- a binding whose serial is found is in force under it
 found_in_force : (entries : List (ℕ × Binding)) (binding : Binding) (serial : ℕ)
     → serial_of entries binding ≡ Some serial → Contains entries (serial, binding)
-found_in_force [] binding serial found = cc
-found_in_force (entry ∷ rest) binding serial found =
-    found_step binding entry rest serial (same_binding entry.1 binding) refl found (found_in_force rest binding serial)
+found_in_force entries binding serial found =
+    let (entry, (kept, is)) =
+    first_is (is_equal binding) entries serial (first_serial_found (is_equal binding) entries ∙ found) in
+    subst (Contains entries) (λ i. (is i, (same_binding_decides entry.1 binding).0 kept.1 i)) kept.0
 
 -- what is in force stays so when more entries are put last
 still_in_force : (entries more : List (ℕ × Binding)) (bindings : List Binding) (serials : List ℕ)

@@ -1,12 +1,12 @@
 -- Adding bindings at once is adding them one after another.
 use Rattle.std.proofs.Common.{◌≡◌, refl, ap, subst, sym, ◌∙◌, arith, true, false, cond, ◌||◌, ℕ, ◌+◌, length, List, [], ◌∷◌, ◌++◌, append_assoc, append-nil, length-append}
 use Rattle.std.specs.Prelude.{Option, Some, None, is_some}
-use Rattle.std.specs.List.{enumerate_from, find, cons_option, fold}
-use Rattle.std.specs.Option.{option_map}
+use Rattle.std.specs.List.{enumerate_from, cons_option, fold}
+use Rattle.std.specs.Option.{option_map, option_or}
 use Rattle.std.proofs.lemmas.List.FromFn.{length-enumerate_from}
 use Rattle.kob_authorizer.proofs.Rising.{rising_append, rising_enumerate_from}
-use Rattle.kob_authorizer.proofs.Serials.{enumerate_from_push, serial_of_append_none, serial_of_append_some}
-use Rattle.kob_authorizer.specs.AtOnce.{added_at_once, creation, is_among, is_in_force, is_known, new_bindings, serials_in, with_new}
+use Rattle.kob_authorizer.proofs.Serials.{enumerate_from_append, enumerate_from_push, place_among, serial_in_force, serial_of_append, serial_of_append_none, serial_of_append_some}
+use Rattle.kob_authorizer.specs.AtOnce.{added_at_once, creation, is_known, new_bindings, serials_in, with_new}
 use Rattle.kob_authorizer.specs.Creation.{Added, Creates, OnlyAdds, add_one, addition, with_binding, serial_of}
 use Rattle.kob_authorizer.specs.Contents.{IsRising}
 use Rattle.kob_authorizer.specs.Passing.{create_fault, limit_fault}
@@ -21,28 +21,14 @@ grown n entries fresh = entries ++ enumerate_from n fresh
 -- a binding is known exactly where it has a serial among the entries and the fresh ones
 known_has_serial : (n : ℕ) (entries : List (ℕ × Binding)) (fresh : List Binding) (b : Binding)
     → is_some (serial_of (grown n entries fresh) b) ≡ is_known entries fresh b
-known_has_serial n [] [] b = refl
-known_has_serial n [] (x ∷ xs) b =
-    elim (same_binding x b) as (λ t.
-    is_some (option_map (λ (e : ℕ × Binding). e.0)
-    (cond t (Some (n, x)) (find (λ (e : ℕ × Binding). same_binding e.1 b) (enumerate_from (n + 1) xs))))
-    ≡ (t || is_among xs b))
-    [ true ↦ refl | false ↦ known_has_serial (n + 1) [] xs b ]
-known_has_serial n (e ∷ es) fresh b =
-    elim (same_binding e.1 b) as (λ t.
-    is_some (option_map (λ (e : ℕ × Binding). e.0)
-    (cond t (Some e) (find (λ (e : ℕ × Binding). same_binding e.1 b) (grown n es fresh))))
-    ≡ ((t || is_in_force es b) || is_among fresh b))
-    [ true ↦ refl | false ↦ known_has_serial n es fresh b ]
-
--- numbering two lists is numbering the one and then the other
-enumerate_from_append : (n : ℕ) (xs ys : List Binding)
-    → enumerate_from n (xs ++ ys) ≡ enumerate_from n xs ++ enumerate_from (n + length xs) ys
-enumerate_from_append n [] ys = let e : n ≡ n + 0 = omega arith in ap (λ k. enumerate_from k ys) e
-enumerate_from_append n (x ∷ xs) ys =
-    let more : n + 1 + length xs ≡ n + length (x ∷ xs) = omega arith in
-    ap (λ rest. (n, x) ∷ rest) (enumerate_from_append (n + 1) xs ys
-    ∙ ap (λ k. enumerate_from (n + 1) xs ++ enumerate_from k ys) more)
+known_has_serial n entries fresh b =
+    ap is_some (serial_of_append b entries (enumerate_from n fresh))
+    ∙ either (serial_of entries b) (serial_of (enumerate_from n fresh) b)
+    ∙ (λ i. serial_in_force entries b i || place_among n fresh b i)
+  where
+    either : (o p : Option ℕ) → is_some (option_or o p) ≡ (is_some o || is_some p)
+    either None p = refl
+    either (Some serial) p = refl
 
 -- the new bindings so far stay at the front
 fresh_extends : (entries : List (ℕ × Binding)) (fresh bs : List Binding)

@@ -1,4 +1,5 @@
 pub mod Distinct
+pub mod Elements
 pub mod FirstHit
 pub mod FreshSteps
 pub mod Halving

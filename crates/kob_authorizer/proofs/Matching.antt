@@ -21,7 +21,8 @@ use Rattle.kob_prefix_tree.specs.Walked.{serials_along}
 use Rattle.kob_prefix_tree.specs.declared.kind.PatternKind as of_tree
 use Rattle.kob_prefix_tree.specs.declared.kind.PatternKind.TheVariants as in_tree
 use Rattle.kob_authorizer.proofs.FirstHit.{first_serial_found}
-use Rattle.kob_authorizer.proofs.LeastPassing.{LeadToAll, among_mapped, kept_by_filter, least_is_first}
+use Rattle.kob_authorizer.proofs.Elements.{among_mapped, kept_by_filter}
+use Rattle.kob_authorizer.proofs.LeastPassing.{LeadToAll, least_is_first}
 use Rattle.kob_authorizer.proofs.Verdicts.{is_hit_decides}
 use Rattle.kob_authorizer.specs.Creation.{serial_of}
 use Rattle.kob_authorizer.specs.Decide.{first_serial, hits, is_hit}

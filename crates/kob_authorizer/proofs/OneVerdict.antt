@@ -1,28 +1,16 @@
 -- A verdict that is true is the only one.
-use Rattle.std.proofs.Common.{◌≡◌, inl, inr, refl, ap, subst, arith, ℕ, ◌≤◌, List, [], ◌∷◌}
-use Rattle.std.specs.Prelude.{Contains}
-use Rattle.std.specs.List.{AllByRecursion}
+use Rattle.std.proofs.Common.{◌≡◌, refl, ap, subst, arith, ℕ, ◌≤◌, List}
 use Rattle.kob_names.specs.Binding.{Binding}
 use Rattle.kob_names.specs.declared.kinds.Permission.{Permission}
 use Rattle.kob_names.specs.declared.kinds.Permission.TheVariants.{Allow, Deny}
 use Rattle.kob_names.specs.declared.verdict.Verdict.{Verdict}
 use Rattle.kob_names.specs.declared.verdict.Verdict.TheVariants.{Super, AllowedBy}
 use Rattle.kob_names.specs.declared.verdict.Verdict.TheVariants.{DeniedBy, NoAllow, NoAclFound}
-use Rattle.kob_authorizer.proofs.LeastPassing.{first_or_rest}
+use Rattle.kob_authorizer.proofs.Elements.{each}
 use Rattle.kob_authorizer.proofs.Resources.{none_among}
 use Rattle.kob_authorizer.specs.Contents.{Contents}
 use Rattle.kob_authorizer.specs.Meaning.{Hits, IsEarliest, IsTrueVerdict, NoneHits, NoneMatches}
 use Rattle.kob_authorizer.specs.Question.{Question}
-
--- what holds of all holds of each that is there
-each : (P : ℕ × Binding → Type 0) (entries : List (ℕ × Binding)) (entry : ℕ × Binding) → AllByRecursion P entries
-    → Contains entries entry → P entry
-each P [] entry all there = absurd (omega (arith, there.1))
-each P (first ∷ rest) entry all there =
-    elim (first_or_rest first rest entry there) as (λ _. P entry) [
-      | inl same ↦ subst P same all.0
-      | inr later ↦ each P rest entry all.1 later
-    ]
 
 module _ {question : Question} {entries : List (ℕ × Binding)} where
   lowest : (permission : Permission) (serial other : ℕ) → IsEarliest permission question entries serial

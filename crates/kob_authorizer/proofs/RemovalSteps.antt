@@ -1,5 +1,5 @@
 -- What a deletion takes out of the trees of the patterns, place by place.
-use Rattle.std.proofs.Common.{◌≡◌, refl, sym, ap, ◌∙◌, subst, Bool, true, false, cond, ◌&&◌, ◌||◌, ℕ, List, [], ◌∷◌, ◌++◌, map, append-nil, append_assoc}
+use Rattle.std.proofs.Common.{◌≡◌, refl, sym, ap, ◌∙◌, Bool, true, false, cond, ◌&&◌, ◌||◌, ℕ, List, [], ◌∷◌, ◌++◌, map, append-nil, append_assoc}
 use Rattle.std.specs.List.{filter, fold, list_any}
 use Rattle.std.proofs.lemmas.Bool.{and_parts, eq-eqb}
 use Rattle.std.proofs.lemmas.Slice.Eq.{bytes_eq-Decides}
@@ -17,7 +17,7 @@ use Rattle.kob_prefix_tree.specs.declared.kind.PatternKind.{PatternKind}
 use Rattle.kob_prefix_tree.specs.declared.kind.PatternKind.TheVariants.{Literal, Prefixed}
 use Rattle.kob_authorizer.proofs.IndexSteps.{are_patterns, keys_removed, tree_changed}
 use Rattle.kob_authorizer.proofs.Passes.{none_sought, one_more_there, pass_again, pass_leaves, serials_there, stands_at}
-use Rattle.kob_authorizer.proofs.TreeSteps.{and_false, and_true, apart}
+use Rattle.kob_authorizer.proofs.TreeSteps.{after_change}
 use Rattle.kob_authorizer.specs.Contents.{IsRising}
 use Rattle.kob_authorizer.specs.Deletion.{bindings_left, bindings_taken}
 use Rattle.kob_authorizer.specs.Index.{Indexes, patterns_of, tree_of}
@@ -30,33 +30,21 @@ use Rattle.kob_authorizer.specs.declared.patterns.Patterns.{Patterns}
 abbrev passed : Bool → List ℕ → List ℕ → List ℕ
 passed here ss xs = cond here (without_in_turn ss xs) xs
 
-pass_of_kind : (kind other : PatternKind) (ss : List ℕ) (h : Held)
+pass_of_kind : (kind : PatternKind) (ss : List ℕ) (h : Held) (other : PatternKind)
     → serials_of other (without_serials kind ss h) ≡ passed (same_kind kind other) ss (serials_of other h)
-pass_of_kind Literal Literal ss h = refl
-pass_of_kind Literal Prefixed ss h = refl
-pass_of_kind Prefixed Literal ss h = refl
-pass_of_kind Prefixed Prefixed ss h = refl
+pass_of_kind Literal ss h Literal = refl
+pass_of_kind Literal ss h Prefixed = refl
+pass_of_kind Prefixed ss h Literal = refl
+pass_of_kind Prefixed ss h Prefixed = refl
 
 -- a pass changes one list of one key
 after_pass : (m : PrefixMap) (key : List ℕ) (kind : PatternKind) (ss : List ℕ) (other : PatternKind) (name : List ℕ)
     → serials_of other (held (removed_all m key kind ss) name)
     ≡ passed (same_kind kind other && same_text key name) ss (serials_of other (held m name))
-after_pass m key kind ss other name =
-    elim (same_text key name) as (λ b. same_text key name ≡ b
-    → serials_of other (held (removed_all m key kind ss) name)
-    ≡ passed (same_kind kind other && b) ss (serials_of other (held m name))) [
-      | true ↦ λ is.
-          let here : serials_of other (held (removed_all m key kind ss) key)
-          ≡ passed (same_kind kind other && true) ss (serials_of other (held m key)) =
-          ap (serials_of other) (held_removed_all_same m key kind ss) ∙ pass_of_kind kind other ss (held m key)
-          ∙ ap (λ b. passed b ss (serials_of other (held m key))) (and_true (same_kind kind other)) in
-          subst (λ k. serials_of other (held (removed_all m key kind ss) k)
-          ≡ passed (same_kind kind other && true) ss (serials_of other (held m k)))
-          ((bytes_eq-Decides key name).0 is) here
-      | false ↦ λ is.
-          ap (serials_of other) (held_removed_all_other m key kind ss name (apart key name is))
-          ∙ ap (λ b. passed b ss (serials_of other (held m name))) (and_false (same_kind kind other))
-    ] refl
+after_pass m key kind ss =
+    after_change (without_in_turn ss) m (removed_all m key kind ss) key kind
+    (λ other. ap (serials_of other) (held_removed_all_same m key kind ss) ∙ pass_of_kind kind ss (held m key) other)
+    (held_removed_all_other m key kind ss)
 
 kind_told : (one other : PatternKind) → same_kind one other ≡ true → one ≡ other
 kind_told Literal Literal same = refl

@@ -1,6 +1,6 @@
 -- The tree of the super users' texts holds those that are listed, and no others.
-use Rattle.std.proofs.Common.{◌≡◌, refl, sym, ap, ◌∙◌, subst, Bool, true, false, not, ◌||◌, ◌==◌, ℕ, ◌+◌, List, [], ◌∷◌, ◌++◌, length, arith}
-use Rattle.std.specs.List.{fold, list_any}
+use Rattle.std.proofs.Common.{◌≡◌, refl, ap, ◌∙◌, Bool, true, false, not, ◌||◌, ◌==◌, ℕ, List, [], ◌∷◌, ◌++◌, length, arith}
+use Rattle.std.specs.List.{fold}
 use Rattle.std.specs.FinMap as map
 use Rattle.std.proofs.lemmas.Bool.{ne_eqb}
 use Rattle.std.proofs.lemmas.Slice.Eq.{bytes_eq-Decides}
@@ -9,7 +9,6 @@ use Rattle.kob_prefix_tree.proofs.HeldLaws.{held_added_other, held_added_same, h
 use Rattle.kob_prefix_tree.specs.Held.{Held}
 use Rattle.kob_prefix_tree.specs.PrefixMap.{PrefixMap, held}
 use Rattle.kob_prefix_tree.specs.declared.kind.PatternKind.TheVariants.{Literal}
-use Rattle.kob_authorizer.proofs.TreeSteps.{apart}
 use Rattle.kob_authorizer.specs.Decide.{is_super}
 use Rattle.kob_authorizer.specs.SuperUsers.{holds_text, texts_of, with_text}
 

@@ -21,33 +21,33 @@ use Rattle.kob_authorizer.specs.Places.{IsIndex, Place, addition, is_place, same
 abbrev serial : ℕ × Binding → ℕ
 serial entry = entry.0
 
--- the serial, where the test passes
-abbrev where_so : Bool → ℕ → List ℕ
-where_so here s = cond here (s ∷ []) []
-
 -- the list without the first of this serial, where the test passes
 abbrev less : Bool → ℕ → List ℕ → List ℕ
 less here s xs = cond here (without_first (λ x. x == s) xs) xs
 
-with_serials : (kind other : PatternKind) (s : ℕ) (h : Held)
-    → serials_of other (with_serial kind s h) ≡ serials_of other h ++ where_so (same_kind kind other) s
-with_serials Literal Literal s h = refl
-with_serials Literal Prefixed s h = sym (append-nil h.1)
-with_serials Prefixed Literal s h = sym (append-nil h.0)
-with_serials Prefixed Prefixed s h = refl
+-- the list with the serial put last, where the test passes
+abbrev more : Bool → ℕ → List ℕ → List ℕ
+more here s xs = cond here (xs ++ s ∷ []) xs
 
-without_serials : (kind other : PatternKind) (s : ℕ) (h : Held)
+with_serials : (kind : PatternKind) (s : ℕ) (h : Held) (other : PatternKind)
+    → serials_of other (with_serial kind s h) ≡ more (same_kind kind other) s (serials_of other h)
+with_serials Literal s h Literal = refl
+with_serials Literal s h Prefixed = refl
+with_serials Prefixed s h Literal = refl
+with_serials Prefixed s h Prefixed = refl
+
+without_serials : (kind : PatternKind) (s : ℕ) (h : Held) (other : PatternKind)
     → serials_of other (without_serial kind s h) ≡ less (same_kind kind other) s (serials_of other h)
-without_serials Literal Literal s h = refl
-without_serials Literal Prefixed s h = refl
-without_serials Prefixed Literal s h = refl
-without_serials Prefixed Prefixed s h = refl
+without_serials Literal s h Literal = refl
+without_serials Literal s h Prefixed = refl
+without_serials Prefixed s h Literal = refl
+without_serials Prefixed s h Prefixed = refl
 
-pub and_true : (b : Bool) → b ≡ (b && true)
+and_true : (b : Bool) → b ≡ (b && true)
 and_true true = refl
 and_true false = refl
 
-pub and_false : (b : Bool) → false ≡ (b && false)
+and_false : (b : Bool) → false ≡ (b && false)
 and_false true = refl
 and_false false = refl
 
@@ -55,49 +55,41 @@ and_false false = refl
 pub apart : (key other : List ℕ) → same_text key other ≡ false → other ≢ key
 apart key other differ same = let equal = (bytes_eq-Decides key other).1 (sym same) in cc
 
-module _ (m : PrefixMap) (key : List ℕ) (kind : PatternKind) (s : ℕ) where
-  -- a serial that was added stands at its place alone, after the others
-  after_added : (other : PatternKind) (name : List ℕ)
-      → serials_of other (held (added m key kind s) name)
-      ≡ serials_of other (held m name) ++ where_so (same_kind kind other && same_text key name) s
-  after_added other name =
+-- one list of one key changed
+module _ (change : List ℕ → List ℕ) (m now : PrefixMap) (key : List ℕ) (kind : PatternKind) where
+  pub after_change : ((other : PatternKind) → serials_of other (held now key)
+      ≡ cond (same_kind kind other) (change (serials_of other (held m key))) (serials_of other (held m key)))
+      → ((name : List ℕ) → name ≢ key → held now name ≡ held m name) → (other : PatternKind) (name : List ℕ)
+      → serials_of other (held now name)
+      ≡ cond (same_kind kind other && same_text key name) (change (serials_of other (held m name)))
+      (serials_of other (held m name))
+  after_change at elsewhere other name =
+      let changed : Bool → List ℕ → List ℕ = λ here k. cond here (change (serials_of other (held m k)))
+      (serials_of other (held m k)) in
       elim (same_text key name) as (λ b. same_text key name ≡ b
-      → serials_of other (held (added m key kind s) name)
-      ≡ serials_of other (held m name) ++ where_so (same_kind kind other && b) s) [
-        | true ↦ λ is.
-            let here : serials_of other (held (added m key kind s) key)
-            ≡ serials_of other (held m key) ++ where_so (same_kind kind other && true) s =
-            ap (serials_of other) (held_added_same m key kind s) ∙ with_serials kind other s (held m key)
-            ∙ ap (λ b. serials_of other (held m key) ++ where_so b s) (and_true (same_kind kind other)) in
-            subst (λ k. serials_of other (held (added m key kind s) k)
-            ≡ serials_of other (held m k) ++ where_so (same_kind kind other && true) s)
-            ((bytes_eq-Decides key name).0 is) here
-        | false ↦ λ is.
-            ap (serials_of other) (held_added_other m key kind s name (apart key name is))
-            ∙ sym (append-nil (serials_of other (held m name)))
-            ∙ ap (λ b. serials_of other (held m name) ++ where_so b s) (and_false (same_kind kind other))
+      → serials_of other (held now name) ≡ changed (same_kind kind other && b) name) [
+        | true ↦ λ is. subst (λ k. serials_of other (held now k) ≡ changed (same_kind kind other && true) k)
+            ((bytes_eq-Decides key name).0 is) (at other ∙ ap (λ b. changed b key) (and_true (same_kind kind other)))
+        | false ↦ λ is. ap (serials_of other) (elsewhere name (apart key name is))
+            ∙ ap (λ b. changed b name) (and_false (same_kind kind other))
       ] refl
 
+module _ (m : PrefixMap) (key : List ℕ) (kind : PatternKind) (s : ℕ) where
+  -- a serial that was added stands at its place alone, after the others
+  after_added : (other : PatternKind) (name : List ℕ) → serials_of other (held (added m key kind s) name)
+      ≡ more (same_kind kind other && same_text key name) s (serials_of other (held m name))
+  after_added =
+      after_change (λ xs. xs ++ s ∷ []) m (added m key kind s) key kind
+      (λ other. ap (serials_of other) (held_added_same m key kind s) ∙ with_serials kind s (held m key) other)
+      (held_added_other m key kind s)
+
   -- a serial that was taken away is gone from its place alone
-  after_removed : (other : PatternKind) (name : List ℕ)
-      → serials_of other (held (removed m key kind s) name)
+  after_removed : (other : PatternKind) (name : List ℕ) → serials_of other (held (removed m key kind s) name)
       ≡ less (same_kind kind other && same_text key name) s (serials_of other (held m name))
-  after_removed other name =
-      elim (same_text key name) as (λ b. same_text key name ≡ b
-      → serials_of other (held (removed m key kind s) name)
-      ≡ less (same_kind kind other && b) s (serials_of other (held m name))) [
-        | true ↦ λ is.
-            let here : serials_of other (held (removed m key kind s) key)
-            ≡ less (same_kind kind other && true) s (serials_of other (held m key)) =
-            ap (serials_of other) (held_removed_same m key kind s) ∙ without_serials kind other s (held m key)
-            ∙ ap (λ b. less b s (serials_of other (held m key))) (and_true (same_kind kind other)) in
-            subst (λ k. serials_of other (held (removed m key kind s) k)
-            ≡ less (same_kind kind other && true) s (serials_of other (held m k)))
-            ((bytes_eq-Decides key name).0 is) here
-        | false ↦ λ is.
-            ap (serials_of other) (held_removed_other m key kind s name (apart key name is))
-            ∙ ap (λ b. less b s (serials_of other (held m name))) (and_false (same_kind kind other))
-      ] refl
+  after_removed =
+      after_change (without_first (λ x. x == s)) m (removed m key kind s) key kind
+      (λ other. ap (serials_of other) (held_removed_same m key kind s) ∙ without_serials kind s (held m key) other)
+      (held_removed_other m key kind s)
 
 -- no entry has this serial
 abbrev pub NoneHas : ℕ → List (ℕ × Binding) → Type 0
@@ -150,12 +142,11 @@ module _ (place : Binding → Place) where
   pub index_added : (m : PrefixMap) (entries : List (ℕ × Binding)) (entry : ℕ × Binding) → IsIndex place m entries
       → IsIndex place (with_addition m (addition place entry)) (entries ++ entry ∷ [])
   index_added m entries entry is kind key =
-      let one : where_so (stands kind key entry) entry.0 ≡ serials_at place (entry ∷ []) kind key =
-      elim (stands kind key entry) as (λ b. where_so b entry.0
-      ≡ map serial (cond b (entry ∷ []) [])) [ true ↦ refl | false ↦ refl ] in
+      let before : List ℕ = serials_at place entries kind key in
       after_added m (place entry.1).key (place entry.1).kind entry.0 kind key
-      ∙ ap (λ xs. xs ++ where_so (stands kind key entry) entry.0) (is kind key)
-      ∙ ap (λ xs. serials_at place entries kind key ++ xs) one
+      ∙ ap (more (stands kind key entry) entry.0) (is kind key)
+      ∙ elim (stands kind key entry) as (λ b. more b entry.0 before ≡ before ++ map serial (cond b (entry ∷ []) []))
+      [ true ↦ refl | false ↦ sym (append-nil before) ]
       ∙ sym (serials_at_append entries (entry ∷ []) kind key)
 
   -- the list of a place without the serial of an entry, when none before has it

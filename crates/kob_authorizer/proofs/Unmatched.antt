@@ -1,10 +1,10 @@
 -- Where the trees give no serial for a name, no binding matches it, and the other way round.
-use Rattle.std.proofs.Common.{◌≡◌, inl, inr, refl, sym, ap, ◌∙◌, subst, arith, Bool, true, false, not, ◌||◌, ◌==◌, ℕ, cond, length, List, [], ◌∷◌, map}
+use Rattle.std.proofs.Common.{◌≡◌, inl, inr, refl, sym, ap, ◌∙◌, subst, arith, Bool, true, false, not, ◌||◌, ◌==◌, ℕ, length, List, [], ◌∷◌, map}
 use Rattle.std.specs.Prelude.{Contains, codes, nat_eq}
 use Rattle.std.specs.List.{filter, list_any, starts_with}
 use Rattle.std.proofs.lemmas.Bool.{and_parts, ne_eqb}
 use Rattle.std.proofs.lemmas.Bool.Decides.{Decides-eqb}
-use Rattle.std.proofs.lemmas.List.Elements.{Contains-append_cases, Contains-append_left, Contains-append_right, Contains-push}
+use Rattle.std.proofs.lemmas.List.Elements.{Contains-append_cases}
 use Rattle.std.proofs.lemmas.Slice.Eq.{bytes_eq-Decides, starts_is}
 use Rattle.kob_names.proofs.SameBindings.{resource_decides}
 use Rattle.kob_names.specs.Access.{matches_by}
@@ -15,7 +15,7 @@ use Rattle.kob_names.specs.declared.kinds.PatternKind.TheVariants.{Literal, Pref
 use Rattle.kob_prefix_tree.proofs.HeldLaws.{walk_only}
 use Rattle.kob_prefix_tree.specs.Held.{serials_of}
 use Rattle.kob_prefix_tree.specs.PrefixMap.{PrefixMap, held, walk_of}
-use Rattle.kob_authorizer.proofs.LeastPassing.{first_or_rest}
+use Rattle.kob_authorizer.proofs.Elements.{at_head, given_by, was_kept}
 use Rattle.kob_authorizer.proofs.Matching.{looked_up}
 use Rattle.kob_authorizer.proofs.Resources.{none_among, none_matches, some_matches}
 use Rattle.kob_authorizer.specs.Decide.{is_match, is_unmatched}
@@ -25,40 +25,6 @@ use Rattle.kob_authorizer.specs.Meaning.{SomeMatches}
 use Rattle.kob_authorizer.specs.Places.{is_place, kind_in_tree, pattern_place, same_kind}
 use Rattle.kob_authorizer.specs.Question.{Question}
 use Rattle.kob_authorizer.specs.declared.index.Index.{Index}
-
-filter_step : {A : Type 0} (test : A → Bool) (x : A) (kept xs : List A) (y : A) (b : Bool) → test x ≡ b
-    → Contains (cond b (x ∷ kept) kept) y → (Contains kept y → Contains xs y × (test y ≡ true))
-    → Contains (x ∷ xs) y × (test y ≡ true)
-filter_step test x kept xs y true is has more =
-    elim (first_or_rest x kept y has) as (λ _. Contains (x ∷ xs) y × (test y ≡ true)) [
-      | inl same ↦ (
-        subst (Contains (x ∷ xs)) same (Contains-append_left (x ∷ []) xs x (Contains-push [] x)),
-        subst (λ z. test z ≡ true) same is,
-      )
-      | inr later ↦ (Contains-append_right (x ∷ []) xs y (more later).0, (more later).1)
-    ]
-filter_step test x kept xs y false is has more = (Contains-append_right (x ∷ []) xs y (more has).0, (more has).1)
-
--- what a filter keeps was there, and passes
-kept_was_there : {A : Type 0} (test : A → Bool) (xs : List A) (y : A) → Contains (filter test xs) y
-    → Contains xs y × (test y ≡ true)
-kept_was_there test [] y has = absurd (omega (arith, has.1))
-kept_was_there test (x ∷ xs) y has =
-    filter_step test x (filter test xs) xs y (test x) refl has (kept_was_there test xs y)
-
--- a value that a function gives for some element of a list
-abbrev GivenBy : {A B : Type 0} → (A → B) → List A → B → Type 0
-GivenBy {A} f xs z = (x : A) × (Contains xs x × (f x ≡ z))
-
-given_by : {A B : Type 0} (f : A → B) (xs : List A) (z : B) → Contains (map f xs) z → GivenBy f xs z
-given_by f [] z has = absurd (omega (arith, has.1))
-given_by f (x ∷ xs) z has =
-    elim (first_or_rest (f x) (map f xs) z has) as (λ _. GivenBy f (x ∷ xs) z) [
-      | inl same ↦ (x, (Contains-append_left (x ∷ []) xs x (Contains-push [] x), same))
-      | inr later ↦
-          let given = given_by f xs z later in
-          (given.0, (Contains-append_right (x ∷ []) xs given.0 given.1.0, given.1.1))
-    ]
 
 kind_is : (one two : PatternKind) → same_kind (kind_in_tree one) (kind_in_tree two) ≡ true → one ≡ two
 kind_is Literal Literal same = refl
@@ -80,14 +46,14 @@ module _ (index : Index) (entries : List (ℕ × Binding)) (indexed : Indexes in
       subst (λ xs. Contains xs serial) (indexed.patterns question.resource (kind_in_tree kind) key) has in
       let given = given_by (λ (e : ℕ × Binding). e.0) (filter test on) serial there in
       let entry : ℕ × Binding = given.0 in
-      let kept = kept_was_there test on entry given.1.0 in
+      let kept = was_kept test on entry given.1.0 in
       let both =
       and_parts (same_kind (kind_in_tree entry.1.pattern.kind) (kind_in_tree kind))
       (same_text entry.1.pattern.name key) kept.1 in
       let of_kind : entry.1.pattern.kind ≡ kind = kind_is entry.1.pattern.kind kind both.0 in
       let named : entry.1.pattern.name ≡ key = (bytes_eq-Decides entry.1.pattern.name key).0 both.1 in
       let in_force =
-      kept_was_there (λ (e : ℕ × Binding). same_resource e.1.resource question.resource) entries entry kept.0 in
+      was_kept (λ (e : ℕ × Binding). same_resource e.1.resource question.resource) entries entry kept.0 in
       record {
         entry = entry;
         in_force = in_force.0;
@@ -142,9 +108,7 @@ module _ (index : Index) (entries : List (ℕ × Binding)) (indexed : Indexes in
   none_by (serial ∷ rest) true is found =
       ne_eqb (length (serial ∷ rest)) 0 (λ none. absurd (omega (arith, none)))
   none_by (serial ∷ rest) false is found =
-      let here : Contains (serial ∷ rest) serial =
-      Contains-append_left (serial ∷ []) rest serial (Contains-push [] serial) in
-      let some = of_given serial (subst (λ xs. Contains xs serial) (sym is) here) in
+      let some = of_given serial (subst (λ xs. Contains xs serial) (sym is) (at_head serial rest)) in
       absurd (none_among question entries some.entry (none_matches question entries found) some.in_force some.matches)
 
   pub none_given : (length (matching_serials (held tree) question.name) == 0) ≡ is_unmatched entries question

@@ -1,0 +1,78 @@
+-- What is so of the elements of a list, of those that a filter keeps, and of what a function gives of them.
+use Rattle.std.proofs.Common.{◌≡◌, ◌⊎◌, inl, inr, refl, sym, ap, ◌∙◌, subst, arith, Bool, true, false, cond, List, [], ◌∷◌, map}
+use Rattle.std.specs.Prelude.{All, Contains}
+use Rattle.std.specs.List.{AllByRecursion, filter, list_any}
+use Rattle.std.proofs.lemmas.List.Elements.{All-contains, All-contains_itself, All-filter, All-from_recursion, All-map, All-weaker, Contains-append_cases, Contains-append_left, Contains-append_right, Contains-push, Contains-push_cases, filter_passes, recursion_from_All}
+use Rattle.std.proofs.lemmas.List.Folds.{Any-from_list_any, list_any-from_Any}
+
+module _ {A : Type 0} where
+  -- what holds of all holds of each that is there, and the other way round
+  pub each : (P : A → Type 0) (xs : List A) (x : A) → AllByRecursion P xs → Contains xs x → P x
+  each P xs x all there = All-contains P xs x (All-from_recursion P xs all) there
+
+  pub all_of : (P : A → Type 0) (xs : List A) → ((x : A) → Contains xs x → P x) → All P xs
+  all_of P xs holds = All-weaker (Contains xs) P holds xs (All-contains_itself xs)
+
+  pub of_each : (P : A → Type 0) (xs : List A) → ((x : A) → Contains xs x → P x) → AllByRecursion P xs
+  of_each P xs holds = recursion_from_All P xs (all_of P xs holds)
+
+  pub at_head : (x : A) (xs : List A) → Contains (x ∷ xs) x
+  at_head x xs = Contains-append_left (x ∷ []) xs x (Contains-push [] x)
+
+  -- an element of a list is its first one, or in the rest
+  first_or_rest : (x : A) (xs : List A) (y : A) → Contains (x ∷ xs) y → (x ≡ y) ⊎ Contains xs y
+  first_or_rest x xs y has =
+      elim (Contains-append_cases (x ∷ []) xs y has) as (λ _. (x ≡ y) ⊎ Contains xs y) [
+        | inl here ↦ elim (Contains-push_cases [] x y here) as
+            (λ _. (x ≡ y) ⊎ Contains xs y) [ inl nowhere ↦ absurd (omega (arith, nowhere.1)) | inr same ↦ inl same ]
+        | inr later ↦ inr later
+      ]
+
+  module _ (test : A → Bool) where
+    -- a test of any passes where an element passes
+    pub passing : (xs : List A) → list_any test xs ≡ true → (x : A) × (Contains xs x × (test x ≡ true))
+    passing xs some = let (k, x, below, is, passes) = Any-from_list_any test xs some in (x, ((k, below, is), passes))
+
+    pub any_passes : (xs : List A) (x : A) → Contains xs x → test x ≡ true → list_any test xs ≡ true
+    any_passes xs x there passes = list_any-from_Any test xs (there.0, x, there.1, there.2, passes)
+
+    -- an element that passes is kept
+    pub kept_by_filter : (xs : List A) (y : A) → Contains xs y → test y ≡ true → Contains (filter test xs) y
+    kept_by_filter [] y has passes = has
+    kept_by_filter (x ∷ xs) y has passes =
+        elim (first_or_rest x xs y has) as (λ _. Contains (cond (test x) (x ∷ filter test xs) (filter test xs)) y) [
+          | inl same ↦
+              let x_passes : true ≡ test x = sym passes ∙ ap test (sym same) in
+              subst (λ b. Contains (cond b (x ∷ filter test xs) (filter test xs)) y) x_passes
+              (subst (λ z. Contains (z ∷ filter test xs) y) (sym same) (at_head y (filter test xs)))
+          | inr later ↦
+              let kept = kept_by_filter xs y later passes in
+              elim (test x) as (λ b. Contains (cond b (x ∷ filter test xs) (filter test xs))
+              y) [ true ↦ Contains-append_right (x ∷ []) (filter test xs) y kept | false ↦ kept ]
+        ]
+
+    -- what is kept was there, and passes
+    pub was_kept : (xs : List A) (y : A) → Contains (filter test xs) y → Contains xs y × (test y ≡ true)
+    was_kept xs y has = (
+      All-contains (Contains xs) (filter test xs) y (All-filter test (Contains xs) xs (All-contains_itself xs)) has,
+      All-contains (λ z. test z ≡ true) (filter test xs) y (filter_passes test xs) has,
+    )
+
+module _ {A B : Type 0} (f : A → B) where
+  -- what a function gives of an element is among what it gives of them all
+  pub among_mapped : (xs : List A) (y : A) → Contains xs y → Contains (map f xs) (f y)
+  among_mapped [] y has = absurd (omega (arith, has.1))
+  among_mapped (x ∷ xs) y has =
+      elim (first_or_rest x xs y has) as (λ _. Contains (f x ∷ map f xs) (f y)) [
+        | inl same ↦ subst (λ z. Contains (f x ∷ map f xs) (f z)) same (at_head (f x) (map f xs))
+        | inr later ↦ Contains-append_right (f x ∷ []) (map f xs) (f y) (among_mapped xs y later)
+      ]
+
+  -- and what is there is given of some element
+  abbrev GivenBy : List A → B → Type 0
+  GivenBy xs z = (x : A) × (Contains xs x × (f x ≡ z))
+
+  pub given_by : (xs : List A) (z : B) → Contains (map f xs) z → GivenBy xs z
+  given_by xs z has =
+      All-contains (GivenBy xs) (map f xs) z
+      (All-map (GivenBy xs) f xs (all_of (λ x. GivenBy xs (f x)) xs (λ x there. (x, (there, refl))))) has
