@@ -69,20 +69,6 @@ one_more n entries all serials b bs serial given =
     append_assoc serials (serial ∷ []) (serials_in (grown n entries all) bs)
     ∙ ap (λ o. serials ++ cons_option o (serials_in (grown n entries all) bs)) given
 
--- what is claimed of the bindings bs, from fresh bindings and the serials answered so far
-abbrev Ends : ℕ → List (ℕ × Binding) → List Binding → List Binding → List ℕ → Type 0
-Ends n entries bs fresh serials =
-    fold add_one (reached n entries fresh serials) bs
-    ≡ reached n entries (fold (with_new entries) fresh bs)
-    (serials ++ serials_in (grown n entries (fold (with_new entries) fresh bs)) bs)
-
--- the same after the binding b, when `after` are the fresh bindings with it
-abbrev StepEnds : ℕ → List (ℕ × Binding) → Binding → List Binding → Added → List ℕ → List Binding → Type 0
-StepEnds n entries b bs state serials after =
-    fold add_one state bs
-    ≡ reached n entries (fold (with_new entries) after bs)
-    (serials ++ serials_in (grown n entries (fold (with_new entries) after bs)) (b ∷ bs))
-
 -- a new binding gets the serial that comes next
 new_serial : (n : ℕ) (entries : List (ℕ × Binding)) (fresh : List Binding) (b : Binding)
     → None ≡ serial_of (grown n entries fresh) b
@@ -103,45 +89,48 @@ grown_push n entries fresh b =
 abbrev state : List (ℕ × Binding) → ℕ → List ℕ → Added
 state entries next serials = record { entries = entries; next = next; serials = serials }
 
-in_turn_step : (n : ℕ) (entries : List (ℕ × Binding)) (b : Binding) (bs fresh : List Binding) (serials : List ℕ)
+-- a binding is put among the fresh ones where it is not known yet, and gets its serial there
+one_step : (n : ℕ) (entries : List (ℕ × Binding)) (fresh : List Binding) (serials : List ℕ) (b : Binding)
     (o : Option ℕ) → o ≡ serial_of (grown n entries fresh) b
-    → ((later : List Binding) (more : List ℕ) → Ends n entries bs later more)
-    → StepEnds n entries b bs (with_binding o (reached n entries fresh serials) b) serials (with_new entries fresh b)
-in_turn_step n entries b bs fresh serials (Some serial) is rest =
+    → (serial : ℕ) × ((with_binding o (reached n entries fresh serials) b
+    ≡ reached n entries (with_new entries fresh b) (serials ++ serial ∷ []))
+    × (Some serial ≡ serial_of (grown n entries (with_new entries fresh b)) b))
+one_step n entries fresh serials b (Some serial) is =
     let known : is_known entries fresh b ≡ true = sym (known_has_serial n entries fresh b) ∙ ap is_some (sym is) in
-    let after : fresh ≡ with_new entries fresh b = ap (λ t. cond t fresh (fresh ++ b ∷ [])) (sym known) in
-    let all : List Binding = fold (with_new entries) fresh bs in
-    let here : StepEnds n entries b bs (reached n entries fresh (serials ++ serial ∷ [])) serials fresh =
-    rest fresh (serials ++ serial ∷ [])
-    ∙ ap (λ given. reached n entries all given)
-    (one_more n entries all serials b bs serial (serial_stays n entries fresh bs b serial is)) in
-    subst (λ w. StepEnds n entries b bs (reached n entries fresh (serials ++ serial ∷ [])) serials w) after here
-in_turn_step n entries b bs fresh serials None is rest =
+    let after : fresh ≡ with_new entries fresh b = ap (λ t. cond t fresh (fresh ++ b ∷ [])) (sym known) in (
+      serial,
+      (
+        ap (λ now. reached n entries now (serials ++ serial ∷ [])) after,
+        is ∙ ap (λ now. serial_of (grown n entries now) b) after,
+      ),
+    )
+one_step n entries fresh serials b None is =
     let known : is_known entries fresh b ≡ false = sym (known_has_serial n entries fresh b) ∙ ap is_some (sym is) in
     let after : fresh ++ b ∷ [] ≡ with_new entries fresh b = ap (λ t. cond t fresh (fresh ++ b ∷ [])) (sym known) in
-    let all : List Binding = fold (with_new entries) (fresh ++ b ∷ []) bs in
     let serial : ℕ = n + length fresh in
-    let longer : serial + 1 ≡ n + length (fresh ++ b ∷ []) = omega (arith, length-append fresh (b ∷ [])) in
-    let moved : state (grown n entries fresh ++ (serial, b) ∷ []) (serial + 1) (serials ++ serial ∷ [])
-    ≡ reached n entries (fresh ++ b ∷ []) (serials ++ serial ∷ []) =
-    ap (λ es. state es (serial + 1) (serials ++ serial ∷ [])) (grown_push n entries fresh b)
-    ∙ ap (λ k. state (grown n entries (fresh ++ b ∷ [])) k (serials ++ serial ∷ [])) longer in
-    let given : Some serial ≡ serial_of (grown n entries (fresh ++ b ∷ [])) b =
-    new_serial n entries fresh b is ∙ ap (λ es. serial_of es b) (grown_push n entries fresh b) in
-    let here : StepEnds n entries b bs (state (grown n entries fresh ++ (serial, b) ∷ []) (serial + 1)
-    (serials ++ serial ∷ [])) serials (fresh ++ b ∷ []) =
-    ap (λ from. fold add_one from bs) moved
-    ∙ rest (fresh ++ b ∷ []) (serials ++ serial ∷ [])
-    ∙ ap (λ answered. reached n entries all answered)
-    (one_more n entries all serials b bs serial (serial_stays n entries (fresh ++ b ∷ []) bs b serial given)) in
-    subst (λ w. StepEnds n entries b bs (state (grown n entries fresh ++ (serial, b) ∷ []) (serial + 1)
-    (serials ++ serial ∷ [])) serials w) after here
+    let longer : serial + 1 ≡ n + length (fresh ++ b ∷ []) = omega (arith, length-append fresh (b ∷ [])) in (
+      serial,
+      (
+        (λ i. state (grown_push n entries fresh b i) (longer i) (serials ++ serial ∷ []))
+            ∙ ap (λ now. reached n entries now (serials ++ serial ∷ [])) after,
+        new_serial n entries fresh b is ∙ ap (λ es. serial_of es b) (grown_push n entries fresh b)
+            ∙ ap (λ now. serial_of (grown n entries now) b) after,
+      ),
+    )
 
 in_turn_from : (n : ℕ) (entries : List (ℕ × Binding)) (bs fresh : List Binding) (serials : List ℕ)
-    → Ends n entries bs fresh serials
+    → fold add_one (reached n entries fresh serials) bs
+    ≡ reached n entries (fold (with_new entries) fresh bs)
+    (serials ++ serials_in (grown n entries (fold (with_new entries) fresh bs)) bs)
 in_turn_from n entries [] fresh serials = ap (λ all. reached n entries fresh all) (sym (append-nil serials))
 in_turn_from n entries (b ∷ bs) fresh serials =
-    in_turn_step n entries b bs fresh serials (serial_of (grown n entries fresh) b) refl (in_turn_from n entries bs)
+    let (serial, (step, given)) = one_step n entries fresh serials b (serial_of (grown n entries fresh) b) refl in
+    let now : List Binding = with_new entries fresh b in
+    let all : List Binding = fold (with_new entries) now bs in
+    ap (λ from. fold add_one from bs) step
+    ∙ in_turn_from n entries bs now (serials ++ serial ∷ [])
+    ∙ ap (reached n entries all)
+    (one_more n entries all serials b bs serial (serial_stays n entries now bs b serial given))
 
 -- adding one after another gives what adding at once gives
 pub in_turn_at_once : (entries : List (ℕ × Binding)) (next : ℕ) (bindings : List Binding)

@@ -113,7 +113,7 @@ found_by contents question false false None None rising s d a matched unmatched 
 found_by contents question true false None None rising s d a matched unmatched =
     (no_super contents.supers question.principal s, unmatched refl)
 
-pub true_by : (contents : Contents) (question : Question) (b : Bool) (deny allow : Option ℕ) (on found : Bool)
+true_by : (contents : Contents) (question : Question) (b : Bool) (deny allow : Option ℕ) (on found : Bool)
     → IsRising 1 contents.entries contents.next → is_super contents.supers question.principal ≡ b
     → first_serial (hits contents.entries Deny question) ≡ deny
     → first_serial (hits contents.entries Allow question) ≡ allow

@@ -1,10 +1,11 @@
-use Rattle.std.proofs.Common.{◌≡◌, refl, sym, ◌∙◌, ap, subst, false, ◌&&◌, List, ℕ}
+use Rattle.std.proofs.Common.{◌≡◌, sym, ◌∙◌, ap, subst, false, ◌&&◌, List, ℕ}
 use Rattle.kob_authorizer.proofs.Rising.{are_rising}
-use Rattle.kob_authorizer.proofs.Verdicts.{found_super, true_by}
+use Rattle.kob_authorizer.proofs.Verdicts.{found_super, true_verdict}
 use Rattle.kob_authorizer.proofs.authorizer.Authorizer.authorize.Goals as goal
 use Rattle.kob_authorizer.specs.Contents.{IsRising, State}
-use Rattle.kob_authorizer.specs.Decide.{first_serial, hits, is_super, is_unmatched, unless_open, verdict_of}
+use Rattle.kob_authorizer.specs.Decide.{decide, first_serial, hits, is_super, is_unmatched, unless_open, verdict_of}
 use Rattle.kob_authorizer.specs.LookUp.{AreRising}
+use Rattle.kob_authorizer.specs.Meaning.{IsTrueVerdict}
 use Rattle.kob_authorizer.specs.Question.{Question, question_of}
 use Rattle.kob_names.specs.Binding.{Binding}
 use Rattle.kob_names.specs.declared.kinds.Permission.TheVariants.{Allow, Deny}
@@ -32,16 +33,12 @@ returns-else-contains-clause-meaning c =
     let stranger : is_super c.args.self.now.contents.supers c.args.who.now ≡ false = sym told ∙ c.if-contains.false in
     let on : c.self.inside.everyone ≡ c.args.self.now.contents.everyone =
     ap (λ (s : State). s.contents.everyone) c.self.view_is in
-    let verdict : c.verdict.result ≡ unless_open
-    (c.args.self.now.contents.everyone && is_unmatched in_force question)
-    (verdict_of false (first_serial (hits in_force Deny question)) (first_serial (hits in_force Allow question))) =
-    c.verdict.ensures
-    ∙ ap (λ (es : List (ℕ × Binding)). unless_open (c.self.inside.everyone && is_unmatched es question)
-    (verdict_of false (first_serial (hits es Deny question)) (first_serial (hits es Allow question)))) entries
-    ∙ ap (λ on. unless_open (on && is_unmatched in_force question)
-    (verdict_of false (first_serial (hits in_force Deny question)) (first_serial (hits in_force Allow question)))) on in
-    rw verdict
-    (true_by c.args.self.now.contents question false _ _ _ _ rising stranger refl refl refl refl)
+    let verdict : c.verdict.result ≡ decide c.args.self.now.contents question =
+    c.verdict.ensures ∙ (λ i. unless_open (on i && is_unmatched (entries i) question)
+    (verdict_of (sym stranger i) (first_serial (hits (entries i) Deny question))
+    (first_serial (hits (entries i) Allow question)))) in
+    subst (IsTrueVerdict c.args.self.now.contents question) (sym verdict)
+    (true_verdict c.args.self.now.contents question rising)
 
 pub verdict-requires-clause-rising : goal.verdict-requires-clause-rising
 verdict-requires-clause-rising c =
