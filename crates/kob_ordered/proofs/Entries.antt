@@ -1,9 +1,11 @@
 -- What entries are after a change, and that the names of no two are the same.
-use Rattle.std.proofs.Common.{◌≡◌, ℕ, suc, ◌+◌, ◌<◌, Bool, true, false, cond, List, [], ◌∷◌, ◌||◌, Option, Some, None, is_some, length, set, slice_get, refl, ap, subst, ◌∙◌, arith, zero}
+use Rattle.std.proofs.Common.{◌≡◌, ℕ, suc, ◌+◌, ◌<◌, Bool, true, false, cond, List, [], ◌∷◌, Option, Some, None, is_some, length, set, slice_get, refl, ap, subst, ◌∙◌, arith, zero}
 use Rattle.std.specs.Cmp.Lexicographic.{nat_list_eq_equiv}
-use Rattle.std.specs.List.{AllByRecursion, IsDistinct, list_any}
+use Rattle.std.specs.List.{AllByRecursion, IsDistinct}
 use Rattle.std.specs.Map.{keys_of, lookup, remove_entry}
 use Rattle.std.proofs.lemmas.Map.{lookup-remove_entry}
+use Rattle.std.proofs.lemmas.List.Elements.{All-from_recursion, recursion_from_All}
+use Rattle.std.proofs.lemmas.Map.Views.{All-map-remove_entry}
 use Rattle.std.proofs.lemmas.Map.Keys.{IsDistinct-cons, IsDistinct-head, IsDistinct-tail}
 use Rattle.kob_names.specs.Same.{same_text}
 use Rattle.kob_ordered.specs.declared.slot.Slot.{Slot}
@@ -56,13 +58,9 @@ length_removed name (e ∷ es) value found = by (same_text name e.0) found (leng
 
 all_removed : {V : Type 0} (name : List ℕ) (P : List ℕ → Type 0) (es : List (List ℕ × V))
     → AllByRecursion P (keys_of es) → AllByRecursion P (keys_of (remove_entry (same_text name) es))
-all_removed name P [] all = all
-all_removed name P (e ∷ es) all = by (same_text name e.0) (all_removed name P es all.1)
-  where
-    by : (hit : Bool) → AllByRecursion P (keys_of (remove_entry (same_text name) es))
-        → AllByRecursion P (keys_of (cond hit es (e ∷ remove_entry (same_text name) es)))
-    by true rest = all.1
-    by false rest = (all.0, rest)
+all_removed name P es all =
+    recursion_from_All P (keys_of (remove_entry (same_text name) es))
+    (All-map-remove_entry (same_text name) (λ e. e.0) P es (All-from_recursion P (keys_of es) all))
 
 pub distinct_removed : {V : Type 0} (name : List ℕ) (es : List (List ℕ × V)) → IsDistinct same_text (keys_of es)
     → IsDistinct same_text (keys_of (remove_entry (same_text name) es))
@@ -110,15 +108,3 @@ one_place (Entry head x ∷ slots) (suc i) zero name v w distinct here there =
 one_place (Entry head x ∷ slots) (suc i) (suc j) name v w distinct here there =
     ap suc (one_place slots i j name v w
     (IsDistinct-tail same_text head (keys_of (entries_in slots)) distinct) here there)
-
-module _ {V : Type 0} where
-  pub no_key : (es : List (List ℕ × V)) (name : List ℕ) → lookup (same_text name) es ≡ None
-      → list_any (same_text name) (keys_of es) ≡ false
-  no_key [] name none = refl
-  no_key (e ∷ es) name none = by (same_text name e.0) none (no_key es name)
-    where
-      by : (hit : Bool) → cond hit (Some e.1) (lookup (same_text name) es) ≡ None
-          → (lookup (same_text name) es ≡ None → list_any (same_text name) (keys_of es) ≡ false)
-          → (hit || list_any (same_text name) (keys_of es)) ≡ false
-      by true none rest = cc
-      by false none rest = rest none

@@ -5,6 +5,7 @@ use Rattle.std.specs.Map.{lookup}
 use Rattle.std.specs.Ordering.{ordering_index}
 use Rattle.std.specs.declared.cmp.Ordering.{Ordering}
 use Rattle.std.specs.declared.cmp.Ordering.TheVariants.{Equal}
+use Rattle.std.proofs.lemmas.Bool.{cases_lt}
 use Rattle.std.proofs.lemmas.Option.{get_or_from_slice_get, slice_get-get_or, slice_get_within}
 use Rattle.kob_names.specs.Same.{same_text}
 use Rattle.kob_ordered.specs.declared.slot.Slot.{Slot}
@@ -12,7 +13,7 @@ use Rattle.kob_ordered.specs.declared.slot.Slot.TheVariants.{Entry}
 use Rattle.kob_ordered.specs.Slots.{IsAt, IsGap, IsSound, Nth, entries_in, name_order, order_of}
 use Rattle.kob_ordered.proofs.NameOrder.{equal_from_order, not_before_itself, rises, turned}
 use Rattle.kob_ordered.proofs.Places.{stands_in}
-use Rattle.kob_ordered.proofs.Sound.{side, value_at}
+use Rattle.kob_ordered.proofs.Sound.{value_at}
 
 module _ {V : Type 0} (slots : List (Slot V)) (by_name : List ℕ) (name : List ℕ) (sound : IsSound slots by_name) where
   abbrev compared : ℕ → Ordering
@@ -41,7 +42,7 @@ module _ {V : Type 0} (slots : List (Slot V)) (by_name : List ℕ) (name : List 
       by : (n : List ℕ) × (v : V) × Nth slots by_name i n v → (m : List ℕ) × (w : V) × Nth slots by_name j m w
           → ordering_index (compared (get_or by_name i d)) ≤ ordering_index (compared (get_or by_name j d))
       by a b =
-          elim (side i j) [
+          elim (cases_lt i j) [
             | inl before ↦ subst (λ o. ordering_index o ≤ ordering_index (compared (get_or by_name j d)))
                 (sym (compared_at i d a.0 a.1 a.2))
                 (subst (λ o. ordering_index (name_order a.0 name) ≤ ordering_index o)
@@ -71,7 +72,7 @@ module _ {V : Type 0} (slots : List (Slot V)) (by_name : List ℕ) (name : List 
         where
           neither : (k : ℕ) {v : V} → Nth slots by_name k name v → ⊥
           neither k {v} nth =
-              elim (side k i) [
+              elim (cases_lt k i) [
                 | inl lt ↦ not_before_itself name (gap.before k name v lt nth)
                 | inr le ↦ not_before_itself name (gap.after k name v le nth)
               ]

@@ -1,30 +1,25 @@
 -- How each change keeps the places of the entries in order of their names.
-use Rattle.std.proofs.Common.{◌≡◌, ◌⊎◌, ℕ, zero, suc, ◌+◌, ◌<◌, ◌≤◌, Bool, true, false, cond, List, [], ◌∷◌, ◌++◌, Some, None, filter, length, set, slice_get, slice_index_or, refl, sym, ap, subst, ◌∙◌, inl, inr, arith, length-append}
+use Rattle.std.proofs.Common.{◌≡◌, ◌⊎◌, ℕ, zero, suc, ◌+◌, ◌<◌, ◌≤◌, cond, List, [], ◌∷◌, ◌++◌, Some, None, filter, length, set, slice_get, slice_index_or, take, is_some, refl, sym, ap, subst, ◌∙◌, inl, inr, arith, length-append}
 use Rattle.std.specs.Cmp.Lexicographic.{nat_list_eq_equiv}
 use Rattle.std.specs.List.{IsDistinct, insert, remove}
 use Rattle.std.specs.Map.{keys_of, lookup, remove_entry, set_value}
 use Rattle.std.specs.declared.cmp.Ordering.TheVariants.{Less}
 use Rattle.std.proofs.lemmas.Map.{keys-set_value, length-set_value}
 use Rattle.std.proofs.lemmas.Map.Keys.{IsDistinct-push}
-use Rattle.std.proofs.lemmas.List.{get_or_append_left, get_or_push, map-append}
+use Rattle.std.proofs.lemmas.Bool.{cases_lt}
+use Rattle.std.proofs.lemmas.Map.Made.{is_some-lookup}
+use Rattle.std.proofs.lemmas.List.{get_or_append_left, get_or_push, map-append, take_more}
+use Rattle.std.proofs.lemmas.List.Edits.{length-insert, length-remove}
+use Rattle.std.proofs.lemmas.List.Elements.{filter-append}
 use Rattle.std.proofs.lemmas.Option.{get_or_from_slice_get, slice_get-get_or, slice_get_within}
 use Rattle.kob_names.specs.Same.{same_text}
 use Rattle.kob_ordered.specs.declared.slot.Slot.{Slot}
 use Rattle.kob_ordered.specs.declared.slot.Slot.TheVariants.{Entry, Hole}
 use Rattle.kob_ordered.specs.Slots.{IsGap, IsSound, Nth, entries_in, is_entry, name_order, rank}
 use Rattle.kob_ordered.proofs.Edits.{inserted, inserted_here, removed_from, stays, still_there}
-use Rattle.kob_ordered.proofs.Entries.{distinct_removed, hole_at, length_removed, no_key, one_place}
+use Rattle.kob_ordered.proofs.Entries.{distinct_removed, hole_at, length_removed, one_place}
 use Rattle.kob_ordered.proofs.NameOrder.{not_before_itself}
 use Rattle.kob_ordered.proofs.Places.{IsOnly, found_at, holed_at, packed, pushed, pushed_slot, slot_after_write, written_at}
-
-pub side : (k i : ℕ) → (k < i) ⊎ (i ≤ k)
-side k zero = inr (omega arith)
-side zero (suc i) = inl (omega arith)
-side (suc k) (suc i) =
-    elim (side k i) [
-      | inl lt ↦ inl (omega (arith, lt))
-      | inr le ↦ inr (omega (arith, le))
-    ]
 
 module _ {V : Type 0} (slots : List (Slot V)) (by_name : List ℕ) (sound : IsSound slots by_name) where
   pub only_one : (name : List ℕ) (place : ℕ) (value : V) → slice_get slots place ≡ Some (Entry name value)
@@ -48,17 +43,6 @@ module _ {V : Type 0} (slots : List (Slot V)) (by_name : List ℕ) (sound : IsSo
     where
       by : (i < j → ⊥) → (j < i → ⊥) → i ≡ j
       by not_before not_after = omega (arith, not_before, not_after)
-
-length_inserted : (xs : List ℕ) (i x : ℕ) → length (insert xs i x) ≡ length xs + 1
-length_inserted [] zero x = refl
-length_inserted [] (suc i) x = refl
-length_inserted (head ∷ xs) zero x = omega arith
-length_inserted (head ∷ xs) (suc i) x = omega (arith, length_inserted xs i x)
-
-length_taken_out : (xs : List ℕ) (i : ℕ) → i < length xs → length (remove xs i) + 1 ≡ length xs
-length_taken_out [] i lt = absurd (omega (arith, lt))
-length_taken_out (head ∷ xs) zero lt = omega arith
-length_taken_out (head ∷ xs) (suc i) lt = omega (arith, length_taken_out xs i (omega (arith, lt)))
 
 none_twice : IsDistinct same_text []
 unfolding IsDistinct
@@ -189,8 +173,8 @@ module _ {V : Type 0} (slots : List (Slot V)) (by_name : List ℕ) (sound : IsSo
           (subst (IsDistinct same_text)
           (sym (map-append (λ (e : List ℕ × V). e.0) (entries_in slots) ((name, value) ∷ [])))
           (IsDistinct-push nat_list_eq_equiv (keys_of (entries_in slots)) name sound.distinct
-          (no_key (entries_in slots) name absent)));
-      counted = length_inserted by_name i (length slots) ∙ ap (λ n. n + 1) sound.counted
+          (sym (is_some-lookup (same_text name) (entries_in slots)) ∙ ap is_some absent)));
+      counted = length-insert by_name i (length slots) gap.within ∙ ap (λ n. n + 1) sound.counted
           ∙ sym (ap length (pushed slots name value) ∙ length-append (entries_in slots) ((name, value) ∷ []));
     }
 
@@ -305,7 +289,7 @@ module _ {V : Type 0} (slots : List (Slot V)) (by_name : List ℕ) (sound : IsSo
           (distinct_removed name (entries_in slots) sound.distinct);
       counted = omega (
         arith,
-        length_taken_out by_name i (slice_get_within by_name i place at),
+        length-remove by_name i (slice_get_within by_name i place at),
         sound.counted,
         ap length left,
         length_removed name (entries_in slots) value (value_at slots by_name sound name place value there),
@@ -386,36 +370,25 @@ module _ {V : Type 0} where
   came_from (Entry head other ∷ slots) (suc q) n v there =
       let later = came_from slots q n v there in (suc later.0, later.1, ap suc later.2)
 
-  -- one more slot is passed over
-  rank_more : (slots : List (Slot V)) (i : ℕ) (x : Slot V) → slice_get slots i ≡ Some x
-      → rank slots (suc i) ≡ cond (is_entry x) (suc (rank slots i)) (rank slots i)
-  rank_more [] i x there = cc
-  rank_more (Hole ∷ slots) zero x there = let is : x ≡ Hole = cc in ap (λ s. cond (is_entry s) 1 0) (sym is)
-  rank_more (Entry head other ∷ slots) zero x there =
-      let is : x ≡ Entry head other = cc in ap (λ s. cond (is_entry s) 1 0) (sym is)
-  rank_more (Hole ∷ slots) (suc i) x there = rank_more slots i x there
-  rank_more (Entry head other ∷ slots) (suc i) x there = ap suc (rank_more slots i x there) ∙ by (is_entry x)
-    where
-      by : (b : Bool) → suc (cond b (suc (rank slots i)) (rank slots i))
-          ≡ cond b (suc (suc (rank slots i))) (suc (rank slots i))
-      by true = refl
-      by false = refl
-
-one_more : (n : ℕ) → suc n ≡ n + 1
-one_more n = omega arith
-
+-- one more slot is passed over
 pub rank_next : {V : Type 0} (slots : List (Slot V)) (i : ℕ) (x : Slot V) → slice_get slots i ≡ Some x
     → rank slots (i + 1) ≡ cond (is_entry x) (rank slots i + 1) (rank slots i)
-rank_next slots i x there =
-    ap (rank slots) (sym (one_more i)) ∙ rank_more slots i x there
-    ∙ ap (λ n. cond (is_entry x) n (rank slots i)) (one_more (rank slots i))
+rank_next {V} slots i x there =
+    ap (λ xs. length (filter is_entry xs)) (take_more slots i x (slice_get_within slots i x there)
+    ∙ ap (λ y. take i slots ++ y ∷ []) (get_or_from_slice_get slots i x x there))
+    ∙ ap length (filter-append is_entry (take i slots) (x ∷ []))
+    ∙ length-append (filter is_entry (take i slots)) (filter is_entry (x ∷ [])) ∙ by x
+  where
+    by : (x : Slot V) → rank slots i + length (filter is_entry (x ∷ [])) ≡ cond (is_entry x) (rank slots i + 1) (rank slots i)
+    by Hole = omega arith
+    by (Entry name value) = refl
 
 -- one more rank put last
 pub ranked_more : {V : Type 0} (slots : List (Slot V)) (ranks : List ℕ) (i r : ℕ) → length ranks ≡ i
     → r ≡ rank slots i → ((place : ℕ) → place < i → slice_index_or ranks place 0 ≡ rank slots place)
     → (place : ℕ) → place < i + 1 → slice_index_or (ranks ++ r ∷ []) place 0 ≡ rank slots place
 ranked_more slots ranks i r size here before place lt =
-    elim (side place i) [
+    elim (cases_lt place i) [
       | inl lower ↦ get_or_append_left ranks (r ∷ []) 0 place (subst (λ n. place < n) (sym size) lower)
           ∙ before place lower
       | inr past ↦ (let same : place ≡ i = omega (arith, lt, past) in
@@ -426,9 +399,7 @@ pub read_at : (xs : List ℕ) (k p : ℕ) → slice_get xs k ≡ Some p → slic
 read_at xs k p there = get_or_from_slice_get xs k p 0 there
 
 some_at : (xs : List ℕ) (k : ℕ) → k < length xs → (p : ℕ) × (slice_get xs k ≡ Some p)
-some_at [] k lt = absurd (omega (arith, lt))
-some_at (x ∷ xs) zero lt = (x, refl)
-some_at (x ∷ xs) (suc k) lt = some_at xs k (omega (arith, lt))
+some_at xs k lt = (slice_index_or xs k 0, slice_get-get_or xs k 0 lt)
 
 entries_packed : {V : Type 0} (slots : List (Slot V)) → length (entries_in slots) ≡ length (filter is_entry slots)
 entries_packed [] = refl
