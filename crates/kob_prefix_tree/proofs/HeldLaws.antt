@@ -10,8 +10,7 @@
 use Rattle.std.proofs.Common.{◌≡◌, ◌≢◌, ◌⊎◌, inl, inr, arith, ℕ, true, false, cond, List, [], ◌∷◌, ◌++◌, map as each, None, Some, refl, sym, ap, ◌∙◌, subst}
 use Rattle.std.specs.Option.{unwrap_or}
 use Rattle.std.specs.List.{Contains, flat_map}
-use Rattle.std.specs.Ordering.{nat_cmp, is_eq}
-use Rattle.std.specs.Cmp.{tied_itself}
+use Rattle.std.specs.Ordering.{nat_cmp}
 use Rattle.std.specs.Cmp.Lexicographic.{slice_cmp, nat_list_cmp_total}
 use Rattle.std.specs.FinMap as map
 use Rattle.kob_prefix_tree.specs.declared.kind.PatternKind.{PatternKind}
@@ -21,10 +20,10 @@ use Rattle.std.proofs.lemmas.List.Folds.{flat_map-map}
 use Rattle.kob_prefix_tree.specs.Walked.{prefixes, serials_along}
 use Rattle.kob_prefix_tree.specs.PrefixMap.{PrefixMap, held, added, removed, removed_all, walk_of}
 use Rattle.kob_prefix_tree.proofs.WalkLemmas.{prefixes_longer}
-use Rattle.kob_prefix_tree.proofs.MapLemmas.{bytes, same_bytes, is_nothing_true}
+use Rattle.kob_prefix_tree.proofs.MapLemmas.{bytes, bytes_decide, same_bytes, is_nothing_true}
 
 itself : (key : List ℕ) → bytes key key ≡ true
-itself key = ap is_eq (tied_itself nat_list_cmp_total key)
+itself key = (bytes_decide key key).1 refl
 
 apart : (other key : List ℕ) → other ≢ key → bytes other key ≡ false
 apart other key ne =

@@ -2,11 +2,11 @@
 use Rattle.std.proofs.Common.{◌≡◌, ◌≢◌, ℕ, ◌+◌, length, Bool, true, false, cond, List, [], ◌∷◌, ◌++◌, Option, None, Some, refl, sym, ap, ◌∙◌, subst, arith}
 use Rattle.std.proofs.Math.Bool.{true≢false}
 use Rattle.std.proofs.lemmas.Bool.{eqb-true}
+use Rattle.std.proofs.lemmas.Map.Text.{is_eq-slice_cmp}
+use Rattle.std.proofs.lemmas.Slice.Eq.{bytes_eq-Decides}
+use Rattle.std.specs.Bool.{Decides}
 use Rattle.std.specs.Option.{unwrap_or}
-use Rattle.std.specs.declared.cmp.Ordering.{Ordering}
-use Rattle.std.specs.declared.cmp.Ordering.TheVariants.{Less, Equal, Greater}
-use Rattle.std.specs.Ordering.{nat_cmp, eq_by_cmp, is_eq}
-use Rattle.std.specs.Cmp.{tied_itself}
+use Rattle.std.specs.Ordering.{nat_cmp, eq_by_cmp}
 use Rattle.std.specs.Cmp.Lexicographic.{slice_cmp, nat_list_cmp_total}
 use Rattle.std.specs.FinMap as map
 use Rattle.std.specs.FinMap.{find, nat_cmp-IsAntisymmetric, slice_cmp-IsAntisymmetric}
@@ -63,17 +63,14 @@ get_of es key = map.get-from_entries nat_list_cmp_total es key
 pub held_of : (es : Entries) (key : List ℕ) → held (map_of es) key ≡ held_at es key
 held_of es key = ap (λ o. unwrap_or o nothing) (get_of es key)
 
+pub bytes_decide : (x y : List ℕ) → Decides (bytes x y) (x ≡ y)
+bytes_decide x y = subst (λ b. Decides b (x ≡ y)) (sym (is_eq-slice_cmp x y)) (bytes_eq-Decides x y)
+
 pub same_bytes : (x y : List ℕ) → bytes x y ≡ true → x ≡ y
-same_bytes x y e = slice_cmp-IsAntisymmetric nat_cmp-IsAntisymmetric x y (tie (slice_cmp nat_cmp x y) e)
-  where
-    tie : (o : Ordering) → is_eq o ≡ true → o ≡ Equal
-    tie Less e = absurd (true≢false (sym e))
-    tie Equal e = refl
-    tie Greater e = absurd (true≢false (sym e))
+same_bytes x y = (bytes_decide x y).0
 
 other_bytes : (x y : List ℕ) → bytes x y ≡ false → x ≢ y
-other_bytes x y e same =
-    true≢false (sym (ap is_eq (tied_itself nat_list_cmp_total y)) ∙ subst (λ z. bytes z y ≡ false) same e)
+other_bytes x y e same = true≢false (sym ((bytes_decide x y).1 same) ∙ e)
 
 same_map : (es : Entries) (m : PrefixMap) → ((key : List ℕ) → find (slice_cmp nat_cmp) key es ≡ map.get m key)
     → map_of es ≡ m

@@ -1,13 +1,9 @@
 -- Siblings, when one is changed, taken out or put in.
 use Rattle.std.proofs.Common.{◌≡◌, ◌≢◌, ℕ, ◌==◌, true, false, cond, List, [], ◌∷◌, None, Some, refl, sym, ap, ◌∙◌, subst}
 use Rattle.std.proofs.Math.Bool.{true≢false}
-use Rattle.std.proofs.lemmas.Bool.{eqb-true, eq-eqb}
+use Rattle.std.proofs.lemmas.Bool.{eqb-true, eq-eqb, ne_eqb}
 use Rattle.kob_prefix_tree.specs.Trie.{Trie, void, sibling, Contents, bare}
 use Rattle.kob_prefix_tree.specs.Siblings.{siblings, value_at, without, IsNeat}
-
-ne_eqb : (a b : ℕ) → a ≢ b → a == b ≡ false
-ne_eqb a b ne =
-    elim (a == b) as (λ t. a == b ≡ t → t ≡ false) [ true ↦ λ e. absurd (ne (eqb-true a b e)) | false ↦ λ e. refl ] refl
 
 pub differ : (a b : ℕ) → a == b ≡ false → a ≢ b
 differ a b e same = true≢false (sym (eq-eqb a b same) ∙ e)

@@ -34,9 +34,6 @@ child_put byte c t some = elim (is_bare c) as (λ b. is_bare c ≡ b → cond b 
       | false ↦ λ e. refl
     ] refl
 
-pub kept_bare : (tail : List ℕ) (c : Contents) → c ≡ bare → kept_behind tail c ≡ bare
-kept_bare tail c none = ap (kept_behind tail) none
-
 pub kept_some : (tail : List ℕ) (c : Contents) → c ≢ bare → kept_behind tail c ≡ led_by tail c
 kept_some tail c some = elim (is_bare c) as (λ b. is_bare c ≡ b → cond b bare (led_by tail c) ≡ led_by tail c) [
   | true ↦ λ e. absurd (some (bare_when c e))
@@ -58,41 +55,19 @@ held_inside [] key c = refl
 held_inside (x ∷ tail) key c =
     held_inside tail key c ∙ sym (ap (behind_one (held_in (tail ++ key))) (at_first x (led_by tail c) []))
 
+-- one more byte that alone leads on
+one_behind : (x : ℕ) (tail : List ℕ) (d : Contents)
+    → (nothing, with_child x (kept_behind tail d) void) ≡ kept_behind (x ∷ tail) d
+one_behind x tail d =
+    elim (is_bare d) as (λ b. is_bare d ≡ b
+    → (nothing, with_child x (cond b bare (led_by tail d)) void) ≡ cond b bare (led_by (x ∷ tail) d)) [
+      | true ↦ λ e. refl
+      | false ↦ λ e. ap (λ t. (nothing, t)) (child_put x (led_by tail d) void (λ none.
+          let d_bare = sym (ap (λ bytes. led_by bytes d) (tail_of_bare tail d none)) ∙ none in
+          true≢false (sym (ap is_bare d_bare) ∙ e)))
+    ] refl
+
 module _ (f : Held → Held) where
-  -- what is done behind bytes that alone lead on
-  pub through : (tail key : List ℕ) (c d : Contents) → IsNeat (led_by tail c).1 → ChangedAt key f c d
-      → ChangedAt (tail ++ key) f (led_by tail c) (kept_behind tail d)
-  through [] key c d neat done = subst (ChangedAt key f c) (sym (kept_here d)) done
-  through (x ∷ tail) key c d neat done =
-      let inner = through tail key c d neat.1.1.0 done in
-      let t : Trie = (led_by (x ∷ tail) c).1 in
-      let there : value_at x (siblings t) ≡ Some (led_by tail c) = at_first x (led_by tail c) [] in
-      let was : led_by tail c ≡ unwrap_or (value_at x (siblings t)) bare = ap (λ o. unwrap_or o bare) (sym there) in
-      elim (is_bare d) as (λ b. is_bare d ≡ b
-      → ChangedAt (x ∷ (tail ++ key)) f (nothing, t) (cond b bare (led_by (x ∷ tail) d))) [
-        | true ↦ λ e. let none = kept_bare tail d (bare_when d e) in
-            taken_out f x (tail ++ key) nothing t void neat was inner none
-            (sym (ap (λ b. cond b [] ((x, led_by tail c) ∷ [])) (eq-eqb x x refl)))
-        | false ↦ λ e. let some : d ≢ bare = λ none. true≢false (sym (ap is_bare none) ∙ e) in
-            let kept = kept_some tail d some in
-            let inner' = subst (ChangedAt (tail ++ key) f (led_by tail c)) kept inner in
-            let kept_neat : (led_by tail d) ≢ bare = λ none. some (bare_behind tail d none) in
-            stands f x (tail ++ key) nothing t (led_by (x ∷ tail) d).1 neat was inner'
-            (refl, (kept_neat, (inner'.neat, tt)))
-            (at_first x (led_by tail d) [])
-            (λ b ne. at_past b x (led_by tail d) [] (λ same. ne (sym same))
-            ∙ sym (at_past b x (led_by tail c) [] (λ same. ne (sym same))))
-      ] refl
-    where
-      bare_behind : (tail : List ℕ) (d : Contents) → led_by tail d ≡ bare → d ≡ bare
-      bare_behind tail d none = sym (ap (λ bytes. led_by bytes d) (tail_of_bare tail d none)) ∙ none
-
-  -- the same, where something stays
-  pub behind : (tail key : List ℕ) (c d : Contents) → IsNeat (led_by tail c).1 → ChangedAt key f c d → d ≢ bare
-      → ChangedAt (tail ++ key) f (led_by tail c) (led_by tail d)
-  behind tail key c d neat done some =
-      subst (ChangedAt (tail ++ key) f (led_by tail c)) (kept_some tail d some) (through tail key c d neat done)
-
   -- what is done below a byte, whose node was taken out and comes back in front
   below_byte : (byte : ℕ) (rest : List ℕ) (h : Held) (t t' : Trie) (c d : Contents) → IsNeat t
       → value_at byte (siblings t) ≡ Some c → siblings t' ≡ without byte (siblings t)
@@ -118,6 +93,22 @@ module _ (f : Held → Held) where
             (λ b ne. at_past b byte d (siblings t') (λ same. ne (sym same)) ∙ ap (value_at b) is
             ∙ at_without_other byte b (siblings t) ne)
       ] refl
+
+  -- what is done behind bytes that alone lead on
+  pub through : (tail key : List ℕ) (c d : Contents) → IsNeat (led_by tail c).1 → ChangedAt key f c d
+      → ChangedAt (tail ++ key) f (led_by tail c) (kept_behind tail d)
+  through [] key c d neat done = subst (ChangedAt key f c) (sym (kept_here d)) done
+  through (x ∷ tail) key c d neat done =
+      subst (ChangedAt (x ∷ (tail ++ key)) f (led_by (x ∷ tail) c)) (one_behind x tail d)
+      (below_byte x (tail ++ key) nothing (led_by (x ∷ tail) c).1 void (led_by tail c) (kept_behind tail d) neat
+      (at_first x (led_by tail c) []) (sym (ap (λ b. cond b [] ((x, led_by tail c) ∷ [])) (eq-eqb x x refl)))
+      (through tail key c d neat.1.1.0 done))
+
+  -- the same, where something stays
+  pub behind : (tail key : List ℕ) (c d : Contents) → IsNeat (led_by tail c).1 → ChangedAt key f c d → d ≢ bare
+      → ChangedAt (tail ++ key) f (led_by tail c) (led_by tail d)
+  behind tail key c d neat done some =
+      subst (ChangedAt (tail ++ key) f (led_by tail c)) (kept_some tail d some) (through tail key c d neat done)
 
 -- the way goes on by one node
 module _ (tail : List ℕ) (byte : ℕ) (h : Held) (t t' : Trie) {c : Contents} {above above' : Tree Item}
