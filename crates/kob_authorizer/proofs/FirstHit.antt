@@ -16,18 +16,18 @@ first_there [] serial is = cc
 first_there (entry ∷ rest) serial is = let same : entry.0 ≡ serial = cc in (entry, (at_head entry rest, same))
 
 -- in rising order no serial is below where they begin
-at_least : (low high serial : ℕ) (entries : List (ℕ × Binding)) → serial ≤ low → IsRising low entries high
+pub none_below : (low high serial : ℕ) (entries : List (ℕ × Binding)) → serial ≤ low → IsRising low entries high
     → AllByRecursion (λ (other : ℕ × Binding). serial ≤ other.0) entries
-at_least low high serial [] le rising = tt
-at_least low high serial (entry ∷ rest) le rising =
-    (omega (arith, rising.0), at_least (entry.0 + 1) high serial rest (omega (arith, rising.0)) rising.1)
+none_below low high serial [] le rising = tt
+none_below low high serial (entry ∷ rest) le rising =
+    (omega (arith, rising.0), none_below (entry.0 + 1) high serial rest (omega (arith, rising.0)) rising.1)
 
 first_least : (low high serial : ℕ) (entries : List (ℕ × Binding)) → IsRising low entries high
     → first_serial entries ≡ Some serial → AllByRecursion (λ (other : ℕ × Binding). serial ≤ other.0) entries
 first_least low high serial [] rising is = tt
 first_least low high serial (entry ∷ rest) rising is =
     let same : entry.0 ≡ serial = cc in
-    (omega (arith, same), at_least (entry.0 + 1) high serial rest (omega (arith, same)) rising.1)
+    (omega (arith, same), none_below (entry.0 + 1) high serial rest (omega (arith, same)) rising.1)
 
 module _ (test : ℕ × Binding → Bool) (entries : List (ℕ × Binding)) where
   pub none_is : first_serial (filter test entries) ≡ None → (entry : ℕ × Binding) → Contains entries entry

@@ -5,17 +5,18 @@ use Rattle.std.specs.Ordering.{nat_cmp, ordering_index}
 use Rattle.std.proofs.lemmas.Bool.{eq-eqb, eqb-true, ne_eqb}
 use Rattle.std.proofs.lemmas.Bool.Decides.{nat_tests}
 use Rattle.std.proofs.lemmas.Cmp.{ranked}
+use Rattle.std.proofs.lemmas.List.Elements.{All-from_recursion}
 use Rattle.kob_names.specs.Binding.{Binding}
+use Rattle.kob_authorizer.proofs.FirstHit.{none_below}
 use Rattle.kob_authorizer.specs.Contents.{IsRising}
 use Rattle.kob_authorizer.specs.LookUp.{AreRising, entry_at, passes_at}
 
 -- in rising order no serial is below where they begin
 at_least : (low high : ℕ) (entries : List (ℕ × Binding)) (k : ℕ) (d : ℕ × Binding) → IsRising low entries high
     → k < length entries → low ≤ (get_or entries k d).0
-at_least low high [] k d rising below = absurd (omega (arith, below))
-at_least low high (x ∷ xs) zero d rising below = rising.0
-at_least low high (x ∷ xs) (suc k) d rising below =
-    let more = at_least (x.0 + 1) high xs k d rising.1 (omega (arith, below)) in omega (arith, rising.0, more)
+at_least low high entries k d rising below =
+    All-from_recursion (λ (entry : ℕ × Binding). low ≤ entry.0) entries
+    (none_below low high low entries (omega arith) rising) k d below
 
 -- a later serial is not below an earlier one
 in_order : (low high : ℕ) (entries : List (ℕ × Binding)) (i j : ℕ) (d : ℕ × Binding) → IsRising low entries high

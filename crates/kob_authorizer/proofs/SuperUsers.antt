@@ -1,5 +1,6 @@
 -- The tree of the super users' texts holds those that are listed, and no others.
-use Rattle.std.proofs.Common.{◌≡◌, refl, ap, ◌∙◌, Bool, true, false, not, ◌||◌, ◌==◌, ℕ, List, [], ◌∷◌, ◌++◌, length, arith}
+use Rattle.std.proofs.Math.Bool.{or-false, or-true, or_assoc}
+use Rattle.std.proofs.Common.{◌≡◌, sym, refl, ap, ◌∙◌, true, false, not, ◌||◌, ◌==◌, ℕ, List, [], ◌∷◌, ◌++◌, length, arith}
 use Rattle.std.specs.List.{fold}
 use Rattle.std.specs.FinMap as map
 use Rattle.std.proofs.lemmas.Bool.{ne_eqb}
@@ -17,18 +18,6 @@ one_more : (xs : List ℕ) (x : ℕ) → not (length (xs ++ x ∷ []) == 0) ≡ 
 one_more [] x = refl
 one_more (y ∷ xs) x = ap not (ne_eqb (length (y ∷ xs ++ x ∷ [])) 0 (λ none. absurd (omega (arith, none))))
 
-or_true : (b : Bool) → true ≡ (b || true)
-or_true true = refl
-or_true false = refl
-
-or_false : (b : Bool) → b ≡ (b || false)
-or_false true = refl
-or_false false = refl
-
-or_assoc : (a b c : Bool) → ((a || b) || c) ≡ (a || (b || c))
-or_assoc true b c = refl
-or_assoc false b c = refl
-
 -- one more user's text is held
 text_added : (texts : PrefixMap) (user text : List ℕ)
     → holds_text (with_text texts user) text ≡ (holds_text texts text || same_text text user)
@@ -39,16 +28,16 @@ text_added texts user text =
           ap (holds_text (with_text texts user)) ((bytes_eq-Decides text user).0 is)
           ∙ ap (λ (h : Held). not (length h.0 == 0)) (held_added_same texts user Literal 0)
           ∙ one_more (held texts user).0 0
-          ∙ or_true (holds_text texts text)
+          ∙ sym (or-true (holds_text texts text))
       | false ↦ λ is.
           ap (λ (h : Held). not (length h.0 == 0))
           (held_added_other texts user Literal 0 text (λ same. let equal = (bytes_eq-Decides text user).1 same in cc))
-          ∙ or_false (holds_text texts text)
+          ∙ sym (or-false (holds_text texts text))
     ] refl
 
 texts_hold_beside : (texts : PrefixMap) (users : List (List ℕ)) (text : List ℕ)
     → holds_text (fold with_text texts users) text ≡ (holds_text texts text || is_super users text)
-texts_hold_beside texts [] text = or_false (holds_text texts text)
+texts_hold_beside texts [] text = sym (or-false (holds_text texts text))
 texts_hold_beside texts (user ∷ users) text =
     texts_hold_beside (with_text texts user) users text
     ∙ ap (λ b. b || is_super users text) (text_added texts user text)

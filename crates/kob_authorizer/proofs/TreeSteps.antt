@@ -1,6 +1,7 @@
 -- What a serial that comes or goes does to the serials that a tree holds.
 use Rattle.std.proofs.Common.{◌≡◌, ◌≢◌, refl, sym, ap, ◌∙◌, subst, arith, Bool, true, false, cond, ◌&&◌, ◌==◌, ℕ, ◌+◌, ◌≤◌, List, [], ◌∷◌, ◌++◌, map, append-nil}
 use Rattle.std.specs.List.{filter, list_any}
+use Rattle.std.proofs.Math.Bool.{and-false, and-true}
 use Rattle.std.proofs.lemmas.Bool.{eq-eqb, ne_eqb}
 use Rattle.std.proofs.lemmas.List.{map-append}
 use Rattle.std.proofs.lemmas.List.Elements.{filter-append}
@@ -43,14 +44,6 @@ without_serials Literal s h Prefixed = refl
 without_serials Prefixed s h Literal = refl
 without_serials Prefixed s h Prefixed = refl
 
-and_true : (b : Bool) → b ≡ (b && true)
-and_true true = refl
-and_true false = refl
-
-and_false : (b : Bool) → false ≡ (b && false)
-and_false true = refl
-and_false false = refl
-
 -- keys that differ in the test differ
 pub apart : (key other : List ℕ) → same_text key other ≡ false → other ≢ key
 apart key other differ same = let equal = (bytes_eq-Decides key other).1 (sym same) in cc
@@ -69,9 +62,9 @@ module _ (change : List ℕ → List ℕ) (m now : PrefixMap) (key : List ℕ) (
       elim (same_text key name) as (λ b. same_text key name ≡ b
       → serials_of other (held now name) ≡ changed (same_kind kind other && b) name) [
         | true ↦ λ is. subst (λ k. serials_of other (held now k) ≡ changed (same_kind kind other && true) k)
-            ((bytes_eq-Decides key name).0 is) (at other ∙ ap (λ b. changed b key) (and_true (same_kind kind other)))
+            ((bytes_eq-Decides key name).0 is) (at other ∙ ap (λ b. changed b key) (sym (and-true (same_kind kind other))))
         | false ↦ λ is. ap (serials_of other) (elsewhere name (apart key name is))
-            ∙ ap (λ b. changed b name) (and_false (same_kind kind other))
+            ∙ ap (λ b. changed b name) (sym (and-false (same_kind kind other)))
       ] refl
 
 module _ (m : PrefixMap) (key : List ℕ) (kind : PatternKind) (s : ℕ) where

@@ -17,6 +17,7 @@ ghost use Rattle.kob_names.specs.declared.verdict.Verdict.{Verdict};
 /// serial of all that hit, an allow is named only where no deny hits, and no allow is said to be
 /// there only where neither hits, and where a binding matches the resource if what none matches is
 /// open to everyone. It is said to be open only where none does.
+#[tactic(auto, using(crate::proofs::Verdicts::true_verdict))]
 pub fn verdicts_are_true()
     ensures { (contents : Contents) (question : Question)
         → IsRising 1 contents.entries contents.next
@@ -26,6 +27,7 @@ pub fn verdicts_are_true()
 }
 
 /// What a verdict says is so for no other: of two that are true each is the other.
+#[tactic(auto, using(crate::proofs::OneVerdict::only_one))]
 pub fn a_true_verdict_is_the_only_one()
     ensures { (contents : Contents) (question : Question) (one other : Verdict)
         → IsTrueVerdict contents question one → IsTrueVerdict contents question other
@@ -35,6 +37,7 @@ pub fn a_true_verdict_is_the_only_one()
 }
 
 /// Where nothing is open to everyone, super users and bindings alone decide.
+#[tactic(auto, using(crate::proofs::Verdicts::by_bindings))]
 pub fn bindings_decide_where_nothing_is_open()
     ensures { (contents : Contents) (question : Question) → contents.everyone ≡ false
         → decide contents question
@@ -45,6 +48,7 @@ pub fn bindings_decide_where_nothing_is_open()
 
 /// Where what no binding matches is open to everyone, one who is no super user and of whom no
 /// binding speaks is granted exactly what no binding matches, whomever it speaks of.
+#[tactic(auto, using(crate::proofs::Verdicts::granted_unmatched))]
 pub fn everyone_is_granted_what_no_binding_matches()
     ensures { (contents : Contents) (question : Question) → IsTrue contents.everyone
         → ¬ Contains contents.supers question.principal
@@ -57,6 +61,7 @@ pub fn everyone_is_granted_what_no_binding_matches()
 
 /// After a creation each binding of the call is in force, under the serial that was answered for
 /// it.
+#[tactic(auto, using(crate::proofs::InForce::created_in_force))]
 pub fn created_bindings_are_in_force()
     ensures { (entries : List (ℕ × Binding)) (next : ℕ) (bindings : List Binding)
         → AreInForce (addition entries next bindings).entries bindings
@@ -66,6 +71,7 @@ pub fn created_bindings_are_in_force()
 }
 
 /// A creation leaves what was in force, and gives no serial that was given before.
+#[tactic(auto, using(crate::proofs::InTurn::only_adds))]
 pub fn creations_only_add()
     ensures { (entries : List (ℕ × Binding)) (next : ℕ) (bindings : List Binding)
         → OnlyAdds entries next (addition entries next bindings) }
@@ -74,6 +80,7 @@ pub fn creations_only_add()
 }
 
 /// Creations and deletions keep the serials rising and below the next one.
+#[tactic(auto, using(crate::proofs::InTurn::added_rises, crate::proofs::Rising::removed_rises))]
 pub fn serials_keep_rising()
     ensures created { (entries : List (ℕ × Binding)) (next : ℕ) (bindings : List Binding)
         → IsRising 1 entries next
@@ -87,6 +94,7 @@ pub fn serials_keep_rising()
 }
 
 /// Where no two bindings in force are equal, none are after a creation or a deletion.
+#[tactic(auto, using(crate::proofs::Distinct::added_distinct, crate::proofs::Distinct::removed_distinct))]
 pub fn bindings_stay_distinct()
     ensures created { (entries : List (ℕ × Binding)) (next : ℕ) (bindings : List Binding)
         → AreDistinct entries
