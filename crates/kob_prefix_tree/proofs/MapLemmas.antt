@@ -2,6 +2,7 @@
 use Rattle.std.proofs.Common.{◌≡◌, ◌≢◌, ℕ, ◌+◌, length, Bool, true, false, cond, List, [], ◌∷◌, ◌++◌, Option, None, Some, refl, sym, ap, ◌∙◌, subst, arith}
 use Rattle.std.proofs.Math.Bool.{true≢false}
 use Rattle.std.proofs.lemmas.Bool.{eqb-true}
+use Rattle.std.proofs.lemmas.List.{nil_from_length}
 use Rattle.std.proofs.lemmas.Map.Text.{is_eq-slice_cmp}
 use Rattle.std.proofs.lemmas.Slice.Eq.{bytes_eq-Decides}
 use Rattle.std.specs.Bool.{Decides}
@@ -23,18 +24,10 @@ bytes x y = eq_by_cmp (slice_cmp nat_cmp) x y
 abbrev kept : Held → Option Held
 kept held = cond (is_nothing held) None (Some held)
 
-no_length : (xs : List ℕ) (n : ℕ) → length xs + n ≡ 0 → xs ≡ []
-no_length [] n e = refl
-no_length (x ∷ xs) n e = absurd (omega arith)
-
-no_length_right : (n : ℕ) (xs : List ℕ) → n + length xs ≡ 0 → xs ≡ []
-no_length_right n [] e = refl
-no_length_right n (x ∷ xs) e = absurd (omega arith)
-
 pub is_nothing_true : (h : Held) → is_nothing h ≡ true → h ≡ nothing
 is_nothing_true h e =
     let sum : length h.0 + length h.1 ≡ 0 = eqb-true (length h.0 + length h.1) 0 e in
-    λ i. (no_length h.0 (length h.1) sum i, no_length_right (length h.0) h.1 sum i)
+    λ i. (nil_from_length h.0 (omega (arith, sum)) i, nil_from_length h.1 (omega (arith, sum)) i)
 
 pub something : (h : Held) → h ≢ nothing → is_nothing h ≡ false
 something h some = elim (is_nothing h) as (λ b. is_nothing h ≡ b → b ≡ false)

@@ -1,6 +1,6 @@
 -- How many bytes a tail and a key have in common at their beginning, and what stands behind them.
 use Rattle.std.proofs.Common.{◌≡◌, ◌≢◌, ◌<◌, ◌≤◌, ◌+◌, ℕ, suc, false, List, [], ◌∷◌, ◌++◌, take, drop, length, refl, sym, ap, ◌∙◌, subst, arith}
-use Rattle.std.proofs.lemmas.List.{length-drop, take-append-drop, take_all}
+use Rattle.std.proofs.lemmas.List.{length-drop, nil_from_length, take-append-drop, take_all}
 use Rattle.kob_prefix_tree.specs.declared.branch.Branch.{Branch}
 use Rattle.kob_prefix_tree.specs.declared.kind.PatternKind.{PatternKind}
 use Rattle.kob_prefix_tree.specs.Held.{Held, nothing, has_serials, without_serials}
@@ -97,11 +97,7 @@ module _ (count : ℕ) (rest : List ℕ) (here : Branch) (end : EndsAt count res
   -- the key ends with the bytes of the branch
   at_end : length rest ≡ 0 → count ≡ length here.tail → key ≡ here.tail ++ []
   at_end none all =
-      (λ i. take_all count here.tail (omega arith) i ++ no_bytes rest none i)
-    where
-      no_bytes : (bytes : List ℕ) → length bytes ≡ 0 → bytes ≡ []
-      no_bytes [] e = refl
-      no_bytes (x ∷ bytes) e = absurd (omega arith)
+      (λ i. take_all count here.tail (omega arith) i ++ nil_from_length rest none i)
 
   pub held_at_end : length rest ≡ 0 → count ≡ length here.tail → held_in key (contents here) ≡ (end_of here).0
   held_at_end none all =

@@ -66,7 +66,7 @@ impl Tail {
         self.start == 0
     }
 
-    pub(crate) fn first(&self) -> Option<u8>
+    fn first(&self) -> Option<u8>
         ensures { MatchOption result
             (self.now ≡ [])
             (λ byte. self.now ≡ byte ∷ drop 1 self.now) }
