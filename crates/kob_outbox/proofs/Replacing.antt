@@ -30,10 +30,11 @@ use Rattle.kob_outbox.specs.Tables.{business_table, service_schema}
 use Rattle.kob_outbox.proofs.statements.Steps.{IsAlone, Tried, uncounted, task_on, tried, put, updated, candidate, cast_int, cast_null}
 use Rattle.kob_outbox.proofs.statements.Values.{not_true}
 use Rattle.kob_outbox.proofs.statements.Writing.{wrote}
+use Rattle.kob_outbox.proofs.statements.Selecting.{program_of, query_of}
 use Rattle.kob_outbox.proofs.States.{Placed, has_key_of, key, over, same_key}
 use Rattle.kob_outbox.proofs.Recording.{changing_holds}
 use Rattle.kob_outbox.proofs.Upserting.{NoneHas, added, changed, conflict_is, fresh, given, in_map, next_placed, pick, picked, put_last, put_over, to_map}
-use Rattle.kob_outbox.proofs.Texts.{business_there, new_business, over_business, put_business_text, put_business_is, put_business_plain}
+use Rattle.kob_outbox.proofs.Texts.{business_there, new_business, over_business, put_business_text, replace_business}
 
 alone : IsAlone service_schema Enforced business_tree
 alone olds news = refl
@@ -101,22 +102,22 @@ module _ (limit : Option ℕ) (b : Business) (db : Trees) (states : States)
     abbrev new_row : Row
     new_row = Int (pos t.0) ∷ Int (pos t.0) ∷ Text t.1.kind ∷ Text t.1.id ∷ Text b.state ∷ []
 
-    answer_there : (rows : List Row) → IsAnswer business_there (overlay db []) (given b t here row.0) rows
+    answer_there : (rows : List Row) → IsAnswer (query_of business_there) (overlay db []) (given b t here row.0) rows
         → rows ≡ new_row ∷ []
     answer_there rows a =
         let staged : a.staged ≡ (given b t here row.0 ∷ placed_row t ∷ []) ∷ [] =
         a.grouped ∙ ap (flat_map (pick b t here row.0)) has.rows_are ∙ picked b t here row.0 1 has.placed has.rising h in
         let o : Output = ([], new_row) in
-        let kept : a.kept ≡ o ∷ [] = a.distinct ∙ ap (map (output business_there)) staged in
+        let kept : a.kept ≡ o ∷ [] = a.distinct ∙ ap (map (output (query_of business_there))) staged in
         let ordered = one_permutation o a.ordered (subst (λ k. IsPermutation k a.ordered) kept a.same) in
         a.shown ∙ ap (map (λ (p : Output). p.1)) ordered
 
     resolves : (one : Written)
-        → Updates task (record { lets = []; body = business_there }) (given b t here row.0) db (Ok one) → Done one.trees
+        → Updates task (program_of business_there) (given b t here row.0) db (Ok one) → Done one.trees
     resolves one does =
         let it =
         updated limit Enforced service_schema business_table params alone
-        (record { lets = []; body = business_there }) (given b t here row.0) db one does in
+        (program_of business_there) (given b t here row.0) db one does in
         let applies = it.2 in
         let answer = answer_there it.0 (it.1.answer Null) in
         let same = same_key (key t.1) (key b) here in
@@ -156,7 +157,7 @@ module _ (limit : Option ℕ) (b : Business) (db : Trees) (states : States)
   meets one (x ∷ more) conf h =
       let t = there x more conf in
       resolves t.0 t.1 t.2 one
-      (subst (λ x. Updates task (record { lets = []; body = business_there })
+      (subst (λ x. Updates task (program_of business_there)
       (params ++ rowid x ∷ shown (uncounted business_table) (placed_row row)) db (Ok one)) t.3 h)
 
   decided : (one : Written) (verdict : Option Refusal) → IsJudged (uncounted business_table) (placed_row row) verdict
@@ -187,9 +188,7 @@ replaces old new b (Ok count) state was limit h =
     let db = old.now.trees in
     let holds = was.holds in
     let it =
-    wrote put_business_text (Text b.kind ∷ Text b.id ∷ Text b.state ∷ []) old new service_schema was.schema _
-    put_business_is put_business_plain 0 business_table refl (λ limit mode params db text p does. does)
-    (λ text count ran. ran) count h.0 in
+    wrote replace_business (Text b.kind ∷ Text b.id ∷ Text b.state ∷ []) old new was.schema count h.0 in
     let done = written old.step_limit b db c.business holds.business state it.written it.does in
     let trees = it.written.trees in
     let more : Holds (with_state c (key b) b.state) trees = record {

@@ -180,12 +180,12 @@ no_more kind id p (x ∷ ps) is apart = elim (cases_Bool (has_key kind id x.1)) 
   | inr other ↦ rw other (no_more kind id p ps is apart.1)
 ]
 
-pub one_at_most : (kind id : List ℕ) (ps : List Placed) → AreApart ps
+pub one_has_key : (kind id : List ℕ) (ps : List Placed) → AreApart ps
     → length (filter (λ (p : Placed). has_key kind id p.1) ps) ≤ 1
-one_at_most kind id [] apart = omega arith
-one_at_most kind id (p ∷ ps) apart = elim (cases_Bool (has_key kind id p.1)) [
+one_has_key kind id [] apart = omega arith
+one_has_key kind id (p ∷ ps) apart = elim (cases_Bool (has_key kind id p.1)) [
   | inl is ↦ rw (is, no_more kind id p ps is apart.0) (omega arith)
-  | inr other ↦ rw other (one_at_most kind id ps apart.1)
+  | inr other ↦ rw other (one_has_key kind id ps apart.1)
 ]
 
 tied_as : (kind id : List ℕ) (x : Business) → eq_by_cmp key_cmp (kind, id) (key x) ≡ has_key kind id x

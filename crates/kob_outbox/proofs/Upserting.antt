@@ -171,7 +171,7 @@ module _ (b : Business) where
         Text b.kind ∷ Text b.id ∷ Text b.state ∷ Int (pos t.0) ∷ Int (pos n) ∷ Text b.kind ∷ Text b.id ∷ Text b.state ∷ []
 
     abbrev pub pick : ℕ → Row → List Env
-    pick n r = if list_all (holds (given n ∷ r ∷ [])) business_there.filter then (given n ∷ r ∷ []) ∷ [] else []
+    pick n r = if list_all (holds (given n ∷ r ∷ [])) business_there.conditions then (given n ∷ r ∷ []) ∷ [] else []
 
     picked_none : (n low : ℕ) (ps : List Placed) → t.0 < low → IsRisingFrom low ps
         → flat_map (pick n) (map placed_row ps) ≡ []

@@ -1,5 +1,5 @@
 -- Answers whose order is known.
-use Rattle.std.proofs.Common.{◌≡◌, ◌≤◌, List, [], ◌∷◌, ◌++◌, length, flat_map, map, refl, ap, arith, IsPermutation}
+use Rattle.std.proofs.Common.{◌≡◌, ◌≤◌, List, [], ◌∷◌, ◌++◌, length, refl, arith, IsPermutation}
 use Rattle.std.proofs.lemmas.List.Sorted.{length_permutation, IsPermutation-trans, IsPermutation-sym, IsPermutation-refl, IsPermutation-cons, IsPermutation-to_front}
 use Rattle.sqlite.proofs.Callers.{one_permutation}
 use Rattle.sqlite.specs.Tree.{IsAscending}
@@ -31,8 +31,3 @@ ascending_back R (x ∷ xs) up =
     ascending-append R (backwards xs) (x ∷ []) (ascending_back R xs up.1) (tt, tt)
     (all-permutation _ xs (backwards xs) (turned xs)
     (all_weaker (λ y. R y x) (λ y. R y x × Unit {0}) (λ y h. (h, tt)) xs up.0))
-
--- a query without a condition takes each row
-pub each_row : {A B : Type 0} (f : A → B) (rows : List A) → flat_map (λ r. f r ∷ []) rows ≡ map f rows
-each_row f [] = refl
-each_row f (r ∷ rows) = ap (λ more. f r ∷ more) (each_row f rows)

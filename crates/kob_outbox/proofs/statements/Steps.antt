@@ -1,5 +1,5 @@
 -- What a write does to the trees, where no foreign key and no AUTOINCREMENT is about.
-use Rattle.std.proofs.Common.{◌≡◌, inl, inr, ℕ, ℤ, List, [], ◌∷◌, ◌++◌, length, Bool, true, false, cond, None, Option, Ok, refl, sym, ap, subst, ◌∙◌}
+use Rattle.std.proofs.Common.{◌≡◌, ◌≢◌, inl, inr, ℕ, ℤ, List, [], ◌∷◌, ◌++◌, length, Bool, true, false, cond, None, Option, Ok, refl, sym, ap, subst, ◌∙◌}
 use Rattle.sqlite.specs.declared.types.Value.{Value}
 use Rattle.sqlite.specs.declared.types.Value.TheVariants.{Null, Int}
 use Rattle.sqlite.specs.Order.{Row}
@@ -20,6 +20,7 @@ use Rattle.sqlite_rules.specs.Action.{works}
 use Rattle.sqlite_rules.specs.Calls.{ids_of}
 use Rattle.sqlite.specs.Effect.{Answers, IsSource}
 use Rattle.sqlite.specs.Rows.{Task, Written, Inserts, InsertsOr, Puts, Deletes, Updates, Edited, Judged, last_id, mended, Then, Counter, Counts, TriesEach, Gives, count_of, nothing}
+use Rattle.std.specs.List.{AllByRecursion}
 use Rattle.std.specs.Option.{option_or}
 use Rattle.sqlite.specs.Effect.{value_rows}
 use Rattle.sqlite.specs.Term.{Term}
@@ -51,6 +52,10 @@ uncounted table = record table { is_counted = false; stamps = record { places = 
 abbrev pub task_on : Option ℕ → Keys → Schema → Table → Row → Task
 task_on limit keys schema table params =
     record { limit = limit; keys = keys; schema = schema; table = uncounted table; params = params }
+
+-- each of these tables but the one in this tree has the rows that it had
+abbrev pub KeepOthers : ℕ → Trees → Trees → List Table → Type 0
+KeepOthers tree db next tables = AllByRecursion (λ t. t.tree ≢ tree → next t.tree ≡ db t.tree) tables
 
 abbrev pub IsAlone : Schema → Keys → ℕ → Type 0
 IsAlone schema keys tree = (olds news : List Row) → works schema keys 0 tree olds news ≡ []

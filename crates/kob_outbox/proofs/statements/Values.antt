@@ -1,5 +1,5 @@
 -- How numbers and texts compare in SQL.
-use Rattle.std.proofs.Common.{◌⊎◌, inl, inr, ◌≡◌, ℕ, pos, ◌<◌, ◌^◌, nat_lt, nat_le, bytes_eq, Bool, true, false, ◌||◌, List, refl, sym, ap, ◌∙◌, arith, Less, Equal, Greater, is_eq}
+use Rattle.std.proofs.Common.{◌⊎◌, inl, inr, ◌≡◌, ℕ, pos, ◌<◌, ◌^◌, nat_lt, nat_le, bytes_eq, Bool, true, false, ◌||◌, ◌&&◌, List, refl, sym, ap, ◌∙◌, arith, Less, Equal, Greater, is_eq}
 use Rattle.std.specs.Ordering.{nat_cmp, int_cmp, is_gt, is_le}
 use Rattle.std.specs.Cmp.{nat_cmp_is}
 use Rattle.std.proofs.lemmas.Map.Text.{is_eq-slice_cmp}
@@ -82,6 +82,18 @@ pub fits : (n : ℕ) → n < 2 ^ 63 → fits_i64 (pos n) ≡ true
 fits n low = grind (arith, low)
 
 -- ---- tests
+
+pub and_true : (b : Bool) → (b && true) ≡ b
+and_true true = refl
+and_true false = refl
+
+-- one test alone
+pub alone_test : (b : Bool) → ((b && true) || false) ≡ b
+alone_test true = refl
+alone_test false = refl
+
+pub and_and_true : (a b : Bool) → (a && (b && true)) ≡ (a && b)
+and_and_true a b = ap (λ c. a && c) (and_true b)
 
 pub or_left : (a b : Bool) → a ≡ true → (a || b) ≡ true
 or_left true b h = refl

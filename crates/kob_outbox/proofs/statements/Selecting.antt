@@ -1,0 +1,112 @@
+-- A SELECT over one table: what its text means, and what it answers and leaves.
+use Rattle.std.proofs.Common.{◌≡◌, ℕ, List, [], ◌∷◌, length, true, false, None, Result, pos, negsuc, refl}
+use Rattle.std.specs.Prelude.{Vec, IfOk, IfErr}
+use Rattle.std.specs.declared.alloc.Global.{Global}
+use Rattle.sqlite.specs.declared.types.Value.TheVariants.{Null, Int}
+use Rattle.sqlite_value.specs.declared.keys.Key.{Key}
+use Rattle.sqlite.specs.Collation.TheVariants.{Binary}
+use Rattle.sqlite.specs.Command.TheVariants.{Select}
+use Rattle.sqlite.specs.declared.error.Error.{Error}
+use Rattle.sqlite.specs.Held.{Held}
+use Rattle.sqlite.specs.Listing.{understood, reads_listing}
+use Rattle.sqlite.specs.Order.{Row}
+use Rattle.sqlite.specs.Program.{overlay}
+use Rattle.sqlite.specs.Query.{Query, IsAnswer, inner, end}
+use Rattle.sqlite.specs.Schema.{Schema}
+use Rattle.sqlite.specs.State.{HasCleanDisk, Shown, FailsToQuery}
+use Rattle.sqlite.specs.Term.{Term, lit, col}
+use Rattle.sqlite.specs.Tree.{Trees}
+use Rattle.sqlite.proofs.Callers.{IsPlain, command_of, memory_is_clean, reads_as}
+use Rattle.sqlite_schema.specs.declared.program.Program.{Program}
+use Rattle.sqlite_trees.specs.declared.memory.MemStore.{MemStore}
+use Rattle.sqlite_typing.specs.Types.{accepts_program}
+use Rattle.kob_outbox.specs.Blank.{IsAtRest}
+use Rattle.kob_outbox.specs.Service.{database}
+use Rattle.kob_outbox.proofs.statements.Failing.{IsMemory, IsWhole, for_memory, no_sum}
+use Rattle.kob_outbox.proofs.statements.Plain.{all_stays, if_err, if_ok, rests}
+
+-- a query over one table
+pub record Scan : Type 0 where
+  pub tree : ℕ
+  pub conditions : List Term
+  pub shown : List Term
+  pub order : List (Term × Key)
+  pub limit : Term
+
+abbrev pub over : ℕ → List Term → List Term → List (Term × Key) → Term → Scan
+over tree conditions shown order limit =
+    record { tree = tree; conditions = conditions; shown = shown; order = order; limit = limit }
+
+abbrev pub query_of : Scan → Query
+query_of s = record {
+  from = inner s.tree end;
+  filter = s.conditions;
+  group = None;
+  project = s.shown;
+  distinct = false;
+  collations = [];
+  order = s.order;
+  limit = s.limit;
+  offset = lit (Int (pos 0));
+}
+
+abbrev pub program_of : Scan → Program
+program_of s = record { lets = []; body = query_of s }
+
+-- all rows
+abbrev pub no_limit : Term
+no_limit = lit (Int (negsuc 0))
+
+-- by the table's key
+abbrev pub by_key : List (Term × Key)
+by_key = (col 1 0, record { collation = Binary; descending = false }) ∷ []
+
+-- by the table's key, the greatest first
+abbrev pub by_key_back : List (Term × Key)
+by_key_back = (col 1 0, record { collation = Binary; descending = true }) ∷ []
+
+-- the text is this query over one table, and takes these parameters
+pub record IsSelect (schema : Schema) (text : List ℕ) (params : Row) (s : Scan) : Type 0 where
+  pub names : List (List ℕ)
+  pub is : command_of (understood schema text) ≡ Select (program_of s) names
+  pub unlisted : reads_listing schema text ≡ false
+  pub plain : IsPlain (understood schema text)
+  pub whole : IsWhole (length params) text (understood schema text)
+  pub accepted : accepts_program schema [] (query_of s) params ≡ true
+
+-- what a query answers and leaves
+pub record Queried (tables : Schema) (Rows : Trees → Type 0) (old new : Held MemStore) (Answer : List Row → Type 0)
+    (r : Result (Vec Row Global) Error) : Type 0 where
+  pub rows : IfOk r (λ rows. Answer rows.items)
+  pub memory : IfErr r IsMemory
+  pub rests : IsAtRest tables Rows (database new)
+  pub same : (database new).now ≡ (database old).now
+
+pub queried : {schema : Schema} {Rows : Trees → Type 0} {text : List ℕ} {params : Row} {s : Scan}
+    → IsSelect schema text params s → (old new : Held MemStore) (r : Result (Vec Row Global) Error)
+    (Answer : List Row → Type 0) → IsAtRest schema Rows (database old)
+    → (database new).step_limit ≡ (database old).step_limit
+    → ((rows : List Row) → IsAnswer (query_of s) (overlay (database old).now.trees []) params rows → Answer rows)
+    → (HasCleanDisk (database new) → IfOk r (λ rows. Shown text params (database old) (database new) rows.items))
+    → (HasCleanDisk (database new) → IfErr r (FailsToQuery text params (database old) (database new)))
+    → Queried schema Rows old new Answer r
+queried {schema} {Rows} {text} {params} {s} is old new r Answer has limit answers ok err =
+    let clean = memory_is_clean new in
+    let from = database old in
+    let to = database new in
+    let stays =
+    all_stays text params from to schema has.schema is.plain has.settled has.idle refl r (ok clean) (err clean) in
+    record {
+      rows =
+          if_ok r (λ rows h. answers rows.items
+          ((reads_as text params from to schema has.schema _ is.is is.plain is.unlisted rows.items h).answer Null))
+          (ok clean);
+      memory =
+          if_err r (for_memory from to
+          (record { unlimited = has.unlimited; is_open = refl; faults = (refl, refl) }) text params schema has.schema
+          is.plain is.whole (query_of s) is.names is.is is.unlisted is.accepted
+          (no_sum (query_of s) s.tree (refl, refl) params))
+          (err clean);
+      rests = rests from to has limit stays;
+      same = stays.now;
+    }
