@@ -1,18 +1,8 @@
 -- What adding an id to those that are spent does.
 use Rattle.std.proofs.Common.{◌≡◌, ℕ, suc, ◌<◌, ◌^◌, pos, List, [], ◌∷◌, length, bytes_eq, true, Option, None, Ok, Err, refl, arith}
-use Rattle.sqlite.specs.declared.types.Value.TheVariants.{Null, Int, Text}
-use Rattle.sqlite.specs.declared.error.Error.{Error}
-use Rattle.sqlite.specs.Cast.{cast_row}
+use Rattle.kob_outbox.proofs.statements.Words.{EndsScope, Enforced, Error, Executes, Ignore, Int, Null, Row, State, Text, Trees, Values, accepts_terms, cast_row, conflicts}
 use Rattle.sqlite.specs.Listing.{understood}
-use Rattle.sqlite.specs.Order.{Row}
-use Rattle.sqlite.specs.Tree.{Trees}
-use Rattle.sqlite.specs.Source.TheVariants.{Values}
-use Rattle.sqlite.specs.State.{State, EndsScope, Executes}
-use Rattle.sqlite_rules.specs.Keys.{conflicts}
-use Rattle.sqlite_schema.specs.declared.schema.Keys.TheVariants.{Enforced}
-use Rattle.sqlite_schema.specs.declared.command.Conflict.TheVariants.{Ignore}
 use Rattle.sqlite_tied.specs.Compute.{everything}
-use Rattle.sqlite_typing.specs.Types.{accepts_terms}
 use Rattle.sqlite_value.specs.Keys.{first_key}
 use Rattle.kob_outbox.specs.Layout.{spent_row, spent_rows, spent_tree}
 use Rattle.kob_outbox.specs.Recording.{is_recorded}

@@ -1,15 +1,6 @@
 -- What the fixed texts mean.
-use Rattle.std.proofs.Common.{true, ◌≡◌, ℕ, List, [], ◌∷◌, codes, refl, pos, Some, arith}
-use Rattle.sqlite.specs.Collation.TheVariants.{Binary}
-use Rattle.sqlite_sql.specs.declared.ops.BinaryOp.TheVariants.{Compare}
-use Rattle.sqlite_sql.specs.declared.ops.CompareOp.TheVariants.{Eq, Gt, Le}
-use Rattle.sqlite_schema.specs.declared.command.Conflict.TheVariants.{Abort, Ignore}
-use Rattle.sqlite_schema.specs.declared.command.Upsert.{Upsert}
-use Rattle.sqlite.specs.declared.types.Value.TheVariants.{Null, Int, Text}
-use Rattle.sqlite.specs.Command.{Command}
-use Rattle.sqlite.specs.Command.TheVariants.{Insert, InsertOr, Update, Delete}
-use Rattle.sqlite.specs.Source.TheVariants.{Values}
-use Rattle.sqlite.specs.Term.{Term, lit, col, op2}
+use Rattle.std.proofs.Common.{ℕ, List, [], ◌∷◌, codes, refl, pos, Some, arith}
+use Rattle.kob_outbox.proofs.statements.Words.{Abort, Binary, Command, Compare, Delete, Eq, Gt, Ignore, Insert, InsertOr, Int, Le, Null, Term, Text, Update, Upsert, Values, col, lit, op2}
 use Rattle.sqlite_tied.specs.Compute.{everything}
 use Rattle.sqlite.specs.Listing.{understood}
 use Rattle.kob_outbox.specs.Tables.{business, business_table, mark, mark_table, no_schema, one_table, outbox, outbox_table, service_schema, spent, spent_table, three_tables, two_tables}
@@ -48,14 +39,8 @@ all_marks = over 4 [] (col 1 2 ∷ []) [] no_limit
 
 pub select_mark : IsSelect service_schema (codes "SELECT upto FROM mark") [] all_marks
 unfolding understood everything
-select_mark = record {
-  names = codes "upto" ∷ [];
-  is = refl;
-  unlisted = refl;
-  plain = (refl, refl);
-  whole = (omega arith, refl);
-  accepted = refl;
-}
+select_mark =
+    record { is = (_, refl); unlisted = refl; plain = (refl, refl); whole = (omega arith, refl); accepted = refl }
 
 abbrev pub first_mark : List Term
 first_mark = lit (Int (pos 1)) ∷ lit Null ∷ lit (Int (pos 0)) ∷ []
@@ -66,13 +51,8 @@ first_mark_text = codes "INSERT INTO mark (one, upto) VALUES (1, 0)"
 pub insert_mark : IsWriting service_schema first_mark_text
     (Insert 2 (Values first_mark 3)) 2 mark_table
 unfolding understood everything
-insert_mark = record {
-  is = refl;
-  plain = (refl, refl);
-  found = refl;
-  on = λ limit mode params db text p does. does;
-  runs = λ old new text params count ran. ran;
-}
+insert_mark =
+    record { is = refl; plain = (refl, refl); found = refl; on = λ l m p d t r it. it; runs = λ o n t p c it. it }
 
 abbrev pub moved_marks : Scan
 moved_marks = over 4 [] (col 1 0 ∷ col 1 0 ∷ lit Null ∷ col 0 0 ∷ []) [] no_limit
@@ -83,13 +63,8 @@ move_mark_text = codes "UPDATE mark SET upto = ?1"
 pub update_mark : IsWriting service_schema move_mark_text
     (Update 2 (program_of moved_marks)) 2 mark_table
 unfolding understood everything
-update_mark = record {
-  is = refl;
-  plain = (refl, refl);
-  found = refl;
-  on = λ limit mode params db text p does. does;
-  runs = λ old new text params count ran. ran;
-}
+update_mark =
+    record { is = refl; plain = (refl, refl); found = refl; on = λ l m p d t r it. it; runs = λ o n t p c it. it }
 
 -- ---- the ids that were recorded
 
@@ -104,13 +79,8 @@ spending = InsertOr 1 Ignore (Values new_spent 3) []
 
 pub insert_spent : IsWriting service_schema spend_text spending 1 spent_table
 unfolding understood everything
-insert_spent = record {
-  is = refl;
-  plain = (refl, refl);
-  found = refl;
-  on = λ limit mode params db text p does. does;
-  runs = λ old new text params count ran. ran;
-}
+insert_spent =
+    record { is = refl; plain = (refl, refl); found = refl; on = λ l m p d t r it. it; runs = λ o n t p c it. it }
 
 -- the last number that was given
 abbrev pub last_spent : Scan
@@ -118,14 +88,8 @@ last_spent = over 2 [] (col 1 2 ∷ []) by_key_back (lit (Int (pos 1)))
 
 pub select_last : IsSelect service_schema (codes "SELECT seq FROM spent ORDER BY rowid DESC LIMIT 1") [] last_spent
 unfolding understood everything
-select_last = record {
-  names = codes "seq" ∷ [];
-  is = refl;
-  unlisted = refl;
-  plain = (refl, refl);
-  whole = (omega arith, refl);
-  accepted = refl;
-}
+select_last =
+    record { is = (_, refl); unlisted = refl; plain = (refl, refl); whole = (omega arith, refl); accepted = refl }
 
 -- ---- the business rows
 
@@ -152,13 +116,8 @@ put_business_text =
 pub replace_business : IsWriting service_schema put_business_text
     (InsertOr 0 Abort (Values new_business 4) (over_business ∷ [])) 0 business_table
 unfolding understood everything
-replace_business = record {
-  is = refl;
-  plain = (refl, refl);
-  found = refl;
-  on = λ limit mode params db text p does. does;
-  runs = λ old new text params count ran. ran;
-}
+replace_business =
+    record { is = refl; plain = (refl, refl); found = refl; on = λ l m p d t r it. it; runs = λ o n t p c it. it }
 
 abbrev pub business_found : Scan
 business_found =
@@ -168,14 +127,8 @@ business_found =
 pub select_business : (kind id : List ℕ) → IsSelect service_schema
     (codes "SELECT state FROM business WHERE kind = ?1 AND id = ?2") (Text kind ∷ Text id ∷ []) business_found
 unfolding understood everything
-select_business kind id = record {
-  names = codes "state" ∷ [];
-  is = refl;
-  unlisted = refl;
-  plain = (refl, refl);
-  whole = (omega arith, refl);
-  accepted = refl;
-}
+select_business kind id =
+    record { is = (_, refl); unlisted = refl; plain = (refl, refl); whole = (omega arith, refl); accepted = refl }
 
 -- ---- the events
 
@@ -188,13 +141,8 @@ new_event = col 0 0 ∷ lit Null ∷ col 0 1 ∷ col 0 2 ∷ col 0 3 ∷ col 0 4
 
 pub insert_event : IsWriting service_schema put_event_text (Insert 3 (Values new_event 7)) 3 outbox_table
 unfolding understood everything
-insert_event = record {
-  is = refl;
-  plain = (refl, refl);
-  found = refl;
-  on = λ limit mode params db text p does. does;
-  runs = λ old new text params count ran. ran;
-}
+insert_event =
+    record { is = refl; plain = (refl, refl); found = refl; on = λ l m p d t r it. it; runs = λ o n t p c it. it }
 
 abbrev pub events_after : Scan
 events_after =
@@ -205,15 +153,8 @@ pub select_after : (seq limit : ℕ) → IsSelect service_schema
     (codes "SELECT seq, id, aggregatetype, aggregateid, type, payload FROM outbox WHERE seq > ?1 ORDER BY seq LIMIT ?2")
     (Int (pos seq) ∷ Int (pos limit) ∷ []) events_after
 unfolding understood everything
-select_after seq limit = record {
-  names =
-      codes "seq" ∷ codes "id" ∷ codes "aggregatetype" ∷ codes "aggregateid" ∷ codes "type" ∷ codes "payload" ∷ [];
-  is = refl;
-  unlisted = refl;
-  plain = (refl, refl);
-  whole = (omega arith, refl);
-  accepted = refl;
-}
+select_after seq limit =
+    record { is = (_, refl); unlisted = refl; plain = (refl, refl); whole = (omega arith, refl); accepted = refl }
 
 -- those that a sweep takes out
 abbrev pub events_upto : Scan
@@ -222,14 +163,8 @@ events_upto = over 5 (op2 (Compare Le Binary) (col 1 0) (col 0 0) ∷ []) (col 1
 pub select_sent : (upto : ℕ) → IsSelect service_schema (codes "SELECT seq FROM outbox WHERE seq <= ?1")
     (Int (pos upto) ∷ []) events_upto
 unfolding understood everything
-select_sent upto = record {
-  names = codes "seq" ∷ [];
-  is = refl;
-  unlisted = refl;
-  plain = (refl, refl);
-  whole = (omega arith, refl);
-  accepted = refl;
-}
+select_sent upto =
+    record { is = (_, refl); unlisted = refl; plain = (refl, refl); whole = (omega arith, refl); accepted = refl }
 
 abbrev pub sweep_text : List ℕ
 sweep_text = codes "DELETE FROM outbox WHERE seq <= ?1"
@@ -237,10 +172,5 @@ sweep_text = codes "DELETE FROM outbox WHERE seq <= ?1"
 pub delete_sent : IsWriting service_schema sweep_text
     (Delete 3 (program_of events_upto)) 3 outbox_table
 unfolding understood everything
-delete_sent = record {
-  is = refl;
-  plain = (refl, refl);
-  found = refl;
-  on = λ limit mode params db text p does. does;
-  runs = λ old new text params count ran. ran;
-}
+delete_sent =
+    record { is = refl; plain = (refl, refl); found = refl; on = λ l m p d t r it. it; runs = λ o n t p c it. it }

@@ -11,4 +11,5 @@ pub mod Selecting
 pub mod Steps
 pub mod Taking
 pub mod Values
+pub mod Words
 pub mod Writing

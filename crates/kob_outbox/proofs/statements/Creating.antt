@@ -1,21 +1,7 @@
 -- What CREATE TABLE makes of a database whose tables are empty.
 use Rattle.std.proofs.Common.{◌≡◌, ℕ, List, [], ◌∷◌, ◌++◌, false, None, Ok, Err, Result, OnOk, sym, ap, subst, ◌∙◌, if◌then◌else◌}
 use Rattle.std.specs.List.{AllByRecursion}
-use Rattle.sqlite.specs.Schema.{Schema}
-use Rattle.sqlite.specs.Table.{Table}
-use Rattle.sqlite.specs.Tree.{Trees}
-use Rattle.sqlite.specs.Command.TheVariants.{CreateTable}
-use Rattle.sqlite.specs.declared.error.Error.{Error}
-use Rattle.sqlite.specs.Compile.{table_defined_by}
-use Rattle.sqlite.specs.Change.{created, next_tree}
-use Rattle.sqlite_catalog.specs.Change.{KeepsRows}
-use Rattle.sqlite.specs.Does.{Tally, lacks_sequence}
-use Rattle.sqlite.specs.Effect.{Database}
-use Rattle.sqlite.specs.Listing.{understood}
-use Rattle.sqlite.specs.Held.{Held}
-use Rattle.sqlite.specs.State.{State, HasCleanDisk, Writes, Executes}
-use Rattle.sqlite.proofs.Callers.{IsPlain, command_of, memory_is_clean, statement_of, runs_as}
-use Rattle.sqlite_trees.specs.declared.memory.MemStore.{MemStore}
+use Rattle.kob_outbox.proofs.statements.Words.{CreateTable, Database, Error, Executes, HasCleanDisk, Held, IsPlain, KeepsRows, MemStore, Schema, State, Table, Tally, Trees, Writes, command_of, created, lacks_sequence, memory_is_clean, next_tree, runs_as, statement_of, table_defined_by, understood}
 use Rattle.kob_outbox.specs.Blank.{IsBlank}
 use Rattle.kob_outbox.specs.Service.{database}
 use Rattle.kob_outbox.proofs.statements.Plain.{went, same_value}

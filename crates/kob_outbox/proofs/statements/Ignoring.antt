@@ -2,40 +2,7 @@
 use Rattle.std.proofs.Common.{ℤ, ◌≡◌, inl, inr, ℕ, suc, ◌<◌, ◌^◌, pos, List, [], ◌∷◌, ◌++◌, length, map, Bool, true, false, None, Some, Option, Ok, Err, refl, sym, ap, subst, ◌∙◌, arith, if◌then◌else◌}
 use Rattle.std.specs.Prelude.{◌/◌}
 use Rattle.std.specs.List.{AllByRecursion, enumerate_from, list_any}
-use Rattle.sqlite.specs.Order.{Row}
-use Rattle.sqlite.specs.Tree.{Trees, put_row}
-use Rattle.sqlite.specs.Table.{Table}
-use Rattle.sqlite.specs.Schema.{Schema}
-use Rattle.sqlite.specs.Term.{Term}
-use Rattle.sqlite.specs.Command.{Command}
-use Rattle.sqlite.specs.Command.TheVariants.{InsertOr}
-use Rattle.sqlite.specs.Cast.{cast_row}
-use Rattle.sqlite.specs.Listing.{understood}
-use Rattle.sqlite.specs.declared.types.Value.TheVariants.{Int}
-use Rattle.sqlite.specs.Source.TheVariants.{Values}
-use Rattle.sqlite_schema.specs.declared.command.Source.{Source}
-use Rattle.sqlite.specs.State.{Escapes, Executes, IsMisplaced, State, mode_of}
-use Rattle.sqlite.specs.Effect.{Database, value_rows}
-use Rattle.sqlite.specs.Rows.{Outcome, Task, Written, Clears, Judged, InsertsOr, Sourced, Tries, TriesEach, count_of, nothing}
-use Rattle.sqlite.specs.Does.{AtPlace, Concludes, OnRows, OnTable}
-use Rattle.sqlite.specs.declared.error.Error.{Error}
-use Rattle.sqlite.specs.declared.run.Mode.{Mode}
-use Rattle.sqlite_schema.specs.declared.command.Conflict.TheVariants.{Ignore}
-use Rattle.sqlite_schema.specs.declared.schema.Among.{Among}
-use Rattle.sqlite_schema.specs.declared.schema.Keys.{Keys}
-use Rattle.sqlite_schema.specs.declared.schema.Keys.TheVariants.{Enforced}
-use Rattle.sqlite_schema.specs.declared.schema.Constraint.TheVariants.{Datatype, NotNull, Check, PrimaryKey, Unique, ForeignKey}
-use Rattle.sqlite_schema.specs.Rules.{Refers}
-use Rattle.sqlite_rules.specs.declared.error.Refusal.{Refusal}
-use Rattle.sqlite_rules.specs.declared.error.Refusal.TheVariants.{Violates, Mismatch, NoRowid, BadReference, TooDeep}
-use Rattle.sqlite_rules.specs.declared.error.Rowids.TheVariants.{Given}
-use Rattle.sqlite_rules.specs.Lists.{Has}
-use Rattle.sqlite_rules.specs.Edit.{edit_of, edited, id_in}
-use Rattle.sqlite_rules.specs.Keys.{AreConflicts, conflicts}
-use Rattle.sqlite_rules.specs.Steps.{IsJudged}
-use Rattle.sqlite_sql.specs.Ops.{fits_i64}
-use Rattle.sqlite_typing.specs.Types.{accepts_terms}
-use Rattle.sqlite_trees.specs.Tree.{rowid}
+use Rattle.kob_outbox.proofs.statements.Words.{Among, AreConflicts, AtPlace, BadReference, Check, Clears, Command, Concludes, Database, Datatype, Enforced, Error, Escapes, Executes, ForeignKey, Given, Has, Ignore, InsertOr, InsertsOr, Int, IsJudged, IsMisplaced, Judged, Keys, Mismatch, Mode, NoRowid, NotNull, OnRows, OnTable, Outcome, PrimaryKey, Refers, Refusal, Row, Schema, Source, Sourced, State, Table, Task, Term, TooDeep, Trees, Tries, TriesEach, Unique, Values, Violates, Written, accepts_terms, cast_row, conflicts, count_of, edit_of, edited, fits_i64, id_in, mode_of, nothing, put_row, rowid, understood, value_rows}
 use Rattle.kob_outbox.proofs.statements.Failing.{IsMemory, IsWhole, NeverFails, for_memory_or}
 use Rattle.kob_outbox.proofs.statements.Numbered.{at_row, put_last, row_of}
 use Rattle.kob_outbox.proofs.statements.Plain.{same_value}

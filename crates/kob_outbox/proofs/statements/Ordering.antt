@@ -1,10 +1,7 @@
 -- Answers whose order is known.
 use Rattle.std.proofs.Common.{◌≡◌, ◌≤◌, List, [], ◌∷◌, ◌++◌, length, refl, arith, IsPermutation}
 use Rattle.std.proofs.lemmas.List.Sorted.{length_permutation, IsPermutation-trans, IsPermutation-sym, IsPermutation-refl, IsPermutation-cons, IsPermutation-to_front}
-use Rattle.sqlite.proofs.Callers.{one_permutation}
-use Rattle.sqlite.specs.Tree.{IsAscending}
-use Rattle.sqlite_keyed.proofs.ListLemmas.{all_weaker, ascending-append}
-use Rattle.sqlite_trees.proofs.ListLemmas.{all-permutation}
+use Rattle.kob_outbox.proofs.statements.Words.{IsAscending, all-permutation, all_weaker, ascending-append, one_permutation}
 
 -- the permutations of a list of one element at most
 pub alone_order : {X : Type 0} (xs ys : List X) → length xs ≤ 1 → IsPermutation xs ys → ys ≡ xs

@@ -4,14 +4,7 @@ use Rattle.std.proofs.lemmas.Bool.{cases_Bool}
 use Rattle.std.proofs.lemmas.List.{length-map}
 use Rattle.std.proofs.lemmas.List.Sorted.{IsPermutation-trans, IsPermutation-sym}
 use Rattle.std.specs.List.{list_all}
-use Rattle.sqlite.specs.Order.{Row}
-use Rattle.sqlite.specs.Program.{overlay}
-use Rattle.sqlite.specs.Query.{Query, IsAnswer, Output, output, output_cmp, page}
-use Rattle.sqlite.specs.Tree.{Trees, IsAscending}
-use Rattle.sqlite_sql.proofs.QueryLemmas.{output_cmp_total}
-use Rattle.sqlite_sql.specs.Term.{Env, holds}
-use Rattle.sqlite_keyed.proofs.SortLemmas.{sorted_unique}
-use Rattle.sqlite_keyed.proofs.ListLemmas.{map-map, ascending-map, ascending_weaker}
+use Rattle.kob_outbox.proofs.statements.Words.{Env, IsAnswer, IsAscending, Output, Query, Row, Trees, ascending-map, ascending_weaker, holds, map-map, output, output_cmp, output_cmp_total, overlay, page, sorted_unique}
 use Rattle.kob_outbox.proofs.statements.Ordering.{alone_order, ascending_back, backwards, turned}
 use Rattle.kob_outbox.proofs.statements.Selecting.{Scan, query_of}
 

@@ -1,9 +1,7 @@
 -- A row that is put after all others.
 use Rattle.std.proofs.Common.{◌≡◌, ℕ, ◌<◌, pos, List, [], ◌∷◌, ◌++◌, map, refl, ap}
 use Rattle.std.specs.List.{AllByRecursion}
-use Rattle.sqlite.specs.declared.types.Value.TheVariants.{Int}
-use Rattle.sqlite.specs.Order.{Row}
-use Rattle.sqlite.specs.Tree.{put_row, rowid}
+use Rattle.kob_outbox.proofs.statements.Words.{Int, Row, put_row, rowid}
 use Rattle.kob_outbox.proofs.statements.Values.{number_below}
 
 -- the rows of things that bear a number each, the table's key

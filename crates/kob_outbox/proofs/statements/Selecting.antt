@@ -2,24 +2,7 @@
 use Rattle.std.proofs.Common.{◌≡◌, ℕ, List, [], ◌∷◌, length, true, false, None, Result, pos, negsuc, refl}
 use Rattle.std.specs.Prelude.{Vec, IfOk, IfErr}
 use Rattle.std.specs.declared.alloc.Global.{Global}
-use Rattle.sqlite.specs.declared.types.Value.TheVariants.{Null, Int}
-use Rattle.sqlite_value.specs.declared.keys.Key.{Key}
-use Rattle.sqlite.specs.Collation.TheVariants.{Binary}
-use Rattle.sqlite.specs.Command.TheVariants.{Select}
-use Rattle.sqlite.specs.declared.error.Error.{Error}
-use Rattle.sqlite.specs.Held.{Held}
-use Rattle.sqlite.specs.Listing.{understood, reads_listing}
-use Rattle.sqlite.specs.Order.{Row}
-use Rattle.sqlite.specs.Program.{overlay}
-use Rattle.sqlite.specs.Query.{Query, IsAnswer, inner, end}
-use Rattle.sqlite.specs.Schema.{Schema}
-use Rattle.sqlite.specs.State.{HasCleanDisk, Shown, FailsToQuery}
-use Rattle.sqlite.specs.Term.{Term, lit, col}
-use Rattle.sqlite.specs.Tree.{Trees}
-use Rattle.sqlite.proofs.Callers.{IsPlain, command_of, memory_is_clean, reads_as}
-use Rattle.sqlite_schema.specs.declared.program.Program.{Program}
-use Rattle.sqlite_trees.specs.declared.memory.MemStore.{MemStore}
-use Rattle.sqlite_typing.specs.Types.{accepts_program}
+use Rattle.kob_outbox.proofs.statements.Words.{Binary, Error, FailsToQuery, HasCleanDisk, Held, Int, IsAnswer, IsPlain, Key, MemStore, Null, Program, Query, Row, Schema, Select, Shown, Term, Trees, accepts_program, col, command_of, end, inner, lit, memory_is_clean, overlay, reads_as, reads_listing, understood}
 use Rattle.kob_outbox.specs.Blank.{IsAtRest}
 use Rattle.kob_outbox.specs.Service.{database}
 use Rattle.kob_outbox.proofs.statements.Failing.{IsMemory, IsWhole, for_memory, no_sum}
@@ -67,8 +50,7 @@ by_key_back = (col 1 0, record { collation = Binary; descending = true }) ∷ []
 
 -- the text is this query over one table, and takes these parameters
 pub record IsSelect (schema : Schema) (text : List ℕ) (params : Row) (s : Scan) : Type 0 where
-  pub names : List (List ℕ)
-  pub is : command_of (understood schema text) ≡ Select (program_of s) names
+  pub is : (names : List (List ℕ)) × (command_of (understood schema text) ≡ Select (program_of s) names)
   pub unlisted : reads_listing schema text ≡ false
   pub plain : IsPlain (understood schema text)
   pub whole : IsWhole (length params) text (understood schema text)
@@ -99,12 +81,12 @@ queried {schema} {Rows} {text} {params} {s} is old new r Answer has limit answer
     record {
       rows =
           if_ok r (λ rows h. answers rows.items
-          ((reads_as text params from to schema has.schema _ is.is is.plain is.unlisted rows.items h).answer Null))
+          ((reads_as text params from to schema has.schema _ is.is.1 is.plain is.unlisted rows.items h).answer Null))
           (ok clean);
       memory =
           if_err r (for_memory from to
           (record { unlimited = has.unlimited; is_open = refl; faults = (refl, refl) }) text params schema has.schema
-          is.plain is.whole (query_of s) is.names is.is is.unlisted is.accepted
+          is.plain is.whole (query_of s) is.is.0 is.is.1 is.unlisted is.accepted
           (no_sum (query_of s) s.tree (refl, refl) params))
           (err clean);
       rests = rests from to has limit stays;

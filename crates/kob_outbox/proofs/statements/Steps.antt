@@ -1,36 +1,10 @@
 -- What a write does to the trees, where no foreign key and no AUTOINCREMENT is about.
 use Rattle.std.proofs.Common.{◌≡◌, ◌≢◌, inl, inr, ℕ, ℤ, List, [], ◌∷◌, ◌++◌, length, Bool, true, false, cond, None, Option, Ok, refl, sym, ap, subst, ◌∙◌}
-use Rattle.sqlite.specs.declared.types.Value.{Value}
-use Rattle.sqlite.specs.declared.types.Value.TheVariants.{Null, Int}
-use Rattle.sqlite.specs.Order.{Row}
-use Rattle.sqlite.specs.Tree.{Trees}
-use Rattle.sqlite.specs.Kind.TheVariants.{Integer}
-use Rattle.sqlite.specs.Table.{Table}
-use Rattle.sqlite.specs.Schema.{Schema}
-use Rattle.sqlite_schema.specs.declared.schema.Keys.{Keys}
+use Rattle.kob_outbox.proofs.statements.Words.{Answers, Applies, Chosen, Conflict, Counter, Counts, Deletes, Edit, Edited, Given, Gives, Inserts, InsertsOr, Int, Integer, IsJudged, IsSource, Judged, Keys, Null, Program, Puts, Refusal, Row, Schema, Source, Table, Task, Term, Then, Trees, TriesEach, Updates, Upsert, Value, Values, Written, cast, cast_row, count_of, edit_of, ids_of, last_id, mended, nothing, one_step, taken_by, value_rows, with_rowid, works}
 use Rattle.sqlite.specs.Ops.{unary}
-use Rattle.sqlite.specs.Cast.{cast}
-use Rattle.sqlite_schema.specs.declared.command.Source.{Source}
-use Rattle.sqlite_schema.specs.declared.program.Program.{Program}
-use Rattle.sqlite_schema.specs.declared.command.Conflict.{Conflict}
-use Rattle.sqlite_schema.specs.declared.command.Upsert.{Upsert}
-use Rattle.sqlite_rules.specs.declared.error.Rowids.TheVariants.{Chosen, Given}
-use Rattle.sqlite_rules.specs.Edit.{Edit, edit_of, Applies, taken_by}
-use Rattle.sqlite_rules.specs.Action.{works}
-use Rattle.sqlite_rules.specs.Calls.{ids_of}
-use Rattle.sqlite.specs.Effect.{Answers, IsSource}
-use Rattle.sqlite.specs.Rows.{Task, Written, Inserts, InsertsOr, Puts, Deletes, Updates, Edited, Judged, last_id, mended, Then, Counter, Counts, TriesEach, Gives, count_of, nothing}
 use Rattle.std.specs.List.{AllByRecursion}
 use Rattle.std.specs.Option.{option_or}
-use Rattle.sqlite.specs.Effect.{value_rows}
-use Rattle.sqlite.specs.Term.{Term}
-use Rattle.sqlite.specs.Cast.{cast_row}
-use Rattle.sqlite.specs.Source.TheVariants.{Values}
-use Rattle.sqlite_rules.specs.declared.error.Refusal.{Refusal}
-use Rattle.sqlite_rules.specs.Edit.{with_rowid}
-use Rattle.sqlite_rules.specs.Steps.{IsJudged}
 use Rattle.std.specs.Prelude.{◌/◌}
-use Rattle.sqlite.proofs.Callers.{one_step}
 use Rattle.kob_outbox.proofs.statements.Plain.{went, same_value}
 
 either : (b : Bool) (x : Value) → cond b x x ≡ x

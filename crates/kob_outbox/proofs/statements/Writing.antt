@@ -1,24 +1,7 @@
 -- From a statement's text to the rows that it writes.
 use Rattle.std.proofs.Common.{◌≡◌, ℕ, List, [], ◌∷◌, ◌++◌, length, slice_get, if◌then◌else◌, Some, None, Option, Ok, sym, ap, subst, ◌∙◌}
 use Rattle.std.specs.Prelude.{◌/◌, unwrap_or}
-use Rattle.sqlite.specs.Order.{Row}
-use Rattle.sqlite.specs.Table.{Table}
-use Rattle.sqlite.specs.Schema.{Schema}
-use Rattle.sqlite_schema.specs.declared.schema.Keys.TheVariants.{Enforced}
-use Rattle.sqlite.specs.Command.{Command}
-use Rattle.sqlite.specs.Does.{Tally, Does, OnTable, OnRows, WritesRows, AtPlace}
-use Rattle.sqlite.specs.Effect.{Database, value_rows}
-use Rattle.sqlite.specs.Command.TheVariants.{Insert}
-use Rattle.sqlite.specs.Source.TheVariants.{Values}
-use Rattle.sqlite.specs.Term.{Term}
-use Rattle.sqlite.specs.Tree.{Trees, put_row}
-use Rattle.sqlite_rules.specs.Edit.{edit_of, edited}
-use Rattle.sqlite_rules.specs.declared.error.Rowids.TheVariants.{Chosen}
-use Rattle.sqlite.specs.Rows.{Written}
-use Rattle.sqlite.specs.declared.run.Mode.{Mode}
-use Rattle.sqlite.specs.Listing.{understood}
-use Rattle.sqlite.specs.State.{State, mode_of, Executes, Writes, Runs}
-use Rattle.sqlite.proofs.Callers.{IsPlain, command_of, statement_of, runs_as}
+use Rattle.kob_outbox.proofs.statements.Words.{AtPlace, Chosen, Command, Database, Does, Enforced, Executes, Insert, IsPlain, Mode, OnRows, OnTable, Row, Runs, Schema, State, Table, Tally, Term, Trees, Values, Writes, WritesRows, Written, command_of, edit_of, edited, mode_of, put_row, runs_as, statement_of, understood, value_rows}
 use Rattle.kob_outbox.proofs.statements.Plain.{went, same_value}
 use Rattle.kob_outbox.proofs.statements.Steps.{IsAlone, KeepOthers, inserted, uncounted, task_on}
 
@@ -103,7 +86,8 @@ pub puts_one : {schema : Schema} {text : List ℕ} {terms : List Term} {width at
     → IsWriting schema text (Insert at (Values terms width)) at table → IsAlone schema Enforced table.tree
     → (params row : Row) (old new : State) → old.now.schema ≡ schema
     → (edit_of old.now.trees (uncounted table) [] Chosen 0
-    (value_rows (params ++ []) width (length terms / width) terms)).news ≡ row ∷ [] → (count : ℕ) → Executes text params old new (Ok count) → Put schema table row old new
+    (value_rows (params ++ []) width (length terms / width) terms)).news ≡ row ∷ []
+    → (count : ℕ) → Executes text params old new (Ok count) → Put schema table row old new
 puts_one {schema} {text} {terms} {width} {at} {table} write alone params row old new has news count h =
     let db = old.now.trees in
     let it = wrote write params old new has count h in

@@ -1,6 +1,6 @@
 use Rattle.std.proofs.Common.{string_bytes}
 use Rattle.std.proofs.lemmas.Str.{IsUtf8-string_bytes}
-use Rattle.sqlite.proofs.Callers.{memory_is_clean}
+use Rattle.kob_outbox.proofs.statements.Words.{memory_is_clean}
 use Rattle.kob_outbox.specs.Service.{database}
 use Rattle.kob_outbox.proofs.Replacing.{replaces}
 use Rattle.kob_outbox.proofs.statements.Plain.{inside_keeps}

@@ -1,5 +1,5 @@
 use Rattle.std.proofs.Common.{◌≡◌, ap}
-use Rattle.sqlite.specs.Effect.{Database}
+use Rattle.kob_outbox.proofs.statements.Words.{Database}
 use Rattle.kob_outbox.specs.Layout.{contents_in, shown_state}
 use Rattle.kob_outbox.specs.Reading.{state_at}
 use Rattle.kob_outbox.specs.Service.{contents}

@@ -1,5 +1,5 @@
 use Rattle.std.proofs.Common.{◌≡◌, length, ap}
-use Rattle.sqlite.specs.Effect.{Database}
+use Rattle.kob_outbox.proofs.statements.Words.{Database}
 use Rattle.kob_outbox.specs.Layout.{contents_in, shown_last}
 use Rattle.kob_outbox.specs.Service.{contents}
 use Rattle.kob_outbox.proofs.Reading.{answer_last}
