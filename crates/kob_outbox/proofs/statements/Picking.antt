@@ -1,11 +1,11 @@
 -- The rows that a query over one table picks.
-use Rattle.std.proofs.Common.{◌≡◌, ◌≤◌, ℕ, Ordering, List, [], ◌∷◌, length, map, filter, flat_map, Bool, true, inl, inr, ◌<◌, refl, if◌then◌else◌, Less, ap, subst, ◌∙◌, arith, IsPermutation}
+use Rattle.std.proofs.Common.{◌≡◌, ◌≤◌, ℕ, Ordering, List, [], ◌∷◌, length, map, reverse, filter, flat_map, Bool, true, inl, inr, ◌<◌, refl, if◌then◌else◌, Less, ap, subst, ◌∙◌, arith, IsPermutation}
 use Rattle.std.proofs.lemmas.Bool.{cases_Bool}
 use Rattle.std.proofs.lemmas.List.{length-map}
-use Rattle.std.proofs.lemmas.List.Sorted.{IsPermutation-trans, IsPermutation-sym}
+use Rattle.std.proofs.lemmas.List.Sorted.{IsPermutation-reverse, IsPermutation-trans, IsPermutation-sym}
 use Rattle.std.specs.List.{list_all}
 use Rattle.kob_outbox.proofs.statements.Words.{Env, IsAnswer, IsAscending, Output, Query, Row, Trees, ascending-map, ascending_weaker, holds, map-map, output, output_cmp, output_cmp_total, overlay, page, sorted_unique}
-use Rattle.kob_outbox.proofs.statements.Ordering.{alone_order, ascending_back, backwards, turned}
+use Rattle.kob_outbox.proofs.statements.Ordering.{alone_order, ascending_back}
 use Rattle.kob_outbox.proofs.statements.Selecting.{Scan, query_of}
 
 pub all_stay : {X : Type 0} (xs : List X) → filter (λ x. true) xs ≡ xs
@@ -56,11 +56,11 @@ module _ {X : Type 0} (s : Scan) (params : Row) (row : X → Row) (test : X → 
         (sorted_unique (output_cmp q) (output_cmp_total q) outs a.ordered rising same_rows a.sorted)
 
     -- and those that fall the other way round
-    pub turned_round : IsAscending (λ a b. output_cmp q b a ≡ Less) outs → rows ≡ paged (backwards outs)
+    pub turned_round : IsAscending (λ a b. output_cmp q b a ≡ Less) outs → rows ≡ paged (reverse outs)
     turned_round down =
-        let back : IsPermutation (backwards outs) a.ordered =
-        IsPermutation-trans _ outs _ (IsPermutation-sym _ _ (turned outs)) same_rows in
-        a.shown ∙ ap paged (sorted_unique (output_cmp q) (output_cmp_total q) (backwards outs) a.ordered
+        let back : IsPermutation (reverse outs) a.ordered =
+        IsPermutation-trans _ outs _ (IsPermutation-sym _ _ (IsPermutation-reverse outs)) same_rows in
+        a.shown ∙ ap paged (sorted_unique (output_cmp q) (output_cmp_total q) (reverse outs) a.ordered
         (ascending_back _ outs down) back a.sorted)
 
     -- one row has no order

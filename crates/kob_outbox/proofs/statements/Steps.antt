@@ -36,12 +36,16 @@ IsAlone schema keys tree = (olds news : List Row) → works schema keys 0 tree o
 
 module _ (limit : Option ℕ) (keys : Keys) (schema : Schema) (table : Table) (params : Row)
     (alone : IsAlone schema keys table.tree) where
-  pub applies : (db next : Trees) (gone : List ℤ) (news : List Row)
+  left : (db next : Trees) (gone : List ℤ) (news rows : List Row) (last : Option ℤ) (w : Written)
       → Edited schema keys db (record { table = uncounted table; gone = gone; news = news }) (Ok next)
-      → Applies schema keys db (record { table = uncounted table; gone = gone; news = news }) next
-  applies db next gone news h =
-      let edit : Edit = record { table = uncounted table; gone = gone; news = news } in
-      one_step schema keys db next edit (alone (taken_by db edit) news) h
+      → w ≡ record { trees = next; rows = rows; last = last }
+      → Applies schema keys db (record { table = uncounted table; gone = gone; news = news }) w.trees × (w.rows ≡ rows)
+  left db next gone news rows last w h is =
+      let edit : Edit = record { table = uncounted table; gone = gone; news = news } in (
+        subst (Applies schema keys db edit) (sym (ap (λ (it : Written). it.trees) is))
+            (one_step schema keys db next edit (alone (taken_by db edit) news) h),
+        ap (λ (it : Written). it.rows) is,
+      )
 
   pub inserted : (from : Source) (db : Trees) (w : Written)
       → Inserts (task_on limit keys schema table params) from db (Ok w)
@@ -53,18 +57,11 @@ module _ (limit : Option ℕ) (keys : Keys) (schema : Schema) (table : Table) (p
       let counted = went given.2 in
       let written = went counted.2 in
       let late = went written.2 in
-      let is : w ≡ record {
-        trees = late.0;
-        rows = (edit_of db (uncounted table) [] Chosen 0 given.0).news;
-        last = last_id (edit_of db (uncounted table) [] Chosen 0 given.0).news;
-      } = same_value late.2 in
-      let trees : w.trees ≡ written.0 = ap (λ (it : Written). it.trees) is ∙ same_value late.1 in
-      let edit = edit_of db (uncounted table) [] Chosen 0 given.0 in (
-        given.0,
-        given.1,
-        subst (Applies schema keys db edit) (sym trees) (applies db written.0 [] edit.news written.1),
-        ap (λ (it : Written). it.rows) is,
-      )
+      let news = (edit_of db (uncounted table) [] Chosen 0 given.0).news in
+      let left_with : Trees → Written = λ t. record { trees = t; rows = news; last = last_id news } in
+      let it =
+      left db written.0 [] news news (last_id news) w written.1 (same_value late.2 ∙ ap left_with (same_value late.1)) in
+      (given.0, given.1, it.0, it.1)
 
   pub deleted : (q : Program) (db : Trees) (w : Written) → Deletes (task_on limit keys schema table params) q db (Ok w)
       → (rows : List Row) × Answers (record { schema = schema; trees = db }) q params rows
@@ -73,14 +70,8 @@ module _ (limit : Option ℕ) (keys : Keys) (schema : Schema) (table : Table) (p
   deleted q db w h =
       let given = went h in
       let written = went given.2 in
-      let edit = edit_of db (uncounted table) (ids_of given.0) Given 0 [] in
-      let is : w ≡ record { trees = written.0; rows = taken_by db edit; last = None } = same_value written.2 in (
-        given.0,
-        given.1,
-        subst (Applies schema keys db edit) (sym (ap (λ (it : Written). it.trees) is))
-            (applies db written.0 (ids_of given.0) [] written.1),
-        ap (λ (it : Written). it.rows) is,
-      )
+      let it = left db written.0 (ids_of given.0) [] _ None w written.1 (same_value written.2) in
+      (given.0, given.1, it.0, it.1)
 
   pub updated : (q : Program) (given : Row) (db : Trees) (w : Written)
       → Updates (task_on limit keys schema table params) q given db (Ok w)
@@ -90,26 +81,17 @@ module _ (limit : Option ℕ) (keys : Keys) (schema : Schema) (table : Table) (p
   updated q given db w h =
       let found = went h in
       let written = went found.2 in
-      let edit = edit_of db (uncounted table) (ids_of found.0) Given 1 found.0 in
-      let is : w ≡ record { trees = written.0; rows = edit.news; last = None } = same_value written.2 in (
-        found.0,
-        found.1,
-        subst (Applies schema keys db edit) (sym (ap (λ (it : Written). it.trees) is))
-            (applies db written.0 (ids_of found.0) edit.news written.1),
-        ap (λ (it : Written). it.rows) is,
-      )
+      let news = (edit_of db (uncounted table) (ids_of found.0) Given 1 found.0).news in
+      let it = left db written.0 (ids_of found.0) news news None w written.1 (same_value written.2) in
+      (found.0, found.1, it.0, it.1)
 
   pub put : (new : Row) (db : Trees) (w : Written) → Puts (task_on limit keys schema table params) new db (Ok w)
       → Applies schema keys db (edit_of db (uncounted table) [] Given 0 (new ∷ [])) w.trees
       × (w.rows ≡ (edit_of db (uncounted table) [] Given 0 (new ∷ [])).news)
   put new db w h =
       let written = went h in
-      let edit = edit_of db (uncounted table) [] Given 0 (new ∷ []) in
-      let is : w ≡ record { trees = written.0; rows = edit.news; last = last_id edit.news } = same_value written.2 in (
-        subst (Applies schema keys db edit) (sym (ap (λ (it : Written). it.trees) is))
-            (applies db written.0 [] edit.news written.1),
-        ap (λ (it : Written). it.rows) is,
-      )
+      let news = (edit_of db (uncounted table) [] Given 0 (new ∷ [])).news in
+      left db written.0 [] news news (last_id news) w written.1 (same_value written.2)
 
   -- the row that is tried
   abbrev pub candidate : Conflict → Trees → Row → Row

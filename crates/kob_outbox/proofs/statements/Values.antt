@@ -3,7 +3,6 @@ use Rattle.std.proofs.Common.{◌⊎◌, inl, inr, ◌≡◌, ℕ, pos, ◌<◌,
 use Rattle.std.specs.Ordering.{nat_cmp, int_cmp, is_gt, is_le}
 use Rattle.std.specs.Cmp.{nat_cmp_is}
 use Rattle.std.proofs.lemmas.Map.Text.{is_eq-slice_cmp}
-use Rattle.std.proofs.lemmas.Slice.Eq.{bytes_eq-Decides}
 use Rattle.kob_outbox.proofs.statements.Words.{Binary, Compare, Gt, Int, Le, Text, equal, fits_i64, from_truth, is_true, value_cmp, value_cmp-Int, value_cmp-Text}
 use Rattle.sqlite_sql.specs.Ops.{binary}
 
@@ -67,9 +66,6 @@ equal_numbers i k h = elim (nat_cases i k) [
   | inr (inl same) ↦ same
   | inr (inr high) ↦ absurd (let e = rw (number_above i k high) at h in cc)
 ]
-
-pub same_text : (x : List ℕ) → bytes_eq x x ≡ true
-same_text x = (bytes_eq-Decides x x).1 refl
 
 pub fits : (n : ℕ) → n < 2 ^ 63 → fits_i64 (pos n) ≡ true
 fits n low = grind (arith, low)

@@ -32,11 +32,11 @@ pub use Rattle.sqlite.specs.declared.run.Mode.{Mode}
 pub use Rattle.sqlite.specs.declared.types.Value.{Value}
 pub use Rattle.sqlite.specs.declared.types.Value.TheVariants.{Blob, Int, Null, Text}
 pub use Rattle.sqlite_catalog.specs.Change.{KeepsRows}
-pub use Rattle.sqlite_keyed.proofs.ListLemmas.{all_weaker, ascending-map, ascending_weaker, map_back}
+pub use Rattle.sqlite_keyed.proofs.ListLemmas.{all_weaker, ascending-map, ascending_weaker, map_back, none_from_any}
 pub use Rattle.sqlite_keyed.proofs.SortLemmas.{sorted_unique}
 pub use Rattle.sqlite_resolve.specs.declared.compiled.Compiled.{Compiled}
 pub use Rattle.sqlite_resolve.specs.declared.error.CompileError.{CompileError}
-pub use Rattle.sqlite_rules.proofs.ListLemmas.{all_from, all_has}
+pub use Rattle.sqlite_rules.proofs.ListLemmas.{all_from, all_has, has_filtered, has_kept, some_from, some_has}
 pub use Rattle.sqlite_rules.proofs.ProbeLemmas.{has_mapped, mapped_has}
 pub use Rattle.sqlite_rules.specs.Action.{works}
 pub use Rattle.sqlite_rules.specs.Calls.{ids_of}
@@ -63,7 +63,7 @@ pub use Rattle.sqlite_sql.specs.Program.{ProgramOverflows}
 pub use Rattle.sqlite_sql.specs.Term.{Env, holds}
 pub use Rattle.sqlite_sql.specs.declared.ops.BinaryOp.TheVariants.{Compare}
 pub use Rattle.sqlite_sql.specs.declared.ops.CompareOp.TheVariants.{Eq, Gt, Le}
-pub use Rattle.sqlite_trees.proofs.ListLemmas.{all-append, all-filter, all-permutation, ascending-append, ascending-filter, filter-map, map-map}
+pub use Rattle.sqlite_trees.proofs.ListLemmas.{all-append, all-filter, all-get_or, all-permutation, all_from_map, ascending-append, ascending-filter, filter-map, filter_same, map-map}
 pub use Rattle.sqlite_trees.specs.declared.error.StoreError.TheVariants.{Broken, Corrupt, Full, Io, Unstorable}
 pub use Rattle.sqlite_trees.specs.declared.memory.MemStore.{MemStore}
 pub use Rattle.sqlite_typing.specs.Types.{accepts_program, accepts_terms}
