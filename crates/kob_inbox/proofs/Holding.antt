@@ -1,9 +1,6 @@
 -- What is read back of the events that the tree holds.
 use Rattle.std.proofs.Common.{◌≡◌, false, map, sym, ap, subst, ◌∙◌}
-use Rattle.sqlite.specs.Tree.{Trees}
-use Rattle.sqlite.specs.Effect.{Database}
-use Rattle.sqlite.specs.State.{State}
-use Rattle.kob_outbox.proofs.statements.Plain.{Stays}
+use Rattle.kob_outbox.proofs.statements.Words.{State, Trees}
 use Rattle.kob_inbox.specs.Contents.{Contents}
 use Rattle.kob_inbox.specs.Database.{IsInbox}
 use Rattle.kob_inbox.specs.Layout.{Holds, contents_in, intake_in}
@@ -11,24 +8,10 @@ use Rattle.kob_inbox.specs.Tables.{inbox_schema}
 use Rattle.kob_inbox.proofs.Places.{events_back}
 
 pub read_back : (events : Contents) (trees : Trees) → Holds events trees → contents_in trees ≡ events
-read_back events trees h = ap (map intake_in) h.rows ∙ events_back 1 events
+read_back events trees h = ap (map intake_in) h.rows ∙ events_back events
 
 pub holds_in : (events : Contents) (trees : Trees) → Holds events trees → Holds (contents_in trees) trees
 holds_in events trees h = subst (λ d. Holds d trees) (sym (read_back events trees h)) h
-
--- the database is still the inbox, with the same events
-pub inbox_stays : (old new : State) → IsInbox old → new.step_limit ≡ old.step_limit → Stays old new
-    → IsInbox new × (contents_in new.now.trees ≡ contents_in old.now.trees)
-inbox_stays old new h limit stays = (
-  record {
-    schema = ap (λ (d : Database). d.schema) stays.now ∙ h.schema;
-    settled = stays.committed ∙ h.settled ∙ sym stays.now;
-    idle = stays.idle;
-    unlimited = limit ∙ h.unlimited;
-    holds = subst (λ (d : Database). Holds (contents_in d.trees) d.trees) (sym stays.now) h.holds;
-  },
-  ap (λ (d : Database). contents_in d.trees) stays.now,
-)
 
 -- the database is the inbox, with these events
 pub inbox_holds : (events : Contents) (old new : State) → IsInbox old → new.step_limit ≡ old.step_limit

@@ -1,8 +1,7 @@
 -- Events read back from the rows of a query.
 use Rattle.std.proofs.Common.{◌≡◌, ℕ, ◌+◌, List, [], ◌∷◌, map, refl, sym, ap, ◌∙◌}
 use Rattle.std.specs.List.{AllByRecursion, enumerate_from}
-use Rattle.sqlite.specs.Order.{Row}
-use Rattle.sqlite_value.specs.Order.{column}
+use Rattle.kob_outbox.proofs.statements.Words.{Row, column}
 use Rattle.kob_outbox.specs.Layout.{blob_in, text_in}
 use Rattle.kob_outbox.specs.Numbers.{number_in}
 use Rattle.kob_inbox.specs.Contents.{Contents, Intake}
