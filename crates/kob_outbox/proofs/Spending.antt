@@ -1,5 +1,5 @@
 -- What adding an id to those that are spent does.
-use Rattle.std.proofs.Common.{◌≡◌, ℕ, suc, ◌<◌, ◌^◌, pos, List, [], ◌∷◌, length, bytes_eq, true, Option, None, Ok, Err, refl, arith}
+use Rattle.std.proofs.Common.{◌≡◌, ℕ, suc, ◌<◌, ◌^◌, pos, List, [], ◌∷◌, length, bytes_eq, true, Option, None, Ok, Err, refl, arith, if◌then◌else◌}
 use Rattle.kob_outbox.proofs.statements.Words.{EndsScope, Enforced, Error, Executes, Ignore, Int, Null, Row, State, Text, Trees, Values, accepts_terms, cast_row, conflicts}
 use Rattle.sqlite.specs.Listing.{understood}
 use Rattle.sqlite_tied.specs.Compute.{everything}
@@ -61,7 +61,9 @@ module _ (old : State) (was : IsChanging old) (id : List ℕ) where
   cast_is = rw (cast_int (pos seq)) refl
 
   pub spends : (new : State) (count : ℕ) → Executes spend_text params old new (Ok count)
-      → Ignored service_schema spent_table spent_row ids id (is_recorded ids id) old new count
+      → Ignored service_schema spent_table spent_row ids id (is_recorded ids id) old.now.trees new.now.trees count
+      × (new.now.schema ≡ service_schema) × (new.committed ≡ (if old.in_transaction then old.committed else new.now))
+      × (new.in_transaction ≡ old.in_transaction)
   spends =
       ignores insert_spent alone params (Null ∷ params) refl spent_row (λ _. refl) bytes_eq conflict_is old was.schema
       seq id ids refl was.holds.spent cast_is (tried_row old.step_limit old.now.trees ids id seq was.holds.spent refl)

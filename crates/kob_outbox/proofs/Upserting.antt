@@ -69,7 +69,7 @@ module _ (b : Business) where
   apart_upserted n (p ∷ ps) apart = elim (cases_Bool (has_key_of b p.1)) [
     | inl here ↦
         rw here (
-          subst (λ (k : Key). AllByRecursion (λ (x : Placed). (bytes_eq k.0 x.1.kind && bytes_eq k.1 x.1.id) ≡ false) ps)
+          subst (λ (k : Key). AllByRecursion (λ x. (bytes_eq k.0 x.1.kind && bytes_eq k.1 x.1.id) ≡ false) ps)
               (same_key (key p.1) (key b) here) apart.0,
           apart.1,
         )

@@ -51,7 +51,8 @@ module _ {schema : Schema} {text : List ℕ} {table : Table} (it : IsCreation sc
       ap (λ (p : Tally × Database). p.1) (same_value all.2) ∙ same_value (rw skips at first.2) in
       let kept : KeepsRows schema.tables old.now.trees first.0.trees =
       subst (λ (s : Schema). KeepsRows s.tables old.now.trees first.0.trees) has made.others in
-      let fresh : first.0.trees (next_tree schema) ≡ [] = subst (λ s. first.0.trees (next_tree s) ≡ []) has made.empty in
+      let fresh : first.0.trees (next_tree schema) ≡ [] =
+      subst (λ s. first.0.trees (next_tree s) ≡ []) has made.empty in
       record {
         schema_is = ap (λ (d : Database). d.schema) now ∙ now_schema;
         kept = subst (λ (d : Database). KeepsRows schema.tables old.now.trees d.trees) (sym now) kept;
@@ -73,5 +74,6 @@ module _ {schema : Schema} {text : List ℕ} {table : Table} (it : IsCreation sc
         idle = made.mode ∙ has.idle;
         unlimited = limit ∙ has.unlimited;
         holds = and_last schema.tables (record table { tree = next_tree schema }) (database new).now.trees
-            (still_empty schema.tables (database old).now.trees (database new).now.trees has.holds made.kept) made.fresh;
+            (still_empty schema.tables (database old).now.trees (database new).now.trees has.holds made.kept)
+            made.fresh;
       }

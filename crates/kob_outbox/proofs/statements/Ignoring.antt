@@ -1,5 +1,5 @@
 -- INSERT OR IGNORE of one row.
-use Rattle.std.proofs.Common.{ℤ, ◌≡◌, inl, inr, ℕ, suc, ◌<◌, ◌^◌, pos, List, [], ◌∷◌, ◌++◌, length, map, Bool, true, false, None, Some, Option, Ok, Err, refl, sym, ap, subst, ◌∙◌, arith, if◌then◌else◌}
+use Rattle.std.proofs.Common.{ℤ, ◌≡◌, inl, inr, ℕ, suc, ◌<◌, ◌^◌, pos, List, [], ◌∷◌, ◌++◌, length, map, Bool, true, false, None, Some, Option, Ok, Err, refl, sym, ap, subst, subst₂, ◌∙◌, arith, if◌then◌else◌}
 use Rattle.std.specs.Prelude.{◌/◌}
 use Rattle.std.specs.List.{AllByRecursion, enumerate_from, list_any}
 use Rattle.kob_outbox.proofs.statements.Words.{Among, AreConflicts, AtPlace, BadReference, Check, Clears, Command, Concludes, Database, Datatype, Enforced, Error, Escapes, Executes, ForeignKey, Given, Has, Ignore, InsertOr, InsertsOr, Int, IsJudged, IsMisplaced, Judged, Keys, Mismatch, Mode, NoRowid, NotNull, OnRows, OnTable, Outcome, PrimaryKey, Refers, Refusal, Row, Schema, Source, Sourced, State, Table, Task, Term, TooDeep, Trees, Tries, TriesEach, Unique, Values, Violates, Written, accepts_terms, cast_row, conflicts, count_of, edit_of, edited, fits_i64, id_in, mode_of, nothing, put_row, rowid, understood, value_rows}
@@ -120,14 +120,10 @@ module _ (limit : Option ℕ) (keys : Keys) (schema : Schema) (table : Table) (p
 -- What such a statement does to a table that is numbered from 1 on: what is there already stays alone, and what is new
 -- goes last.
 pub record Ignored {X : Type 0} (schema : Schema) (table : Table) (row : ℕ × X → Row) (xs : List X) (x : X)
-    (there : Bool) (old new : State) (count : ℕ) : Type 0 where
-  pub fresh : there ≡ false
-      → (count ≡ 1) × (new.now.trees table.tree ≡ map row (enumerate_from 1 (xs ++ x ∷ [])))
-  pub again : there ≡ true → (count ≡ 0) × (new.now.trees table.tree ≡ map row (enumerate_from 1 xs))
-  pub tables : KeepOthers table.tree old.now.trees new.now.trees schema.tables
-  pub schema_is : new.now.schema ≡ schema
-  pub committed : new.committed ≡ (if old.in_transaction then old.committed else new.now)
-  pub mode : new.in_transaction ≡ old.in_transaction
+    (there : Bool) (db after : Trees) (count : ℕ) : Type 0 where
+  pub fresh : there ≡ false → (count ≡ 1) × (after table.tree ≡ map row (enumerate_from 1 (xs ++ x ∷ [])))
+  pub again : there ≡ true → (count ≡ 0) × (after table.tree ≡ map row (enumerate_from 1 xs))
+  pub tables : KeepOthers table.tree db after schema.tables
 
 all_same : (tree : ℕ) (db next : Trees) (tables : List Table) → next ≡ db → KeepOthers tree db next tables
 all_same tree db next [] same = tt
@@ -171,35 +167,35 @@ module _ {schema : Schema} {text : List ℕ} {terms : List Term} {width at : ℕ
       it.3 (sym (conflict it.0 (n, x) (omega (arith, it.1, next)))
       ∙ subst (λ r. conflicts None schema.indexes (uncounted table) (row (n, x)) r ≡ true) it.2 got.2)
 
-  -- the rows afterwards, by how many were written
-  abbrev Left : Written → Type 0
-  Left w =
-      (there ≡ false → (length w.rows ≡ 1) × (w.trees table.tree ≡ map row (enumerate_from 1 (xs ++ x ∷ []))))
-      × (there ≡ true → (length w.rows ≡ 0) × (w.trees table.tree ≡ map row (enumerate_from 1 xs)))
-      × KeepOthers table.tree db w.trees schema.tables
+  abbrev Left : Trees → ℕ → Type 0
+  Left = Ignored schema table row xs x there db
 
   cleared : (one : Written) (found : List Row) → Found found → Clears task Ignore (row (n, x)) db found (Ok one)
-      → Left one
+      → Left one.trees (length one.rows)
   cleared one [] conf h =
       let done = put old.step_limit Enforced schema table params alone (row (n, x)) db one h in
       let news : (edit_of db (uncounted table) [] Given 0 (row (n, x) ∷ [])).news ≡ row (n, x) ∷ [] =
       ap (λ r. r ∷ []) cast in
       let rows =
       done.0.rows ∙ ap (λ news. edited db (record { table = uncounted table; gone = []; news = news })) news
-      ∙ ap (put_row (row (n, x))) holds ∙ put_last row numbered n xs x next in (
-        λ _. (ap length (done.1 ∙ news), rows),
-        λ found. absurd (let no = sym (none_found conf) ∙ found in cc),
-        done.0.tables,
-      )
+      ∙ ap (put_row (row (n, x))) holds ∙ put_last row numbered n xs x next in
+      record {
+        fresh = λ _. (ap length (done.1 ∙ news), rows);
+        again = λ found. absurd (let no = sym (none_found conf) ∙ found in cc);
+        tables = done.0.tables;
+      }
   cleared one (f ∷ more) conf h =
-      let is : one ≡ nothing db = same_value h in (
-        λ absent. absurd (let no = sym absent ∙ some_found f more conf in cc),
-        λ _. (ap (λ (w : Written). length w.rows) is, ap (λ (w : Written). w.trees table.tree) is ∙ holds),
-        all_same table.tree db one.trees schema.tables (ap (λ (w : Written). w.trees) is),
-      )
+      let is : one ≡ nothing db = same_value h in
+      record {
+        fresh = λ absent. absurd (let no = sym absent ∙ some_found f more conf in cc);
+        again = λ _. (ap (λ (w : Written). length w.rows) is, ap (λ (w : Written). w.trees table.tree) is ∙ holds);
+        tables = all_same table.tree db one.trees schema.tables (ap (λ (w : Written). w.trees) is);
+      }
 
   pub ignores : (new : State) (count : ℕ) → Executes text params old new (Ok count)
-      → Ignored schema table row xs x there old new count
+      → Ignored schema table row xs x there old.now.trees new.now.trees count × (new.now.schema ≡ schema)
+      × (new.committed ≡ (if old.in_transaction then old.committed else new.now))
+      × (new.in_transaction ≡ old.in_transaction)
   ignores new count h =
       let it = wrote write params old new has count h in
       let t =
@@ -208,17 +204,12 @@ module _ {schema : Schema} {text : List ℕ} {terms : List Term} {width at : ℕ
       let judged =
       judged_clears old.step_limit Enforced schema table params (row (n, x)) suits db (Ok u.one) u.verdict
       u.judged u.does in
-      let left = cleared u.one judged.0 judged.1 judged.2 in
-      let after : new.now.trees ≡ u.one.trees = ap (λ (d : Database). d.trees) it.now ∙ u.trees in
-      let counted : count ≡ length u.one.rows = it.counted ∙ ap length u.rows in
-      record {
-        fresh = λ absent. let it = left.0 absent in (counted ∙ it.0, ap (λ (t : Trees). t table.tree) after ∙ it.1);
-        again = λ found. let it = left.1 found in (counted ∙ it.0, ap (λ (t : Trees). t table.tree) after ∙ it.1);
-        tables = subst (λ t. KeepOthers table.tree db t schema.tables) (sym after) left.2;
-        schema_is = ap (λ (d : Database). d.schema) it.now;
-        committed = it.committed;
-        mode = it.mode;
-      }
+      let after : new.now.trees ≡ u.one.trees = ap (λ (d : Database). d.trees) it.now ∙ u.trees in (
+        subst₂ Left (sym after) (sym (it.counted ∙ ap length u.rows)) (cleared u.one judged.0 judged.1 judged.2),
+        ap (λ (d : Database). d.schema) it.now,
+        it.committed,
+        it.mode,
+      )
 
   -- where it is there, nothing but want of memory stops the statement
   pub stopped_by_memory : ReferToNone schema → IsWhole (length params) text (understood schema text)
