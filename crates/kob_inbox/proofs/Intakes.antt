@@ -33,7 +33,8 @@ keyed p key = placed_row (p.0, record p.1 { key = key })
 -- the columns of such a row take its values as they are
 cast_keyed : (p : ℕ × Intake) (key : Option (List ℕ)) → cast_row (uncounted inbox_table) (keyed p key) ≡ keyed p key
 cast_keyed p None = rw (cast_int (pos p.0), cast_null, cast_int (pos p.1.partition), cast_int (pos p.1.offset)) refl
-cast_keyed p (Some key) = rw (cast_int (pos p.0), cast_null, cast_int (pos p.1.partition), cast_int (pos p.1.offset)) refl
+cast_keyed p (Some key) =
+    rw (cast_int (pos p.0), cast_null, cast_int (pos p.1.partition), cast_int (pos p.1.offset)) refl
 
 -- nothing in such a row alone speaks against it
 suits_keyed : (p : ℕ × Intake) (key : Option (List ℕ)) → IsSuited inbox_table (keyed p key)
@@ -70,7 +71,9 @@ module _ (old : State) (was : IsInbox old) (e : Intake) where
 
   -- the statement took the event in, or found its id
   pub goes : (new : State) (count : ℕ) → Executes put_text (intake_params n e) old new (Ok count)
-      → Ignored inbox_schema inbox_table placed_row events e (is_there events e.id) old new count
+      → Ignored inbox_schema inbox_table placed_row events e (is_there events e.id) old.now.trees new.now.trees count
+      × (new.now.schema ≡ inbox_schema) × (new.committed ≡ (if old.in_transaction then old.committed else new.now))
+      × (new.in_transaction ≡ old.in_transaction)
   goes =
       ignores insert_intake alone (intake_params n e) row refl placed_row (λ _. refl) (λ x y. bytes_eq x.id y.id)
       conflict_is old was.schema n e events refl was.holds.rows cast_it
@@ -114,23 +117,24 @@ takes old new e (Ok count) was fine low limit opened h =
     let events = contents_in old.now.trees in
     let it = goes old was e new count h in
     let left : (left : Contents) → Holds left new.now.trees → IsInbox new × (contents_in new.now.trees ≡ left) =
-    λ left. inbox_holds left old new was limit it.schema_is (rw was.idle at it.committed) (it.mode ∙ was.idle) in
+    λ left. inbox_holds left old new was limit it.1 (rw was.idle at it.2) (it.3 ∙ was.idle) in
     elim (cases_Bool (is_there events e.id)) [
       | inl there ↦
           let all = left events (record {
-            rows = (it.again there).1;
+            rows = (it.0.again there).1;
             room = was.holds.room;
             once = was.holds.once;
             readable = was.holds.readable;
-          }) in (all.0, all.1 ∙ rw there refl, (it.again there).0 ∙ rw there refl, tt)
+          }) in
+          (all.0, all.1 ∙ rw there refl, (it.0.again there).0 ∙ rw there refl, tt)
       | inr absent ↦
           let longer : length (events ++ e ∷ []) ≡ suc (length events) = length-append events (e ∷ []) ∙ omega arith in
           let all = left (events ++ e ∷ []) (record {
-            rows = (it.fresh absent).1;
+            rows = (it.0.fresh absent).1;
             room = omega (arith, longer, low);
             once = once_with e events absent was.holds.once;
             readable = all-append IsReadable events (e ∷ []) was.holds.readable (fine, tt);
-          }) in (all.0, all.1 ∙ rw absent refl, (it.fresh absent).0 ∙ rw absent refl, tt)
+          }) in (all.0, all.1 ∙ rw absent refl, (it.0.fresh absent).0 ∙ rw absent refl, tt)
     ]
 
 -- an id that is there is refused for want of memory alone

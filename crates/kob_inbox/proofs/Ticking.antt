@@ -107,14 +107,16 @@ module _ (t : Subscription) (s : State) (asked : Request) (before now : List Cal
   pub ticks_lost : Adds before now u v asked Lost → Ticks t (scene s before u) (scene s now v) Repeat
   ticks_lost (inl made) = ticks_still t s asked None before now u v Repeat due refl made.0 made.1 (inr (asked, refl))
   ticks_lost (inr unmade) =
-      record { moves = []; run = refl; calls = unmade.0 ∙ sym (append-nil before); answer = inl refl; counted = unmade.1 }
+      let calls = unmade.0 ∙ sym (append-nil before) in
+      record { moves = []; run = refl; calls = calls; answer = inl refl; counted = unmade.1 }
 
-  module _ (reply : Reply) (made : (now ≡ before ++ record { request = asked; heard = Some reply } ∷ []) × (v ≡ u)) where
+  module _ (reply : Reply)
+      (made : (now ≡ before ++ record { request = asked; heard = Some reply } ∷ []) × (v ≡ u)) where
     pub ticks_denied : (code : _) (verdicts : _) → reply ≡ Denied code verdicts
         → Ticks t (scene s before u) (scene s now v) (Stopped (stop.Denied code verdicts))
     ticks_denied code verdicts is =
-        ticks_still t s asked (Some (Denied code verdicts)) before now u v (Stopped (stop.Denied code verdicts)) due refl
-        (heard_as before now asked reply (Denied code verdicts) made.0 is) made.1 (asked, refl)
+        ticks_still t s asked (Some (Denied code verdicts)) before now u v (Stopped (stop.Denied code verdicts)) due
+        refl (heard_as before now asked reply (Denied code verdicts) made.0 is) made.1 (asked, refl)
 
     pub ticks_refused : (code : _) (reason : _) → reply ≡ Refused code reason
         → Ticks t (scene s before u) (scene s now v) (Stopped (stop.Refused code reason))
@@ -166,8 +168,8 @@ took t s p position n after turn rs inbox cursors some taken moved passed stays 
     (moved ∙ ap (λ (k : ℕ). with_progress s.cursors p n k) passed)
     ∙ ap (λ (x : ℕ). state_with (taken_in s.inbox (arrivals p (take n rs)))
     (with_progress s.cursors p n (behind position (take n rs))) x)
-    (stays ∙ turn_stays t s.turn (record { topic = p.topic; partition = p.partition; offset = position; max = t.max }) rs
-    some)
+    (stays ∙ turn_stays t s.turn (record { topic = p.topic; partition = p.partition; offset = position; max = t.max })
+    rs some)
 
 -- the same over cursors that a growth left as they were
 pub regrown : (t : Subscription) (inbox : Contents) (cs ds : List Cursor) (turn : ℕ) (before now : List Call) (u v : ℕ)

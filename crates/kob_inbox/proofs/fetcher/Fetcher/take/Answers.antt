@@ -30,7 +30,7 @@ returns-in-Some-Memory-clause-done c =
     c.take_all-passed.ensures.taken c.advance.ensures.moved c.take_all-passed.ensures.behind c.advance.ensures.turn in
     let cut : passed.count < length rs =
     cut_short passed.fault _ (passed.count < length rs) c.take_all-passed.ensures.cut c.in-Some-Memory.is in
-    record { count = passed.count; within = omega arith; changed = left; answer = inr (asked, rs, passed.count, refl, cut) }
+    record { count = _; within = omega arith; changed = left; answer = inr (asked, rs, passed.count, refl, cut) }
 
 pub returns-in-Some-Store-clause-done : goal.returns-in-Some-Store-clause-done
 returns-in-Some-Store-clause-done c =

@@ -23,8 +23,9 @@ returns-in-Delivered-Denied-clause-done g c =
     is_due t s c.in-Ok.place _ _ _ c.standing_of-stood.result c.in-Ok-due.request c.as_slice.ensures c.in-Some.ensures
     c.in-Ok.ensures c.deref.ensures.value c.standing_of-stood.ensures c.in-Ok-due.ensures in
     regrown t _ _ _ _ _ _ _ _ _ c.reserve.ensures.items
-    (ticks_denied t s c.in-Ok-due.request _ _ _ _ now_due c.in-Delivered-Denied.field-0 c.in-Delivered-Denied.ensures.added
-    c.in-Delivered-Denied.code c.in-Delivered-Denied.verdicts c.in-Delivered-Denied.field-0-is)
+    (ticks_denied t s c.in-Ok-due.request _ _ _ _ now_due c.in-Delivered-Denied.field-0
+    c.in-Delivered-Denied.ensures.added c.in-Delivered-Denied.code
+    c.in-Delivered-Denied.verdicts c.in-Delivered-Denied.field-0-is)
 
 pub returns-in-Delivered-Refused-clause-done : goal.returns-in-Delivered-Refused-clause-done
 returns-in-Delivered-Refused-clause-done g c =
@@ -34,8 +35,9 @@ returns-in-Delivered-Refused-clause-done g c =
     is_due t s c.in-Ok.place _ _ _ c.standing_of-stood.result c.in-Ok-due.request c.as_slice.ensures c.in-Some.ensures
     c.in-Ok.ensures c.deref.ensures.value c.standing_of-stood.ensures c.in-Ok-due.ensures in
     regrown t _ _ _ _ _ _ _ _ _ c.reserve.ensures.items
-    (ticks_refused t s c.in-Ok-due.request _ _ _ _ now_due c.in-Delivered-Refused.field-0 c.in-Delivered-Refused.ensures.added
-    c.in-Delivered-Refused.code c.in-Delivered-Refused.reason c.in-Delivered-Refused.field-0-is)
+    (ticks_refused t s c.in-Ok-due.request _ _ _ _ now_due c.in-Delivered-Refused.field-0
+    c.in-Delivered-Refused.ensures.added c.in-Delivered-Refused.code
+    c.in-Delivered-Refused.reason c.in-Delivered-Refused.field-0-is)
 
 pub returns-in-Delivered-Done-clause-done : goal.returns-in-Delivered-Done-clause-done
 returns-in-Delivered-Done-clause-done g c =
@@ -50,5 +52,5 @@ returns-in-Delivered-Done-clause-done g c =
     let hears : Hears t s left request done.body c.hear.result =
     subst (λ (cs : List Cursor). Hears t (state_with c.args.inbox.now cs c.args.self.now.turn) left request done.body
     c.hear.result) c.reserve.ensures.items c.hear.ensures.done in
-    ticks_heard t s c.in-Ok-due.request _ _ _ _ now_due done.field-0 done.ensures.added left request done.body c.hear.result
-    c.in-Ok-due.ensures done.field-0-is hears
+    ticks_heard t s c.in-Ok-due.request _ _ _ _ now_due done.field-0 done.ensures.added left request done.body
+    c.hear.result c.in-Ok-due.ensures done.field-0-is hears
