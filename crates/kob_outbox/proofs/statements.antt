@@ -3,10 +3,8 @@ pub mod Creating
 pub mod Failing
 pub mod Ignoring
 pub mod Numbered
-pub mod Ordering
 pub mod Picking
 pub mod Plain
-pub mod Putting
 pub mod Selecting
 pub mod Steps
 pub mod Taking

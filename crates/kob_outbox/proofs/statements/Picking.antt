@@ -1,12 +1,28 @@
 -- The rows that a query over one table picks.
-use Rattle.std.proofs.Common.{◌≡◌, ◌≤◌, ℕ, Ordering, List, [], ◌∷◌, length, map, reverse, filter, flat_map, Bool, true, inl, inr, ◌<◌, refl, if◌then◌else◌, Less, ap, subst, ◌∙◌, arith, IsPermutation}
+use Rattle.std.proofs.Common.{◌≡◌, ◌≤◌, ℕ, Ordering, List, [], ◌∷◌, length, map, reverse, sym, filter, flat_map, Bool, true, inl, inr, ◌<◌, refl, if◌then◌else◌, Less, ap, subst, ◌∙◌, arith, IsPermutation}
 use Rattle.std.proofs.lemmas.Bool.{cases_Bool}
-use Rattle.std.proofs.lemmas.List.{length-map}
-use Rattle.std.proofs.lemmas.List.Sorted.{IsPermutation-reverse, IsPermutation-trans, IsPermutation-sym}
+use Rattle.std.proofs.lemmas.List.{length-map, reverse-append}
+use Rattle.std.proofs.lemmas.List.Sorted.{length_permutation, IsPermutation-reverse, IsPermutation-trans, IsPermutation-sym}
 use Rattle.std.specs.List.{list_all}
-use Rattle.kob_outbox.proofs.statements.Words.{Env, IsAnswer, IsAscending, Output, Query, Row, Trees, ascending-map, ascending_weaker, holds, map-map, output, output_cmp, output_cmp_total, overlay, page, sorted_unique}
-use Rattle.kob_outbox.proofs.statements.Ordering.{alone_order, ascending_back}
+use Rattle.kob_outbox.proofs.statements.Words.{Env, IsAnswer, IsAscending, Output, Query, Row, Trees, all-permutation, all_weaker, ascending-append, ascending-map, ascending_weaker, holds, map-map, one_permutation, output, output_cmp, output_cmp_total, overlay, page, sorted_unique}
 use Rattle.kob_outbox.proofs.statements.Selecting.{Scan, query_of}
+
+-- the permutations of a list of one element at most
+alone_order : {X : Type 0} (xs ys : List X) → length xs ≤ 1 → IsPermutation xs ys → ys ≡ xs
+alone_order [] [] short same = refl
+alone_order [] (y ∷ ys) short same = absurd (omega (arith, length_permutation _ _ same))
+alone_order (x ∷ []) ys short same = one_permutation x ys same
+alone_order (x ∷ y ∷ xs) ys short same = absurd (omega (arith, short))
+
+-- a list that falls rises when it is reversed
+ascending_back : {A : Type 0} (R : A → A → Type 0) (xs : List A) → IsAscending (λ a b. R b a) xs
+    → IsAscending R (reverse xs)
+ascending_back R [] up = tt
+ascending_back R (x ∷ xs) up =
+    subst (IsAscending R) (sym (reverse-append (x ∷ []) xs))
+    (ascending-append R (reverse xs) (x ∷ []) (ascending_back R xs up.1) (tt, tt)
+    (all-permutation _ xs (reverse xs) (IsPermutation-reverse xs)
+    (all_weaker (λ y. R y x) (λ y. R y x × Unit {0}) (λ y h. (h, tt)) xs up.0)))
 
 pub all_stay : {X : Type 0} (xs : List X) → filter (λ x. true) xs ≡ xs
 all_stay [] = refl

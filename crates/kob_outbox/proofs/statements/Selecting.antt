@@ -1,8 +1,8 @@
 -- A SELECT over one table: what its text means, and what it answers and leaves.
-use Rattle.std.proofs.Common.{◌≡◌, ℕ, List, [], ◌∷◌, length, true, false, None, Result, pos, negsuc, refl}
+use Rattle.std.proofs.Common.{◌≡◌, ℕ, List, [], ◌∷◌, length, true, false, None, Result, pos, negsuc, refl, ap}
 use Rattle.std.specs.Prelude.{Vec, IfOk, IfErr}
 use Rattle.std.specs.declared.alloc.Global.{Global}
-use Rattle.kob_outbox.proofs.statements.Words.{Binary, Error, FailsToQuery, HasCleanDisk, Held, Int, IsAnswer, IsPlain, Key, MemStore, Null, Program, Query, Row, Schema, Select, Shown, Term, Trees, accepts_program, col, command_of, end, inner, lit, memory_is_clean, overlay, reads_as, reads_listing, understood}
+use Rattle.kob_outbox.proofs.statements.Words.{Binary, Database, Error, FailsToQuery, HasCleanDisk, Held, Int, IsAnswer, IsPlain, Key, MemStore, Null, Program, Query, Row, Schema, Select, Shown, Term, Trees, accepts_program, col, command_of, end, inner, lit, memory_is_clean, overlay, reads_as, reads_listing, understood}
 use Rattle.kob_outbox.specs.Blank.{IsAtRest}
 use Rattle.kob_outbox.specs.Service.{database}
 use Rattle.kob_outbox.proofs.statements.Failing.{IsMemory, IsWhole, for_memory, no_sum}
@@ -57,22 +57,23 @@ pub record IsSelect (schema : Schema) (text : List ℕ) (params : Row) (s : Scan
   pub accepted : accepts_program schema [] (query_of s) params ≡ true
 
 -- what a query answers and leaves
-pub record Queried (tables : Schema) (Rows : Trees → Type 0) (old new : Held MemStore) (Answer : List Row → Type 0)
-    (r : Result (Vec Row Global) Error) : Type 0 where
+pub record Queried {C : Type 0} (tables : Schema) (Rows : Trees → Type 0) (view : Trees → C) (old new : Held MemStore)
+    (Answer : List Row → Type 0) (r : Result (Vec Row Global) Error) : Type 0 where
   pub rows : IfOk r (λ rows. Answer rows.items)
   pub memory : IfErr r IsMemory
   pub rests : IsAtRest tables Rows (database new)
-  pub same : (database new).now ≡ (database old).now
+  pub same : view (database new).now.trees ≡ view (database old).now.trees
 
 pub queried : {schema : Schema} {Rows : Trees → Type 0} {text : List ℕ} {params : Row} {s : Scan}
-    → IsSelect schema text params s → (old new : Held MemStore) (r : Result (Vec Row Global) Error)
+    {C : Type 0}
+    → IsSelect schema text params s → (view : Trees → C) (old new : Held MemStore) (r : Result (Vec Row Global) Error)
     (Answer : List Row → Type 0) → IsAtRest schema Rows (database old)
     → (database new).step_limit ≡ (database old).step_limit
     → ((rows : List Row) → IsAnswer (query_of s) (overlay (database old).now.trees []) params rows → Answer rows)
     → (HasCleanDisk (database new) → IfOk r (λ rows. Shown text params (database old) (database new) rows.items))
     → (HasCleanDisk (database new) → IfErr r (FailsToQuery text params (database old) (database new)))
-    → Queried schema Rows old new Answer r
-queried {schema} {Rows} {text} {params} {s} is old new r Answer has limit answers ok err =
+    → Queried schema Rows view old new Answer r
+queried {schema} {Rows} {text} {params} {s} is view old new r Answer has limit answers ok err =
     let clean = memory_is_clean new in
     let from = database old in
     let to = database new in
@@ -90,5 +91,5 @@ queried {schema} {Rows} {text} {params} {s} is old new r Answer has limit answer
           (no_sum (query_of s) s.tree (refl, refl) params))
           (err clean);
       rests = rests from to has limit stays;
-      same = stays.now;
+      same = ap (λ (d : Database). view d.trees) stays.now;
     }

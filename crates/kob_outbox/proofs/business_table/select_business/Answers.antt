@@ -1,5 +1,4 @@
-use Rattle.std.proofs.Common.{◌≡◌, ap}
-use Rattle.kob_outbox.proofs.statements.Words.{Database}
+use Rattle.std.proofs.Common.{◌≡◌}
 use Rattle.kob_outbox.specs.Layout.{contents_in, shown_state}
 use Rattle.kob_outbox.specs.Reading.{state_at}
 use Rattle.kob_outbox.specs.Service.{contents}
@@ -14,14 +13,9 @@ returns c =
     let id = c.args.id.now in
     let states = (contents c.args.conn.now).business in
     let it =
-    queried (select_business kind id) c.args.conn.now c.query_all.new.self c.query_all.result
+    queried (select_business kind id) contents_in c.args.conn.now c.query_all.new.self c.query_all.result
     (λ rows. rows ≡ shown_state (state_at kind id states)) c.requires c.query_all.ensures.survives.limit
     (λ rows. answer_business _ rows kind id states c.requires.holds.business)
     (rw (c.params-to_sql.ensures, c.params-to_sql-2.ensures) at c.query_all.ensures.ok)
     (rw (c.params-to_sql.ensures, c.params-to_sql-2.ensures) at c.query_all.ensures.err) in
-    record {
-      rows = it.rows;
-      memory = it.memory;
-      service = it.rests;
-      same = ap (λ (d : Database). contents_in d.trees) it.same;
-    }
+    record { rows = it.rows; memory = it.memory; service = it.rests; same = it.same }

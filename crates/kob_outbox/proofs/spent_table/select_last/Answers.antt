@@ -1,5 +1,4 @@
-use Rattle.std.proofs.Common.{◌≡◌, length, ap}
-use Rattle.kob_outbox.proofs.statements.Words.{Database}
+use Rattle.std.proofs.Common.{◌≡◌, length}
 use Rattle.kob_outbox.specs.Layout.{contents_in, shown_last}
 use Rattle.kob_outbox.specs.Service.{contents}
 use Rattle.kob_outbox.proofs.Reading.{answer_last}
@@ -11,12 +10,8 @@ pub returns : goal.returns
 returns c =
     let ids = (contents c.args.conn.now).ids in
     let it =
-    queried select_last c.args.conn.now c.query_all.new.self c.query_all.result (λ rows. rows ≡ shown_last (length ids))
+    queried select_last contents_in c.args.conn.now c.query_all.new.self c.query_all.result
+    (λ rows. rows ≡ shown_last (length ids))
     c.requires c.query_all.ensures.survives.limit (λ rows. answer_last _ rows ids c.requires.holds.spent)
     c.query_all.ensures.ok c.query_all.ensures.err in
-    record {
-      rows = it.rows;
-      memory = it.memory;
-      service = it.rests;
-      same = ap (λ (d : Database). contents_in d.trees) it.same;
-    }
+    record { rows = it.rows; memory = it.memory; service = it.rests; same = it.same }
