@@ -1,6 +1,5 @@
-use Rattle.std.proofs.Common.{◌≡◌, map, ap}
+use Rattle.std.proofs.Common.{◌≡◌, map}
 use Rattle.std.specs.List.{enumerate_from}
-use Rattle.kob_outbox.proofs.statements.Words.{Database}
 use Rattle.kob_outbox.proofs.statements.Selecting.{queried}
 use Rattle.kob_inbox.specs.Database.{contents}
 use Rattle.kob_inbox.specs.Layout.{contents_in, shown_intake}
@@ -12,13 +11,8 @@ pub returns : goal.returns
 returns c =
     let events = contents c.args.conn.now in
     let it =
-    queried select_taken c.args.conn.now c.query_all.new.self c.query_all.result
+    queried select_taken contents_in c.args.conn.now c.query_all.new.self c.query_all.result
     (λ rows. rows ≡ map shown_intake (enumerate_from 1 events))
     c.requires c.query_all.ensures.survives.limit (λ rows. answer_taken _ rows events c.requires.holds.rows)
     c.query_all.ensures.ok c.query_all.ensures.err in
-    record {
-      rows = it.rows;
-      memory = it.memory;
-      inbox = it.rests;
-      same = ap (λ (d : Database). contents_in d.trees) it.same;
-    }
+    record { rows = it.rows; memory = it.memory; inbox = it.rests; same = it.same }
