@@ -117,7 +117,7 @@ takes old new e (Ok count) was fine low limit opened h =
     let events = contents_in old.now.trees in
     let it = goes old was e new count h in
     let left : (left : Contents) → Holds left new.now.trees → IsInbox new × (contents_in new.now.trees ≡ left) =
-    λ left. inbox_holds left old new was limit it.1 (rw was.idle at it.2) (it.3 ∙ was.idle) in
+    λ left. inbox_holds left new it.1 (rw was.idle at it.2) (it.3 ∙ was.idle) (limit ∙ was.unlimited) in
     elim (cases_Bool (is_there events e.id)) [
       | inl there ↦
           let all = left events (record {

@@ -1,6 +1,6 @@
 use Rattle.kob_outbox.specs.Service.{database}
 use Rattle.kob_outbox.proofs.statements.Creating.{creates}
-use Rattle.kob_inbox.proofs.Opening.{opens}
+use Rattle.kob_inbox.proofs.Holding.{opens}
 use Rattle.kob_inbox.proofs.Texts.{create_inbox}
 use Rattle.kob_inbox.proofs.inbox_table.create_inbox.Goals as goal
 
