@@ -2,7 +2,7 @@
 use Rattle.std.proofs.Common.{◌≡◌, inl, inr, ℕ, List, if◌then◌else◌, Option, Some, Result, Ok, Err, IsTrue, refl, sym, ap, ◌∙◌}
 use Rattle.std.specs.Prelude.{IsErrAnd, IsErrOf}
 use Rattle.std.proofs.lemmas.Bool.{cases_Bool}
-use Rattle.sqlite.specs.declared.error.Error.{Error}
+use Rattle.kob_outbox.proofs.statements.Words.{Error}
 use Rattle.kob_outbox.proofs.statements.Failing.{IsMemory}
 use Rattle.kob_outbox.specs.Events.{id_text}
 use Rattle.kob_inbox.specs.Contents.{Contents}

@@ -1,47 +1,42 @@
 -- What is read back of the events that the tree holds.
-use Rattle.std.proofs.Common.{◌≡◌, false, map, sym, ap, subst, ◌∙◌}
-use Rattle.sqlite.specs.Tree.{Trees}
-use Rattle.sqlite.specs.Effect.{Database}
-use Rattle.sqlite.specs.State.{State}
-use Rattle.kob_outbox.proofs.statements.Plain.{Stays}
+use Rattle.std.proofs.Common.{◌≡◌, ℕ, List, [], false, map, Option, None, Some, Ok, Err, Result, OnOk, refl, sym, ap, subst, ◌∙◌, arith}
+use Rattle.kob_outbox.specs.Blank.{IsBlank}
+use Rattle.kob_outbox.proofs.statements.Numbered.{rows_back}
+use Rattle.kob_outbox.proofs.statements.Words.{Error, State, Trees}
 use Rattle.kob_inbox.specs.Contents.{Contents}
 use Rattle.kob_inbox.specs.Database.{IsInbox}
-use Rattle.kob_inbox.specs.Layout.{Holds, contents_in, intake_in}
+use Rattle.kob_inbox.specs.Layout.{Holds, contents_in, intake_in, key_in, key_value, placed_row}
 use Rattle.kob_inbox.specs.Tables.{inbox_schema}
-use Rattle.kob_inbox.proofs.Places.{events_back}
 
-pub read_back : (events : Contents) (trees : Trees) → Holds events trees → contents_in trees ≡ events
-read_back events trees h = ap (map intake_in) h.rows ∙ events_back 1 events
+pub key_back : (key : Option (List ℕ)) → key_in (key_value key) ≡ key
+key_back None = refl
+key_back (Some k) = refl
 
-pub holds_in : (events : Contents) (trees : Trees) → Holds events trees → Holds (contents_in trees) trees
-holds_in events trees h = subst (λ d. Holds d trees) (sym (read_back events trees h)) h
-
--- the database is still the inbox, with the same events
-pub inbox_stays : (old new : State) → IsInbox old → new.step_limit ≡ old.step_limit → Stays old new
-    → IsInbox new × (contents_in new.now.trees ≡ contents_in old.now.trees)
-inbox_stays old new h limit stays = (
-  record {
-    schema = ap (λ (d : Database). d.schema) stays.now ∙ h.schema;
-    settled = stays.committed ∙ h.settled ∙ sym stays.now;
-    idle = stays.idle;
-    unlimited = limit ∙ h.unlimited;
-    holds = subst (λ (d : Database). Holds (contents_in d.trees) d.trees) (sym stays.now) h.holds;
-  },
-  ap (λ (d : Database). contents_in d.trees) stays.now,
-)
+read_back : (events : Contents) (trees : Trees) → Holds events trees → contents_in trees ≡ events
+read_back events trees h =
+    ap (map intake_in) h.rows
+    ∙ rows_back placed_row intake_in (λ p. ap (λ key. record p.1 { key = key }) (key_back p.1.key)) 1 events
 
 -- the database is the inbox, with these events
-pub inbox_holds : (events : Contents) (old new : State) → IsInbox old → new.step_limit ≡ old.step_limit
-    → new.now.schema ≡ inbox_schema → new.committed ≡ new.now
-    → new.in_transaction ≡ false → Holds events new.now.trees → IsInbox new × (contents_in new.now.trees ≡ events)
-inbox_holds events old new h limit schema settled idle holds = (
-  record {
-    schema = schema;
-    settled = settled;
-    idle = idle;
-    unlimited = limit
-        ∙ h.unlimited;
-    holds = holds_in events new.now.trees holds;
-  },
-  read_back events new.now.trees holds,
-)
+pub inbox_holds : (events : Contents) (s : State) → s.now.schema ≡ inbox_schema → s.committed ≡ s.now
+    → s.in_transaction ≡ false → s.step_limit ≡ None → Holds events s.now.trees
+    → IsInbox s × (contents_in s.now.trees ≡ events)
+inbox_holds events s schema settled idle unlimited holds =
+    let same = read_back events s.now.trees holds in (
+      record {
+        schema = schema;
+        settled = settled;
+        idle = idle;
+        unlimited = unlimited;
+        holds = subst (λ d. Holds d s.now.trees) (sym same) holds;
+      },
+      same,
+    )
+
+-- a table that was made is an inbox without events
+pub opens : (s : State) (r : Result ℕ Error) → OnOk r (IsBlank inbox_schema s)
+    → OnOk r (IsInbox s) × OnOk r (contents_in s.now.trees ≡ [])
+opens s (Err e) h = (tt, tt)
+opens s (Ok count) blank =
+    inbox_holds [] s blank.schema blank.settled blank.idle blank.unlimited
+    (record { rows = blank.holds.0; room = omega arith; once = tt; readable = tt })

@@ -2,8 +2,7 @@
 use Rattle.std.proofs.Common.{◌≡◌, ℕ, List, Option, None, Some, refl}
 use Rattle.std.specs.Borrow.{Bor}
 use Rattle.std.specs.Option.{option_copied}
-use Rattle.sqlite.specs.declared.types.Value.TheVariants.{Blob}
-use Rattle.sqlite.specs.Values.{bound_value, or_null}
+use Rattle.kob_outbox.proofs.statements.Words.{Blob, bound_value, or_null}
 use Rattle.kob_inbox.specs.Layout.{key_value}
 
 pub lent_key : (key : Option (Bor (List ℕ)))

@@ -3,9 +3,6 @@ pub mod Cursoring
 pub mod Holding
 pub mod Intakes
 pub mod Keys
-pub mod Memory
-pub mod Opening
-pub mod Places
 pub mod Reading
 pub mod Running
 pub mod Shown

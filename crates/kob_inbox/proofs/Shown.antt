@@ -1,13 +1,12 @@
 -- Events read back from the rows of a query.
 use Rattle.std.proofs.Common.{◌≡◌, ℕ, ◌+◌, List, [], ◌∷◌, map, refl, sym, ap, ◌∙◌}
 use Rattle.std.specs.List.{AllByRecursion, enumerate_from}
-use Rattle.sqlite.specs.Order.{Row}
-use Rattle.sqlite_value.specs.Order.{column}
+use Rattle.kob_outbox.proofs.statements.Words.{Row, column, map_back}
 use Rattle.kob_outbox.specs.Layout.{blob_in, text_in}
 use Rattle.kob_outbox.specs.Numbers.{number_in}
 use Rattle.kob_inbox.specs.Contents.{Contents, Intake}
 use Rattle.kob_inbox.specs.Layout.{IsReadable, IsShown, key_in, shown_intake}
-use Rattle.kob_inbox.proofs.Places.{key_back}
+use Rattle.kob_inbox.proofs.Holding.{key_back}
 
 -- the event that a row shows, behind its place
 abbrev intake_shown : Row → ℕ × Intake
@@ -24,10 +23,8 @@ intake_shown row = (
 )
 
 shown_back : (events : List (ℕ × Intake)) → map intake_shown (map shown_intake events) ≡ events
-shown_back [] = refl
-shown_back (p ∷ events) =
-    ap (λ key. (p.0, record p.1 { key = key }) ∷ map intake_shown (map shown_intake events)) (key_back p.1.key)
-    ∙ ap (λ more. p ∷ more) (shown_back events)
+shown_back =
+    map_back shown_intake intake_shown (λ p. ap (λ key. (p.0, record p.1 { key = key })) (key_back p.1.key))
 
 pub same_events : (xs ys : List (ℕ × Intake)) → map shown_intake xs ≡ map shown_intake ys → xs ≡ ys
 same_events xs ys h = sym (shown_back xs) ∙ ap (map intake_shown) h ∙ shown_back ys

@@ -1,36 +1,22 @@
 -- What the fixed texts mean.
-use Rattle.std.proofs.Common.{true, ◌≡◌, ℕ, List, [], ◌∷◌, codes, Ok, refl, pos, negsuc, None, false, arith}
-use Rattle.sqlite.specs.Collation.TheVariants.{Binary}
-use Rattle.sqlite_schema.specs.declared.command.Conflict.TheVariants.{Ignore}
-use Rattle.sqlite.specs.declared.types.Value.TheVariants.{Null, Int}
-use Rattle.sqlite.specs.Command.TheVariants.{CreateTable, Select, InsertOr}
-use Rattle.sqlite.specs.Source.TheVariants.{Values}
-use Rattle.sqlite.specs.Compile.{table_defined_by}
-use Rattle.sqlite.specs.Query.{Query, inner, end}
-use Rattle.sqlite.specs.Term.{Term, lit, col}
+use Rattle.std.proofs.Common.{ℕ, List, [], ◌∷◌, codes, refl, pos, arith}
+use Rattle.kob_outbox.proofs.statements.Words.{Ignore, InsertOr, Int, Null, Term, Values, col, lit}
 use Rattle.sqlite_tied.specs.Compute.{everything}
-use Rattle.sqlite.specs.Listing.{understood, reads_listing}
-use Rattle.sqlite.proofs.Callers.{IsPlain, command_of, statement_of}
-use Rattle.sqlite_typing.specs.Types.{accepts_program}
+use Rattle.sqlite.specs.Listing.{understood}
 use Rattle.kob_outbox.specs.Tables.{no_schema}
+use Rattle.kob_outbox.proofs.statements.Creating.{IsCreation}
 use Rattle.kob_outbox.proofs.statements.Failing.{IsWhole}
-use Rattle.kob_inbox.specs.Tables.{inbox, inbox_schema}
-
--- ---- the table
+use Rattle.kob_outbox.proofs.statements.Selecting.{IsSelect, Scan, by_key, by_key_back, no_limit, over}
+use Rattle.kob_outbox.proofs.statements.Writing.{IsWriting}
+use Rattle.kob_inbox.specs.Tables.{inbox, inbox_schema, inbox_table}
 
 abbrev pub create_text : List ℕ
 create_text =
     codes "CREATE TABLE inbox (place INTEGER PRIMARY KEY NOT NULL, id TEXT UNIQUE NOT NULL, topic TEXT NOT NULL, part INTEGER NOT NULL, off INTEGER NOT NULL, rkey BLOB, rvalue BLOB NOT NULL)"
 
-pub create_is : (command_of (understood no_schema create_text) ≡ CreateTable)
-    × (statement_of create_text (understood no_schema create_text) ≡ create_text)
-    × (table_defined_by create_text ≡ Ok inbox)
+pub create_inbox : IsCreation no_schema create_text inbox
 unfolding understood everything
-create_is = (refl, refl, refl)
-
-pub create_plain : IsPlain (understood no_schema create_text)
-unfolding understood everything
-create_plain = (refl, refl)
+create_inbox = record { is = refl; whole = refl; defines = refl; plain = (refl, refl); counts_none = refl }
 
 -- ---- an event goes in
 
@@ -41,13 +27,10 @@ put_text =
 abbrev pub new_row : List Term
 new_row = col 0 0 ∷ lit Null ∷ col 0 1 ∷ col 0 2 ∷ col 0 3 ∷ col 0 4 ∷ col 0 5 ∷ col 0 6 ∷ []
 
-pub put_is : command_of (understood inbox_schema put_text) ≡ InsertOr 0 Ignore (Values new_row 8) []
+pub insert_intake : IsWriting inbox_schema put_text (InsertOr 0 Ignore (Values new_row 8) []) 0 inbox_table
 unfolding understood everything
-put_is = refl
-
-pub put_plain : IsPlain (understood inbox_schema put_text)
-unfolding understood everything
-put_plain = (refl, refl)
+insert_intake =
+    record { is = refl; plain = (refl, refl); found = refl; on = λ l m p d t r it. it; runs = λ o n t p c it. it }
 
 pub put_whole : IsWhole 7 put_text (understood inbox_schema put_text)
 unfolding understood everything
@@ -55,73 +38,22 @@ put_whole = (omega arith, refl)
 
 -- ---- all events
 
-abbrev pub taken_text : List ℕ
-taken_text = codes "SELECT place, id, topic, part, off, rkey, rvalue FROM inbox ORDER BY place"
+abbrev pub all_taken : Scan
+all_taken =
+    over 0 [] (col 1 0 ∷ col 1 2 ∷ col 1 3 ∷ col 1 4 ∷ col 1 5 ∷ col 1 6 ∷ col 1 7 ∷ []) by_key no_limit
 
-abbrev pub all_taken : Query
-all_taken = record {
-  from = inner 0 end;
-  filter = [];
-  group = None;
-  project = col 1 0 ∷ col 1 2 ∷ col 1 3 ∷ col 1 4 ∷ col 1 5 ∷ col 1 6 ∷ col 1 7 ∷ [];
-  distinct = false;
-  collations = [];
-  order = (col 1 0, record { collation = Binary; descending = false }) ∷ [];
-  limit = lit (Int (negsuc 0));
-  offset = lit (Int (pos 0));
-}
-
-pub taken_is : (command_of (understood inbox_schema taken_text)
-    ≡ Select (record { lets = []; body = all_taken })
-    (codes "place" ∷ codes "id" ∷ codes "topic" ∷ codes "part" ∷ codes "off" ∷ codes "rkey" ∷ codes "rvalue" ∷ []))
-    × (reads_listing inbox_schema taken_text ≡ false)
+pub select_taken : IsSelect inbox_schema
+    (codes "SELECT place, id, topic, part, off, rkey, rvalue FROM inbox ORDER BY place") [] all_taken
 unfolding understood everything
-taken_is = (refl, refl)
-
-pub taken_plain : IsPlain (understood inbox_schema taken_text)
-unfolding understood everything
-taken_plain = (refl, refl)
-
-pub taken_whole : IsWhole 0 taken_text (understood inbox_schema taken_text)
-unfolding understood everything
-taken_whole = (omega arith, refl)
-
-pub taken_accepted : accepts_program inbox_schema [] all_taken [] ≡ true
-unfolding everything
-taken_accepted = refl
+select_taken =
+    record { is = (_, refl); unlisted = refl; plain = (refl, refl); whole = (omega arith, refl); accepted = refl }
 
 -- ---- the last place
 
-abbrev pub last_text : List ℕ
-last_text = codes "SELECT place FROM inbox ORDER BY place DESC LIMIT 1"
+abbrev pub last_place : Scan
+last_place = over 0 [] (col 1 0 ∷ []) by_key_back (lit (Int (pos 1)))
 
-abbrev pub last_place : Query
-last_place = record {
-  from = inner 0 end;
-  filter = [];
-  group = None;
-  project = col 1 0 ∷ [];
-  distinct = false;
-  collations = [];
-  order = (col 1 0, record { collation = Binary; descending = true }) ∷ [];
-  limit = lit (Int (pos 1));
-  offset = lit (Int (pos 0));
-}
-
-pub last_is : (command_of (understood inbox_schema last_text)
-    ≡ Select (record { lets = []; body = last_place }) (codes "place" ∷ []))
-    × (reads_listing inbox_schema last_text ≡ false)
+pub select_last : IsSelect inbox_schema (codes "SELECT place FROM inbox ORDER BY place DESC LIMIT 1") [] last_place
 unfolding understood everything
-last_is = (refl, refl)
-
-pub last_plain : IsPlain (understood inbox_schema last_text)
-unfolding understood everything
-last_plain = (refl, refl)
-
-pub last_whole : IsWhole 0 last_text (understood inbox_schema last_text)
-unfolding understood everything
-last_whole = (omega arith, refl)
-
-pub last_accepted : accepts_program inbox_schema [] last_place [] ≡ true
-unfolding everything
-last_accepted = refl
+select_last =
+    record { is = (_, refl); unlisted = refl; plain = (refl, refl); whole = (omega arith, refl); accepted = refl }

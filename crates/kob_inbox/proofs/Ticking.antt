@@ -1,10 +1,8 @@
 -- A tick of a consumer is put together.
-use Rattle.std.proofs.Common.{◌≡◌, inl, inr, ℕ, ◌+◌, ◌<◌, List, [], ◌∷◌, ◌++◌, true, refl, sym, ap, ◌∙◌, subst, length, append-nil, arith, Option, Some, None}
+use Rattle.std.proofs.Common.{◌≡◌, inl, inr, ℕ, ◌+◌, ◌<◌, List, [], ◌∷◌, ◌++◌, true, refl, sym, ap, ◌∙◌, subst, length, take, append-nil, arith, Option, Some, None}
 use Rattle.std.specs.Prelude.{slice_get, IfNone, IfSome}
-use Rattle.std.specs.List.{All}
 use Rattle.std.proofs.lemmas.Bool.{cond-true}
 use Rattle.kob_names.specs.declared.record.Record.{Record}
-use Rattle.kob_rights.specs.Offsets.{BodyWithin, greatest_offset}
 use Rattle.kob_rights.specs.declared.on_partitions.Fetch.{Fetch as FetchRequest}
 use Rattle.kob_rights.specs.declared.request.Request.{Request}
 use Rattle.kob_rights.specs.declared.request.Request.TheVariants.{Fetch, OffsetCommit}
@@ -25,9 +23,9 @@ use Rattle.kob_inbox.specs.declared.tick.Tick.{Tick}
 use Rattle.kob_inbox.specs.declared.tick.Tick.TheVariants.{Committed, Repeat, Stopped}
 use Rattle.kob_inbox.specs.declared.tick.StopReason.TheVariants as stop
 use Rattle.kob_inbox.specs.Contents.{Contents}
-use Rattle.kob_inbox.specs.Cursors.{cursor_of, standing}
+use Rattle.kob_inbox.specs.Cursors.{cursor_of, standing, with_progress}
 use Rattle.kob_inbox.specs.Intake.{arrivals, taken_in, with_record}
-use Rattle.kob_inbox.specs.Run.{State, IsDue, after_answer, behind, due, turn_after}
+use Rattle.kob_inbox.specs.Run.{State, IsDue, after_answer, after_done, behind, due, turn_after}
 use Rattle.kob_inbox.specs.Run.Move.{Called}
 use Rattle.kob_inbox.specs.Tick.{Hears, IsAnswer, Scene, Ticks}
 
@@ -46,18 +44,24 @@ behind_last n [] x = refl
 behind_last n (y ∷ ys) x = behind_last (y.0 + 1) ys x
 
 -- the turn stays where there are records
-pub turn_stays : (t : Subscription) (turn : ℕ) (asked : FetchRequest) (rs : List (ℕ × Record)) → 0 < length rs
+turn_stays : (t : Subscription) (turn : ℕ) (asked : FetchRequest) (rs : List (ℕ × Record)) → 0 < length rs
     → turn ≡ turn_after t turn (Fetch asked) (bodies.Records rs)
 turn_stays t turn asked [] h = absurd (omega arith)
 turn_stays t turn asked (r ∷ rs) h = refl
 
 -- ---- the request that is due
 
-pub is_due : (t : Subscription) (s : State) (p : Place) (stood : Option Standing) (request : Request)
-    → slice_get t.assignment s.turn ≡ Some p → stood ≡ standing (cursor_of s.cursors p) → request ≡ due t p stood
+pub is_due : (t : Subscription) (s : State) (p assigned : Place) (places : List Place) (cursors : List Cursor)
+    (stood : Option Standing) (request : Request) → places ≡ t.assignment → slice_get places s.turn ≡ Some assigned
+    → p ≡ assigned → cursors ≡ s.cursors → stood ≡ standing (cursor_of cursors p) → request ≡ due t p stood
     → IsDue t s request
-is_due t s p stood request turn stands asked =
-    record { place = p; its_turn = turn; is_due = asked ∙ ap (λ (x : Option Standing). due t p x) stands }
+is_due t s p assigned places cursors stood request whole turn copied same stands asked = record {
+  place = p;
+  its_turn = ap (λ (ps : List Place). slice_get ps s.turn) (sym whole) ∙ turn
+      ∙ ap (λ (q : Place). Some q) (sym copied);
+  is_due = asked ∙ ap (λ (x : Option Standing). due t p x) stands
+      ∙ ap (λ (cs : List Cursor). due t p (standing (cursor_of cs p))) same;
+}
 
 abbrev pub commit_at : Subscription → Place → ℕ → Request
 commit_at t p position =
@@ -92,45 +96,40 @@ ticks_still t s request heard before now u v tick due same made noted answer = r
   counted = noted;
 }
 
-pub ticks_lost : (t : Subscription) (s : State) (request : Request) (before now : List Call) (u v : ℕ)
-    → IsDue t s request → Adds before now u v request Lost → Ticks t (scene s before u) (scene s now v) Repeat
-ticks_lost t s request before now u v due (inl made) =
-    ticks_still t s request None before now u v Repeat due refl made.0 made.1 (inr (request, refl))
-ticks_lost t s request before now u v due (inr unmade) =
-    record { moves = []; run = refl; calls = unmade.0 ∙ sym (append-nil before); answer = inl refl; counted = unmade.1 }
-
 heard_as : (before now : List Call) (request : Request) (a b : Reply)
     → now ≡ before ++ record { request = request; heard = Some a } ∷ [] → a ≡ b
     → now ≡ before ++ record { request = request; heard = Some b } ∷ []
 heard_as before now request a b made same =
     made ∙ ap (λ (r : Reply). before ++ record { request = request; heard = Some r } ∷ []) same
 
-pub ticks_denied : (t : Subscription) (s : State) (request : Request) (reply : Reply) (code : _) (verdicts : _)
-    (before now : List Call) (u v : ℕ) → IsDue t s request
-    → (now ≡ before ++ record { request = request; heard = Some reply } ∷ []) × (v ≡ u) → reply ≡ Denied code verdicts
-    → Ticks t (scene s before u) (scene s now v) (Stopped (stop.Denied code verdicts))
-ticks_denied t s request reply code verdicts before now u v due made is =
-    ticks_still t s request (Some (Denied code verdicts)) before now u v (Stopped (stop.Denied code verdicts)) due refl
-    (heard_as before now request reply (Denied code verdicts) made.0 is) made.1 (request, refl)
+module _ (t : Subscription) (s : State) (asked : Request) (before now : List Call) (u v : ℕ)
+    (due : IsDue t s asked) where
+  pub ticks_lost : Adds before now u v asked Lost → Ticks t (scene s before u) (scene s now v) Repeat
+  ticks_lost (inl made) = ticks_still t s asked None before now u v Repeat due refl made.0 made.1 (inr (asked, refl))
+  ticks_lost (inr unmade) =
+      let calls = unmade.0 ∙ sym (append-nil before) in
+      record { moves = []; run = refl; calls = calls; answer = inl refl; counted = unmade.1 }
 
-pub ticks_refused : (t : Subscription) (s : State) (request : Request) (reply : Reply) (code : _) (reason : _)
-    (before now : List Call) (u v : ℕ) → IsDue t s request
-    → (now ≡ before ++ record { request = request; heard = Some reply } ∷ []) × (v ≡ u) → reply ≡ Refused code reason
-    → Ticks t (scene s before u) (scene s now v) (Stopped (stop.Refused code reason))
-ticks_refused t s request reply code reason before now u v due made is =
-    ticks_still t s request (Some (Refused code reason)) before now u v (Stopped (stop.Refused code reason)) due refl
-    (heard_as before now request reply (Refused code reason) made.0 is) made.1 (request, refl)
+  module _ (reply : Reply)
+      (made : (now ≡ before ++ record { request = asked; heard = Some reply } ∷ []) × (v ≡ u)) where
+    pub ticks_denied : (code : _) (verdicts : _) → reply ≡ Denied code verdicts
+        → Ticks t (scene s before u) (scene s now v) (Stopped (stop.Denied code verdicts))
+    ticks_denied code verdicts is =
+        ticks_still t s asked (Some (Denied code verdicts)) before now u v (Stopped (stop.Denied code verdicts)) due
+        refl (heard_as before now asked reply (Denied code verdicts) made.0 is) made.1 (asked, refl)
 
--- a body was heard
-pub ticks_heard : (t : Subscription) (s new : State) (asked request : Request) (reply : Reply) (body : Body)
-    (before now : List Call) (u v : ℕ) (tick : Tick) → IsDue t s asked → asked ≡ request
-    → (now ≡ before ++ record { request = asked; heard = Some reply } ∷ []) × (v ≡ u) → reply ≡ Done body
-    → Hears t s new request body tick → Ticks t (scene s before u) (scene new now v) tick
-ticks_heard t s new asked request reply body before now u v tick due same made is k =
-    let due_too : IsDue t s request = subst (λ (r : Request). IsDue t s r) same due in
-    record {
+    pub ticks_refused : (code : _) (reason : _) → reply ≡ Refused code reason
+        → Ticks t (scene s before u) (scene s now v) (Stopped (stop.Refused code reason))
+    ticks_refused code reason is =
+        ticks_still t s asked (Some (Refused code reason)) before now u v (Stopped (stop.Refused code reason)) due refl
+        (heard_as before now asked reply (Refused code reason) made.0 is) made.1 (asked, refl)
+
+    -- a body was heard
+    pub ticks_heard : (new : State) (request : Request) (body : Body) (tick : Tick) → asked ≡ request
+        → reply ≡ Done body → Hears t s new request body tick → Ticks t (scene s before u) (scene new now v) tick
+    ticks_heard new request body tick same is k = record {
       moves = Called (record { request = request; heard = Some (Done body) }) k.count ∷ [];
-      run = ((due_too, k.within), k.changed);
+      run = ((subst (λ (r : Request). IsDue t s r) same due, k.within), k.changed);
       calls = heard_as before now asked reply (Done body) made.0 is
           ∙ ap (λ (r : Request). before ++ record { request = r; heard = Some (Done body) } ∷ []) same;
       answer = k.answer;
@@ -155,18 +154,22 @@ hears_committed t s new p stood st body is on heard changed =
     subst (λ (q : Request). Hears t s new q body Committed) (sym (due_commit t p stood st is on))
     (subst (λ (b : Body). Hears t s new r b Committed) (sym heard) k)
 
-pub records_within : (body : Body) (rs : List (ℕ × Record)) → body ≡ bodies.Records rs → BodyWithin body
-    → All (λ (entry : ℕ × Record). entry.0 < greatest_offset) rs
-records_within body rs heard within = subst BodyWithin heard within
-
 abbrev pub state_with : Contents → List Cursor → ℕ → State
 state_with inbox cursors turn = record { inbox = inbox; cursors = cursors; turn = turn }
 
-pub same_state : (i j : Contents) (cs ds : List Cursor) (a b : ℕ) → i ≡ j → cs ≡ ds → a ≡ b
-    → state_with i cs a ≡ state_with j ds b
-same_state i j cs ds a b e f g =
-    ap (λ (x : Contents). state_with x cs a) e ∙ ap (λ (x : List Cursor). state_with j x a) f
-    ∙ ap (λ (x : ℕ). state_with j ds x) g
+-- so many of the records were taken in
+pub took : (t : Subscription) (s : State) (p : Place) (position n after turn : ℕ) (rs : List (ℕ × Record))
+    (inbox : Contents) (cursors : List Cursor) → 0 < length rs → inbox ≡ taken_in s.inbox (arrivals p (take n rs))
+    → cursors ≡ with_progress s.cursors p n after → after ≡ behind position (take n rs) → turn ≡ s.turn
+    → state_with inbox cursors turn ≡ after_done t s (fetch_at t p position) (bodies.Records rs) n
+took t s p position n after turn rs inbox cursors some taken moved passed stays =
+    ap (λ (x : Contents). state_with x cursors turn) taken
+    ∙ ap (λ (x : List Cursor). state_with (taken_in s.inbox (arrivals p (take n rs))) x turn)
+    (moved ∙ ap (λ (k : ℕ). with_progress s.cursors p n k) passed)
+    ∙ ap (λ (x : ℕ). state_with (taken_in s.inbox (arrivals p (take n rs)))
+    (with_progress s.cursors p n (behind position (take n rs))) x)
+    (stays ∙ turn_stays t s.turn (record { topic = p.topic; partition = p.partition; offset = position; max = t.max })
+    rs some)
 
 -- the same over cursors that a growth left as they were
 pub regrown : (t : Subscription) (inbox : Contents) (cs ds : List Cursor) (turn : ℕ) (before now : List Call) (u v : ℕ)

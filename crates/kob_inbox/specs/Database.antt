@@ -1,8 +1,8 @@
 -- A database that is a consumer's.
-use Rattle.std.specs.Prelude.{◌≡◌, false, None}
 use Rattle.sqlite.specs.Held.{Held}
 use Rattle.sqlite.specs.State.{State}
 use Rattle.sqlite_trees.specs.declared.memory.MemStore.{MemStore}
+use Rattle.kob_outbox.specs.Blank.{IsAtRest}
 use Rattle.kob_outbox.specs.Service.{database}
 use Rattle.kob_inbox.specs.Contents.{Contents}
 use Rattle.kob_inbox.specs.Layout.{Holds, contents_in}
@@ -13,9 +13,5 @@ abbrev pub contents : Held MemStore → Contents
 contents conn = contents_in (database conn).now.trees
 
 -- the database is an inbox, between its statements
-pub record IsInbox (s : State) : Type 0 where
-  pub schema : s.now.schema ≡ inbox_schema
-  pub settled : s.committed ≡ s.now
-  pub idle : s.in_transaction ≡ false
-  pub unlimited : s.step_limit ≡ None
-  pub holds : Holds (contents_in s.now.trees) s.now.trees
+abbrev pub IsInbox : State → Type 0
+IsInbox = IsAtRest inbox_schema (λ trees. Holds (contents_in trees) trees)

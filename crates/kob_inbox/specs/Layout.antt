@@ -1,5 +1,5 @@
 -- How the events stand in the rows of the table.
-use Rattle.std.specs.Prelude.{◌≡◌, ℕ, zero, suc, ◌<◌, ◌^◌, length, pos, List, [], ◌∷◌, map, Option, None, Some}
+use Rattle.std.specs.Prelude.{◌≡◌, ℕ, ◌<◌, ◌^◌, length, pos, List, [], ◌∷◌, map, Option, None, Some}
 use Rattle.std.specs.List.{AllByRecursion, enumerate_from}
 use Rattle.std.specs.Str.{IsUtf8}
 use Rattle.sqlite.specs.declared.types.Value.{Value}
@@ -89,8 +89,3 @@ pub record IsShown (row : Row) : Type 0 where
   pub event : Intake
   pub is : row ≡ shown_intake (place, event)
   pub readable : IsReadable event
-
--- the last place, where one is taken
-abbrev pub shown_last : ℕ → List Row
-shown_last zero = []
-shown_last (suc n) = (Int (pos (suc n)) ∷ []) ∷ []

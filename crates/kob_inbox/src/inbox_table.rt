@@ -6,12 +6,13 @@ ghost use Rattle.std.specs.List.{enumerate_from};
 ghost use Rattle.sqlite.specs.declared.types.Value.TheVariants.{Int};
 ghost use Rattle.std.specs.Option.{option_copied};
 ghost use Rattle.kob_outbox.specs.Blank.{IsBlank};
+ghost use Rattle.kob_outbox.specs.Layout.{shown_last};
 ghost use Rattle.kob_outbox.specs.Service.{database};
 ghost use Rattle.kob_outbox.specs.Tables.{no_schema};
 ghost use Rattle.kob_inbox.specs.Contents.{next_place};
 ghost use Rattle.kob_inbox.specs.Database.{IsInbox, contents};
 ghost use Rattle.kob_inbox.specs.Intake.{intake_of, is_there, with_intake};
-ghost use Rattle.kob_inbox.specs.Layout.{IsReadable, shown_intake, shown_last};
+ghost use Rattle.kob_inbox.specs.Layout.{IsReadable, shown_intake};
 ghost use Rattle.kob_inbox.specs.Origin.{arrival_from};
 
 use crate::origin::Origin;

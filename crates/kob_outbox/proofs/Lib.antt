@@ -3,7 +3,6 @@ pub mod Events
 pub mod Holding
 pub mod Lawful
 pub mod Marks
-pub mod Memory
 pub mod Reading
 pub mod Recording
 pub mod Renewing

@@ -2,10 +2,12 @@
 pub mod Creating
 pub mod Failing
 pub mod Ignoring
-pub mod Ordering
+pub mod Numbered
+pub mod Picking
 pub mod Plain
-pub mod Putting
+pub mod Selecting
 pub mod Steps
 pub mod Taking
 pub mod Values
+pub mod Words
 pub mod Writing

@@ -1,5 +1,6 @@
 -- A database that is a service's.
 use Rattle.std.specs.Prelude.{◌≡◌, ℕ, List, false, true, None, IsTrue}
+use Rattle.kob_outbox.specs.Blank.{IsAtRest}
 use Rattle.sqlite.specs.Held.{Held, state}
 use Rattle.sqlite.specs.State.{State}
 use Rattle.sqlite.specs.Steps.{over_memory}
@@ -22,12 +23,8 @@ abbrev pub contents : Held MemStore → Contents
 contents conn = contents_of (database conn)
 
 -- the database is the service's, between its statements
-pub record IsService (s : State) : Type 0 where
-  pub schema : s.now.schema ≡ service_schema
-  pub settled : s.committed ≡ s.now
-  pub idle : s.in_transaction ≡ false
-  pub unlimited : s.step_limit ≡ None
-  pub holds : Holds (contents_in s.now.trees) s.now.trees
+abbrev pub IsService : State → Type 0
+IsService = IsAtRest service_schema (λ trees. Holds (contents_in trees) trees)
 
 -- the same in a transaction, in which statements have changed it
 pub record IsChanging (s : State) : Type 0 where
@@ -35,6 +32,11 @@ pub record IsChanging (s : State) : Type 0 where
   pub begun : IsTrue s.in_transaction
   pub unlimited : s.step_limit ≡ None
   pub holds : Holds (contents_in s.now.trees) s.now.trees
+
+-- what each statement in a transaction leaves: the last commit, and the limit on steps
+pub record KeepsLast (old new : State) : Type 0 where
+  pub committed : new.committed ≡ old.committed
+  pub limit : new.step_limit ≡ old.step_limit
 
 -- what the statement that spends an id did, by the number of rows that it wrote
 pub record Spends (id : List ℕ) (old new : State) (count : ℕ) : Type 0 where

@@ -1,26 +1,18 @@
 -- What CREATE TABLE makes of a database whose tables are empty.
 use Rattle.std.proofs.Common.{◌≡◌, ℕ, List, [], ◌∷◌, ◌++◌, false, None, Ok, Err, Result, OnOk, sym, ap, subst, ◌∙◌, if◌then◌else◌}
 use Rattle.std.specs.List.{AllByRecursion}
-use Rattle.sqlite.specs.Schema.{Schema}
-use Rattle.sqlite.specs.Table.{Table}
-use Rattle.sqlite.specs.Tree.{Trees}
-use Rattle.sqlite.specs.Command.TheVariants.{CreateTable}
-use Rattle.sqlite.specs.declared.error.Error.{Error}
-use Rattle.sqlite.specs.Compile.{table_defined_by}
-use Rattle.sqlite.specs.Change.{created, next_tree}
-use Rattle.sqlite_catalog.specs.Change.{KeepsRows}
-use Rattle.sqlite.specs.Does.{Tally, lacks_sequence}
-use Rattle.sqlite.specs.Effect.{Database}
-use Rattle.sqlite.specs.Listing.{understood}
-use Rattle.sqlite.specs.State.{State, Writes, Executes}
-use Rattle.sqlite.proofs.Callers.{IsPlain, command_of, statement_of, runs_as}
+use Rattle.kob_outbox.proofs.statements.Words.{CreateTable, Database, Error, Executes, HasCleanDisk, Held, IsPlain, KeepsRows, MemStore, Schema, State, Table, Tally, Trees, Writes, command_of, created, lacks_sequence, memory_is_clean, next_tree, runs_as, statement_of, table_defined_by, understood}
 use Rattle.kob_outbox.specs.Blank.{IsBlank}
+use Rattle.kob_outbox.specs.Service.{database}
 use Rattle.kob_outbox.proofs.statements.Plain.{went, same_value}
 
-abbrev pub IsCreation : Schema → List ℕ → Table → Type 0
-IsCreation schema text table =
-    (command_of (understood schema text) ≡ CreateTable) × (statement_of text (understood schema text) ≡ text)
-    × (table_defined_by text ≡ Ok table)
+-- the text makes this table, which counts no rowids
+pub record IsCreation (schema : Schema) (text : List ℕ) (table : Table) : Type 0 where
+  pub is : command_of (understood schema text) ≡ CreateTable
+  pub whole : statement_of text (understood schema text) ≡ text
+  pub defines : table_defined_by text ≡ Ok table
+  pub plain : IsPlain (understood schema text)
+  pub counts_none : lacks_sequence (created schema table) ≡ false
 
 still_empty : (tables : List Table) (old new : Trees) → AllByRecursion (λ t. old t.tree ≡ []) tables
     → KeepsRows tables old new → AllByRecursion (λ t. new t.tree ≡ []) tables
@@ -40,27 +32,27 @@ pub record Created (schema : Schema) (table : Table) (old new : State) : Type 0 
   pub committed : new.committed ≡ (if old.in_transaction then old.committed else new.now)
   pub mode : new.in_transaction ≡ old.in_transaction
 
-module _ (text : List ℕ) (schema : Schema) (table : Table) (is : IsCreation schema text table)
-    (plain : IsPlain (understood schema text)) (uncounted : lacks_sequence (created schema table) ≡ false) where
+module _ {schema : Schema} {text : List ℕ} {table : Table} (it : IsCreation schema text table) where
   pub made_table : (old new : State) (count : ℕ) → old.now.schema ≡ schema → Executes text [] old new (Ok count)
       → Created schema table old new
   made_table old new count has h =
       let ran =
-      subst (λ t. Writes old new None CreateTable t [] count) is.1
-      (runs_as text [] old new schema has CreateTable is.0 plain count h) in
+      subst (λ t. Writes old new None CreateTable t [] count) it.whole
+      (runs_as text [] old new schema has CreateTable it.is it.plain count h) in
       let all = went ran.changed in
       let first = went all.1 in
       let made = first.1 in
-      let both : Ok made.table ≡ Ok table = sym made.defined ∙ is.2 in
+      let both : Ok made.table ≡ Ok table = sym made.defined ∙ it.defines in
       let same : made.table ≡ table = cc in
       let now_schema : first.0.schema ≡ created schema table =
       made.is ∙ ap (λ s. created s made.table) has ∙ ap (created schema) same in
-      let skips : lacks_sequence first.0.schema ≡ false = ap lacks_sequence now_schema ∙ uncounted in
+      let skips : lacks_sequence first.0.schema ≡ false = ap lacks_sequence now_schema ∙ it.counts_none in
       let now : new.now ≡ first.0 =
       ap (λ (p : Tally × Database). p.1) (same_value all.2) ∙ same_value (rw skips at first.2) in
       let kept : KeepsRows schema.tables old.now.trees first.0.trees =
       subst (λ (s : Schema). KeepsRows s.tables old.now.trees first.0.trees) has made.others in
-      let fresh : first.0.trees (next_tree schema) ≡ [] = subst (λ s. first.0.trees (next_tree s) ≡ []) has made.empty in
+      let fresh : first.0.trees (next_tree schema) ≡ [] =
+      subst (λ s. first.0.trees (next_tree s) ≡ []) has made.empty in
       record {
         schema_is = ap (λ (d : Database). d.schema) now ∙ now_schema;
         kept = subst (λ (d : Database). KeepsRows schema.tables old.now.trees d.trees) (sym now) kept;
@@ -69,16 +61,19 @@ module _ (text : List ℕ) (schema : Schema) (table : Table) (is : IsCreation sc
         mode = ran.shown.mode;
       }
 
-  pub creates : (old new : State) (r : Result ℕ Error) → IsBlank schema old → new.step_limit ≡ old.step_limit
-      → Executes text [] old new r → OnOk r (IsBlank (created schema table) new)
-  creates old new (Err e) has limit h = tt
-  creates old new (Ok count) has limit h =
-      let made = made_table old new count has.schema_is h in
+  pub creates : (old new : Held MemStore) (r : Result ℕ Error) → IsBlank schema (database old)
+      → (database new).step_limit ≡ (database old).step_limit
+      → (HasCleanDisk (database new) → Executes text [] (database old) (database new) r)
+      → OnOk r (IsBlank (created schema table) (database new))
+  creates old new (Err e) has limit runs = tt
+  creates old new (Ok count) has limit runs =
+      let made = made_table (database old) (database new) count has.schema (runs (memory_is_clean new)) in
       record {
-        schema_is = made.schema_is;
+        schema = made.schema_is;
         settled = rw has.idle at made.committed;
         idle = made.mode ∙ has.idle;
         unlimited = limit ∙ has.unlimited;
-        empty = and_last schema.tables (record table { tree = next_tree schema }) new.now.trees
-            (still_empty schema.tables old.now.trees new.now.trees has.empty made.kept) made.fresh;
+        holds = and_last schema.tables (record table { tree = next_tree schema }) (database new).now.trees
+            (still_empty schema.tables (database old).now.trees (database new).now.trees has.holds made.kept)
+            made.fresh;
       }

@@ -1,29 +1,9 @@
 -- Over memory a query fails for want of memory alone.
-use Rattle.std.proofs.Common.{Some, ◌⊎◌, Bool, Option, ◌||◌, ◌&&◌, ◌≡◌, inl, inr, ℕ, ◌≤◌, List, [], length, true, false, None, Ok, Err, Result, sym, ap, subst, subst₂, ◌∙◌, arith, append-nil}
-use Rattle.sqlite_trees.specs.declared.error.StoreError.TheVariants.{OutOfMemory, Io, Corrupt, Full, Broken, Unstorable}
-use Rattle.sqlite_resolve.specs.declared.compiled.Compiled.{Compiled}
-use Rattle.sqlite_resolve.specs.declared.error.CompileError.{CompileError}
-use Rattle.sqlite_typing.specs.Types.{accepts_program}
-use Rattle.sqlite_sql.specs.Program.{ProgramOverflows}
-use Rattle.sqlite.specs.Command.TheVariants.{Select}
-use Rattle.sqlite.specs.declared.error.Error.{Error}
-use Rattle.sqlite.specs.declared.error.Error.TheVariants.{SqliteFailure}
+use Rattle.std.proofs.Common.{Some, ◌⊎◌, Bool, Option, ◌||◌, ◌&&◌, ◌≡◌, inl, inr, ℕ, ◌≤◌, List, [], length, true, false, None, Ok, Err, Result, sym, ap, subst, subst₂, ◌∙◌, arith, append-nil, ◌≢◌}
+use Rattle.kob_outbox.proofs.statements.Words.{Broken, Command, CompileError, Compiled, Corrupt, Does, Error, Escapes, Executes, Fails, Full, Io, IsMisplaced, IsNoStatement, IsPlain, IsReadError, IsSourceOf, ProgramOverflows, Query, RefusesToRead, Row, Schema, Select, SqliteFailure, State, Trees, Unstorable, Value, accepts_program, command_of, end, inner, is_pragma, is_query, mode_of, reads_listing, shows_rows, text_of, timed, understood}
+use Rattle.sqlite_trees.specs.declared.error.StoreError.TheVariants.{OutOfMemory}
 use Rattle.sqlite.specs.declared.error.ErrorCode.TheVariants as code
-use Rattle.sqlite.specs.Order.{Row}
-use Rattle.sqlite.specs.Query.{Query, inner, end}
-use Rattle.sqlite.specs.Schema.{Schema}
-use Rattle.sqlite.specs.Tree.{Trees}
-use Rattle.sqlite.specs.Effect.{RefusesToRead}
-use Rattle.sqlite.specs.Listing.{understood, reads_listing, IsSourceOf}
-use Rattle.sqlite.specs.State.{EndsScope, Escapes, State, Fails, IsNoStatement, IsNotRun, IsMisplaced, FailsToQuery, Executes, ExecutesIn, is_pragma, mode_of, shows_rows, text_of}
-use Rattle.sqlite.specs.Command.{Command}
-use Rattle.sqlite.specs.Does.{Does}
-use Rattle.sqlite.specs.Effect.{is_query}
-use Rattle.sqlite.specs.Clock.{timed}
-use Rattle.sqlite.proofs.Callers.{IsPlain, command_of}
-use Rattle.std.proofs.Common.{◌≢◌}
-use Rattle.sqlite.specs.declared.types.Value.{Value}
-use Rattle.sqlite.specs.Reading.{IsReadError}
+use Rattle.sqlite.specs.State.{EndsScope, IsNotRun, FailsToQuery, ExecutesIn}
 
 -- the text is one statement with so many parameters
 abbrev pub IsWhole : ℕ → List ℕ → Result Compiled CompileError → Type 0

@@ -1,37 +1,31 @@
 -- INSERT OR IGNORE of one row.
-use Rattle.std.proofs.Common.{ℤ, ◌≡◌, inl, inr, ℕ, List, [], ◌∷◌, ◌++◌, length, true, None, Some, Option, Ok, Err, refl, sym, subst, ◌∙◌}
+use Rattle.std.proofs.Common.{ℤ, ◌≡◌, inl, inr, ℕ, suc, ◌<◌, ◌^◌, pos, List, [], ◌∷◌, ◌++◌, length, map, Bool, true, false, None, Some, Option, Ok, Err, refl, sym, ap, subst, subst₂, ◌∙◌, arith, if◌then◌else◌}
 use Rattle.std.specs.Prelude.{◌/◌}
-use Rattle.std.specs.List.{AllByRecursion}
-use Rattle.sqlite.specs.Order.{Row}
-use Rattle.sqlite.specs.Tree.{Trees}
-use Rattle.sqlite.specs.Table.{Table}
-use Rattle.sqlite.specs.Schema.{Schema}
-use Rattle.sqlite.specs.Term.{Term}
-use Rattle.sqlite.specs.Command.TheVariants.{InsertOr}
-use Rattle.sqlite.specs.Source.TheVariants.{Values}
-use Rattle.sqlite_schema.specs.declared.command.Source.{Source}
-use Rattle.sqlite.specs.State.{Escapes, IsMisplaced, State}
-use Rattle.sqlite.specs.Effect.{value_rows}
-use Rattle.sqlite.specs.Rows.{Outcome, Task, Written, Clears, Judged, InsertsOr, Sourced, Tries, TriesEach, count_of, nothing}
-use Rattle.sqlite.specs.Does.{Concludes, OnRows}
-use Rattle.sqlite.specs.declared.error.Error.{Error}
-use Rattle.sqlite.specs.declared.run.Mode.{Mode}
-use Rattle.sqlite_schema.specs.declared.command.Conflict.TheVariants.{Ignore}
-use Rattle.sqlite_schema.specs.declared.schema.Among.{Among}
-use Rattle.sqlite_schema.specs.declared.schema.Keys.{Keys}
-use Rattle.sqlite_schema.specs.Rules.{Refers}
-use Rattle.sqlite_rules.specs.declared.error.Refusal.{Refusal}
-use Rattle.sqlite_rules.specs.Edit.{id_in}
-use Rattle.sqlite_rules.specs.Keys.{AreConflicts}
-use Rattle.sqlite_rules.specs.Steps.{IsJudged}
-use Rattle.sqlite_sql.specs.Ops.{fits_i64}
-use Rattle.sqlite_typing.specs.Types.{accepts_terms}
-use Rattle.sqlite_trees.specs.Tree.{rowid}
-use Rattle.kob_outbox.proofs.statements.Steps.{IsAlone, candidate, task_on, uncounted}
+use Rattle.std.specs.List.{AllByRecursion, enumerate_from, list_any}
+use Rattle.kob_outbox.proofs.statements.Words.{Among, AreConflicts, AtPlace, BadReference, Check, Clears, Command, Concludes, Database, Datatype, Enforced, Error, Escapes, Executes, ForeignKey, Given, Has, Ignore, InsertOr, InsertsOr, Int, IsJudged, IsMisplaced, Judged, Keys, Mismatch, Mode, NoRowid, NotNull, OnRows, OnTable, Outcome, PrimaryKey, Refers, Refusal, Row, Schema, Source, Sourced, State, Table, Task, Term, TooDeep, Trees, Tries, TriesEach, Unique, Values, Violates, Written, accepts_terms, cast_row, conflicts, count_of, edit_of, edited, fits_i64, id_in, mode_of, nothing, put_row, rowid, understood, value_rows}
+use Rattle.kob_outbox.proofs.statements.Failing.{IsMemory, IsWhole, NeverFails, for_memory_or}
+use Rattle.kob_outbox.proofs.statements.Numbered.{at_row, put_last, row_of}
+use Rattle.kob_outbox.proofs.statements.Plain.{same_value}
+use Rattle.kob_outbox.proofs.statements.Steps.{IsAlone, KeepOthers, Tried, candidate, put, task_on, tried, uncounted}
+use Rattle.kob_outbox.proofs.statements.Values.{fits, not_true}
+use Rattle.kob_outbox.proofs.statements.Writing.{IsWriting, wrote}
 
 -- nothing in the row alone speaks against it
 abbrev pub IsSuited : Table → Row → Type 0
 IsSuited table new = (why : Refusal) → ¬ (IsJudged (uncounted table) new (Some why))
+
+-- as where a row passes each test on it
+pub suits_by : (table : Table) (row : Row) → IsJudged (uncounted table) row None → IsSuited table row
+suits_by table row fine (Violates NotNull) judged = let no = sym fine.2 ∙ judged in cc
+suits_by table row fine (Violates Check) judged = let no = sym fine.3 ∙ judged in cc
+suits_by table row fine (Violates Datatype) judged = let no = sym fine.1 ∙ judged in cc
+suits_by table row fine (Violates PrimaryKey) judged = judged
+suits_by table row fine (Violates Unique) judged = judged
+suits_by table row fine (Violates ForeignKey) judged = judged
+suits_by table row fine Mismatch judged = let no = sym fine.0 ∙ judged in cc
+suits_by table row fine NoRowid judged = judged
+suits_by table row fine BadReference judged = judged
+suits_by table row fine TooDeep judged = judged
 
 -- no table refers to another
 abbrev pub ReferToNone : Schema → Type 0
@@ -122,3 +116,129 @@ module _ (limit : Option ℕ) (keys : Keys) (schema : Schema) (table : Table) (p
           let no : Err stop ≡ Ok _ = h in cc
       inserts why (inr (rows, sourced, inr (counter, counted, inr (done, tried, inr (next, h, e))))) =
           let no : Err why ≡ Ok _ = e in cc
+
+-- What such a statement does to a table that is numbered from 1 on: what is there already stays alone, and what is new
+-- goes last.
+pub record Ignored {X : Type 0} (schema : Schema) (table : Table) (row : ℕ × X → Row) (xs : List X) (x : X)
+    (there : Bool) (db after : Trees) (count : ℕ) : Type 0 where
+  pub fresh : there ≡ false → (count ≡ 1) × (after table.tree ≡ map row (enumerate_from 1 (xs ++ x ∷ [])))
+  pub again : there ≡ true → (count ≡ 0) × (after table.tree ≡ map row (enumerate_from 1 xs))
+  pub tables : KeepOthers table.tree db after schema.tables
+
+all_same : (tree : ℕ) (db next : Trees) (tables : List Table) → next ≡ db → KeepOthers tree db next tables
+all_same tree db next [] same = tt
+all_same tree db next (t ∷ tables) same =
+    (λ _. ap (λ (trees : Trees). trees t.tree) same, all_same tree db next tables same)
+
+module _ {schema : Schema} {text : List ℕ} {terms : List Term} {width at : ℕ} {table : Table}
+    (write : IsWriting schema text (InsertOr at Ignore (Values terms width) []) at table)
+    (alone : IsAlone schema Enforced table.tree) (params source : Row)
+    (given : value_rows (params ++ []) width (length terms / width) terms ≡ source ∷ [])
+    {X : Type 0} (row : ℕ × X → Row) (numbered : (p : ℕ × X) → rowid (row p) ≡ Int (pos p.0)) (same : X → X → Bool)
+    (conflict : (p q : ℕ × X) → p.0 < q.0
+    → conflicts None schema.indexes (uncounted table) (row q) (row p) ≡ same p.1 q.1) (old : State)
+    (has : old.now.schema ≡ schema) (n : ℕ) (x : X) (xs : List X) (next : n ≡ suc (length xs))
+    (holds : old.now.trees table.tree ≡ map row (enumerate_from 1 xs))
+    (cast : cast_row (uncounted table) (row (n, x)) ≡ row (n, x))
+    (tried_as : candidate old.step_limit Enforced schema table params alone Ignore old.now.trees source ≡ row (n, x))
+    (suits : IsSuited table (row (n, x))) where
+  abbrev db : Trees
+  db = old.now.trees
+
+  abbrev there : Bool
+  there = list_any (λ y. same y x) xs
+
+  abbrev task : Task
+  task = task_on old.step_limit Enforced schema table params
+
+  abbrev Found : List Row → Type 0
+  Found = AreConflicts None schema.indexes (uncounted table) (db table.tree) (row (n, x))
+
+  none_found : Found [] → there ≡ false
+  none_found h = not_true _ (λ found.
+      let it = row_of row (λ y. same y x) 1 xs found in
+      h.complete (row it.0) (subst (λ rows. Has rows (row it.0)) (sym holds) it.2)
+      (conflict it.0 (n, x) (omega (arith, it.1, next)) ∙ it.3))
+
+  some_found : (f : Row) (more : List Row) → Found (f ∷ more) → there ≡ true
+  some_found f more h =
+      let got = h.sound f (inl refl) in
+      let it = at_row row (λ y. same y x) 1 xs got.0 (subst (λ rows. Has rows got.0) holds got.1) in
+      it.3 (sym (conflict it.0 (n, x) (omega (arith, it.1, next)))
+      ∙ subst (λ r. conflicts None schema.indexes (uncounted table) (row (n, x)) r ≡ true) it.2 got.2)
+
+  abbrev Left : Trees → ℕ → Type 0
+  Left = Ignored schema table row xs x there db
+
+  cleared : (one : Written) (found : List Row) → Found found → Clears task Ignore (row (n, x)) db found (Ok one)
+      → Left one.trees (length one.rows)
+  cleared one [] conf h =
+      let done = put old.step_limit Enforced schema table params alone (row (n, x)) db one h in
+      let news : (edit_of db (uncounted table) [] Given 0 (row (n, x) ∷ [])).news ≡ row (n, x) ∷ [] =
+      ap (λ r. r ∷ []) cast in
+      let rows =
+      done.0.rows ∙ ap (λ news. edited db (record { table = uncounted table; gone = []; news = news })) news
+      ∙ ap (put_row (row (n, x))) holds ∙ put_last row numbered n xs x next in
+      record {
+        fresh = λ _. (ap length (done.1 ∙ news), rows);
+        again = λ found. absurd (let no = sym (none_found conf) ∙ found in cc);
+        tables = done.0.tables;
+      }
+  cleared one (f ∷ more) conf h =
+      let is : one ≡ nothing db = same_value h in
+      record {
+        fresh = λ absent. absurd (let no = sym absent ∙ some_found f more conf in cc);
+        again = λ _. (ap (λ (w : Written). length w.rows) is, ap (λ (w : Written). w.trees table.tree) is ∙ holds);
+        tables = all_same table.tree db one.trees schema.tables (ap (λ (w : Written). w.trees) is);
+      }
+
+  pub ignores : (new : State) (count : ℕ) → Executes text params old new (Ok count)
+      → Ignored schema table row xs x there old.now.trees new.now.trees count × (new.now.schema ≡ schema)
+      × (new.committed ≡ (if old.in_transaction then old.committed else new.now))
+      × (new.in_transaction ≡ old.in_transaction)
+  ignores new count h =
+      let it = wrote write params old new has count h in
+      let t =
+      tried old.step_limit Enforced schema table params alone Ignore [] terms width source db it.written given it.does in
+      let u = subst (Tried old.step_limit Enforced schema table params alone Ignore [] db it.written) tried_as t in
+      let judged =
+      judged_clears old.step_limit Enforced schema table params (row (n, x)) suits db (Ok u.one) u.verdict
+      u.judged u.does in
+      let after : new.now.trees ≡ u.one.trees = ap (λ (d : Database). d.trees) it.now ∙ u.trees in (
+        subst₂ Left (sym after) (sym (it.counted ∙ ap length u.rows)) (cleared u.one judged.0 judged.1 judged.2),
+        ap (λ (d : Database). d.schema) it.now,
+        it.committed,
+        it.mode,
+      )
+
+  -- where it is there, nothing but want of memory stops the statement
+  pub stopped_by_memory : ReferToNone schema → IsWhole (length params) text (understood schema text)
+      → accepts_terms terms (params ++ []) ≡ true → n < 2 ^ 63 → there ≡ true → (new : State) (e : Error)
+      → NeverFails old new → Executes text params old new (Err e) → IsMemory e
+  stopped_by_memory free whole accepted low found new e never h =
+      let putting : Command = InsertOr at Ignore (Values terms width) [] in
+      let small = ap (λ v. fits_i64 (id_in v)) (numbered (n, x)) ∙ fits n low in
+      elim (for_memory_or old new never text params schema has write.plain whole putting write.is refl
+      (not_misplaced at (Values terms width) old) e h) [
+        | inl memory ↦ memory
+        | inr stopped ↦ absurd (
+            never_stops old.step_limit Enforced schema table params free alone at terms width source (row (n, x)) db
+            (mode_of old) given never.unlimited accepted tried_as small suits
+            (λ conf. let no = sym found ∙ none_found conf in cc) stopped.1
+            (on_task stopped.1 (subst (λ s. OnTable old.step_limit (mode_of old) params
+            (record old.now { schema = s }) at (λ task. OnRows task (mode_of old) None putting db) (Err stopped.1)) has
+            stopped.2))
+            )
+      ]
+    where
+      on_task : (stop : Option Error) → OnTable old.step_limit (mode_of old) params
+          (record { schema = schema; trees = db }) at
+          (λ task. OnRows task (mode_of old) None (InsertOr at Ignore (Values terms width) []) db) (Err stop)
+          → OnRows task (mode_of old) None (InsertOr at Ignore (Values terms width) []) db (Err stop)
+      on_task stop h = subst (λ o. AtPlace (λ t. OnRows (record {
+        limit = old.step_limit;
+        keys = Enforced;
+        schema = schema;
+        table = t;
+        params = params;
+      }) (mode_of old) None (InsertOr at Ignore (Values terms width) []) db) o (Err stop)) write.found h

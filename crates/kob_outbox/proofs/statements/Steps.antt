@@ -1,35 +1,10 @@
 -- What a write does to the trees, where no foreign key and no AUTOINCREMENT is about.
-use Rattle.std.proofs.Common.{◌≡◌, inl, inr, ℕ, ℤ, List, [], ◌∷◌, ◌++◌, length, Bool, true, false, cond, None, Option, Ok, refl, sym, ap, subst, ◌∙◌}
-use Rattle.sqlite.specs.declared.types.Value.{Value}
-use Rattle.sqlite.specs.declared.types.Value.TheVariants.{Null, Int}
-use Rattle.sqlite.specs.Order.{Row}
-use Rattle.sqlite.specs.Tree.{Trees}
-use Rattle.sqlite.specs.Kind.TheVariants.{Integer}
-use Rattle.sqlite.specs.Table.{Table}
-use Rattle.sqlite.specs.Schema.{Schema}
-use Rattle.sqlite_schema.specs.declared.schema.Keys.{Keys}
+use Rattle.std.proofs.Common.{◌≡◌, ◌≢◌, inl, inr, ℕ, ℤ, List, [], ◌∷◌, ◌++◌, length, Bool, true, false, cond, None, Option, Ok, refl, sym, ap, subst, ◌∙◌}
+use Rattle.kob_outbox.proofs.statements.Words.{Answers, Applies, Chosen, Conflict, Counter, Counts, Deletes, Edit, Edited, Given, Gives, Inserts, InsertsOr, Int, Integer, IsJudged, IsSource, Judged, Keys, Null, Program, Puts, Refusal, Row, Schema, Source, Table, Task, Term, Then, Trees, TriesEach, Updates, Upsert, Value, Values, Written, cast, cast_row, count_of, edit_of, ids_of, last_id, mended, nothing, one_step, taken_by, value_rows, with_rowid, works}
 use Rattle.sqlite.specs.Ops.{unary}
-use Rattle.sqlite.specs.Cast.{cast}
-use Rattle.sqlite_schema.specs.declared.command.Source.{Source}
-use Rattle.sqlite_schema.specs.declared.program.Program.{Program}
-use Rattle.sqlite_schema.specs.declared.command.Conflict.{Conflict}
-use Rattle.sqlite_schema.specs.declared.command.Upsert.{Upsert}
-use Rattle.sqlite_rules.specs.declared.error.Rowids.TheVariants.{Chosen, Given}
-use Rattle.sqlite_rules.specs.Edit.{Edit, edit_of, Applies, taken_by}
-use Rattle.sqlite_rules.specs.Action.{works}
-use Rattle.sqlite_rules.specs.Calls.{ids_of}
-use Rattle.sqlite.specs.Effect.{Answers, IsSource}
-use Rattle.sqlite.specs.Rows.{Task, Written, Inserts, InsertsOr, Puts, Deletes, Updates, Edited, Judged, last_id, mended, Then, Counter, Counts, TriesEach, Gives, count_of, nothing}
+use Rattle.std.specs.List.{AllByRecursion}
 use Rattle.std.specs.Option.{option_or}
-use Rattle.sqlite.specs.Effect.{value_rows}
-use Rattle.sqlite.specs.Term.{Term}
-use Rattle.sqlite.specs.Cast.{cast_row}
-use Rattle.sqlite.specs.Source.TheVariants.{Values}
-use Rattle.sqlite_rules.specs.declared.error.Refusal.{Refusal}
-use Rattle.sqlite_rules.specs.Edit.{with_rowid}
-use Rattle.sqlite_rules.specs.Steps.{IsJudged}
 use Rattle.std.specs.Prelude.{◌/◌}
-use Rattle.sqlite.proofs.Callers.{one_step}
 use Rattle.kob_outbox.proofs.statements.Plain.{went, same_value}
 
 either : (b : Bool) (x : Value) → cond b x x ≡ x
@@ -52,17 +27,25 @@ abbrev pub task_on : Option ℕ → Keys → Schema → Table → Row → Task
 task_on limit keys schema table params =
     record { limit = limit; keys = keys; schema = schema; table = uncounted table; params = params }
 
+-- each of these tables but the one in this tree has the rows that it had
+abbrev pub KeepOthers : ℕ → Trees → Trees → List Table → Type 0
+KeepOthers tree db next tables = AllByRecursion (λ t. t.tree ≢ tree → next t.tree ≡ db t.tree) tables
+
 abbrev pub IsAlone : Schema → Keys → ℕ → Type 0
 IsAlone schema keys tree = (olds news : List Row) → works schema keys 0 tree olds news ≡ []
 
 module _ (limit : Option ℕ) (keys : Keys) (schema : Schema) (table : Table) (params : Row)
     (alone : IsAlone schema keys table.tree) where
-  pub applies : (db next : Trees) (gone : List ℤ) (news : List Row)
+  left : (db next : Trees) (gone : List ℤ) (news rows : List Row) (last : Option ℤ) (w : Written)
       → Edited schema keys db (record { table = uncounted table; gone = gone; news = news }) (Ok next)
-      → Applies schema keys db (record { table = uncounted table; gone = gone; news = news }) next
-  applies db next gone news h =
-      let edit : Edit = record { table = uncounted table; gone = gone; news = news } in
-      one_step schema keys db next edit (alone (taken_by db edit) news) h
+      → w ≡ record { trees = next; rows = rows; last = last }
+      → Applies schema keys db (record { table = uncounted table; gone = gone; news = news }) w.trees × (w.rows ≡ rows)
+  left db next gone news rows last w h is =
+      let edit : Edit = record { table = uncounted table; gone = gone; news = news } in (
+        subst (Applies schema keys db edit) (sym (ap (λ (it : Written). it.trees) is))
+            (one_step schema keys db next edit (alone (taken_by db edit) news) h),
+        ap (λ (it : Written). it.rows) is,
+      )
 
   pub inserted : (from : Source) (db : Trees) (w : Written)
       → Inserts (task_on limit keys schema table params) from db (Ok w)
@@ -74,18 +57,12 @@ module _ (limit : Option ℕ) (keys : Keys) (schema : Schema) (table : Table) (p
       let counted = went given.2 in
       let written = went counted.2 in
       let late = went written.2 in
-      let is : w ≡ record {
-        trees = late.0;
-        rows = (edit_of db (uncounted table) [] Chosen 0 given.0).news;
-        last = last_id (edit_of db (uncounted table) [] Chosen 0 given.0).news;
-      } = same_value late.2 in
-      let trees : w.trees ≡ written.0 = ap (λ (it : Written). it.trees) is ∙ same_value late.1 in
-      let edit = edit_of db (uncounted table) [] Chosen 0 given.0 in (
-        given.0,
-        given.1,
-        subst (Applies schema keys db edit) (sym trees) (applies db written.0 [] edit.news written.1),
-        ap (λ (it : Written). it.rows) is,
-      )
+      let news = (edit_of db (uncounted table) [] Chosen 0 given.0).news in
+      let left_with : Trees → Written = λ t. record { trees = t; rows = news; last = last_id news } in
+      let it =
+      left db written.0 [] news news (last_id news) w written.1
+      (same_value late.2 ∙ ap left_with (same_value late.1)) in
+      (given.0, given.1, it.0, it.1)
 
   pub deleted : (q : Program) (db : Trees) (w : Written) → Deletes (task_on limit keys schema table params) q db (Ok w)
       → (rows : List Row) × Answers (record { schema = schema; trees = db }) q params rows
@@ -94,14 +71,8 @@ module _ (limit : Option ℕ) (keys : Keys) (schema : Schema) (table : Table) (p
   deleted q db w h =
       let given = went h in
       let written = went given.2 in
-      let edit = edit_of db (uncounted table) (ids_of given.0) Given 0 [] in
-      let is : w ≡ record { trees = written.0; rows = taken_by db edit; last = None } = same_value written.2 in (
-        given.0,
-        given.1,
-        subst (Applies schema keys db edit) (sym (ap (λ (it : Written). it.trees) is))
-            (applies db written.0 (ids_of given.0) [] written.1),
-        ap (λ (it : Written). it.rows) is,
-      )
+      let it = left db written.0 (ids_of given.0) [] _ None w written.1 (same_value written.2) in
+      (given.0, given.1, it.0, it.1)
 
   pub updated : (q : Program) (given : Row) (db : Trees) (w : Written)
       → Updates (task_on limit keys schema table params) q given db (Ok w)
@@ -111,26 +82,17 @@ module _ (limit : Option ℕ) (keys : Keys) (schema : Schema) (table : Table) (p
   updated q given db w h =
       let found = went h in
       let written = went found.2 in
-      let edit = edit_of db (uncounted table) (ids_of found.0) Given 1 found.0 in
-      let is : w ≡ record { trees = written.0; rows = edit.news; last = None } = same_value written.2 in (
-        found.0,
-        found.1,
-        subst (Applies schema keys db edit) (sym (ap (λ (it : Written). it.trees) is))
-            (applies db written.0 (ids_of found.0) edit.news written.1),
-        ap (λ (it : Written). it.rows) is,
-      )
+      let news = (edit_of db (uncounted table) (ids_of found.0) Given 1 found.0).news in
+      let it = left db written.0 (ids_of found.0) news news None w written.1 (same_value written.2) in
+      (found.0, found.1, it.0, it.1)
 
   pub put : (new : Row) (db : Trees) (w : Written) → Puts (task_on limit keys schema table params) new db (Ok w)
       → Applies schema keys db (edit_of db (uncounted table) [] Given 0 (new ∷ [])) w.trees
       × (w.rows ≡ (edit_of db (uncounted table) [] Given 0 (new ∷ [])).news)
   put new db w h =
       let written = went h in
-      let edit = edit_of db (uncounted table) [] Given 0 (new ∷ []) in
-      let is : w ≡ record { trees = written.0; rows = edit.news; last = last_id edit.news } = same_value written.2 in (
-        subst (Applies schema keys db edit) (sym (ap (λ (it : Written). it.trees) is))
-            (applies db written.0 [] edit.news written.1),
-        ap (λ (it : Written). it.rows) is,
-      )
+      let news = (edit_of db (uncounted table) [] Given 0 (new ∷ [])).news in
+      left db written.0 [] news news (last_id news) w written.1 (same_value written.2)
 
   -- the row that is tried
   abbrev pub candidate : Conflict → Trees → Row → Row

@@ -1,18 +1,10 @@
 -- How numbers and texts compare in SQL.
-use Rattle.std.proofs.Common.{◌⊎◌, inl, inr, ◌≡◌, ℕ, pos, ◌<◌, ◌^◌, nat_lt, nat_le, bytes_eq, Bool, true, false, ◌||◌, List, refl, sym, ap, ◌∙◌, arith, Less, Equal, Greater, is_eq}
+use Rattle.std.proofs.Common.{◌⊎◌, inl, inr, ◌≡◌, ℕ, pos, ◌<◌, ◌^◌, nat_lt, nat_le, bytes_eq, Bool, true, false, ◌||◌, ◌&&◌, List, refl, sym, ap, ◌∙◌, arith, Less, Equal, Greater, is_eq, Some}
 use Rattle.std.specs.Ordering.{nat_cmp, int_cmp, is_gt, is_le}
 use Rattle.std.specs.Cmp.{nat_cmp_is}
 use Rattle.std.proofs.lemmas.Map.Text.{is_eq-slice_cmp}
-use Rattle.std.proofs.lemmas.Slice.Eq.{bytes_eq-Decides}
-use Rattle.sqlite.specs.declared.types.Value.TheVariants.{Int, Text}
-use Rattle.sqlite.specs.Collation.TheVariants.{Binary}
-use Rattle.sqlite_value.specs.Order.{value_cmp}
-use Rattle.sqlite_value.proofs.OrderLemmas.{value_cmp-Int, value_cmp-Text}
-use Rattle.sqlite_sql.specs.declared.ops.BinaryOp.TheVariants.{Compare}
-use Rattle.sqlite_sql.specs.declared.ops.CompareOp.TheVariants.{Gt, Le}
-use Rattle.sqlite_sql.specs.Ops.{binary, fits_i64, is_true, from_truth}
-use Rattle.std.proofs.Common.{Some}
-use Rattle.sqlite_schema.specs.Rules.{equal}
+use Rattle.kob_outbox.proofs.statements.Words.{Binary, Compare, Gt, Int, Le, Text, equal, fits_i64, from_truth, is_true, value_cmp, value_cmp-Int, value_cmp-Text}
+use Rattle.sqlite_sql.specs.Ops.{binary}
 
 truth_back : (b : Bool) → is_true (from_truth (Some b)) ≡ b
 truth_back true = refl
@@ -75,13 +67,22 @@ equal_numbers i k h = elim (nat_cases i k) [
   | inr (inr high) ↦ absurd (let e = rw (number_above i k high) at h in cc)
 ]
 
-pub same_text : (x : List ℕ) → bytes_eq x x ≡ true
-same_text x = (bytes_eq-Decides x x).1 refl
-
 pub fits : (n : ℕ) → n < 2 ^ 63 → fits_i64 (pos n) ≡ true
 fits n low = grind (arith, low)
 
 -- ---- tests
+
+pub and_true : (b : Bool) → (b && true) ≡ b
+and_true true = refl
+and_true false = refl
+
+-- one test alone
+pub alone_test : (b : Bool) → ((b && true) || false) ≡ b
+alone_test true = refl
+alone_test false = refl
+
+pub and_and_true : (a b : Bool) → (a && (b && true)) ≡ (a && b)
+and_and_true a b = ap (λ c. a && c) (and_true b)
 
 pub or_left : (a b : Bool) → a ≡ true → (a || b) ≡ true
 or_left true b h = refl

@@ -1,20 +1,9 @@
 -- From a statement's text to the rows that it writes.
-use Rattle.std.proofs.Common.{◌≡◌, ℕ, List, length, slice_get, if◌then◌else◌, Some, None, Option, Ok, ap, subst, ◌∙◌}
-use Rattle.std.specs.Prelude.{unwrap_or}
-use Rattle.sqlite.specs.Order.{Row}
-use Rattle.sqlite.specs.Table.{Table}
-use Rattle.sqlite.specs.Schema.{Schema}
-use Rattle.sqlite_schema.specs.declared.schema.Keys.TheVariants.{Enforced}
-use Rattle.sqlite.specs.Command.{Command}
-use Rattle.sqlite.specs.Does.{Tally, Does, OnTable, OnRows, WritesRows, AtPlace}
-use Rattle.sqlite.specs.Effect.{Database}
-use Rattle.sqlite.specs.Rows.{Written}
-use Rattle.sqlite.specs.declared.run.Mode.{Mode}
-use Rattle.sqlite.specs.Listing.{understood}
-use Rattle.sqlite.specs.State.{State, mode_of, Executes, Writes, Runs}
-use Rattle.sqlite.proofs.Callers.{IsPlain, command_of, statement_of, runs_as}
+use Rattle.std.proofs.Common.{◌≡◌, ℕ, List, [], ◌∷◌, ◌++◌, length, slice_get, if◌then◌else◌, Some, None, Option, Ok, sym, ap, subst, ◌∙◌}
+use Rattle.std.specs.Prelude.{◌/◌, unwrap_or}
+use Rattle.kob_outbox.proofs.statements.Words.{AtPlace, Chosen, Command, Database, Does, Enforced, Executes, Insert, IsPlain, Mode, OnRows, OnTable, Row, Runs, Schema, State, Table, Tally, Term, Trees, Values, Writes, WritesRows, Written, command_of, edit_of, edited, mode_of, put_row, runs_as, statement_of, understood, value_rows}
 use Rattle.kob_outbox.proofs.statements.Plain.{went, same_value}
-use Rattle.kob_outbox.proofs.statements.Steps.{uncounted, task_on}
+use Rattle.kob_outbox.proofs.statements.Steps.{IsAlone, KeepOthers, inserted, uncounted, task_on}
 
 -- what a statement on the rows of a table did
 pub record Wrote (schema : Schema) (table : Table) (params : Row) (command : Command) (old new : State)
@@ -33,20 +22,26 @@ IsOnRows command at =
     → Does limit mode params db text None command (Ok p)
     → OnTable limit mode params db at (λ task. OnRows task mode None command db.trees) (Ok p)
 
-module _ (sql : List ℕ) (params : Row) (old new : State) (schema : Schema) (has : old.now.schema ≡ schema)
-    (command : Command) (is : command_of (understood schema sql) ≡ command)
-    (plain : IsPlain (understood schema sql)) (at : ℕ) (table : Table)
-    (found : slice_get schema.tables at ≡ Some (uncounted table)) (on : IsOnRows command at)
-    (runs : (text : List ℕ) (count : ℕ) → Runs old new None command text params count
-    → Writes old new None command text params count) where
+-- the text is this command on the rows of the table at this place
+pub record IsWriting (schema : Schema) (text : List ℕ) (command : Command) (at : ℕ) (table : Table) : Type 1 where
+  pub is : command_of (understood schema text) ≡ command
+  pub plain : IsPlain (understood schema text)
+  pub found : slice_get schema.tables at ≡ Some (uncounted table)
+  pub on : IsOnRows command at
+  pub runs : (old new : State) (text : List ℕ) (params : Row) (count : ℕ)
+      → Runs old new None command text params count → Writes old new None command text params count
+
+module _ {schema : Schema} {sql : List ℕ} {command : Command} {at : ℕ} {table : Table}
+    (it : IsWriting schema sql command at table) (params : Row) (old new : State) (has : old.now.schema ≡ schema) where
   pub wrote : (count : ℕ) → Executes sql params old new (Ok count) → Wrote schema table params command old new count
   wrote count h =
-      let w = runs (statement_of sql (understood schema sql)) count
-      (runs_as sql params old new schema has command is plain count h) in
+      let w =
+      it.runs old new (statement_of sql (understood schema sql)) params count
+      (runs_as sql params old new schema has command it.is it.plain count h) in
       let text = statement_of sql (understood schema sql) in
       let mode = mode_of old in
       let done =
-      on old.step_limit mode params (record { schema = schema; trees = old.now.trees }) text (w.tally, new.now)
+      it.on old.step_limit mode params (record { schema = schema; trees = old.now.trees }) text (w.tally, new.now)
       (subst (λ s. Does old.step_limit mode params (record old.now { schema = s }) text None command
       (Ok (w.tally, new.now))) has w.changed) in
       let placed : OnRows (task_on old.step_limit Enforced schema table params) mode None command old.now.trees
@@ -57,7 +52,7 @@ module _ (sql : List ℕ) (params : Row) (old new : State) (schema : Schema) (ha
         schema = schema;
         table = t;
         params = params;
-      }) mode None command old.now.trees) o (Ok (w.tally, new.now))) found done in
+      }) mode None command old.now.trees) o (Ok (w.tally, new.now))) it.found done in
       let rows = went placed in
       let tested = went rows.2 in
       let shown = went tested.2 in
@@ -78,3 +73,33 @@ module _ (sql : List ℕ) (params : Row) (old new : State) (schema : Schema) (ha
         committed = w.shown.committed_is;
         mode = w.shown.mode;
       }
+
+-- what an INSERT of one row leaves
+pub record Put (schema : Schema) (table : Table) (row : Row) (old new : State) : Type 0 where
+  pub rows : new.now.trees table.tree ≡ put_row row (old.now.trees table.tree)
+  pub tables : KeepOthers table.tree old.now.trees new.now.trees schema.tables
+  pub schema_is : new.now.schema ≡ schema
+  pub committed : new.committed ≡ (if old.in_transaction then old.committed else new.now)
+  pub mode : new.in_transaction ≡ old.in_transaction
+
+pub puts_one : {schema : Schema} {text : List ℕ} {terms : List Term} {width at : ℕ} {table : Table}
+    → IsWriting schema text (Insert at (Values terms width)) at table → IsAlone schema Enforced table.tree
+    → (params row : Row) (old new : State) → old.now.schema ≡ schema
+    → (edit_of old.now.trees (uncounted table) [] Chosen 0
+    (value_rows (params ++ []) width (length terms / width) terms)).news ≡ row ∷ []
+    → (count : ℕ) → Executes text params old new (Ok count) → Put schema table row old new
+puts_one {schema} {text} {terms} {width} {at} {table} write alone params row old new has news count h =
+    let db = old.now.trees in
+    let it = wrote write params old new has count h in
+    let put =
+    inserted old.step_limit Enforced schema table params alone (Values terms width) db it.written it.does in
+    let trees : new.now.trees ≡ it.written.trees = ap (λ (d : Database). d.trees) it.now in
+    record {
+      rows = ap (λ (t : Trees). t table.tree) trees ∙ put.2.rows
+          ∙ ap (λ rows. edited db (record { table = uncounted table; gone = []; news = rows }))
+          (ap (λ rows. (edit_of db (uncounted table) [] Chosen 0 rows).news) put.1.1 ∙ news);
+      tables = subst (λ t. KeepOthers table.tree db t schema.tables) (sym trees) put.2.tables;
+      schema_is = ap (λ (d : Database). d.schema) it.now;
+      committed = it.committed;
+      mode = it.mode;
+    }

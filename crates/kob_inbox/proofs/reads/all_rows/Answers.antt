@@ -1,6 +1,6 @@
 use Rattle.std.proofs.Common.{map, sym, subst, ◌∙◌}
 use Rattle.std.specs.List.{AllByRecursion, enumerate_from}
-use Rattle.sqlite_trees.proofs.ListLemmas.{map-map}
+use Rattle.kob_outbox.proofs.statements.Words.{map-map}
 use Rattle.kob_outbox.proofs.statements.Plain.{if_ok}
 use Rattle.kob_inbox.specs.Database.{contents}
 use Rattle.kob_inbox.specs.Layout.{IsShown, shown_intake}

@@ -1,57 +1,21 @@
-use Rattle.std.proofs.Common.{[], ◌∷◌, refl}
-use Rattle.sqlite.specs.declared.types.Value.TheVariants.{Text}
-use Rattle.sqlite.specs.Order.{Row}
-use Rattle.sqlite.proofs.Callers.{memory_is_clean}
-use Rattle.kob_outbox.specs.Tables.{service_schema}
-use Rattle.kob_outbox.specs.Service.{database}
-use Rattle.kob_outbox.proofs.statements.Plain.{all_stays, if_err, if_ok}
-use Rattle.kob_outbox.proofs.Holding.{service_stays}
-use Rattle.kob_outbox.proofs.Memory.{business_fails}
-use Rattle.kob_outbox.proofs.Reading.{reads_business}
-use Rattle.kob_outbox.proofs.Texts.{find_business_text, find_business_plain}
+use Rattle.std.proofs.Common.{◌≡◌}
+use Rattle.kob_outbox.specs.Layout.{contents_in, shown_state}
+use Rattle.kob_outbox.specs.Reading.{state_at}
+use Rattle.kob_outbox.specs.Service.{contents}
+use Rattle.kob_outbox.proofs.Reading.{answer_business}
+use Rattle.kob_outbox.proofs.Texts.{select_business}
+use Rattle.kob_outbox.proofs.statements.Selecting.{queried}
 use Rattle.kob_outbox.proofs.business_table.select_business.Goals as goal
 
-pub returns-clause-rows : goal.returns-clause-rows
-returns-clause-rows c =
-    if_ok c.query_all.result
-    (λ rows h. reads_business (database c.args.conn.now)
-    (database c.query_all.new.self) c.requires c.args.kind.now c.args.id.now rows.items h)
-    (rw (c.params-to_sql.ensures, c.params-to_sql-2.ensures) at
-    (c.query_all.ensures.ok (memory_is_clean c.query_all.new.self)))
-
-pub returns-clause-service : goal.returns-clause-service
-returns-clause-service c =
-    let old = database c.args.conn.now in
-    let new = database c.query_all.new.self in
-    let params : Row = Text c.args.kind.now ∷ Text c.args.id.now ∷ [] in
-    (service_stays old new c.requires c.query_all.ensures.survives.limit
-    (all_stays find_business_text params old new service_schema c.requires.schema
-    find_business_plain c.requires.settled c.requires.idle refl c.query_all.result
-    (rw (c.params-to_sql.ensures, c.params-to_sql-2.ensures) at
-    (c.query_all.ensures.ok (memory_is_clean c.query_all.new.self)))
-    (rw (c.params-to_sql.ensures, c.params-to_sql-2.ensures) at
-    (c.query_all.ensures.err (memory_is_clean c.query_all.new.self))))).0
-
-pub returns-clause-same : goal.returns-clause-same
-returns-clause-same c =
-    let old = database c.args.conn.now in
-    let new = database c.query_all.new.self in
-    let params : Row = Text c.args.kind.now ∷ Text c.args.id.now ∷ [] in
-    (service_stays old new c.requires c.query_all.ensures.survives.limit
-    (all_stays find_business_text params old new service_schema c.requires.schema
-    find_business_plain c.requires.settled c.requires.idle refl c.query_all.result
-    (rw (c.params-to_sql.ensures, c.params-to_sql-2.ensures) at
-    (c.query_all.ensures.ok (memory_is_clean c.query_all.new.self)))
-    (rw (c.params-to_sql.ensures, c.params-to_sql-2.ensures) at
-    (c.query_all.ensures.err (memory_is_clean c.query_all.new.self))))).1
-
-pub returns-clause-memory : goal.returns-clause-memory
-returns-clause-memory c =
-    let old = database c.args.conn.now in
-    let new = database c.query_all.new.self in
-    if_err c.query_all.result
-    (business_fails old new c.requires.schema
-    (record { unlimited = c.requires.unlimited; is_open = refl; faults = (refl, refl) }) c.args.kind.now
-    c.args.id.now)
-    (rw (c.params-to_sql.ensures, c.params-to_sql-2.ensures) at
-    (c.query_all.ensures.err (memory_is_clean c.query_all.new.self)))
+pub returns : goal.returns
+returns c =
+    let kind = c.args.kind.now in
+    let id = c.args.id.now in
+    let states = (contents c.args.conn.now).business in
+    let it =
+    queried (select_business kind id) contents_in c.args.conn.now c.query_all.new.self c.query_all.result
+    (λ rows. rows ≡ shown_state (state_at kind id states)) c.requires c.query_all.ensures.survives.limit
+    (λ rows. answer_business _ rows kind id states c.requires.holds.business)
+    (rw (c.params-to_sql.ensures, c.params-to_sql-2.ensures) at c.query_all.ensures.ok)
+    (rw (c.params-to_sql.ensures, c.params-to_sql-2.ensures) at c.query_all.ensures.err) in
+    record { rows = it.rows; memory = it.memory; service = it.rests; same = it.same }

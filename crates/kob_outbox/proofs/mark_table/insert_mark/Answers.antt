@@ -1,14 +1,11 @@
-use Rattle.sqlite.proofs.Callers.{memory_is_clean}
+use Rattle.kob_outbox.proofs.statements.Words.{memory_is_clean}
 use Rattle.kob_outbox.specs.Service.{database}
 use Rattle.kob_outbox.proofs.Marks.{begins}
 use Rattle.kob_outbox.proofs.mark_table.insert_mark.Goals as goal
 
-pub returns-clause-service : goal.returns-clause-service
-returns-clause-service c =
-    (begins (database c.args.conn.now) (database c.execute.new.self) c.execute.result c.requires
-    c.execute.ensures.survives.limit (c.execute.ensures.runs (memory_is_clean c.execute.new.self))).0
-
-pub returns-clause-empty : goal.returns-clause-empty
-returns-clause-empty c =
-    (begins (database c.args.conn.now) (database c.execute.new.self) c.execute.result c.requires
-    c.execute.ensures.survives.limit (c.execute.ensures.runs (memory_is_clean c.execute.new.self))).1
+pub returns : goal.returns
+returns c =
+    let it =
+    begins (database c.args.conn.now) (database c.execute.new.self) c.execute.result c.requires
+    c.execute.ensures.survives.limit (c.execute.ensures.runs (memory_is_clean c.execute.new.self)) in
+    record { service = it.0; empty = it.1 }

@@ -1,30 +1,15 @@
-use Rattle.sqlite.proofs.Callers.{memory_is_clean}
+use Rattle.std.proofs.Common.{refl}
+use Rattle.kob_outbox.proofs.statements.Words.{memory_is_clean}
 use Rattle.kob_outbox.specs.Numbers.{number_in}
 use Rattle.kob_outbox.specs.Service.{database}
 use Rattle.kob_outbox.proofs.Marks.{moves}
-use Rattle.std.proofs.Common.{refl}
 use Rattle.kob_outbox.proofs.mark_table.update_mark.Goals as goal
 
-pub returns-clause-service : goal.returns-clause-service
-returns-clause-service c =
-    (moves (database c.args.conn.now) (database c.execute.new.self)
-    (number_in c.args.upto.now) c.execute.result c.requires.service
-    c.requires.within c.execute.ensures.survives.limit refl
+pub returns : goal.returns
+returns c =
+    let it =
+    moves (database c.args.conn.now) (database c.execute.new.self) (number_in c.args.upto.now) c.execute.result
+    c.requires.service c.requires.within c.execute.ensures.survives.limit refl
     (rw (c.params-to_sql.ensures, c.requires.number) at
-    (c.execute.ensures.runs (memory_is_clean c.execute.new.self)))).0
-
-pub returns-clause-ok : goal.returns-clause-ok
-returns-clause-ok c =
-    (moves (database c.args.conn.now) (database c.execute.new.self)
-    (number_in c.args.upto.now) c.execute.result c.requires.service
-    c.requires.within c.execute.ensures.survives.limit refl
-    (rw (c.params-to_sql.ensures, c.requires.number) at
-    (c.execute.ensures.runs (memory_is_clean c.execute.new.self)))).1
-
-pub returns-clause-err : goal.returns-clause-err
-returns-clause-err c =
-    (moves (database c.args.conn.now) (database c.execute.new.self)
-    (number_in c.args.upto.now) c.execute.result c.requires.service
-    c.requires.within c.execute.ensures.survives.limit refl
-    (rw (c.params-to_sql.ensures, c.requires.number) at
-    (c.execute.ensures.runs (memory_is_clean c.execute.new.self)))).2
+    (c.execute.ensures.runs (memory_is_clean c.execute.new.self))) in
+    record { service = it.0; ok = it.1; err = it.2 }

@@ -1,6 +1,6 @@
 use Rattle.std.proofs.Common.{rules, ◌≡◌, map, min, sym, subst, ap, ◌∙◌}
 use Rattle.std.specs.List.{AllByRecursion}
-use Rattle.sqlite_trees.proofs.ListLemmas.{map-map}
+use Rattle.kob_outbox.proofs.statements.Words.{map-map}
 use Rattle.kob_outbox.specs.Events.{stored_row}
 use Rattle.kob_outbox.specs.Layout.{IsShown, shown_event}
 use Rattle.kob_outbox.specs.Reading.{first_after}

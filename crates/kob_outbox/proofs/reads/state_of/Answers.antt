@@ -1,7 +1,6 @@
 use Rattle.std.proofs.Common.{rules, ◌≡◌}
-use Rattle.sqlite.specs.declared.error.Error.TheVariants.{SqliteFailure}
+use Rattle.kob_outbox.proofs.statements.Words.{SqliteFailure, column}
 use Rattle.sqlite.specs.declared.error.ErrorCode.TheVariants.{OutOfMemory}
-use Rattle.sqlite_value.specs.Order.{column}
 use Rattle.kob_outbox.specs.Reading.{state_at}
 use Rattle.kob_outbox.specs.Service.{contents}
 use Rattle.kob_outbox.proofs.Shown.{first_state, state_readable}

@@ -1,7 +1,6 @@
 use Rattle.std.proofs.Common.{◌<◌, rules, ◌≡◌, arith, ap, length}
-use Rattle.sqlite.specs.declared.error.Error.TheVariants.{SqliteFailure}
+use Rattle.kob_outbox.proofs.statements.Words.{SqliteFailure, column}
 use Rattle.sqlite.specs.declared.error.ErrorCode.TheVariants.{OutOfMemory}
-use Rattle.sqlite_value.specs.Order.{column}
 use Rattle.kob_outbox.proofs.statements.Failing.{readable_fails}
 use Rattle.kob_outbox.proofs.rows.row_of.Goals as goal
 

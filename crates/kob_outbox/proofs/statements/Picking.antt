@@ -1,0 +1,103 @@
+-- The rows that a query over one table picks.
+use Rattle.std.proofs.Common.{◌≡◌, ◌≤◌, ℕ, Ordering, List, [], ◌∷◌, length, map, reverse, sym, filter, flat_map, Bool, true, inl, inr, ◌<◌, refl, if◌then◌else◌, Less, ap, subst, ◌∙◌, arith, IsPermutation}
+use Rattle.std.proofs.lemmas.Bool.{cases_Bool}
+use Rattle.std.proofs.lemmas.List.{length-map, reverse-append}
+use Rattle.std.proofs.lemmas.List.Sorted.{length_permutation, IsPermutation-reverse, IsPermutation-trans, IsPermutation-sym}
+use Rattle.std.specs.List.{list_all}
+use Rattle.kob_outbox.proofs.statements.Words.{Env, IsAnswer, IsAscending, Output, Query, Row, Trees, all-permutation, all_weaker, ascending-append, ascending-map, ascending_weaker, holds, map-map, one_permutation, output, output_cmp, output_cmp_total, overlay, page, sorted_unique}
+use Rattle.kob_outbox.proofs.statements.Selecting.{Scan, query_of}
+
+-- the permutations of a list of one element at most
+alone_order : {X : Type 0} (xs ys : List X) → length xs ≤ 1 → IsPermutation xs ys → ys ≡ xs
+alone_order [] [] short same = refl
+alone_order [] (y ∷ ys) short same = absurd (omega (arith, length_permutation _ _ same))
+alone_order (x ∷ []) ys short same = one_permutation x ys same
+alone_order (x ∷ y ∷ xs) ys short same = absurd (omega (arith, short))
+
+-- a list that falls rises when it is reversed
+ascending_back : {A : Type 0} (R : A → A → Type 0) (xs : List A) → IsAscending (λ a b. R b a) xs
+    → IsAscending R (reverse xs)
+ascending_back R [] up = tt
+ascending_back R (x ∷ xs) up =
+    subst (IsAscending R) (sym (reverse-append (x ∷ []) xs))
+    (ascending-append R (reverse xs) (x ∷ []) (ascending_back R xs up.1) (tt, tt)
+    (all-permutation _ xs (reverse xs) (IsPermutation-reverse xs)
+    (all_weaker (λ y. R y x) (λ y. R y x × Unit {0}) (λ y h. (h, tt)) xs up.0)))
+
+pub all_stay : {X : Type 0} (xs : List X) → filter (λ x. true) xs ≡ xs
+all_stay [] = refl
+all_stay (x ∷ xs) = ap (λ more. x ∷ more) (all_stay xs)
+
+module _ {X : Type 0} (s : Scan) (params : Row) (row : X → Row) (test : X → Bool)
+    (passes : (x : X) → list_all (holds (params ∷ row x ∷ [])) s.conditions ≡ test x) where
+  abbrev q : Query
+  q = query_of s
+
+  abbrev env : X → Env
+  env x = params ∷ row x ∷ []
+
+  -- what a row is ordered by, and what is shown of it
+  abbrev out : X → Output
+  out x = output q (env x)
+
+  abbrev pick : Row → List Env
+  pick r = if list_all (holds (params ∷ r ∷ [])) s.conditions then (params ∷ r ∷ []) ∷ [] else []
+
+  picked : (xs : List X) → flat_map pick (map row xs) ≡ map env (filter test xs)
+  picked [] = refl
+  picked (x ∷ xs) = elim (cases_Bool (test x)) [
+    | inl is ↦ rw (passes x, is) (ap (λ more. env x ∷ more) (picked xs))
+    | inr other ↦ rw (passes x, other) (picked xs)
+  ]
+
+  module _ (db : Trees) (xs : List X) (is : overlay db [] s.tree ≡ map row xs) (found : List X)
+      (found_is : filter test xs ≡ found) (rows : List Row) (a : IsAnswer q (overlay db []) params rows) where
+    abbrev outs : List Output
+    outs = map out found
+
+    pub same_rows : IsPermutation outs a.ordered
+    same_rows =
+        let kept : a.kept ≡ outs =
+        a.distinct ∙ ap (map (output q)) (a.grouped ∙ ap (flat_map pick) is ∙ picked xs ∙ ap (map env) found_is)
+        ∙ map-map (output q) env found in
+        subst (λ k. IsPermutation k a.ordered) kept a.same
+
+    abbrev paged : List Output → List Row
+    paged found = page q params (map (λ (o : Output). o.1) found)
+
+    -- rows that are picked in order are shown in order
+    pub in_order : IsAscending (λ a b. output_cmp q a b ≡ Less) outs → rows ≡ paged outs
+    in_order rising =
+        a.shown ∙ ap paged
+        (sorted_unique (output_cmp q) (output_cmp_total q) outs a.ordered rising same_rows a.sorted)
+
+    -- and those that fall the other way round
+    pub turned_round : IsAscending (λ a b. output_cmp q b a ≡ Less) outs → rows ≡ paged (reverse outs)
+    turned_round down =
+        let back : IsPermutation (reverse outs) a.ordered =
+        IsPermutation-trans _ outs _ (IsPermutation-sym _ _ (IsPermutation-reverse outs)) same_rows in
+        a.shown ∙ ap paged (sorted_unique (output_cmp q) (output_cmp_total q) (reverse outs) a.ordered
+        (ascending_back _ outs down) back a.sorted)
+
+    -- one row has no order
+    pub one_at_most : length found ≤ 1 → rows ≡ paged outs
+    one_at_most short =
+        let few : length outs ≤ 1 = omega (arith, length-map found out, short) in
+        a.shown ∙ ap paged (alone_order outs a.ordered few same_rows)
+
+-- what rows that bear rising numbers are ordered by, where that is the number
+module _ {X : Type 0} (number : X → ℕ) (s : Scan) (out : X → Output) where
+  abbrev cmp : Output → Output → Ordering
+  cmp = output_cmp (query_of s)
+
+  pub rises : ((x y : X) → number x < number y → cmp (out x) (out y) ≡ Less) → (xs : List X)
+      → IsAscending (λ x y. number x < number y) xs → IsAscending (λ a b. cmp a b ≡ Less) (map out xs)
+  rises below xs rising =
+      ascending-map (λ a b. cmp a b ≡ Less) out xs
+      (ascending_weaker {A = X} (λ x y. number x < number y) (λ x y. cmp (out x) (out y) ≡ Less) below xs rising)
+
+  pub falls : ((x y : X) → number x < number y → cmp (out y) (out x) ≡ Less) → (xs : List X)
+      → IsAscending (λ x y. number x < number y) xs → IsAscending (λ a b. cmp b a ≡ Less) (map out xs)
+  falls below xs rising =
+      ascending-map (λ a b. cmp b a ≡ Less) out xs
+      (ascending_weaker {A = X} (λ x y. number x < number y) (λ x y. cmp (out y) (out x) ≡ Less) below xs rising)
