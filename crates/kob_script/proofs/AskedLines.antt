@@ -7,11 +7,12 @@ use Rattle.kob_acl_cli.specs.declared.args.CliArgs.{CliArgs}
 use Rattle.kob_names.specs.declared.settings.Settings.{Settings}
 use Rattle.kob_rights.specs.declared.event.Event.{Event}
 use Rattle.kob_script.specs.Checks.{with_answer}
-use Rattle.kob_script.specs.CommandLines.{acl_requests, alone, asked_by, events_of, line_fault, request_named}
+use Rattle.kob_script.specs.Command.{command_named}
+use Rattle.kob_script.specs.CommandLines.{acl_events, command_events, events_of}
 use Rattle.kob_script.specs.declared.fault.FaultKind.{FaultKind}
 use Rattle.kob_script.specs.declared.fault.FaultKind.TheVariants.{LateSetting}
 use Rattle.kob_script.specs.declared.script.Script.{Script}
-use Rattle.kob_script.specs.Reading.{◌>>=◌, unless_found}
+use Rattle.kob_script.specs.Reading.{◌>>=◌}
 use Rattle.kob_script.specs.Requests.{answer_for, asks_clap, items_or_none, line_words, requests_in, requests_of}
 use Rattle.kob_script.specs.Script.{with_line, with_setting, with_words}
 use Rattle.kob_script.specs.Settings.{is_setting}
@@ -40,9 +41,9 @@ answered_alike [] answer others = refl
 answered_alike (first ∷ []) answer others = refl
 answered_alike (first ∷ host ∷ []) answer others = refl
 answered_alike (first ∷ host ∷ command ∷ arguments) answer others =
-    chosen_alike (is_setting first) (bytes_eq command.decoded (codes "acl")) arguments []
-    (λ asked. items_or_none (unless_found (line_fault (first ∷ host ∷ command ∷ arguments)) (asked_by first host asked)))
-    (λ given. acl_requests given arguments) (alone (request_named command.decoded arguments)) answer others
+    chosen_alike (is_setting first) (bytes_eq command.decoded (codes "acl")) arguments [] items_or_none
+    (λ given. acl_events given first host arguments)
+    (command_events (command_named command.decoded) first host arguments) answer others
 
 kept_behind : (asks : Bool) (answers : List (Option CliArgs)) (answer : Option CliArgs) (others : List (Option CliArgs))
     → (if asks then answers ++ answer ∷ [] else answers) ++ others

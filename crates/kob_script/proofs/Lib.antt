@@ -4,7 +4,6 @@ pub mod BlockLines
 pub mod CheckedLines
 pub mod Choices
 pub mod Cuts
-pub mod Drafts
 pub mod Each
 pub mod Escapes
 pub mod FirstKinds

@@ -1,8 +1,8 @@
 //! The command `acl`: words of `kafka-acls`, each command of which is a request of its own.
 
-ghost use Rattle.std.specs.Prelude.{◌≡◌, IfOk, map};
+ghost use Rattle.std.specs.Prelude.{◌≡◌, IfOk};
 ghost use Rattle.kob_script.specs.Acl.{acl_commands, acl_request, commands_in, error_of};
-ghost use Rattle.kob_script.specs.CommandLines.{event_by};
+ghost use Rattle.kob_script.specs.CommandLines.{events_by};
 ghost use Rattle.kob_script.specs.Reading.{GivesSeen};
 
 use crate::fault::{FaultKind, LineError};
@@ -45,14 +45,14 @@ fn error_of(fault: &CommandFault) -> LineError
 }
 
 /// The events that a principal at a host asks for commands, one each.
-pub fn acl_events(
+pub fn events_by(
     alloc: Global,
     principal: &Principal,
     host: &Host,
     commands: Vec<AclCommand>,
 ) -> Result<Vec<Event>, AllocError>
-    ensures { IfOk result (λ events. events.items
-        ≡ map (λ request. event_by principal.now host.now request) (map acl_request commands.items)) }
+    ensures { IfOk result (λ events.
+        events.items ≡ events_by principal.now host.now commands.items) }
 {
     let mut events = Vec::new(alloc);
     for command in commands {

@@ -2,7 +2,8 @@
 
 ghost use Rattle.kob_script.specs.Keywords.{permission_of, resource_of, pattern_of, operation_of};
 ghost use Rattle.kob_script.specs.Keywords.{filter_pattern_of};
-ghost use Rattle.kob_script.specs.Reading.{Gives, found_or, unless_dash};
+ghost use Rattle.kob_script.specs.Reading.{Gives, found_or};
+ghost use Rattle.kob_script.specs.Slots.{unless_dash};
 ghost use Rattle.kob_script.specs.declared.fault.FaultKind.TheVariants.{BadWord};
 
 use crate::fault::{FaultKind, LineError};

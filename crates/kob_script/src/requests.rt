@@ -168,7 +168,6 @@ fn words_again(alloc: Global, line: &[u8]) -> Result<Vec<Word<'_>>, AllocError>
     }
 }
 
-#[tactic(auto, using(crate::proofs::LineFaults::line_read, crate::proofs::LineFaults::line_not_read))]
 fn requests_of(
     alloc: Global,
     words: &[Word<'_>],
@@ -176,15 +175,9 @@ fn requests_of(
 ) -> Result<Asked, AllocError>
     ensures { IfOk result (λ asked. asked ≡ requests_of answer.now words.now) }
 {
-    let Some((first, _)) = words.split_first() else {
-        return Ok(Asked::nothing(alloc));
-    };
-    if is_setting(first) {
-        return Ok(Asked::nothing(alloc));
-    }
-    match events_in(alloc, words, answer) {
-        Ok(asked) => Ok(asked),
-        Err(LineError::Memory) => Err(AllocError),
-        Err(LineError::Fault(_)) => Ok(Asked::nothing(alloc)),
+    match words {
+        [] => Ok(Asked::nothing(alloc)),
+        [first, ..] if is_setting(first) => Ok(Asked::nothing(alloc)),
+        _ => events_in(alloc, words, answer),
     }
 }

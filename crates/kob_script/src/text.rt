@@ -1,6 +1,7 @@
 //! Names, principals and hosts.
 
-ghost use Rattle.kob_script.specs.Reading.{Gives, GivesSeen, each, unless_dash};
+ghost use Rattle.kob_script.specs.Reading.{Gives, GivesSeen, each};
+ghost use Rattle.kob_script.specs.Slots.{unless_dash};
 ghost use Rattle.kob_script.specs.Texts.{host_of, named_host, named_principal, principal_of, text_in};
 ghost use Rattle.kob_script.specs.Texts.{text_of};
 

@@ -1,35 +1,28 @@
-use Rattle.std.proofs.lemmas.Result.{err_from_is_err_and}
-use Rattle.kob_script.proofs.Drafts.{draft_read, permission_fails, principal_fails, seven}
+use Rattle.std.proofs.Common.{◌≡◌, ◌≤◌, ◌<◌, List, [], ◌∷◌, length, get_or, refl, arith}
+use Rattle.kob_script.specs.Word.{Word}
 use Rattle.kob_script.proofs.acl_requests.draft_of.Goals as goal
 
-pub returns-in_err-principal : goal.returns-in_err-principal
-returns-in_err-principal c = λ wrap.
-    let p = err_from_is_err_and c.from_residual-in_err-principal.result c.from_residual-in_err-principal.ensures.1 in
-    let is = seven c.args.words.now c.permission-item.result c.principal-item.result c.host-item.result c.operation-item.result
-    c.resource-item.result c.pattern-item.result c.name-item.result c.in-len7.len_at_least c.in-len7.len_below c.permission-item.is
-    c.principal-item.is c.host-item.is c.operation-item.is c.resource-item.is c.pattern-item.is c.name-item.is in
-    rw (p.1, p.2, is)
-    (principal_fails wrap c.permission-item.result c.principal-item.result c.host-item.result c.operation-item.result
-    c.resource-item.result c.pattern-item.result c.name-item.result _ _ _ _ _ c.in_ok-name.ensures c.in_ok-kind.ensures c.in_ok-resource.ensures
-    c.in_ok-operation.ensures c.in_ok-host.ensures _ c.in_err-principal.ensures)
-
-pub returns-in_err-permission : goal.returns-in_err-permission
-returns-in_err-permission c = λ wrap.
-    let p = err_from_is_err_and c.from_residual-in_err-permission.result c.from_residual-in_err-permission.ensures.1 in
-    let is = seven c.args.words.now c.permission-item.result c.principal-item.result c.host-item.result c.operation-item.result
-    c.resource-item.result c.pattern-item.result c.name-item.result c.in-len7.len_at_least c.in-len7.len_below c.permission-item.is
-    c.principal-item.is c.host-item.is c.operation-item.is c.resource-item.is c.pattern-item.is c.name-item.is in
-    rw (p.1, p.2, is)
-    (permission_fails wrap c.permission-item.result c.principal-item.result c.host-item.result c.operation-item.result
-    c.resource-item.result c.pattern-item.result c.name-item.result _ _ _ _ _ c.in_ok-name.ensures c.in_ok-kind.ensures c.in_ok-resource.ensures
-    c.in_ok-operation.ensures c.in_ok-host.ensures _ c.in_ok-principal.ensures _ c.in_err-permission.ensures)
+-- seven words, each known by its index
+seven : (words : List Word) (a b c d e f g : Word) → 7 ≤ length words → length words < 8 → a ≡ get_or words 0 a
+    → b ≡ get_or words 1 b → c ≡ get_or words 2 c → d ≡ get_or words 3 d → e ≡ get_or words 4 e → f ≡ get_or words 5 f
+    → g ≡ get_or words 6 g → words ≡ a ∷ b ∷ c ∷ d ∷ e ∷ f ∷ g ∷ []
+seven (a' ∷ b' ∷ c' ∷ d' ∷ e' ∷ f' ∷ g' ∷ []) a b c d e f g many few is0 is1 is2 is3 is4 is5 is6 =
+    rw (is0, is1, is2, is3, is4, is5, is6) refl
+seven (a' ∷ b' ∷ c' ∷ d' ∷ e' ∷ f' ∷ g' ∷ h ∷ more) a b c d e f g many few is0 is1 is2 is3 is4 is5 is6 =
+    absurd (omega (arith, few))
+seven _ a b c d e f g many few is0 is1 is2 is3 is4 is5 is6 = absurd (omega (arith, many))
 
 pub returns : goal.returns
 returns c = λ wrap.
-    let is = seven c.args.words.now c.permission-item.result c.principal-item.result c.host-item.result c.operation-item.result
-    c.resource-item.result c.pattern-item.result c.name-item.result c.in-len7.len_at_least c.in-len7.len_below c.permission-item.is
+    let is = seven c.args.words.now _ _ _ _ _ _ _ c.in-len7.len_at_least c.in-len7.len_below c.permission-item.is
     c.principal-item.is c.host-item.is c.operation-item.is c.resource-item.is c.pattern-item.is c.name-item.is in
-    rw (is, c.in_ok-name-2.ensures.value)
-    (draft_read wrap c.permission-item.result c.principal-item.result c.host-item.result c.operation-item.result
-    c.resource-item.result c.pattern-item.result c.name-item.result _ _ _ _ _ c.in_ok-name.ensures c.in_ok-kind.ensures c.in_ok-resource.ensures
-    c.in_ok-operation.ensures c.in_ok-host.ensures _ c.in_ok-principal.ensures _ c.in_ok-permission.ensures)
+    rw (
+      is,
+      c.in_ok-permission_of.ensures,
+      c.in_ok-operation_of.ensures,
+      c.in_ok-resource_of.ensures,
+      c.in_ok-pattern_of.ensures,
+      c.in_ok-text_of.ensures,
+      c.in_ok-named_principal.ensures,
+      c.in_ok-named_host.ensures,
+    ) refl
