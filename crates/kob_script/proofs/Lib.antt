@@ -10,7 +10,5 @@ pub mod FirstKinds
 pub mod LeftRequests
 pub mod LineFaults
 pub mod LineWords
-pub mod Lines
 pub mod Numbers
 pub mod PlainScripts
-pub mod Printed
