@@ -12,3 +12,4 @@ pub mod LineFaults
 pub mod LineWords
 pub mod Numbers
 pub mod PlainScripts
+pub mod RowWords

@@ -1,21 +1,19 @@
 //! Requests for bindings, by the words after their command, which have no fault.
 #![tactic(auto, unfolding(crate::specs::CommandLines::request_of))]
 
-ghost use Rattle.std.specs.Prelude.{◌≡◌, IfOk, Ok};
+ghost use Rattle.std.specs.Prelude.{◌≡◌, IfOk, Result, Ok, codes, if◌then◌else◌};
+ghost use Rattle.std.specs.Str.{bytes_eq};
 ghost use Rattle.kob_names.specs.declared.draft.Draft as drafts;
 ghost use Rattle.kob_names.specs.declared.filter.BindingFilter as names;
 ghost use Rattle.kob_rights.specs.declared.request.Request as requests;
 ghost use Rattle.kob_script.specs.CommandLines.{draft_with, filter_with, request_of};
+ghost use Rattle.kob_script.specs.Reading.{Gives, some};
+ghost use Rattle.kob_script.specs.declared.fault.FaultKind as kinds;
 ghost use Rattle.kob_script.specs.declared.command.Command.TheVariants as commands;
 
 use crate::fault::{FaultKind, LineError};
-use crate::keyword::{
-    filter_pattern_of, operation_of, operation_unless_dash, pattern_of, permission_of,
-    permission_unless_dash, resource_of, resource_unless_dash,
-};
-use crate::text::{
-    host_unless_dash, named_host, named_principal, principal_unless_dash, text_of, text_unless_dash,
-};
+use crate::keyword::{filter_pattern_of, operation_of, pattern_of, permission_of, resource_of};
+use crate::text::{named_host, named_principal, text_of};
 use crate::word::Word;
 use kob_names::{BindingFilter, Draft, Items, Pattern};
 use kob_rights::{CreateAcls, DeleteAcls, DescribeAcls, Request};
@@ -77,14 +75,25 @@ fn filter_of(alloc: Global, words: &[Word<'_>]) -> Result<BindingFilter, LineErr
         return Err(LineError::Fault(FaultKind::BadLine));
     };
     Ok(BindingFilter {
-        resource: resource_unless_dash(resource)?,
+        resource: unless_dash(resource, resource_of(resource))?,
         pattern: filter_pattern_of(pattern)?,
-        operation: operation_unless_dash(operation)?,
-        permission: permission_unless_dash(permission)?,
-        name: text_unless_dash(alloc, name)?,
-        principal: principal_unless_dash(alloc, principal)?,
-        host: host_unless_dash(alloc, host)?,
+        operation: unless_dash(operation, operation_of(operation))?,
+        permission: unless_dash(permission, permission_of(permission))?,
+        name: unless_dash(name, text_of(alloc, name))?,
+        principal: unless_dash(principal, named_principal(alloc, principal))?,
+        host: unless_dash(host, named_host(alloc, host))?,
     })
+}
+
+// What was read of a word, or nothing where it is `-`.
+fn unless_dash<T: Drop>(word: &Word<'_>, read: Result<T, LineError>) -> Result<Option<T>, LineError>
+    ensures { (told : Result T kinds.FaultKind) → Gives read told
+        → Gives result (if bytes_eq word.now.raw (codes "-") then Ok None else some told) }
+{
+    if word.is_dash() {
+        return Ok(None);
+    }
+    Ok(Some(read?))
 }
 
 pub fn describe_acls(alloc: Global, words: &[Word<'_>]) -> Result<Request, LineError>

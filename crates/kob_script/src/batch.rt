@@ -39,6 +39,9 @@ pub fn idem_of(alloc: Global, word: &Word<'_>) -> Result<Option<Idem>, LineError
 fn number_at(alloc: Global, part: &[u8]) -> Result<u64, LineError>
     ensures { Gives result (number_in (escapes.bytes_of part.now)) }
 {
+    if !part.contains(&b'%') {
+        return number_in(part);
+    }
     let digits = bytes_of(alloc, part)?;
     number_in(digits.as_slice())
 }

@@ -2,7 +2,7 @@
 
 ghost use Rattle.std.specs.Prelude.{◌≡◌, ◌∷◌, [], Some, Option};
 ghost use Rattle.kob_script.specs.CommandLines.{asked_row, line_fault};
-ghost use Rattle.kob_script.specs.Faults.{Finds, earlier, earlier_kind, first_kind, rank};
+ghost use Rattle.kob_script.specs.Faults.{Finds, earlier, earlier_kind, first_kind};
 ghost use Rattle.kob_script.specs.Reading.{each, fault_in};
 ghost use Rattle.kob_script.specs.Slots.{dash_fault, faults_in, place_fault, row_fault, slot_fault};
 ghost use Rattle.kob_script.specs.Slots.{words_behind};
@@ -116,21 +116,15 @@ fn first_error(one: Result<(), LineError>, other: Result<(), LineError>) -> Resu
     }
 }
 
+// The variants stand in the order of the kinds.
 fn earlier_kind(kind: FaultKind, other: FaultKind) -> FaultKind
     ensures { result ≡ earlier_kind kind other }
 {
-    if rank(other) < rank(kind) {
+    if (other as u8) < kind as u8 {
         other
     } else {
         kind
     }
-}
-
-// The place of a kind in the order.
-fn rank(kind: FaultKind) -> u8
-    ensures { result ≡ rank kind }
-{
-    kind as u8
 }
 
 /// The fault is `BadText`.

@@ -1,7 +1,6 @@
 //! Names, principals and hosts.
 
 ghost use Rattle.kob_script.specs.Reading.{Gives, GivesSeen, each};
-ghost use Rattle.kob_script.specs.Slots.{unless_dash};
 ghost use Rattle.kob_script.specs.Texts.{host_of, named_host, named_principal, principal_of, text_in};
 ghost use Rattle.kob_script.specs.Texts.{text_of};
 
@@ -83,34 +82,4 @@ pub fn named_host(alloc: Global, word: &Word<'_>) -> Result<Host, LineError>
     ensures { Gives result (named_host word.now) }
 {
     host_of(alloc, lent_text_of(word)?)
-}
-
-/// The text of a word that is not `-`.
-pub fn text_unless_dash(alloc: Global, word: &Word<'_>) -> Result<Option<Text>, LineError>
-    ensures { Gives result (unless_dash text_of word.now) }
-{
-    if word.is_dash() {
-        return Ok(None);
-    }
-    Ok(Some(text_of(alloc, word)?))
-}
-
-/// The principal that a word other than `-` names.
-pub fn principal_unless_dash(alloc: Global, word: &Word<'_>) -> Result<Option<Principal>, LineError>
-    ensures { Gives result (unless_dash named_principal word.now) }
-{
-    if word.is_dash() {
-        return Ok(None);
-    }
-    Ok(Some(named_principal(alloc, word)?))
-}
-
-/// The host that a word other than `-` names.
-pub fn host_unless_dash(alloc: Global, word: &Word<'_>) -> Result<Option<Host>, LineError>
-    ensures { Gives result (unless_dash named_host word.now) }
-{
-    if word.is_dash() {
-        return Ok(None);
-    }
-    Ok(Some(named_host(alloc, word)?))
 }
