@@ -1,7 +1,7 @@
 -- What lines ask for, by what clap answered to those of `acl`.
 use Rattle.std.specs.List.{slice_index_or}
 use Rattle.std.specs.Option.{is_some}
-use Rattle.std.specs.Prelude.{◌≡◌, ◌≤◌, ℕ, Bool, List, [], ◌∷◌, ◌++◌, Option, None, Result, Ok, Err, drop, length, if◌then◌else◌}
+use Rattle.std.specs.Prelude.{◌≡◌, ℕ, Bool, List, [], ◌∷◌, ◌++◌, Option, None, Result, Ok, Err, drop, length, if◌then◌else◌}
 use Rattle.kob_acl_cli.specs.declared.args.CliArgs.{CliArgs}
 use Rattle.kob_rights.specs.declared.event.Event.{Event}
 use Rattle.kob_script.specs.Blocks.{lines_left}
@@ -53,7 +53,6 @@ abbrev pub requests_left : Inside → List Event
 requests_left requests =
     requests.asked.items ++ requests_in (lines_left requests.blocks) requests.answers.items
 
--- requests that are counted, of bytes that were read up to a place of their first block
-pub record AreCounted (requests : Inside) : Type 0 where
-  pub within : requests.blocks.at ≤ length requests.blocks.front
-  pub count : requests.left ≡ length (requests_left requests)
+-- as many are left as are counted
+abbrev pub AreCounted : Inside → Type 0
+AreCounted requests = requests.left ≡ length (requests_left requests)

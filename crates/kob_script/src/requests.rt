@@ -1,6 +1,6 @@
 //! The requests of a script that was checked, each read when it is its turn.
 
-ghost use Rattle.std.specs.Prelude.{◌≡◌, ◌≤◌, ◌<◌, ◌++◌, ◌∷◌, drop, length};
+ghost use Rattle.std.specs.Prelude.{◌≡◌, ◌<◌, ◌++◌, ◌∷◌, drop, length};
 ghost use Rattle.std.specs.Prelude.{IfOk, OnOk, OnErr, if◌then◌else◌};
 ghost use Rattle.kob_script.specs.Blocks.{lines_in_blocks, lines_left, steps_left};
 ghost use Rattle.kob_script.specs.Requests.{answer_for, asks_clap, line_words};
@@ -100,12 +100,10 @@ fn read_on(
     blocks: &mut Blocks,
     answers: &mut VecDeque<Option<CliArgs>>,
 ) -> Result<Asked, AllocError>
-    requires within { blocks.old.at ≤ length blocks.old.front }
-    requires some { 0 < steps_left blocks.old }
+    requires { 0 < steps_left blocks.old }
     ensures asked { IfOk result (λ asked. requests_in (lines_left blocks.old) answers.old.items
         ≡ asked ++ requests_in (lines_left blocks.new) answers.new.items) }
     ensures nearer { OnOk result (steps_left blocks.new < steps_left blocks.old) }
-    ensures within { blocks.new.at ≤ length blocks.new.front }
     ensures same_lines { OnErr result (lines_left blocks.new ≡ lines_left blocks.old) }
     ensures same_answers { OnErr result (answers.new.items ≡ answers.old.items) }
 {

@@ -1,5 +1,6 @@
 //! Names, principals and hosts.
 
+ghost use Rattle.std.specs.Prelude.{map};
 ghost use Rattle.kob_script.specs.Reading.{Gives, GivesSeen, each};
 ghost use Rattle.kob_script.specs.Texts.{host_of, named_host, named_principal, principal_of, text_in};
 ghost use Rattle.kob_script.specs.Texts.{text_of};
@@ -7,7 +8,7 @@ ghost use Rattle.kob_script.specs.Texts.{text_of};
 use crate::fault::{FaultKind, LineError};
 use crate::word::Word;
 use bstr::ByteSlice;
-use kob_names::{Host, HostFault, Items, Principal, PrincipalFault, Text};
+use kob_names::{Host, HostFault, Principal, PrincipalFault, Text};
 use std::alloc::Global;
 
 /// The text of a word, as it is there; no memory is taken.
@@ -25,16 +26,17 @@ pub fn text_of(alloc: Global, word: &Word<'_>) -> Result<Text, LineError>
     Ok(Text::copied(alloc, text)?)
 }
 
-/// The texts of the words, in order.
-pub fn texts_of(alloc: Global, words: &[Word<'_>]) -> Result<Items<Text>, LineError>
-    ensures { Gives result (each text_of words.now) }
+/// The texts of the words, in order, as they are there.
+pub fn texts_of<'w>(alloc: Global, words: &'w [Word<'_>]) -> Result<Vec<&'w str>, LineError>
+    ensures { GivesSeen (λ texts. map (λ text. text.now) texts.items) result
+        (each text_of words.entry.now) }
 {
     let mut texts = Vec::with_capacity(alloc, words.len())?;
     for word in words {
-        let text = text_of(alloc, word)?;
+        let text = lent_text_of(word)?;
         texts.push(text)?;
     }
-    Ok(Items::from_vec(texts))
+    Ok(texts)
 }
 
 fn text_in(bytes: &[u8]) -> Result<&str, LineError>
