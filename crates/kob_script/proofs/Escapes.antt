@@ -1,7 +1,7 @@
 -- A word is read byte by byte, and one without a percent sign stands for itself.
-use Rattle.std.proofs.Common.{◌≡◌, ◌∙◌, ◌==◌, ◌||◌, ℕ, List, [], ◌∷◌, ◌++◌, drop, Option, Some, None, Bool, true, false, refl, ap, sym, append_assoc, append-nil, if◌then◌else◌}
-use Rattle.std.specs.List.{list_any}
+use Rattle.std.proofs.Common.{◌≡◌, ◌∙◌, ◌==◌, ℕ, suc, arith, length, List, [], ◌∷◌, ◌++◌, drop, Option, Some, None, Bool, true, false, refl, ap, sym, append_assoc, append-nil, if◌then◌else◌}
 use Rattle.std.specs.Option.{option_map}
+use Rattle.memchr.specs.Find.{is_byte, Nowhere, Passes}
 use Rattle.kob_script.specs.Escapes.{before, byte_at, escaped, unescaped, unescaped_from}
 
 -- the byte at the front, and then what the rest stands for
@@ -27,17 +27,18 @@ step byte rest = by (byte == 37) (escaped rest)
     by false digits = refl
 
 -- a word without a percent sign stands for itself
-pub unescaped_plain : (word : List ℕ) → list_any (λ y. y == 37) word ≡ false → unescaped word ≡ Some word
+pub unescaped_plain : (word : List ℕ) → Nowhere (Passes (is_byte 37) word) 0 (length word) → unescaped word ≡ Some word
 unfolding unescaped_from
-unescaped_plain [] none = refl
-unescaped_plain (byte ∷ rest) none = by (byte == 37) none (unescaped_plain rest)
+unescaped_plain [] nowhere = refl
+unescaped_plain (byte ∷ rest) nowhere =
+    by (byte == 37) (nowhere 0 (omega arith) (omega arith))
+    (unescaped_plain rest (λ k low below. nowhere (suc k) (omega arith) (omega (arith, below))))
   where
-    by : (percent : Bool) → (percent || list_any (λ y. y == 37) rest) ≡ false
-        → (list_any (λ y. y == 37) rest ≡ false → unescaped rest ≡ Some rest)
+    by : (percent : Bool) → (percent ≡ true → ⊥) → unescaped rest ≡ Some rest
         → (if percent then before (escaped rest) (unescaped_from 2 rest) else before (Some byte) (unescaped rest))
         ≡ Some (byte ∷ rest)
-    by true no_percent behind = absurd cc
-    by false no_percent behind = ap (before (Some byte)) (behind no_percent)
+    by true none behind = absurd (none refl)
+    by false none behind = ap (before (Some byte)) behind
 
 -- bytes that were read, and then what the rest stands for
 abbrev pub with_rest : List ℕ → Option (List ℕ) → Option (List ℕ)

@@ -20,7 +20,7 @@ use crate::topic_requests::{
 use crate::word::Word;
 use kob_acl_cli::CliArgs;
 use kob_rights::{Event, Request};
-use std::alloc::{AllocError, Global};
+use std::alloc::Global;
 
 /// How many events a line's words ask for, by `clap`'s answer to those of `acl`. The fault is that
 /// of the words, or of `acl`'s options; no event is made.
@@ -50,25 +50,19 @@ pub fn events_of(
     ensures { Gives result (events_of answer.now words.now) }
 {
     count_of(alloc, words, answer)?;
-    Ok(events_in(alloc, words, answer)?)
+    match events_in(alloc, words, answer) {
+        Ok(asked) => Ok(asked),
+        Err(_) => Err(LineError::Memory),
+    }
 }
 
 /// The same of words that have no fault, so that the error is out of memory.
+#[tactic(auto, unfolding(crate::specs::CommandLines::events_of))]
 pub fn events_in(
     alloc: Global,
     words: &[Word<'_>],
     answer: &Option<CliArgs>,
-) -> Result<Asked, AllocError>
-    ensures { IfOk result (λ asked. events_of answer.now words.now ≡ Ok asked) }
-{
-    match asked_in(alloc, words, answer) {
-        Ok(asked) => Ok(asked),
-        Err(_) => Err(AllocError),
-    }
-}
-
-#[tactic(auto, unfolding(crate::specs::CommandLines::events_of))]
-fn asked_in(alloc: Global, words: &[Word<'_>], answer: &Option<CliArgs>) -> Result<Asked, LineError>
+) -> Result<Asked, LineError>
     ensures { IfOk result (λ asked. events_of answer.now words.now ≡ Ok asked) }
 {
     let [principal, host, command, arguments @ ..] = words else {

@@ -1,12 +1,23 @@
 //! Escapes: `%` and two hexadecimal digits stand for one byte.
 
-ghost use Rattle.std.specs.Prelude.{◌≡◌, ◌≤◌, length, IfOk, IfSome, if◌then◌else◌};
+ghost use Rattle.std.specs.Prelude.{◌≡◌, ◌≤◌, length, false, Some, IfOk, IfSome, if◌then◌else◌};
 ghost use Rattle.std.specs.Option.{option_map};
 ghost use Rattle.kob_script.specs.Escapes.{are_hexadecimal, byte_at, bytes_of};
 ghost use Rattle.kob_script.specs.Escapes.{hexadecimal, unescaped};
 
 use kob_names::Bytes;
+use memchr::memchr;
 use std::alloc::{AllocError, Global};
+
+/// Whether a word may have escapes. One that has none stands for itself.
+pub fn may_have_escapes(word: &[u8]) -> bool
+    ensures { result ≡ false → unescaped word.now ≡ Some word.now }
+{
+    match memchr(b'%', word) {
+        Some(_) => true,
+        None => false,
+    }
+}
 
 /// The bytes that a word stands for, unless a percent sign in it begins no escape.
 pub fn unescaped(alloc: Global, word: &[u8]) -> Result<Option<Bytes>, AllocError>
@@ -30,7 +41,7 @@ pub fn unescaped(alloc: Global, word: &[u8]) -> Result<Option<Bytes>, AllocError
 pub fn bytes_of(alloc: Global, part: &[u8]) -> Result<Bytes, AllocError>
     ensures { IfOk result (λ bytes. bytes ≡ bytes_of part.now) }
 {
-    if !part.contains(&b'%') {
+    if !may_have_escapes(part) {
         return Bytes::copied(alloc, part);
     }
     match unescaped(alloc, part)? {

@@ -55,20 +55,13 @@ fn check_words(alloc: Global, places: &[Place], words: &[Word<'_>]) -> Result<()
     ensures { Finds result (first_kind (faults_in places.now words.now)) }
 {
     let Some((place, places)) = places.split_first() else {
-        return check_none(words);
+        return match words {
+            [] => Ok(()),
+            _ => Err(LineError::Fault(FaultKind::BadLine)),
+        };
     };
     let others = check_words(alloc, places, words_behind(*place, words));
     first_error(check_place(alloc, *place, words), others)
-}
-
-// Tests that no word is left.
-fn check_none(words: &[Word<'_>]) -> Result<(), LineError>
-    ensures { Finds result (first_kind (faults_in [] words.now)) }
-{
-    match words {
-        [] => Ok(()),
-        _ => Err(LineError::Fault(FaultKind::BadLine)),
-    }
 }
 
 fn words_behind<'w, 'l>(place: Place, words: &'w [Word<'l>]) -> &'w [Word<'l>]

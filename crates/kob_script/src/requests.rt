@@ -10,7 +10,6 @@ use crate::asked::Asked;
 use crate::blocks::{Blocks, first_line};
 use crate::clap_answer::asks_clap;
 use crate::command_lines::events_in;
-use crate::fault::LineError;
 use crate::setting::is_setting;
 use crate::word::Word;
 use crate::words::words_of;
@@ -128,7 +127,7 @@ fn pass_answer(answers: &mut VecDeque<Option<CliArgs>>, is_used: bool)
     }
 }
 
-// What a line asks for, and whether clap was asked for it.
+// What a line without a fault asks for, and whether clap was asked for it.
 #[derive(Drop)]
 struct ReadAgain {
     asked: Asked,
@@ -144,7 +143,9 @@ fn read_again(
         ≡ requests_of (answer_for (line_words line.now) answers.now.items) (line_words line.now)) }
     ensures clap { IfOk result (λ read. read.asked_clap ≡ asks_clap (line_words line.now)) }
 {
-    let words = words_again(alloc, line)?;
+    let Ok(words) = words_of(alloc, line) else {
+        return Err(AllocError);
+    };
     let asked_clap = asks_clap(&words);
     let unasked = None;
     let answer = if asked_clap {
@@ -154,16 +155,6 @@ fn read_again(
     };
     let asked = requests_of(alloc, &words, answer)?;
     Ok(ReadAgain { asked, asked_clap })
-}
-
-fn words_again(alloc: Global, line: &[u8]) -> Result<Vec<Word<'_>>, AllocError>
-    ensures { IfOk result (λ words. words.items ≡ line_words line.entry.now) }
-{
-    match words_of(alloc, line) {
-        Ok(words) => Ok(words),
-        Err(LineError::Memory) => Err(AllocError),
-        Err(LineError::Fault(_)) => Ok(Vec::new(alloc)),
-    }
 }
 
 fn requests_of(
@@ -176,6 +167,9 @@ fn requests_of(
     match words {
         [] => Ok(Asked::nothing(alloc)),
         [first, ..] if is_setting(first) => Ok(Asked::nothing(alloc)),
-        _ => events_in(alloc, words, answer),
+        _ => match events_in(alloc, words, answer) {
+            Ok(asked) => Ok(asked),
+            Err(_) => Err(AllocError),
+        },
     }
 }

@@ -2,7 +2,7 @@
 
 ghost use Rattle.std.specs.Prelude.{map};
 ghost use Rattle.kob_script.specs.Reading.{Gives, GivesSeen, each};
-ghost use Rattle.kob_script.specs.Texts.{host_of, named_host, named_principal, principal_of, text_in};
+ghost use Rattle.kob_script.specs.Texts.{host_of, named_host, named_principal, principal_of};
 ghost use Rattle.kob_script.specs.Texts.{text_of};
 
 use crate::fault::{FaultKind, LineError};
@@ -15,7 +15,10 @@ use std::alloc::Global;
 pub fn lent_text_of<'w>(word: &'w Word<'_>) -> Result<&'w str, LineError>
     ensures { GivesSeen (λ text. text.now) result (text_of word.entry.now) }
 {
-    text_in(word.decoded())
+    match word.decoded().to_str() {
+        Ok(text) => Ok(text),
+        Err(_) => Err(LineError::Fault(FaultKind::BadText)),
+    }
 }
 
 /// A copy of the text of a word.
@@ -37,15 +40,6 @@ pub fn texts_of<'w>(alloc: Global, words: &'w [Word<'_>]) -> Result<Vec<&'w str>
         texts.push(text)?;
     }
     Ok(texts)
-}
-
-fn text_in(bytes: &[u8]) -> Result<&str, LineError>
-    ensures { GivesSeen (λ text. text.now) result (text_in bytes.now) }
-{
-    match bytes.to_str() {
-        Ok(text) => Ok(text),
-        Err(_) => Err(LineError::Fault(FaultKind::BadText)),
-    }
 }
 
 /// The principal that a text is.

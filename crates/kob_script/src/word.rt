@@ -5,7 +5,7 @@ ghost use Rattle.std.specs.Str.{bytes_eq};
 ghost use Rattle.kob_script.specs.Reading.{Gives};
 ghost use Rattle.kob_script.specs.Word.{word_of};
 
-use crate::escape::unescaped;
+use crate::escape::{may_have_escapes, unescaped};
 use crate::fault::{FaultKind, LineError};
 use kob_names::Bytes;
 use std::alloc::Global;
@@ -37,7 +37,7 @@ impl<'a> Word<'a> {
     pub fn read(alloc: Global, raw: &'a [u8]) -> Result<Word<'a>, LineError>
         ensures { Gives result (word_of raw.now) }
     {
-        if !raw.contains(&b'%') {
+        if !may_have_escapes(raw) {
             return Ok(Word {
                 raw,
                 replaced: None,

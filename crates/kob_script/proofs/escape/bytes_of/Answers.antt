@@ -1,7 +1,4 @@
-use Rattle.std.proofs.Common.{◌∙◌, sym}
-use Rattle.kob_script.proofs.Escapes.{unescaped_plain}
 use Rattle.kob_script.proofs.escape.bytes_of.Goals as goal
 
-pub returns-then-not-contains : goal.returns-then-not-contains
-returns-then-not-contains c =
-    rw (unescaped_plain c.args.part.now (sym c.contains.ensures.value ∙ c.if-not-contains.true)) c.copied.ensures
+pub returns-then-not-may_have_escapes : goal.returns-then-not-may_have_escapes
+returns-then-not-may_have_escapes c = rw (c.may_have_escapes.ensures c.if-not-may_have_escapes.true) c.copied.ensures
