@@ -13,7 +13,7 @@ use Rattle.kob_script.specs.declared.fault.FaultKind.{FaultKind}
 use Rattle.kob_script.specs.declared.fault.FaultKind.TheVariants.{LateSetting}
 use Rattle.kob_script.specs.declared.script.Script.{Script}
 use Rattle.kob_script.specs.Reading.{◌>>=◌}
-use Rattle.kob_script.specs.Requests.{answer_for, asks_clap, items_or_none, line_words, requests_in, requests_of}
+use Rattle.kob_script.specs.Requests.{asks_clap, first_answer, items_or_none, line_words, requests_in, requests_of}
 use Rattle.kob_script.specs.Script.{with_line, with_words}
 use Rattle.kob_script.specs.Settings.{is_setting, settings_with}
 use Rattle.kob_script.specs.Word.{Word}
@@ -28,14 +28,14 @@ chosen_alike : {A B C : Type 0} (setting acl : Bool) (arguments : C) (x : B) (ne
     (by : Option CliArgs → A) (other : A) (answer : Option CliArgs) (others : List (Option CliArgs))
     → let asks = is_some (if not setting && acl then Some arguments else None) in
     (if setting then x else next (if acl then
-    by (if asks then slice_index_or (if asks then answer ∷ others else others) 0 None else None) else other))
+    by (slice_index_or (if asks then answer ∷ others else others) 0 None) else other))
     ≡ (if setting then x else next (if acl then by answer else other))
 chosen_alike true acl arguments x next by other answer others = refl
 chosen_alike false true arguments x next by other answer others = refl
 chosen_alike false false arguments x next by other answer others = refl
 
 answered_alike : (words : List Word) (answer : Option CliArgs) (others : List (Option CliArgs))
-    → requests_of (answer_for words (answers_from words answer others)) words ≡ requests_of answer words
+    → requests_of (first_answer (answers_from words answer others)) words ≡ requests_of answer words
 unfolding events_of
 answered_alike [] answer others = refl
 answered_alike (first ∷ []) answer others = refl
@@ -71,7 +71,7 @@ pub line_again : (line : List ℕ) (lines : List (List ℕ)) (answer : Option Cl
 unfolding requests_in
 line_again line lines answer others =
     let words = line_words line in
-    passed (asks_clap words) answer others lines (requests_of (answer_for words (answers_from words answer others)) words)
+    passed (asks_clap words) answer others lines (requests_of (first_answer (answers_from words answer others)) words)
     ∙ ap (λ events. events ++ requests_in lines others) (answered_alike words answer others)
 
 events_in : Result Script FaultKind → List Event

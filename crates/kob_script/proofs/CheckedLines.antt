@@ -12,10 +12,10 @@ use Rattle.kob_script.specs.declared.fault.FaultKind.{FaultKind}
 use Rattle.kob_script.specs.declared.fault.LineError.{LineError}
 use Rattle.kob_script.specs.declared.fault.LineError.TheVariants.{Memory, Fault}
 use Rattle.kob_script.specs.declared.script.Script.{Script}
-use Rattle.kob_script.specs.Reading.{◌>>=◌, Fails}
-use Rattle.kob_script.specs.Requests.{items_or_none, line_words, requests_in, requests_of}
+use Rattle.kob_script.specs.Reading.{Fails}
+use Rattle.kob_script.specs.Requests.{line_words, requests_in, requests_of}
 use Rattle.kob_script.specs.Script.{empty_script, with_line, with_words}
-use Rattle.kob_script.specs.ScriptReadings.{IsAnswerToLine, LinesFrom, MayRead, ReadsAs}
+use Rattle.kob_script.specs.ScriptReadings.{LinesFrom, MayRead, ReadsAs}
 use Rattle.kob_script.specs.Word.{Word}
 use Rattle.kob_script.specs.Words.{words_of}
 use Rattle.kob_script.proofs.AskedLines.{answers_from, answers_split, line_again, line_asks}
@@ -26,26 +26,19 @@ module _ (s : Script) (line : List ℕ) (new : Checking) (old kept : List (Optio
       → kept ≡ with_answer old words answer → ChecksNext new (Ok tt) (with_words answer s words)
       → ChecksLine s line new old kept (Ok tt)
   unfolding with_line
-  line_checked words answer has is keeps reads =
-      subst (λ (read : Result (List Word) FaultKind). (given : Option CliArgs) × IsAnswerToLine read given
-      × (kept ≡ with_answer old (items_or_none read) given)
-      × ChecksNext new (Ok tt) (read >>= with_words given s)) (sym has) (answer, is, keeps, reads)
+  line_checked words answer has is keeps reads = rw has (answer, is, keeps, reads)
 
   pub words_fail : (words : List Word) (answer : Option CliArgs) (e : LineError) → words_of line ≡ Ok words
       → IsAnswerTo words answer → Fails e (with_words answer s words) → ChecksLine s line new old kept (Err e)
   unfolding with_line
   words_fail words answer Memory has is fails = tt
-  words_fail words answer (Fault kind) has is fails =
-      subst (λ (read : Result (List Word) FaultKind). (given : Option CliArgs) × IsAnswerToLine read given
-      × ((read >>= with_words given s) ≡ Err kind)) (sym has) (answer, is, fails)
+  words_fail words answer (Fault kind) has is fails = rw has (answer, is, fails)
 
   -- a line with an escape that is not whole
   pub line_fails : (e : LineError) → Fails e (words_of line) → ChecksLine s line new old kept (Err e)
   unfolding with_line
   line_fails Memory fails = tt
-  line_fails (Fault kind) fails =
-      subst (λ (read : Result (List Word) FaultKind). (given : Option CliArgs) × IsAnswerToLine read given
-      × ((read >>= with_words given s) ≡ Err kind)) (sym fails) (None, tt, refl)
+  line_fails (Fault kind) fails = rw fails (None, tt, refl)
 
 -- The lines that are left may be read after what was checked so far, as all may be, and with what
 -- they ask for, by answers behind those that were kept, all ask for what they do.
@@ -91,13 +84,15 @@ module _ (lines : List (List ℕ)) (checking new : Checking) (answers kept : Lis
         leads = λ read may. stands.leads read
             (rw split (Ok (script_so_far new events), (answer, is, reads), may));
         asks = λ more.
-            ap (λ given. requests_in lines (given ++ more)) keeps
-            ∙ ap (λ given. requests_in lines given) (answers_split answers words answer more)
-            ∙ stands.asks (answers_from words answer more)
-            ∙ ap (λ left. stands.events ++ requests_in left (answers_from words answer more)) split
-            ∙ ap (λ given. stands.events ++ given) (line_again line others answer more)
-            ∙ sym (append_assoc stands.events (requests_of answer words) (requests_in others more))
-            ∙ ap (λ given. given ++ requests_in others more) (sym asked);
+            rw (
+              keeps,
+              answers_split answers words answer more,
+              stands.asks (answers_from words answer more),
+              split,
+              line_again line others answer more,
+              asked,
+            )
+            (sym (append_assoc stands.events (requests_of answer words) (requests_in others more)));
       }
 
   stops_at : (kind : FaultKind) → ((events : List Event) → checking.requests ≡ length events

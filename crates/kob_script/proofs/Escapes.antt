@@ -70,5 +70,4 @@ module _ (bytes rest others : List ℕ) (first : ℕ) (all : Option (List ℕ)) 
 pub all_read : (bytes rest : List ℕ) (all : Option (List ℕ)) → with_rest bytes (unescaped rest) ≡ all → rest ≡ []
     → Some bytes ≡ all
 unfolding unescaped_from
-all_read bytes rest all kept none =
-    ap Some (sym (append-nil bytes)) ∙ sym (ap (λ word. with_rest bytes (unescaped word)) none) ∙ kept
+all_read bytes rest all kept none = ap Some (sym (append-nil bytes)) ∙ (rw none at kept)

@@ -3,7 +3,7 @@
 ghost use Rattle.std.specs.Prelude.{◌≡◌, ◌<◌, ◌++◌, ◌∷◌, drop, length};
 ghost use Rattle.std.specs.Prelude.{IfOk, OnOk, OnErr, if◌then◌else◌};
 ghost use Rattle.kob_script.specs.Blocks.{lines_in_blocks, lines_left, steps_left};
-ghost use Rattle.kob_script.specs.Requests.{answer_for, asks_clap, line_words};
+ghost use Rattle.kob_script.specs.Requests.{asks_clap, first_answer, line_words};
 ghost use Rattle.kob_script.specs.Requests.{requests_in, requests_of};
 
 use crate::asked::Asked;
@@ -140,20 +140,16 @@ fn read_again(
     answers: &VecDeque<Option<CliArgs>>,
 ) -> Result<ReadAgain, AllocError>
     ensures asked { IfOk result (λ read. read.asked
-        ≡ requests_of (answer_for (line_words line.now) answers.now.items) (line_words line.now)) }
+        ≡ requests_of (first_answer answers.now.items) (line_words line.now)) }
     ensures clap { IfOk result (λ read. read.asked_clap ≡ asks_clap (line_words line.now)) }
 {
     let Ok(words) = words_of(alloc, line) else {
         return Err(AllocError);
     };
-    let asked_clap = asks_clap(&words);
     let unasked = None;
-    let answer = if asked_clap {
-        answers.front().unwrap_or(&unasked)
-    } else {
-        &unasked
-    };
+    let answer = answers.front().unwrap_or(&unasked);
     let asked = requests_of(alloc, &words, answer)?;
+    let asked_clap = asks_clap(&words);
     Ok(ReadAgain { asked, asked_clap })
 }
 
