@@ -1,5 +1,5 @@
 -- A script is checked line by line.
-use Rattle.std.proofs.Common.{◌≡◌, ◌∙◌, ◌+◌, ℕ, false, List, [], ◌∷◌, ◌++◌, Option, None, Result, Ok, Err, length, ap, sym, subst, refl, append_assoc, append-nil}
+use Rattle.std.proofs.Common.{◌≡◌, ◌∙◌, ◌+◌, ℕ, false, List, [], ◌∷◌, ◌++◌, Option, None, Result, Ok, Err, length, ap, sym, refl, append_assoc, append-nil}
 use Rattle.std.specs.List.{concat}
 use Rattle.kob_acl_cli.specs.declared.args.CliArgs.{CliArgs}
 use Rattle.kob_rights.specs.declared.event.Event.{Event}
@@ -54,18 +54,12 @@ pub record Stands (lines : List (List ℕ)) (checking : Checking) (answers : Lis
 pub stands_first : (lines : List (List ℕ)) (checking : Checking) (answers : List (Option CliArgs))
     → checking.supers.items ≡ [] → checking.everyone ≡ false → checking.requests ≡ 0 → answers ≡ []
     → Stands lines checking answers 1 lines
-stands_first lines checking answers nobody closed none unanswered =
-    let same : script_so_far checking [] ≡ empty_script =
-    λ i. record {
-      settings = record { supers = nobody i; opening = []; everyone = closed i };
-      events = [];
-    } in
-    record {
-      events = [];
-      counts = none;
-      leads = λ read may. subst (λ (s : Script). LinesFrom s 1 lines read) same may;
-      asks = λ more. ap (λ given. requests_in lines (given ++ more)) unanswered;
-    }
+stands_first lines checking answers nobody closed none unanswered = record {
+  events = [];
+  counts = none;
+  leads = λ read may. (rw (nobody, closed) at may);
+  asks = λ more. rw unanswered refl;
+}
 
 module _ (lines : List (List ℕ)) (checking new : Checking) (answers kept : List (Option CliArgs)) (number : ℕ)
     (rest : List (List ℕ)) (line : List ℕ) (others : List (List ℕ)) (stands : Stands lines checking answers number rest)

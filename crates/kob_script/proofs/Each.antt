@@ -22,17 +22,14 @@ module _ {A B : Type 0} (read : A → Result B FaultKind) (all : Result (List B)
     (front : List B) (kept : with_front front (each read xs) ≡ all) (split : xs ≡ x ∷ more) where
   front_is : with_front front (one_more read more (read x)) ≡ all
   unfolding each
-  front_is = ap (λ rest. with_front front (each read rest)) (sym split) ∙ kept
+  front_is = rw split at kept
 
   pub front_fails : (e : LineError) → Fails e (read x) → Fails e all
   front_fails Memory fails = tt
-  front_fails (Fault kind) fails =
-      sym front_is ∙ ap (λ r. with_front front (one_more read more r)) fails
+  front_fails (Fault kind) fails = sym (rw fails at front_is)
 
   pub front_keeps : (y : B) → read x ≡ Ok y → with_front (front ++ y ∷ []) (each read more) ≡ all
-  front_keeps y gives =
-      with_front_more front y (each read more)
-      ∙ ap (λ r. with_front front (one_more read more r)) (sym gives) ∙ front_is
+  front_keeps y gives = with_front_more front y (each read more) ∙ (rw gives at front_is)
 
 pub front_ends : {A B : Type 0} (read : A → Result B FaultKind) (all : Result (List B) FaultKind) (xs : List A)
     (front : List B) → with_front front (each read xs) ≡ all → xs ≡ [] → all ≡ Ok front

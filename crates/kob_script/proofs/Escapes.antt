@@ -57,7 +57,7 @@ one_more bytes byte (Some more) = ap Some (append_assoc bytes (byte ∷ []) more
 module _ (bytes rest others : List ℕ) (first : ℕ) (all : Option (List ℕ)) (kept : with_rest bytes (unescaped rest) ≡ all)
     (split : rest ≡ first ∷ others) where
   front_is : with_rest bytes (then_rest (byte_at first others)) ≡ all
-  front_is = sym (ap (λ word. with_rest bytes (unescaped word)) split ∙ ap (with_rest bytes) (step first others)) ∙ kept
+  front_is = rw (split, step first others) at kept
 
   pub byte_read : (found : ℕ × List ℕ) → Some found ≡ byte_at first others
       → with_rest (bytes ++ found.0 ∷ []) (unescaped found.1) ≡ all

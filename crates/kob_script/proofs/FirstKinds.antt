@@ -1,5 +1,5 @@
 -- The kind that comes first among faults.
-use Rattle.std.proofs.Common.{◌≡◌, ◌≤◌, inl, inr, Bool, true, false, if◌then◌else◌, nat_lt, arith, List, [], ◌∷◌, Option, Some, None, ap, refl, subst, ℕ}
+use Rattle.std.proofs.Common.{◌≡◌, ◌≤◌, inl, inr, Bool, true, false, if◌then◌else◌, nat_lt, arith, List, [], ◌∷◌, Option, Some, None, ap, refl, ℕ}
 use Rattle.std.proofs.lemmas.Bool.{ltb-false, ltb-true}
 use Rattle.kob_script.specs.declared.fault.FaultKind.{FaultKind}
 use Rattle.kob_script.specs.Faults.{IsAmong, earlier, first_kind, rank}
@@ -49,4 +49,4 @@ first_of (fault ∷ faults) = more fault (first_kind faults) faults (first_of fa
 
 pub first_is : (faults : List (Option FaultKind)) (found : Option FaultKind) → first_kind faults ≡ found
     → IsFirst found faults
-first_is faults found is = subst (λ (fault : Option FaultKind). IsFirst fault faults) is (first_of faults)
+first_is faults found is = rw is at (first_of faults)

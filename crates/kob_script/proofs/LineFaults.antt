@@ -53,8 +53,7 @@ place_is (One at) [] = refl
 place_is (One at) (word ∷ words) = slot_is at word
 place_is (OrDash at) [] = refl
 place_is (OrDash at) (word ∷ words) =
-    let dash = bytes_eq word.raw (codes "-") in
-    dash_is dash (value_of at word) ∙ ap (λ fault. if dash then None else fault) (slot_is at word)
+    rw (dash_is (bytes_eq word.raw (codes "-")) (value_of at word), slot_is at word) refl
 place_is (OrNone at) [] = refl
 place_is (OrNone at) (word ∷ words) = some_is (value_of at word) ∙ slot_is at word
 place_is Records words = refl
@@ -72,9 +71,7 @@ row_is [] [] = refl
 row_is [] (word ∷ words) = refl
 row_is (place ∷ places) words =
     let behind = words_behind place words in
-    fault_both (place_value place words) (values_of places behind)
-    ∙ ap (λ fault. earlier fault (fault_in (values_of places behind))) (place_is place words)
-    ∙ ap (earlier (place_fault place words)) (row_is places behind)
+    rw (fault_both (place_value place words) (values_of places behind), place_is place words, row_is places behind) refl
 
 -- what is read behind the words that tell who asks: events for commands of `acl`, or one event
 acl_counted : {A : Type 0} (read : Result (List ℕ × (List ℕ × A)) FaultKind) (told : Result (List AclCommand) FaultKind)
@@ -124,9 +121,7 @@ counted_by_fault answer (who ∷ from ∷ command ∷ words) =
 -- a line that has no fault asks for one thing, or by `acl` for as many as there are commands
 pub line_counted : (answer : Option CliArgs) (words : List Word) → line_fault words ≡ None
     → counted (events_of answer words) ≡ (if asks_by_acl words then counted (acl_commands answer) else Ok 1)
-line_counted answer words none =
-    counted_by_fault answer words
-    ∙ ap (λ fault. unless_found fault (if asks_by_acl words then counted (acl_commands answer) else Ok 1)) none
+line_counted answer words none = rw none at (counted_by_fault answer words)
 
 pub one_counted : (answer : Option CliArgs) (words : List Word) → line_fault words ≡ None → asks_by_acl words ≡ false
     → counted (events_of answer words) ≡ Ok 1
@@ -137,9 +132,7 @@ one_counted answer words none plain =
 pub count_fails : (answer : Option CliArgs) (words : List Word) (e : LineError) → Finds (Err e) (line_fault words)
     → Fails e (counted (events_of answer words))
 count_fails answer words Memory found = tt
-count_fails answer words (Fault kind) found =
-    counted_by_fault answer words
-    ∙ ap (λ fault. unless_found fault (if asks_by_acl words then counted (acl_commands answer) else Ok 1)) found
+count_fails answer words (Fault kind) found = rw found at (counted_by_fault answer words)
 
 -- what was counted can be read, and what was not has that fault
 pub were_counted : {A : Type 0} (read : Result (List A) FaultKind) (count : ℕ) → counted read ≡ Ok count
