@@ -4,7 +4,7 @@ ghost use Rattle.std.specs.Prelude.{◌≡◌, ◌∷◌, [], Some, Option};
 ghost use Rattle.kob_script.specs.CommandLines.{asked_row, line_fault};
 ghost use Rattle.kob_script.specs.Faults.{Finds, earlier, earlier_kind, first_kind};
 ghost use Rattle.kob_script.specs.Reading.{each, fault_in};
-ghost use Rattle.kob_script.specs.Slots.{dash_fault, faults_in, place_fault, row_fault, slot_fault};
+ghost use Rattle.kob_script.specs.Slots.{faults_in, place_fault, row_fault, slot_fault};
 ghost use Rattle.kob_script.specs.Slots.{words_behind};
 ghost use Rattle.kob_script.specs.Texts.{text_of};
 ghost use Rattle.kob_script.specs.declared.fault.FaultKind as kinds;
@@ -85,7 +85,8 @@ fn check_place(alloc: Global, place: Place, words: &[Word<'_>]) -> Result<(), Li
             None => Err(LineError::Fault(FaultKind::BadLine)),
         },
         Place::OrDash(slot) => match words.split_first() {
-            Some((word, _)) => check_unless_dash(alloc, slot, word),
+            Some((word, _)) if word.is_dash() => Ok(()),
+            Some((word, _)) => check_slot(alloc, slot, word),
             None => Err(LineError::Fault(FaultKind::BadLine)),
         },
         Place::OrNone(slot) => match words.split_first() {
@@ -126,15 +127,6 @@ pub fn check_texts(alloc: Global, words: &[Word<'_>]) -> Result<(), LineError>
 {
     texts_of(alloc, words)?;
     Ok(())
-}
-
-fn check_unless_dash(alloc: Global, slot: Slot, word: &Word<'_>) -> Result<(), LineError>
-    ensures { Finds result (dash_fault slot word.now) }
-{
-    if word.is_dash() {
-        return Ok(());
-    }
-    check_slot(alloc, slot, word)
 }
 
 fn check_slot(alloc: Global, slot: Slot, word: &Word<'_>) -> Result<(), LineError>
