@@ -1,5 +1,5 @@
 -- What a line asks for, when it is checked and when it is read again.
-use Rattle.std.proofs.Common.{◌≡◌, ◌∙◌, ◌&&◌, not, Bool, true, false, if◌then◌else◌, ℕ, List, [], ◌∷◌, ◌++◌, drop, Option, Some, None, Result, Ok, Err, codes, ap, sym, refl, append_assoc, append-nil}
+use Rattle.std.proofs.Common.{◌≡◌, ◌∙◌, ◌&&◌, not, Bool, true, false, if◌then◌else◌, ℕ, List, [], ◌∷◌, ◌++◌, drop, length, nat_lt, Option, Some, None, Result, Ok, Err, codes, ap, sym, refl, append_assoc, append-nil}
 use Rattle.std.specs.List.{slice_index_or}
 use Rattle.std.specs.Option.{is_some}
 use Rattle.std.specs.Str.{bytes_eq}
@@ -7,14 +7,15 @@ use Rattle.kob_acl_cli.specs.declared.args.CliArgs.{CliArgs}
 use Rattle.kob_names.specs.declared.settings.Settings.{Settings}
 use Rattle.kob_rights.specs.declared.event.Event.{Event}
 use Rattle.kob_script.specs.Checks.{with_answer}
-use Rattle.kob_script.specs.CommandLines.{acl_requests, alone, asked_by, events_of, line_fault, request_named}
+use Rattle.kob_script.specs.Command.{command_named}
+use Rattle.kob_script.specs.CommandLines.{acl_events, command_events, events_of}
 use Rattle.kob_script.specs.declared.fault.FaultKind.{FaultKind}
 use Rattle.kob_script.specs.declared.fault.FaultKind.TheVariants.{LateSetting}
 use Rattle.kob_script.specs.declared.script.Script.{Script}
-use Rattle.kob_script.specs.Reading.{◌>>=◌, unless_found}
-use Rattle.kob_script.specs.Requests.{answer_for, asks_clap, items_or_none, line_words, requests_in, requests_of}
-use Rattle.kob_script.specs.Script.{with_line, with_setting, with_words}
-use Rattle.kob_script.specs.Settings.{is_setting}
+use Rattle.kob_script.specs.Reading.{◌>>=◌}
+use Rattle.kob_script.specs.Requests.{asks_clap, first_answer, items_or_none, line_words, requests_in, requests_of}
+use Rattle.kob_script.specs.Script.{with_line, with_words}
+use Rattle.kob_script.specs.Settings.{is_setting, settings_with}
 use Rattle.kob_script.specs.Word.{Word}
 use Rattle.kob_script.specs.Words.{words_of}
 
@@ -27,34 +28,33 @@ chosen_alike : {A B C : Type 0} (setting acl : Bool) (arguments : C) (x : B) (ne
     (by : Option CliArgs → A) (other : A) (answer : Option CliArgs) (others : List (Option CliArgs))
     → let asks = is_some (if not setting && acl then Some arguments else None) in
     (if setting then x else next (if acl then
-    by (if asks then slice_index_or (if asks then answer ∷ others else others) 0 None else None) else other))
+    by (slice_index_or (if asks then answer ∷ others else others) 0 None) else other))
     ≡ (if setting then x else next (if acl then by answer else other))
 chosen_alike true acl arguments x next by other answer others = refl
 chosen_alike false true arguments x next by other answer others = refl
 chosen_alike false false arguments x next by other answer others = refl
 
 answered_alike : (words : List Word) (answer : Option CliArgs) (others : List (Option CliArgs))
-    → requests_of (answer_for words (answers_from words answer others)) words ≡ requests_of answer words
+    → requests_of (first_answer (answers_from words answer others)) words ≡ requests_of answer words
 unfolding events_of
 answered_alike [] answer others = refl
 answered_alike (first ∷ []) answer others = refl
 answered_alike (first ∷ host ∷ []) answer others = refl
 answered_alike (first ∷ host ∷ command ∷ arguments) answer others =
-    chosen_alike (is_setting first) (bytes_eq command.decoded (codes "acl")) arguments []
-    (λ asked. items_or_none (unless_found (line_fault (first ∷ host ∷ command ∷ arguments)) (asked_by first host asked)))
-    (λ given. acl_requests given arguments) (alone (request_named command.decoded arguments)) answer others
-
-kept_behind : (asks : Bool) (answers : List (Option CliArgs)) (answer : Option CliArgs) (others : List (Option CliArgs))
-    → (if asks then answers ++ answer ∷ [] else answers) ++ others
-    ≡ answers ++ (if asks then answer ∷ others else others)
-kept_behind true answers answer others = append_assoc answers (answer ∷ []) others
-kept_behind false answers answer others = refl
+    chosen_alike (is_setting first) (bytes_eq command.decoded (codes "acl")) arguments [] items_or_none
+    (λ given. acl_events given first host arguments)
+    (command_events (command_named command.decoded) first host arguments) answer others
 
 -- the answers with one more, and others
 pub answers_split : (answers : List (Option CliArgs)) (words : List Word) (answer : Option CliArgs)
     (others : List (Option CliArgs))
     → with_answer answers words answer ++ others ≡ answers ++ answers_from words answer others
-answers_split answers words answer others = kept_behind (asks_clap words) answers answer others
+answers_split answers words answer others = by (asks_clap words)
+  where
+    by : (asks : Bool) → (if asks then answers ++ answer ∷ [] else answers) ++ others
+        ≡ answers ++ (if asks then answer ∷ others else others)
+    by true = append_assoc answers (answer ∷ []) others
+    by false = refl
 
 passed : (asks : Bool) (answer : Option CliArgs) (others : List (Option CliArgs)) (lines : List (List ℕ))
     (events : List Event)
@@ -71,42 +71,31 @@ pub line_again : (line : List ℕ) (lines : List (List ℕ)) (answer : Option Cl
 unfolding requests_in
 line_again line lines answer others =
     let words = line_words line in
-    passed (asks_clap words) answer others lines (requests_of (answer_for words (answers_from words answer others)) words)
+    passed (asks_clap words) answer others lines (requests_of (first_answer (answers_from words answer others)) words)
     ∙ ap (λ events. events ++ requests_in lines others) (answered_alike words answer others)
 
 events_in : Result Script FaultKind → List Event
 events_in (Ok s) = s.events
 events_in (Err kind) = []
 
-setting_asks_nothing : (s next : Script) (late : Bool) (read : Result Settings FaultKind)
-    → (if late then Err LateSetting else (read >>= λ settings. Ok (record { settings = settings; events = s.events })))
-    ≡ Ok next
-    → next.events ≡ s.events
-unfolding events_in
-setting_asks_nothing s next true read is = absurd cc
-setting_asks_nothing s next false (Ok settings) is = sym (ap events_in is)
-setting_asks_nothing s next false (Err kind) is = absurd cc
-
-asked_behind : (s next : Script) (read : Result (List Event) FaultKind)
-    → (read >>= λ events. Ok (record { settings = s.settings; events = s.events ++ events })) ≡ Ok next
-    → next.events ≡ s.events ++ items_or_none read
-unfolding events_in
-asked_behind s next (Ok events) is = sym (ap events_in is)
-asked_behind s next (Err kind) is = absurd cc
-
-by_first : (setting : Bool) (s next : Script) (one two : Result Script FaultKind) (asked : List Event)
-    → (one ≡ Ok next → next.events ≡ s.events) → (two ≡ Ok next → next.events ≡ s.events ++ asked)
-    → (if setting then one else two) ≡ Ok next → next.events ≡ s.events ++ (if setting then [] else asked)
-by_first true s next one two asked as_setting as_request is = as_setting is ∙ sym (append-nil s.events)
-by_first false s next one two asked as_setting as_request is = as_request is
-
 words_ask : (answer : Option CliArgs) (s next : Script) (words : List Word) → with_words answer s words ≡ Ok next
     → next.events ≡ s.events ++ requests_of answer words
 unfolding events_in
 words_ask answer s next [] is = sym (ap events_in is) ∙ sym (append-nil s.events)
 words_ask answer s next (first ∷ arguments) is =
-    by_first (is_setting first) s next (with_setting s first arguments) _ (items_or_none (events_of answer (first ∷ arguments)))
-    (λ set. setting_asks_nothing s next _ _ set) (λ asked. asked_behind s next _ asked) is
+    by (is_setting first) (nat_lt 0 (length s.events)) (settings_with s.settings first arguments)
+    (events_of answer (first ∷ arguments)) is
+  where
+    by : (setting late : Bool) (set : Result Settings FaultKind) (read : Result (List Event) FaultKind)
+        → (if setting then (if late then Err LateSetting
+        else (set >>= λ settings. Ok (record { settings = settings; events = s.events })))
+        else (read >>= λ events. Ok (record { settings = s.settings; events = s.events ++ events }))) ≡ Ok next
+        → next.events ≡ s.events ++ (if setting then [] else items_or_none read)
+    by true true set read made = absurd cc
+    by true false (Ok settings) read made = sym (ap events_in made) ∙ sym (append-nil s.events)
+    by true false (Err kind) read made = absurd cc
+    by false late set (Ok events) made = sym (ap events_in made)
+    by false late set (Err kind) made = absurd cc
 
 read_asks : (answer : Option CliArgs) (s next : Script) (words : Result (List Word) FaultKind)
     → (words >>= with_words answer s) ≡ Ok next

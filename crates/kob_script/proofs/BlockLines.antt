@@ -36,10 +36,7 @@ first_line_splits (b ∷ rest) whole text more others is reads =
 -- behind a block that was read to its end
 pub next_block : (rest block : List ℕ) (later more : List (List ℕ)) → rest ≡ [] → later ≡ block ∷ more
     → lines_in block ++ lines_in_blocks more ≡ lines_in rest ++ lines_in_blocks later
-next_block rest block later more none split =
-    ap (λ front. front ++ (lines_in block ++ lines_in_blocks more)) (sym no_lines)
-    ∙ ap (λ bytes. lines_in bytes ++ (lines_in block ++ lines_in_blocks more)) (sym none)
-    ∙ ap (λ blocks. lines_in rest ++ lines_in_blocks blocks) (sym split)
+next_block rest block later more none split = rw (none, split, no_lines) refl
 
 pub fewer_steps : (lines left : List (List ℕ)) (later : List (List ℕ)) (block : List ℕ) (more : List (List ℕ))
     → left ≡ lines → later ≡ block ∷ more → length left + length more < length lines + length later
@@ -57,8 +54,7 @@ no_bytes (b ∷ rest) none =
 -- behind a line of the block at the front
 pub rest_behind : (front next : List ℕ) (at size end : ℕ) → next ≡ front → end ≡ at + size
     → drop end next ≡ drop size (drop at front)
-rest_behind front next at size end same place =
-    ap (λ bytes. drop end bytes) same ∙ ap (λ n. drop n front) place ∙ sym (drop-drop size at front)
+rest_behind front next at size end same place = rw (same, place) (sym (drop-drop size at front))
 
 -- the lines from a block on
 pub block_lines : (blocks : List (List ℕ)) (i : ℕ) (block : List ℕ) → i < length blocks → block ≡ get_or blocks i block

@@ -17,37 +17,45 @@ abbrev pub one_more : {A B : Type 0} → (A → Result B FaultKind) → List A �
     → Result (List B) FaultKind
 one_more read rest r = r >>= λ first. each read rest >>= λ others. Ok (first ∷ others)
 
-steps : {A B : Type 0} (read : A → Result B FaultKind) (xs : List A) (i : ℕ) (d : A) → i < length xs
-    → each read (drop i xs) ≡ one_more read (drop (i + 1) xs) (read (get_or xs i d))
-unfolding each
-steps read xs i d below = ap (λ rest. each read rest) (drop_more xs i d below)
+-- a loop that takes what is left apart
+module _ {A B : Type 0} (read : A → Result B FaultKind) (all : Result (List B) FaultKind) (xs more : List A) (x : A)
+    (front : List B) (kept : with_front front (each read xs) ≡ all) (split : xs ≡ x ∷ more) where
+  front_is : with_front front (one_more read more (read x)) ≡ all
+  unfolding each
+  front_is = rw split at kept
 
--- the same, where the value at the index is known
-steps_at : {A B : Type 0} (read : A → Result B FaultKind) (xs : List A) (i : ℕ) (d x : A) → i < length xs
-    → x ≡ get_or xs i d
-    → each read (drop i xs) ≡ one_more read (drop (i + 1) xs) (read x)
-steps_at read xs i d x below is = steps read xs i d below ∙ ap (λ y. one_more read (drop (i + 1) xs) (read y)) (sym is)
+  pub front_fails : (e : LineError) → Fails e (read x) → Fails e all
+  front_fails Memory fails = tt
+  front_fails (Fault kind) fails = sym (rw fails at front_is)
+
+  pub front_keeps : (y : B) → read x ≡ Ok y → with_front (front ++ y ∷ []) (each read more) ≡ all
+  front_keeps y gives = with_front_more front y (each read more) ∙ (rw gives at front_is)
+
+pub front_ends : {A B : Type 0} (read : A → Result B FaultKind) (all : Result (List B) FaultKind) (xs : List A)
+    (front : List B) → with_front front (each read xs) ≡ all → xs ≡ [] → all ≡ Ok front
+unfolding each
+front_ends read all xs front kept none =
+    sym kept ∙ ap (λ rest. with_front front (each read rest)) none ∙ ap Ok (append-nil front)
+
+-- the same by an index
+value_at : {A : Type 0} (xs : List A) (i : ℕ) (d x : A) → i < length xs → x ≡ get_or xs i d
+    → drop i xs ≡ x ∷ drop (i + 1) xs
+value_at xs i d x below is = drop_more xs i d below ∙ ap (λ y. y ∷ drop (i + 1) xs) (sym is)
 
 pub each_fails : {A B : Type 0} (read : A → Result B FaultKind) (xs : List A) (i : ℕ) (d x : A) (front : List B)
     (e : LineError)
     → with_front front (each read (drop i xs)) ≡ each read xs → i < length xs → x ≡ get_or xs i d → Fails e (read x)
     → Fails e (each read xs)
-each_fails read xs i d x front Memory kept below is fails = tt
-each_fails read xs i d x front (Fault kind) kept below is fails =
-    sym kept ∙ ap (with_front front) (steps_at read xs i d x below is ∙ ap (one_more read (drop (i + 1) xs)) fails)
+each_fails read xs i d x front e kept below is = front_fails read _ _ _ x front kept (value_at xs i d x below is) e
 
 pub each_keeps : {A B : Type 0} (read : A → Result B FaultKind) (xs : List A) (i : ℕ) (d x : A) (front : List B) (y : B)
     → with_front front (each read (drop i xs)) ≡ each read xs → i < length xs → x ≡ get_or xs i d → read x ≡ Ok y
     → with_front (front ++ y ∷ []) (each read (drop (i + 1) xs)) ≡ each read xs
-each_keeps read xs i d x front y kept below is gives =
-    with_front_more front y _
-    ∙ sym (ap (with_front front) (steps_at read xs i d x below is ∙ ap (one_more read (drop (i + 1) xs)) gives)) ∙ kept
+each_keeps read xs i d x front y kept below is = front_keeps read _ _ _ x front kept (value_at xs i d x below is) y
 
 pub each_ends : {A B : Type 0} (read : A → Result B FaultKind) (xs : List A) (i : ℕ) (front : List B)
     → with_front front (each read (drop i xs)) ≡ each read xs → length xs ≤ i → each read xs ≡ Ok front
-unfolding each
-each_ends read xs i front kept past =
-    sym kept ∙ ap (λ rest. with_front front (each read rest)) (drop_of_length-le xs past) ∙ ap Ok (append-nil front)
+each_ends read xs i front kept past = front_ends read _ _ front kept (drop_of_length-le xs past)
 
 -- what is read of values that are seen by a view
 pub each_map : {X A B : Type 0} (read : A → Result B FaultKind) (view : X → A) (xs : List X)
@@ -60,26 +68,3 @@ each_map read view (x ∷ xs) =
 pub each_fails_map : {X A B : Type 0} (read : A → Result B FaultKind) (view : X → A) (xs : List X) (e : LineError)
     → Fails e (each (λ x. read (view x)) xs) → Fails e (each read (map view xs))
 each_fails_map read view xs e fails = subst (Fails e) (sym (each_map read view xs)) fails
-
--- the same, by the front of what is left
-module _ {A B : Type 0} (read : A → Result B FaultKind) (all : Result (List B) FaultKind) (xs more : List A) (x : A)
-    (front : List B) (kept : with_front front (each read xs) ≡ all) (split : xs ≡ x ∷ more) where
-  front_is : with_front front (one_more read more (read x)) ≡ all
-  unfolding each
-  front_is = ap (λ rest. with_front front (each read rest)) (sym split) ∙ kept
-
-  pub front_fails : (e : LineError) → Fails e (read x) → Fails e all
-  front_fails Memory fails = tt
-  front_fails (Fault kind) fails =
-      sym front_is ∙ ap (λ r. with_front front (one_more read more r)) fails
-
-  pub front_keeps : (y : B) → read x ≡ Ok y → with_front (front ++ y ∷ []) (each read more) ≡ all
-  front_keeps y gives =
-      with_front_more front y (each read more)
-      ∙ ap (λ r. with_front front (one_more read more r)) (sym gives) ∙ front_is
-
-pub front_ends : {A B : Type 0} (read : A → Result B FaultKind) (all : Result (List B) FaultKind) (xs : List A)
-    (front : List B) → with_front front (each read xs) ≡ all → xs ≡ [] → all ≡ Ok front
-unfolding each
-front_ends read all xs front kept none =
-    sym kept ∙ ap (λ rest. with_front front (each read rest)) none ∙ ap Ok (append-nil front)

@@ -3,7 +3,7 @@ use Rattle.std.proofs.Common.{◌≡◌, ◌∙◌, ◌<◌, ◌+◌, ◌-◌, �
 use Rattle.std.proofs.lemmas.Bool.{eqb-true}
 use Rattle.kob_acl_cli.specs.declared.args.CliArgs.{CliArgs}
 use Rattle.kob_rights.specs.declared.event.Event.{Event}
-use Rattle.kob_script.specs.Requests.{answer_for, answers_after, line_words, requests_in, requests_of}
+use Rattle.kob_script.specs.Requests.{answers_after, first_answer, line_words, requests_in, requests_of}
 
 -- where requests are left and none was read, some lines are left
 pub some_lines : (asked : List Event) (lines : List (List ℕ)) (answers : List (Option CliArgs)) (all : List Event) (n : ℕ)
@@ -16,9 +16,7 @@ some_lines asked (line ∷ lines) answers all n none left some = omega arith
 
 pub same_left : (asked : List Event) (lines left : List (List ℕ)) (answers kept : List (Option CliArgs)) → left ≡ lines
     → kept ≡ answers → asked ++ requests_in left kept ≡ asked ++ requests_in lines answers
-same_left asked lines left answers kept same_lines same_answers =
-    ap (λ text. asked ++ requests_in text kept) same_lines
-    ∙ ap (λ given. asked ++ requests_in lines given) same_answers
+same_left asked lines left answers kept same_lines same_answers = rw (same_lines, same_answers) refl
 
 pub one_fewer : {A : Type 0} (left : ℕ) (x : A) (all more : List A) → left ≡ length all → all ≡ x ∷ more
     → left - 1 ≡ length more
@@ -34,12 +32,8 @@ nothing_at_zero (x ∷ more) count counts zero =
 -- a line was read that stood at the front
 pub line_read : (text : List ℕ) (lines left later last : List (List ℕ)) (answers kept : List (Option CliArgs))
     (events : List Event) → lines ≡ text ∷ left → last ≡ later
-    → events ≡ requests_of (answer_for (line_words text) answers) (line_words text)
+    → events ≡ requests_of (first_answer answers) (line_words text)
     → kept ≡ answers_after (line_words text) answers
     → requests_in (lines ++ later) answers ≡ events ++ requests_in (left ++ last) kept
 unfolding requests_in
-line_read text lines left later last answers kept events split same is used =
-    ap (λ front. requests_in (front ++ later) answers) split
-    ∙ ap (λ given. given ++ requests_in (left ++ later) (answers_after (line_words text) answers)) (sym is)
-    ∙ ap (λ given. events ++ requests_in (left ++ later) given) (sym used)
-    ∙ ap (λ blocks. events ++ requests_in (left ++ blocks) kept) (sym same)
+line_read text lines left later last answers kept events split same is used = rw (split, same, is, used) refl

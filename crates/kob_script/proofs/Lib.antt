@@ -4,14 +4,12 @@ pub mod BlockLines
 pub mod CheckedLines
 pub mod Choices
 pub mod Cuts
-pub mod Drafts
 pub mod Each
 pub mod Escapes
 pub mod FirstKinds
 pub mod LeftRequests
 pub mod LineFaults
 pub mod LineWords
-pub mod Lines
 pub mod Numbers
 pub mod PlainScripts
-pub mod Printed
+pub mod RowWords

@@ -1,12 +1,12 @@
 -- The words of a line, cut off one after another.
-use Rattle.std.proofs.Common.{◌≡◌, ◌∙◌, ◌<◌, ◌==◌, ◌+◌, ℕ, true, false, List, [], ◌∷◌, filter, length, take, drop, nat_lt, slice_index, refl, sym, ap, subst, arith, zero, suc, length-take-le}
+use Rattle.std.proofs.Common.{◌≡◌, ◌∙◌, ◌<◌, ◌+◌, ℕ, true, false, List, [], ◌∷◌, filter, length, take, drop, nat_lt, slice_index, refl, sym, ap, subst, arith, zero, suc, length-take-le}
 use Rattle.std.specs.List.{position_or_len, slice_split}
 use Rattle.std.proofs.lemmas.Bool.{lt-ltb}
 use Rattle.std.proofs.lemmas.Grind.{get_or_default_zero}
-use Rattle.std.proofs.lemmas.List.Splits.{slice_split-cons_yes, slice_split_first, slice_split_none}
+use Rattle.std.proofs.lemmas.List.Splits.{slice_split_first, slice_split_none}
 use Rattle.std.proofs.lemmas.List.Sums.{position_or_len_is}
 use Rattle.memchr.specs.Find.{is_byte2, NoneBefore, Nowhere, Passes}
-use Rattle.kob_script.specs.Words.{is_blank, is_skipped, raw_words}
+use Rattle.kob_script.specs.Words.{is_blank, raw_words}
 use Rattle.kob_script.proofs.Choices.{chosen_true, false_from}
 
 not_blank : (bytes : List ℕ) (k : ℕ) → (Passes (is_byte2 32 9) bytes k → ⊥) → is_blank (slice_index bytes k) ≡ false
@@ -15,11 +15,6 @@ not_blank bytes k refuted = false_from (is_blank (slice_index bytes k)) (λ blan
 kept_first : (word : List ℕ) (words : List (List ℕ)) → 0 < length word
     → filter (λ w. nat_lt 0 (length w)) (word ∷ words) ≡ word ∷ filter (λ w. nat_lt 0 (length w)) words
 kept_first word words some = chosen_true (nat_lt 0 (length word)) _ _ (lt-ltb 0 (length word) some)
-
--- behind a blank
-pub blank_passed : (byte : ℕ) (others : List ℕ) → is_blank byte ≡ true → raw_words (byte ∷ others) ≡ raw_words others
-blank_passed byte others blank =
-    ap (filter (λ word. nat_lt 0 (length word))) (slice_split-cons_yes is_blank byte others blank)
 
 -- a word to the end
 pub word_ends : (bytes : List ℕ) → 0 < length bytes → Nowhere (Passes (is_byte2 32 9) bytes) 0 (length bytes)
@@ -58,11 +53,3 @@ module _ (bytes : List ℕ) (end : ℕ) (first : NoneBefore (Passes (is_byte2 32
       ∙ ap (λ at. take at bytes ∷ slice_split is_blank (drop (at + 1) bytes)) ends_at)
       ∙ kept_first (take end bytes) (slice_split is_blank (drop (end + 1) bytes))
       (omega (arith, long, some_before begins))
-
--- what the first word tells of a line
-pub skipped_by_first : (words others : List (List ℕ)) (first : List ℕ) → words ≡ first ∷ others
-    → is_skipped words ≡ (slice_index first 0 == 35)
-skipped_by_first words others first split = ap is_skipped split
-
-pub skipped_by_none : (words : List (List ℕ)) → words ≡ [] → is_skipped words ≡ true
-skipped_by_none words none = ap is_skipped none

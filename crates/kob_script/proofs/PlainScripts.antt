@@ -4,13 +4,14 @@ use Rattle.std.specs.List.{list_all}
 use Rattle.std.specs.Option.{is_none}
 use Rattle.std.specs.Str.{bytes_eq}
 use Rattle.kob_acl_cli.specs.declared.args.CliArgs.{CliArgs}
-use Rattle.kob_script.specs.CommandLines.{acl_requests, alone, asked_by, events_of, line_fault, request_named}
+use Rattle.kob_script.specs.Command.{command_named}
+use Rattle.kob_script.specs.CommandLines.{acl_events, command_events, events_of}
 use Rattle.kob_script.specs.declared.fault.FaultKind.{FaultKind}
 use Rattle.kob_script.specs.declared.fault.Fault as fault
 use Rattle.kob_script.specs.declared.fault.ScriptError.{ScriptError}
 use Rattle.kob_script.specs.declared.fault.ScriptError.TheVariants.{Memory, Fault}
 use Rattle.kob_script.specs.declared.script.Script.{Script}
-use Rattle.kob_script.specs.Reading.{◌>>=◌, unless_found}
+use Rattle.kob_script.specs.Reading.{◌>>=◌}
 use Rattle.kob_script.specs.Script.{at_line, empty_script, lines_from, lines_in, script_of, then_lines, with_line, with_words}
 use Rattle.kob_script.specs.ScriptReadings.{HasNoAclLine, is_plain, LinesFrom, MayRead, Reads, ReadsAs, ThenLines}
 use Rattle.kob_script.specs.Settings.{is_setting}
@@ -39,10 +40,9 @@ line_alike answer s (Ok []) plain = refl
 line_alike answer s (Ok (first ∷ [])) plain = refl
 line_alike answer s (Ok (first ∷ host ∷ [])) plain = refl
 line_alike answer s (Ok (first ∷ host ∷ command ∷ arguments)) plain =
-    others_alike (is_setting first) (bytes_eq command.decoded (codes "acl")) _ (acl_requests answer arguments)
-    (acl_requests None arguments) (alone (request_named command.decoded arguments))
-    (λ asked. unless_found (line_fault (first ∷ host ∷ command ∷ arguments)) (asked_by first host asked)
-    >>= λ events. Ok (record { settings = s.settings; events = s.events ++ events })) arguments plain
+    others_alike (is_setting first) (bytes_eq command.decoded (codes "acl")) _ (acl_events answer first host arguments)
+    (acl_events None first host arguments) (command_events (command_named command.decoded) first host arguments)
+    (λ read. read >>= λ events. Ok (record { settings = s.settings; events = s.events ++ events })) arguments plain
 
 then_alike : (number : ℕ) (lines : List (List ℕ)) (first : Result Script FaultKind) (read : Result Script fault.Fault)
     → ((next : Script) → LinesFrom next (number + 1) lines read → read ≡ lines_from next (number + 1) lines)

@@ -1,5 +1,5 @@
 -- What a line asks for.
-use Rattle.std.specs.Prelude.{ℕ, Bool, false, List, [], ◌∷◌, Option, Some, Result, Ok, Err, codes, map, if◌then◌else◌}
+use Rattle.std.specs.Prelude.{ℕ, Bool, false, List, [], ◌∷◌, Option, Some, None, Result, Ok, Err, codes, map, if◌then◌else◌}
 use Rattle.std.specs.Option.{option_map}
 use Rattle.std.specs.Str.{bytes_eq}
 use Rattle.kob_acl_cli.specs.declared.args.CliArgs.{CliArgs}
@@ -15,9 +15,12 @@ use Rattle.kob_script.specs.declared.command.Command.{Command}
 use Rattle.kob_script.specs.declared.command.Command.TheVariants.{CreateTopic, DeleteTopic, Metadata, Produce, Fetch, ListOffsets, DeleteRecords, InitProducer, Commit, Committed, Groups, DeleteGroup, CreateAcl, DescribeAcls, DeleteAcls}
 use Rattle.kob_script.specs.declared.fault.FaultKind.{FaultKind}
 use Rattle.kob_script.specs.declared.fault.FaultKind.TheVariants.{BadLine}
-use Rattle.kob_script.specs.Faults.{asked_row, row_fault}
-use Rattle.kob_script.specs.Reading.{◌>>=◌, found_or, unless_found}
-use Rattle.kob_script.specs.Slots.{Values, values_of}
+use Rattle.kob_script.specs.declared.slots.Place.{Place}
+use Rattle.kob_script.specs.declared.slots.Place.TheVariants.{One}
+use Rattle.kob_script.specs.declared.slots.Slot.TheVariants.{Principal, Host}
+use Rattle.kob_script.specs.Faults.{both}
+use Rattle.kob_script.specs.Reading.{◌>>=◌}
+use Rattle.kob_script.specs.Slots.{Values, row_fault, values_of}
 use Rattle.kob_script.specs.Texts.{named_principal, named_host}
 use Rattle.kob_script.specs.Word.{Word}
 
@@ -80,9 +83,6 @@ request_by DeleteAcls values = ask.DeleteAcls (record { filter = filter_by value
 unfoldable pub request_of : Command → List Word → Result Request FaultKind
 request_of command words = values_of (row command) words >>= λ values. Ok (request_by command values)
 
-abbrev pub request_named : List ℕ → List Word → Result Request FaultKind
-request_named name words = found_or BadLine (command_named name) >>= λ command. request_of command words
-
 -- what the words of a binding, and those of a filter, ask for
 abbrev pub draft_with : (Draft → Request) → List Word → Result Request FaultKind
 draft_with ask words = values_of (row CreateAcl) words >>= λ values. Ok (ask (draft_by values))
@@ -90,50 +90,52 @@ draft_with ask words = values_of (row CreateAcl) words >>= λ values. Ok (ask (d
 abbrev pub filter_with : (BindingFilter → Request) → List Word → Result Request FaultKind
 filter_with ask words = values_of filter_row words >>= λ values. Ok (ask (filter_by values))
 
--- the event that a principal at a host asks for something
+-- what is read of a line behind the words that tell who asks
+abbrev pub asking : {A : Type 0} → Word → Word → Result A FaultKind
+    → Result (List ℕ × (List ℕ × A)) FaultKind
+asking who from read = both (named_principal who) (both (named_host from) read)
+
+-- the event that a principal at a host asks for something, and those by the commands of `acl`
 abbrev pub event_by : List ℕ → List ℕ → Request → Event
 event_by principal host request = record { principal = principal; host = host; request = request }
 
--- the commands of the words after `acl`, which are texts, by clap's answer to them
-abbrev pub commands_after : Option CliArgs → List Word → Result (List AclCommand) FaultKind
-commands_after answer words = values_of acl_row words >>= λ texts. acl_commands answer
+abbrev pub events_by : List ℕ → List ℕ → List AclCommand → List Event
+events_by principal host commands =
+    map (λ request. event_by principal host request) (map acl_request commands)
 
-abbrev pub acl_requests : Option CliArgs → List Word → Result (List Request) FaultKind
-acl_requests answer words = commands_after answer words >>= λ commands. Ok (map acl_request commands)
+-- what a command other than `acl` asks for
+abbrev pub command_events : Option Command → Word → Word → List Word
+    → Result (List Event) FaultKind
+command_events None who from words = Err BadLine
+command_events (Some command) who from words =
+    asking who from (request_of command words)
+    >>= λ asked. Ok (event_by asked.0 asked.1.0 asked.1.1 ∷ [])
 
-abbrev pub alone : Result Request FaultKind → Result (List Request) FaultKind
-alone read = read >>= λ request. Ok (request ∷ [])
-
--- what is asked for by a command's word and the words after it, in order; only `acl` may ask for
--- more or fewer than one
-abbrev pub requests_named : Option CliArgs → List ℕ → List Word → Result (List Request) FaultKind
-requests_named answer name words =
-    if bytes_eq name (codes "acl") then acl_requests answer words else alone (request_named name words)
-
--- what a principal at a host asks for
-abbrev pub asked_by : Word → Word → Result (List Request) FaultKind → Result (List Event) FaultKind
-asked_by who from requests =
-    named_principal who >>= λ principal. named_host from >>= λ host. requests >>= λ asked.
-    Ok (map (λ request. event_by principal host request) asked)
-
--- the events of a line, read word by word
-abbrev pub events_in : Option CliArgs → List Word → Result (List Event) FaultKind
-events_in answer (principal ∷ host ∷ command ∷ words) =
-    asked_by principal host (requests_named answer command.decoded words)
-events_in answer _ = Err BadLine
+-- what `acl` asks for by clap's answer to the words after it, which are texts: any number of events
+abbrev pub acl_events : Option CliArgs → Word → Word → List Word → Result (List Event) FaultKind
+acl_events answer who from words =
+    asking who from (values_of acl_row words) >>= λ asked. acl_commands answer
+    >>= λ commands. Ok (events_by asked.0 asked.1.0 commands)
 
 -- a line asks by `acl`
 abbrev pub asks_by_acl : List Word → Bool
 asks_by_acl (principal ∷ host ∷ command ∷ words) = bytes_eq command.decoded (codes "acl")
 asks_by_acl _ = false
 
+-- the events of a line, PRINCIPAL HOST COMMAND and the command's words, by clap's answer to those of
+-- `acl`; or the line's fault, that of the first kind that is in its words
+unfoldable pub events_of : Option CliArgs → List Word → Result (List Event) FaultKind
+events_of answer (who ∷ from ∷ command ∷ words) =
+    if bytes_eq command.decoded (codes "acl") then acl_events answer who from words
+    else command_events (command_named command.decoded) who from words
+events_of answer _ = Err BadLine
+
+-- a row behind the words that tell who asks
+abbrev pub asked_row : List Place → List Place
+asked_row places = One Principal ∷ One Host ∷ places
+
 -- the fault of a line's words, by the row of its command
 abbrev pub line_fault : List Word → Option FaultKind
-line_fault (principal ∷ host ∷ command ∷ words) =
-    row_fault (option_map asked_row (row_named command.decoded)) (principal ∷ host ∷ words)
+line_fault (who ∷ from ∷ command ∷ words) =
+    row_fault (option_map asked_row (row_named command.decoded)) (who ∷ from ∷ words)
 line_fault _ = Some BadLine
-
--- the events of a line, PRINCIPAL HOST COMMAND and the command's words, by clap's answer to those of
--- `acl`; unless its words have a fault, of which the kind that comes first is the line's
-unfoldable pub events_of : Option CliArgs → List Word → Result (List Event) FaultKind
-events_of answer words = unless_found (line_fault words) (events_in answer words)

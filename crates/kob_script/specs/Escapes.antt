@@ -1,5 +1,6 @@
 -- The bytes that a word stands for.
-use Rattle.std.specs.Prelude.{◌≡◌, ◌+◌, ◌*◌, ◌==◌, ◌&&◌, not, ℕ, Bool, true, List, [], ◌∷◌, ◌++◌, Option, Some, None, nat_lt, if◌then◌else◌}
+use Rattle.std.specs.Prelude.{◌≡◌, ◌+◌, ◌*◌, ◌==◌, ◌&&◌, ℕ, zero, suc, Bool, true, List, [], ◌∷◌, ◌++◌, drop, Option, Some, None, is_some, nat_lt, unwrap_or, if◌then◌else◌}
+use Rattle.std.specs.Option.{option_map}
 use Rattle.std.specs.Char.{digit_value}
 
 -- two hexadecimal digits
@@ -10,35 +11,43 @@ are_hexadecimal high low = nat_lt (digit_value high) 16 && nat_lt (digit_value l
 abbrev pub hexadecimal : ℕ → ℕ → ℕ
 hexadecimal high low = 16 * digit_value high + digit_value low
 
--- the byte that stands after a percent sign, and what comes after it; nothing where no two digits
--- follow
-abbrev pub escaped_at : List ℕ → Option (ℕ × List ℕ)
-escaped_at (high ∷ low ∷ others) =
-    if are_hexadecimal high low then Some (hexadecimal high low, others) else None
-escaped_at _ = None
+-- the byte that stands after a percent sign; nothing where no two digits follow
+abbrev pub escaped : List ℕ → Option ℕ
+escaped (high ∷ low ∷ others) =
+    if are_hexadecimal high low then Some (hexadecimal high low) else None
+escaped _ = None
 
 -- the byte at the front of a word, and what comes after it; nothing for a percent sign that begins
 -- no escape
 abbrev pub byte_at : ℕ → List ℕ → Option (ℕ × List ℕ)
-byte_at first others = if first == 37 then escaped_at others else Some (first, others)
+byte_at first others =
+    if first == 37 then option_map (λ byte. (byte, drop 2 others)) (escaped others)
+    else Some (first, others)
+
+-- a byte before others
+abbrev pub before : Option ℕ → Option (List ℕ) → Option (List ℕ)
+before None others = None
+before (Some byte) others = option_map (λ bytes. byte ∷ bytes) others
+
+-- what a word stands for behind so many bytes: `%` and two hexadecimal digits for a byte, each other
+-- byte for itself; nothing where no two digits follow a percent sign
+unfoldable pub unescaped_from : ℕ → List ℕ → Option (List ℕ)
+unescaped_from n [] = Some []
+unescaped_from zero (byte ∷ rest) =
+    if byte == 37 then before (escaped rest) (unescaped_from 2 rest)
+    else before (Some byte) (unescaped_from 0 rest)
+unescaped_from (suc n) (byte ∷ rest) = unescaped_from n rest
+
+abbrev pub unescaped : List ℕ → Option (List ℕ)
+unescaped word = unescaped_from 0 word
+
+-- the bytes that a part of a word stands for; where its escapes are not whole, itself
+abbrev pub bytes_of : List ℕ → List ℕ
+bytes_of part = unwrap_or (unescaped part) part
 
 -- two hexadecimal digits follow each percent sign
-unfoldable pub has_whole_escapes : List ℕ → Bool
-has_whole_escapes [] = true
-has_whole_escapes (byte ∷ []) = not (byte == 37)
-has_whole_escapes (byte ∷ high ∷ []) = not (byte == 37) && not (high == 37)
-has_whole_escapes (byte ∷ high ∷ low ∷ rest) =
-    if byte == 37 then are_hexadecimal high low && has_whole_escapes rest
-    else has_whole_escapes (high ∷ low ∷ rest)
-
--- `%` and two hexadecimal digits stand for a byte, each other byte for itself
-unfoldable pub bytes_of : List ℕ → List ℕ
-bytes_of [] = []
-bytes_of (byte ∷ []) = byte ∷ []
-bytes_of (byte ∷ high ∷ []) = byte ∷ high ∷ []
-bytes_of (byte ∷ high ∷ low ∷ rest) =
-    if byte == 37 && are_hexadecimal high low then hexadecimal high low ∷ bytes_of rest
-    else byte ∷ bytes_of (high ∷ low ∷ rest)
+abbrev pub has_whole_escapes : List ℕ → Bool
+has_whole_escapes word = is_some (unescaped word)
 
 -- the parts around this byte have whole escapes where the bytes have, so that each part is read as
 -- it stands

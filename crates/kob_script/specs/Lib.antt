@@ -1,5 +1,4 @@
 pub mod Acl
-pub mod Asked
 pub mod Batches
 pub mod Blocks
 pub mod Checks

@@ -32,10 +32,6 @@ record_item (offset, message) =
 abbrev pub binding_item : ℕ × Binding → List ℕ
 binding_item (serial, binding) = codes "\n" ++ binding_text serial binding
 
-abbrev pub commit_text : Option ℕ → List ℕ
-commit_text None = codes "-1"
-commit_text (Some offset) = decimal offset
-
 abbrev pub body_text : Body → List ℕ
 body_text Created = codes "created"
 body_text Deleted = codes "deleted"
@@ -45,7 +41,8 @@ body_text (Bindings bindings) =
     codes "bindings " ++ decimal (length bindings) ++ flat_map binding_item bindings
 body_text (Offset offset) = codes "offset " ++ decimal offset
 body_text (Start offset) = codes "start " ++ decimal offset
-body_text (Commit commit) = codes "commit " ++ commit_text commit
+body_text (Commit None) = codes "commit -1"
+body_text (Commit (Some offset)) = codes "commit " ++ decimal offset
 body_text (Records records) = codes "records" ++ flat_map record_item records
 body_text (Topics topics) = codes "topics" ++ flat_map topic_item topics
 body_text (Groups groups) = codes "groups" ++ flat_map group_item groups

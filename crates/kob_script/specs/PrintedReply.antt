@@ -1,5 +1,5 @@
 -- How replies are printed.
-use Rattle.std.specs.Prelude.{◌+◌, ℕ, List, [], ◌∷◌, ◌++◌, codes}
+use Rattle.std.specs.Prelude.{◌+◌, ℕ, List, [], ◌∷◌, ◌++◌, codes, flat_map}
 use Rattle.std.specs.Fmt.{decimal}
 use Rattle.kob_names.specs.declared.verdict.Verdict.{Verdict}
 use Rattle.kob_names.specs.declared.verdict.Verdict.TheVariants.{Super, AllowedBy, DeniedBy, NoAllow, NoAclFound}
@@ -18,11 +18,14 @@ verdict_text (AllowedBy serial) = codes "allow:" ++ decimal serial
 verdict_text Super = codes "super"
 verdict_text NoAclFound = codes "no-acl-found"
 
+-- a verdict after another one
+abbrev pub verdict_item : Verdict → List ℕ
+verdict_item v = codes "," ++ verdict_text v
+
 -- with commas between them
 unfoldable pub verdicts_text : List Verdict → List ℕ
 verdicts_text [] = []
-verdicts_text (v ∷ []) = verdict_text v
-verdicts_text (v ∷ w ∷ more) = verdict_text v ++ codes "," ++ verdicts_text (w ∷ more)
+verdicts_text (v ∷ others) = verdict_text v ++ flat_map verdict_item others
 
 -- CODE CODENAME
 abbrev pub code_text : Code → List ℕ

@@ -1,10 +1,8 @@
 -- Reading, up to the first fault.
-use Rattle.std.specs.Prelude.{◌≡◌, ℕ, List, [], ◌∷◌, ◌++◌, Option, Some, None, Result, Ok, Err, codes, length, if◌then◌else◌}
-use Rattle.std.specs.Str.{bytes_eq}
+use Rattle.std.specs.Prelude.{◌≡◌, ℕ, List, [], ◌∷◌, ◌++◌, Option, Some, None, Result, Ok, Err, length}
 use Rattle.kob_script.specs.declared.fault.FaultKind.{FaultKind}
 use Rattle.kob_script.specs.declared.fault.LineError.{LineError}
 use Rattle.kob_script.specs.declared.fault.LineError.TheVariants.{Memory, Fault}
-use Rattle.kob_script.specs.Word.{Word}
 
 -- a step of reading, and those after it unless it failed
 infixl 10 ◌>>=◌
@@ -62,8 +60,7 @@ abbrev pub found_or : {A : Type 0} → FaultKind → Option A → Result A Fault
 found_or kind None = Err kind
 found_or kind (Some x) = Ok x
 
--- nothing for the word `-`, which has to stand without escapes
-abbrev pub unless_dash : {A : Type 0} → (Word → Result A FaultKind) → Word
-    → Result (Option A) FaultKind
-unless_dash read word =
-    if bytes_eq word.raw (codes "-") then Ok None else (read word >>= λ x. Ok (Some x))
+-- a value that is there
+abbrev pub some : {A : Type 0} → Result A FaultKind → Result (Option A) FaultKind
+some (Ok x) = Ok (Some x)
+some (Err kind) = Err kind

@@ -1,7 +1,7 @@
 -- What lines ask for, by what clap answered to those of `acl`.
 use Rattle.std.specs.List.{slice_index_or}
 use Rattle.std.specs.Option.{is_some}
-use Rattle.std.specs.Prelude.{◌≡◌, ◌≤◌, ℕ, Bool, List, [], ◌∷◌, ◌++◌, Option, None, Result, Ok, Err, drop, length, if◌then◌else◌}
+use Rattle.std.specs.Prelude.{◌≡◌, ℕ, Bool, List, [], ◌∷◌, ◌++◌, Option, None, Result, Ok, Err, drop, length, if◌then◌else◌}
 use Rattle.kob_acl_cli.specs.declared.args.CliArgs.{CliArgs}
 use Rattle.kob_rights.specs.declared.event.Event.{Event}
 use Rattle.kob_script.specs.Blocks.{lines_left}
@@ -33,9 +33,10 @@ requests_of answer (first ∷ arguments) =
 abbrev pub asks_clap : List Word → Bool
 asks_clap words = is_some (after_acl words)
 
--- the answer to words, of those that are left: the first, where clap was asked
-abbrev pub answer_for : List Word → List (Option CliArgs) → Option CliArgs
-answer_for words answers = if asks_clap words then slice_index_or answers 0 None else None
+-- the first of the answers that are left, by which words are read; of others than those of which
+-- clap was asked it tells nothing
+abbrev pub first_answer : List (Option CliArgs) → Option CliArgs
+first_answer answers = slice_index_or answers 0 None
 
 -- the answers that are left after words
 abbrev pub answers_after : List Word → List (Option CliArgs) → List (Option CliArgs)
@@ -45,7 +46,7 @@ answers_after words answers = if asks_clap words then drop 1 answers else answer
 unfoldable pub requests_in : List (List ℕ) → List (Option CliArgs) → List Event
 requests_in [] answers = []
 requests_in (line ∷ lines) answers =
-    requests_of (answer_for (line_words line) answers) (line_words line)
+    requests_of (first_answer answers) (line_words line)
     ++ requests_in lines (answers_after (line_words line) answers)
 
 -- the requests that were not given: those of the line that was read last, and of the lines after it
@@ -53,7 +54,6 @@ abbrev pub requests_left : Inside → List Event
 requests_left requests =
     requests.asked.items ++ requests_in (lines_left requests.blocks) requests.answers.items
 
--- requests that are counted, of bytes that were read up to a place of their first block
-pub record AreCounted (requests : Inside) : Type 0 where
-  pub within : requests.blocks.at ≤ length requests.blocks.front
-  pub count : requests.left ≡ length (requests_left requests)
+-- as many are left as are counted
+abbrev pub AreCounted : Inside → Type 0
+AreCounted requests = requests.left ≡ length (requests_left requests)

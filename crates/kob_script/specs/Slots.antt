@@ -1,5 +1,6 @@
 -- What the words of a row stand for.
-use Rattle.std.specs.Prelude.{ℕ, List, [], ◌∷◌, Option, Some, None, Result, Ok, Err, map}
+use Rattle.std.specs.Prelude.{ℕ, List, [], ◌∷◌, Option, Some, None, Result, Ok, Err, codes, drop, map, if◌then◌else◌}
+use Rattle.std.specs.Str.{bytes_eq}
 use Rattle.kob_names.specs.declared.batch.Idem.{Idem}
 use Rattle.kob_names.specs.declared.filter.FilterPattern.{FilterPattern}
 use Rattle.kob_names.specs.declared.kinds.Operation.{Operation}
@@ -16,9 +17,10 @@ use Rattle.kob_script.specs.declared.slots.Place.{Place}
 use Rattle.kob_script.specs.declared.slots.Place.TheVariants.{One, OrDash, OrNone, Records, Texts}
 use Rattle.kob_script.specs.declared.slots.Slot.{Slot}
 use Rattle.kob_script.specs.declared.slots.Slot.TheVariants as slot
+use Rattle.kob_script.specs.Faults.{both, first_kind}
 use Rattle.kob_script.specs.Keywords.{permission_of, operation_of, resource_of, pattern_of, filter_pattern_of}
 use Rattle.kob_script.specs.Numbers.{number_of, which_of, before_of}
-use Rattle.kob_script.specs.Reading.{◌>>=◌, each, unless_dash}
+use Rattle.kob_script.specs.Reading.{each, fault_in, some}
 use Rattle.kob_script.specs.Texts.{text_of, named_principal, named_host}
 use Rattle.kob_script.specs.Word.{Word}
 
@@ -64,21 +66,74 @@ abbrev pub Values : List Place → Type 0
 Values [] = Unit {0}
 Values (place ∷ places) = PlaceValue place × Values places
 
--- the words of a row, read from the last to the first, so that a word too few or too many comes
--- before all that words have
+-- nothing for the word `-`, which has to stand without escapes
+abbrev pub unless_dash : {A : Type 0} → (Word → Result A FaultKind) → Word
+    → Result (Option A) FaultKind
+unless_dash read word = if bytes_eq word.raw (codes "-") then Ok None else some (read word)
+
+-- what a place takes of the words from it on; a word too few is a fault of the line
+abbrev pub place_value : (place : Place) → List Word → Result (PlaceValue place) FaultKind
+place_value (One at) [] = Err BadLine
+place_value (One at) (word ∷ words) = value_of at word
+place_value (OrDash at) [] = Err BadLine
+place_value (OrDash at) (word ∷ words) = unless_dash (value_of at) word
+place_value (OrNone at) [] = Ok None
+place_value (OrNone at) (word ∷ words) = some (value_of at word)
+place_value Records words = Ok (map record_of words)
+place_value Texts words = each text_of words
+
+-- the words that it leaves
+abbrev pub words_behind : Place → List Word → List Word
+words_behind Records words = []
+words_behind Texts words = []
+words_behind place words = drop 1 words
+
+-- the words of a row, or the fault of the first kind that is in them; a word too many is one of the
+-- line
 abbrev pub values_of : (places : List Place) → List Word → Result (Values places) FaultKind
 values_of [] [] = Ok tt
 values_of [] (word ∷ words) = Err BadLine
-values_of (One at ∷ places) [] = Err BadLine
-values_of (One at ∷ places) (word ∷ words) =
-    values_of places words >>= λ others. value_of at word >>= λ value. Ok (value, others)
-values_of (OrDash at ∷ places) [] = Err BadLine
-values_of (OrDash at ∷ places) (word ∷ words) =
-    values_of places words >>= λ others. unless_dash (value_of at) word >>= λ value. Ok (value, others)
-values_of (OrNone at ∷ places) [] = values_of places [] >>= λ others. Ok (None, others)
-values_of (OrNone at ∷ places) (word ∷ words) =
-    values_of places words >>= λ others. value_of at word >>= λ value. Ok (Some value, others)
-values_of (Records ∷ places) words =
-    values_of places [] >>= λ others. Ok (map record_of words, others)
-values_of (Texts ∷ places) words =
-    values_of places [] >>= λ others. each text_of words >>= λ texts. Ok (texts, others)
+values_of (place ∷ places) words =
+    both (place_value place words) (values_of places (words_behind place words))
+
+-- the fault that a word has in a slot
+abbrev pub slot_fault : Slot → Word → Option FaultKind
+slot_fault slot.Text word = fault_in (text_of word)
+slot_fault slot.Principal word = fault_in (named_principal word)
+slot_fault slot.Host word = fault_in (named_host word)
+slot_fault slot.Number word = fault_in (number_of word)
+slot_fault slot.StartOrEnd word = fault_in (which_of word)
+slot_fault slot.OffsetOrEnd word = fault_in (before_of word)
+slot_fault slot.Producer word = fault_in (idem_of word)
+slot_fault slot.Permission word = fault_in (permission_of word)
+slot_fault slot.Operation word = fault_in (operation_of word)
+slot_fault slot.Resource word = fault_in (resource_of word)
+slot_fault slot.Pattern word = fault_in (pattern_of word)
+slot_fault slot.FilterPattern word = fault_in (filter_pattern_of word)
+
+-- the same where `-` is taken too
+abbrev pub dash_fault : Slot → Word → Option FaultKind
+dash_fault at word = if bytes_eq word.raw (codes "-") then None else slot_fault at word
+
+-- the fault at a place; a word too few is one of the line
+abbrev pub place_fault : Place → List Word → Option FaultKind
+place_fault (One at) [] = Some BadLine
+place_fault (One at) (word ∷ words) = slot_fault at word
+place_fault (OrDash at) [] = Some BadLine
+place_fault (OrDash at) (word ∷ words) = dash_fault at word
+place_fault (OrNone at) [] = None
+place_fault (OrNone at) (word ∷ words) = slot_fault at word
+place_fault Records words = None
+place_fault Texts words = fault_in (each text_of words)
+
+-- the fault at each place of a row; a word too many is one of the line
+abbrev pub faults_in : List Place → List Word → List (Option FaultKind)
+faults_in [] [] = []
+faults_in [] (word ∷ words) = Some BadLine ∷ []
+faults_in (place ∷ places) words =
+    place_fault place words ∷ faults_in places (words_behind place words)
+
+-- the fault of the words of a row; a command that has none is no line
+abbrev pub row_fault : Option (List Place) → List Word → Option FaultKind
+row_fault None words = Some BadLine
+row_fault (Some places) words = first_kind (faults_in places words)

@@ -1,21 +1,18 @@
 -- A word of a line.
-use Rattle.std.specs.Prelude.{ℕ, List, Option, Some, None, Result, Ok, Err, if◌then◌else◌}
+use Rattle.std.specs.Prelude.{ℕ, List, Option, Some, None, Result, Ok, Err}
 use Rattle.kob_script.specs.declared.fault.FaultKind.{FaultKind}
 use Rattle.kob_script.specs.declared.fault.FaultKind.TheVariants.{BadEscape}
-use Rattle.kob_script.specs.Escapes.{bytes_of, has_whole_escapes}
+use Rattle.kob_script.specs.Escapes.{unescaped}
 
 -- a word as it stands in the line, and the bytes that it stands for
 pub record Word : Type 0 where
   pub raw : List ℕ
   pub decoded : List ℕ
 
--- without escapes a word stands for itself
-abbrev pub decoded_or : Option (List ℕ) → List ℕ → List ℕ
-decoded_or (Some bytes) raw = bytes
-decoded_or None raw = raw
+abbrev pub word_by : List ℕ → Option (List ℕ) → Result Word FaultKind
+word_by raw None = Err BadEscape
+word_by raw (Some bytes) = Ok (record { raw = raw; decoded = bytes })
 
 -- a word, unless a percent sign in it begins no escape
 abbrev pub word_of : List ℕ → Result Word FaultKind
-word_of raw =
-    if has_whole_escapes raw then Ok
-    (record { raw = raw; decoded = bytes_of raw }) else Err BadEscape
+word_of raw = word_by raw (unescaped raw)

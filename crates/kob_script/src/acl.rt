@@ -1,8 +1,8 @@
 //! The command `acl`: words of `kafka-acls`, each command of which is a request of its own.
 
-ghost use Rattle.std.specs.Prelude.{◌≡◌, IfOk, map};
-ghost use Rattle.kob_script.specs.Acl.{acl_commands, acl_request, commands_in, error_of};
-ghost use Rattle.kob_script.specs.CommandLines.{event_by};
+ghost use Rattle.std.specs.Prelude.{◌≡◌, IfOk};
+ghost use Rattle.kob_script.specs.Acl.{acl_commands, acl_request, error_of};
+ghost use Rattle.kob_script.specs.CommandLines.{events_by};
 ghost use Rattle.kob_script.specs.Reading.{GivesSeen};
 
 use crate::fault::{FaultKind, LineError};
@@ -16,15 +16,9 @@ use std::alloc::{AllocError, Global};
 pub fn acl_commands(alloc: Global, answer: &Option<CliArgs>) -> Result<Vec<AclCommand>, LineError>
     ensures { GivesSeen (λ commands. commands.items) result (acl_commands answer.now) }
 {
-    match answer {
-        Some(args) => commands_in(alloc, args),
-        None => Err(LineError::Fault(FaultKind::Usage)),
-    }
-}
-
-fn commands_in(alloc: Global, args: &CliArgs) -> Result<Vec<AclCommand>, LineError>
-    ensures { GivesSeen (λ commands. commands.items) result (commands_in args.now) }
-{
+    let Some(args) = answer else {
+        return Err(LineError::Fault(FaultKind::Usage));
+    };
     match commands_of(alloc, args) {
         Ok(commands) => Ok(commands),
         Err(fault) => Err(error_of(&fault)),
@@ -45,14 +39,14 @@ fn error_of(fault: &CommandFault) -> LineError
 }
 
 /// The events that a principal at a host asks for commands, one each.
-pub fn acl_events(
+pub fn events_by(
     alloc: Global,
     principal: &Principal,
     host: &Host,
     commands: Vec<AclCommand>,
 ) -> Result<Vec<Event>, AllocError>
-    ensures { IfOk result (λ events. events.items
-        ≡ map (λ request. event_by principal.now host.now request) (map acl_request commands.items)) }
+    ensures { IfOk result (λ events.
+        events.items ≡ events_by principal.now host.now commands.items) }
 {
     let mut events = Vec::new(alloc);
     for command in commands {

@@ -1,40 +1,37 @@
-//! Requests for bindings, by the words after their command.
+//! Requests for bindings, by the words after their command, which have no fault.
+#![tactic(auto, unfolding(crate::specs::CommandLines::request_of))]
 
+ghost use Rattle.std.specs.Prelude.{◌≡◌, IfOk, Result, Ok, codes, if◌then◌else◌};
+ghost use Rattle.std.specs.Str.{bytes_eq};
 ghost use Rattle.kob_names.specs.declared.draft.Draft as drafts;
 ghost use Rattle.kob_names.specs.declared.filter.BindingFilter as names;
 ghost use Rattle.kob_rights.specs.declared.request.Request as requests;
 ghost use Rattle.kob_script.specs.CommandLines.{draft_with, filter_with, request_of};
+ghost use Rattle.kob_script.specs.Reading.{Gives, some};
+ghost use Rattle.kob_script.specs.declared.fault.FaultKind as kinds;
 ghost use Rattle.kob_script.specs.declared.command.Command.TheVariants as commands;
-ghost use Rattle.kob_script.specs.Reading.{Gives, GivesSeen};
 
 use crate::fault::{FaultKind, LineError};
-use crate::keyword::{
-    filter_pattern_of, operation_of, operation_unless_dash, pattern_of, permission_of,
-    permission_unless_dash, resource_of, resource_unless_dash,
-};
-use crate::text::{
-    host_unless_dash, lent_text_of, named_host, named_principal, principal_unless_dash,
-    text_unless_dash,
-};
+use crate::keyword::{filter_pattern_of, operation_of, pattern_of, permission_of, resource_of};
+use crate::text::{named_host, named_principal, text_of};
 use crate::word::Word;
-use kob_names::{BindingFilter, Draft, Items, Pattern, Text};
+use kob_names::{BindingFilter, Draft, Items, Pattern};
 use kob_rights::{CreateAcls, DeleteAcls, DescribeAcls, Request};
 use std::alloc::Global;
 
-#[tactic(auto, unfolding(crate::specs::CommandLines::request_of))]
 pub fn create_acl(alloc: Global, words: &[Word<'_>]) -> Result<Request, LineError>
-    ensures { Gives result (request_of commands.CreateAcl words.now) }
+    ensures { IfOk result (λ made. request_of commands.CreateAcl words.now ≡ Ok made) }
 {
     let draft = draft_of(alloc, words)?;
-    let mut drafts = Vec::new(alloc);
+    let mut drafts = Vec::with_capacity(alloc, 1)?;
     drafts.push(draft)?;
     let drafts = Items::from_vec(drafts);
     Ok(Request::CreateAcls(CreateAcls { drafts }))
 }
 
 fn draft_of(alloc: Global, words: &[Word<'_>]) -> Result<Draft, LineError>
-    ensures { (wrap : drafts.Draft → requests.Request) → GivesSeen wrap result
-        (draft_with wrap words.now) }
+    ensures { (wrap : drafts.Draft → requests.Request)
+        → IfOk result (λ draft. draft_with wrap words.now ≡ Ok (wrap draft)) }
 {
     let [
         permission,
@@ -48,27 +45,22 @@ fn draft_of(alloc: Global, words: &[Word<'_>]) -> Result<Draft, LineError>
     else {
         return Err(LineError::Fault(FaultKind::BadLine));
     };
-    let name = lent_text_of(name)?;
-    let kind = pattern_of(pattern)?;
-    let resource = resource_of(resource)?;
-    let operation = operation_of(operation)?;
-    let host = named_host(alloc, host)?;
-    let principal = named_principal(alloc, principal)?;
-    let permission = permission_of(permission)?;
-    let name = Text::copied(alloc, name)?;
     Ok(Draft {
-        permission,
-        principal,
-        host,
-        operation,
-        resource,
-        pattern: Pattern { kind, name },
+        permission: permission_of(permission)?,
+        operation: operation_of(operation)?,
+        resource: resource_of(resource)?,
+        pattern: Pattern {
+            kind: pattern_of(pattern)?,
+            name: text_of(alloc, name)?,
+        },
+        principal: named_principal(alloc, principal)?,
+        host: named_host(alloc, host)?,
     })
 }
 
 fn filter_of(alloc: Global, words: &[Word<'_>]) -> Result<BindingFilter, LineError>
-    ensures { (wrap : names.BindingFilter → requests.Request) → GivesSeen wrap result
-        (filter_with wrap words.now) }
+    ensures { (wrap : names.BindingFilter → requests.Request)
+        → IfOk result (λ filter. filter_with wrap words.now ≡ Ok (wrap filter)) }
 {
     let [
         resource,
@@ -82,35 +74,37 @@ fn filter_of(alloc: Global, words: &[Word<'_>]) -> Result<BindingFilter, LineErr
     else {
         return Err(LineError::Fault(FaultKind::BadLine));
     };
-    let permission = permission_unless_dash(permission)?;
-    let operation = operation_unless_dash(operation)?;
-    let host = host_unless_dash(alloc, host)?;
-    let principal = principal_unless_dash(alloc, principal)?;
-    let pattern = filter_pattern_of(pattern)?;
-    let name = text_unless_dash(alloc, name)?;
-    let resource = resource_unless_dash(resource)?;
     Ok(BindingFilter {
-        resource,
-        name,
-        pattern,
-        principal,
-        host,
-        operation,
-        permission,
+        resource: unless_dash(resource, resource_of(resource))?,
+        pattern: filter_pattern_of(pattern)?,
+        operation: unless_dash(operation, operation_of(operation))?,
+        permission: unless_dash(permission, permission_of(permission))?,
+        name: unless_dash(name, text_of(alloc, name))?,
+        principal: unless_dash(principal, named_principal(alloc, principal))?,
+        host: unless_dash(host, named_host(alloc, host))?,
     })
 }
 
-#[tactic(auto, unfolding(crate::specs::CommandLines::request_of))]
+// What was read of a word, or nothing where it is `-`.
+fn unless_dash<T: Drop>(word: &Word<'_>, read: Result<T, LineError>) -> Result<Option<T>, LineError>
+    ensures { (told : Result T kinds.FaultKind) → Gives read told
+        → Gives result (if bytes_eq word.now.raw (codes "-") then Ok None else some told) }
+{
+    if word.is_dash() {
+        return Ok(None);
+    }
+    Ok(Some(read?))
+}
+
 pub fn describe_acls(alloc: Global, words: &[Word<'_>]) -> Result<Request, LineError>
-    ensures { Gives result (request_of commands.DescribeAcls words.now) }
+    ensures { IfOk result (λ made. request_of commands.DescribeAcls words.now ≡ Ok made) }
 {
     let filter = filter_of(alloc, words)?;
     Ok(Request::DescribeAcls(DescribeAcls { filter }))
 }
 
-#[tactic(auto, unfolding(crate::specs::CommandLines::request_of))]
 pub fn delete_acls(alloc: Global, words: &[Word<'_>]) -> Result<Request, LineError>
-    ensures { Gives result (request_of commands.DeleteAcls words.now) }
+    ensures { IfOk result (λ made. request_of commands.DeleteAcls words.now ≡ Ok made) }
 {
     let filter = filter_of(alloc, words)?;
     Ok(Request::DeleteAcls(DeleteAcls { filter }))

@@ -15,14 +15,13 @@ pub struct Asked {
 }
 
 impl Model for Asked {
+    ghost use Rattle.std.specs.List.{cons_option};
     ghost use Rattle.std.specs.Prelude.{List};
     ghost use Rattle.kob_rights.specs.declared.event.Event.{Event};
 
     ghost Value = { List Event };
 
-    ghost use Rattle.kob_script.specs.Asked.{events_asked};
-
-    ghost view = { events_asked };
+    ghost view = { λ asked. cons_option asked.first asked.others.items };
 }
 
 impl Asked {

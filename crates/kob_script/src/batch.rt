@@ -8,7 +8,7 @@ ghost use Rattle.kob_script.specs.Escapes as escapes;
 ghost use Rattle.kob_script.specs.Numbers.{number_in};
 ghost use Rattle.kob_script.specs.Reading.{Gives};
 
-use crate::escape::bytes_of;
+use crate::escape::{bytes_of, may_have_escapes};
 use crate::fault::{FaultKind, LineError};
 use crate::number::number_in;
 use crate::word::Word;
@@ -39,6 +39,9 @@ pub fn idem_of(alloc: Global, word: &Word<'_>) -> Result<Option<Idem>, LineError
 fn number_at(alloc: Global, part: &[u8]) -> Result<u64, LineError>
     ensures { Gives result (number_in (escapes.bytes_of part.now)) }
 {
+    if !may_have_escapes(part) {
+        return number_in(part);
+    }
     let digits = bytes_of(alloc, part)?;
     number_in(digits.as_slice())
 }

@@ -1,7 +1,6 @@
 //! Bytes in blocks of whole lines, which are read line by line.
 
 ghost use Rattle.std.specs.Prelude.{◌≡◌, ◌≤◌, ◌<◌, ◌+◌, ◌∷◌, [], length, drop, MatchOption};
-ghost use Rattle.kob_script.specs.Blocks.{lines_in_blocks, lines_left, rest_of, steps_left};
 ghost use Rattle.kob_script.specs.Script.{lines_in};
 
 use bstr::ByteSlice;
@@ -15,13 +14,15 @@ pub struct Blocks {
     front: Bytes,
     at: usize,
     later: VecDeque<Bytes>,
+    ghost within: { at ≤ length front },
 }
 
 impl Blocks {
+    ghost use Rattle.kob_script.specs.Blocks.{lines_in_blocks, lines_left, rest_of, steps_left};
+
     /// Blocks of which nothing was read; no memory is taken.
     pub fn new(alloc: Global, blocks: Vec<Bytes>) -> Blocks
-        ensures lines { lines_left result ≡ lines_in_blocks blocks.items }
-        ensures within { result.at ≤ length result.front }
+        ensures { lines_left result ≡ lines_in_blocks blocks.items }
     {
         Blocks {
             front: Bytes::from_vec(Vec::new(alloc)),
@@ -32,7 +33,6 @@ impl Blocks {
 
     /// The bytes of the block at the front that were not read.
     pub fn rest(&self) -> &[u8]
-        requires { self.now.at ≤ length self.now.front }
         ensures { result.now ≡ rest_of self.now }
     {
         &self.front.as_slice()[self.at..]
@@ -57,7 +57,6 @@ impl Blocks {
         requires some { 0 < length self.old.later.items }
         ensures lines { lines_left self.new ≡ lines_left self.old }
         ensures steps { steps_left self.new < steps_left self.old }
-        ensures within { self.new.at ≤ length self.new.front }
     {
         if let Some(block) = self.later.pop_front() {
             self.front = block;

@@ -10,7 +10,6 @@ use crate::setting::is_setting;
 use crate::text::texts_of;
 use crate::word::Word;
 use kob_acl_cli::{CliArgs, LineFault, read_line};
-use kob_names::Text;
 use std::alloc::{AllocError, Global};
 
 /// What `clap` answers to a line's words: the options of `acl`, or nothing where it refuses them,
@@ -22,31 +21,20 @@ pub fn answer_to(alloc: Global, words: &[Word<'_>]) -> Result<Option<CliArgs>, A
         return Ok(None);
     };
     match texts_of(alloc, arguments) {
-        Ok(texts) => ask_clap(alloc, texts.as_slice()),
+        Ok(texts) => ask_clap(alloc, &texts),
         Err(LineError::Memory) => Err(AllocError),
         Err(LineError::Fault(_)) => Ok(None),
     }
 }
 
-fn ask_clap(alloc: Global, texts: &[Text]) -> Result<Option<CliArgs>, AllocError>
-    ensures { IfOk result (λ answer. MayAnswer texts.now answer) }
+fn ask_clap(alloc: Global, texts: &[&str]) -> Result<Option<CliArgs>, AllocError>
+    ensures { IfOk result (λ answer. MayAnswer (map (λ text. text.now) texts.entry.now) answer) }
 {
-    let words = borrowed(alloc, texts)?;
-    match read_line(alloc, &words) {
+    match read_line(alloc, texts) {
         Ok(args) => Ok(Some(args)),
         Err(LineFault::Usage) => Ok(None),
         Err(LineFault::Memory) => Err(AllocError),
     }
-}
-
-fn borrowed(alloc: Global, texts: &[Text]) -> Result<Vec<&str>, AllocError>
-    ensures { IfOk result (λ words. map (λ word. word.now) words.items ≡ texts.now) }
-{
-    let mut words = Vec::with_capacity(alloc, texts.len())?;
-    for text in texts {
-        words.push(text.as_str())?;
-    }
-    Ok(words)
 }
 
 /// Whether `clap` is asked about a line's words.

@@ -1,12 +1,12 @@
 //! What a line asks for.
 
-ghost use Rattle.std.specs.Prelude.{◌≡◌, ◌∷◌, []};
-ghost use Rattle.kob_script.specs.CommandLines.{acl_requests, alone, asked_by, asks_by_acl};
-ghost use Rattle.kob_script.specs.CommandLines.{commands_after, events_in, events_of};
-ghost use Rattle.kob_script.specs.CommandLines.{request_named, request_of};
-ghost use Rattle.kob_script.specs.Reading.{Gives, GivesSeen, counted};
+ghost use Rattle.std.specs.Prelude.{◌≡◌, ◌∷◌, [], IfOk, Ok};
+ghost use Rattle.kob_script.specs.Command.{command_named};
+ghost use Rattle.kob_script.specs.CommandLines.{acl_events, asks_by_acl, command_events};
+ghost use Rattle.kob_script.specs.CommandLines.{events_of, request_of};
+ghost use Rattle.kob_script.specs.Reading.{Gives, counted};
 
-use crate::acl::{acl_commands, acl_events};
+use crate::acl::{acl_commands, events_by};
 use crate::acl_requests::{create_acl, delete_acls, describe_acls};
 use crate::asked::Asked;
 use crate::command::{Command, command_named};
@@ -18,7 +18,7 @@ use crate::topic_requests::{
     create_topic, delete_records, delete_topic, fetch, list_offsets, metadata, produce,
 };
 use crate::word::Word;
-use kob_acl_cli::{AclCommand, CliArgs};
+use kob_acl_cli::CliArgs;
 use kob_rights::{Event, Request};
 use std::alloc::Global;
 
@@ -41,7 +41,7 @@ pub fn count_of(
 }
 
 /// The events of a line's words, in order, by `clap`'s answer to those of `acl`.
-#[tactic(auto, unfolding(crate::specs::CommandLines::events_of))]
+#[tactic(auto, using(crate::proofs::LineFaults::uncounted))]
 pub fn events_of(
     alloc: Global,
     words: &[Word<'_>],
@@ -49,26 +49,30 @@ pub fn events_of(
 ) -> Result<Asked, LineError>
     ensures { Gives result (events_of answer.now words.now) }
 {
-    check_line(alloc, words)?;
-    events_in(alloc, words, answer)
+    count_of(alloc, words, answer)?;
+    match events_in(alloc, words, answer) {
+        Ok(asked) => Ok(asked),
+        Err(_) => Err(LineError::Memory),
+    }
 }
 
-/// The same of words that have no fault; of others the first word that can't be read gives it.
+/// The same of words that have no fault, so that the error is out of memory.
+#[tactic(auto, unfolding(crate::specs::CommandLines::events_of))]
 pub fn events_in(
     alloc: Global,
     words: &[Word<'_>],
     answer: &Option<CliArgs>,
 ) -> Result<Asked, LineError>
-    ensures { Gives result (events_in answer.now words.now) }
+    ensures { IfOk result (λ asked. events_of answer.now words.now ≡ Ok asked) }
 {
     let [principal, host, command, arguments @ ..] = words else {
         return Err(LineError::Fault(FaultKind::BadLine));
     };
     if command.decoded() == b"acl".as_slice() {
-        let events = events_by_acl(alloc, principal, host, arguments, answer)?;
+        let events = acl_events(alloc, principal, host, arguments, answer)?;
         return Ok(Asked::several(events));
     }
-    let event = event_named(alloc, principal, host, command.decoded(), arguments)?;
+    let event = command_event(alloc, principal, host, command.decoded(), arguments)?;
     Ok(Asked::one(alloc, event))
 }
 
@@ -81,48 +85,40 @@ fn asks_by_acl(words: &[Word<'_>]) -> bool
     }
 }
 
-fn events_by_acl(
+fn acl_events(
     alloc: Global,
     principal: &Word<'_>,
     host: &Word<'_>,
     arguments: &[Word<'_>],
     answer: &Option<CliArgs>,
 ) -> Result<Vec<Event>, LineError>
-    ensures { GivesSeen (λ events. events.items) result
-        (asked_by principal.now host.now (acl_requests answer.now arguments.now)) }
-{
-    let principal = named_principal(alloc, principal)?;
-    let host = named_host(alloc, host)?;
-    let commands = commands_after(alloc, arguments, answer)?;
-    let events = acl_events(alloc, &principal, &host, commands)?;
-    Ok(events)
-}
-
-fn commands_after(
-    alloc: Global,
-    arguments: &[Word<'_>],
-    answer: &Option<CliArgs>,
-) -> Result<Vec<AclCommand>, LineError>
-    ensures { GivesSeen (λ commands. commands.items) result
-        (commands_after answer.now arguments.now) }
+    ensures { IfOk result (λ events.
+        acl_events answer.now principal.now host.now arguments.now ≡ Ok events.items) }
 {
     check_texts(alloc, arguments)?;
-    acl_commands(alloc, answer)
+    let commands = acl_commands(alloc, answer)?;
+    let principal = named_principal(alloc, principal)?;
+    let host = named_host(alloc, host)?;
+    Ok(events_by(alloc, &principal, &host, commands)?)
 }
 
-fn event_named(
+fn command_event(
     alloc: Global,
     principal: &Word<'_>,
     host: &Word<'_>,
     name: &[u8],
     arguments: &[Word<'_>],
 ) -> Result<Event, LineError>
-    ensures { GivesSeen (λ event. event ∷ []) result
-        (asked_by principal.now host.now (alone (request_named name.now arguments.now))) }
+    ensures { IfOk result (λ event.
+        command_events (command_named name.now) principal.now host.now arguments.now
+        ≡ Ok (event ∷ [])) }
 {
+    let Some(command) = command_named(name) else {
+        return Err(LineError::Fault(FaultKind::BadLine));
+    };
     let principal = named_principal(alloc, principal)?;
     let host = named_host(alloc, host)?;
-    let request = request_named(alloc, name, arguments)?;
+    let request = request_of(alloc, command, arguments)?;
     Ok(Event {
         principal,
         host,
@@ -130,17 +126,8 @@ fn event_named(
     })
 }
 
-fn request_named(alloc: Global, name: &[u8], words: &[Word<'_>]) -> Result<Request, LineError>
-    ensures { Gives result (request_named name.now words.now) }
-{
-    match command_named(name) {
-        Some(command) => request_of(alloc, command, words),
-        None => Err(LineError::Fault(FaultKind::BadLine)),
-    }
-}
-
 fn request_of(alloc: Global, command: Command, words: &[Word<'_>]) -> Result<Request, LineError>
-    ensures { Gives result (request_of command words.now) }
+    ensures { IfOk result (λ made. request_of command words.now ≡ Ok made) }
 {
     match command {
         Command::CreateTopic => create_topic(alloc, words),

@@ -1,42 +1,53 @@
 //! Escapes: `%` and two hexadecimal digits stand for one byte.
 
-ghost use Rattle.std.specs.Prelude.{◌≡◌, ◌≤◌, length, IfOk, IfSome, if◌then◌else◌};
+ghost use Rattle.std.specs.Prelude.{◌≡◌, ◌≤◌, length, false, Some, IfOk, IfSome, if◌then◌else◌};
 ghost use Rattle.std.specs.Option.{option_map};
 ghost use Rattle.kob_script.specs.Escapes.{are_hexadecimal, byte_at, bytes_of};
-ghost use Rattle.kob_script.specs.Escapes.{has_whole_escapes, hexadecimal};
+ghost use Rattle.kob_script.specs.Escapes.{hexadecimal, unescaped};
 
 use kob_names::Bytes;
+use memchr::memchr;
 use std::alloc::{AllocError, Global};
 
-/// Whether two hexadecimal digits follow each percent sign.
-pub fn has_whole_escapes(word: &[u8]) -> bool
-    ensures { result ≡ has_whole_escapes word.now }
+/// Whether a word may have escapes. One that has none stands for itself.
+pub fn may_have_escapes(word: &[u8]) -> bool
+    ensures { result ≡ false → unescaped word.now ≡ Some word.now }
 {
-    let mut rest = word;
-    while let Some((first, others)) = rest.split_first() {
-        match byte_at(*first, others) {
-            Some((_, after)) => rest = after,
-            None => return false,
-        }
+    match memchr(b'%', word) {
+        Some(_) => true,
+        None => false,
     }
-    true
 }
 
-/// The bytes that a word stands for. A percent sign that begins no escape stands for itself.
-pub fn bytes_of(alloc: Global, word: &[u8]) -> Result<Bytes, AllocError>
-    ensures { IfOk result (λ bytes. bytes ≡ bytes_of word.now) }
+/// The bytes that a word stands for, unless a percent sign in it begins no escape.
+pub fn unescaped(alloc: Global, word: &[u8]) -> Result<Option<Bytes>, AllocError>
+    ensures { IfOk result (λ read. read ≡ unescaped word.now) }
 {
-    if !word.contains(&b'%') {
-        return Bytes::copied(alloc, word);
-    }
     let mut bytes = Vec::new(alloc);
     let mut rest = word;
     while let Some((first, others)) = rest.split_first() {
-        let (byte, after) = byte_at(*first, others).unwrap_or((*first, others));
-        bytes.push(byte)?;
-        rest = after;
+        match byte_at(*first, others) {
+            Some((byte, after)) => {
+                bytes.push(byte)?;
+                rest = after;
+            }
+            None => return Ok(None),
+        }
     }
-    Ok(Bytes::from_vec(bytes))
+    Ok(Some(Bytes::from_vec(bytes)))
+}
+
+/// The bytes that a part of a word stands for; where its escapes are not whole, itself.
+pub fn bytes_of(alloc: Global, part: &[u8]) -> Result<Bytes, AllocError>
+    ensures { IfOk result (λ bytes. bytes ≡ bytes_of part.now) }
+{
+    if !may_have_escapes(part) {
+        return Bytes::copied(alloc, part);
+    }
+    match unescaped(alloc, part)? {
+        Some(bytes) => Ok(bytes),
+        None => Bytes::copied(alloc, part),
+    }
 }
 
 /// The byte at the front of a word, and what comes after it, unless a percent sign

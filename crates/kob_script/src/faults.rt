@@ -1,11 +1,13 @@
 //! The fault of a line's words: the first kind, in the order of the kinds, that some word has.
 
-ghost use Rattle.std.specs.Prelude.{◌≡◌, ◌∷◌, [], Some};
-ghost use Rattle.kob_script.specs.CommandLines.{line_fault};
-ghost use Rattle.kob_script.specs.Faults.{Finds, dash_fault, earlier_kind, faults_in};
-ghost use Rattle.kob_script.specs.Faults.{asked_row, first_error, first_kind, rank, row_fault, slot_fault};
+ghost use Rattle.std.specs.Prelude.{◌≡◌, ◌∷◌, [], Some, Option};
+ghost use Rattle.kob_script.specs.CommandLines.{asked_row, line_fault};
+ghost use Rattle.kob_script.specs.Faults.{Finds, earlier, earlier_kind, first_kind};
 ghost use Rattle.kob_script.specs.Reading.{each, fault_in};
+ghost use Rattle.kob_script.specs.Slots.{faults_in, place_fault, row_fault, slot_fault};
+ghost use Rattle.kob_script.specs.Slots.{words_behind};
 ghost use Rattle.kob_script.specs.Texts.{text_of};
+ghost use Rattle.kob_script.specs.declared.fault.FaultKind as kinds;
 
 use crate::batch::idem_of;
 use crate::command::row_named;
@@ -30,7 +32,6 @@ pub fn check_line(alloc: Global, words: &[Word<'_>]) -> Result<(), LineError>
     }
 }
 
-#[tactic(auto, using(crate::proofs::FirstKinds::finds_first))]
 fn check_asked(
     alloc: Global,
     principal: &Word<'_>,
@@ -50,55 +51,54 @@ fn check_asked(
 }
 
 // Tests words by the places of a row, of which there are few.
-#[tactic(auto, using(crate::proofs::FirstKinds::finds_first))]
 fn check_words(alloc: Global, places: &[Place], words: &[Word<'_>]) -> Result<(), LineError>
     ensures { Finds result (first_kind (faults_in places.now words.now)) }
 {
     let Some((place, places)) = places.split_first() else {
-        return check_none(words);
+        return match words {
+            [] => Ok(()),
+            _ => Err(LineError::Fault(FaultKind::BadLine)),
+        };
     };
-    match *place {
-        Place::Records => check_words(alloc, places, &[]),
-        Place::Texts => {
-            let others = check_words(alloc, places, &[]);
-            first_error(check_texts(alloc, words), others)
-        }
-        Place::One(slot) => match words.split_first() {
-            Some((word, words)) => {
-                let others = check_words(alloc, places, words);
-                first_error(check_slot(alloc, slot, word), others)
-            }
-            None => Err(LineError::Fault(FaultKind::BadLine)),
-        },
-        Place::OrDash(slot) => match words.split_first() {
-            Some((word, words)) => {
-                let others = check_words(alloc, places, words);
-                first_error(check_unless_dash(alloc, slot, word), others)
-            }
-            None => Err(LineError::Fault(FaultKind::BadLine)),
-        },
-        Place::OrNone(slot) => match words.split_first() {
-            Some((word, words)) => {
-                let others = check_words(alloc, places, words);
-                first_error(check_slot(alloc, slot, word), others)
-            }
-            None => check_words(alloc, places, words),
-        },
+    let others = check_words(alloc, places, words_behind(*place, words));
+    first_error(check_place(alloc, *place, words), others)
+}
+
+fn words_behind<'w, 'l>(place: Place, words: &'w [Word<'l>]) -> &'w [Word<'l>]
+    ensures { result.now ≡ words_behind place words.entry.now }
+{
+    match (place, words) {
+        (Place::Records | Place::Texts, _) => &[],
+        (_, [_, others @ ..]) => others,
+        (_, []) => words,
     }
 }
 
-// Tests that no word is left.
-fn check_none(words: &[Word<'_>]) -> Result<(), LineError>
-    ensures { Finds result (first_kind (faults_in [] words.now)) }
+fn check_place(alloc: Global, place: Place, words: &[Word<'_>]) -> Result<(), LineError>
+    ensures { Finds result (place_fault place words.now) }
 {
-    match words {
-        [] => Ok(()),
-        _ => Err(LineError::Fault(FaultKind::BadLine)),
+    match place {
+        Place::Records => Ok(()),
+        Place::Texts => check_texts(alloc, words),
+        Place::One(slot) => match words.split_first() {
+            Some((word, _)) => check_slot(alloc, slot, word),
+            None => Err(LineError::Fault(FaultKind::BadLine)),
+        },
+        Place::OrDash(slot) => match words.split_first() {
+            Some((word, _)) if word.is_dash() => Ok(()),
+            Some((word, _)) => check_slot(alloc, slot, word),
+            None => Err(LineError::Fault(FaultKind::BadLine)),
+        },
+        Place::OrNone(slot) => match words.split_first() {
+            Some((word, _)) => check_slot(alloc, slot, word),
+            None => Ok(()),
+        },
     }
 }
 
 fn first_error(one: Result<(), LineError>, other: Result<(), LineError>) -> Result<(), LineError>
-    ensures { result ≡ first_error one other }
+    ensures { (a b : Option kinds.FaultKind) → Finds one a → Finds other b
+        → Finds result (earlier a b) }
 {
     match (one, other) {
         (Ok(()), other) => other,
@@ -110,35 +110,14 @@ fn first_error(one: Result<(), LineError>, other: Result<(), LineError>) -> Resu
     }
 }
 
+// The variants stand in the order of the kinds.
 fn earlier_kind(kind: FaultKind, other: FaultKind) -> FaultKind
     ensures { result ≡ earlier_kind kind other }
 {
-    if rank(other) < rank(kind) {
+    if (other as u8) < kind as u8 {
         other
     } else {
         kind
-    }
-}
-
-// The place of a kind in the order.
-fn rank(kind: FaultKind) -> u8
-    ensures { result ≡ rank kind }
-{
-    match kind {
-        FaultKind::BadEscape => 0,
-        FaultKind::LateSetting => 1,
-        FaultKind::BadLine => 2,
-        FaultKind::BadText => 3,
-        FaultKind::BadPrincipal => 4,
-        FaultKind::BadHost => 5,
-        FaultKind::BadNumber => 6,
-        FaultKind::BadWord => 7,
-        FaultKind::Usage => 8,
-        FaultKind::NoAction => 9,
-        FaultKind::BadName => 10,
-        FaultKind::BadMix => 11,
-        FaultKind::NoResource => 12,
-        FaultKind::NoPrincipal => 13,
     }
 }
 
@@ -148,15 +127,6 @@ pub fn check_texts(alloc: Global, words: &[Word<'_>]) -> Result<(), LineError>
 {
     texts_of(alloc, words)?;
     Ok(())
-}
-
-fn check_unless_dash(alloc: Global, slot: Slot, word: &Word<'_>) -> Result<(), LineError>
-    ensures { Finds result (dash_fault slot word.now) }
-{
-    if word.is_dash() {
-        return Ok(());
-    }
-    check_slot(alloc, slot, word)
 }
 
 fn check_slot(alloc: Global, slot: Slot, word: &Word<'_>) -> Result<(), LineError>

@@ -1,7 +1,8 @@
-//! Requests for groups and producers, by the words after their command.
+//! Requests for groups and producers, by the words after their command, which have no fault.
+#![tactic(auto, unfolding(crate::specs::CommandLines::request_of))]
 
+ghost use Rattle.std.specs.Prelude.{◌≡◌, IfOk, Ok};
 ghost use Rattle.kob_script.specs.CommandLines.{request_of};
-ghost use Rattle.kob_script.specs.Reading.{Gives};
 ghost use Rattle.kob_script.specs.declared.command.Command.TheVariants as commands;
 
 use crate::fault::{FaultKind, LineError};
@@ -11,45 +12,35 @@ use crate::word::Word;
 use kob_rights::{DeleteGroups, OffsetCommit, OffsetFetch, Request};
 use std::alloc::Global;
 
-#[tactic(auto, unfolding(crate::specs::CommandLines::request_of))]
 pub fn commit(alloc: Global, words: &[Word<'_>]) -> Result<Request, LineError>
-    ensures { Gives result (request_of commands.Commit words.now) }
+    ensures { IfOk result (λ made. request_of commands.Commit words.now ≡ Ok made) }
 {
     let [group, topic, partition, offset] = words else {
         return Err(LineError::Fault(FaultKind::BadLine));
     };
-    let offset = number_of(offset)?;
-    let partition = number_of(partition)?;
-    let topic = text_of(alloc, topic)?;
-    let group = text_of(alloc, group)?;
     Ok(Request::OffsetCommit(OffsetCommit {
-        group,
-        topic,
-        partition,
-        offset,
+        partition: number_of(partition)?,
+        offset: number_of(offset)?,
+        topic: text_of(alloc, topic)?,
+        group: text_of(alloc, group)?,
     }))
 }
 
-#[tactic(auto, unfolding(crate::specs::CommandLines::request_of))]
 pub fn committed(alloc: Global, words: &[Word<'_>]) -> Result<Request, LineError>
-    ensures { Gives result (request_of commands.Committed words.now) }
+    ensures { IfOk result (λ made. request_of commands.Committed words.now ≡ Ok made) }
 {
     let [group, topic, partition] = words else {
         return Err(LineError::Fault(FaultKind::BadLine));
     };
-    let partition = number_of(partition)?;
-    let topic = text_of(alloc, topic)?;
-    let group = text_of(alloc, group)?;
     Ok(Request::OffsetFetch(OffsetFetch {
-        group,
-        topic,
-        partition,
+        partition: number_of(partition)?,
+        topic: text_of(alloc, topic)?,
+        group: text_of(alloc, group)?,
     }))
 }
 
-#[tactic(auto, unfolding(crate::specs::CommandLines::request_of))]
 pub fn groups(words: &[Word<'_>]) -> Result<Request, LineError>
-    ensures { Gives result (request_of commands.Groups words.now) }
+    ensures { IfOk result (λ made. request_of commands.Groups words.now ≡ Ok made) }
 {
     match words {
         [] => Ok(Request::ListGroups),
@@ -57,9 +48,8 @@ pub fn groups(words: &[Word<'_>]) -> Result<Request, LineError>
     }
 }
 
-#[tactic(auto, unfolding(crate::specs::CommandLines::request_of))]
 pub fn delete_group(alloc: Global, words: &[Word<'_>]) -> Result<Request, LineError>
-    ensures { Gives result (request_of commands.DeleteGroup words.now) }
+    ensures { IfOk result (λ made. request_of commands.DeleteGroup words.now ≡ Ok made) }
 {
     let [group] = words else {
         return Err(LineError::Fault(FaultKind::BadLine));
@@ -68,9 +58,8 @@ pub fn delete_group(alloc: Global, words: &[Word<'_>]) -> Result<Request, LineEr
     Ok(Request::DeleteGroups(DeleteGroups { group }))
 }
 
-#[tactic(auto, unfolding(crate::specs::CommandLines::request_of))]
 pub fn init_producer(words: &[Word<'_>]) -> Result<Request, LineError>
-    ensures { Gives result (request_of commands.InitProducer words.now) }
+    ensures { IfOk result (λ made. request_of commands.InitProducer words.now ≡ Ok made) }
 {
     match words {
         [] => Ok(Request::InitProducerId),

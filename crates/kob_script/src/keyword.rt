@@ -2,7 +2,7 @@
 
 ghost use Rattle.kob_script.specs.Keywords.{permission_of, resource_of, pattern_of, operation_of};
 ghost use Rattle.kob_script.specs.Keywords.{filter_pattern_of};
-ghost use Rattle.kob_script.specs.Reading.{Gives, found_or, unless_dash};
+ghost use Rattle.kob_script.specs.Reading.{Gives, found_or};
 ghost use Rattle.kob_script.specs.declared.fault.FaultKind.TheVariants.{BadWord};
 
 use crate::fault::{FaultKind, LineError};
@@ -57,34 +57,4 @@ pub fn filter_pattern_of(word: &Word<'_>) -> Result<FilterPattern, LineError>
         return Ok(FilterPattern::Any);
     }
     known(filter_pattern_named(word.decoded()))
-}
-
-/// The permission that a word other than `-` names.
-pub fn permission_unless_dash(word: &Word<'_>) -> Result<Option<Permission>, LineError>
-    ensures { Gives result (unless_dash permission_of word.now) }
-{
-    if word.is_dash() {
-        return Ok(None);
-    }
-    Ok(Some(permission_of(word)?))
-}
-
-/// The kind of resource that a word other than `-` names.
-pub fn resource_unless_dash(word: &Word<'_>) -> Result<Option<ResourceKind>, LineError>
-    ensures { Gives result (unless_dash resource_of word.now) }
-{
-    if word.is_dash() {
-        return Ok(None);
-    }
-    Ok(Some(resource_of(word)?))
-}
-
-/// The operation that a word other than `-` names.
-pub fn operation_unless_dash(word: &Word<'_>) -> Result<Option<Operation>, LineError>
-    ensures { Gives result (unless_dash operation_of word.now) }
-{
-    if word.is_dash() {
-        return Ok(None);
-    }
-    Ok(Some(operation_of(word)?))
 }

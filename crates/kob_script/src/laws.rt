@@ -4,10 +4,11 @@ ghost use Rattle.std.specs.Prelude.{◌≡◌, ◌≤◌, ℕ, List, Option, Som
 ghost use Rattle.kob_acl_cli.specs.declared.args.CliArgs.{CliArgs};
 ghost use Rattle.kob_script.specs.CommandLines.{asks_by_acl, events_of, line_fault};
 ghost use Rattle.kob_script.specs.Escapes.{LeavesWhole};
-ghost use Rattle.kob_script.specs.Faults.{IsAmong, faults_in, rank, row_fault};
+ghost use Rattle.kob_script.specs.Faults.{IsAmong, rank};
 ghost use Rattle.kob_script.specs.Reading.{counted};
 ghost use Rattle.kob_script.specs.Script.{script_of};
 ghost use Rattle.kob_script.specs.ScriptReadings.{HasNoAclLine, ReadsAs};
+ghost use Rattle.kob_script.specs.Slots.{faults_in, row_fault};
 ghost use Rattle.kob_script.specs.Word.{Word};
 ghost use Rattle.kob_script.specs.declared.fault.Fault.{Fault};
 ghost use Rattle.kob_script.specs.declared.fault.FaultKind.{FaultKind};

@@ -1,4 +1,5 @@
 //! How a script's fault is printed.
+#![tactic(auto, using(kob_words::proofs::Appending::appending))]
 
 ghost use Rattle.std.specs.Prelude.{◌≡◌, ◌++◌, OnOk};
 ghost use Rattle.kob_script.specs.PrintedFault.{kind_text, fault_text};
@@ -9,7 +10,6 @@ use std::alloc::AllocError;
 
 /// Prints the line `fault line LINE KIND` with its line feed. The error is out of memory; `out`
 /// has then grown by a part of it.
-#[tactic(auto, using(kob_words::proofs::Appending::appending))]
 pub fn print_fault(out: &mut Vec<u8>, fault: Fault) -> Result<(), AllocError>
     ensures { OnOk result (out.new.items ≡ out.old.items ++ fault_text fault) }
 {

@@ -1,4 +1,5 @@
 //! How replies are printed.
+#![tactic(auto, using(kob_words::proofs::Appending::appending))]
 
 ghost use Rattle.std.specs.Prelude.{◌≡◌, ◌++◌, OnOk};
 ghost use Rattle.kob_script.specs.PrintedReply.{verdict_text, verdicts_text, code_text};
@@ -12,7 +13,6 @@ use std::alloc::AllocError;
 
 /// Prints a reply behind its number, with a line feed after it. The error is out of memory; `out`
 /// has then grown by a part of it.
-#[tactic(auto, using(kob_words::proofs::Appending::appending))]
 pub fn print_reply(out: &mut Vec<u8>, number: u64, reply: &Reply) -> Result<(), AllocError>
     ensures { OnOk result (out.new.items ≡ out.old.items ++ reply_text number reply.now) }
 {
@@ -23,7 +23,6 @@ pub fn print_reply(out: &mut Vec<u8>, number: u64, reply: &Reply) -> Result<(), 
 
 /// Prints a reply without a number or a line feed: `ok ..`, `denied ..` or `refused ..`. The error is
 /// out of memory; `out` has then grown by a part of it.
-#[tactic(auto, using(kob_words::proofs::Appending::appending))]
 pub fn push_outcome(out: &mut Vec<u8>, reply: &Reply) -> Result<(), AllocError>
     ensures { OnOk result (out.new.items ≡ out.old.items ++ outcome_text reply.now) }
 {
@@ -47,7 +46,6 @@ pub fn push_outcome(out: &mut Vec<u8>, reply: &Reply) -> Result<(), AllocError>
     }
 }
 
-#[tactic(auto, using(kob_words::proofs::Appending::appending))]
 fn push_code(out: &mut Vec<u8>, code: Code) -> Result<(), AllocError>
     ensures { OnOk result (out.new.items ≡ out.old.items ++ code_text code) }
 {
@@ -56,22 +54,21 @@ fn push_code(out: &mut Vec<u8>, code: Code) -> Result<(), AllocError>
     out.extend_from_slice(code.name().as_bytes())
 }
 
-#[tactic(auto, using(kob_words::proofs::Appending::appending))]
+#[tactic(auto, using(kob_words::proofs::Appending::appending), unfolding(crate::specs::PrintedReply::verdicts_text))]
 fn push_verdicts(out: &mut Vec<u8>, verdicts: &[Verdict]) -> Result<(), AllocError>
     ensures { OnOk result (out.new.items ≡ out.old.items ++ verdicts_text verdicts.now) }
 {
-    let mut rest = verdicts;
-    while let Some((verdict, others)) = rest.split_first() {
+    let Some((first, others)) = verdicts.split_first() else {
+        return Ok(());
+    };
+    push_verdict(out, *first)?;
+    for verdict in others {
+        out.extend_from_slice(b",")?;
         push_verdict(out, *verdict)?;
-        if !others.is_empty() {
-            out.extend_from_slice(b",")?;
-        }
-        rest = others;
     }
     Ok(())
 }
 
-#[tactic(auto, using(kob_words::proofs::Appending::appending))]
 fn push_verdict(out: &mut Vec<u8>, verdict: Verdict) -> Result<(), AllocError>
     ensures { OnOk result (out.new.items ≡ out.old.items ++ verdict_text verdict) }
 {

@@ -1,16 +1,15 @@
 //! The requests of a script that was checked, each read when it is its turn.
 
-ghost use Rattle.std.specs.Prelude.{◌≡◌, ◌≤◌, ◌<◌, ◌++◌, ◌∷◌, drop, length};
+ghost use Rattle.std.specs.Prelude.{◌≡◌, ◌<◌, ◌++◌, ◌∷◌, drop, length};
 ghost use Rattle.std.specs.Prelude.{IfOk, OnOk, OnErr, if◌then◌else◌};
 ghost use Rattle.kob_script.specs.Blocks.{lines_in_blocks, lines_left, steps_left};
-ghost use Rattle.kob_script.specs.Requests.{answer_for, asks_clap, line_words};
+ghost use Rattle.kob_script.specs.Requests.{asks_clap, first_answer, line_words};
 ghost use Rattle.kob_script.specs.Requests.{requests_in, requests_of};
 
 use crate::asked::Asked;
 use crate::blocks::{Blocks, first_line};
 use crate::clap_answer::asks_clap;
 use crate::command_lines::events_in;
-use crate::fault::LineError;
 use crate::setting::is_setting;
 use crate::word::Word;
 use crate::words::words_of;
@@ -100,12 +99,10 @@ fn read_on(
     blocks: &mut Blocks,
     answers: &mut VecDeque<Option<CliArgs>>,
 ) -> Result<Asked, AllocError>
-    requires within { blocks.old.at ≤ length blocks.old.front }
-    requires some { 0 < steps_left blocks.old }
+    requires { 0 < steps_left blocks.old }
     ensures asked { IfOk result (λ asked. requests_in (lines_left blocks.old) answers.old.items
         ≡ asked ++ requests_in (lines_left blocks.new) answers.new.items) }
     ensures nearer { OnOk result (steps_left blocks.new < steps_left blocks.old) }
-    ensures within { blocks.new.at ≤ length blocks.new.front }
     ensures same_lines { OnErr result (lines_left blocks.new ≡ lines_left blocks.old) }
     ensures same_answers { OnErr result (answers.new.items ≡ answers.old.items) }
 {
@@ -130,7 +127,7 @@ fn pass_answer(answers: &mut VecDeque<Option<CliArgs>>, is_used: bool)
     }
 }
 
-// What a line asks for, and whether clap was asked for it.
+// What a line without a fault asks for, and whether clap was asked for it.
 #[derive(Drop)]
 struct ReadAgain {
     asked: Asked,
@@ -143,32 +140,19 @@ fn read_again(
     answers: &VecDeque<Option<CliArgs>>,
 ) -> Result<ReadAgain, AllocError>
     ensures asked { IfOk result (λ read. read.asked
-        ≡ requests_of (answer_for (line_words line.now) answers.now.items) (line_words line.now)) }
+        ≡ requests_of (first_answer answers.now.items) (line_words line.now)) }
     ensures clap { IfOk result (λ read. read.asked_clap ≡ asks_clap (line_words line.now)) }
 {
-    let words = words_again(alloc, line)?;
-    let asked_clap = asks_clap(&words);
-    let unasked = None;
-    let answer = if asked_clap {
-        answers.front().unwrap_or(&unasked)
-    } else {
-        &unasked
+    let Ok(words) = words_of(alloc, line) else {
+        return Err(AllocError);
     };
+    let unasked = None;
+    let answer = answers.front().unwrap_or(&unasked);
     let asked = requests_of(alloc, &words, answer)?;
+    let asked_clap = asks_clap(&words);
     Ok(ReadAgain { asked, asked_clap })
 }
 
-fn words_again(alloc: Global, line: &[u8]) -> Result<Vec<Word<'_>>, AllocError>
-    ensures { IfOk result (λ words. words.items ≡ line_words line.entry.now) }
-{
-    match words_of(alloc, line) {
-        Ok(words) => Ok(words),
-        Err(LineError::Memory) => Err(AllocError),
-        Err(LineError::Fault(_)) => Ok(Vec::new(alloc)),
-    }
-}
-
-#[tactic(auto, using(crate::proofs::LineFaults::line_read, crate::proofs::LineFaults::line_not_read))]
 fn requests_of(
     alloc: Global,
     words: &[Word<'_>],
@@ -176,15 +160,12 @@ fn requests_of(
 ) -> Result<Asked, AllocError>
     ensures { IfOk result (λ asked. asked ≡ requests_of answer.now words.now) }
 {
-    let Some((first, _)) = words.split_first() else {
-        return Ok(Asked::nothing(alloc));
-    };
-    if is_setting(first) {
-        return Ok(Asked::nothing(alloc));
-    }
-    match events_in(alloc, words, answer) {
-        Ok(asked) => Ok(asked),
-        Err(LineError::Memory) => Err(AllocError),
-        Err(LineError::Fault(_)) => Ok(Asked::nothing(alloc)),
+    match words {
+        [] => Ok(Asked::nothing(alloc)),
+        [first, ..] if is_setting(first) => Ok(Asked::nothing(alloc)),
+        _ => match events_in(alloc, words, answer) {
+            Ok(asked) => Ok(asked),
+            Err(_) => Err(AllocError),
+        },
     }
 }

@@ -1,20 +1,24 @@
 //! Names, principals and hosts.
 
-ghost use Rattle.kob_script.specs.Reading.{Gives, GivesSeen, each, unless_dash};
-ghost use Rattle.kob_script.specs.Texts.{host_of, named_host, named_principal, principal_of, text_in};
+ghost use Rattle.std.specs.Prelude.{map};
+ghost use Rattle.kob_script.specs.Reading.{Gives, GivesSeen, each};
+ghost use Rattle.kob_script.specs.Texts.{host_of, named_host, named_principal, principal_of};
 ghost use Rattle.kob_script.specs.Texts.{text_of};
 
 use crate::fault::{FaultKind, LineError};
 use crate::word::Word;
 use bstr::ByteSlice;
-use kob_names::{Host, HostFault, Items, Principal, PrincipalFault, Text};
+use kob_names::{Host, HostFault, Principal, PrincipalFault, Text};
 use std::alloc::Global;
 
 /// The text of a word, as it is there; no memory is taken.
 pub fn lent_text_of<'w>(word: &'w Word<'_>) -> Result<&'w str, LineError>
     ensures { GivesSeen (λ text. text.now) result (text_of word.entry.now) }
 {
-    text_in(word.decoded())
+    match word.decoded().to_str() {
+        Ok(text) => Ok(text),
+        Err(_) => Err(LineError::Fault(FaultKind::BadText)),
+    }
 }
 
 /// A copy of the text of a word.
@@ -25,25 +29,17 @@ pub fn text_of(alloc: Global, word: &Word<'_>) -> Result<Text, LineError>
     Ok(Text::copied(alloc, text)?)
 }
 
-/// The texts of the words, in order.
-pub fn texts_of(alloc: Global, words: &[Word<'_>]) -> Result<Items<Text>, LineError>
-    ensures { Gives result (each text_of words.now) }
+/// The texts of the words, in order, as they are there.
+pub fn texts_of<'w>(alloc: Global, words: &'w [Word<'_>]) -> Result<Vec<&'w str>, LineError>
+    ensures { GivesSeen (λ texts. map (λ text. text.now) texts.items) result
+        (each text_of words.entry.now) }
 {
     let mut texts = Vec::with_capacity(alloc, words.len())?;
     for word in words {
-        let text = text_of(alloc, word)?;
+        let text = lent_text_of(word)?;
         texts.push(text)?;
     }
-    Ok(Items::from_vec(texts))
-}
-
-fn text_in(bytes: &[u8]) -> Result<&str, LineError>
-    ensures { GivesSeen (λ text. text.now) result (text_in bytes.now) }
-{
-    match bytes.to_str() {
-        Ok(text) => Ok(text),
-        Err(_) => Err(LineError::Fault(FaultKind::BadText)),
-    }
+    Ok(texts)
 }
 
 /// The principal that a text is.
@@ -82,34 +78,4 @@ pub fn named_host(alloc: Global, word: &Word<'_>) -> Result<Host, LineError>
     ensures { Gives result (named_host word.now) }
 {
     host_of(alloc, lent_text_of(word)?)
-}
-
-/// The text of a word that is not `-`.
-pub fn text_unless_dash(alloc: Global, word: &Word<'_>) -> Result<Option<Text>, LineError>
-    ensures { Gives result (unless_dash text_of word.now) }
-{
-    if word.is_dash() {
-        return Ok(None);
-    }
-    Ok(Some(text_of(alloc, word)?))
-}
-
-/// The principal that a word other than `-` names.
-pub fn principal_unless_dash(alloc: Global, word: &Word<'_>) -> Result<Option<Principal>, LineError>
-    ensures { Gives result (unless_dash named_principal word.now) }
-{
-    if word.is_dash() {
-        return Ok(None);
-    }
-    Ok(Some(named_principal(alloc, word)?))
-}
-
-/// The host that a word other than `-` names.
-pub fn host_unless_dash(alloc: Global, word: &Word<'_>) -> Result<Option<Host>, LineError>
-    ensures { Gives result (unless_dash named_host word.now) }
-{
-    if word.is_dash() {
-        return Ok(None);
-    }
-    Ok(Some(named_host(alloc, word)?))
 }

@@ -1,7 +1,8 @@
-//! Requests for topics and partitions, by the words after their command.
+//! Requests for topics and partitions, by the words after their command, which have no fault.
+#![tactic(auto, unfolding(crate::specs::CommandLines::request_of))]
 
+ghost use Rattle.std.specs.Prelude.{◌≡◌, IfOk, Ok};
 ghost use Rattle.kob_script.specs.CommandLines.{request_of};
-ghost use Rattle.kob_script.specs.Reading.{Gives};
 ghost use Rattle.kob_script.specs.declared.command.Command.TheVariants as commands;
 
 use crate::batch::{idem_of, records_of};
@@ -15,21 +16,20 @@ use kob_rights::{
 };
 use std::alloc::Global;
 
-#[tactic(auto, unfolding(crate::specs::CommandLines::request_of))]
 pub fn create_topic(alloc: Global, words: &[Word<'_>]) -> Result<Request, LineError>
-    ensures { Gives result (request_of commands.CreateTopic words.now) }
+    ensures { IfOk result (λ made. request_of commands.CreateTopic words.now ≡ Ok made) }
 {
     let [name, partitions] = words else {
         return Err(LineError::Fault(FaultKind::BadLine));
     };
-    let partitions = number_of(partitions)?;
-    let name = text_of(alloc, name)?;
-    Ok(Request::CreateTopics(CreateTopics { name, partitions }))
+    Ok(Request::CreateTopics(CreateTopics {
+        partitions: number_of(partitions)?,
+        name: text_of(alloc, name)?,
+    }))
 }
 
-#[tactic(auto, unfolding(crate::specs::CommandLines::request_of))]
 pub fn delete_topic(alloc: Global, words: &[Word<'_>]) -> Result<Request, LineError>
-    ensures { Gives result (request_of commands.DeleteTopic words.now) }
+    ensures { IfOk result (λ made. request_of commands.DeleteTopic words.now ≡ Ok made) }
 {
     let [name] = words else {
         return Err(LineError::Fault(FaultKind::BadLine));
@@ -38,23 +38,19 @@ pub fn delete_topic(alloc: Global, words: &[Word<'_>]) -> Result<Request, LineEr
     Ok(Request::DeleteTopics(DeleteTopics { name }))
 }
 
-#[tactic(auto, unfolding(crate::specs::CommandLines::request_of))]
 pub fn metadata(alloc: Global, words: &[Word<'_>]) -> Result<Request, LineError>
-    ensures { Gives result (request_of commands.Metadata words.now) }
+    ensures { IfOk result (λ made. request_of commands.Metadata words.now ≡ Ok made) }
 {
-    match words {
-        [] => Ok(Request::Metadata(Metadata { topic: None })),
-        [name] => {
-            let topic = Some(text_of(alloc, name)?);
-            Ok(Request::Metadata(Metadata { topic }))
-        }
-        _ => Err(LineError::Fault(FaultKind::BadLine)),
-    }
+    let topic = match words {
+        [] => None,
+        [name] => Some(text_of(alloc, name)?),
+        _ => return Err(LineError::Fault(FaultKind::BadLine)),
+    };
+    Ok(Request::Metadata(Metadata { topic }))
 }
 
-#[tactic(auto, unfolding(crate::specs::CommandLines::request_of))]
 pub fn produce(alloc: Global, words: &[Word<'_>]) -> Result<Request, LineError>
-    ensures { Gives result (request_of commands.Produce words.now) }
+    ensures { IfOk result (λ made. request_of commands.Produce words.now ≡ Ok made) }
 {
     let [topic, partition, idem, records @ ..] = words else {
         return Err(LineError::Fault(FaultKind::BadLine));
@@ -70,55 +66,42 @@ pub fn produce(alloc: Global, words: &[Word<'_>]) -> Result<Request, LineError>
     }))
 }
 
-#[tactic(auto, unfolding(crate::specs::CommandLines::request_of))]
 pub fn fetch(alloc: Global, words: &[Word<'_>]) -> Result<Request, LineError>
-    ensures { Gives result (request_of commands.Fetch words.now) }
+    ensures { IfOk result (λ made. request_of commands.Fetch words.now ≡ Ok made) }
 {
     let [topic, partition, offset, max] = words else {
         return Err(LineError::Fault(FaultKind::BadLine));
     };
-    let max = number_of(max)?;
-    let offset = number_of(offset)?;
-    let partition = number_of(partition)?;
-    let topic = text_of(alloc, topic)?;
     Ok(Request::Fetch(Fetch {
-        topic,
-        partition,
-        offset,
-        max,
+        partition: number_of(partition)?,
+        offset: number_of(offset)?,
+        max: number_of(max)?,
+        topic: text_of(alloc, topic)?,
     }))
 }
 
-#[tactic(auto, unfolding(crate::specs::CommandLines::request_of))]
 pub fn list_offsets(alloc: Global, words: &[Word<'_>]) -> Result<Request, LineError>
-    ensures { Gives result (request_of commands.ListOffsets words.now) }
+    ensures { IfOk result (λ made. request_of commands.ListOffsets words.now ≡ Ok made) }
 {
     let [topic, partition, which] = words else {
         return Err(LineError::Fault(FaultKind::BadLine));
     };
-    let which = which_of(which)?;
-    let partition = number_of(partition)?;
-    let topic = text_of(alloc, topic)?;
     Ok(Request::ListOffsets(ListOffsets {
-        topic,
-        partition,
-        which,
+        partition: number_of(partition)?,
+        which: which_of(which)?,
+        topic: text_of(alloc, topic)?,
     }))
 }
 
-#[tactic(auto, unfolding(crate::specs::CommandLines::request_of))]
 pub fn delete_records(alloc: Global, words: &[Word<'_>]) -> Result<Request, LineError>
-    ensures { Gives result (request_of commands.DeleteRecords words.now) }
+    ensures { IfOk result (λ made. request_of commands.DeleteRecords words.now ≡ Ok made) }
 {
     let [topic, partition, before] = words else {
         return Err(LineError::Fault(FaultKind::BadLine));
     };
-    let before = before_of(before)?;
-    let partition = number_of(partition)?;
-    let topic = text_of(alloc, topic)?;
     Ok(Request::DeleteRecords(DeleteRecords {
-        topic,
-        partition,
-        before,
+        partition: number_of(partition)?,
+        before: before_of(before)?,
+        topic: text_of(alloc, topic)?,
     }))
 }

@@ -5,7 +5,7 @@ ghost use Rattle.std.specs.Str.{bytes_eq};
 ghost use Rattle.kob_script.specs.Reading.{Gives};
 ghost use Rattle.kob_script.specs.Word.{word_of};
 
-use crate::escape::{bytes_of, has_whole_escapes};
+use crate::escape::{may_have_escapes, unescaped};
 use crate::fault::{FaultKind, LineError};
 use kob_names::Bytes;
 use std::alloc::Global;
@@ -20,13 +20,14 @@ pub struct Word<'a> {
 }
 
 impl<'a> Model for Word<'a> {
-    ghost use Rattle.kob_script.specs.Word.{Word, decoded_or};
+    ghost use Rattle.std.specs.Prelude.{unwrap_or};
+    ghost use Rattle.kob_script.specs.Word.{Word};
 
     ghost Value = { Word };
 
     ghost view = { λ word. record {
       raw = word.raw.now;
-      decoded = decoded_or word.replaced word.raw.now;
+      decoded = unwrap_or word.replaced word.raw.now;
     } };
 }
 
@@ -36,17 +37,19 @@ impl<'a> Word<'a> {
     pub fn read(alloc: Global, raw: &'a [u8]) -> Result<Word<'a>, LineError>
         ensures { Gives result (word_of raw.now) }
     {
-        if !raw.contains(&b'%') {
+        if !may_have_escapes(raw) {
             return Ok(Word {
                 raw,
                 replaced: None,
             });
         }
-        if !has_whole_escapes(raw) {
-            return Err(LineError::Fault(FaultKind::BadEscape));
+        match unescaped(alloc, raw)? {
+            Some(bytes) => Ok(Word {
+                raw,
+                replaced: Some(bytes),
+            }),
+            None => Err(LineError::Fault(FaultKind::BadEscape)),
         }
-        let replaced = Some(bytes_of(alloc, raw)?);
-        Ok(Word { raw, replaced })
     }
 
     /// The word as it is in the line.

@@ -3,7 +3,7 @@
 ghost use Rattle.std.specs.Prelude.{◌≡◌, ◌<◌, ◌∷◌, [], length, slice_index, false, MatchOption};
 ghost use Rattle.kob_script.specs.Reading.{GivesSeen, each};
 ghost use Rattle.kob_script.specs.Word.{word_of};
-ghost use Rattle.kob_script.specs.Words.{is_blank, is_skipped, raw_words, words_of};
+ghost use Rattle.kob_script.specs.Words.{is_blank, raw_words, words_of};
 
 use crate::fault::LineError;
 use crate::word::Word;
@@ -19,18 +19,9 @@ const MANY_WORDS: usize = 8;
 pub fn words_of(alloc: Global, line: &[u8]) -> Result<Vec<Word<'_>>, LineError>
     ensures { GivesSeen (λ words. words.items) result (words_of line.now) }
 {
-    if is_skipped(line) {
-        return Ok(Vec::new(alloc));
-    }
-    each_read(alloc, line)
-}
-
-fn is_skipped(line: &[u8]) -> bool
-    ensures { result ≡ is_skipped (raw_words line.now) }
-{
     match next_word(line) {
-        Some(cut) => cut.word.first() == Some(&b'#'),
-        None => true,
+        Some(cut) if cut.word.first() != Some(&b'#') => each_read(alloc, line),
+        _ => Ok(Vec::new(alloc)),
     }
 }
 

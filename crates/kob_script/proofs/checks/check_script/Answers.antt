@@ -1,18 +1,17 @@
-use Rattle.std.proofs.Common.{◌≡◌, ◌∙◌, ◌++◌, ◌∷◌, ◌+◌, ◌≤◌, ◌<◌, List, ℕ, Ok, Err, ap, arith, refl, subst, sym, suc, drop, length, drop_of_length-le}
-use Rattle.std.specs.List.{concat}
+use Rattle.std.proofs.Common.{◌≡◌, ◌∙◌, ◌++◌, ◌+◌, ◌≤◌, ◌<◌, [], List, ℕ, Ok, Err, ap, arith, refl, subst, sym, drop, length, drop_of_length-le}
 use Rattle.kob_script.proofs.BlockLines.{block_lines, few_lines}
-use Rattle.kob_script.proofs.CheckedLines.{Stands, blocks_counted, blocks_read, stands_at_first_block, stands_next, stops}
+use Rattle.kob_script.proofs.CheckedLines.{Stands, all_counted, blocks_read, stands_first, stands_next, stops}
 use Rattle.kob_script.proofs.PlainScripts.{reads_plain}
 use Rattle.kob_script.specs.Blocks.{lines_in_blocks}
-use Rattle.kob_script.specs.Checks.{checked, fault_at}
+use Rattle.kob_script.specs.Checks.{checked}
 use Rattle.kob_script.specs.Script.{lines_in}
 use Rattle.kob_script.proofs.checks.check_script.Goals as goal
 
 pub loop-block-init : goal.loop-block-init
 loop-block-init c = record {
   few = omega (arith, few_lines c.args.blocks.items c.requires.whole);
-  stands = stands_at_first_block c.args.blocks.items c.requires.whole _ c.new-answers.result.items c.new.ensures.items refl
-      refl c.new-answers.ensures.items;
+  stands = stands_first (lines_in_blocks c.args.blocks.items) _ c.new-answers.result.items c.new.ensures.items refl refl
+      c.new-answers.ensures.items;
 }
 
 pub loop-line-init : goal.loop-line-init
@@ -30,87 +29,65 @@ loop-line-init c =
     let count = ap length rest in
     record {
       few = omega (arith, count, c.loop-block.invariant.few);
-      stands = subst (λ (lines : List (List ℕ)).
-          Stands (concat blocks) c.loop-block.checking c.loop-block.answers.items (c.loop-block.number + 1) lines)
-          rest c.loop-block.invariant.stands;
+      stands = subst (Stands _ c.loop-block.checking c.loop-block.answers.items (c.loop-block.number + 1)) rest
+          c.loop-block.invariant.stands;
     }
 
 pub overflow_add-number : goal.overflow_add-number
 overflow_add-number c =
     let later = lines_in_blocks (drop (c.loop-block.block-index + 1) c.args.blocks.items) in
-    let more : List (List ℕ) = c.next.new.self in
-    let count : length (c.loop-line.line-iterator ++ later) ≡ suc (length (more ++ later)) =
-    ap (λ (lines : List (List ℕ)). length (lines ++ later)) c.in-Some.ensures.steps in
+    let count = ap (λ (lines : List (List ℕ)). length (lines ++ later)) c.in-Some.ensures.steps in
     omega (arith, count, c.loop-line.invariant.few, c.requires.short)
 
 pub loop-line-preserved : goal.loop-line-preserved
 loop-line-preserved c =
     let later = lines_in_blocks (drop (c.loop-block.block-index + 1) c.args.blocks.items) in
-    let more : List (List ℕ) = c.next.new.self in
-    let split : c.loop-line.line-iterator ++ later ≡ c.in-Some.line.now ∷ (more ++ later) =
-    ap (λ (lines : List (List ℕ)). lines ++ later) c.in-Some.ensures.steps in
-    let count : length (c.loop-line.line-iterator ++ later) ≡ suc (length (more ++ later)) = ap length split in
+    let split = ap (λ (lines : List (List ℕ)). lines ++ later) c.in-Some.ensures.steps in
+    let count = ap length split in
     record {
       few = omega (arith, count, c.loop-line.invariant.few);
       stands = stands_next _ c.loop-line.checking c.check_line.new.checking c.loop-line.answers.items
-          c.check_line.new.answers.items (c.loop-line.number + 1) _ c.in-Some.line.now (more ++ later)
+          c.check_line.new.answers.items (c.loop-line.number + 1) _ c.in-Some.line.now (c.next.new.self ++ later)
           c.loop-line.invariant.stands split c.in-Ok.ensures;
     }
 
 pub returns-in-Err-clause-any : goal.returns-in-Err-clause-any
 returns-in-Err-clause-any c =
     let later = lines_in_blocks (drop (c.loop-block.block-index + 1) c.args.blocks.items) in
-    let more : List (List ℕ) = c.next.new.self in
     rw c.fault_at.ensures
-    (stops _ c.loop-line.checking c.check_line.new.checking c.loop-line.answers.items c.check_line.new.answers.items
-    (c.loop-line.number + 1) _ c.in-Some.line.now (more ++ later) c.loop-line.invariant.stands
-    (ap (λ (lines : List (List ℕ)). lines ++ later) c.in-Some.ensures.steps) _ c.in-Err.ensures)
+    (stops c.args.blocks.items c.requires.whole c.loop-line.checking c.loop-line.answers.items (c.loop-line.number + 1) _
+    c.loop-line.invariant.stands c.check_line.new.checking c.check_line.new.answers.items c.in-Some.line.now
+    (c.next.new.self ++ later) (ap (λ (lines : List (List ℕ)). lines ++ later) c.in-Some.ensures.steps) _ c.in-Err.ensures)
 
 pub returns-in-Err-clause-plain : goal.returns-in-Err-clause-plain
-returns-in-Err-clause-plain c =
-    let later = lines_in_blocks (drop (c.loop-block.block-index + 1) c.args.blocks.items) in
-    let more : List (List ℕ) = c.next.new.self in
-    rw c.fault_at.ensures
-    (reads_plain _ (Err (fault_at (c.loop-line.number + 1) c.in-Err.error))
-    (stops _ c.loop-line.checking c.check_line.new.checking c.loop-line.answers.items c.check_line.new.answers.items
-    (c.loop-line.number + 1) _ c.in-Some.line.now (more ++ later) c.loop-line.invariant.stands
-    (ap (λ (lines : List (List ℕ)). lines ++ later) c.in-Some.ensures.steps) _ c.in-Err.ensures))
+returns-in-Err-clause-plain c = reads_plain _ (Err c.fault_at.result) (returns-in-Err-clause-any c)
 
 pub loop-block-preserved : goal.loop-block-preserved
 loop-block-preserved c =
-    let blocks = c.args.blocks.items in
-    let later = lines_in_blocks (drop (c.loop-block.block-index + 1) blocks) in
-    let rest : c.loop-line.line-iterator ++ later ≡ later =
-    ap (λ (lines : List (List ℕ)). lines ++ later) c.in-None.ensures.steps.0 in
+    let later = lines_in_blocks (drop (c.loop-block.block-index + 1) c.args.blocks.items) in
+    let rest = ap (λ (lines : List (List ℕ)). lines ++ later) c.in-None.ensures.steps.0 in
     let count = ap length rest in
     record {
       few = omega (arith, count, c.loop-line.invariant.few);
-      stands = subst (λ (lines : List (List ℕ)).
-          Stands (concat blocks) c.loop-line.checking c.loop-line.answers.items (c.loop-line.number + 1) lines)
-          rest c.loop-line.invariant.stands;
+      stands = subst (Stands _ c.loop-line.checking c.loop-line.answers.items (c.loop-line.number + 1)) rest
+          c.loop-line.invariant.stands;
     }
+
+no_blocks : (blocks : List (List ℕ)) (given : List (List ℕ)) (at : ℕ) → given ≡ blocks → length given ≤ at
+    → lines_in_blocks (drop at blocks) ≡ []
+no_blocks blocks given at same past =
+    let long = ap length same in ap lines_in_blocks (drop_of_length-le blocks {i = at} (omega (arith, long, past)))
 
 pub finished-requires : goal.finished-requires
 finished-requires c =
-    let blocks = c.args.blocks.items in
-    let long = ap length c.as_slice-block-items.ensures.value in
-    let past : length blocks ≤ c.loop-block.block-index = omega (arith, long) in
-    blocks_counted blocks c.requires.whole c.loop-block.checking c.loop-block.answers.items (c.loop-block.number + 1) _
-    c.loop-block.invariant.stands (ap lines_in_blocks (drop_of_length-le blocks past))
+    all_counted _ c.loop-block.checking c.loop-block.answers.items (c.loop-block.number + 1) _ c.loop-block.invariant.stands
+    (no_blocks c.args.blocks.items _ _ c.as_slice-block-items.ensures.value (omega arith))
 
 pub returns-clause-any : goal.returns-clause-any
 returns-clause-any c =
-    let blocks = c.args.blocks.items in
-    let long = ap length c.as_slice-block-items.ensures.value in
-    let past : length blocks ≤ c.loop-block.block-index = omega (arith, long) in
-    blocks_read blocks c.requires.whole c.loop-block.checking c.loop-block.answers.items (c.loop-block.number + 1) _
-    c.loop-block.invariant.stands (ap lines_in_blocks (drop_of_length-le blocks past)) _ c.finished.ensures
+    blocks_read c.args.blocks.items c.requires.whole c.loop-block.checking c.loop-block.answers.items
+    (c.loop-block.number + 1) _ c.loop-block.invariant.stands
+    (no_blocks c.args.blocks.items _ _ c.as_slice-block-items.ensures.value (omega arith)) _ c.finished.ensures
 
 pub returns-clause-plain : goal.returns-clause-plain
-returns-clause-plain c =
-    let blocks = c.args.blocks.items in
-    let long = ap length c.as_slice-block-items.ensures.value in
-    let past : length blocks ≤ c.loop-block.block-index = omega (arith, long) in
-    reads_plain (concat blocks) (Ok (checked c.finished.result))
-    (blocks_read blocks c.requires.whole c.loop-block.checking c.loop-block.answers.items (c.loop-block.number + 1) _
-    c.loop-block.invariant.stands (ap lines_in_blocks (drop_of_length-le blocks past)) _ c.finished.ensures)
+returns-clause-plain c = reads_plain _ (Ok (checked c.finished.result)) (returns-clause-any c)

@@ -11,7 +11,7 @@ invariant-loop-line l =
     let rest = l.line-iterator ++ lines_in_blocks (drop (l.block-index + 1) l.fn.blocks.items) in
     record {
       few : l.number + length rest ≤ length text;
-      stands : Stands text l.checking l.answers.items (l.number + 1) rest;
+      stands : Stands (lines_in_blocks l.fn.blocks.items) l.checking l.answers.items (l.number + 1) rest;
     }
 
 abbrev pub invariant-loop-block : goal.invariant-loop-block
@@ -20,5 +20,5 @@ invariant-loop-block l =
     let rest = lines_in_blocks (drop l.block-index l.fn.blocks.items) in
     record {
       few : l.number + length rest ≤ length text;
-      stands : Stands text l.checking l.answers.items (l.number + 1) rest;
+      stands : Stands (lines_in_blocks l.fn.blocks.items) l.checking l.answers.items (l.number + 1) rest;
     }

@@ -1,9 +1,6 @@
-use Rattle.std.proofs.Common.{◌≡◌, ◌++◌, length}
-use Rattle.kob_script.specs.PrintedReply.{verdicts_text}
+use Rattle.std.proofs.Common.{◌≡◌, ◌++◌, flat_map, take}
+use Rattle.kob_script.specs.PrintedReply.{verdict_item}
 use Rattle.kob_script.proofs.printed_reply.push_verdicts.Given as goal
 
 abbrev pub invariant-loop-verdict : goal.invariant-loop-verdict
-invariant-loop-verdict l = l.out.items ++ verdicts_text l.rest ≡ l.initial.out.items ++ verdicts_text l.verdicts
-
-abbrev pub decreases-loop-verdict : goal.decreases-loop-verdict
-decreases-loop-verdict l = length l.rest
+invariant-loop-verdict l = l.out.items ≡ l.initial.out.items ++ flat_map verdict_item (take l.verdict-index l.others)

@@ -8,16 +8,12 @@ use Rattle.kob_script.proofs.requests.Requests.next_event.Goals as goal
 
 pub loop-alloc-init : goal.loop-alloc-init
 loop-alloc-init c = record {
-  within = c.self.invariant.within;
-  count = c.self.invariant.count;
+  count = c.self.invariant;
   same = c.self.view_is;
 }
 
-pub read_on-requires-clause-within : goal.read_on-requires-clause-within
-read_on-requires-clause-within c = c.loop-alloc.invariant.within
-
-pub read_on-requires-clause-some : goal.read_on-requires-clause-some
-read_on-requires-clause-some c =
+pub read_on-requires : goal.read_on-requires
+read_on-requires c =
     let inside = c.loop-alloc.self-inside in
     some_lines inside.asked.items (lines_left inside.blocks) inside.answers.items c.args.self.now _
     (nothing_at_zero inside.asked.items inside.asked.len inside.asked.ok.0 (sym c.is_empty.ensures ∙ c.loop-alloc-test.true))
@@ -26,13 +22,9 @@ read_on-requires-clause-some c =
 pub invariant_of-self : goal.invariant_of-self
 invariant_of-self c =
     let inside = c.loop-alloc.self-inside in
-    let p = err_from_is_err_and c.from_residual.result c.from_residual.ensures.1 in
-    record {
-      within = c.read_on.ensures.within;
-      count = c.loop-alloc.invariant.count
-          ∙ ap length (sym (same_left inside.asked.items (lines_left inside.blocks) _ inside.answers.items _
-          c.in_err-asked.ensures.same_lines c.in_err-asked.ensures.same_answers));
-    }
+    c.loop-alloc.invariant.count
+    ∙ ap length (sym (same_left inside.asked.items (lines_left inside.blocks) _ inside.answers.items _
+    c.in_err-asked.ensures.same_lines c.in_err-asked.ensures.same_answers))
 
 pub returns-in_err-asked-clause-same : goal.returns-in_err-asked-clause-same
 returns-in_err-asked-clause-same c =
@@ -55,11 +47,8 @@ invariant_of-self-2 c =
     let inside = c.loop-alloc.self-inside in
     let rest = requests_in (lines_left inside.blocks) inside.answers.items in
     let split = c.pop_front.ensures.items in
-    record {
-      within = c.loop-alloc.invariant.within;
-      count = one_fewer inside.left c.unwrap.result _ _ c.loop-alloc.invariant.count
-          (ap (λ (given : List Event). given ++ rest) (rw c.unwrap.ensures at split));
-    }
+    one_fewer inside.left c.unwrap.result _ _ c.loop-alloc.invariant.count
+    (ap (λ (given : List Event). given ++ rest) (rw c.unwrap.ensures at split))
 
 pub returns-clause-next : goal.returns-clause-next
 returns-clause-next c =

@@ -1,12 +1,11 @@
 -- The line that was read last, and those after it, ask for what was left.
-use Rattle.std.proofs.Common.{◌≡◌, ◌≤◌, length}
+use Rattle.std.proofs.Common.{◌≡◌, length}
 use Rattle.kob_script.specs.Blocks.{steps_left}
 use Rattle.kob_script.specs.Requests.{requests_left}
 use Rattle.kob_script.proofs.requests.Requests.next_event.Given as goal
 
 abbrev pub invariant-loop-alloc : goal.invariant-loop-alloc
 invariant-loop-alloc l = record {
-  within : l.self-inside.blocks.at ≤ length l.self-inside.blocks.front;
   count : l.self-inside.left ≡ length (requests_left l.self-inside);
   same : requests_left l.self-inside ≡ l.fn.self;
 }

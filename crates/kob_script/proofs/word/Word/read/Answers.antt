@@ -1,6 +1,7 @@
-use Rattle.std.proofs.Common.{◌∙◌, sym}
-use Rattle.kob_script.proofs.Escapes.{word_of_plain}
+use Rattle.std.proofs.Common.{ap}
+use Rattle.kob_script.specs.Word.{word_by}
 use Rattle.kob_script.proofs.word.Word.read.Goals as goal
 
-pub returns-then-not-contains : goal.returns-then-not-contains
-returns-then-not-contains c = word_of_plain c.args.raw.now (sym c.contains.ensures.value ∙ c.if-not-contains.true)
+pub returns-then-not-may_have_escapes : goal.returns-then-not-may_have_escapes
+returns-then-not-may_have_escapes c =
+    ap (word_by c.args.raw.now) (c.may_have_escapes.ensures c.if-not-may_have_escapes.true)
