@@ -10,19 +10,22 @@ use Rattle.kob_outbox.specs.Events.{stored_event}
 use Rattle.kob_outbox.specs.Recording.{next_seq, after_record}
 use Rattle.kob_router.specs.Dispatches.{Dispatching, dispatch_of, place_of}
 use Rattle.kob_router.specs.Places.{same_place}
-use Rattle.kob_router.specs.Run.{IsRouterRun, Move, State, after, events_of}
+use Rattle.kob_router.specs.Run.{IsRouterRun, May, Move, State, after, calls_of, events_of, start}
 use Rattle.kob_router.specs.Run.Move.{Called, Recorded, Restarted, Swept, Took}
 use Rattle.kob_router.specs.declared.dispatch.Dispatch.{Dispatch}
 use Rattle.kob_router.specs.declared.dispatch.Target.{Target}
 use Rattle.kob_router.specs.declared.place.Place.{Place}
 use Rattle.kob_router.proofs.Lawful as lawful
+use Rattle.kob_shared.specs.declared.journal.Entry.{Entry}
 use Rattle.kob_pipeline.specs.Delivery.{goes_to, ids_of}
 use Rattle.kob_pipeline.specs.Reaching.{is_of_aggregate}
+use Rattle.kob_pipeline.specs.Served.{AreServed, served_to}
 use Rattle.kob_pipeline.proofs.Events.{is_fresh}
 use Rattle.kob_pipeline.proofs.Ids.{target_tells}
 use Rattle.kob_pipeline.proofs.Lists.{all_last, any_last, bytes_are, bytes_turned, filter_last, filter_not_last, none_in_filter, same_bytes, same_here}
 use Rattle.kob_pipeline.proofs.RouterKept.{TellsItsId}
-use Rattle.kob_pipeline.proofs.RouterRun.{called_ids, none_recorded, one_recorded}
+use Rattle.kob_pipeline.proofs.RouterMoves.{call_of, called_ids, kept_by_router, recorded}
+use Rattle.kob_pipeline.proofs.ServedRuns.{IsUnheard}
 
 -- what a target makes of a recorded row tells its id
 pub rows_tell : (target : Target) (c : Contents) (moves : List Move)
@@ -81,30 +84,31 @@ module _ (test : Event → Bool) where
             (none_in_filter (bytes_eq row.id) (λ (r : Event). r.id) test rows new ∙ sym off))
       ]
 
-  pub told_all : (route : Dispatching) (all : List Event) (moves : List Move) (s final : State) (rows : List Event)
-      → rows ++ events_of s.outbox moves ≡ all → IsRouterRun route s moves final → s.outbox.ids ≡ ids_of rows
-      → AllByRecursion (IsToldById test rows) rows → AllByRecursion (IsToldById test all) all
-  told_all route all [] s final rows are run ids h =
-      subst (λ (rs : List Event). AllByRecursion (IsToldById test rs) rs) (sym (append-nil rows) ∙ are) h
-  told_all route all (Recorded change event ∷ ms) s final rows are run ids h =
-      let row : Event = stored_event (next_seq s.outbox) event in
-      told_all route all ms (after s (Recorded change event)) final (rows ++ row ∷ [])
-      (one_recorded all rows (events_of (after_record s.outbox change event) ms) row are) run.1
-      (ap (λ (xs : List (List ℕ)). xs ++ row.id ∷ []) ids ∙ sym (map_push (λ (r : Event). r.id) rows row))
-      (told_more rows row
-      (subst (λ (xs : List (List ℕ)). list_any (bytes_eq row.id) xs ≡ false) ids (is_fresh s.outbox change event run.0))
-      h)
-  told_all route all (Swept ∷ ms) s final rows are run ids h =
-      told_all route all ms (after s Swept) final rows (none_recorded all rows ms (after s Swept).outbox s.outbox refl
-      are) run.1 ids h
-  told_all route all (Restarted ∷ ms) s final rows are run ids h =
-      told_all route all ms (after s Restarted) final rows are run.1 ids h
-  told_all route all (Took hand ∷ ms) s final rows are run ids h =
-      told_all route all ms (after s (Took hand)) final rows are run.1 ids h
-  told_all route all (Called c marks ∷ ms) s final rows are run ids h =
-      told_all route all ms (after s (Called c marks)) final rows
-      (none_recorded all rows ms (after s (Called c marks)).outbox s.outbox (called_ids s c marks) are) run.1
-      (called_ids s c marks ∙ ids) h
+  -- what is kept along a run: the ids are those of the rows
+  abbrev IsTold : List Event → State → List Entry → Type 0
+  IsTold rows s es = (s.outbox.ids ≡ ids_of rows) × AllByRecursion (IsToldById test rows) rows
+
+  told_move : (route : Dispatching) (m : Move) (rows : List Event) (s : State) (es : List Entry) → May route s m
+      → IsUnheard (call_of m) → IsTold rows s es → IsTold (rows ++ recorded s m) (after s m) es
+  told_move route (Recorded change event) rows s es may u (ids, h) =
+      let row : Event = stored_event (next_seq s.outbox) event in (
+        ap (λ (xs : List (List ℕ)). xs ++ row.id ∷ []) ids ∙ sym (map_push (λ (r : Event). r.id) rows row),
+        told_more rows row
+            (subst (λ (xs : List (List ℕ)). list_any (bytes_eq row.id) xs ≡ false) ids (is_fresh s.outbox change event may))
+            h,
+      )
+  told_move route Swept rows s es may u k = rw append-nil k
+  told_move route Restarted rows s es may u k = rw append-nil k
+  told_move route (Took hand) rows s es may u k = rw append-nil k
+  told_move route (Called c marks) rows s es may u (ids, h) = rw append-nil (called_ids s c marks ∙ ids, h)
+
+  pub told_all : (route : Dispatching) (worker : ℕ) (journal : List Entry) (moves : List Move) (final : State)
+      → IsRouterRun route start moves final → AreServed (calls_of moves) (served_to worker journal)
+      → AllByRecursion (IsToldById test (events_of start.outbox moves)) (events_of start.outbox moves)
+  told_all route worker journal moves final run served =
+      (kept_by_router route worker IsTold (told_move route)
+      (λ c marks rows s e es may by own k. (called_ids s c marks ∙ k.0, k.1))
+      (λ rows s e es other k. k) moves final journal run served (refl, tt)).1
 
 -- the rows of a place whose ids pass are those of the aggregate
 pub filter_both : (p r s : Event → Bool) (rows : List Event)

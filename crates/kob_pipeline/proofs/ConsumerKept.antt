@@ -14,9 +14,9 @@ use Rattle.kob_inbox.specs.Run.{behind}
 use Rattle.kob_inbox.specs.declared.cursors.Cursor.{Cursor}
 use Rattle.kob_pipeline.specs.Taking.{from_place}
 use Rattle.kob_pipeline.specs.Firsts.{firsts, numbers_below, with_each_new}
-use Rattle.kob_pipeline.proofs.Lists.{all_append, all_weaker, place_cases, places_are, same_here}
-use Rattle.kob_pipeline.proofs.Logged.{each_new_append}
-use Rattle.kob_pipeline.proofs.Offsets.{AreConsecutive, Reached, Stands, get_more, reached}
+use Rattle.kob_pipeline.proofs.Lists.{all_append, all_weaker, get_front, place_cases, places_are, same_here}
+use Rattle.kob_pipeline.proofs.Once.{each_new_append}
+use Rattle.kob_pipeline.proofs.Offsets.{AreConsecutive, Reached, Stands, reached}
 
 abbrev pub WithinCursor : ℕ → Option Cursor → Type 0
 WithinCursor bound None = Unit {0}
@@ -105,31 +105,29 @@ module _ (q : Place) where
   taking_first = record { bound = 0; offsets = refl; contents = tt; cursor = tt; commit = tt }
 
   -- the log grew
-  pub taking_later : (records more : List Record) (committed : Option ℕ) (cursors : List Cursor)
-      (arrived : List Arrival)
-      → Taking records committed cursors arrived → Taking (records ++ more) committed cursors arrived
-  taking_later records more committed cursors arrived k =
+  pub taking_later : {records : List Record} {committed : Option ℕ} {cursors : List Cursor} {arrived : List Arrival}
+      (more : List Record) → Taking records committed cursors arrived
+      → Taking (records ++ more) committed cursors arrived
+  taking_later {records = records} {arrived = arrived} more k =
       record {
         bound = k.bound;
         offsets = k.offsets;
         contents = all_weaker (IsContent records) (IsContent (records ++ more))
-            (λ a h. get_more records more a.offset a.message h) (from_place q arrived) k.contents;
+            (λ a h. get_front records more a.offset a.message h) (from_place q arrived) k.contents;
         cursor = k.cursor;
         commit = k.commit;
       }
 
-  pub taking_after_restart : (records : List Record) (committed : Option ℕ) (cursors : List Cursor)
-      (arrived : List Arrival)
-      → Taking records committed cursors arrived → Taking records committed [] arrived
-  taking_after_restart records committed cursors arrived k =
+  pub taking_after_restart : {records : List Record} {committed : Option ℕ} {cursors : List Cursor}
+      {arrived : List Arrival} → Taking records committed cursors arrived → Taking records committed [] arrived
+  taking_after_restart k =
       record { bound = k.bound; offsets = k.offsets; contents = k.contents; cursor = tt; commit = k.commit }
 
   -- the cursor of some place moves
-  pub taking_after_move : (records : List Record) (committed : Option ℕ) (cursors : List Cursor)
-      (arrived : List Arrival) (c : Cursor)
-      (k : Taking records committed cursors arrived) → (c.place ≡ q → c.position ≤ k.bound)
-      → Taking records committed (with_cursor cursors c) arrived
-  taking_after_move records committed cursors arrived c k new =
+  pub taking_after_move : {records : List Record} {committed : Option ℕ} {cursors : List Cursor}
+      {arrived : List Arrival} (c : Cursor) (k : Taking records committed cursors arrived)
+      → (c.place ≡ q → c.position ≤ k.bound) → Taking records committed (with_cursor cursors c) arrived
+  taking_after_move {cursors = cursors} c k new =
       record {
         bound = k.bound;
         offsets = k.offsets;
@@ -139,25 +137,23 @@ module _ (q : Place) where
       }
 
   -- what is committed changes, within the bound
-  abbrev pub taking_with_commit : (records : List Record) (old new : Option ℕ) (cursors : List Cursor)
-      (arrived : List Arrival)
-      (k : Taking records old cursors arrived) → WithinOffset k.bound new → Taking records new cursors arrived
-  taking_with_commit records old new cursors arrived k w =
+  abbrev pub taking_with_commit : {records : List Record} {old new : Option ℕ} {cursors : List Cursor}
+      {arrived : List Arrival} (k : Taking records old cursors arrived) → WithinOffset k.bound new
+      → Taking records new cursors arrived
+  taking_with_commit k w =
       record { bound = k.bound; offsets = k.offsets; contents = k.contents; cursor = k.cursor; commit = w }
 
-  pub taking_nothing : (records : List Record) (committed : Option ℕ) (cursors : List Cursor) (arrived : List Arrival)
-      → Taking records committed cursors arrived → Taking records committed cursors (arrived ++ [])
-  taking_nothing records committed cursors arrived k = subst (Taking records committed cursors)
-      (sym (append-nil arrived)) k
+  pub taking_nothing : {records : List Record} {committed : Option ℕ} {cursors : List Cursor}
+      {arrived : List Arrival} → Taking records committed cursors arrived
+      → Taking records committed cursors (arrived ++ [])
+  taking_nothing {arrived = arrived} k = rw (append-nil arrived) k
 
   -- records are taken in from the position on
-  taking_here : (records : List Record) (committed : Option ℕ) (cursors : List Cursor) (arrived : List Arrival)
-      (position : ℕ)
-      (xs : List (ℕ × Record)) (k : Taking records committed cursors arrived) → position ≤ k.bound
-      → AreConsecutive position xs
-      → AllByRecursion (Stands records) xs
+  taking_here : {records : List Record} {committed : Option ℕ} {cursors : List Cursor} {arrived : List Arrival}
+      (position : ℕ) (xs : List (ℕ × Record)) (k : Taking records committed cursors arrived) → position ≤ k.bound
+      → AreConsecutive position xs → AllByRecursion (Stands records) xs
       → Taking records committed (with_cursor cursors (cursor_behind q position xs)) (arrived ++ arrivals q xs)
-  taking_here records committed cursors arrived position xs k l c all =
+  taking_here {records} {committed} {cursors} {arrived} position xs k l c all =
       let r : Reached k.bound position xs = reached k.bound position xs l c in
       let more : from_place q (arrived ++ arrivals q xs) ≡ from_place q arrived ++ arrivals q xs =
       filter-append (λ (a : Arrival). same_place a.place q) arrived (arrivals q xs)
@@ -172,19 +168,19 @@ module _ (q : Place) where
             ∙ ap (with_each_new nat_eq (numbers_below k.bound)) (offsets_arrived q xs)
             ∙ r.offsets;
         contents =
-            subst (AllByRecursion (IsContent records)) (sym more)
+            rw more
             (all_append (IsContent records) (from_place q arrived) (arrivals q xs) k.contents
             (contents_arrived records q xs all));
-        cursor = subst (WithinCursor r.reach) (sym (cursor_moved cursors (cursor_behind q position xs))) r.within;
+        cursor = rw (cursor_moved cursors (cursor_behind q position xs)) r.within;
         commit = within_more committed k.bound r.reach r.no_less k.commit;
       }
 
   -- records of another place
-  taking_elsewhere : (p : Place) (records : List Record) (committed : Option ℕ) (cursors : List Cursor)
-      (arrived : List Arrival)
-      (position : ℕ) (xs : List (ℕ × Record)) → same_place p q ≡ false → Taking records committed cursors arrived
+  taking_elsewhere : {records : List Record} {committed : Option ℕ} {cursors : List Cursor} {arrived : List Arrival}
+      (p : Place) (position : ℕ) (xs : List (ℕ × Record)) → same_place p q ≡ false
+      → Taking records committed cursors arrived
       → Taking records committed (with_cursor cursors (cursor_behind p position xs)) (arrived ++ arrivals p xs)
-  taking_elsewhere p records committed cursors arrived position xs apart k =
+  taking_elsewhere {records} {committed} {cursors} {arrived} p position xs apart k =
       let more : from_place q (arrived ++ arrivals p xs) ≡ from_place q arrived =
       filter-append (λ (a : Arrival). same_place a.place q) arrived (arrivals p xs)
       ∙ ap (λ (ys : List Arrival). from_place q arrived ++ ys) (here_none p q apart xs)
@@ -192,9 +188,8 @@ module _ (q : Place) where
       record {
         bound = k.bound;
         offsets = ap (λ (ys : List Arrival). firsts nat_eq (map offset_of ys)) more ∙ k.offsets;
-        contents = subst (AllByRecursion (IsContent records)) (sym more) k.contents;
-        cursor = subst (WithinCursor k.bound) (sym (cursor_elsewhere cursors (cursor_behind p position xs) q apart))
-            k.cursor;
+        contents = rw more k.contents;
+        cursor = rw (cursor_elsewhere cursors (cursor_behind p position xs) q apart) k.cursor;
         commit = k.commit;
       }
 
@@ -203,20 +198,16 @@ module _ (q : Place) where
   Fits records bound position xs = (position ≤ bound) × AreConsecutive position xs × AllByRecursion (Stands records) xs
 
   -- so many of the records that were heard are taken in
-  pub taking_after_fetch : (p : Place) (records : List Record) (committed : Option ℕ) (cursors : List Cursor)
-      (arrived : List Arrival)
-      (position count : ℕ) (xs : List (ℕ × Record)) (k : Taking records committed cursors arrived)
-      → (count ≡ 0 → xs ≡ []) → (p ≡ q → Fits records k.bound position xs)
+  pub taking_after_fetch : {records : List Record} {committed : Option ℕ} {cursors : List Cursor}
+      {arrived : List Arrival} (p : Place) (position count : ℕ) (xs : List (ℕ × Record))
+      (k : Taking records committed cursors arrived) → (count ≡ 0 → xs ≡ []) → (p ≡ q → Fits records k.bound position xs)
       → Taking records committed (with_progress cursors p count (behind position xs)) (arrived ++ arrivals p xs)
-  taking_after_fetch p records committed cursors arrived position zero xs k none fits =
-      subst (λ (ys : List (ℕ × Record)). Taking records committed cursors (arrived ++ arrivals p ys)) (sym (none refl))
-      (taking_nothing records committed cursors arrived k)
-  taking_after_fetch p records committed cursors arrived position (suc count) xs k none fits =
+  taking_after_fetch p position zero xs k none fits = rw (none refl) (taking_nothing k)
+  taking_after_fetch {records} {committed} {cursors} {arrived} p position (suc count) xs k none fits =
       elim (place_cases p q) [
         | inl e ↦
             let f = fits e in
-            let there = taking_here records committed cursors arrived position xs k f.0 f.1 f.2 in
             subst (λ (y : Place). Taking records committed (with_cursor cursors (cursor_behind y position xs))
-            (arrived ++ arrivals y xs)) (sym e) there
-        | inr apart ↦ taking_elsewhere p records committed cursors arrived position xs apart k
+            (arrived ++ arrivals y xs)) (sym e) (taking_here position xs k f.0 f.1 f.2)
+        | inr apart ↦ taking_elsewhere p position xs apart k
       ]

@@ -15,17 +15,18 @@ use Rattle.kob_rights.specs.declared.request.Request.{Request}
 use Rattle.kob_rights.specs.declared.request.Request.TheVariants.{Fetch, OffsetCommit, OffsetFetch}
 use Rattle.kob_router.specs.Places.{same_place}
 use Rattle.kob_router.specs.declared.place.Place.{Place}
-use Rattle.kob_inbox.specs.Cursors.{cursor_of, with_cursor, standing}
+use Rattle.kob_inbox.specs.Cursors.{cursor_of, standing}
 use Rattle.kob_inbox.specs.Intake.{Arrival}
 use Rattle.kob_inbox.specs.Run.{IsDue, State, after_answer, due, place_at, taken_by}
 use Rattle.kob_inbox.specs.declared.cursors.Cursor.{Cursor}
 use Rattle.kob_inbox.specs.declared.cursors.Standing.{Standing}
 use Rattle.kob_inbox.specs.declared.fetcher.Subscription.{Subscription}
-use Rattle.kob_pipeline.specs.View.{IsSameView, Step, View, read_from, with_commit}
+use Rattle.kob_pipeline.specs.View.{Step, View, read_from, with_commit}
 use Rattle.kob_pipeline.proofs.ConsumerKept.{Fits, Taking, WithinCursor, WithinOffset, taking_after_fetch, taking_after_move, taking_nothing, taking_with_commit}
 use Rattle.kob_pipeline.proofs.Lists.{places_are}
 use Rattle.kob_pipeline.proofs.Offsets.{Stands, read_in_order, read_stands}
-use Rattle.kob_pipeline.proofs.RouterServed.{Hears, NotDone, heard_no_done, heard_none}
+use Rattle.kob_pipeline.proofs.RouterServed.{NotDone, heard_no_done, heard_none}
+use Rattle.kob_pipeline.proofs.ServedRuns.{Hears}
 
 -- what the due request has
 abbrev pub IsDueAs : Subscription → Place → Option Standing → Request → Type 0
@@ -107,27 +108,15 @@ module _ (t : Subscription) (q : Place) where
   abbrev pub TakingIn : State → View → List Arrival → Type 0
   TakingIn s v arrived = Taking q (records_of (v.log q)) (v.committed t.group q) s.cursors arrived
 
-  -- the same in each view that shows the same
-  pub taking_shown : (s : State) (v w : View) (arrived : List Arrival) → IsSameView w v → TakingIn s v arrived
-      → TakingIn s w arrived
-  taking_shown s v w arrived same k =
-      subst (λ (o : Option ℕ). Taking q (records_of (w.log q)) o s.cursors arrived) (sym (same.committed t.group q))
-      (subst (λ (rs : List Record). Taking q rs (v.committed t.group q) s.cursors arrived)
-      (sym (ap records_of (same.log q))) k)
-
   -- after a call
   abbrev After : State → View → List Arrival → Request → Option Reply → ℕ → Type 0
   After s v arrived request heard count = TakingIn (after_answer t s request heard count) v
       (arrived ++ taken_by request heard count)
 
   pub taking_silent : (s : State) (v : View) (arrived : List Arrival) (request : Request) (heard : Option Reply)
-      (count : ℕ) → NotDone heard
-      → TakingIn s v arrived → After s v arrived request heard count
+      (count : ℕ) → NotDone heard → TakingIn s v arrived → After s v arrived request heard count
   taking_silent s v arrived request heard count n k =
-      subst (λ (x : State). TakingIn x v (arrived ++ taken_by request heard count))
-      (sym (answered_unheard t s request heard count n))
-      (subst (λ (ys : List Arrival). TakingIn s v (arrived ++ ys)) (sym (taken_unheard request heard count n))
-      (taking_nothing q (records_of (v.log q)) (v.committed t.group q) s.cursors arrived k))
+      rw (answered_unheard t s request heard count n, taken_unheard request heard count n) (taking_nothing q k)
 
   -- OFFSET_FETCH that was heard
   placed : (s : State) (v : View) (arrived : List Arrival) (asked : PositionRequest) (body : Body)
@@ -137,16 +126,11 @@ module _ (t : Subscription) (q : Place) where
   placed s v arrived asked body heard count own is e k =
       let p : Place = place_at asked.topic asked.partition in
       let o : Option ℕ = v.committed asked.group p in
-      let c : Cursor = record { place = p; position = unwrap_or o 0; uncommitted = false } in
-      let known : heard ≡ Some (Done (bodies.Commit o)) = e ∙ ap (λ (b : Body). Some (Done b)) is in
-      let commit : WithinOffset k.bound (v.committed asked.group q) =
-      subst (λ (g : List ℕ). WithinOffset k.bound (v.committed g q)) (sym own) k.commit in
-      let within : p ≡ q → unwrap_or o 0 ≤ k.bound =
-      λ e'. offset_within o k.bound (subst (λ (y : Place). WithinOffset k.bound (v.committed asked.group y)) (sym e')
-      commit) in
-      subst (λ (h : Option Reply). After s v arrived (OffsetFetch asked) h count) (sym known)
-      (taking_nothing q (records_of (v.log q)) (v.committed t.group q) (with_cursor s.cursors c) arrived
-      (taking_after_move q (records_of (v.log q)) (v.committed t.group q) s.cursors arrived c k within))
+      let commit : WithinOffset k.bound (v.committed asked.group q) = rw own k.commit in
+      rw (e, is)
+      (taking_nothing q
+      (taking_after_move q (record { place = p; position = unwrap_or o 0; uncommitted = false }) k
+      (λ here. offset_within o k.bound (rw here commit))))
 
   -- FETCH that was heard
   fetched_in : (s : State) (v : View) (arrived : List Arrival) (asked : FetchRequest) (body : Body)
@@ -159,17 +143,15 @@ module _ (t : Subscription) (q : Place) where
       let p : Place = place_at asked.topic asked.partition in
       let records : List Record = records_of (v.log p) in
       let xs : List (ℕ × Record) = take count (read_from records asked.offset asked.max) in
-      let known : heard ≡ Some (Done (bodies.Records (read_from records asked.offset asked.max))) = e
-      ∙ ap (λ (b : Body). Some (Done b)) is in
       let fits : p ≡ q → Fits q (records_of (v.log q)) k.bound asked.offset xs =
       λ e'. (
-        subst (λ (m : ℕ). m ≤ k.bound) (sym here) (position_within s.cursors p q c k.bound at k.cursor e'),
+        rw here (position_within s.cursors p q c k.bound at k.cursor e'),
         read_in_order records asked.offset asked.max count,
         subst (λ (y : Place). Rattle.std.specs.List.AllByRecursion (Stands (records_of (v.log y))) xs) e'
             (read_stands records asked.offset asked.max count),
       ) in
-      subst (λ (h : Option Reply). After s v arrived (Fetch asked) h count) (sym known)
-      (taking_after_fetch q p (records_of (v.log q)) (v.committed t.group q) s.cursors arrived asked.offset count xs k
+      rw (e, is)
+      (taking_after_fetch q p asked.offset count xs k
       (none_taken count (read_from records asked.offset asked.max)) fits)
 
   -- OFFSET_COMMIT that was served
@@ -184,52 +166,31 @@ module _ (t : Subscription) (q : Place) where
       p : Place
       p = place_at asked.topic asked.partition
 
-      w : View
-      w = with_commit v asked.group (place_at asked.topic asked.partition) asked.offset
-
       within : place_at asked.topic asked.partition ≡ q → asked.offset ≤ k.bound
-      within e =
-          subst (λ (m : ℕ). m ≤ k.bound) (sym here)
-          (position_within s.cursors (place_at asked.topic asked.partition) q c k.bound at k.cursor e)
-
-      is_it : Bool
-      is_it = bytes_eq asked.group t.group && same_place (place_at asked.topic asked.partition) q
-
-      commits : bytes_eq asked.group t.group && same_place (place_at asked.topic asked.partition) q ≡ true
-          → asked.offset ≤ k.bound
-      commits h =
-          within (places_are (place_at asked.topic asked.partition) q
-          (and_parts (bytes_eq asked.group t.group) (same_place (place_at asked.topic asked.partition) q) h).1)
+      within e = rw here (position_within s.cursors (place_at asked.topic asked.partition) q c k.bound at k.cursor e)
 
       committed : TakingIn s (with_commit v asked.group (place_at asked.topic asked.partition) asked.offset) arrived
       committed =
-          taking_with_commit q (records_of (v.log q)) (v.committed t.group q)
-          (cond (bytes_eq asked.group t.group && same_place (place_at asked.topic asked.partition) q)
-          (Some asked.offset) (v.committed t.group q))
-          s.cursors arrived k
+          taking_with_commit q k
           (commit_or_not (bytes_eq asked.group t.group && same_place (place_at asked.topic asked.partition) q)
-          asked.offset k.bound
-          (v.committed t.group q) commits k.commit)
+          asked.offset k.bound (v.committed t.group q)
+          (λ both.
+          within (places_are (place_at asked.topic asked.partition) q
+          (and_parts (bytes_eq asked.group t.group) (same_place (place_at asked.topic asked.partition) q) both).1))
+          k.commit)
 
       go : Hears heard (Done body)
           → After s (with_commit v asked.group (place_at asked.topic asked.partition) asked.offset) arrived
           (OffsetCommit asked) heard count
       go (inl e) =
           taking_silent s (with_commit v asked.group (place_at asked.topic asked.partition) asked.offset) arrived
-          (OffsetCommit asked) heard count
-          (heard_none heard e) committed
+          (OffsetCommit asked) heard count (heard_none heard e) committed
       go (inr e) =
-          let o : Option ℕ = (with_commit v asked.group (place_at asked.topic asked.partition) asked.offset).committed
-          t.group q in
-          let cursor : Cursor = record {
-            place = place_at asked.topic asked.partition;
-            position = asked.offset;
-            uncommitted = false;
-          } in
-          subst (λ (h : Option Reply). After s (with_commit v asked.group (place_at asked.topic asked.partition)
-          asked.offset) arrived (OffsetCommit asked) h count) (sym e)
-          (taking_nothing q (records_of (v.log q)) o (with_cursor s.cursors cursor) arrived
-          (taking_after_move q (records_of (v.log q)) o s.cursors arrived cursor committed within))
+          rw e
+          (taking_nothing q
+          (taking_after_move q
+          (record { place = place_at asked.topic asked.partition; position = asked.offset; uncommitted = false })
+          committed within))
 
   -- a call that was served, whatever was heard
   pub taking_served : (s : State) (v w : View) (arrived : List Arrival) (place : Place) (request : Request)
@@ -239,26 +200,22 @@ module _ (t : Subscription) (q : Place) where
       → After s w arrived request heard count
   taking_served s v w arrived place request (Denied code verdicts) heard count d hears step k =
       taking_silent s w arrived request heard count (heard_no_done heard (Denied code verdicts) tt hears)
-      (taking_shown s v w arrived step k)
+      (rw (step.log q, step.committed t.group q) k)
   taking_served s v w arrived place request (Refused code reason) heard count d hears step k =
       taking_silent s w arrived request heard count (heard_no_done heard (Refused code reason) tt hears)
-      (taking_shown s v w arrived step k)
+      (rw (step.log q, step.committed t.group q) k)
   taking_served s v w arrived place (OffsetFetch asked) (Done body) heard count d hears step k =
-      taking_shown (after_answer t s (OffsetFetch asked) heard count) v w
-      (arrived ++ taken_by (OffsetFetch asked) heard count) step.1
+      rw (step.1.log q, step.1.committed t.group q)
       (elim hears [
         | inl e ↦ taking_silent s v arrived (OffsetFetch asked) heard count (heard_none heard e) k
         | inr e ↦ placed s v arrived asked body heard count d.0 step.0 e k
       ])
   taking_served s v w arrived place (OffsetCommit asked) (Done body) heard count d hears step k =
-      taking_shown (after_answer t s (OffsetCommit asked) heard count)
-      (with_commit v asked.group (place_at asked.topic asked.partition) asked.offset) w
-      (arrived ++ taken_by (OffsetCommit asked) heard count) step
+      rw (step.log q, step.committed t.group q)
       (committed_in s v arrived asked body heard count d.2
       (ap (λ (y : Place). standing (cursor_of s.cursors y)) d.1 ∙ d.3) d.4 hears k)
   taking_served s v w arrived place (Fetch asked) (Done body) heard count d hears step k =
-      taking_shown (after_answer t s (Fetch asked) heard count) v w
-      (arrived ++ taken_by (Fetch asked) heard count) step.1
+      rw (step.1.log q, step.1.committed t.group q)
       (elim hears [
         | inl e ↦ taking_silent s v arrived (Fetch asked) heard count (heard_none heard e) k
         | inr e ↦ fetched_in s v arrived asked body heard count d.1

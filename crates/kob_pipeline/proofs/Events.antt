@@ -1,5 +1,5 @@
 -- What the outbox of a service keeps of the rows that were recorded.
-use Rattle.std.proofs.Common.{◌≡◌, ℕ, ◌+◌, ◌<◌, ◌≤◌, List, [], ◌∷◌, ◌++◌, true, false, refl, sym, ap, ◌∙◌, subst, length, append_assoc, arith, length-append}
+use Rattle.std.proofs.Common.{◌≡◌, ℕ, ◌+◌, ◌<◌, ◌≤◌, List, [], ◌∷◌, ◌++◌, true, false, refl, sym, ap, ◌∙◌, length, append_assoc, arith, length-append}
 use Rattle.std.specs.Prelude.{filter, nat_lt, bytes_eq}
 use Rattle.std.specs.List.{list_any, AllByRecursion}
 use Rattle.std.proofs.lemmas.Bool.{ltb-true, lt-ltb, le-ltb}
@@ -52,11 +52,11 @@ is_fresh c change event may =
     c.ids
     ∙ may.fresh
 
-pub kept_recorded : (rows : List Event) (c : Contents) (sent wait : List Event) (change : Change) (event : OutboxEvent)
-    → IsKept rows c sent wait → IsRecordable c change event
+pub kept_recorded : {rows : List Event} {c : Contents} {sent wait : List Event} (change : Change) (event : OutboxEvent)
+    → IsRecordable c change event → IsKept rows c sent wait
     → IsKept (rows ++ stored_event (next_seq c) event ∷ []) (after_record c change event) sent
     (wait ++ stored_event (next_seq c) event ∷ [])
-kept_recorded rows c sent wait change event k may =
+kept_recorded {rows} {c} {sent} {wait} change event may k =
     let row : Event = stored_event (next_seq c) event in
     let count : length c.ids ≡ length sent + length wait =
     ap length k.ids ∙ length-map rows (λ r. r.id) ∙ ap length k.rows_are ∙ length-append sent wait in
@@ -70,14 +70,14 @@ kept_recorded rows c sent wait change event k may =
       waits =
           filter_last (λ r. nat_lt c.mark r.seq) c.events row (lt-ltb c.mark row.seq past)
           ∙ ap (λ rs. rs ++ row ∷ []) k.waits;
-      order = order_last (length sent) (ids_of sent) wait row k.order (omega (arith, count))
-          (subst (λ (xs : List (List ℕ)). list_any (bytes_eq row.id) xs ≡ false) (sym seen)
-          (is_fresh c change event may));
+      order =
+          order_last (length sent) (ids_of sent) wait row k.order (omega (arith, count))
+          (rw seen (is_fresh c change event may));
     }
 
-pub kept_swept : (rows : List Event) (c : Contents) (sent wait : List Event) → IsKept rows c sent wait
+pub kept_swept : {rows : List Event} {c : Contents} {sent wait : List Event} → IsKept rows c sent wait
     → IsKept rows (without_sent c.mark c) sent wait
-kept_swept rows c sent wait k =
+kept_swept {c = c} k =
     record {
       rows_are = k.rows_are;
       ids = k.ids;
@@ -87,32 +87,23 @@ kept_swept rows c sent wait k =
       order = k.order;
     }
 
-pub kept_marked : (rows : List Event) (c : Contents) (sent rest : List Event) (r : Event)
+-- the first row that waits is sent
+pub kept_marked : {rows : List Event} {c : Contents} {sent rest : List Event} {r : Event}
     → IsKept rows c sent (r ∷ rest)
     → IsKept rows (record c { mark = r.seq }) (sent ++ r ∷ []) rest
-kept_marked rows c sent rest r k =
-    let seq : r.seq ≡ length sent + 1 = k.order.0 in
+kept_marked {c = c} {sent = sent} {rest = rest} {r = r} k =
     let more : (x : Event) → nat_lt r.seq x.seq ≡ true → nat_lt c.mark x.seq ≡ true =
-    λ x h. lt-ltb c.mark x.seq (omega (arith, ltb-true r.seq x.seq h, k.mark)) in
-    let beyond = order_beyond r.seq (length sent + 1) (ids_of sent ++ r.id ∷ []) rest (omega arith) k.order.2 in
+    λ x h. lt-ltb c.mark x.seq (omega (arith, ltb-true r.seq x.seq h, k.mark, k.order.0)) in
+    let beyond = order_beyond r.seq (length sent + 1) (ids_of sent ++ r.id ∷ []) rest (omega (arith, k.order.0)) k.order.2 in
     let tail : filter (λ row. nat_lt r.seq row.seq) (r ∷ rest) ≡ rest =
     rw (le-ltb r.seq r.seq (omega arith)) (filter_all (λ row. nat_lt r.seq row.seq) rest beyond) in
     record {
       rows_are = k.rows_are ∙ sym (append_assoc sent (r ∷ []) rest);
       ids = k.ids;
-      mark = seq ∙ sym (length_push sent r);
+      mark = k.order.0 ∙ sym (length_push sent r);
       waits =
           sym (filter_twice (λ row. nat_lt r.seq row.seq) (λ row. nat_lt c.mark row.seq) more c.events)
           ∙ ap (filter (λ row. nat_lt r.seq row.seq)) k.waits
           ∙ tail;
-      order =
-          subst (λ (n : ℕ). InOrder n (ids_of (sent ++ r ∷ [])) rest) (sym (length_push sent r))
-          (subst (λ (seen : List (List ℕ)). InOrder (length sent + 1) seen rest) (sym (map_push (λ row. row.id) sent r))
-          k.order.2);
+      order = rw (length_push sent r, map_push (λ (row : Event). row.id) sent r) k.order.2;
     }
-
--- the first row that waits has an id that no sent row has
-pub first_is_new : (rows : List Event) (c : Contents) (sent rest : List Event) (r : Event)
-    → IsKept rows c sent (r ∷ rest)
-    → list_any (bytes_eq r.id) (ids_of sent) ≡ false
-first_is_new rows c sent rest r k = k.order.1

@@ -8,12 +8,8 @@ use Rattle.kob_shared.specs.declared.work.Done.{Done}
 use Rattle.kob_pipeline.specs.declared.end.InboxEnd.{InboxEnd}
 use Rattle.kob_pipeline.specs.declared.end.OutboxEnd.{OutboxEnd}
 use Rattle.kob_pipeline.specs.declared.end.WorkerEnd.{WorkerEnd}
+use Rattle.kob_pipeline.proofs.Lists.{all_last}
 use Rattle.kob_pipeline.specs.Leavings.{HasNoRefusal, IsKeptByStore, inbox_of, inboxes_of, outbox_of, outboxes_of}
-
-pub unrefused_push : (done : List (Done WorkerEnd)) (one : Done WorkerEnd) → HasNoRefusal done → IsKeptByStore one.end
-    → HasNoRefusal (done ++ one ∷ [])
-unrefused_push [] one kept here = (here, tt)
-unrefused_push (d ∷ done) one kept here = (kept.0, unrefused_push done one kept.1 here)
 
 pub notes_push : (first : Noted) (done : List (Done WorkerEnd)) (one : Done WorkerEnd) (notes : List Noted)
     → notes ≡ notes_of first done → notes ++ one.notes ∷ [] ≡ notes_of first (done ++ one ∷ [])
@@ -51,5 +47,5 @@ gathers_more first done one notes os ps is js was answered kept outbox inbox = r
   inboxes =
       inbox ∙ ap (λ (xs : List InboxEnd). xs ++ inbox_of one.end) was.inboxes
       ∙ flat_map_more (λ (d : Done WorkerEnd). inbox_of d.end) [] done one;
-  unrefused = unrefused_push done one was.unrefused kept;
+  unrefused = all_last (λ (d : Done WorkerEnd). IsKeptByStore d.end) done one was.unrefused kept;
 }

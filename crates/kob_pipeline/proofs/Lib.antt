@@ -1,7 +1,11 @@
 mod Lists
+pub mod Once
 mod Events
 mod Sending
 mod Logged
+mod ServedRuns
+mod RouterMoves
+mod OtherSteps
 mod RouterKept
 mod RouterSteps
 mod RouterServed
@@ -12,14 +16,12 @@ mod ConsumerKept
 mod ConsumerServed
 mod ConsumerRun
 mod RowsRun
-pub mod Once
 mod Arriving
 mod Aggregates
 mod Reaching
 pub mod DeliveryLaws
 pub mod Texts
 pub mod TopicReads
-pub mod TopicNames
 pub mod CommitReads
 pub mod BrokerSteps
 pub mod Breaches
@@ -34,7 +36,6 @@ pub mod Opened
 pub mod Outboxes
 pub mod PipelineFaults
 pub mod Stepping
-pub mod Ticked
 pub mod Worked
 pub mod PlanRows
 pub mod PlanServed

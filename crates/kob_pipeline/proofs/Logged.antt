@@ -1,8 +1,7 @@
 -- What a partition's log holds of the rows that are routed there.
-use Rattle.std.proofs.Common.{◌≡◌, ℕ, ◌≤◌, List, [], ◌∷◌, ◌++◌, Bool, true, false, refl, sym, ap, ◌∙◌, subst, append_assoc, arith}
+use Rattle.std.proofs.Common.{◌≡◌, ℕ, ◌≤◌, List, [], ◌∷◌, ◌++◌, false, refl, sym, ap, ◌∙◌, append_assoc, arith}
 use Rattle.std.specs.Prelude.{Contains, Option, Some, None, bytes_eq}
 use Rattle.std.specs.List.{list_any, AllByRecursion, filter_map}
-use Rattle.std.proofs.lemmas.Bool.{cond-true, cond-false}
 use Rattle.std.proofs.lemmas.List.{append-nil, map_push}
 use Rattle.std.proofs.lemmas.List.Elements.{filter_map-append, Contains-append_left}
 use Rattle.kob_names.specs.declared.batch.Batch.{Batch}
@@ -13,23 +12,10 @@ use Rattle.kob_partition.specs.Batches.{records_of}
 use Rattle.kob_router.specs.Dispatches.{Dispatching}
 use Rattle.kob_router.specs.declared.place.Place.{Place}
 use Rattle.kob_pipeline.specs.Delivery.{IsRecordOf, goes_to, ids_of, routed_to, told_id}
-use Rattle.kob_pipeline.specs.Firsts.{firsts, with_each_new, with_new}
+use Rattle.kob_pipeline.specs.Firsts.{firsts, with_new}
 use Rattle.kob_pipeline.specs.View.{IsGiven}
+use Rattle.kob_pipeline.proofs.Once.{each_new_append}
 use Rattle.kob_pipeline.proofs.Lists.{all_last, all_weaker, any_last, filter_last, filter_not_last, none_in_filter, same_bytes, same_here}
-
-pub new_put : {A : Type 0} (same : A → A → Bool) (xs : List A) (x : A) → list_any (same x) xs ≡ false
-    → with_new same xs x ≡ xs ++ x ∷ []
-new_put same xs x h = cond-false (list_any (same x) xs) xs (xs ++ x ∷ []) h
-
-pub old_left : {A : Type 0} (same : A → A → Bool) (xs : List A) (x : A) → list_any (same x) xs ≡ true
-    → with_new same xs x ≡ xs
-old_left same xs x h = cond-true (list_any (same x) xs) xs (xs ++ x ∷ []) h
-
--- one after another
-pub each_new_append : {A : Type 0} (same : A → A → Bool) (xs ys zs : List A)
-    → with_each_new same xs (ys ++ zs) ≡ with_each_new same (with_each_new same xs ys) zs
-each_new_append same xs [] zs = refl
-each_new_append same xs (y ∷ ys) zs = each_new_append same (with_new same xs y) ys zs
 
 pub records_more : (log more : List Batch) → records_of (log ++ more) ≡ records_of log ++ records_of more
 records_more [] more = refl
@@ -65,9 +51,9 @@ module _ (route : Dispatching) (q : Place) where
     pub each : AllByRecursion (IsRecordOf route q rows) (records_of log)
     pub given : AllByRecursion (λ (b : Batch). IsGiven next b.idem) log
 
-  pub logged_recorded : (rows : List Event) (log : List Batch) (next : ℕ) (upto : List Event) (row : Event)
+  pub logged_recorded : {rows : List Event} {log : List Batch} {next : ℕ} {upto : List Event} (row : Event)
       → IsLogged rows log next upto → IsLogged (rows ++ row ∷ []) log next upto
-  logged_recorded rows log next upto row k =
+  logged_recorded {rows} {log} row k =
       record {
         delivered = k.delivered;
         each = all_weaker (IsRecordOf route q rows) (IsRecordOf route q (rows ++ row ∷ []))
@@ -75,9 +61,9 @@ module _ (route : Dispatching) (q : Place) where
         given = k.given;
       }
 
-  pub logged_later : (rows : List Event) (log : List Batch) (next later : ℕ) (upto : List Event) → next ≤ later
+  pub logged_later : {rows : List Event} {log : List Batch} {next later : ℕ} {upto : List Event} → next ≤ later
       → IsLogged rows log next upto → IsLogged rows log later upto
-  logged_later rows log next later upto l k =
+  logged_later {log = log} {next = next} {later = later} l k =
       record {
         delivered = k.delivered;
         each = k.each;
@@ -86,9 +72,9 @@ module _ (route : Dispatching) (q : Place) where
       }
 
   -- a row that is routed elsewhere
-  pub logged_elsewhere : (rows : List Event) (log : List Batch) (next : ℕ) (upto : List Event) (row : Event)
+  pub logged_elsewhere : {rows : List Event} {log : List Batch} {next : ℕ} {upto : List Event} (row : Event)
       → goes_to q (route row) ≡ false → IsLogged rows log next upto → IsLogged rows log next (upto ++ row ∷ [])
-  logged_elsewhere rows log next upto row h k =
+  logged_elsewhere {upto = upto} row h k =
       record {
         delivered = k.delivered ∙ ap ids_of (sym (filter_not_last (λ r. goes_to q (route r)) upto row h));
         each = k.each;
@@ -96,12 +82,11 @@ module _ (route : Dispatching) (q : Place) where
       }
 
   -- what a log holds with one more batch
-  appended : (rows : List Event) (log : List Batch) (next : ℕ) (upto done : List Event) (row : Event) (b : Batch)
-      (x : Record)
-      → IsLogged rows log next upto → Contains rows row → IsBatchOf route q row x next b
+  appended : {rows : List Event} {log : List Batch} {next : ℕ} {upto : List Event} {row : Event} {x : Record}
+      {b : Batch} (done : List Event) → Contains rows row → IsBatchOf route q row x next b
       → with_new bytes_eq (ids_of (routed_to route q upto)) row.id ≡ ids_of (routed_to route q done)
-      → IsLogged rows (log ++ b ∷ []) next done
-  appended rows log next upto done row b x k at is e =
+      → IsLogged rows log next upto → IsLogged rows (log ++ b ∷ []) next done
+  appended {rows} {log} {next} {upto} {row} {x} {b} done at is e k =
       record {
         delivered =
             ap (λ xs. firsts bytes_eq (filter_map told_id xs)) (records_last log b x is.single)
@@ -110,40 +95,32 @@ module _ (route : Dispatching) (q : Place) where
             ∙ ap (λ xs. with_new bytes_eq xs row.id) k.delivered
             ∙ e;
         each =
-            subst (AllByRecursion (IsRecordOf route q rows)) (sym (records_last log b x is.single))
+            rw (records_last log b x is.single)
             (all_last (IsRecordOf route q rows) (records_of log) x k.each (row, at, is.routed));
         given = all_last (λ (c : Batch). IsGiven next c.idem) log b k.given is.given;
       }
 
-  goes_there : (row : Event) (x : Record) → route row ≡ Some (record { place = q; message = x })
-      → goes_to q (route row) ≡ true
-  goes_there row x r = ap (goes_to q) r ∙ same_here q
-
   routed_last : (sent : List Event) (row : Event) (x : Record) → route row ≡ Some (record { place = q; message = x })
       → ids_of (routed_to route q (sent ++ row ∷ [])) ≡ ids_of (routed_to route q sent) ++ row.id ∷ []
   routed_last sent row x r =
-      ap ids_of (filter_last (λ y. goes_to q (route y)) sent row (goes_there row x r))
+      ap ids_of (filter_last (λ y. goes_to q (route y)) sent row (ap (goes_to q) r ∙ same_here q))
       ∙ map_push (λ y. y.id) (routed_to route q sent) row
 
   -- the first batch of a row
-  pub logged_first : (rows : List Event) (log : List Batch) (next : ℕ) (sent : List Event) (row : Event) (b : Batch)
-      (x : Record)
-      → IsLogged rows log next sent → Contains rows row → IsBatchOf route q row x next b
+  pub logged_first : {rows : List Event} {log : List Batch} {next : ℕ} {sent : List Event} {row : Event} {x : Record}
+      {b : Batch} → Contains rows row → IsBatchOf route q row x next b
       → list_any (bytes_eq row.id) (ids_of sent) ≡ false
-      → IsLogged rows (log ++ b ∷ []) next (sent ++ row ∷ [])
-  logged_first rows log next sent row b x k at is new =
-      appended rows log next sent (sent ++ row ∷ []) row b x k at is
-      (new_put bytes_eq (ids_of (routed_to route q sent)) row.id
-      (none_in_filter (bytes_eq row.id) (λ r. r.id) (λ r. goes_to q (route r)) sent new)
-      ∙ sym (routed_last sent row x is.routed))
+      → IsLogged rows log next sent → IsLogged rows (log ++ b ∷ []) next (sent ++ row ∷ [])
+  logged_first {sent = sent} {row = row} {x = x} at is new k =
+      appended (sent ++ row ∷ []) at is
+      (rw (none_in_filter (bytes_eq row.id) (λ r. r.id) (λ r. goes_to q (route r)) sent new)
+      (sym (routed_last sent row x is.routed))) k
 
   -- a further batch of the last row
-  pub logged_again : (rows : List Event) (log : List Batch) (next : ℕ) (sent : List Event) (row : Event) (b : Batch)
-      (x : Record)
-      → IsLogged rows log next (sent ++ row ∷ []) → Contains rows row → IsBatchOf route q row x next b
-      → IsLogged rows (log ++ b ∷ []) next (sent ++ row ∷ [])
-  logged_again rows log next sent row b x k at is =
-      appended rows log next (sent ++ row ∷ []) (sent ++ row ∷ []) row b x k at is
-      (old_left bytes_eq (ids_of (routed_to route q (sent ++ row ∷ []))) row.id
-      (subst (λ (xs : List (List ℕ)). list_any (bytes_eq row.id) xs ≡ true) (sym (routed_last sent row x is.routed))
-      (any_last (bytes_eq row.id) (ids_of (routed_to route q sent)) row.id (same_bytes row.id))))
+  pub logged_again : {rows : List Event} {log : List Batch} {next : ℕ} {row : Event} {x : Record} {b : Batch}
+      (sent : List Event) → Contains rows row → IsBatchOf route q row x next b
+      → IsLogged rows log next (sent ++ row ∷ []) → IsLogged rows (log ++ b ∷ []) next (sent ++ row ∷ [])
+  logged_again {row = row} {x = x} sent at is k =
+      appended (sent ++ row ∷ []) at is
+      (rw (routed_last sent row x is.routed)
+      (rw (any_last (bytes_eq row.id) (ids_of (routed_to route q sent)) row.id (same_bytes row.id)) refl)) k

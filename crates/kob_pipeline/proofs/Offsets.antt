@@ -1,41 +1,16 @@
 -- Offsets that are taken in order.
-use Rattle.std.proofs.Common.{◌≡◌, ℕ, zero, suc, ◌+◌, ◌<◌, ◌≤◌, min, List, [], ◌∷◌, ◌++◌, true, false, refl, sym, ap, ◌∙◌, inl, inr, subst, length, take, drop, arith, append_assoc}
+use Rattle.std.proofs.Common.{◌≡◌, ℕ, zero, suc, ◌+◌, ◌≤◌, min, List, [], ◌∷◌, ◌++◌, refl, sym, ap, ◌∙◌, inl, inr, subst, length, take, drop, arith, append_assoc}
 use Rattle.std.specs.Prelude.{Some, map, nat_eq, slice_get}
-use Rattle.std.specs.List.{list_any, AllByRecursion, enumerate_from}
-use Rattle.std.proofs.lemmas.Bool.{eq-eqb, ne_eqb, cases_lt, cases_eq, or_left, or_from}
+use Rattle.std.specs.List.{AllByRecursion, enumerate_from}
+use Rattle.std.proofs.lemmas.Bool.{cases_lt}
 use Rattle.std.proofs.lemmas.List.{length_push, take-append-drop, length-take-le, drop_all}
-use Rattle.std.proofs.lemmas.List.Folds.{list_any-append}
 use Rattle.kob_names.specs.declared.record.Record.{Record}
 use Rattle.kob_partition.specs.Limits.{fetch_limit}
 use Rattle.kob_inbox.specs.Run.{behind}
 use Rattle.kob_pipeline.specs.Firsts.{numbers_below, with_each_new, with_new}
 use Rattle.kob_pipeline.specs.View.{read_from}
-use Rattle.kob_pipeline.proofs.Lists.{any_last}
-use Rattle.kob_pipeline.proofs.Logged.{new_put, old_left}
-
-below_is_in : (n k : ℕ) → k < n → list_any (nat_eq k) (numbers_below n) ≡ true
-below_is_in zero k h = absurd (omega arith)
-below_is_in (suc n) k h =
-    elim (cases_eq k n) [
-      | inl e ↦ any_last (nat_eq k) (numbers_below n) n (eq-eqb k n e)
-      | inr ne ↦
-          list_any-append (nat_eq k) (numbers_below n) (n ∷ [])
-          ∙ or_left (list_any (nat_eq k) (numbers_below n)) (list_any (nat_eq k) (n ∷ []))
-          (below_is_in n k (omega arith))
-    ]
-
-beyond_is_out : (n k : ℕ) → n ≤ k → list_any (nat_eq k) (numbers_below n) ≡ false
-beyond_is_out zero k h = refl
-beyond_is_out (suc n) k h =
-    list_any-append (nat_eq k) (numbers_below n) (n ∷ [])
-    ∙ or_from (list_any (nat_eq k) (numbers_below n)) (list_any (nat_eq k) (n ∷ [])) (beyond_is_out n k (omega arith))
-    (or_from (nat_eq k n) false (ne_eqb k n (λ e. omega arith)) refl)
-
-pub numbers_again : (n k : ℕ) → k < n → with_new nat_eq (numbers_below n) k ≡ numbers_below n
-numbers_again n k h = old_left nat_eq (numbers_below n) k (below_is_in n k h)
-
-pub numbers_beyond : (n k : ℕ) → n ≤ k → with_new nat_eq (numbers_below n) k ≡ numbers_below n ++ k ∷ []
-numbers_beyond n k h = new_put nat_eq (numbers_below n) k (beyond_is_out n k h)
+use Rattle.kob_pipeline.proofs.Lists.{get_behind}
+use Rattle.kob_pipeline.proofs.Once.{numbers_again, numbers_beyond}
 
 -- these offsets follow one another
 abbrev pub AreConsecutive : ℕ → List (ℕ × Record) → Type 0
@@ -100,18 +75,6 @@ all_numbered_take P zero n xs h = tt
 all_numbered_take P (suc k) n [] h = tt
 all_numbered_take P (suc k) n (x ∷ xs) h = (h.0, all_numbered_take P k (n + 1) xs h.1)
 
-pub get_more : {A : Type 0} (xs ys : List A) (i : ℕ) (x : A) → slice_get xs i ≡ Some x → slice_get (xs ++ ys) i ≡ Some x
-get_more [] ys i x h = cc
-get_more (y ∷ xs) ys zero x h = h
-get_more (y ∷ xs) ys (suc i) x h = get_more xs ys i x h
-
--- what stands behind a front
-get_behind : {A : Type 0} (xs ys : List A) (i : ℕ) → slice_get (xs ++ ys) (length xs + i) ≡ slice_get ys i
-get_behind [] ys i = ap (slice_get ys) (omega arith)
-get_behind (x ∷ xs) ys i =
-    let e : suc (length xs) + i ≡ suc (length xs + i) = omega arith in
-    ap (slice_get (x ∷ (xs ++ ys))) e ∙ get_behind xs ys i
-
 -- the pair tells what stands at its offset
 abbrev pub Stands : List Record → ℕ × Record → Type 0
 Stands records x = slice_get records x.0 ≡ Some x.1
@@ -121,9 +84,8 @@ stand_from : (records front rest : List Record) → records ≡ front ++ rest
 stand_from records front [] e = tt
 stand_from records front (x ∷ rest) e =
     let at : slice_get records (length front) ≡ Some x =
-    ap (slice_get records) (omega arith)
-    ∙ ap (λ (rs : List Record). slice_get rs (length front + 0)) e
-    ∙ get_behind front (x ∷ rest) 0 in
+    ap (λ (rs : List Record). slice_get rs (length front)) e
+    ∙ get_behind front (x ∷ rest) (length front) 0 (omega arith) in
     let all = stand_from records (front ++ x ∷ []) rest (e ∙ sym (append_assoc front (x ∷ []) rest)) in
     (at, subst (λ (n : ℕ). AllByRecursion (Stands records) (enumerate_from n rest)) (length_push front x) all)
 

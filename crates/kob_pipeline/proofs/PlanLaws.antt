@@ -34,11 +34,9 @@ use Rattle.kob_pipeline.specs.declared.plan.Plan.{Plan}
 use Rattle.kob_pipeline.specs.declared.plan.Service.{Service}
 use Rattle.kob_pipeline.proofs.BrokerHistory.{legal_is_history}
 use Rattle.kob_pipeline.proofs.DeliveryLaws.{holds_a_prefix, holds_what_was_routed, takes_in_order, waits_or_was_sent}
+use Rattle.kob_pipeline.proofs.Lists.{all_weaker, same_some}
 use Rattle.kob_pipeline.proofs.PlanRows.{rows_of_steps}
 use Rattle.kob_pipeline.proofs.PlanServed.{served_alike}
-
-some_alike : {X : Type 0} (x y : X) → Some x ≡ Some y → x ≡ y
-some_alike x y same = cc
 
 without_places : (n : ℕ) (inbox : List Intake) → map (λ (x : ℕ × Intake). x.1) (enumerate_from n inbox) ≡ inbox
 without_places n [] = refl
@@ -87,17 +85,17 @@ module _ (plan : Plan) (end : PipelineEnd) (of : IsPipeline plan end) where
       → outbox.mark ≡ left.mark → outbox.events ≡ (outbox_in left).events
       → AllByRecursion (IsWaitingOrSent (dispatch_of target) worker journal outbox) rows
       → AllByRecursion (IsWaitingOrSent (dispatch_of target) worker journal (outbox_in left)) rows
-  still_waits left outbox target worker journal [] mark events all = tt
-  still_waits left outbox target worker journal (row ∷ rows) mark events all =
-      (by all.0, still_waits left outbox target worker journal rows mark events all.1)
+  still_waits left outbox target worker journal rows mark events all =
+      all_weaker (IsWaitingOrSent (dispatch_of target) worker journal outbox)
+      (IsWaitingOrSent (dispatch_of target) worker journal (outbox_in left)) by rows all
     where
-      by : IsWaitingOrSent (dispatch_of target) worker journal outbox row
+      by : (row : Event) → IsWaitingOrSent (dispatch_of target) worker journal outbox row
           → IsWaitingOrSent (dispatch_of target) worker journal (outbox_in left) row
-      by (inl waits) = inl (record {
+      by row (inl waits) = inl (record {
         past = subst (λ (mark : ℕ). mark < row.seq) mark waits.past;
         there = subst (λ (events : List Event). Contains events row) events waits.there;
       })
-      by (inr sent) = inr sent
+      by row (inr sent) = inr sent
 
   pub is_none_lost : (k : ℕ) (service : Service) (left : OutboxEnd) → slice_get plan.services.items k ≡ Some service
       → slice_get end.outboxes.items k ≡ Some left
@@ -106,7 +104,7 @@ module _ (plan : Plan) (end : PipelineEnd) (of : IsPipeline plan end) where
       (rows_of_service service)
   is_none_lost k service left there kept =
       let by : IsServedBy end (service_number plan k) k service = of.services k service there in
-      let same : by.left ≡ left = some_alike by.left left (sym by.outbox ∙ kept) in
+      let same : by.left ≡ left = same_some by.left left (sym by.outbox ∙ kept) in
       subst (λ (rows : List Event).
       AllByRecursion
       (IsWaitingOrSent (dispatch_of service.target) (service_number plan k) end.journal (outbox_in left)) rows)
@@ -153,7 +151,7 @@ module _ (plan : Plan) (end : PipelineEnd) (of : IsPipeline plan end) where
   reaches_its_inbox i k service consumer left sends takes kept private kind id =
       let sent : IsServedBy end (service_number plan i) i service = of.services i service sends in
       let took : IsConsumedBy end (consumer_number plan k) k consumer = of.consumers k consumer takes in
-      let same : took.left ≡ left = some_alike took.left left (sym took.inbox ∙ kept) in
+      let same : took.left ≡ left = same_some took.left left (sym took.inbox ∙ kept) in
       subst (λ (rows : List Event). ReachesInOrder rows (inbox_in left) kind id) (its_rows i service sent)
       (subst (λ (inbox : List Intake). ReachesInOrder (routers.events_of outboxes.empty sent.run.moves) inbox kind id)
       (sym (its_inbox k consumer took) ∙ ap inbox_in same)

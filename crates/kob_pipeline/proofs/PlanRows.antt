@@ -1,20 +1,19 @@
 -- The rows that a run records are those of the plan's steps that the outbox accepts.
-use Rattle.std.proofs.Common.{◌≡◌, ◌⊎◌, ◌^◌, suc, Bool, true, false, cond, not, ◌&&◌, nat_lt, List, [], ◌∷◌, ◌++◌, Option, Some, None, is_none, length, refl, ap, sym, subst, ◌∙◌, inl, inr, true≢false}
+use Rattle.std.proofs.Common.{◌≡◌, ◌⊎◌, ◌^◌, suc, Bool, true, false, not, ◌&&◌, nat_lt, List, [], ◌∷◌, ◌++◌, Option, Some, None, is_none, length, refl, ap, sym, ◌∙◌, inl, inr, append_assoc, true≢false}
 use Rattle.std.specs.List.{AllByRecursion}
 use Rattle.std.proofs.lemmas.Bool.{lt-ltb, ltb-true}
 use Rattle.kob_outbox.specs.Contents.{Contents}
-use Rattle.kob_outbox.specs.Events.{id_text, stored_event}
+use Rattle.kob_outbox.specs.Events.{id_text}
 use Rattle.kob_outbox.specs.Fields.{first_bad}
 use Rattle.kob_outbox.specs.declared.fields.Column.{Column}
-use Rattle.kob_outbox.specs.Reading.{without_sent}
-use Rattle.kob_outbox.specs.Recording.{is_recorded, next_seq, after_record}
+use Rattle.kob_outbox.specs.Recording.{is_recorded}
 use Rattle.kob_outbox.specs.declared.change.Change.{Change}
 use Rattle.kob_outbox.specs.declared.event.OutboxEvent.{OutboxEvent}
 use Rattle.kob_router.specs.Dispatches.{Dispatching}
-use Rattle.kob_router.specs.Run.{Hand, IsRecordable, IsRouterRun, Move, State, after_acknowledgement, after, events_of}
+use Rattle.kob_router.specs.Run.{IsRecordable, IsRouterRun, Move, State, after, events_of}
 use Rattle.kob_router.specs.Run.Move.{Called, Recorded, Restarted, Swept, Took}
 use Rattle.kob_router.specs.Tick.{IsOfTick}
-use Rattle.kob_router.specs.declared.line.Call.{Call}
+use Rattle.kob_pipeline.proofs.RouterMoves.{called_ids, events_behind, recorded}
 use Rattle.kob_pipeline.specs.PlanRows.{is_accepted, rows_from}
 use Rattle.kob_pipeline.specs.Services.{IsServiceStep}
 use Rattle.kob_pipeline.specs.Steps.{Steps}
@@ -22,65 +21,30 @@ use Rattle.kob_pipeline.specs.declared.plan.Loss.{Loss}
 use Rattle.kob_pipeline.specs.declared.plan.ServiceStep.{ServiceStep}
 use Rattle.kob_pipeline.specs.declared.plan.ServiceStep.TheVariants as steps
 
--- the rows depend on the ids that were recorded before, and on nothing else of the outbox
-same_rows : (c d : Contents) (moves : List Move) → c.ids ≡ d.ids → events_of c moves ≡ events_of d moves
-same_rows c d [] same = refl
-same_rows c d (Recorded change event ∷ moves) same =
-    ap (λ ids. stored_event (suc (length ids)) event ∷ events_of (after_record c change event) moves) same
-    ∙ ap (λ rows. stored_event (suc (length d.ids)) event ∷ rows)
-    (same_rows (after_record c change event) (after_record d change event) moves
-    (ap (λ ids. ids ++ id_text event.id ∷ []) same))
-same_rows c d (Swept ∷ moves) same = same_rows c d moves same
-same_rows c d (Restarted ∷ moves) same = same_rows c d moves same
-same_rows c d (Took hand ∷ moves) same = same_rows c d moves same
-same_rows c d (Called call marks ∷ moves) same = same_rows c d moves same
-
-ids_advanced : (s : State) (hand : Option Hand) → (after_acknowledgement s hand).outbox.ids ≡ s.outbox.ids
-ids_advanced s None = refl
-ids_advanced s (Some hand) = refl
-
-ids_called : (s : State) (call : Call) (marks : Bool) → (after s (Called call marks)).outbox.ids ≡ s.outbox.ids
-ids_called s call true = ids_advanced s s.hand
-ids_called s call false = refl
-
 -- the rows of a run and of what comes after it
 rows_split : (route : Dispatching) (s mid : State) (these those : List Move) → IsRouterRun route s these mid
     → events_of s.outbox (these ++ those) ≡ events_of s.outbox these ++ events_of mid.outbox those
 rows_split route s mid [] those run = ap (λ (t : State). events_of t.outbox those) (sym run)
-rows_split route s mid (Recorded change event ∷ these) those run =
-    ap (λ rows. stored_event (next_seq s.outbox) event ∷ rows)
-    (rows_split route (after s (Recorded change event)) mid these those run.1)
-rows_split route s mid (Swept ∷ these) those run =
-    same_rows s.outbox (without_sent s.outbox.mark s.outbox) (these ++ those) refl
-    ∙ rows_split route (after s Swept) mid these those run.1
-    ∙ ap (λ rows. rows ++ events_of mid.outbox those)
-    (same_rows (without_sent s.outbox.mark s.outbox) s.outbox these refl)
-rows_split route s mid (Restarted ∷ these) those run = rows_split route (after s Restarted) mid these those run.1
-rows_split route s mid (Took hand ∷ these) those run = rows_split route (after s (Took hand)) mid these those run.1
-rows_split route s mid (Called call marks ∷ these) those run =
-    let then : State = after s (Called call marks) in
-    same_rows s.outbox then.outbox (these ++ those) (sym (ids_called s call marks))
-    ∙ rows_split route then mid these those run.1
-    ∙ ap (λ rows. rows ++ events_of mid.outbox those) (same_rows then.outbox s.outbox these (ids_called s call marks))
+rows_split route s mid (move ∷ these) those run =
+    events_behind s move (these ++ those)
+    ∙ ap (λ rows. recorded s move ++ rows) (rows_split route (after s move) mid these those run.1)
+    ∙ sym (append_assoc (recorded s move) (events_of (after s move).outbox these) (events_of mid.outbox those))
+    ∙ ap (λ rows. rows ++ events_of mid.outbox those) (sym (events_behind s move these))
 
 -- a tick records nothing
 none_by_tick : (c : Contents) (moves : List Move) → AllByRecursion IsOfTick moves → events_of c moves ≡ []
 none_by_tick c [] own = refl
 none_by_tick c (Took hand ∷ moves) own = none_by_tick c moves own.1
 none_by_tick c (Called call marks ∷ moves) own = none_by_tick c moves own.1
-none_by_tick c (Recorded change event ∷ moves) own = absurd own.0
-none_by_tick c (Swept ∷ moves) own = absurd own.0
-none_by_tick c (Restarted ∷ moves) own = absurd own.0
+none_by_tick c (_ ∷ moves) own = absurd own.0
 
 ids_by_tick : (route : Dispatching) (s new : State) (moves : List Move) → AllByRecursion IsOfTick moves
     → IsRouterRun route s moves new → new.outbox.ids ≡ s.outbox.ids
 ids_by_tick route s new [] own run = ap (λ (t : State). t.outbox.ids) run
 ids_by_tick route s new (Took hand ∷ moves) own run = ids_by_tick route (after s (Took hand)) new moves own.1 run.1
 ids_by_tick route s new (Called call marks ∷ moves) own run =
-    ids_by_tick route (after s (Called call marks)) new moves own.1 run.1 ∙ ids_called s call marks
-ids_by_tick route s new (Recorded change event ∷ moves) own run = absurd own.0
-ids_by_tick route s new (Swept ∷ moves) own run = absurd own.0
-ids_by_tick route s new (Restarted ∷ moves) own run = absurd own.0
+    ids_by_tick route (after s (Called call marks)) new moves own.1 run.1 ∙ called_ids s call marks
+ids_by_tick route s new (_ ∷ moves) own run = absurd own.0
 
 -- what an outbox accepts is what may be recorded
 accepted : (c : Contents) (change : Change) (event : OutboxEvent) → IsRecordable c change event
@@ -124,37 +88,18 @@ module _ (route : Dispatching) where
           → events_of s.outbox these ++ rows_from mid.outbox.ids more
           ≡ rows_from s.outbox.ids (steps.Record change event ∷ more)
       by (inl is) =
-          let run : IsRouterRun route s (Recorded change event ∷ []) mid = subst
-          (λ (moves : List Move). IsRouterRun route s moves mid) is does.run in
-          ap (λ (moves : List Move). events_of s.outbox moves ++ rows_from mid.outbox.ids more) is
-          ∙ ap (λ (t : State). stored_event (next_seq s.outbox) event ∷ rows_from t.outbox.ids more) run.1
-          ∙ sym (ap
-          (λ b. cond b
-          (stored_event (suc (length s.outbox.ids)) event ∷ rows_from (s.outbox.ids ++ id_text event.id ∷ []) more)
-          (rows_from s.outbox.ids more)) (accepted s.outbox change event run.0))
+          let run : IsRouterRun route s (Recorded change event ∷ []) mid = rw is at does.run in
+          rw (is, run.1, accepted s.outbox change event run.0) refl
       by (inr is) =
-          let run : IsRouterRun route s [] mid = subst (λ (moves : List Move). IsRouterRun route s moves mid) is.0
-          does.run in
-          ap (λ (moves : List Move). events_of s.outbox moves ++ rows_from mid.outbox.ids more) is.0
-          ∙ ap (λ (t : State). rows_from t.outbox.ids more) run
-          ∙ sym (ap
-          (λ b. cond b
-          (stored_event (suc (length s.outbox.ids)) event ∷ rows_from (s.outbox.ids ++ id_text event.id ∷ []) more)
-          (rows_from s.outbox.ids more))
-          (not_accepted s.outbox change event (is_accepted s.outbox.ids change event) refl is.1))
+          let run : IsRouterRun route s [] mid = rw is.0 at does.run in
+          rw (is.0, run, not_accepted s.outbox change event (is_accepted s.outbox.ids change event) refl is.1) refl
   of_step s mid (steps.Tick loss) more these losses does =
       ap (λ rows. rows ++ rows_from mid.outbox.ids more) (none_by_tick s.outbox these does.own.own)
       ∙ ap (λ ids. rows_from ids more) (ids_by_tick route s mid these does.own.own does.run)
   of_step s mid steps.Restart more these losses does =
-      let run : IsRouterRun route s (Restarted ∷ []) mid = subst (λ (moves : List Move). IsRouterRun route s moves mid)
-      does.own.0 does.run in
-      ap (λ (moves : List Move). events_of s.outbox moves ++ rows_from mid.outbox.ids more) does.own.0
-      ∙ ap (λ (t : State). rows_from t.outbox.ids more) run.1
+      let run : IsRouterRun route s (Restarted ∷ []) mid = rw does.own.0 at does.run in rw (does.own.0, run.1) refl
   of_step s mid steps.Sweep more these losses does =
-      let run : IsRouterRun route s (Swept ∷ []) mid = subst (λ (moves : List Move). IsRouterRun route s moves mid)
-      does.own.0 does.run in
-      ap (λ (moves : List Move). events_of s.outbox moves ++ rows_from mid.outbox.ids more) does.own.0
-      ∙ ap (λ (t : State). rows_from t.outbox.ids more) run.1
+      let run : IsRouterRun route s (Swept ∷ []) mid = rw does.own.0 at does.run in rw (does.own.0, run.1) refl
 
   -- the moves of a service's steps record the rows of its plan
   pub rows_of_steps : (s new : State) (plan : List ServiceStep) (moves : List Move) (losses : List Loss)

@@ -1,7 +1,7 @@
 -- What each call of a router keeps, served or not.
-use Rattle.std.proofs.Common.{◌≡◌, ◌⊎◌, ℕ, ◌+◌, List, [], ◌∷◌, ◌++◌, Bool, true, false, refl, sym, ap, ◌∙◌, inl, inr, subst, length, arith}
+use Rattle.std.proofs.Common.{◌≡◌, List, [], ◌∷◌, ◌++◌, Bool, true, false, refl, sym, ap, ◌∙◌, inl, inr, subst, arith}
 use Rattle.std.specs.Prelude.{Option, Some, None}
-use Rattle.std.proofs.lemmas.Bool.{true≢false, cond-true, cond-false}
+use Rattle.std.proofs.lemmas.Bool.{true≢false}
 use Rattle.kob_names.specs.declared.batch.Batch.{Batch}
 use Rattle.kob_names.specs.declared.record.Record.{Record}
 use Rattle.kob_outbox.specs.Contents.{Contents, Event}
@@ -23,19 +23,12 @@ use Rattle.kob_router.specs.Run.Move.{Called}
 use Rattle.kob_router.specs.declared.place.Place.{Place}
 use Rattle.kob_router.specs.declared.sender.Producer.{Producer}
 use Rattle.kob_router.specs.declared.sequences.Sequence.{Sequence}
-use Rattle.kob_inbox.specs.Run.{place_at}
-use Rattle.kob_pipeline.specs.View.{Accepts, Does, IsSameView, Step, View, judged_in, with_batch, with_producer}
+use Rattle.kob_pipeline.specs.View.{Accepts, Does, Step, View, with_batch, with_producer}
 use Rattle.kob_pipeline.proofs.Lists.{place_cases, same_here}
 use Rattle.kob_pipeline.proofs.RouterKept.{Kept, kept_after_id, kept_later}
 use Rattle.kob_pipeline.proofs.RouterSteps.{IsServed, holding, kept_after_batch, kept_after_mark, repeat_is_pending}
 use Rattle.kob_pipeline.proofs.Sending.{idem_of}
-
--- what holds of a log and a next producer id holds in each view that shows them
-pub shown : (F : List Batch → ℕ → Type 0) (q : Place) (v w : View) → IsSameView w v → F (v.log q) v.next_producer
-    → F (w.log q) w.next_producer
-shown F q v w same x =
-    subst (λ (log : List Batch). F log w.next_producer) (sym (same.log q))
-    (subst (λ (n : ℕ). F (v.log q) n) (sym same.next_producer) x)
+use Rattle.kob_pipeline.proofs.ServedRuns.{Hears}
 
 -- no Done was heard
 abbrev pub NotDone : Option Reply → Type 0
@@ -43,10 +36,6 @@ NotDone None = Unit {0}
 NotDone (Some (Denied code verdicts)) = Unit {0}
 NotDone (Some (Refused code reason)) = Unit {0}
 NotDone (Some (Done body)) = ⊥
-
--- what was heard of a reply
-abbrev pub Hears : Option Reply → Reply → Type 0
-Hears heard reply = (heard ≡ None) ⊎ (heard ≡ Some reply)
 
 -- the reply is no Done
 abbrev pub IsNoDone : Reply → Type 0
@@ -59,7 +48,7 @@ pub heard_no_done : (heard : Option Reply) (reply : Reply) → IsNoDone reply �
 heard_no_done heard reply no_done (inl e) = heard_none heard e
 heard_no_done heard reply no_done (inr e) = subst NotDone (sym e) no_done
 
-not_both : (heard : Option Reply) → NotDone heard → IsDone heard → ⊥
+pub not_both : (heard : Option Reply) → NotDone heard → IsDone heard → ⊥
 not_both None n d = d
 not_both (Some (Denied code verdicts)) n d = d
 not_both (Some (Refused code reason)) n d = d
@@ -98,40 +87,33 @@ module _ (route : Dispatching) where
   abbrev pub KeptIn : Place → List Event → State → View → Type 0
   KeptIn q rows s v = Kept route q rows s (v.log q) v.next_producer
 
-  abbrev ServedIn : Place → List Event → Contents → Producer → List Sequence → Hand → View → Type 0
+  abbrev pub ServedIn : Place → List Event → Contents → Producer → List Sequence → Hand → View → Type 0
   ServedIn q rows c p ss h v = IsServed route q rows c p ss h (v.log q) v.next_producer
 
   accepted_there : (rows : List Event) (c : Contents) (p : Producer) (ss : List Sequence) (h : Hand) (v w : View)
-      (x : Record)
-      (j : Judgement) → KeptIn h.place rows (holding c p ss h) v
+      (x : Record) (j : Judgement) → KeptIn h.place rows (holding c p ss h) v
       → route h.event ≡ Some (record { place = h.place; message = x })
       → judge (history p.id (v.log h.place)) (idem_of p (sequence_of ss h.place)) 1 ≡ j
       → Accepts j v h.place (batch_in_hand p ss h x) w
       → ServedIn h.place rows c p ss h w
   accepted_there rows c p ss h v w x Next k to judged a =
-      let b : Batch = batch_in_hand p ss h x in
-      let e : (with_batch v h.place b).log h.place ≡ v.log h.place ++ b ∷ [] =
-      cond-true (same_place h.place h.place) (v.log h.place ++ b ∷ []) (v.log h.place) (same_here h.place) in
-      shown (λ log next. IsServed route h.place rows c p ss h log next) h.place (with_batch v h.place b) w a
-      (subst (λ (log : List Batch). IsServed route h.place rows c p ss h log v.next_producer) (sym e)
-      (kept_after_batch route rows c p ss h (v.log h.place) v.next_producer x k to judged))
+      let e : (with_batch v h.place (batch_in_hand p ss h x)).log h.place
+      ≡ v.log h.place ++ batch_in_hand p ss h x ∷ [] = rw (same_here h.place) refl in
+      rw (a.log h.place, a.next_producer, e)
+      (kept_after_batch route rows c p ss h (v.log h.place) v.next_producer x k to judged)
   accepted_there rows c p ss h v w x (Repeat offset) k to judged a =
-      shown (λ log next. IsServed route h.place rows c p ss h log next) h.place v w a
+      rw (a.log h.place, a.next_producer)
       (k, repeat_is_pending route rows c p ss h (v.log h.place) v.next_producer offset k judged)
   accepted_there rows c p ss h v w x OutOfOrder k to judged a = absurd a
   accepted_there rows c p ss h v w x OldEpoch k to judged a = absurd a
 
   accepted_elsewhere : (q : Place) (rows : List Event) (c : Contents) (p : Producer) (ss : List Sequence) (h : Hand)
-      (v w : View)
-      (b : Batch) (j : Judgement) → KeptIn q rows (holding c p ss h) v → same_place h.place q ≡ false
+      (v w : View) (b : Batch) (j : Judgement) → KeptIn q rows (holding c p ss h) v → same_place h.place q ≡ false
       → Accepts j v h.place b w → ServedIn q rows c p ss h w
   accepted_elsewhere q rows c p ss h v w b Next k apart a =
-      let e : (with_batch v h.place b).log q ≡ v.log q =
-      cond-false (same_place h.place q) (v.log q ++ b ∷ []) (v.log q) apart in
-      shown (λ log next. IsServed route q rows c p ss h log next) q (with_batch v h.place b) w a
-      (subst (λ (log : List Batch). IsServed route q rows c p ss h log v.next_producer) (sym e) (k, inl apart))
-  accepted_elsewhere q rows c p ss h v w b (Repeat offset) k apart a =
-      shown (λ log next. IsServed route q rows c p ss h log next) q v w a (k, inl apart)
+      let e : (with_batch v h.place b).log q ≡ v.log q = rw apart refl in
+      rw (a.log q, a.next_producer, e) (k, inl apart)
+  accepted_elsewhere q rows c p ss h v w b (Repeat offset) k apart a = rw (a.log q, a.next_producer) (k, inl apart)
   accepted_elsewhere q rows c p ss h v w b OutOfOrder k apart a = absurd a
   accepted_elsewhere q rows c p ss h v w b OldEpoch k apart a = absurd a
 
@@ -152,11 +134,6 @@ module _ (route : Dispatching) where
       ]
 
 module _ (route : Dispatching) (q : Place) where
-  same_producer : (rows : List Event) (s : State) (v : View) (o : Option Producer) → o ≡ s.producer
-      → KeptIn route q rows s v
-      → KeptIn route q rows (holding_id s o) v
-  same_producer rows s v o e k = subst (λ (y : Option Producer). KeptIn route q rows (holding_id s y) v) (sym e) k
-
   -- what is in hand was sent, and that this is done was heard, or was not
   produced : (rows : List Event) (s : State) (v w : View) (asked : ProduceRequest) (body : Body) (heard : Option Reply)
       (marks : Bool)
@@ -170,39 +147,17 @@ module _ (route : Dispatching) (q : Place) where
       same : s ≡ holding s.outbox i.producer s.sequences i.hand
       same = is_holding s i.producer i.hand i.has_producer i.has_hand
 
-      to : place_at asked.topic asked.partition ≡ i.hand.place
-      to =
-          ap (λ (t : List ℕ). place_at t asked.partition) i.same_topic
-          ∙ ap (λ (n : ℕ). place_at i.hand.place.topic n) i.same_partition
-
-      at_place : Accepts (judged_in (v.log i.hand.place) asked.batch.idem (length asked.batch.records)) v i.hand.place
-          asked.batch w
-      at_place =
-          subst (λ (y : Place). Accepts (judged_in (v.log y) asked.batch.idem (length asked.batch.records)) v y
-          asked.batch w) to d.1
-
-      accepts : Accepts (judge (history i.producer.id (v.log i.hand.place))
-          (idem_of i.producer (sequence_of s.sequences i.hand.place)) 1) v i.hand.place
-          (batch_in_hand i.producer s.sequences i.hand i.message) w
-      accepts =
-          subst (λ (b : Batch). Accepts (judged_in (v.log i.hand.place) b.idem (length b.records)) v i.hand.place b w)
-          i.same_batch at_place
-
-      done : IsServed route q rows s.outbox i.producer s.sequences i.hand (w.log q) w.next_producer
+      done : ServedIn route q rows s.outbox i.producer s.sequences i.hand w
       done =
           accepted route q rows s.outbox i.producer s.sequences i.hand v w i.message
-          (subst (λ (y : State). KeptIn route q rows y v) same k) i.routed accepts
+          (subst (λ (y : State). KeptIn route q rows y v) same k) i.routed
+          (rw (i.same_topic, i.same_partition, i.same_batch) at d.1)
 
-      marked_or_not : (m : Bool) → IsServed route q rows s.outbox i.producer s.sequences i.hand (w.log q)
-          w.next_producer
+      marked_or_not : (m : Bool) → ServedIn route q rows s.outbox i.producer s.sequences i.hand w
           → KeptIn route q rows (after (holding s.outbox i.producer s.sequences i.hand)
           (Called (record { request = Produce asked; heard = heard }) m)) w
-      marked_or_not true x = kept_after_mark route q rows s.outbox i.producer s.sequences i.hand (w.log q)
-          w.next_producer x.0 x.1
-      marked_or_not false x =
-          same_producer rows (holding s.outbox i.producer s.sequences i.hand) w
-          (producer_after (Some i.producer) (Produce asked) heard)
-          (given_by_produce (Some i.producer) asked heard) x.0
+      marked_or_not true x = kept_after_mark route q x.0 x.1
+      marked_or_not false x = rw (given_by_produce (Some i.producer) asked heard) x.0
 
   -- a call that was not answered with Done changes nothing
   pub kept_after_no_answer : (rows : List Event) (s : State) (v : View) (request : Request) (heard : Option Reply)
@@ -210,12 +165,9 @@ module _ (route : Dispatching) (q : Place) where
       → MayCall route s request heard marks → NotDone heard → KeptIn route q rows s v
       → KeptIn route q rows (after s (Called (record { request = request; heard = heard }) marks)) v
   kept_after_no_answer rows s v InitProducerId heard true may n k = absurd (true≢false may.1)
-  kept_after_no_answer rows s v InitProducerId heard false may n k =
-      same_producer rows s v (producer_after s.producer InitProducerId heard) (given_unheard s.producer heard n) k
+  kept_after_no_answer rows s v InitProducerId heard false may n k = rw (given_unheard s.producer heard n) k
   kept_after_no_answer rows s v (Produce asked) heard true may n k = absurd (not_both heard n (may.1 refl))
-  kept_after_no_answer rows s v (Produce asked) heard false may n k =
-      same_producer rows s v (producer_after s.producer (Produce asked) heard)
-      (given_by_produce s.producer asked heard) k
+  kept_after_no_answer rows s v (Produce asked) heard false may n k = rw (given_by_produce s.producer asked heard) k
   kept_after_no_answer rows s v _ heard marks may n k = absurd may
 
   -- an INIT_PRODUCER_ID that was answered
@@ -223,18 +175,10 @@ module _ (route : Dispatching) (q : Place) where
       → s.producer ≡ None → body ≡ bodies.Producer v.next_producer 0 → Hears heard (Done body) → KeptIn route q rows s v
       → KeptIn route q rows (holding_id s (producer_after s.producer InitProducerId heard)) (with_producer v)
   given_id rows s v body heard none is (inl e) k =
-      same_producer rows s (with_producer v) (producer_after s.producer InitProducerId heard)
-      (given_unheard s.producer heard (heard_none heard e))
-      (kept_later route q rows s (v.log q) v.next_producer (v.next_producer + 1) (omega arith) k)
+      rw (given_unheard s.producer heard (heard_none heard e)) (kept_later route q (omega arith) k)
   given_id rows s v body heard none is (inr e) k =
-      let p : Producer = record { id = v.next_producer; epoch = 0 } in
-      let known : producer_after s.producer InitProducerId heard ≡ Some p =
-      ap (producer_after s.producer InitProducerId) e
-      ∙ ap (λ (b : Body). producer_after s.producer InitProducerId (Some (Done b))) is in
-      let k' : KeptIn route q rows (holding_id s None) v = subst
-      (λ (o : Option Producer). KeptIn route q rows (holding_id s o) v) none k in
-      subst (λ (o : Option Producer). KeptIn route q rows (holding_id s o) (with_producer v)) (sym known)
-      (kept_after_id route q rows s.outbox s.sequences s.hand (v.log q) v.next_producer k')
+      rw (e, is)
+      (kept_after_id route q (subst (λ (o : Option Producer). KeptIn route q rows (holding_id s o) v) none k))
 
   -- a call that was served, whatever was heard
   pub kept_after_served : (rows : List Event) (s : State) (v w : View) (request : Request) (reply : Reply)
@@ -242,18 +186,14 @@ module _ (route : Dispatching) (q : Place) where
       → MayCall route s request heard marks → Hears heard reply → Step v request reply w → KeptIn route q rows s v
       → KeptIn route q rows (after s (Called (record { request = request; heard = heard }) marks)) w
   kept_after_served rows s v w request (Denied code verdicts) heard marks may hears step k =
-      shown (λ log next. Kept route q rows (after s (Called (record { request = request; heard = heard }) marks)) log
-      next) q v w step
+      rw (step.log q, step.next_producer)
       (kept_after_no_answer rows s v request heard marks may (heard_no_done heard (Denied code verdicts) tt hears) k)
   kept_after_served rows s v w request (Refused code reason) heard marks may hears step k =
-      shown (λ log next. Kept route q rows (after s (Called (record { request = request; heard = heard }) marks)) log
-      next) q v w step
+      rw (step.log q, step.next_producer)
       (kept_after_no_answer rows s v request heard marks may (heard_no_done heard (Refused code reason) tt hears) k)
   kept_after_served rows s v w InitProducerId (Done body) heard true may hears step k = absurd (true≢false may.1)
   kept_after_served rows s v w InitProducerId (Done body) heard false may hears step k =
-      shown (λ log next. Kept route q rows (holding_id s (producer_after s.producer InitProducerId heard)) log next) q
-      (with_producer v) w step.1
-      (given_id rows s v body heard may.0 step.0 hears k)
+      rw (step.1.log q, step.1.next_producer) (given_id rows s v body heard may.0 step.0 hears k)
   kept_after_served rows s v w (Produce asked) (Done body) heard marks may hears step k =
       produced rows s v w asked body heard marks k may.0 step
   kept_after_served rows s v w _ (Done body) heard marks may hears step k = absurd may

@@ -1,8 +1,7 @@
 -- What a served call of a router keeps.
 use Rattle.std.proofs.Common.{◌≡◌, ◌⊎◌, ℕ, ◌+◌, List, [], ◌∷◌, ◌++◌, false, refl, sym, ap, ◌∙◌, inl, inr, subst, length, arith}
-use Rattle.std.specs.Prelude.{Contains, Option, Some, None, slice_get, bytes_eq}
-use Rattle.std.specs.List.{list_any}
-use Rattle.std.proofs.lemmas.Bool.{both_ways, cases_Bool}
+use Rattle.std.specs.Prelude.{Contains, Option, Some, None, slice_get}
+use Rattle.std.proofs.lemmas.Bool.{both_ways}
 use Rattle.std.proofs.lemmas.List.{append-nil, length_push}
 use Rattle.std.proofs.lemmas.List.Elements.{All-contains, All-from_recursion, Contains-append_right}
 use Rattle.kob_names.specs.declared.batch.Batch.{Batch}
@@ -20,12 +19,12 @@ use Rattle.kob_router.specs.declared.dispatch.Dispatch.{Dispatch}
 use Rattle.kob_router.specs.declared.place.Place.{Place}
 use Rattle.kob_router.specs.declared.sender.Producer.{Producer}
 use Rattle.kob_router.specs.declared.sequences.Sequence.{Sequence}
-use Rattle.kob_pipeline.specs.Delivery.{goes_to, ids_of}
-use Rattle.kob_pipeline.proofs.Events.{IsKept, first_is_new, kept_marked}
-use Rattle.kob_pipeline.proofs.Lists.{first_is, places_are, same_here, same_some}
+use Rattle.kob_pipeline.specs.Delivery.{goes_to}
+use Rattle.kob_pipeline.proofs.Events.{IsKept, kept_marked}
+use Rattle.kob_pipeline.proofs.Lists.{first_is, place_cases, same_here, same_some}
 use Rattle.kob_pipeline.proofs.Logged.{IsBatchOf, IsLogged, logged_again, logged_elsewhere, logged_first}
 use Rattle.kob_pipeline.proofs.RouterKept.{InStep, IsPending, Kept, TellsItsId, here}
-use Rattle.kob_pipeline.proofs.Sending.{AreCounted, IsNumber, apart_wrapped, counted_last, history_last, idem_of, next_base, next_wrapped, repeat_base, sequence_used_elsewhere, sequence_used_here, wrapped}
+use Rattle.kob_pipeline.proofs.Sending.{IsNumber, apart_wrapped, counted_last, history_last, idem_of, next_base, next_wrapped, repeat_base, sequence_used_elsewhere, sequence_used_here, wrapped}
 
 -- a router with a row in hand
 abbrev pub holding : Contents → Producer → List Sequence → Hand → State
@@ -37,10 +36,9 @@ IsReady ss h q count ahead = (same_place h.place q ≡ false) ⊎ IsPending ss (
 
 apart_back : (p q : Place) → same_place p q ≡ false → same_place q p ≡ false
 apart_back p q h =
-    elim (cases_Bool (same_place q p)) [
-      | inl e ↦ absurd (both_ways (same_place p q) h (ap (λ (x : Place). same_place p x) (places_are q p e)
-          ∙ same_here p))
-      | inr e ↦ e
+    elim (place_cases q p) [
+      | inl e ↦ absurd (both_ways (same_place p q) h (ap (same_place p) e ∙ same_here p))
+      | inr apart ↦ apart
     ]
 
 goes_elsewhere : (o : Option Dispatch) (p q : Place) → place_of o ≡ Some p → same_place p q ≡ false
@@ -77,43 +75,42 @@ sent_why route ss h q n ahead at (inr w) =
 
 module _ (route : Dispatching) (q : Place) where
   -- the row in hand counts as sent
-  sent_one : (rows : List Event) (c : Contents) (log : List Batch) (next : ℕ) (r : Event) (sent : List Event)
+  sent_one : {rows : List Event} {c : Contents} {log : List Batch} {next : ℕ} {sent : List Event} (r : Event)
       (ahead : Option Event) (rest : List Event)
-      → IsKept rows c sent (here ahead ++ rest) → slice_get (here ahead ++ rest) 0 ≡ Some r
-      → IsLogged route q rows log next (sent ++ here ahead) → (goes_to q (route r) ≡ false) ⊎ (ahead ≡ Some r)
+      → slice_get (here ahead ++ rest) 0 ≡ Some r → (goes_to q (route r) ≡ false) ⊎ (ahead ≡ Some r)
+      → IsKept rows c sent (here ahead ++ rest) → IsLogged route q rows log next (sent ++ here ahead)
       → (tail : List Event) × IsKept rows (record c { mark = r.seq }) (sent ++ r ∷ []) tail
       × IsLogged route q rows log next (sent ++ r ∷ [])
-  sent_one rows c log next r sent None rest k f l w =
-      let at = first_is rest r f in
-      let logged : IsLogged route q rows log next sent =
-      subst (IsLogged route q rows log next) (append-nil sent) l in (
+  sent_one {rows} {c} {log} {next} {sent} r None rest f w k l =
+      let at = first_is rest r f in (
         at.0,
-        kept_marked rows c sent at.0 r (subst (IsKept rows c sent) at.1 k),
-        elim w [ inl e ↦ logged_elsewhere route q rows log next sent r e logged | inr e ↦ absurd cc ],
+        kept_marked (subst (IsKept rows c sent) at.1 k),
+        elim w [
+          | inl e ↦ logged_elsewhere route q r e (subst (IsLogged route q rows log next) (append-nil sent) l)
+          | inr e ↦ absurd cc
+        ],
       )
-  sent_one rows c log next r sent (Some x) rest k f l w =
+  sent_one {rows} {c} {log} {next} {sent} r (Some x) rest f w k l =
       let e : x ≡ r = same_some x r f in (
         rest,
-        subst (λ (y : Event). IsKept rows (record c { mark = y.seq }) (sent ++ y ∷ []) rest) e
-            (kept_marked rows c sent rest x k),
+        subst (λ (y : Event). IsKept rows (record c { mark = y.seq }) (sent ++ y ∷ []) rest) e (kept_marked k),
         subst (λ (y : Event). IsLogged route q rows log next (sent ++ y ∷ [])) e l,
       )
 
   -- the mark moves to the row in hand
-  pub kept_after_mark : (rows : List Event) (c : Contents) (p : Producer) (ss : List Sequence) (h : Hand)
-      (log : List Batch) (next : ℕ)
-      (k : Kept route q rows (holding c p ss h) log next) → IsReady ss h q (length (history p.id log)) k.ahead
+  pub kept_after_mark : {rows : List Event} {c : Contents} {p : Producer} {ss : List Sequence} {h : Hand}
+      {log : List Batch} {next : ℕ} (k : Kept route q rows (holding c p ss h) log next)
+      → IsReady ss h q (length (history p.id log)) k.ahead
       → Kept route q rows (record {
         outbox = record c { mark = h.event.seq };
         producer = Some p;
-        sequences = after_use ss
-            h.place;
+        sequences = after_use ss h.place;
         hand = None;
       }) log next
-  kept_after_mark rows c p ss h log next k ready =
-      let why : (goes_to q (route h.event) ≡ false) ⊎ (k.ahead ≡ Some h.event) =
-      sent_why route ss h q (length (history p.id log)) k.ahead k.holds.1 ready in
-      let one = sent_one rows c log next h.event k.sent k.ahead k.rest k.kept k.holds.0 k.logged why in
+  kept_after_mark {rows} {c} {p} {ss} {h} {log} {next} k ready =
+      let one =
+      sent_one h.event k.ahead k.rest k.holds.0
+      (sent_why route ss h q (length (history p.id log)) k.ahead k.holds.1 ready) k.kept k.logged in
       record {
         sent = k.sent ++ h.event ∷ [];
         ahead = None;
@@ -129,21 +126,16 @@ module _ (route : Dispatching) (q : Place) where
         };
       }
 
-  log_more : (rows : List Event) (c : Contents) (log : List Batch) (next : ℕ) (r : Event) (x : Record) (b : Batch)
-      (sent : List Event) (ahead : Option Event) (rest tail : List Event)
-      → IsKept rows c sent (here ahead ++ rest) → here ahead ++ rest ≡ r ∷ tail
-      → IsLogged route q rows log next (sent ++ here ahead) → Contains rows r → IsBatchOf route q r x next b
-      → IsLogged route q rows (log ++ b ∷ []) next (sent ++ r ∷ [])
-  log_more rows c log next r x b sent None rest tail k w l at is =
-      let new : list_any (bytes_eq r.id) (ids_of sent) ≡ false =
-      first_is_new rows c sent tail r (subst (IsKept rows c sent) w k) in
-      logged_first route q rows log next sent r b x
-      (subst (IsLogged route q rows log next) (append-nil sent) l) at is
-      new
-  log_more rows c log next r x b sent (Some y) rest tail k w l at is =
-      let e : y ≡ r = cc in
-      logged_again route q rows log next sent r b x
-      (subst (λ (z : Event). IsLogged route q rows log next (sent ++ z ∷ [])) e l) at is
+  log_more : {rows : List Event} {c : Contents} {log : List Batch} {next : ℕ} {sent : List Event} {r : Event}
+      {x : Record} {b : Batch} (ahead : Option Event) (rest tail : List Event) → here ahead ++ rest ≡ r ∷ tail
+      → Contains rows r → IsBatchOf route q r x next b → IsKept rows c sent (here ahead ++ rest)
+      → IsLogged route q rows log next (sent ++ here ahead) → IsLogged route q rows (log ++ b ∷ []) next (sent ++ r ∷ [])
+  log_more {rows} {c} {log} {next} {sent} None rest tail w at is k l =
+      logged_first route q at is (subst (IsKept rows c sent) w k).order.1
+      (subst (IsLogged route q rows log next) (append-nil sent) l)
+  log_more {rows} {c} {log} {next} {sent} (Some y) rest tail w at is k l =
+      logged_again route q sent at is
+      (subst (λ (z : Event). IsLogged route q rows log next (sent ++ z ∷ [])) (cc) l)
 
   -- a router whose row was put on the log, or goes elsewhere
   abbrev pub IsServed : List Event → Contents → Producer → List Sequence → Hand → List Batch → ℕ → Type 0
@@ -170,8 +162,7 @@ kept_after_batch route rows c p ss h log next x k to comes =
     let at = first_is (here k.ahead ++ k.rest) h.event k.holds.0 in
     let kept : IsKept rows c k.sent (h.event ∷ at.0) = subst (IsKept rows c k.sent) at.1 k.kept in
     let has : Contains rows h.event =
-    subst (λ (rs : List Event). Contains rs h.event) (sym kept.rows_are)
-    (Contains-append_right k.sent (h.event ∷ at.0) h.event (0, omega arith, refl)) in
+    rw kept.rows_are (Contains-append_right k.sent (h.event ∷ at.0) h.event (0, omega arith, refl)) in
     let tells : TellsItsId route h.event =
     All-contains (TellsItsId route) rows h.event (All-from_recursion (TellsItsId route) rows k.tells) has in
     let is : IsBatchOf route q h.event x next b =
@@ -187,10 +178,10 @@ kept_after_batch route rows c p ss h log next x k to comes =
         kept = kept;
         tells = k.tells;
         holds = (refl, k.holds.1);
-        logged = log_more route q rows c log next h.event x b k.sent k.ahead k.rest at.0 k.kept at.1 k.logged has is;
+        logged = log_more route q k.ahead k.rest at.0 at.1 has is k.kept k.logged;
         known = record {
           below = k.known.below;
-          counted = subst (AreCounted p) (sym more.1) (counted_last p (history p.id log) s k.known.counted number);
+          counted = rw more.1 (counted_last p (history p.id log) s k.known.counted number);
           in_step = inr pending;
         };
       },

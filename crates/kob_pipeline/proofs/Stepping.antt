@@ -37,17 +37,6 @@ steps_push does old mid new (s ∷ steps) step front last ls ms all here = (
   ap (λ xs. xs ++ ms) all.8 ∙ append_assoc all.3 all.4 ms,
 )
 
--- no step at all
-pub leads_none : {S T M : Type 0} (does : S → T → List M → List Loss → S → Type 0) (calls_of : List M → List Call)
-    (at : Standing S) → calls_of [] ≡ [] → Leads (Steps does) calls_of at [] at
-leads_none does calls_of at none = record {
-  moves = [];
-  losses = [];
-  done = (refl, refl, refl);
-  calls = sym (append-nil at.calls) ∙ ap (λ cs. at.calls ++ cs) (sym none);
-  lost = sym (append-nil at.losses);
-}
-
 -- one step more, with its calls
 pub leads_push : {S T M : Type 0} (does : S → T → List M → List Loss → S → Type 0) (calls_of : List M → List Call)
     (old mid new : Standing S) (steps : List T) (step : T)

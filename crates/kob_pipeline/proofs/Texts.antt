@@ -1,5 +1,5 @@
 -- The test whether two texts are one.
-use Rattle.std.proofs.Common.{◌≡◌, ℕ, true, List, refl, sym}
+use Rattle.std.proofs.Common.{◌≡◌, ℕ, true, List, sym}
 use Rattle.std.proofs.lemmas.Slice.Eq.{bytes_eq-Decides}
 use Rattle.std.specs.Bool.{one_answer}
 use Rattle.kob_names.specs.Same.{same_text}
@@ -11,6 +11,3 @@ as_told one two is = (bytes_eq-Decides one two).0 is
 pub either_way : (one two : List ℕ) → same_text one two ≡ same_text two one
 either_way one two = one_answer (same_text one two) (same_text two one) (bytes_eq-Decides one two)
     ((λ is. sym ((bytes_eq-Decides two one).0 is)), (λ is. (bytes_eq-Decides two one).1 (sym is)))
-
-pub to_itself : (text : List ℕ) → same_text text text ≡ true
-to_itself text = (bytes_eq-Decides text text).1 refl

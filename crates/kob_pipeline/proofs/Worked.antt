@@ -1,5 +1,5 @@
 -- What a worker's steps, its losses and its notes make together.
-use Rattle.std.proofs.Common.{◌≡◌, List, [], ◌++◌, map, Result, Ok, Err, IfOk, sym, ap, ◌∙◌, subst}
+use Rattle.std.proofs.Common.{◌≡◌, List, [], ◌∷◌, ◌++◌, inl, inr, map, Result, Ok, Err, IfOk, sym, ap, ◌∙◌, subst}
 use Rattle.std.specs.List.{All, enumerate_from}
 use Rattle.kob_inbox.specs.Rows.{placed_intake}
 use Rattle.kob_inbox.specs.Run as consumers
@@ -16,18 +16,27 @@ use Rattle.kob_pipeline.specs.declared.end.OutboxEnd.{OutboxEnd}
 use Rattle.kob_pipeline.specs.declared.plan.ConsumerPlan.{ConsumerPlan}
 use Rattle.kob_pipeline.specs.declared.plan.ConsumerStep.{ConsumerStep}
 use Rattle.kob_pipeline.specs.declared.plan.Loss.{Loss}
+use Rattle.kob_pipeline.specs.declared.plan.Loss.TheVariants as lost
 use Rattle.kob_pipeline.specs.declared.plan.Service.{Service}
 use Rattle.kob_pipeline.specs.declared.plan.ServiceStep.{ServiceStep}
 use Rattle.kob_pipeline.specs.Consumers.{IsConsumerStep, IsConsumption}
 use Rattle.kob_pipeline.specs.Losses.{AreServedByLoss}
-use Rattle.kob_pipeline.specs.Served.{served_by_notes}
+use Rattle.kob_pipeline.specs.Served.{AreServed, Served, served_by_notes}
 use Rattle.kob_pipeline.specs.Services.{IsServiceRun, IsServiceStep}
 use Rattle.kob_pipeline.specs.Steps.{Leads, Steps, standing}
 use Rattle.kob_pipeline.specs.Workers.{IsInboxLeft, IsOutboxLeft}
 use Rattle.kob_pipeline.proofs.ConsumerRuns.{consumer_run_append}
 use Rattle.kob_pipeline.proofs.Numbers.{all_later, run_numbered}
 use Rattle.kob_pipeline.proofs.Stepping.{steps_run}
-use Rattle.kob_pipeline.proofs.Ticked.{served_by_loss}
+
+-- calls that were served as their losses say were served
+pub served_by_loss : (ls : List Loss) (cs : List Call) (ss : List Served) → AreServedByLoss ls cs ss → AreServed cs ss
+served_by_loss [] [] [] is = tt
+served_by_loss (lost.None ∷ ls) (c ∷ cs) (s ∷ ss) is = inr (is.0, inr is.1, served_by_loss ls cs ss is.2)
+served_by_loss (lost.BeforeServe ∷ ls) (c ∷ cs) [] is = (is.0, served_by_loss ls cs [] is.1)
+served_by_loss (lost.BeforeServe ∷ ls) (c ∷ cs) (s ∷ ss) is = inl (is.0, served_by_loss ls cs (s ∷ ss) is.1)
+served_by_loss (lost.AfterServe ∷ ls) (c ∷ cs) (s ∷ ss) is = inr (is.0, inl is.1, served_by_loss ls cs ss is.2)
+served_by_loss ls cs ss is = absurd is
 
 -- the steps of a service are a router's run
 service_run : (route : Dispatching) (old new : routers.State) (steps : List ServiceStep) (moves : List routers.Move)
