@@ -7,7 +7,6 @@ use Rattle.std.proofs.lemmas.List.{map_push}
 use Rattle.std.proofs.lemmas.List.Elements.{filter_map-append}
 use Rattle.kob_names.specs.declared.record.Record.{Record}
 use Rattle.kob_outbox.specs.Events.{id_text}
-use Rattle.kob_rights.specs.declared.reply.Body.TheVariants as bodies
 use Rattle.kob_rights.specs.declared.reply.Reply.{Reply}
 use Rattle.kob_rights.specs.declared.reply.Reply.TheVariants.{Denied, Done, Refused}
 use Rattle.kob_rights.specs.declared.request.Request.{Request}
@@ -27,9 +26,10 @@ use Rattle.kob_pipeline.specs.Delivery.{told_id}
 use Rattle.kob_pipeline.specs.Firsts.{firsts, numbers_below, with_each_new, with_new}
 use Rattle.kob_pipeline.specs.Reaching.{taken_ids}
 use Rattle.kob_pipeline.proofs.ConsumerKept.{IsContent, offset_of}
-use Rattle.kob_pipeline.proofs.ConsumerServed.{IsDueAs, is_due_as}
+use Rattle.kob_pipeline.proofs.ConsumerRun.{IsDueAs, is_due_as}
 use Rattle.kob_pipeline.proofs.Lists.{all_append, bytes_turned, contains_at, same_here}
 use Rattle.kob_pipeline.proofs.Once.{any_first, each_new_append, each_new_more, front_has, length_numbers, next_number, numbers_again, numbers_beyond, take_one_more}
+use Rattle.kob_rights.specs.declared.reply.Body.TheVariants as bodies
 
 -- the event ids of what arrived
 abbrev pub ids_told : List Arrival → List (List ℕ)

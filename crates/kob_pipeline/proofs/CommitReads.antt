@@ -11,7 +11,7 @@ use Rattle.indexmap.specs.IndexMap.{insert_entry}
 use Rattle.kob_names.specs.Same.{same_text}
 use Rattle.kob_groups.specs.Groups.{Commits, Groups, commits_of, committed_at, offsets_on, with_commit, with_offset, without_group, without_offsets, without_topic}
 use Rattle.kob_groups.specs.declared.place.CommitPlace.{CommitPlace}
-use Rattle.kob_pipeline.proofs.Texts.{as_told}
+use Rattle.kob_pipeline.proofs.Lists.{bytes_are}
 
 -- one entry more, or one with another value
 stored : {K V : Type 0} {same : K → K → Bool} (laws : IsEquivalence same) (entries : List (K × V)) (k q : K) (v : V)
@@ -54,8 +54,8 @@ read_committed groups place offset q =
           rw (on, stored_or (commits_of place.group groups) place.topic q.topic _)
           (elim (cases_Bool (same_text place.topic q.topic)) [
             | inl hit ↦
-                rw (hit, stored nat_eq_equiv (offsets_on place.topic (commits_of place.group groups)) place.partition q.partition offset, as_told place.group q.group on, as_told place.topic q.topic hit) refl
-            | inr miss ↦ rw (miss, as_told place.group q.group on) refl
+                rw (hit, stored nat_eq_equiv (offsets_on place.topic (commits_of place.group groups)) place.partition q.partition offset, bytes_are place.group q.group on, bytes_are place.topic q.topic hit) refl
+            | inr miss ↦ rw (miss, bytes_are place.group q.group on) refl
           ])
       | inr off ↦ rw off refl
     ])
@@ -67,7 +67,7 @@ left : {X : Type 0} (entries : List (List ℕ × List X)) (name q : List ℕ)
 left entries name q =
     ap (λ o. unwrap_or o [])
     (lookup-filter-keys (same_text q) (λ k. not (same_text name k)) (not (same_text name q))
-    (λ k hit. ap (λ t. not (same_text name t)) (sym (as_told q k hit))) entries)
+    (λ k hit. ap (λ t. not (same_text name t)) (sym (bytes_are q k hit))) entries)
     ∙ elim (cases_Bool (same_text name q)) [ inl gone ↦ rw gone refl | inr stays ↦ rw stays refl ]
 
 -- and after a group went with its commits

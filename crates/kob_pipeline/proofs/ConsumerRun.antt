@@ -1,27 +1,238 @@
--- What a consumer takes in of a partition: by its own moves and the entries of the journal, each at its pace.
-use Rattle.std.proofs.Common.{◌≡◌, ◌⊎◌, ℕ, List, [], ◌∷◌, ◌++◌, refl, sym, ap, ◌∙◌, inl, inr, subst}
-use Rattle.std.specs.Prelude.{Option, Some, None}
-use Rattle.std.specs.List.{filter_map}
+-- What each call of a consumer keeps, served or not, and what its run takes in of a partition.
+use Rattle.std.proofs.Common.{◌≡◌, ℕ, ◌≤◌, List, [], ◌++◌, Bool, true, false, ◌&&◌, cond, refl, sym, ap, ◌∙◌, inl, inr, subst, take, arith, if◌then◌else◌, ◌⊎◌, ◌∷◌}
+use Rattle.std.specs.Prelude.{Option, Some, None, unwrap_or, bytes_eq}
+use Rattle.std.proofs.lemmas.Bool.{and_parts}
 use Rattle.kob_names.specs.declared.record.Record.{Record}
 use Rattle.kob_partition.specs.Batches.{records_of}
+use Rattle.kob_rights.specs.declared.on_groups.OffsetCommit.{OffsetCommit as CommitRequest}
+use Rattle.kob_rights.specs.declared.on_groups.OffsetFetch.{OffsetFetch as PositionRequest}
+use Rattle.kob_rights.specs.declared.on_partitions.Fetch.{Fetch as FetchRequest}
+use Rattle.kob_rights.specs.declared.reply.Body.{Body}
+use Rattle.kob_rights.specs.declared.reply.Reply.{Reply}
+use Rattle.kob_rights.specs.declared.reply.Reply.TheVariants.{Denied, Refused, Done}
 use Rattle.kob_rights.specs.declared.request.Request.{Request}
-use Rattle.kob_router.specs.declared.line.Call.{Call}
+use Rattle.kob_rights.specs.declared.request.Request.TheVariants.{Fetch, OffsetCommit, OffsetFetch}
+use Rattle.kob_router.specs.Places.{same_place}
 use Rattle.kob_router.specs.declared.place.Place.{Place}
+use Rattle.kob_inbox.specs.Cursors.{cursor_of, standing}
 use Rattle.kob_inbox.specs.Intake.{Arrival}
-use Rattle.kob_inbox.specs.Run.{IsConsumerRun, May, Move, State, after, calls_of, start, taken_by, taken_of}
-use Rattle.kob_inbox.specs.Run.Move.{Called, Restarted}
+use Rattle.kob_inbox.specs.Run.{IsDue, State, after_answer, due, place_at, taken_by, IsConsumerRun, May, Move, after, calls_of, start, taken_of}
+use Rattle.kob_inbox.specs.declared.cursors.Cursor.{Cursor}
+use Rattle.kob_inbox.specs.declared.cursors.Standing.{Standing}
 use Rattle.kob_inbox.specs.declared.fetcher.Subscription.{Subscription}
+use Rattle.kob_pipeline.specs.View.{Step, View, read_from, with_commit, IsHistory, opening_view}
+use Rattle.kob_pipeline.proofs.ConsumerKept.{Fits, Taking, WithinCursor, WithinOffset, taking_after_fetch, taking_after_move, taking_nothing, taking_with_commit, taking_after_restart, taking_first, taking_later}
+use Rattle.kob_pipeline.proofs.Lists.{places_are}
+use Rattle.kob_pipeline.proofs.Offsets.{Stands, read_in_order, read_stands}
+use Rattle.kob_pipeline.proofs.RouterRun.{NotDone, heard_no_done, heard_none}
+use Rattle.kob_pipeline.proofs.ServedRuns.{Hears, IsRun, IsServedBy, IsUnheard, added, kept_by_run}
+use Rattle.std.specs.List.{filter_map}
+use Rattle.kob_router.specs.declared.line.Call.{Call}
+use Rattle.kob_inbox.specs.Run.Move.{Called, Restarted}
 use Rattle.kob_shared.specs.declared.journal.Entry.{Entry}
 use Rattle.kob_pipeline.specs.Taking.{IsTakenInOrder}
 use Rattle.kob_pipeline.specs.Premises.{IsNeverDeleted, IsSoleCommitter}
 use Rattle.kob_pipeline.specs.Served.{AreServed, served_to}
-use Rattle.kob_pipeline.specs.View.{IsHistory, Step, View, opening_view}
-use Rattle.kob_pipeline.proofs.ConsumerKept.{Taking, WithinOffset, taking_after_restart, taking_first, taking_later, taking_nothing, taking_with_commit}
-use Rattle.kob_pipeline.proofs.ConsumerServed.{TakingIn, is_due_as, taking_served, taking_silent}
 use Rattle.kob_pipeline.proofs.Logged.{records_more}
 use Rattle.kob_pipeline.proofs.OtherSteps.{Leaves, leaves}
-use Rattle.kob_pipeline.proofs.RouterServed.{heard_none}
-use Rattle.kob_pipeline.proofs.ServedRuns.{IsRun, IsServedBy, IsUnheard, added, kept_by_run}
+use Rattle.kob_rights.specs.declared.reply.Body.TheVariants as bodies
+
+-- what the due request has
+abbrev pub IsDueAs : Subscription → Place → Option Standing → Request → Type 0
+IsDueAs t place o (OffsetFetch asked) = (asked.group ≡ t.group) × (place_at asked.topic asked.partition ≡ place)
+IsDueAs t place o (OffsetCommit asked) =
+    (asked.group ≡ t.group) × (place_at asked.topic asked.partition ≡ place)
+    × (c : Standing) × (o ≡ Some c) × (asked.offset ≡ c.position)
+IsDueAs t place o (Fetch asked) =
+    (place_at asked.topic asked.partition ≡ place) × (c : Standing) × (o ≡ Some c) × (asked.offset ≡ c.position)
+IsDueAs t place o _ = ⊥
+
+due_standing : (t : Subscription) (place : Place) (c : Standing) (b : Bool)
+    → IsDueAs t place (Some c) (if b
+    then OffsetCommit (record {
+      group = t.group;
+      topic = place.topic;
+      partition = place.partition;
+      offset = c.position;
+    })
+    else Fetch (record { topic = place.topic; partition = place.partition; offset = c.position; max = t.max }))
+due_standing t place c true = (refl, refl, c, refl, refl)
+due_standing t place c false = (refl, c, refl, refl)
+
+due_as : (t : Subscription) (place : Place) (o : Option Standing) → IsDueAs t place o (due t place o)
+due_as t place None = (refl, refl)
+due_as t place (Some c) = due_standing t place c c.uncommitted
+
+pub is_due_as : (t : Subscription) (s : State) (request : Request) (d : IsDue t s request)
+    → IsDueAs t d.place (standing (cursor_of s.cursors d.place)) request
+is_due_as t s request d =
+    subst (IsDueAs t d.place (standing (cursor_of s.cursors d.place))) (sym d.is_due)
+    (due_as t d.place (standing (cursor_of s.cursors d.place)))
+
+-- a position is within the bound
+standing_within : (o : Option Cursor) (c : Standing) (bound : ℕ) → standing o ≡ Some c → WithinCursor bound o
+    → c.position ≤ bound
+standing_within None c bound at w = cc
+standing_within (Some x) c bound at w =
+    let e : x.position ≡ c.position = ap position_in at in
+    omega (arith, e, w)
+  where
+    position_in : Option Standing → ℕ
+    position_in None = 0
+    position_in (Some y) = y.position
+
+position_within : (cs : List Cursor) (p q : Place) (c : Standing) (bound : ℕ) → standing (cursor_of cs p) ≡ Some c
+    → WithinCursor bound (cursor_of cs q) → p ≡ q → c.position ≤ bound
+position_within cs p q c bound at w e =
+    standing_within (cursor_of cs q) c bound (ap (λ (y : Place). standing (cursor_of cs y)) (sym e) ∙ at) w
+
+offset_within : (o : Option ℕ) (bound : ℕ) → WithinOffset bound o → unwrap_or o 0 ≤ bound
+offset_within None bound w = omega arith
+offset_within (Some n) bound w = w
+
+none_taken : {A : Type 0} (count : ℕ) (xs : List A) → count ≡ 0 → take count xs ≡ []
+none_taken count xs e = ap (λ n. take n xs) e
+
+commit_or_not : (b : Bool) (n bound : ℕ) (o : Option ℕ) → (b ≡ true → n ≤ bound) → WithinOffset bound o
+    → WithinOffset bound (cond b (Some n) o)
+commit_or_not true n bound o h w = h refl
+commit_or_not false n bound o h w = w
+
+-- with no Done heard nothing changes
+answered_unheard : (t : Subscription) (s : State) (request : Request) (heard : Option Reply) (count : ℕ) → NotDone heard
+    → after_answer t s request heard count ≡ s
+answered_unheard t s request None count n = refl
+answered_unheard t s request (Some (Denied code verdicts)) count n = refl
+answered_unheard t s request (Some (Refused code reason)) count n = refl
+answered_unheard t s request (Some (Done body)) count n = absurd n
+
+taken_unheard : (request : Request) (heard : Option Reply) (count : ℕ) → NotDone heard
+    → taken_by request heard count ≡ []
+taken_unheard request None count n = refl
+taken_unheard request (Some (Denied code verdicts)) count n = refl
+taken_unheard request (Some (Refused code reason)) count n = refl
+taken_unheard request (Some (Done body)) count n = absurd n
+
+module _ (t : Subscription) (q : Place) where
+  abbrev pub TakingIn : State → View → List Arrival → Type 0
+  TakingIn s v arrived = Taking q (records_of (v.log q)) (v.committed t.group q) s.cursors arrived
+
+  -- after a call
+  abbrev After : State → View → List Arrival → Request → Option Reply → ℕ → Type 0
+  After s v arrived request heard count = TakingIn (after_answer t s request heard count) v
+      (arrived ++ taken_by request heard count)
+
+  pub taking_silent : (s : State) (v : View) (arrived : List Arrival) (request : Request) (heard : Option Reply)
+      (count : ℕ) → NotDone heard → TakingIn s v arrived → After s v arrived request heard count
+  taking_silent s v arrived request heard count n k =
+      rw (answered_unheard t s request heard count n, taken_unheard request heard count n) (taking_nothing q k)
+
+  -- OFFSET_FETCH that was heard
+  placed : (s : State) (v : View) (arrived : List Arrival) (asked : PositionRequest) (body : Body)
+      (heard : Option Reply) (count : ℕ)
+      → asked.group ≡ t.group → body ≡ bodies.Commit (v.committed asked.group (place_at asked.topic asked.partition))
+      → heard ≡ Some (Done body) → TakingIn s v arrived → After s v arrived (OffsetFetch asked) heard count
+  placed s v arrived asked body heard count own is e k =
+      let p : Place = place_at asked.topic asked.partition in
+      let o : Option ℕ = v.committed asked.group p in
+      let commit : WithinOffset k.bound (v.committed asked.group q) = rw own k.commit in
+      rw (e, is)
+      (taking_nothing q
+      (taking_after_move q (record { place = p; position = unwrap_or o 0; uncommitted = false }) k
+      (λ here. offset_within o k.bound (rw here commit))))
+
+  -- FETCH that was heard
+  fetched_in : (s : State) (v : View) (arrived : List Arrival) (asked : FetchRequest) (body : Body)
+      (heard : Option Reply) (count : ℕ) (c : Standing)
+      → standing (cursor_of s.cursors (place_at asked.topic asked.partition)) ≡ Some c → asked.offset ≡ c.position
+      → body ≡ bodies.Records (read_from (records_of (v.log (place_at asked.topic asked.partition))) asked.offset
+      asked.max)
+      → heard ≡ Some (Done body) → TakingIn s v arrived → After s v arrived (Fetch asked) heard count
+  fetched_in s v arrived asked body heard count c at here is e k =
+      let p : Place = place_at asked.topic asked.partition in
+      let records : List Record = records_of (v.log p) in
+      let xs : List (ℕ × Record) = take count (read_from records asked.offset asked.max) in
+      let fits : p ≡ q → Fits q (records_of (v.log q)) k.bound asked.offset xs =
+      λ e'. (
+        rw here (position_within s.cursors p q c k.bound at k.cursor e'),
+        read_in_order records asked.offset asked.max count,
+        subst (λ (y : Place). Rattle.std.specs.List.AllByRecursion (Stands (records_of (v.log y))) xs) e'
+            (read_stands records asked.offset asked.max count),
+      ) in
+      rw (e, is)
+      (taking_after_fetch q p asked.offset count xs k
+      (none_taken count (read_from records asked.offset asked.max)) fits)
+
+  -- OFFSET_COMMIT that was served
+  committed_in : (s : State) (v : View) (arrived : List Arrival) (asked : CommitRequest) (body : Body)
+      (heard : Option Reply) (count : ℕ) (c : Standing)
+      → standing (cursor_of s.cursors (place_at asked.topic asked.partition)) ≡ Some c → asked.offset ≡ c.position
+      → Hears heard (Done body) → TakingIn s v arrived
+      → After s (with_commit v asked.group (place_at asked.topic asked.partition) asked.offset) arrived
+      (OffsetCommit asked) heard count
+  committed_in s v arrived asked body heard count c at here hears k = go hears
+    where
+      p : Place
+      p = place_at asked.topic asked.partition
+
+      within : place_at asked.topic asked.partition ≡ q → asked.offset ≤ k.bound
+      within e = rw here (position_within s.cursors (place_at asked.topic asked.partition) q c k.bound at k.cursor e)
+
+      committed : TakingIn s (with_commit v asked.group (place_at asked.topic asked.partition) asked.offset) arrived
+      committed =
+          taking_with_commit q k
+          (commit_or_not (bytes_eq asked.group t.group && same_place (place_at asked.topic asked.partition) q)
+          asked.offset k.bound (v.committed t.group q)
+          (λ both.
+          within (places_are (place_at asked.topic asked.partition) q
+          (and_parts (bytes_eq asked.group t.group) (same_place (place_at asked.topic asked.partition) q) both).1))
+          k.commit)
+
+      go : Hears heard (Done body)
+          → After s (with_commit v asked.group (place_at asked.topic asked.partition) asked.offset) arrived
+          (OffsetCommit asked) heard count
+      go (inl e) =
+          taking_silent s (with_commit v asked.group (place_at asked.topic asked.partition) asked.offset) arrived
+          (OffsetCommit asked) heard count (heard_none heard e) committed
+      go (inr e) =
+          rw e
+          (taking_nothing q
+          (taking_after_move q
+          (record { place = place_at asked.topic asked.partition; position = asked.offset; uncommitted = false })
+          committed within))
+
+  -- a call that was served, whatever was heard
+  pub taking_served : (s : State) (v w : View) (arrived : List Arrival) (place : Place) (request : Request)
+      (reply : Reply) (heard : Option Reply) (count : ℕ)
+      → IsDueAs t place (standing (cursor_of s.cursors place)) request → Hears heard reply → Step v request reply w
+      → TakingIn s v arrived
+      → After s w arrived request heard count
+  taking_served s v w arrived place request (Denied code verdicts) heard count d hears step k =
+      taking_silent s w arrived request heard count (heard_no_done heard (Denied code verdicts) tt hears)
+      (rw (step.log q, step.committed t.group q) k)
+  taking_served s v w arrived place request (Refused code reason) heard count d hears step k =
+      taking_silent s w arrived request heard count (heard_no_done heard (Refused code reason) tt hears)
+      (rw (step.log q, step.committed t.group q) k)
+  taking_served s v w arrived place (OffsetFetch asked) (Done body) heard count d hears step k =
+      rw (step.1.log q, step.1.committed t.group q)
+      (elim hears [
+        | inl e ↦ taking_silent s v arrived (OffsetFetch asked) heard count (heard_none heard e) k
+        | inr e ↦ placed s v arrived asked body heard count d.0 step.0 e k
+      ])
+  taking_served s v w arrived place (OffsetCommit asked) (Done body) heard count d hears step k =
+      rw (step.log q, step.committed t.group q)
+      (committed_in s v arrived asked body heard count d.2
+      (ap (λ (y : Place). standing (cursor_of s.cursors y)) d.1 ∙ d.3) d.4 hears k)
+  taking_served s v w arrived place (Fetch asked) (Done body) heard count d hears step k =
+      rw (step.1.log q, step.1.committed t.group q)
+      (elim hears [
+        | inl e ↦ taking_silent s v arrived (Fetch asked) heard count (heard_none heard e) k
+        | inr e ↦ fetched_in s v arrived asked body heard count d.1
+            (ap (λ (y : Place). standing (cursor_of s.cursors y)) d.0 ∙ d.2) d.3 step.0 e k
+      ])
+  taking_served s v w arrived place _ (Done body) heard count d hears step k = absurd d
+
+-- ---- what a consumer takes in of a partition: by its own moves and the entries of the journal, each at its pace
 
 -- the moves of a consumer, one at a time
 

@@ -5,11 +5,9 @@ use Rattle.std.specs.List.{AllByRecursion}
 use Rattle.kob_outbox.specs.Contents.{Event, empty}
 use Rattle.kob_partition.specs.Batches.{records_of}
 use Rattle.kob_router.specs.Dispatches.{dispatch_of}
-use Rattle.kob_router.specs.Run as router
 use Rattle.kob_router.specs.declared.dispatch.Target.{Target}
 use Rattle.kob_router.specs.declared.place.Place.{Place}
 use Rattle.kob_inbox.proofs.Running.{run_takes_in}
-use Rattle.kob_inbox.specs.Run as consumer
 use Rattle.kob_inbox.specs.declared.fetcher.Subscription.{Subscription}
 use Rattle.kob_shared.specs.declared.journal.Entry.{Entry}
 use Rattle.kob_pipeline.specs.Taking.{IsTakenInOrder}
@@ -19,13 +17,14 @@ use Rattle.kob_pipeline.specs.Premises.{ArePrivate, IsNeverDeleted, IsSoleCommit
 use Rattle.kob_pipeline.specs.Reaching.{ReachesInOrder, is_of_aggregate}
 use Rattle.kob_pipeline.specs.View.{IsHistory, View, opening_view}
 use Rattle.kob_pipeline.specs.Waiting.{IsWaitingOrSent}
-use Rattle.kob_pipeline.proofs.Aggregates.{rows_tell, told_all}
+use Rattle.kob_pipeline.proofs.Aggregates.{rows_tell, told_all, target_tells}
 use Rattle.kob_pipeline.proofs.Arriving.{all_assigned}
 use Rattle.kob_pipeline.proofs.ConsumerRun.{is_taken_in_order}
-use Rattle.kob_pipeline.proofs.Ids.{target_tells}
 use Rattle.kob_pipeline.proofs.Reaching.{reaches}
 use Rattle.kob_pipeline.proofs.RouterRun.{is_delivered}
 use Rattle.kob_pipeline.proofs.RowsRun.{all_wait_or_sent}
+use Rattle.kob_router.specs.Run as router
+use Rattle.kob_inbox.specs.Run as consumer
 
 pub holds_what_was_routed : (target : Target) (worker : ℕ) (journal : List Entry) (view : View)
     (moves : List router.Move)

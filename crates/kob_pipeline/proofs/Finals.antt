@@ -202,22 +202,18 @@ none_behind : (done : List (Done WorkerEnd)) → AllZip Left [] done → done �
 none_behind [] all = refl
 none_behind (d ∷ done) all = absurd all
 
--- what each worker left by its number, from what all left
-pub pipeline_left : (opening : Settings) (plan : Plan) (end : PipelineEnd)
-    → opened_by opening ≡ opened_by plan.settings → IsEnd opening plan.first (planned_workers plan) end
-    → IsPipeline plan end
-pipeline_left opening plan end same left =
+-- what each worker left by its number, from what the workers of each kind left
+by_number : (opening : Settings) (plan : Plan) (end : PipelineEnd) (left : IsEnd opening plan.first
+    (planned_workers plan) end)
+    (f : Front Outbox IsServiceRun plan.services.items
+    (map Consuming plan.consumers.items ++ map Administering plan.administrators.items) left.done)
+    (g : Front Inbox IsConsumption plan.consumers.items (map Administering plan.administrators.items) f.later)
+    (h : Front nothing Administered plan.administrators.items [] g.later)
+    → opened_by opening ≡ opened_by plan.settings → IsPipeline plan end
+by_number opening plan end left f g h same =
     let ss = plan.services.items in
     let cs = plan.consumers.items in
     let ads = plan.administrators.items in
-    let f : Front Outbox IsServiceRun ss (map Consuming cs ++ map Administering ads) left.done =
-    front Serving Outbox IsServiceRun service_end ss (map Consuming cs ++ map Administering ads) left.done left.each
-    left.unrefused in
-    let g : Front Inbox IsConsumption cs (map Administering ads) f.later =
-    front Consuming Inbox IsConsumption consumer_end cs (map Administering ads) f.later f.all f.kept in
-    let h : Front nothing Administered ads [] g.later =
-    front Administering nothing Administered administrator_end ads [] g.later
-    (subst (λ (ws : List Planned). AllZip Left ws g.later) (sym (append-nil (map Administering ads))) g.all) g.kept in
     let whole : left.done ≡ all_ends f.own g.own h.own =
     f.whole
     ∙ ap (λ (ds : List (Done WorkerEnd)). map (ended Outbox) f.own ++ ds)
@@ -290,7 +286,17 @@ pub pipeline_ended : (opening : Settings) (plan : Plan) (events : List Event) (p
     (end : PipelineEnd) → opening ≡ settings_of (opened_by plan.settings) → events ≡ plan.first
     → planned ≡ planned_workers plan
     → IsEnd opening events planned end → IsPipeline plan end
-pipeline_ended opening plan events planned end stored first workers left =
-    pipeline_left opening plan end (ap opened_by stored ∙ sym (opened_again plan.settings))
-    (subst (λ (ws : List Planned). IsEnd opening plan.first ws end) workers
-    (subst (λ (es : List Event). IsEnd opening es planned end) first left))
+pipeline_ended opening plan events planned end stored first workers all =
+    let cs = plan.consumers.items in
+    let ads = plan.administrators.items in
+    let left : IsEnd opening plan.first (planned_workers plan) end =
+    subst (λ (ws : List Planned). IsEnd opening plan.first ws end) workers
+    (subst (λ (es : List Event). IsEnd opening es planned end) first all) in
+    let f =
+    front Serving Outbox IsServiceRun service_end plan.services.items (map Consuming cs ++ map Administering ads)
+    left.done left.each left.unrefused in
+    let g = front Consuming Inbox IsConsumption consumer_end cs (map Administering ads) f.later f.all f.kept in
+    by_number opening plan end left f g
+    (front Administering nothing Administered administrator_end ads [] g.later
+    (subst (λ (ws : List Planned). AllZip Left ws g.later) (sym (append-nil (map Administering ads))) g.all) g.kept)
+    (ap opened_by stored ∙ sym (opened_again plan.settings))

@@ -18,10 +18,9 @@ use Rattle.kob_pipeline.specs.Taking.{IsTakenInOrder, from_place}
 use Rattle.kob_pipeline.specs.Delivery.{IsDelivered, IsRecordOf, goes_to, ids_of, routed_to, told_id}
 use Rattle.kob_pipeline.specs.Firsts.{IsPrefixOf, firsts}
 use Rattle.kob_pipeline.specs.Reaching.{IsCopy, ReachesInOrder, rows_of_aggregate, taken_of_aggregate, is_of_aggregate, taken_ids}
-use Rattle.kob_pipeline.proofs.Aggregates.{IsToldById, filter_both, one_place, passes_as}
+use Rattle.kob_pipeline.proofs.Aggregates.{IsToldById, filter_both, one_place, passes_as, sent_message}
 use Rattle.kob_pipeline.proofs.Arriving.{firsts_of_front, ids_told, inbox_ids, none_passes, one_passes, passes, passes_here, record_told, with_told}
 use Rattle.kob_pipeline.proofs.ConsumerKept.{IsContent}
-use Rattle.kob_pipeline.proofs.Ids.{sent_message}
 use Rattle.kob_pipeline.proofs.Lists.{all_at, all_both, all_last, all_passing, all_weaker, keeps, places_are, same_here, same_some}
 use Rattle.kob_pipeline.proofs.Once.{filter_firsts, filter_map_turned, firsts_distinct, prefix_filter, prefix_firsts, prefix_on}
 use Rattle.kob_pipeline.proofs.RouterKept.{TellsItsId}

@@ -1,27 +1,212 @@
--- What a router leaves on a partition: by its own moves and the entries of the journal, each at its pace.
-use Rattle.std.proofs.Common.{◌≡◌, ℕ, List, [], ◌∷◌, ◌++◌, Bool, sym, ap, ◌∙◌, subst, append_assoc, append-nil}
-use Rattle.std.specs.Prelude.{Some, map}
+-- What each call of a router keeps, served or not, and what its run leaves on a partition.
+use Rattle.std.proofs.Common.{◌≡◌, List, [], ◌∷◌, ◌++◌, Bool, true, false, refl, sym, ap, ◌∙◌, inl, inr, subst, arith, ℕ, append_assoc, append-nil}
+use Rattle.std.specs.Prelude.{Option, Some, None, map}
+use Rattle.std.proofs.lemmas.Bool.{true≢false}
+use Rattle.kob_names.specs.declared.batch.Batch.{Batch}
+use Rattle.kob_names.specs.declared.record.Record.{Record}
+use Rattle.kob_outbox.specs.Contents.{Contents, Event}
+use Rattle.kob_partition.specs.Batches.{history, records_of}
+use Rattle.kob_producers.specs.Judge.{judge}
+use Rattle.kob_producers.specs.declared.judge.Judgement.{Judgement}
+use Rattle.kob_producers.specs.declared.judge.Judgement.TheVariants.{Next, Repeat, OutOfOrder, OldEpoch}
+use Rattle.kob_rights.specs.declared.on_partitions.Produce.{Produce as ProduceRequest}
+use Rattle.kob_rights.specs.declared.reply.Body.{Body}
+use Rattle.kob_rights.specs.declared.reply.Reply.{Reply}
+use Rattle.kob_rights.specs.declared.reply.Reply.TheVariants.{Denied, Refused, Done}
+use Rattle.kob_rights.specs.declared.request.Request.{Request}
+use Rattle.kob_rights.specs.declared.request.Request.TheVariants.{InitProducerId, Produce}
+use Rattle.kob_router.specs.Dispatches.{Dispatching}
+use Rattle.kob_router.specs.Places.{same_place, sequence_of}
+use Rattle.kob_router.specs.Run.{Hand, IsDone, IsSending, MayCall, State, after, batch_of, producer_after, IsRouterRun, May, Move, calls_of, events_of, start}
+use Rattle.kob_router.specs.Run.Move.{Called, Recorded, Restarted, Swept, Took}
+use Rattle.kob_router.specs.declared.place.Place.{Place}
+use Rattle.kob_router.specs.declared.sender.Producer.{Producer}
+use Rattle.kob_router.specs.declared.sequences.Sequence.{Sequence}
+use Rattle.kob_pipeline.specs.View.{Accepts, Does, Step, View, with_batch, with_producer, IsHistory, opening_view}
+use Rattle.kob_pipeline.proofs.Lists.{place_cases, same_here}
+use Rattle.kob_pipeline.proofs.RouterKept.{Kept, kept_after_id, kept_later, IsServed, holding, kept_after_batch, kept_after_mark, repeat_is_pending, TellsIds, here, kept_after_record, kept_after_restart, kept_after_sweep, kept_after_take, kept_first}
+use Rattle.kob_pipeline.proofs.Sending.{idem_of}
+use Rattle.kob_pipeline.proofs.ServedRuns.{Hears, IsServedBy, IsUnheard}
 use Rattle.std.proofs.lemmas.List.{map-append}
 use Rattle.std.proofs.lemmas.List.Elements.{filter-append}
-use Rattle.kob_names.specs.declared.batch.Batch.{Batch}
-use Rattle.kob_outbox.specs.Contents.{Event}
-use Rattle.kob_partition.specs.Batches.{records_of}
-use Rattle.kob_rights.specs.declared.request.Request.{Request}
-use Rattle.kob_router.specs.Dispatches.{Dispatching}
-use Rattle.kob_router.specs.Run.{IsRouterRun, May, Move, State, after, calls_of, events_of, start}
-use Rattle.kob_router.specs.Run.Move.{Called, Recorded, Restarted, Swept, Took}
 use Rattle.kob_router.specs.declared.line.Call.{Call}
-use Rattle.kob_router.specs.declared.place.Place.{Place}
 use Rattle.kob_shared.specs.declared.journal.Entry.{Entry}
 use Rattle.kob_pipeline.specs.Delivery.{IsDelivered, goes_to, routed_to}
 use Rattle.kob_pipeline.specs.Premises.{IsNeverDeleted, IsSoleProducer}
 use Rattle.kob_pipeline.specs.Served.{AreServed, served_to}
-use Rattle.kob_pipeline.specs.View.{IsHistory, Step, View, opening_view}
 use Rattle.kob_pipeline.proofs.OtherSteps.{leaves}
-use Rattle.kob_pipeline.proofs.RouterKept.{Kept, TellsIds, here, kept_after_record, kept_after_restart, kept_after_sweep, kept_after_take, kept_first, kept_later}
-use Rattle.kob_pipeline.proofs.RouterMoves.{call_of, kept_by_router, recorded}
-use Rattle.kob_pipeline.proofs.RouterServed.{KeptIn, heard_none, kept_after_no_answer, kept_after_served}
-use Rattle.kob_pipeline.proofs.ServedRuns.{IsServedBy, IsUnheard}
+use Rattle.kob_pipeline.proofs.Rows.{call_of, kept_by_router, recorded}
+use Rattle.kob_rights.specs.declared.reply.Body.TheVariants as bodies
+
+-- no Done was heard
+abbrev pub NotDone : Option Reply → Type 0
+NotDone None = Unit {0}
+NotDone (Some (Denied code verdicts)) = Unit {0}
+NotDone (Some (Refused code reason)) = Unit {0}
+NotDone (Some (Done body)) = ⊥
+
+-- the reply is no Done
+abbrev pub IsNoDone : Reply → Type 0
+IsNoDone reply = NotDone (Some reply)
+
+pub heard_none : (heard : Option Reply) → heard ≡ None → NotDone heard
+heard_none heard e = subst NotDone (sym e) tt
+
+pub heard_no_done : (heard : Option Reply) (reply : Reply) → IsNoDone reply → Hears heard reply → NotDone heard
+heard_no_done heard reply no_done (inl e) = heard_none heard e
+heard_no_done heard reply no_done (inr e) = subst NotDone (sym e) no_done
+
+pub not_both : (heard : Option Reply) → NotDone heard → IsDone heard → ⊥
+not_both None n d = d
+not_both (Some (Denied code verdicts)) n d = d
+not_both (Some (Refused code reason)) n d = d
+not_both (Some (Done body)) n d = n
+
+given_by_produce : (old : Option Producer) (asked : ProduceRequest) (heard : Option Reply)
+    → producer_after old (Produce asked) heard ≡ old
+given_by_produce old asked None = refl
+given_by_produce old asked (Some (Denied code verdicts)) = refl
+given_by_produce old asked (Some (Refused code reason)) = refl
+given_by_produce old asked (Some (Done body)) = refl
+
+given_unheard : (old : Option Producer) (heard : Option Reply) → NotDone heard
+    → producer_after old InitProducerId heard ≡ old
+given_unheard old None n = refl
+given_unheard old (Some (Denied code verdicts)) n = refl
+given_unheard old (Some (Refused code reason)) n = refl
+given_unheard old (Some (Done body)) n = absurd n
+
+-- a state with another producer
+abbrev holding_id : State → Option Producer → State
+holding_id s o = record { outbox = s.outbox; producer = o; sequences = s.sequences; hand = s.hand }
+
+is_holding : (s : State) (p : Producer) (h : Hand) → s.producer ≡ Some p → s.hand ≡ Some h
+    → s ≡ holding s.outbox p s.sequences h
+is_holding s p h e f =
+    ap (λ (o : Option Producer). holding_id s o) e
+    ∙ ap (λ (o : Option Hand). record { outbox = s.outbox; producer = Some p; sequences = s.sequences; hand = o }) f
+
+-- the batch of the row in hand that comes next
+abbrev batch_in_hand : Producer → List Sequence → Hand → Record → Batch
+batch_in_hand p ss h x = batch_of p (sequence_of ss h.place) x
+
+module _ (route : Dispatching) where
+  -- as a view shows it
+  abbrev pub KeptIn : Place → List Event → State → View → Type 0
+  KeptIn q rows s v = Kept route q rows s (v.log q) v.next_producer
+
+  abbrev pub ServedIn : Place → List Event → Contents → Producer → List Sequence → Hand → View → Type 0
+  ServedIn q rows c p ss h v = IsServed route q rows c p ss h (v.log q) v.next_producer
+
+  accepted_there : (rows : List Event) (c : Contents) (p : Producer) (ss : List Sequence) (h : Hand) (v w : View)
+      (x : Record) (j : Judgement) → KeptIn h.place rows (holding c p ss h) v
+      → route h.event ≡ Some (record { place = h.place; message = x })
+      → judge (history p.id (v.log h.place)) (idem_of p (sequence_of ss h.place)) 1 ≡ j
+      → Accepts j v h.place (batch_in_hand p ss h x) w
+      → ServedIn h.place rows c p ss h w
+  accepted_there rows c p ss h v w x Next k to judged a =
+      let e : (with_batch v h.place (batch_in_hand p ss h x)).log h.place
+      ≡ v.log h.place ++ batch_in_hand p ss h x ∷ [] = rw (same_here h.place) refl in
+      rw (a.log h.place, a.next_producer, e)
+      (kept_after_batch route rows c p ss h (v.log h.place) v.next_producer x k to judged)
+  accepted_there rows c p ss h v w x (Repeat offset) k to judged a =
+      rw (a.log h.place, a.next_producer)
+      (k, repeat_is_pending route rows c p ss h (v.log h.place) v.next_producer offset k judged)
+  accepted_there rows c p ss h v w x OutOfOrder k to judged a = absurd a
+  accepted_there rows c p ss h v w x OldEpoch k to judged a = absurd a
+
+  accepted_elsewhere : (q : Place) (rows : List Event) (c : Contents) (p : Producer) (ss : List Sequence) (h : Hand)
+      (v w : View) (b : Batch) (j : Judgement) → KeptIn q rows (holding c p ss h) v → same_place h.place q ≡ false
+      → Accepts j v h.place b w → ServedIn q rows c p ss h w
+  accepted_elsewhere q rows c p ss h v w b Next k apart a =
+      let e : (with_batch v h.place b).log q ≡ v.log q = rw apart refl in
+      rw (a.log q, a.next_producer, e) (k, inl apart)
+  accepted_elsewhere q rows c p ss h v w b (Repeat offset) k apart a = rw (a.log q, a.next_producer) (k, inl apart)
+  accepted_elsewhere q rows c p ss h v w b OutOfOrder k apart a = absurd a
+  accepted_elsewhere q rows c p ss h v w b OldEpoch k apart a = absurd a
+
+  accepted : (q : Place) (rows : List Event) (c : Contents) (p : Producer) (ss : List Sequence) (h : Hand) (v w : View)
+      (x : Record)
+      → KeptIn q rows (holding c p ss h) v → route h.event ≡ Some (record { place = h.place; message = x })
+      → Accepts (judge (history p.id (v.log h.place)) (idem_of p (sequence_of ss h.place)) 1) v h.place
+      (batch_in_hand p ss h x) w
+      → ServedIn q rows c p ss h w
+  accepted q rows c p ss h v w x k to a =
+      let j : Judgement = judge (history p.id (v.log h.place)) (idem_of p (sequence_of ss h.place)) 1 in
+      elim (place_cases h.place q) [
+        | inl e ↦
+            subst (λ (y : Place). ServedIn y rows c p ss h w) e
+            (accepted_there rows c p ss h v w x j (subst (λ (y : Place). KeptIn y rows (holding c p ss h) v) (sym e) k)
+            to refl a)
+        | inr apart ↦ accepted_elsewhere q rows c p ss h v w (batch_in_hand p ss h x) j k apart a
+      ]
+
+module _ (route : Dispatching) (q : Place) where
+  -- what is in hand was sent, and that this is done was heard, or was not
+  produced : (rows : List Event) (s : State) (v w : View) (asked : ProduceRequest) (body : Body) (heard : Option Reply)
+      (marks : Bool)
+      → KeptIn route q rows s v → IsSending route s asked → Does v (Produce asked) body w
+      → KeptIn route q rows (after s (Called (record { request = Produce asked; heard = heard }) marks)) w
+  produced rows s v w asked body heard marks k i d =
+      subst (λ (y : State). KeptIn route q rows (after y
+      (Called (record { request = Produce asked; heard = heard }) marks)) w) (sym same)
+      (marked_or_not marks done)
+    where
+      same : s ≡ holding s.outbox i.producer s.sequences i.hand
+      same = is_holding s i.producer i.hand i.has_producer i.has_hand
+
+      done : ServedIn route q rows s.outbox i.producer s.sequences i.hand w
+      done =
+          accepted route q rows s.outbox i.producer s.sequences i.hand v w i.message
+          (subst (λ (y : State). KeptIn route q rows y v) same k) i.routed
+          (rw (i.same_topic, i.same_partition, i.same_batch) at d.1)
+
+      marked_or_not : (m : Bool) → ServedIn route q rows s.outbox i.producer s.sequences i.hand w
+          → KeptIn route q rows (after (holding s.outbox i.producer s.sequences i.hand)
+          (Called (record { request = Produce asked; heard = heard }) m)) w
+      marked_or_not true x = kept_after_mark route q x.0 x.1
+      marked_or_not false x = rw (given_by_produce (Some i.producer) asked heard) x.0
+
+  -- a call that was not answered with Done changes nothing
+  pub kept_after_no_answer : (rows : List Event) (s : State) (v : View) (request : Request) (heard : Option Reply)
+      (marks : Bool)
+      → MayCall route s request heard marks → NotDone heard → KeptIn route q rows s v
+      → KeptIn route q rows (after s (Called (record { request = request; heard = heard }) marks)) v
+  kept_after_no_answer rows s v InitProducerId heard true may n k = absurd (true≢false may.1)
+  kept_after_no_answer rows s v InitProducerId heard false may n k = rw (given_unheard s.producer heard n) k
+  kept_after_no_answer rows s v (Produce asked) heard true may n k = absurd (not_both heard n (may.1 refl))
+  kept_after_no_answer rows s v (Produce asked) heard false may n k = rw (given_by_produce s.producer asked heard) k
+  kept_after_no_answer rows s v _ heard marks may n k = absurd may
+
+  -- an INIT_PRODUCER_ID that was answered
+  given_id : (rows : List Event) (s : State) (v : View) (body : Body) (heard : Option Reply)
+      → s.producer ≡ None → body ≡ bodies.Producer v.next_producer 0 → Hears heard (Done body) → KeptIn route q rows s v
+      → KeptIn route q rows (holding_id s (producer_after s.producer InitProducerId heard)) (with_producer v)
+  given_id rows s v body heard none is (inl e) k =
+      rw (given_unheard s.producer heard (heard_none heard e)) (kept_later route q (omega arith) k)
+  given_id rows s v body heard none is (inr e) k =
+      rw (e, is)
+      (kept_after_id route q (subst (λ (o : Option Producer). KeptIn route q rows (holding_id s o) v) none k))
+
+  -- a call that was served, whatever was heard
+  pub kept_after_served : (rows : List Event) (s : State) (v w : View) (request : Request) (reply : Reply)
+      (heard : Option Reply) (marks : Bool)
+      → MayCall route s request heard marks → Hears heard reply → Step v request reply w → KeptIn route q rows s v
+      → KeptIn route q rows (after s (Called (record { request = request; heard = heard }) marks)) w
+  kept_after_served rows s v w request (Denied code verdicts) heard marks may hears step k =
+      rw (step.log q, step.next_producer)
+      (kept_after_no_answer rows s v request heard marks may (heard_no_done heard (Denied code verdicts) tt hears) k)
+  kept_after_served rows s v w request (Refused code reason) heard marks may hears step k =
+      rw (step.log q, step.next_producer)
+      (kept_after_no_answer rows s v request heard marks may (heard_no_done heard (Refused code reason) tt hears) k)
+  kept_after_served rows s v w InitProducerId (Done body) heard true may hears step k = absurd (true≢false may.1)
+  kept_after_served rows s v w InitProducerId (Done body) heard false may hears step k =
+      rw (step.1.log q, step.1.next_producer) (given_id rows s v body heard may.0 step.0 hears k)
+  kept_after_served rows s v w (Produce asked) (Done body) heard marks may hears step k =
+      produced rows s v w asked body heard marks k may.0 step
+  kept_after_served rows s v w _ (Done body) heard marks may hears step k = absurd may
+
+-- ---- what a router leaves on a partition: by its own moves and the entries of the journal, each at its pace
 
 module _ (route : Dispatching) (q : Place) (tells : TellsIds route) (worker : ℕ) (end : View) where
   -- what is kept, by the entries that are left: the history from some view on, and the premises

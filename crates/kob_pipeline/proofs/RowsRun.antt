@@ -23,8 +23,8 @@ use Rattle.kob_pipeline.specs.Waiting.{IsSent, IsWaitingOrSent}
 use Rattle.kob_pipeline.proofs.Events.{IsKept, kept_at_start, kept_marked, kept_recorded, kept_swept}
 use Rattle.kob_pipeline.proofs.Lists.{all_append, all_contained, all_last, all_weaker, contains_more, first_is, kept_by, same_some}
 use Rattle.kob_pipeline.proofs.RouterKept.{InHand, in_hand_more}
-use Rattle.kob_pipeline.proofs.RouterMoves.{call_of, kept_by_router, recorded}
-use Rattle.kob_pipeline.proofs.RouterServed.{heard_none, not_both}
+use Rattle.kob_pipeline.proofs.Rows.{call_of, kept_by_router, recorded}
+use Rattle.kob_pipeline.proofs.RouterRun.{heard_none, not_both}
 use Rattle.kob_pipeline.proofs.ServedRuns.{Hears, IsServedBy, IsUnheard}
 
 -- a Done that was heard is the reply

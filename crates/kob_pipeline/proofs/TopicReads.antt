@@ -10,7 +10,7 @@ use Rattle.kob_partition.specs.Retained.{plain_meaning}
 use Rattle.kob_catalog.specs.Creation.{new_topic}
 use Rattle.kob_catalog.specs.Topics.{Topic, has_topic, partition_at, partition_of, place_of, with_partition, with_partition_found, without_topic, without_topic_found}
 use Rattle.kob_pipeline.specs.BrokerView.{batches_of}
-use Rattle.kob_pipeline.proofs.Texts.{as_told, either_way}
+use Rattle.kob_pipeline.proofs.Lists.{bytes_are, bytes_turned}
 
 later : {X : Type 0} (p : X → Bool) (i : ℕ) (xs : List X)
     → position_from p (i + 1) xs ≡ option_map suc (position_from p i xs)
@@ -123,8 +123,8 @@ module _ {P : Type 0} where
               of_cons other j (with_it i written t) ts,
               of_cons other j t ts,
               written_in t.partitions i j p written at,
-              as_told name t.name hit,
-              either_way t.name other,
+              bytes_are name t.name hit,
+              bytes_turned t.name other,
             )
             (by (same_text other t.name))
         | inr miss ↦
@@ -137,7 +137,7 @@ module _ {P : Type 0} where
               read_written name i p written ts other j at,
             )
             (elim (cases_Bool (same_text other t.name)) [
-              | inl on ↦ rw (on, ap (same_text name) (as_told other t.name on), miss) refl
+              | inl on ↦ rw (on, ap (same_text name) (bytes_are other t.name on), miss) refl
               | inr off ↦ rw off refl
             ])
       ]
@@ -160,7 +160,7 @@ module _ {P : Type 0} where
               without_cons name t ts,
               hit,
               of_cons other j t ts,
-              ap (same_text other) (sym (as_told name t.name hit)) ∙ differs,
+              ap (same_text other) (sym (bytes_are name t.name hit)) ∙ differs,
             ) refl
         | inr miss ↦
             rw (
@@ -191,7 +191,7 @@ module _ {P : Type 0} where
   read_of_removed name j (t ∷ ts) once =
       elim (cases_Bool (same_text name t.name)) [
         | inl hit ↦
-            rw (without_cons name t ts, hit) (unknown name ts j (rw (← as_told name t.name hit) at once.0))
+            rw (without_cons name t ts, hit) (unknown name ts j (rw (← bytes_are name t.name hit) at once.0))
         | inr miss ↦
             rw (without_cons name t ts, miss, of_cons name j t (without_topic name ts), miss)
             (read_of_removed name j ts once.1)
@@ -260,7 +260,7 @@ module _ {P : Type 0} where
   once_added (t ∷ ts) made new once =
       let parts = or_parts (same_text made.name t.name) (has_topic made.name ts)
       (sym (has_cons made.name t ts) ∙ new) in
-      (rw (has_added t.name made ts, once.0) (either_way t.name made.name ∙ parts.0), once_added ts made parts.1 once.1)
+      (rw (has_added t.name made ts, once.0) (bytes_turned t.name made.name ∙ parts.0), once_added ts made parts.1 once.1)
 
 -- a topic that is made has no batches
 pub read_added : (name : List ℕ) (j : ℕ) (topics : List (Topic Plain)) (made : List ℕ) (count : ℕ)

@@ -7,8 +7,7 @@ use Rattle.kob_pipeline.specs.Consumers.{IsConsumerStep}
 use Rattle.kob_pipeline.specs.Steps.{Leads, standing}
 use Rattle.kob_pipeline.specs.declared.plan.ConsumerStep.TheVariants.{Tick}
 use Rattle.kob_pipeline.specs.declared.plan.Loss.TheVariants.{None}
-use Rattle.kob_pipeline.proofs.ConsumerRuns.{consumer_calls_append}
-use Rattle.kob_pipeline.proofs.Stepping.{leads_more}
+use Rattle.kob_pipeline.proofs.Worked.{consumer_calls_append, leads_more}
 use Rattle.kob_pipeline.proofs.consuming.Consuming.run.Goals as goal
 
 pub loop-step-preserved : goal.loop-step-preserved

@@ -2,10 +2,10 @@ use Rattle.std.proofs.Common.{[], ◌∷◌, refl}
 use Rattle.kob_inbox.specs.Run.{calls_of}
 use Rattle.kob_inbox.specs.Run.Move.{Restarted}
 use Rattle.kob_inbox.specs.Tick.{state_of}
-use Rattle.kob_pipeline.specs.declared.plan.ConsumerStep.TheVariants as steps
 use Rattle.kob_pipeline.specs.Consumers.{IsConsumerStep}
 use Rattle.kob_pipeline.specs.Steps.{standing}
-use Rattle.kob_pipeline.proofs.Stepping.{leads_as, leads_still}
+use Rattle.kob_pipeline.proofs.Worked.{leads_as, leads_still}
+use Rattle.kob_pipeline.specs.declared.plan.ConsumerStep.TheVariants as steps
 use Rattle.kob_pipeline.proofs.consuming.Consuming.step.Goals as goal
 
 pub returns-in-Restart-clause-done : goal.returns-in-Restart-clause-done

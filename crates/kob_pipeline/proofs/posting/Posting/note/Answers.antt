@@ -4,11 +4,11 @@ use Rattle.kob_router.specs.Dispatches.{dispatch_of}
 use Rattle.kob_router.specs.Run.{calls_of}
 use Rattle.kob_router.specs.Run.Move.{Recorded}
 use Rattle.kob_router.specs.Tick.{IsFirst, hand_of, state_of}
-use Rattle.kob_pipeline.specs.declared.plan.ServiceStep.TheVariants as steps
 use Rattle.kob_pipeline.specs.Services.{IsServiceStep}
 use Rattle.kob_outbox.specs.Fields.{first_bad}
 use Rattle.kob_pipeline.proofs.Outboxes.{first_recorded, fits_unless}
-use Rattle.kob_pipeline.proofs.Stepping.{leads_still}
+use Rattle.kob_pipeline.proofs.Worked.{leads_still}
+use Rattle.kob_pipeline.specs.declared.plan.ServiceStep.TheVariants as steps
 use Rattle.kob_pipeline.proofs.posting.Posting.note.Goals as goal
 
 pub returns-in-Ok-clause-first : goal.returns-in-Ok-clause-first

@@ -6,7 +6,7 @@ use Rattle.kob_router.specs.declared.dispatch.Target.{Target}
 use Rattle.kob_router.proofs.Runs.{calls_append}
 use Rattle.kob_pipeline.specs.Services.{IsServiceStep}
 use Rattle.kob_pipeline.specs.Steps.{Leads, standing}
-use Rattle.kob_pipeline.proofs.Stepping.{leads_more}
+use Rattle.kob_pipeline.proofs.Worked.{leads_more}
 use Rattle.kob_pipeline.proofs.posting.Posting.run.Goals as goal
 
 pub loop-step-preserved : goal.loop-step-preserved

@@ -3,10 +3,10 @@ use Rattle.kob_router.specs.Dispatches.{dispatch_of}
 use Rattle.kob_router.specs.Run.{calls_of}
 use Rattle.kob_router.specs.Run.Move.{Restarted}
 use Rattle.kob_router.specs.Tick.{state_of}
-use Rattle.kob_pipeline.specs.declared.plan.ServiceStep.TheVariants as steps
 use Rattle.kob_pipeline.specs.Services.{IsServiceStep}
 use Rattle.kob_pipeline.specs.Steps.{standing}
-use Rattle.kob_pipeline.proofs.Stepping.{leads_as, leads_still}
+use Rattle.kob_pipeline.proofs.Worked.{leads_as, leads_still}
+use Rattle.kob_pipeline.specs.declared.plan.ServiceStep.TheVariants as steps
 use Rattle.kob_pipeline.proofs.posting.Posting.step.Goals as goal
 
 pub returns-in-Restart-clause-done : goal.returns-in-Restart-clause-done
