@@ -1,9 +1,9 @@
 -- What an inbox makes of the records that arrive.
-use Rattle.std.proofs.Common.{◌≡◌, ◌⊎◌, ℕ, suc, ◌<◌, List, [], ◌∷◌, ◌++◌, Bool, true, false, ◌||◌, cond, refl, sym, ap, ◌∙◌, inl, inr, subst, length, take, append_assoc}
+use Rattle.std.proofs.Common.{◌≡◌, ◌⊎◌, ℕ, suc, ◌<◌, List, [], ◌∷◌, ◌++◌, Bool, true, false, ◌||◌, cond, refl, sym, ap, ◌∙◌, inl, inr, subst, length, take, drop, append_assoc}
 use Rattle.std.specs.Prelude.{Option, Some, None, Contains, filter, map, nat_eq, option_map, slice_get, bytes_eq}
 use Rattle.std.specs.List.{list_any, AllByRecursion, filter_map, cons_option}
 use Rattle.std.proofs.lemmas.Bool.{both_ways, cases_Bool, cases_lt}
-use Rattle.std.proofs.lemmas.List.{map_push}
+use Rattle.std.proofs.lemmas.List.{map_push, take-append-drop}
 use Rattle.std.proofs.lemmas.List.Elements.{filter_map-append}
 use Rattle.kob_names.specs.declared.record.Record.{Record}
 use Rattle.kob_outbox.specs.Events.{id_text}
@@ -23,12 +23,12 @@ use Rattle.kob_inbox.specs.declared.cursors.Standing.{Standing}
 use Rattle.kob_inbox.specs.declared.fetcher.Subscription.{Subscription}
 use Rattle.kob_pipeline.specs.Taking.{from_place}
 use Rattle.kob_pipeline.specs.Delivery.{told_id}
-use Rattle.kob_pipeline.specs.Firsts.{firsts, numbers_below, with_each_new, with_new}
+use Rattle.kob_pipeline.specs.Firsts.{IsPrefixOf, firsts, numbers_below, with_each_new, with_new}
 use Rattle.kob_pipeline.specs.Reaching.{taken_ids}
 use Rattle.kob_pipeline.proofs.ConsumerKept.{IsContent, offset_of}
 use Rattle.kob_pipeline.proofs.ConsumerRun.{IsDueAs, is_due_as}
 use Rattle.kob_pipeline.proofs.Lists.{all_append, bytes_turned, contains_at, same_here}
-use Rattle.kob_pipeline.proofs.Once.{any_first, each_new_append, each_new_more, front_has, length_numbers, next_number, numbers_again, numbers_beyond, take_one_more}
+use Rattle.kob_pipeline.proofs.Once.{any_first, each_new_append, each_new_more, front_has, length_numbers, next_number, numbers_again, numbers_beyond, prefix_firsts, take_one_more}
 use Rattle.kob_rights.specs.declared.reply.Body.TheVariants as bodies
 
 -- the event ids of what arrived
@@ -165,8 +165,17 @@ one_passes test P (a ∷ arrived) h =
 
 -- the firsts of what is taken in order are those of a front
 
-abbrev front_ids : List Record → ℕ → List (List ℕ)
+abbrev pub front_ids : List Record → ℕ → List (List ℕ)
 front_ids records n = firsts bytes_eq (filter_map told_id (take n records))
+
+pub front_begins : (records : List Record) (n : ℕ)
+    → IsPrefixOf (front_ids records n) (firsts bytes_eq (filter_map told_id records))
+front_begins records n =
+    let split : filter_map told_id (take n records) ++ filter_map told_id (drop n records) ≡ filter_map told_id records =
+    sym (filter_map-append told_id (take n records) (drop n records))
+    ∙ ap (filter_map told_id) (take-append-drop n records) in
+    subst (λ (ids : List (List ℕ)). IsPrefixOf (front_ids records n) (firsts bytes_eq ids)) split
+    (prefix_firsts bytes_eq (filter_map told_id (take n records)) (filter_map told_id (drop n records)))
 
 ids_more : (records : List Record) (n : ℕ) (x : Record) → slice_get records n ≡ Some x
     → front_ids records (suc n) ≡ with_each_new bytes_eq (front_ids records n) (cons_option (told_id x) [])

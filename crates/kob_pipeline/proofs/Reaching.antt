@@ -1,10 +1,9 @@
 -- What reaches an inbox follows of what was delivered and what was taken in order, as an aggregate has one place.
-use Rattle.std.proofs.Common.{◌≡◌, ℕ, List, [], ◌∷◌, ◌++◌, Bool, true, false, refl, sym, ap, ◌∙◌, inl, inr, subst, take, drop}
+use Rattle.std.proofs.Common.{◌≡◌, ℕ, List, [], ◌∷◌, ◌++◌, Bool, true, false, refl, sym, ap, ◌∙◌, inl, inr, subst}
 use Rattle.std.specs.Prelude.{Option, Some, None, Contains, filter, bytes_eq}
 use Rattle.std.specs.List.{list_any, AllByRecursion, IsDistinct, filter_map}
 use Rattle.std.proofs.lemmas.Bool.{cases_Bool}
-use Rattle.std.proofs.lemmas.List.{take-append-drop}
-use Rattle.std.proofs.lemmas.List.Elements.{All-contains, All-from_recursion, filter_map-append}
+use Rattle.std.proofs.lemmas.List.Elements.{All-contains, All-from_recursion}
 use Rattle.kob_names.specs.declared.record.Record.{Record}
 use Rattle.kob_outbox.specs.Contents.{Event}
 use Rattle.kob_router.specs.Dispatches.{dispatch_of, place_of}
@@ -19,10 +18,10 @@ use Rattle.kob_pipeline.specs.Delivery.{IsDelivered, IsRecordOf, goes_to, ids_of
 use Rattle.kob_pipeline.specs.Firsts.{IsPrefixOf, firsts}
 use Rattle.kob_pipeline.specs.Reaching.{IsCopy, ReachesInOrder, rows_of_aggregate, taken_of_aggregate, is_of_aggregate, taken_ids}
 use Rattle.kob_pipeline.proofs.Aggregates.{IsToldById, filter_both, one_place, passes_as, sent_message}
-use Rattle.kob_pipeline.proofs.Arriving.{firsts_of_front, ids_told, inbox_ids, none_passes, one_passes, passes, passes_here, record_told, with_told}
+use Rattle.kob_pipeline.proofs.Arriving.{firsts_of_front, front_begins, front_ids, ids_told, inbox_ids, none_passes, one_passes, passes, passes_here, record_told, with_told}
 use Rattle.kob_pipeline.proofs.ConsumerKept.{IsContent}
 use Rattle.kob_pipeline.proofs.Lists.{all_at, all_both, all_last, all_passing, all_weaker, keeps, places_are, same_here, same_some}
-use Rattle.kob_pipeline.proofs.Once.{filter_firsts, filter_map_turned, firsts_distinct, prefix_filter, prefix_firsts, prefix_on}
+use Rattle.kob_pipeline.proofs.Once.{filter_firsts, filter_map_turned, firsts_distinct, prefix_filter, prefix_on}
 use Rattle.kob_pipeline.proofs.RouterKept.{TellsItsId}
 
 module _ (target : Target) (rows : List Event) where
@@ -154,11 +153,11 @@ module _ (target : Target) (rows : List Event) where
           (ids_of (rows_of_aggregate rows kind id))
       begins_here arrived a records from f pass delivered order =
           subst (λ (ids : List (List ℕ)). IsPrefixOf ids (ids_of (rows_of_aggregate rows kind id))) (sym first)
-          (subst (IsPrefixOf (filter in_aggregate (firsts bytes_eq (filter_map told_id (take order.bound records)))))
-          whole
-          (prefix_on (filter in_aggregate (firsts bytes_eq (filter_map told_id (take order.bound records))))
-          (filter in_aggregate (firsts bytes_eq (filter_map told_id records)))
-          (filter in_aggregate (ids_of (routed_to (dispatch_of target) a.place rows))) in_log in_rows))
+          (subst (IsPrefixOf (filter in_aggregate (front_ids records order.bound))) whole
+          (prefix_filter in_aggregate (front_ids records order.bound)
+          (ids_of (routed_to (dispatch_of target) a.place rows))
+          (prefix_on (front_ids records order.bound) (firsts bytes_eq (filter_map told_id records))
+          (ids_of (routed_to (dispatch_of target) a.place rows)) (front_begins records order.bound) delivered.ids)))
         where
           here : AllByRecursion (λ (b : Arrival). passes in_aggregate (told_id b.message) ≡ true → b.place ≡ a.place)
               arrived
@@ -166,38 +165,13 @@ module _ (target : Target) (rows : List Event) where
               all_weaker IsFromRow (λ (b : Arrival). passes in_aggregate (told_id b.message) ≡ true → b.place ≡ a.place)
               (λ b g pass_b. same_place_as a b f g pass pass_b) arrived from
 
-          front : firsts bytes_eq (ids_told (from_place a.place arrived)) ≡ firsts bytes_eq
-              (filter_map told_id (take order.bound records))
-          front = firsts_of_front records order.bound (from_place a.place arrived) 0 order.offsets order.contents
-
           first : firsts bytes_eq (filter in_aggregate (ids_told arrived)) ≡ filter in_aggregate
-              (firsts bytes_eq (filter_map told_id (take order.bound records)))
+              (front_ids records order.bound)
           first =
               ap (firsts bytes_eq) (passes_here in_aggregate a.place arrived here)
               ∙ sym (filter_firsts in_aggregate (ids_told (from_place a.place arrived)))
-              ∙ ap (filter in_aggregate) front
-
-          split : filter_map told_id (take order.bound records) ++ filter_map told_id (drop order.bound records) ≡
-              filter_map told_id records
-          split =
-              sym (filter_map-append told_id (take order.bound records) (drop order.bound records))
-              ∙ ap (filter_map told_id) (take-append-drop order.bound records)
-
-          in_log : IsPrefixOf (filter in_aggregate (firsts bytes_eq (filter_map told_id (take order.bound records))))
-              (filter in_aggregate (firsts bytes_eq (filter_map told_id records)))
-          in_log =
-              prefix_filter in_aggregate (firsts bytes_eq (filter_map told_id (take order.bound records)))
-              (firsts bytes_eq (filter_map told_id records))
-              (subst (λ (ids : List (List ℕ)). IsPrefixOf
-              (firsts bytes_eq (filter_map told_id (take order.bound records))) (firsts bytes_eq ids)) split
-              (prefix_firsts bytes_eq (filter_map told_id (take order.bound records))
-              (filter_map told_id (drop order.bound records))))
-
-          in_rows : IsPrefixOf (filter in_aggregate (firsts bytes_eq (filter_map told_id records)))
-              (filter in_aggregate (ids_of (routed_to (dispatch_of target) a.place rows)))
-          in_rows =
-              prefix_filter in_aggregate (firsts bytes_eq (filter_map told_id records))
-              (ids_of (routed_to (dispatch_of target) a.place rows)) delivered.ids
+              ∙ ap (filter in_aggregate)
+              (firsts_of_front records order.bound (from_place a.place arrived) 0 order.offsets order.contents)
 
           whole : filter in_aggregate (ids_of (routed_to (dispatch_of target) a.place rows)) ≡ ids_of
               (rows_of_aggregate rows kind id)

@@ -6,7 +6,7 @@ use Rattle.kob_inbox.specs.Run.{IsConsumerRun, Move, State, after, calls_of}
 use Rattle.kob_inbox.specs.Run.Move.{Called, Restarted}
 use Rattle.std.proofs.lemmas.List.{take_more}
 use Rattle.kob_pipeline.specs.declared.plan.Loss.{Loss}
-use Rattle.kob_pipeline.specs.Steps.{Leads, Standing, Steps, standing}
+use Rattle.kob_pipeline.specs.Steps.{Doing, Leads, Standing, Steps, standing}
 use Rattle.std.specs.List.{All, enumerate_from}
 use Rattle.kob_inbox.specs.Rows.{placed_intake}
 use Rattle.kob_outbox.specs.Events.{stored_row}
@@ -76,34 +76,46 @@ steps_push does old mid new (s ∷ steps) step front last ls ms all here = (
 )
 
 -- one step more, with its calls
-pub leads_push : {S T M : Type 0} (does : S → T → List M → List Loss → S → Type 0) (calls_of : List M → List Call)
-    (old mid new : Standing S) (steps : List T) (step : T)
-    → ((xs ys : List M) → calls_of (xs ++ ys) ≡ calls_of xs ++ calls_of ys)
+leads_push : {S T M : Type 0} {does : Doing S T M} {calls_of : List M → List Call} {old mid new : Standing S} {step : T}
+    (steps : List T) → ((xs ys : List M) → calls_of (xs ++ ys) ≡ calls_of xs ++ calls_of ys)
     → Leads (Steps does) calls_of old steps mid → Leads does calls_of mid step new
     → Leads (Steps does) calls_of old (steps ++ step ∷ []) new
-leads_push does calls_of old mid new steps step joined before here = record {
-  moves = before.moves ++ here.moves;
-  losses = before.losses ++ here.losses;
-  done = steps_push does old.state mid.state new.state steps step before.moves here.moves before.losses here.losses
-      before.done here.done;
-  calls =
-      here.calls ∙ ap (λ cs. cs ++ calls_of here.moves) before.calls
-      ∙ append_assoc old.calls (calls_of before.moves) (calls_of here.moves)
-      ∙ ap (λ cs. old.calls ++ cs) (sym (joined before.moves here.moves));
-  lost = here.lost ∙ ap (λ ls. ls ++ here.losses) before.lost ∙ append_assoc old.losses before.losses here.losses;
-}
+leads_push {does = does} {calls_of = calls_of} {old = old} {mid = mid} {new = new} {step = step} steps joined before
+    here = record {
+      moves = before.moves ++ here.moves;
+      losses = before.losses ++ here.losses;
+      done = steps_push does old.state mid.state new.state steps step before.moves here.moves before.losses here.losses
+          before.done here.done;
+      calls =
+          here.calls ∙ ap (λ cs. cs ++ calls_of here.moves) before.calls
+          ∙ append_assoc old.calls (calls_of before.moves) (calls_of here.moves)
+          ∙ ap (λ cs. old.calls ++ cs) (sym (joined before.moves here.moves));
+      lost = here.lost ∙ ap (λ ls. ls ++ here.losses) before.lost ∙ append_assoc old.losses before.losses here.losses;
+    }
+
+-- the steps up to one more place
+pub leads_more : {S T M : Type 0} {does : Doing S T M} {calls_of : List M → List Call} {old mid new : Standing S}
+    {step : T} (steps : List T) (i : ℕ) → ((xs ys : List M) → calls_of (xs ++ ys) ≡ calls_of xs ++ calls_of ys)
+    → i < length steps → step ≡ get_or steps i step
+    → Leads (Steps does) calls_of old (take i steps) mid → Leads does calls_of mid step new
+    → Leads (Steps does) calls_of old (take (i + 1) steps) new
+leads_more {T = T} {does = does} {calls_of = calls_of} {old = old} {new = new} {step = step} steps i joined within is
+    before here =
+    let longer : take (i + 1) steps ≡ take i steps ++ step ∷ [] =
+    take_more steps i step within ∙ ap (λ (t : T). take i steps ++ t ∷ []) (sym is) in
+    subst (λ (ts : List T). Leads (Steps does) calls_of old ts new) (sym longer)
+    (leads_push (take i steps) joined before here)
 
 -- a step that makes no call
-pub leads_still : {S T M : Type 0} (does : S → T → List M → List Loss → S → Type 0) (calls_of : List M → List Call)
-    (old new : S) (step : T) (moves : List M) (cs : List Call) (ls ms : List Loss)
-    → does old step moves [] new → calls_of moves ≡ [] → ms ≡ ls
-    → Leads does calls_of (standing old cs ls) step (standing new cs ms)
-leads_still does calls_of old new step moves cs ls ms here none same = record {
+pub leads_still : {S T M : Type 0} {does : Doing S T M} {calls_of : List M → List Call} {old new : S} {step : T}
+    {cs : List Call} {ls : List Loss} (moves : List M) → calls_of moves ≡ [] → does old step moves [] new
+    → Leads does calls_of (standing old cs ls) step (standing new cs ls)
+leads_still {cs = cs} {ls = ls} moves none here = record {
   moves = moves;
   losses = [];
   done = here;
   calls = sym (append-nil cs) ∙ ap (λ xs. cs ++ xs) (sym none);
-  lost = same ∙ sym (append-nil ls);
+  lost = sym (append-nil ls);
 }
 
 -- what holds of each step's moves, and of moves one after another, holds of all
@@ -119,26 +131,6 @@ steps_run does Run still joined each old new (step ∷ steps) moves ls all =
     subst (λ xs. Run old xs new) (sym all.7)
     (joined old all.0 new all.1 all.2 (each old step all.1 all.3 all.0 all.5)
     (steps_run does Run still joined each all.0 new steps all.2 all.4 all.6))
-
--- the steps up to one more place
-pub leads_more : {S T M : Type 0} (does : S → T → List M → List Loss → S → Type 0) (calls_of : List M → List Call)
-    (old mid new : Standing S) (steps : List T) (i : ℕ) (step : T)
-    → ((xs ys : List M) → calls_of (xs ++ ys) ≡ calls_of xs ++ calls_of ys) → i < length steps
-    → step ≡ get_or steps i step
-    → Leads (Steps does) calls_of old (take i steps) mid → Leads does calls_of mid step new
-    → Leads (Steps does) calls_of old (take (i + 1) steps) new
-leads_more {S} {T} {M} does calls_of old mid new steps i step joined within is before here =
-    let longer : take (i + 1) steps ≡ take i steps ++ step ∷ [] =
-    take_more steps i step within ∙ ap (λ (t : T). take i steps ++ t ∷ []) (sym is) in
-    subst (λ (ts : List T). Leads (Steps does) calls_of old ts new) (sym longer)
-    (leads_push does calls_of old mid new (take i steps) step joined before here)
-
--- the same step by another name
-pub leads_as : {S T M : Type 0} (does : S → T → List M → List Loss → S → Type 0) (calls_of : List M → List Call)
-    (old new : Standing S) (step other : T) → step ≡ other → Leads does calls_of old other new
-    → Leads does calls_of old step new
-leads_as {S} {T} {M} does calls_of old new step other same leads =
-    subst (λ (t : T). Leads does calls_of old t new) (sym same) leads
 
 -- ---- what a worker's steps, its losses and its notes make together
 
@@ -209,13 +201,14 @@ behind_none : {A : Type 0} (before now these : List A) → before ≡ [] → now
 behind_none before now these none is = is ∙ ap (λ xs. xs ++ these) none
 
 -- what the steps of a service leave, from nothing on
-pub outbox_left : (s : Service) (begun new : routers.State) (before now : List Call) (ls ms fs : List Loss)
-    (left : OutboxEnd) → begun ≡ routers.start → before ≡ [] → ls ≡ [] → fs ≡ ms
+pub outbox_left : (s : Service) {begun new : routers.State} {before now : List Call} {ls ms fs : List Loss}
+    {left : OutboxEnd} → begun ≡ routers.start → before ≡ [] → ls ≡ [] → fs ≡ ms
     → Leads (Steps (IsServiceStep (dispatch_of s.target))) routers.calls_of (standing begun before ls) s.steps.items
     (standing new now ms)
     → map stored_row left.rows.items ≡ later_than 0 new.outbox.events → left.mark ≡ new.outbox.mark
     → IsOutboxLeft s now fs left
-outbox_left s begun new before now ls ms fs left start none unlost same leads rows mark =
+outbox_left s {new = new} {before = before} {now = now} {ls = ls} {ms = ms} {fs = fs} start none unlost same leads rows
+    mark =
     let route = dispatch_of s.target in
     let lost : leads.losses ≡ fs = sym (same ∙ behind_none ls ms leads.losses unlost leads.lost) in
     let steps : Steps (IsServiceStep route) routers.start s.steps.items leads.moves fs new =
@@ -233,14 +226,14 @@ outbox_left s begun new before now ls ms fs left start none unlost same leads ro
     }
 
 -- what the steps of a consumer leave, from nothing on
-pub inbox_left : (c : ConsumerPlan) (begun new : consumers.State) (before now : List Call) (ls ms fs : List Loss)
-    (left : InboxEnd) → begun ≡ consumers.start → before ≡ [] → ls ≡ [] → fs ≡ ms
+pub inbox_left : (c : ConsumerPlan) {begun new : consumers.State} {before now : List Call} {ls ms fs : List Loss}
+    {left : InboxEnd} → begun ≡ consumers.start → before ≡ [] → ls ≡ [] → fs ≡ ms
     → Leads (Steps (IsConsumerStep c.subscription)) consumers.calls_of (standing begun before ls) c.steps.items
     (standing new now ms)
     → map placed_intake left.rows.items ≡ enumerate_from 1 new.inbox → IsInboxLeft c now fs left
-inbox_left c begun new before now ls ms fs left start none unlost same leads rows =
+inbox_left c {new = new} {before = before} {now = now} {ls = ls} {ms = ms} start none unlost same leads rows =
     let t = c.subscription in
-    let lost : leads.losses ≡ fs = sym (same ∙ behind_none ls ms leads.losses unlost leads.lost) in
+    let lost = sym (same ∙ behind_none ls ms leads.losses unlost leads.lost) in
     record {
       moves = leads.moves;
       state = new;
