@@ -1,5 +1,5 @@
 -- Ids that read back from records, and the rows of an aggregate among all rows, and among those of a place.
-use Rattle.std.proofs.Common.{◌≡◌, ℕ, zero, suc, ◌/◌, ◌%◌, ◌<◌, ◌==◌, All, List, Bool, true, false, cond, refl, sym, ap, ◌∙◌, inl, slice_index, arith, if◌then◌else◌, [], ◌∷◌, ◌++◌, ◌||◌, inr, subst}
+use Rattle.std.proofs.Common.{◌≡◌, ℕ, zero, suc, ◌/◌, ◌%◌, ◌<◌, ◌==◌, All, List, Bool, true, false, cond, refl, sym, ap, ◌∙◌, inl, slice_index, arith, if◌then◌else◌, [], ◌∷◌, ◌++◌, inr, subst}
 use Rattle.std.specs.Prelude.{Option, Some, None, option_map, filter, bytes_eq}
 use Rattle.std.specs.Option.{is_some}
 use Rattle.std.proofs.lemmas.Bool.Decides.{nat_tests}
@@ -19,7 +19,7 @@ use Rattle.kob_router.specs.declared.dispatch.Dispatch.{Dispatch}
 use Rattle.kob_router.specs.declared.dispatch.Target.{Target}
 use Rattle.kob_router.specs.declared.routed.Routed.{Routed}
 use Rattle.kob_pipeline.specs.Delivery.{told_id, goes_to, ids_of}
-use Rattle.kob_pipeline.proofs.Lists.{all_last, any_last, bytes_are, bytes_turned, filter_last, filter_not_last, none_in_filter, same_bytes, same_here}
+use Rattle.kob_pipeline.proofs.Lists.{or_false, all_last, any_last, bytes_are, bytes_turned, filter_last, filter_not_last, none_in_filter, same_bytes, same_here}
 use Rattle.kob_pipeline.proofs.RouterKept.{TellsIds, TellsItsId}
 use Rattle.std.proofs.lemmas.Bool.{and_parts, cases_Bool, or_parts}
 use Rattle.std.proofs.lemmas.List.{append-nil, map_push}
@@ -123,10 +123,6 @@ rows_tell target c (_ ∷ moves) = rows_tell target c moves
 -- the row's id is one of those of the rows that pass exactly where the row passes
 abbrev pub IsToldById : (Event → Bool) → List Event → Event → Type 0
 IsToldById test rows row = list_any (bytes_eq row.id) (ids_of (filter test rows)) ≡ test row
-
-or_false : (b : Bool) → (b || false) ≡ b
-or_false true = refl
-or_false false = refl
 
 module _ (test : Event → Bool) where
   -- the rows before one with a new id

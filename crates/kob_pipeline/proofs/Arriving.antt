@@ -223,10 +223,8 @@ firsts_of_front records m (a ∷ arrived) n e h =
           next_number n m a.offset more.0 (sym (append_assoc (numbers_below n) (a.offset ∷ []) more.0) ∙ sym more.1
           ∙ e') in
           let next : with_each_new nat_eq (numbers_below (suc n)) (map offset_of arrived) ≡ numbers_below m =
-          subst (λ (k : ℕ). with_each_new nat_eq (numbers_below n ++ k ∷ []) (map offset_of arrived) ≡ numbers_below m)
-          at e' in
-          let there : slice_get records n ≡ Some a.message = subst (λ (k : ℕ). slice_get records k ≡ Some a.message) at
-          h.0 in
+          rw at at e' in
+          let there : slice_get records n ≡ Some a.message = rw at at h.0 in
           one_then_all (front_ids records n) (told_id a.message) (ids_told arrived)
           ∙ ap (λ (xs : List (List ℕ)). with_each_new bytes_eq xs (ids_told arrived))
           (sym (ids_more records n a.message there))

@@ -1,5 +1,5 @@
 -- What workers left, one worker more at a time, and where the journal is what was noted, or is not.
-use Rattle.std.proofs.Common.{◌≡◌, List, [], ◌∷◌, ◌++◌, length, sym, ap, ◌∙◌, map, arith, refl, subst}
+use Rattle.std.proofs.Common.{◌≡◌, List, [], ◌∷◌, ◌++◌, length, sym, ap, ◌∙◌, map, arith, refl}
 use Rattle.std.proofs.lemmas.List.{flat_map_more, map-append}
 use Rattle.kob_shared.specs.Fleets.{EachIsAnswered, IsAnswered, Follows, IsKept, IsTornAt}
 use Rattle.kob_shared.specs.Noted.{Noted}
@@ -14,7 +14,6 @@ use Rattle.std.specs.List.{AllZip}
 use Rattle.kob_broker.specs.Change.{state_of}
 use Rattle.kob_names.specs.declared.settings.Settings.{Settings}
 use Rattle.kob_shared.specs.declared.compare.Difference.{Difference}
-use Rattle.kob_shared.specs.declared.journal.Entry.{Entry}
 use Rattle.kob_shared.specs.Journals.{IsLegal, Record}
 use Rattle.kob_shared.specs.Openings.{opened_by}
 use Rattle.kob_shared.proofs.Beginnings.{begins_with}
@@ -85,17 +84,14 @@ pub ended : (opening : Settings) (first : Noted) (workers : List Worker) (done :
 ended opening first workers done found end legal kept follows each unrefused answered broker journal transcripts
     outboxes inboxes =
     let notes = notes_of first done in
-    let each_answered = subst (λ (ns : List Noted). EachIsAnswered (events_in ns) (told_in ns)) transcripts answered in
-    let here : IsKept (events_in notes) (told_in notes) end.journal =
-    subst (λ (h : List Entry). IsKept (events_in notes) (told_in notes) h) (sym journal) kept.1 in
+    let each_answered : EachIsAnswered (events_in notes) (told_in notes) = rw transcripts at answered in
+    let here : IsKept (events_in notes) (told_in notes) end.journal = rw journal kept.1 in
     record {
-      legal = subst (λ s. IsLegal (opened_by opening) end.journal s) (sym broker)
-          (subst (λ (h : List Entry). IsLegal (opened_by opening) h found.broker) (sym journal)
-          (subst (λ o. IsLegal (opened_by o) found.journal found.broker) kept.0 legal));
+      legal = rw (broker, journal, ← kept.0) legal;
       begins = begins_with first.events first.told end.journal (each_answered.0).counted follows
           (here.mine 0 (omega arith));
       answered = answered;
-      kept = subst (λ (ns : List Noted). IsKept (events_in ns) (told_in ns) end.journal) (sym transcripts) here;
+      kept = rw transcripts here;
       worker_0 = first;
       asked = refl;
       done = done;
@@ -110,5 +106,4 @@ ended opening first workers done found end legal kept follows each unrefused ans
 pub torn : (opening : Settings) (first : Noted) (done : List (Done WorkerEnd)) (found : Record) (d : Difference)
     (notes : List Noted) → IsTear opening (notes_of first done) found d → notes ≡ notes_of first done
     → IsTornAt opening (events_in notes) (told_in notes) found d.worker d.place
-torn opening first done found d notes tear same =
-    subst (λ (ns : List Noted). IsTornAt opening (events_in ns) (told_in ns) found d.worker d.place) (sym same) tear
+torn opening first done found d notes tear same = rw same tear

@@ -141,6 +141,10 @@ none_in_filter t f p (x ∷ xs) h =
       | inr miss ↦ rw miss (none_in_filter t f p xs parts.1)
     ]
 
+pub or_false : (b : Bool) → (b || false) ≡ b
+or_false true = refl
+or_false false = refl
+
 pub any_last : {A : Type 0} (t : A → Bool) (xs : List A) (x : A) → t x ≡ true → list_any t (xs ++ x ∷ []) ≡ true
 any_last t [] x h = or_left (t x) false h
 any_last t (y ∷ xs) x h = or_right (t y) (list_any t (xs ++ x ∷ [])) (any_last t xs x h)

@@ -28,29 +28,26 @@ pub reached : (bound position : ℕ) (xs : List (ℕ × Record)) → position �
     → Reached bound position xs
 reached bound position [] l c = record { reach = bound; offsets = refl; within = l; no_less = omega arith }
 reached bound position (x ∷ xs) l c =
-    let offsets : List ℕ = map (λ (y : ℕ × Record). y.0) xs in
     elim (cases_lt position bound) [
       | inl lt ↦
           let r = reached bound (position + 1) xs (omega arith) c.1 in
           record {
             reach = r.reach;
-            offsets =
-                ap (λ (k : ℕ). with_each_new nat_eq (with_new nat_eq (numbers_below bound) k) offsets) c.0
-                ∙ ap (λ (ks : List ℕ). with_each_new nat_eq ks offsets) (numbers_again bound position lt)
-                ∙ r.offsets;
-            within = subst (λ (k : ℕ). behind (k + 1) xs ≤ r.reach) (sym c.0) r.within;
+            offsets = rw (c.0, numbers_again bound position lt) r.offsets;
+            within = rw c.0 r.within;
             no_less = r.no_less;
           }
       | inr ge ↦
           let r = reached (suc bound) (position + 1) xs (omega arith) c.1 in
           let at : position ≡ bound = omega arith in
+          let offsets : List ℕ = map (λ (y : ℕ × Record). y.0) xs in
           record {
             reach = r.reach;
             offsets =
                 ap (λ (k : ℕ). with_each_new nat_eq (with_new nat_eq (numbers_below bound) k) offsets) (c.0 ∙ at)
                 ∙ ap (λ (ks : List ℕ). with_each_new nat_eq ks offsets) (numbers_beyond bound bound (omega arith))
                 ∙ r.offsets;
-            within = subst (λ (k : ℕ). behind (k + 1) xs ≤ r.reach) (sym c.0) r.within;
+            within = rw c.0 r.within;
             no_less = omega (arith, r.no_less);
           }
     ]

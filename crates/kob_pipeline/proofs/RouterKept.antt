@@ -257,11 +257,7 @@ step_on ss h q n ahead s (inl apart) =
     ]
 step_on ss h q n ahead s (inr w) =
     let e : h.place ≡ q = ap (λ (x : Hand). x.place) (same_some h w.held w.in_hand) ∙ w.here_it_goes in
-    ap (λ (x : Place). sequence_of (after_use ss x) q) e
-    ∙ sequence_used_here ss q
-    ∙ ap (λ (k : ℕ). Rattle.kob_producers.specs.Sequence.next_sequence k) w.base
-    ∙ next_wrapped w.before
-    ∙ ap wrapped (sym w.one_more)
+    rw (e, sequence_used_here ss q, w.base, next_wrapped w.before, w.one_more) refl
 
 sent_why : (route : Dispatching) (ss : List Sequence) (h : Hand) (q : Place) (n : ℕ) (ahead : Option Event)
     → place_of (route h.event) ≡ Some h.place → IsReady ss h q n ahead

@@ -10,7 +10,7 @@ use Rattle.kob_partition.specs.Retained.{plain_meaning}
 use Rattle.kob_catalog.specs.Creation.{new_topic}
 use Rattle.kob_catalog.specs.Topics.{Topic, has_topic, partition_at, partition_of, place_of, with_partition, with_partition_found, without_topic, without_topic_found}
 use Rattle.kob_pipeline.specs.BrokerView.{batches_of}
-use Rattle.kob_pipeline.proofs.Lists.{bytes_are, bytes_turned}
+use Rattle.kob_pipeline.proofs.Lists.{or_false, bytes_are, bytes_turned}
 
 later : {X : Type 0} (p : X → Bool) (i : ℕ) (xs : List X)
     → position_from p (i + 1) xs ≡ option_map suc (position_from p i xs)
@@ -26,10 +26,6 @@ position_cons : {X : Type 0} (p : X → Bool) (x : X) (xs : List X)
 position_cons p x xs =
     position_from-zero p (x ∷ xs)
     ∙ ap (cond (p x) (Some 0)) (later p 0 xs ∙ ap (option_map suc) (sym (position_from-zero p xs)))
-
-or_false : (b : Bool) → (b || false) ≡ b
-or_false true = refl
-or_false false = refl
 
 or_assoc : (a b c : Bool) → ((a || b) || c) ≡ (a || (b || c))
 or_assoc true b c = refl
