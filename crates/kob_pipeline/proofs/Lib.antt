@@ -1,13 +1,11 @@
 mod Lists
 pub mod Once
-mod Events
 mod Sending
 mod Logged
 mod ServedRuns
 mod OtherSteps
 mod RouterKept
 mod RouterRun
-mod Offsets
 mod ConsumerKept
 mod ConsumerRun
 mod RowsRun

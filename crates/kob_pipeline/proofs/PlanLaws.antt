@@ -8,7 +8,7 @@ use Rattle.kob_shared.specs.Noted.{Noted}
 use Rattle.kob_shared.specs.Runs.{events_in, told_in}
 use Rattle.kob_shared.specs.declared.journal.Entry.{Entry}
 use Rattle.kob_shared.specs.declared.journal.Receipt.{Receipt}
-use Rattle.kob_pipeline.specs.Served.{Served, served_by_notes, served_in, served_to, AreServed}
+use Rattle.kob_pipeline.specs.Served.{Served, served_by_notes, served_in, served_to}
 use Rattle.std.proofs.lemmas.Simd.{map-map}
 use Rattle.std.specs.List.{AllByRecursion, enumerate_from}
 use Rattle.std.specs.Prelude.{Contains}
@@ -108,8 +108,8 @@ module _ (plan : Plan) (end : PipelineEnd) (of : IsPipeline plan end) where
       → IsServicePart service.target (service_number plan k) end.journal by.run.moves by.run.state
   of_service k service by = record {
     run = by.run.run;
-    served = subst (λ (served : List Served). AreServed (routers.calls_of by.run.moves) served)
-        (served_alike end.transcripts.items end.journal (service_number plan k) by.noted of.kept by.transcript)
+    served =
+        rw (← served_alike end.transcripts.items end.journal (service_number plan k) by.noted of.kept by.transcript)
         by.run.served;
   }
 
@@ -117,8 +117,8 @@ module _ (plan : Plan) (end : PipelineEnd) (of : IsPipeline plan end) where
       → IsConsumerPart consumer.subscription (consumer_number plan k) end.journal by.run.moves by.run.state
   of_consumer k consumer by = record {
     run = by.run.run;
-    served = subst (λ (served : List Served). AreServed (consumers.calls_of by.run.moves) served)
-        (served_alike end.transcripts.items end.journal (consumer_number plan k) by.noted of.kept by.transcript)
+    served =
+        rw (← served_alike end.transcripts.items end.journal (consumer_number plan k) by.noted of.kept by.transcript)
         by.run.served;
   }
 
@@ -133,8 +133,7 @@ module _ (plan : Plan) (end : PipelineEnd) (of : IsPipeline plan end) where
       → IsDelivered (dispatch_of service.target) place (rows_of_service service) (records_at plan end place)
   is_delivered k service place there sole never =
       let by : IsServedBy end (service_number plan k) k service = of.services k service there in
-      subst (λ (rows : List Event). IsDelivered (dispatch_of service.target) place rows (records_at plan end place))
-      (its_rows k service by)
+      rw (← its_rows k service by)
       (holds_what_was_routed service.target (service_number plan k) end.journal (view_after plan.settings end.journal)
       by.run.moves by.run.state place history (of_service k service by) sole never)
 

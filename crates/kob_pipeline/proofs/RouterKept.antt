@@ -19,9 +19,8 @@ use Rattle.kob_router.specs.declared.place.Place.{Place}
 use Rattle.kob_router.specs.declared.sender.Producer.{Producer}
 use Rattle.kob_router.specs.declared.sequences.Sequence.{Sequence}
 use Rattle.kob_pipeline.specs.Delivery.{told_id, goes_to}
-use Rattle.kob_pipeline.proofs.Events.{IsKept, kept_at_start, kept_recorded, kept_swept, kept_marked}
+use Rattle.kob_pipeline.proofs.Logged.{IsKept, kept_at_start, kept_recorded, kept_swept, kept_marked, IsLogged, logged_later, logged_recorded, IsBatchOf, logged_again, logged_elsewhere, logged_first}
 use Rattle.kob_pipeline.proofs.Lists.{all_last, get_front, first_is, place_cases, same_here, same_some}
-use Rattle.kob_pipeline.proofs.Logged.{IsLogged, logged_later, logged_recorded, IsBatchOf, logged_again, logged_elsewhere, logged_first}
 use Rattle.kob_pipeline.proofs.Sending.{AreCounted, counted_none, no_history, sequence_prepared, wrapped, IsNumber, apart_wrapped, counted_last, history_last, idem_of, next_base, next_wrapped, repeat_base, sequence_used_elsewhere, sequence_used_here}
 use Rattle.std.proofs.lemmas.Bool.{both_ways}
 use Rattle.std.proofs.lemmas.List.{append-nil, length_push}

@@ -163,8 +163,7 @@ pub service_run_of : (s : Service) (noted : Noted) (left : OutboxEnd) (calls : L
     → IsOutboxLeft s calls ls left → AreServedByLoss ls calls (served_by_notes noted.events noted.told)
     → All (λ e. (e.principal ≡ s.principal) × (e.host ≡ s.host)) noted.events → IsServiceRun s noted left
 service_run_of s noted left calls ls is told own =
-    let lost =
-    subst (λ (cs : List Call). AreServedByLoss ls cs (served_by_notes noted.events noted.told)) is.made told in
+    let lost = rw is.made at told in
     record {
       moves = is.moves;
       losses = ls;
@@ -182,8 +181,7 @@ pub consumption_of : (c : ConsumerPlan) (noted : Noted) (left : InboxEnd) (calls
     → IsInboxLeft c calls ls left → AreServedByLoss ls calls (served_by_notes noted.events noted.told)
     → All (λ e. (e.principal ≡ c.principal) × (e.host ≡ c.host)) noted.events → IsConsumption c noted left
 consumption_of c noted left calls ls is told own =
-    let lost =
-    subst (λ (cs : List Call). AreServedByLoss ls cs (served_by_notes noted.events noted.told)) is.made told in
+    let lost = rw is.made at told in
     record {
       moves = is.moves;
       losses = ls;
