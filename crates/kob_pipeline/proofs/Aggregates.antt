@@ -171,7 +171,8 @@ module _ (test : Event → Bool) where
       let row : Event = stored_event (next_seq s.outbox) event in (
         ap (λ (xs : List (List ℕ)). xs ++ row.id ∷ []) ids ∙ sym (map_push (λ (r : Event). r.id) rows row),
         told_more rows row
-            (subst (λ (xs : List (List ℕ)). list_any (bytes_eq row.id) xs ≡ false) ids (is_fresh s.outbox change event may))
+            (subst (λ (xs : List (List ℕ)). list_any (bytes_eq row.id) xs ≡ false) ids
+            (is_fresh s.outbox change event may))
             h,
       )
   told_move route Swept rows s es may u k = rw append-nil k

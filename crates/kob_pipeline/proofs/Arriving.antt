@@ -171,7 +171,8 @@ front_ids records n = firsts bytes_eq (filter_map told_id (take n records))
 pub front_begins : (records : List Record) (n : ℕ)
     → IsPrefixOf (front_ids records n) (firsts bytes_eq (filter_map told_id records))
 front_begins records n =
-    let split : filter_map told_id (take n records) ++ filter_map told_id (drop n records) ≡ filter_map told_id records =
+    let split : filter_map told_id (take n records) ++ filter_map told_id (drop n records)
+    ≡ filter_map told_id records =
     sym (filter_map-append told_id (take n records) (drop n records))
     ∙ ap (filter_map told_id) (take-append-drop n records) in
     subst (λ (ids : List (List ℕ)). IsPrefixOf (front_ids records n) (firsts bytes_eq ids)) split

@@ -54,7 +54,13 @@ read_committed groups place offset q =
           rw (on, stored_or (commits_of place.group groups) place.topic q.topic _)
           (elim (cases_Bool (same_text place.topic q.topic)) [
             | inl hit ↦
-                rw (hit, stored nat_eq_equiv (offsets_on place.topic (commits_of place.group groups)) place.partition q.partition offset, bytes_are place.group q.group on, bytes_are place.topic q.topic hit) refl
+                rw (
+                  hit,
+                  stored nat_eq_equiv (offsets_on place.topic (commits_of place.group groups)) place.partition
+                      q.partition offset,
+                  bytes_are place.group q.group on,
+                  bytes_are place.topic q.topic hit,
+                ) refl
             | inr miss ↦ rw (miss, bytes_are place.group q.group on) refl
           ])
       | inr off ↦ rw off refl

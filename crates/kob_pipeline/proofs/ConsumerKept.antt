@@ -303,7 +303,8 @@ module _ (q : Place) where
   -- so many of the records that were heard are taken in
   pub taking_after_fetch : {records : List Record} {committed : Option ℕ} {cursors : List Cursor}
       {arrived : List Arrival} (p : Place) (position count : ℕ) (xs : List (ℕ × Record))
-      (k : Taking records committed cursors arrived) → (count ≡ 0 → xs ≡ []) → (p ≡ q → Fits records k.bound position xs)
+      (k : Taking records committed cursors arrived) → (count ≡ 0 → xs ≡ [])
+      → (p ≡ q → Fits records k.bound position xs)
       → Taking records committed (with_progress cursors p count (behind position xs)) (arrived ++ arrivals p xs)
   taking_after_fetch p position zero xs k none fits = rw (none refl) (taking_nothing k)
   taking_after_fetch {records} {committed} {cursors} {arrived} p position (suc count) xs k none fits =

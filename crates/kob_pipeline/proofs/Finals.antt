@@ -102,7 +102,8 @@ front made end Run each (p ∷ ps) rest (d ∷ ds) all kept =
     }
 
 -- what such workers left of one kind: all that they left, or nothing
-all_own : {E : Type 0} (of : WorkerEnd → List E) (end : E → WorkerEnd) (own : List (Noted × E)) (later : List (Done WorkerEnd))
+all_own : {E : Type 0} (of : WorkerEnd → List E) (end : E → WorkerEnd) (own : List (Noted × E))
+    (later : List (Done WorkerEnd))
     → ((e : E) → of (end e) ≡ e ∷ [])
     → flat_map (λ (d : Done WorkerEnd). of d.end) (map (ended end) own ++ later)
     ≡ map (λ (x : Noted × E). x.1) own ++ flat_map (λ (d : Done WorkerEnd). of d.end) later
@@ -110,7 +111,8 @@ all_own of end [] later is = refl
 all_own {E} of end (x ∷ own) later is =
     rw (is x.1) (ap (λ (es : List E). x.1 ∷ es) (all_own of end own later is))
 
-no_other : {E F : Type 0} (of : WorkerEnd → List F) (end : E → WorkerEnd) (own : List (Noted × E)) (later : List (Done WorkerEnd))
+no_other : {E F : Type 0} (of : WorkerEnd → List F) (end : E → WorkerEnd) (own : List (Noted × E))
+    (later : List (Done WorkerEnd))
     → ((e : E) → of (end e) ≡ [])
     → flat_map (λ (d : Done WorkerEnd). of d.end) (map (ended end) own ++ later)
     ≡ flat_map (λ (d : Done WorkerEnd). of d.end) later
@@ -263,7 +265,8 @@ by_number opening plan end left f g h same =
             noted = at.0.0;
             left = at.0.1;
             transcript =
-                transcript_at end.transcripts.items left.worker_0 serving g.own (others ++ []) (length ss + k + 1) k at.0
+                transcript_at end.transcripts.items left.worker_0 serving g.own (others ++ []) (length ss + k + 1) k
+                at.0
                 notes (omega (arith, served, in_front)) at.1;
             inbox = left_at end.inboxes.items g.own k at.0 inboxes at.1;
             run = at.2;
@@ -275,7 +278,8 @@ by_number opening plan end left f g h same =
             transcript =
                 transcript_at end.transcripts.items left.worker_0 (serving ++ consuming) h.own []
                 (length ss + length cs + k + 1) k at.0
-                (notes ∙ ap (λ (ns : List Noted). left.worker_0 ∷ ns) (sym (append_assoc serving consuming (others ++ []))))
+                (notes
+                ∙ ap (λ (ns : List Noted). left.worker_0 ∷ ns) (sym (append_assoc serving consuming (others ++ []))))
                 (omega (arith, served, consumed, in_front, next, both)) at.1;
             events = at.2;
           };

@@ -104,7 +104,8 @@ pub kept_marked : {rows : List Event} {c : Contents} {sent rest : List Event} {r
 kept_marked {c = c} {sent = sent} {rest = rest} {r = r} k =
     let more : (x : Event) → nat_lt r.seq x.seq ≡ true → nat_lt c.mark x.seq ≡ true =
     λ x h. lt-ltb c.mark x.seq (omega (arith, ltb-true r.seq x.seq h, k.mark, k.order.0)) in
-    let beyond = order_beyond r.seq (length sent + 1) (ids_of sent ++ r.id ∷ []) rest (omega (arith, k.order.0)) k.order.2 in
+    let beyond =
+    order_beyond r.seq (length sent + 1) (ids_of sent ++ r.id ∷ []) rest (omega (arith, k.order.0)) k.order.2 in
     let tail : filter (λ row. nat_lt r.seq row.seq) (r ∷ rest) ≡ rest =
     rw (le-ltb r.seq r.seq (omega arith)) (filter_all (λ row. nat_lt r.seq row.seq) rest beyond) in
     record {

@@ -40,7 +40,8 @@ module _ (target : Target) (rows : List Event) where
         | inl on ↦
             let h' : AllByRecursion (IsContent records) (a ∷ from_place q arrived) = rw on at h in
             let r = all_at (IsRecordOf (dispatch_of target) q rows) records a.offset a.message h'.0 each in
-            let there = ap (λ (p : Place). Some (record { place = p; message = a.message })) (sym (places_are a.place q on))
+            let there =
+            ap (λ (p : Place). Some (record { place = p; message = a.message })) (sym (places_are a.place q on))
             in
             rw on ((r.0, r.1, r.2 ∙ there), rows_at q records each arrived h'.1)
         | inr off ↦ rw off (rows_at q records each arrived (rw off at h))

@@ -321,7 +321,8 @@ module _ (route : Dispatching) (q : Place) where
   log_more : {rows : List Event} {c : Contents} {log : List Batch} {next : ℕ} {sent : List Event} {r : Event}
       {x : Record} {b : Batch} (ahead : Option Event) (rest tail : List Event) → here ahead ++ rest ≡ r ∷ tail
       → Contains rows r → IsBatchOf route q r x next b → IsKept rows c sent (here ahead ++ rest)
-      → IsLogged route q rows log next (sent ++ here ahead) → IsLogged route q rows (log ++ b ∷ []) next (sent ++ r ∷ [])
+      → IsLogged route q rows log next (sent ++ here ahead)
+      → IsLogged route q rows (log ++ b ∷ []) next (sent ++ r ∷ [])
   log_more {rows} {c} {log} {next} {sent} None rest tail w at is k l =
       logged_first route q at is (subst (IsKept rows c sent) w k).order.1
       (subst (IsLogged route q rows log next) (append-nil sent) l)

@@ -134,7 +134,8 @@ module _ (route : Dispatching) (worker : ℕ) (journal : List Entry) where
       })
   kept_move (Called c marks) rows s may u k =
       no_more rows (after s (Called c marks))
-      (kept_call rows s c.request c.heard marks may (λ on asked i is done. absurd (not_both c.heard (heard_none c.heard u) done)) k)
+      (kept_call rows s c.request c.heard marks may
+      (λ on asked i is done. absurd (not_both c.heard (heard_none c.heard u) done)) k)
 
   -- the entries that are left are of the journal
   record IsLeft (rows : List Event) (s : State) (es : List Entry) : Type 0 where

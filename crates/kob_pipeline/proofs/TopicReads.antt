@@ -12,6 +12,8 @@ use Rattle.kob_catalog.specs.Topics.{Topic, has_topic, partition_at, partition_o
 use Rattle.kob_pipeline.specs.BrokerView.{batches_of}
 use Rattle.kob_pipeline.proofs.Lists.{or_false, bytes_are, bytes_turned}
 
+-- the first place that passes, by the first element
+
 later : {X : Type 0} (p : X → Bool) (i : ℕ) (xs : List X)
     → position_from p (i + 1) xs ≡ option_map suc (position_from p i xs)
 later p i [] = refl
@@ -32,11 +34,15 @@ or_assoc true b c = refl
 or_assoc false b c = refl
 
 module _ {P : Type 0} where
+  abbrev named : List ℕ → Topic P → Bool
+  named name topic = same_text name topic.name
+
   -- the look-ups and the edits by the first topic
 
   of_cons : (name : List ℕ) (n : ℕ) (t : Topic P) (ts : List (Topic P))
       → partition_of name n (t ∷ ts) ≡ cond (same_text name t.name) (slice_get t.partitions n) (partition_of name n ts)
-  of_cons name n t ts = ap (λ at. partition_at (t ∷ ts) at n) (position_cons (λ (topic : Topic P). same_text name topic.name) t ts) ∙ by (same_text name t.name) (place_of name ts)
+  of_cons name n t ts =
+      ap (λ at. partition_at (t ∷ ts) at n) (position_cons (named name) t ts) ∙ by (named name t) (place_of name ts)
     where
       by : (hit : Bool) (at : Option ℕ) → partition_at (t ∷ ts) (cond hit (Some 0) (option_map suc at)) n
           ≡ cond hit (slice_get t.partitions n) (partition_at ts at n)
@@ -46,7 +52,7 @@ module _ {P : Type 0} where
 
   has_cons : (name : List ℕ) (t : Topic P) (ts : List (Topic P))
       → has_topic name (t ∷ ts) ≡ same_text name t.name || has_topic name ts
-  has_cons name t ts = ap is_some (position_cons (λ (topic : Topic P). same_text name topic.name) t ts) ∙ by (same_text name t.name) (place_of name ts)
+  has_cons name t ts = ap is_some (position_cons (named name) t ts) ∙ by (named name t) (place_of name ts)
     where
       by : (hit : Bool) (at : Option ℕ) → is_some (cond hit (Some 0) (option_map suc at)) ≡ hit || is_some at
       by true at = refl
@@ -61,7 +67,7 @@ module _ {P : Type 0} where
       → with_partition name n written (t ∷ ts)
       ≡ cond (same_text name t.name) (with_it n written t ∷ ts) (t ∷ with_partition name n written ts)
   with_cons name n written t ts =
-      ap (λ at. with_partition_found at n written (t ∷ ts)) (position_cons (λ (topic : Topic P). same_text name topic.name) t ts)
+      ap (λ at. with_partition_found at n written (t ∷ ts)) (position_cons (named name) t ts)
       ∙ by (same_text name t.name) (place_of name ts)
     where
       by : (hit : Bool) (at : Option ℕ)
@@ -74,7 +80,8 @@ module _ {P : Type 0} where
   without_cons : (name : List ℕ) (t : Topic P) (ts : List (Topic P))
       → without_topic name (t ∷ ts) ≡ cond (same_text name t.name) ts (t ∷ without_topic name ts)
   without_cons name t ts =
-      ap (λ at. without_topic_found at (t ∷ ts)) (position_cons (λ (topic : Topic P). same_text name topic.name) t ts) ∙ by (same_text name t.name) (place_of name ts)
+      ap (λ at. without_topic_found at (t ∷ ts)) (position_cons (named name) t ts)
+      ∙ by (named name t) (place_of name ts)
     where
       by : (hit : Bool) (at : Option ℕ) → without_topic_found (cond hit (Some 0) (option_map suc at)) (t ∷ ts)
           ≡ cond hit ts (t ∷ without_topic_found at ts)
@@ -200,7 +207,9 @@ module _ {P : Type 0} where
   has_with other name n written [] = refl
   has_with other name n written (t ∷ ts) =
       elim (cases_Bool (same_text name t.name)) [
-        | inl hit ↦ rw (with_cons name n written t ts, hit) (has_cons other (with_it n written t) ts ∙ sym (has_cons other t ts))
+        | inl hit ↦
+            rw (with_cons name n written t ts, hit)
+            (has_cons other (with_it n written t) ts ∙ sym (has_cons other t ts))
         | inr miss ↦
             rw (
               with_cons name n written t ts,
@@ -255,8 +264,10 @@ module _ {P : Type 0} where
   once_added [] made new once = (refl, tt)
   once_added (t ∷ ts) made new once =
       let parts = or_parts (same_text made.name t.name) (has_topic made.name ts)
-      (sym (has_cons made.name t ts) ∙ new) in
-      (rw (has_added t.name made ts, once.0) (bytes_turned t.name made.name ∙ parts.0), once_added ts made parts.1 once.1)
+      (sym (has_cons made.name t ts) ∙ new) in (
+        rw (has_added t.name made ts, once.0) (bytes_turned t.name made.name ∙ parts.0),
+        once_added ts made parts.1 once.1,
+      )
 
 -- a topic that is made has no batches
 pub read_added : (name : List ℕ) (j : ℕ) (topics : List (Topic Plain)) (made : List ℕ) (count : ℕ)
