@@ -1,28 +1,116 @@
--- The rows of an aggregate among all rows, and among those of a place.
-use Rattle.std.proofs.Common.{◌≡◌, ℕ, List, [], ◌∷◌, ◌++◌, Bool, true, false, ◌||◌, cond, refl, sym, ap, ◌∙◌, inl, inr, subst}
-use Rattle.std.specs.Prelude.{Option, Some, None, filter, bytes_eq}
-use Rattle.std.specs.List.{list_any, AllByRecursion}
-use Rattle.std.proofs.lemmas.Bool.{and_parts, cases_Bool, cond-false, cond-true, or_parts}
-use Rattle.std.proofs.lemmas.List.{append-nil, map_push}
-use Rattle.std.proofs.lemmas.List.Folds.{list_any-append}
-use Rattle.kob_outbox.specs.Contents.{Contents, Event}
-use Rattle.kob_outbox.specs.Events.{stored_event}
-use Rattle.kob_outbox.specs.Recording.{next_seq, after_record}
-use Rattle.kob_router.specs.Dispatches.{Dispatching, dispatch_of, place_of}
-use Rattle.kob_router.specs.Places.{same_place}
-use Rattle.kob_router.specs.Run.{IsRouterRun, Move, State, after, events_of}
-use Rattle.kob_router.specs.Run.Move.{Called, Recorded, Restarted, Swept, Took}
+-- Ids that read back from records, and the rows of an aggregate among all rows, and among those of a place.
+use Rattle.std.proofs.Common.{◌≡◌, ℕ, zero, suc, ◌/◌, ◌%◌, ◌<◌, ◌==◌, All, List, Bool, true, false, cond, refl, sym, ap, ◌∙◌, inl, slice_index, arith, if◌then◌else◌, [], ◌∷◌, ◌++◌, inr, subst}
+use Rattle.std.specs.Prelude.{Option, Some, None, option_map, filter, bytes_eq}
+use Rattle.std.specs.Option.{is_some}
+use Rattle.std.proofs.lemmas.Bool.Decides.{nat_tests}
+use Rattle.std.proofs.lemmas.List.Elements.{All-from_recursion}
+use Rattle.std.specs.List.{AllByRecursion, list_any}
+use Rattle.uuid.specs.Text.{by_index, digit_place, hex_digit, hyphen, is_hyphen_place, lower, nibble, parsed}
+use Rattle.uuid.proofs.RoundTrips.{parses_hyphenated}
+use Rattle.uuid.proofs.TextLemmas.{by_index_at, by_index_cong, by_index_length}
+use Rattle.kob_names.specs.TopicRules.{topic_fault}
+use Rattle.kob_names.specs.declared.record.Record.{Record}
+use Rattle.kob_outbox.specs.Contents.{Event, Contents}
+use Rattle.kob_outbox.specs.Events.{id_text, stored_event}
+use Rattle.kob_router.specs.Dispatches.{dispatch_of, Dispatching, place_of}
+use Rattle.kob_router.specs.Partitioner.{partition_of}
+use Rattle.kob_router.specs.Route.{key_of, message_of, topic_of}
 use Rattle.kob_router.specs.declared.dispatch.Dispatch.{Dispatch}
 use Rattle.kob_router.specs.declared.dispatch.Target.{Target}
+use Rattle.kob_router.specs.declared.routed.Routed.{Routed}
+use Rattle.kob_pipeline.specs.Delivery.{told_id, goes_to, ids_of}
+use Rattle.kob_pipeline.proofs.Lists.{or_false, all_last, any_last, bytes_are, bytes_turned, filter_last, filter_not_last, none_in_filter, same_bytes, same_here}
+use Rattle.kob_pipeline.proofs.RouterKept.{TellsIds, TellsItsId}
+use Rattle.std.proofs.lemmas.Bool.{and_parts, cases_Bool, or_parts}
+use Rattle.std.proofs.lemmas.List.{append-nil, map_push}
+use Rattle.std.proofs.lemmas.List.Folds.{list_any-append}
+use Rattle.kob_outbox.specs.Recording.{next_seq, after_record}
+use Rattle.kob_router.specs.Places.{same_place}
+use Rattle.kob_router.specs.Run.{IsRouterRun, May, Move, State, after, calls_of, events_of, start}
+use Rattle.kob_router.specs.Run.Move.{Called, Recorded, Restarted, Swept, Took}
 use Rattle.kob_router.specs.declared.place.Place.{Place}
-use Rattle.kob_router.proofs.Lawful as lawful
-use Rattle.kob_pipeline.specs.Delivery.{goes_to, ids_of}
+use Rattle.kob_shared.specs.declared.journal.Entry.{Entry}
 use Rattle.kob_pipeline.specs.Reaching.{is_of_aggregate}
-use Rattle.kob_pipeline.proofs.Events.{is_fresh}
-use Rattle.kob_pipeline.proofs.Ids.{target_tells}
-use Rattle.kob_pipeline.proofs.Lists.{all_last, any_last, bytes_are, bytes_turned, filter_last, filter_not_last, none_in_filter, same_bytes, same_here}
-use Rattle.kob_pipeline.proofs.RouterKept.{TellsItsId}
-use Rattle.kob_pipeline.proofs.RouterRun.{called_ids, none_recorded, one_recorded}
+use Rattle.kob_pipeline.specs.Served.{AreServed, served_to}
+use Rattle.kob_pipeline.proofs.Logged.{is_fresh}
+use Rattle.kob_pipeline.proofs.Rows.{call_of, called_ids, kept_by_router, recorded}
+use Rattle.kob_pipeline.proofs.ServedRuns.{IsUnheard}
+use Rattle.kob_router.proofs.Lawful as lawful
+
+-- the sixteen bytes that the text of an id is made of
+abbrev bytes_of : List ℕ → List ℕ
+bytes_of id = by_index 16 (λ i. slice_index id i % 256)
+
+all_by_index : {X : Type 0} (P : X → Type 0) (n : ℕ) (f : ℕ → X) → ((i : ℕ) → P (f i)) → AllByRecursion P (by_index n f)
+unfolding by_index
+all_by_index P zero f h = tt
+all_by_index P (suc n) f h = all_last P (by_index n f) (f n) (all_by_index P n f h) (h n)
+
+bytes_small : (id : List ℕ) → All (λ b. b < 256) (bytes_of id)
+bytes_small id =
+    All-from_recursion (λ b. b < 256) (bytes_of id)
+    (all_by_index (λ b. b < 256) 16 (λ i. slice_index id i % 256) (λ i. omega arith))
+
+byte_at : (id : List ℕ) (i : ℕ) → i < 16 → slice_index (bytes_of id) i ≡ slice_index id i % 256
+byte_at id i h = by_index_at 16 (λ j. slice_index id j % 256) i _ h
+
+nibble_same : (id : List ℕ) (k : ℕ) → k < 32 → nibble (bytes_of id) k ≡ nibble id k
+nibble_same id k h =
+    let at : slice_index (bytes_of id) (k / 2) ≡ slice_index id (k / 2) % 256 = byte_at id (k / 2) (omega arith) in
+    let high : slice_index id (k / 2) % 256 / 16 % 16 ≡ slice_index id (k / 2) / 16 % 16 = omega arith in
+    let low : slice_index id (k / 2) % 256 % 16 ≡ slice_index id (k / 2) % 16 = omega arith in
+    ap (λ (b : ℕ). cond (k % 2 == 0) (b / 16 % 16) (b % 16)) at
+    ∙ ap (λ (x : ℕ). cond (k % 2 == 0) x (slice_index id (k / 2) % 256 % 16)) high
+    ∙ ap (λ (x : ℕ). cond (k % 2 == 0) (slice_index id (k / 2) / 16 % 16) x) low
+
+digit_within : (k : ℕ) → k < 36 → digit_place k < 32
+digit_within k h = grind (arith, nat_tests)
+
+text_same : (id : List ℕ) → id_text (bytes_of id) ≡ id_text id
+text_same id =
+    by_index_cong 36 _ _
+    (λ k h. ap (λ (n : ℕ). cond (is_hyphen_place k) hyphen (hex_digit lower n))
+    (nibble_same id (digit_place k) (digit_within k h)))
+
+-- whatever an id is, its text reads back as an id with the same text
+pub text_back : (id : List ℕ) → option_map id_text (parsed (id_text id)) ≡ Some (id_text id)
+text_back id =
+    let reads : Some (bytes_of id) ≡ parsed (id_text (bytes_of id)) =
+    parses_hyphenated lower (bytes_of id) (inl refl) (by_index_length 16 (λ i. slice_index id i % 256)) (bytes_small id)
+    in
+    ap (λ (t : List ℕ). option_map id_text (parsed t)) (sym (text_same id))
+    ∙ ap (option_map id_text) (sym reads)
+    ∙ ap (λ (t : List ℕ). Some t) (text_same id)
+
+message_is : (bad : Bool) (topic key : List ℕ) (partitions : ℕ) (message : Record) (d : Dispatch)
+    → option_map (λ (r : Routed). record {
+      place = record { topic = r.topic; partition = partition_of key partitions };
+      message = r.message;
+    })
+    (if bad then None else Some (record { topic = topic; message = message })) ≡ Some d
+    → message ≡ d.message
+message_is true topic key partitions message d h = cc
+message_is false topic key partitions message d h = go h
+  where
+    go : {x : Dispatch} → Some x ≡ Some d → x.message ≡ d.message
+    go e = ap (λ (o : Option Dispatch). message_in o) e
+      where
+        message_in : Option Dispatch → Record
+        message_in None = message
+        message_in (Some y) = y.message
+
+pub sent_message : (target : Target) (row : Event) (d : Dispatch) → dispatch_of target row ≡ Some d
+    → message_of target.route row ≡ d.message
+sent_message target row d h =
+    message_is (is_some (topic_fault (topic_of target.route row))) (topic_of target.route row) (key_of row)
+    target.partitions
+    (message_of target.route row) d h
+
+pub target_tells : (target : Target) → TellsIds (dispatch_of target)
+target_tells target seq event d h =
+    ap told_id (sym (sent_message target (stored_event seq event) d h)) ∙ text_back event.id
+
+-- ---- the rows of an aggregate among all rows, and among those of a place
 
 -- what a target makes of a recorded row tells its id
 pub rows_tell : (target : Target) (c : Contents) (moves : List Move)
@@ -36,10 +124,6 @@ rows_tell target c (_ ∷ moves) = rows_tell target c moves
 abbrev pub IsToldById : (Event → Bool) → List Event → Event → Type 0
 IsToldById test rows row = list_any (bytes_eq row.id) (ids_of (filter test rows)) ≡ test row
 
-or_false : (b : Bool) → (b || false) ≡ b
-or_false true = refl
-or_false false = refl
-
 module _ (test : Event → Bool) where
   -- the rows before one with a new id
   older : (rows more : List Event) (row : Event) → list_any (bytes_eq row.id) (ids_of rows) ≡ false
@@ -49,12 +133,9 @@ module _ (test : Event → Bool) where
   older [] more row new h = tt
   older (x ∷ xs) more row new h =
       let parts = or_parts (bytes_eq row.id x.id) (list_any (bytes_eq row.id) (ids_of xs)) new in
-      let none : list_any (bytes_eq x.id) (row.id ∷ []) ≡ false =
-      ap (λ (b : Bool). b || false) (bytes_turned x.id row.id ∙ parts.0) in (
-        list_any-append (bytes_eq x.id) (ids_of (filter test more)) (row.id ∷ [])
-            ∙ ap (λ (b : Bool). list_any (bytes_eq x.id) (ids_of (filter test more)) || b) none
-            ∙ or_false (list_any (bytes_eq x.id) (ids_of (filter test more)))
-            ∙ h.0,
+      let ids : List (List ℕ) = ids_of (filter test more) in (
+        rw (list_any-append (bytes_eq x.id) ids (row.id ∷ []), bytes_turned x.id row.id, parts.0)
+            (or_false (list_any (bytes_eq x.id) ids) ∙ h.0),
         older xs more row parts.1 h.1,
       )
 
@@ -62,49 +143,50 @@ module _ (test : Event → Bool) where
       → AllByRecursion (IsToldById test rows) rows → AllByRecursion (IsToldById test (rows ++ row ∷ []))
       (rows ++ row ∷ [])
   told_more rows row new h =
+      let ids : List (List ℕ) = ids_of (filter test rows) in
       elim (cases_Bool (test row)) [
         | inl on ↦
-            let ids : List (List ℕ) = ids_of (filter test rows) in
-            let e : ids_of (filter test (rows ++ row ∷ [])) ≡ ids ++ row.id ∷ [] =
+            let more : ids_of (filter test (rows ++ row ∷ [])) ≡ ids ++ row.id ∷ [] =
             ap ids_of (filter_last test rows row on) ∙ map_push (λ (r : Event). r.id) (filter test rows) row in
             subst (λ (xs : List (List ℕ)). AllByRecursion (λ (x : Event). list_any (bytes_eq x.id) xs ≡ test x)
-            (rows ++ row ∷ [])) (sym e)
+            (rows ++ row ∷ [])) (sym more)
             (all_last (λ (x : Event). list_any (bytes_eq x.id) (ids ++ row.id ∷ []) ≡ test x) rows row
             (older rows rows row new h)
             (any_last (bytes_eq row.id) ids row.id (same_bytes row.id) ∙ sym on))
         | inr off ↦
-            let ids : List (List ℕ) = ids_of (filter test rows) in
-            let e : ids_of (filter test (rows ++ row ∷ [])) ≡ ids = ap ids_of (filter_not_last test rows row off) in
+            let same : ids_of (filter test (rows ++ row ∷ [])) ≡ ids = ap ids_of (filter_not_last test rows row off) in
             subst (λ (xs : List (List ℕ)). AllByRecursion (λ (x : Event). list_any (bytes_eq x.id) xs ≡ test x)
-            (rows ++ row ∷ [])) (sym e)
+            (rows ++ row ∷ [])) (sym same)
             (all_last (λ (x : Event). list_any (bytes_eq x.id) ids ≡ test x) rows row h
             (none_in_filter (bytes_eq row.id) (λ (r : Event). r.id) test rows new ∙ sym off))
       ]
 
-  pub told_all : (route : Dispatching) (all : List Event) (moves : List Move) (s final : State) (rows : List Event)
-      → rows ++ events_of s.outbox moves ≡ all → IsRouterRun route s moves final → s.outbox.ids ≡ ids_of rows
-      → AllByRecursion (IsToldById test rows) rows → AllByRecursion (IsToldById test all) all
-  told_all route all [] s final rows are run ids h =
-      subst (λ (rs : List Event). AllByRecursion (IsToldById test rs) rs) (sym (append-nil rows) ∙ are) h
-  told_all route all (Recorded change event ∷ ms) s final rows are run ids h =
-      let row : Event = stored_event (next_seq s.outbox) event in
-      told_all route all ms (after s (Recorded change event)) final (rows ++ row ∷ [])
-      (one_recorded all rows (events_of (after_record s.outbox change event) ms) row are) run.1
-      (ap (λ (xs : List (List ℕ)). xs ++ row.id ∷ []) ids ∙ sym (map_push (λ (r : Event). r.id) rows row))
-      (told_more rows row
-      (subst (λ (xs : List (List ℕ)). list_any (bytes_eq row.id) xs ≡ false) ids (is_fresh s.outbox change event run.0))
-      h)
-  told_all route all (Swept ∷ ms) s final rows are run ids h =
-      told_all route all ms (after s Swept) final rows (none_recorded all rows ms (after s Swept).outbox s.outbox refl
-      are) run.1 ids h
-  told_all route all (Restarted ∷ ms) s final rows are run ids h =
-      told_all route all ms (after s Restarted) final rows are run.1 ids h
-  told_all route all (Took hand ∷ ms) s final rows are run ids h =
-      told_all route all ms (after s (Took hand)) final rows are run.1 ids h
-  told_all route all (Called c marks ∷ ms) s final rows are run ids h =
-      told_all route all ms (after s (Called c marks)) final rows
-      (none_recorded all rows ms (after s (Called c marks)).outbox s.outbox (called_ids s c marks) are) run.1
-      (called_ids s c marks ∙ ids) h
+  -- what is kept along a run: the ids are those of the rows
+  abbrev IsTold : List Event → State → List Entry → Type 0
+  IsTold rows s es = (s.outbox.ids ≡ ids_of rows) × AllByRecursion (IsToldById test rows) rows
+
+  told_move : (route : Dispatching) (m : Move) (rows : List Event) (s : State) (es : List Entry) → May route s m
+      → IsUnheard (call_of m) → IsTold rows s es → IsTold (rows ++ recorded s m) (after s m) es
+  told_move route (Recorded change event) rows s es may u (ids, h) =
+      let row : Event = stored_event (next_seq s.outbox) event in (
+        ap (λ (xs : List (List ℕ)). xs ++ row.id ∷ []) ids ∙ sym (map_push (λ (r : Event). r.id) rows row),
+        told_more rows row
+            (subst (λ (xs : List (List ℕ)). list_any (bytes_eq row.id) xs ≡ false) ids
+            (is_fresh s.outbox change event may))
+            h,
+      )
+  told_move route Swept rows s es may u k = rw append-nil k
+  told_move route Restarted rows s es may u k = rw append-nil k
+  told_move route (Took hand) rows s es may u k = rw append-nil k
+  told_move route (Called c marks) rows s es may u (ids, h) = rw append-nil (called_ids s c marks ∙ ids, h)
+
+  pub told_all : (route : Dispatching) (worker : ℕ) (journal : List Entry) (moves : List Move) (final : State)
+      → IsRouterRun route start moves final → AreServed (calls_of moves) (served_to worker journal)
+      → AllByRecursion (IsToldById test (events_of start.outbox moves)) (events_of start.outbox moves)
+  told_all route worker journal moves final run served =
+      (kept_by_router route worker IsTold (told_move route)
+      (λ c marks rows s e es may by own k. (called_ids s c marks ∙ k.0, k.1))
+      (λ rows s e es other k. k) moves final journal run served (refl, tt)).1
 
 -- the rows of a place whose ids pass are those of the aggregate
 pub filter_both : (p r s : Event → Bool) (rows : List Event)
@@ -114,15 +196,11 @@ filter_both p r s [] h = refl
 filter_both p r s (x ∷ rows) h =
     elim (cases_Bool (r x)) [
       | inl on ↦
-          let same : p x ≡ s x = sym (cond-true (r x) (p x) false on) ∙ h.0 in
-          ap (filter p) (cond-true (r x) (x ∷ filter r rows) (filter r rows) on)
-          ∙ ap (λ (ys : List Event). cond (p x) (x ∷ ys) ys) (filter_both p r s rows h.1)
-          ∙ ap (λ (b : Bool). cond b (x ∷ filter s rows) (filter s rows)) same
+          let same : p x ≡ s x = rw on at h.0 in
+          rw (on, same) (ap (λ (ys : List Event). cond (s x) (x ∷ ys) ys) (filter_both p r s rows h.1))
       | inr off ↦
-          let same : s x ≡ false = sym h.0 ∙ cond-false (r x) (p x) false off in
-          ap (filter p) (cond-false (r x) (x ∷ filter r rows) (filter r rows) off)
-          ∙ filter_both p r s rows h.1
-          ∙ sym (cond-false (s x) (x ∷ filter s rows) (filter s rows) same)
+          let same : s x ≡ false = sym (rw off at h.0) in
+          rw (off, same) (filter_both p r s rows h.1)
     ]
 
 same_aggregate : (kind id : List ℕ) (row : Event) → is_of_aggregate kind id row ≡ true → (row.aggregate_type ≡ kind)
@@ -160,9 +238,6 @@ module _ (target : Target) (kind id : List ℕ) where
       one : cond (goes_to q (dispatch_of target x)) (test x.id) false ≡ is_of_aggregate kind id x
       one =
           elim (cases_Bool (is_of_aggregate kind id x)) [
-            | inl on ↦
-                cond-true (goes_to q (dispatch_of target x)) (test x.id) false
-                (goes_there (dispatch_of target x) q (one_place x row on is ∙ at))
-                ∙ h.0
+            | inl on ↦ rw (goes_there (dispatch_of target x) q (one_place x row on is ∙ at)) h.0
             | inr off ↦ fails_too (goes_to q (dispatch_of target x)) (test x.id) (h.0 ∙ off) ∙ sym off
           ]

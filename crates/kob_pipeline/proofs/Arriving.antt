@@ -1,13 +1,12 @@
 -- What an inbox makes of the records that arrive.
-use Rattle.std.proofs.Common.{◌≡◌, ◌⊎◌, ℕ, suc, ◌<◌, List, [], ◌∷◌, ◌++◌, Bool, true, false, ◌||◌, cond, refl, sym, ap, ◌∙◌, inl, inr, subst, length, take, append_assoc}
+use Rattle.std.proofs.Common.{◌≡◌, ◌⊎◌, ℕ, suc, ◌<◌, List, [], ◌∷◌, ◌++◌, Bool, true, false, ◌||◌, cond, refl, sym, ap, ◌∙◌, inl, inr, subst, length, take, drop, append_assoc}
 use Rattle.std.specs.Prelude.{Option, Some, None, Contains, filter, map, nat_eq, option_map, slice_get, bytes_eq}
 use Rattle.std.specs.List.{list_any, AllByRecursion, filter_map, cons_option}
-use Rattle.std.proofs.lemmas.Bool.{both_ways, cases_Bool, cases_lt, cond-false, cond-true}
-use Rattle.std.proofs.lemmas.List.{map_push}
+use Rattle.std.proofs.lemmas.Bool.{both_ways, cases_Bool, cases_lt}
+use Rattle.std.proofs.lemmas.List.{map_push, take-append-drop}
 use Rattle.std.proofs.lemmas.List.Elements.{filter_map-append}
 use Rattle.kob_names.specs.declared.record.Record.{Record}
 use Rattle.kob_outbox.specs.Events.{id_text}
-use Rattle.kob_rights.specs.declared.reply.Body.TheVariants as bodies
 use Rattle.kob_rights.specs.declared.reply.Reply.{Reply}
 use Rattle.kob_rights.specs.declared.reply.Reply.TheVariants.{Denied, Done, Refused}
 use Rattle.kob_rights.specs.declared.request.Request.{Request}
@@ -24,14 +23,13 @@ use Rattle.kob_inbox.specs.declared.cursors.Standing.{Standing}
 use Rattle.kob_inbox.specs.declared.fetcher.Subscription.{Subscription}
 use Rattle.kob_pipeline.specs.Taking.{from_place}
 use Rattle.kob_pipeline.specs.Delivery.{told_id}
-use Rattle.kob_pipeline.specs.Firsts.{firsts, numbers_below, with_each_new, with_new}
+use Rattle.kob_pipeline.specs.Firsts.{IsPrefixOf, firsts, numbers_below, with_each_new, with_new}
 use Rattle.kob_pipeline.specs.Reaching.{taken_ids}
 use Rattle.kob_pipeline.proofs.ConsumerKept.{IsContent, offset_of}
-use Rattle.kob_pipeline.proofs.ConsumerServed.{IsDueAs, is_due_as}
+use Rattle.kob_pipeline.proofs.ConsumerRun.{IsDueAs, is_due_as}
 use Rattle.kob_pipeline.proofs.Lists.{all_append, bytes_turned, contains_at, same_here}
-use Rattle.kob_pipeline.proofs.Logged.{each_new_append, new_put, old_left}
-use Rattle.kob_pipeline.proofs.Offsets.{numbers_again, numbers_beyond}
-use Rattle.kob_pipeline.proofs.Once.{any_first, each_new_more, front_has, length_numbers, next_number, take_one_more}
+use Rattle.kob_pipeline.proofs.Once.{any_first, each_new_append, each_new_more, front_has, length_numbers, next_number, numbers_again, numbers_beyond, prefix_firsts, take_one_more}
+use Rattle.kob_rights.specs.declared.reply.Body.TheVariants as bodies
 
 -- the event ids of what arrived
 abbrev pub ids_told : List Arrival → List (List ℕ)
@@ -88,25 +86,14 @@ there_as (e ∷ events) id =
     ap (λ (b : Bool). b || is_there events id) (bytes_turned e.id id)
     ∙ ap (λ (b : Bool). bytes_eq id e.id || b) (there_as events id)
 
-pub intake_old : (events : Contents) (e : Intake) → is_there events e.id ≡ true → with_intake events e ≡ events
-intake_old events e h = cond-true (is_there events e.id) events (events ++ e ∷ []) h
-
-pub intake_new : (events : Contents) (e : Intake) → is_there events e.id ≡ false
-    → with_intake events e ≡ events ++ e ∷ []
-intake_new events e h = cond-false (is_there events e.id) events (events ++ e ∷ []) h
-
-intake_id : (events : Contents) (e : Intake) → taken_ids (with_intake events e) ≡ with_new bytes_eq (taken_ids events)
-    e.id
+intake_id : (events : Contents) (e : Intake) → taken_ids (with_intake events e)
+    ≡ with_new bytes_eq (taken_ids events) e.id
 intake_id events e =
-    elim (cases_Bool (is_there events e.id)) [
-      | inl old ↦
-          ap taken_ids (intake_old events e old)
-          ∙ sym (old_left bytes_eq (taken_ids events) e.id (sym (there_as events e.id) ∙ old))
-      | inr new ↦
-          ap taken_ids (intake_new events e new)
-          ∙ map_push (λ (i : Intake). i.id) events e
-          ∙ sym (new_put bytes_eq (taken_ids events) e.id (sym (there_as events e.id) ∙ new))
-    ]
+    rw (← there_as events e.id)
+    (elim (cases_Bool (is_there events e.id)) [
+      | inl old ↦ rw old refl
+      | inr new ↦ rw new (map_push (λ (i : Intake). i.id) events e)
+    ])
 
 told_one : (events : Contents) (o : Option (List ℕ)) (a : Arrival) (ids : List (List ℕ))
     → with_each_new bytes_eq (taken_ids (with_told events o a)) ids ≡ with_each_new bytes_eq (taken_ids events)
@@ -133,7 +120,7 @@ passes test (Some id) = test id
 filter_skip : (test : List ℕ → Bool) (o : Option (List ℕ)) (ids : List (List ℕ)) → passes test o ≡ false
     → filter test (cons_option o ids) ≡ filter test ids
 filter_skip test None ids h = refl
-filter_skip test (Some id) ids h = cond-false (test id) (id ∷ filter test ids) (filter test ids) h
+filter_skip test (Some id) ids h = rw h refl
 
 filter_put : (test : List ℕ → Bool) (o : Option (List ℕ)) (ids other : List (List ℕ))
     → filter test ids ≡ filter test other
@@ -147,23 +134,14 @@ pub passes_here : (test : List ℕ → Bool) (q : Place) (arrived : List Arrival
     → filter test (ids_told arrived) ≡ filter test (ids_told (from_place q arrived))
 passes_here test q [] h = refl
 passes_here test q (a ∷ arrived) h =
+    let rest = passes_here test q arrived h.1 in
     elim (cases_Bool (same_place a.place q)) [
-      | inl on ↦
-          filter_put test (told_id a.message) (ids_told arrived) (ids_told (from_place q arrived))
-          (passes_here test q arrived h.1)
-          ∙ ap (λ (ys : List Arrival). filter test (ids_told ys))
-          (sym (cond-true (same_place a.place q) (a ∷ from_place q arrived) (from_place q arrived) on))
-      | inr off ↦
-          let fails : passes test (told_id a.message) ≡ false =
-          elim (cases_Bool (passes test (told_id a.message))) [
-            | inl p ↦
-                absurd (both_ways (same_place a.place q) off (ap (λ (y : Place). same_place y q) (h.0 p) ∙ same_here q))
-            | inr f ↦ f
-          ] in
-          filter_skip test (told_id a.message) (ids_told arrived) fails
-          ∙ passes_here test q arrived h.1
-          ∙ ap (λ (ys : List Arrival). filter test (ids_told ys))
-          (sym (cond-false (same_place a.place q) (a ∷ from_place q arrived) (from_place q arrived) off))
+      | inl on ↦ rw on (filter_put test (told_id a.message) (ids_told arrived) (ids_told (from_place q arrived)) rest)
+      | inr off ↦ elim (cases_Bool (passes test (told_id a.message))) [
+        | inl p ↦
+            absurd (both_ways (same_place a.place q) off (ap (λ (y : Place). same_place y q) (h.0 p) ∙ same_here q))
+        | inr fails ↦ rw off (filter_skip test (told_id a.message) (ids_told arrived) fails ∙ rest)
+      ]
     ]
 
 pub none_passes : (test : List ℕ → Bool) (arrived : List Arrival)
@@ -187,8 +165,18 @@ one_passes test P (a ∷ arrived) h =
 
 -- the firsts of what is taken in order are those of a front
 
-abbrev front_ids : List Record → ℕ → List (List ℕ)
+abbrev pub front_ids : List Record → ℕ → List (List ℕ)
 front_ids records n = firsts bytes_eq (filter_map told_id (take n records))
+
+pub front_begins : (records : List Record) (n : ℕ)
+    → IsPrefixOf (front_ids records n) (firsts bytes_eq (filter_map told_id records))
+front_begins records n =
+    let split : filter_map told_id (take n records) ++ filter_map told_id (drop n records)
+    ≡ filter_map told_id records =
+    sym (filter_map-append told_id (take n records) (drop n records))
+    ∙ ap (filter_map told_id) (take-append-drop n records) in
+    subst (λ (ids : List (List ℕ)). IsPrefixOf (front_ids records n) (firsts bytes_eq ids)) split
+    (prefix_firsts bytes_eq (filter_map told_id (take n records)) (filter_map told_id (drop n records)))
 
 ids_more : (records : List Record) (n : ℕ) (x : Record) → slice_get records n ≡ Some x
     → front_ids records (suc n) ≡ with_each_new bytes_eq (front_ids records n) (cons_option (told_id x) [])
@@ -209,9 +197,9 @@ told_again : (records : List Record) (n k : ℕ) (x : Record) (o : Option (List 
     ids
 told_again records n k x None ids l at e = refl
 told_again records n k x (Some id) ids l at e =
-    ap (λ (xs : List (List ℕ)). with_each_new bytes_eq xs ids)
-    (old_left bytes_eq (front_ids records n) id
-    (any_first id [] (filter_map told_id (take n records)) (front_has told_id records n k x id l at e)))
+    let old = any_first id [] (filter_map told_id (take n records)) (front_has told_id records n k x id l at e) in
+    let same : with_new bytes_eq (front_ids records n) id ≡ front_ids records n = rw old refl in
+    ap (λ (xs : List (List ℕ)). with_each_new bytes_eq xs ids) same
 
 pub firsts_of_front : (records : List Record) (m : ℕ) (arrived : List Arrival) (n : ℕ)
     → with_each_new nat_eq (numbers_below n) (map offset_of arrived) ≡ numbers_below m
@@ -236,10 +224,8 @@ firsts_of_front records m (a ∷ arrived) n e h =
           next_number n m a.offset more.0 (sym (append_assoc (numbers_below n) (a.offset ∷ []) more.0) ∙ sym more.1
           ∙ e') in
           let next : with_each_new nat_eq (numbers_below (suc n)) (map offset_of arrived) ≡ numbers_below m =
-          subst (λ (k : ℕ). with_each_new nat_eq (numbers_below n ++ k ∷ []) (map offset_of arrived) ≡ numbers_below m)
-          at e' in
-          let there : slice_get records n ≡ Some a.message = subst (λ (k : ℕ). slice_get records k ≡ Some a.message) at
-          h.0 in
+          rw at at e' in
+          let there : slice_get records n ≡ Some a.message = rw at at h.0 in
           one_then_all (front_ids records n) (told_id a.message) (ids_told arrived)
           ∙ ap (λ (xs : List (List ℕ)). with_each_new bytes_eq xs (ids_told arrived))
           (sym (ids_more records n a.message there))

@@ -1,235 +1,348 @@
--- What a consumer takes in of a partition: by its own moves and the entries of the journal, each at its pace.
-use Rattle.std.proofs.Common.{◌≡◌, ◌⊎◌, ℕ, ◌==◌, List, [], ◌∷◌, ◌++◌, Bool, true, false, ◌&&◌, cond, refl, sym, ap, ◌∙◌, inl, inr, subst, length, append_assoc}
-use Rattle.std.specs.Prelude.{Option, Some, None, bytes_eq}
-use Rattle.std.proofs.lemmas.Bool.{and_parts, cases_Bool, cond-false, cond-true, eqb-false}
-use Rattle.std.proofs.lemmas.List.{append-nil}
-use Rattle.kob_names.specs.declared.batch.Batch.{Batch}
+-- What each call of a consumer keeps, served or not, and what its run takes in of a partition.
+use Rattle.std.proofs.Common.{◌≡◌, ℕ, ◌≤◌, List, [], ◌++◌, Bool, true, false, ◌&&◌, cond, refl, sym, ap, ◌∙◌, inl, inr, subst, take, arith, if◌then◌else◌, ◌⊎◌, ◌∷◌}
+use Rattle.std.specs.Prelude.{Option, Some, None, unwrap_or, bytes_eq}
+use Rattle.std.proofs.lemmas.Bool.{and_parts}
 use Rattle.kob_names.specs.declared.record.Record.{Record}
 use Rattle.kob_partition.specs.Batches.{records_of}
-use Rattle.kob_producers.specs.declared.judge.Judgement.{Judgement}
-use Rattle.kob_producers.specs.declared.judge.Judgement.TheVariants.{Next, OldEpoch, OutOfOrder, Repeat}
+use Rattle.kob_rights.specs.declared.on_groups.OffsetCommit.{OffsetCommit as CommitRequest}
+use Rattle.kob_rights.specs.declared.on_groups.OffsetFetch.{OffsetFetch as PositionRequest}
+use Rattle.kob_rights.specs.declared.on_partitions.Fetch.{Fetch as FetchRequest}
+use Rattle.kob_rights.specs.declared.reply.Body.{Body}
 use Rattle.kob_rights.specs.declared.reply.Reply.{Reply}
-use Rattle.kob_rights.specs.declared.reply.Reply.TheVariants.{Denied, Done, Refused}
+use Rattle.kob_rights.specs.declared.reply.Reply.TheVariants.{Denied, Refused, Done}
 use Rattle.kob_rights.specs.declared.request.Request.{Request}
-use Rattle.kob_rights.specs.declared.request.Request.TheVariants.{DeleteGroups, DeleteTopics, Fetch, InitProducerId, OffsetCommit, OffsetFetch, Produce}
+use Rattle.kob_rights.specs.declared.request.Request.TheVariants.{Fetch, OffsetCommit, OffsetFetch}
 use Rattle.kob_router.specs.Places.{same_place}
 use Rattle.kob_router.specs.declared.place.Place.{Place}
+use Rattle.kob_inbox.specs.Cursors.{cursor_of, standing}
 use Rattle.kob_inbox.specs.Intake.{Arrival}
-use Rattle.kob_inbox.specs.Run.{IsConsumerRun, Move, State, after, calls_of, place_at, start, taken_by, taken_of}
-use Rattle.kob_inbox.specs.Run.Move.{Called, Restarted}
+use Rattle.kob_inbox.specs.Run.{IsDue, State, after_answer, due, place_at, taken_by, IsConsumerRun, May, Move, after, calls_of, start, taken_of}
+use Rattle.kob_inbox.specs.declared.cursors.Cursor.{Cursor}
+use Rattle.kob_inbox.specs.declared.cursors.Standing.{Standing}
 use Rattle.kob_inbox.specs.declared.fetcher.Subscription.{Subscription}
+use Rattle.kob_pipeline.specs.View.{Step, View, read_from, with_commit, IsHistory, opening_view}
+use Rattle.kob_pipeline.proofs.ConsumerKept.{Fits, Taking, WithinCursor, WithinOffset, taking_after_fetch, taking_after_move, taking_nothing, taking_with_commit, taking_after_restart, taking_first, taking_later, Stands, read_in_order, read_stands}
+use Rattle.kob_pipeline.proofs.Lists.{places_are}
+use Rattle.kob_pipeline.proofs.RouterRun.{NotDone, heard_no_done, heard_none}
+use Rattle.kob_pipeline.proofs.ServedRuns.{Hears, IsRun, IsServedBy, IsUnheard, added, kept_by_run}
+use Rattle.std.specs.List.{filter_map}
+use Rattle.kob_router.specs.declared.line.Call.{Call}
+use Rattle.kob_inbox.specs.Run.Move.{Called, Restarted}
 use Rattle.kob_shared.specs.declared.journal.Entry.{Entry}
 use Rattle.kob_pipeline.specs.Taking.{IsTakenInOrder}
-use Rattle.kob_pipeline.specs.Premises.{Commits, Deletes, IsNeverDeleted, IsSoleCommitter}
-use Rattle.kob_pipeline.specs.Served.{AreServed, Served, served_in, served_to}
-use Rattle.kob_pipeline.specs.View.{Accepts, IsHistory, IsSameView, Step, View, judged_in, opening_view, with_batch}
-use Rattle.kob_pipeline.proofs.ConsumerKept.{Taking, WithinOffset, taking_after_restart, taking_first, taking_later, taking_with_commit}
-use Rattle.kob_pipeline.proofs.ConsumerServed.{TakingIn, is_due_as, taking_served, taking_shown, taking_silent}
-use Rattle.kob_pipeline.proofs.Lists.{bytes_are, places_are}
+use Rattle.kob_pipeline.specs.Premises.{IsNeverDeleted, IsSoleCommitter}
+use Rattle.kob_pipeline.specs.Served.{AreServed, served_to}
 use Rattle.kob_pipeline.proofs.Logged.{records_more}
-use Rattle.kob_pipeline.proofs.RouterServed.{heard_none}
+use Rattle.kob_pipeline.proofs.OtherSteps.{Leaves, leaves}
+use Rattle.kob_rights.specs.declared.reply.Body.TheVariants as bodies
 
--- what an entry of somebody else leaves of a partition and of what is committed there
-record Grows (group : List ℕ) (q : Place) (v w : View) : Type 0 where
-  more : List Record
-  log : records_of (w.log q) ≡ records_of (v.log q) ++ more
-  commit : (w.committed group q ≡ v.committed group q) ⊎ (w.committed group q ≡ None)
+-- what the due request has
+abbrev pub IsDueAs : Subscription → Place → Option Standing → Request → Type 0
+IsDueAs t place o (OffsetFetch asked) = (asked.group ≡ t.group) × (place_at asked.topic asked.partition ≡ place)
+IsDueAs t place o (OffsetCommit asked) =
+    (asked.group ≡ t.group) × (place_at asked.topic asked.partition ≡ place)
+    × (c : Standing) × (o ≡ Some c) × (asked.offset ≡ c.position)
+IsDueAs t place o (Fetch asked) =
+    (place_at asked.topic asked.partition ≡ place) × (c : Standing) × (o ≡ Some c) × (asked.offset ≡ c.position)
+IsDueAs t place o _ = ⊥
 
-nothing_more : (q : Place) (v w : View) → w.log q ≡ v.log q → records_of (w.log q) ≡ records_of (v.log q) ++ []
-nothing_more q v w e = ap records_of e ∙ sym (append-nil (records_of (v.log q)))
+due_standing : (t : Subscription) (place : Place) (c : Standing) (b : Bool)
+    → IsDueAs t place (Some c) (if b
+    then OffsetCommit (record {
+      group = t.group;
+      topic = place.topic;
+      partition = place.partition;
+      offset = c.position;
+    })
+    else Fetch (record { topic = place.topic; partition = place.partition; offset = c.position; max = t.max }))
+due_standing t place c true = (refl, refl, c, refl, refl)
+due_standing t place c false = (refl, c, refl, refl)
 
-grows_same : (group : List ℕ) (q : Place) (v w : View) → IsSameView w v → Grows group q v w
-grows_same group q v w same =
-    record { more = []; log = nothing_more q v w (same.log q); commit = inl (same.committed group q) }
+due_as : (t : Subscription) (place : Place) (o : Option Standing) → IsDueAs t place o (due t place o)
+due_as t place None = (refl, refl)
+due_as t place (Some c) = due_standing t place c c.uncommitted
 
-grows_batch : (group : List ℕ) (q place : Place) (b : Batch) (v w : View) → IsSameView w (with_batch v place b)
-    → Grows group q v w
-grows_batch group q place b v w same =
-    let m = put (same_place place q) in
-    record { more = m.0; log = ap records_of (same.log q) ∙ m.1; commit = inl (same.committed group q) }
+pub is_due_as : (t : Subscription) (s : State) (request : Request) (d : IsDue t s request)
+    → IsDueAs t d.place (standing (cursor_of s.cursors d.place)) request
+is_due_as t s request d =
+    subst (IsDueAs t d.place (standing (cursor_of s.cursors d.place))) (sym d.is_due)
+    (due_as t d.place (standing (cursor_of s.cursors d.place)))
+
+-- a position is within the bound
+standing_within : (o : Option Cursor) (c : Standing) (bound : ℕ) → standing o ≡ Some c → WithinCursor bound o
+    → c.position ≤ bound
+standing_within None c bound at w = cc
+standing_within (Some x) c bound at w =
+    let e : x.position ≡ c.position = ap position_in at in
+    omega (arith, e, w)
   where
-    put : (c : Bool) → (more : List Record) × (records_of (cond c (v.log q ++ b ∷ []) (v.log q)) ≡ records_of (v.log q)
-        ++ more)
-    put true = (records_of (b ∷ []), records_more (v.log q) (b ∷ []))
-    put false = ([], sym (append-nil (records_of (v.log q))))
+    position_in : Option Standing → ℕ
+    position_in None = 0
+    position_in (Some y) = y.position
 
-grows_accepted : (group : List ℕ) (q place : Place) (b : Batch) (v w : View) (j : Judgement) → Accepts j v place b w
-    → Grows group q v w
-grows_accepted group q place b v w Next a = grows_batch group q place b v w a
-grows_accepted group q place b v w (Repeat offset) a = grows_same group q v w a
-grows_accepted group q place b v w OutOfOrder a = absurd a
-grows_accepted group q place b v w OldEpoch a = absurd a
+position_within : (cs : List Cursor) (p q : Place) (c : Standing) (bound : ℕ) → standing (cursor_of cs p) ≡ Some c
+    → WithinCursor bound (cursor_of cs q) → p ≡ q → c.position ≤ bound
+position_within cs p q c bound at w e =
+    standing_within (cursor_of cs q) c bound (ap (λ (y : Place). standing (cursor_of cs y)) (sym e) ∙ at) w
 
-none_or_same : (b : Bool) (o : Option ℕ) → (cond b None o ≡ o) ⊎ (cond b None o ≡ None)
-none_or_same true o = inr refl
-none_or_same false o = inl refl
+offset_within : (o : Option ℕ) (bound : ℕ) → WithinOffset bound o → unwrap_or o 0 ≤ bound
+offset_within None bound w = omega arith
+offset_within (Some n) bound w = w
 
-at_first : (a b o : Option ℕ) → a ≡ b → (b ≡ o) ⊎ (b ≡ None) → (a ≡ o) ⊎ (a ≡ None)
-at_first a b o e (inl x) = inl (e ∙ x)
-at_first a b o e (inr x) = inr (e ∙ x)
+none_taken : {A : Type 0} (count : ℕ) (xs : List A) → count ≡ 0 → take count xs ≡ []
+none_taken count xs e = ap (λ n. take n xs) e
 
-other_grows : (group : List ℕ) (q : Place) (v w : View) (request : Request) (reply : Reply)
-    → (Commits group q.topic request reply → ⊥)
-    → (Deletes q.topic request reply → ⊥) → Step v request reply w → Grows group q v w
-other_grows group q v w request (Denied code verdicts) c d step = grows_same group q v w step
-other_grows group q v w request (Refused code reason) c d step = grows_same group q v w step
-other_grows group q v w InitProducerId (Done body) c d step =
-    record { more = []; log = nothing_more q v w (step.1.log q); commit = inl (step.1.committed group q) }
-other_grows group q v w (Produce asked) (Done body) c d step =
-    grows_accepted group q (place_at asked.topic asked.partition) asked.batch v w
-    (judged_in (v.log (place_at asked.topic asked.partition)) asked.batch.idem (length asked.batch.records)) step.1
-other_grows group q v w (Fetch asked) (Done body) c d step = grows_same group q v w step.1
-other_grows group q v w (OffsetFetch asked) (Done body) c d step = grows_same group q v w step.1
-other_grows group q v w (OffsetCommit asked) (Done body) c d step =
-    let p : Place = place_at asked.topic asked.partition in
-    let apart : bytes_eq asked.group group && same_place p q ≡ false =
-    elim (cases_Bool (bytes_eq asked.group group && same_place p q)) [
-      | inl e ↦
-          let parts = and_parts (bytes_eq asked.group group) (same_place p q) e in
-          absurd (c (bytes_are asked.group group parts.0, ap (λ (x : Place). x.topic) (places_are p q parts.1)))
-      | inr e ↦ e
-    ] in
-    record {
-      more = [];
-      log = nothing_more q v w (step.log q);
-      commit =
-          inl (step.committed group q
-          ∙ cond-false (bytes_eq asked.group group && same_place p q) (Some asked.offset) (v.committed group q) apart);
-    }
-other_grows group q v w (DeleteGroups asked) (Done body) c d step =
-    record {
-      more = [];
-      log = nothing_more q v w (step.log q);
-      commit =
-          at_first (w.committed group q) (cond (bytes_eq asked.group group) None (v.committed group q))
-          (v.committed group q)
-          (step.committed group q) (none_or_same (bytes_eq asked.group group) (v.committed group q));
-    }
-other_grows group q v w (DeleteTopics asked) (Done body) c d step =
-    let apart : bytes_eq asked.name q.topic ≡ false =
-    elim (cases_Bool (bytes_eq asked.name q.topic)) [
-      | inl e ↦ absurd (d (bytes_are asked.name q.topic e))
-      | inr e ↦ e
-    ] in
-    record {
-      more = [];
-      log = nothing_more q v w (step.log q ∙ cond-false (bytes_eq asked.name q.topic) [] (v.log q) apart);
-      commit =
-          inl (step.committed group q ∙ cond-false (bytes_eq asked.name q.topic) None (v.committed group q) apart);
-    }
-other_grows group q v w _ (Done body) c d step = grows_same group q v w step
+commit_or_not : (b : Bool) (n bound : ℕ) (o : Option ℕ) → (b ≡ true → n ≤ bound) → WithinOffset bound o
+    → WithinOffset bound (cond b (Some n) o)
+commit_or_not true n bound o h w = h refl
+commit_or_not false n bound o h w = w
+
+-- with no Done heard nothing changes
+answered_unheard : (t : Subscription) (s : State) (request : Request) (heard : Option Reply) (count : ℕ) → NotDone heard
+    → after_answer t s request heard count ≡ s
+answered_unheard t s request None count n = refl
+answered_unheard t s request (Some (Denied code verdicts)) count n = refl
+answered_unheard t s request (Some (Refused code reason)) count n = refl
+answered_unheard t s request (Some (Done body)) count n = absurd n
+
+taken_unheard : (request : Request) (heard : Option Reply) (count : ℕ) → NotDone heard
+    → taken_by request heard count ≡ []
+taken_unheard request None count n = refl
+taken_unheard request (Some (Denied code verdicts)) count n = refl
+taken_unheard request (Some (Refused code reason)) count n = refl
+taken_unheard request (Some (Done body)) count n = absurd n
+
+module _ (t : Subscription) (q : Place) where
+  abbrev pub TakingIn : State → View → List Arrival → Type 0
+  TakingIn s v arrived = Taking q (records_of (v.log q)) (v.committed t.group q) s.cursors arrived
+
+  -- after a call
+  abbrev After : State → View → List Arrival → Request → Option Reply → ℕ → Type 0
+  After s v arrived request heard count = TakingIn (after_answer t s request heard count) v
+      (arrived ++ taken_by request heard count)
+
+  pub taking_silent : (s : State) (v : View) (arrived : List Arrival) (request : Request) (heard : Option Reply)
+      (count : ℕ) → NotDone heard → TakingIn s v arrived → After s v arrived request heard count
+  taking_silent s v arrived request heard count n k =
+      rw (answered_unheard t s request heard count n, taken_unheard request heard count n) (taking_nothing q k)
+
+  -- OFFSET_FETCH that was heard
+  placed : (s : State) (v : View) (arrived : List Arrival) (asked : PositionRequest) (body : Body)
+      (heard : Option Reply) (count : ℕ)
+      → asked.group ≡ t.group → body ≡ bodies.Commit (v.committed asked.group (place_at asked.topic asked.partition))
+      → heard ≡ Some (Done body) → TakingIn s v arrived → After s v arrived (OffsetFetch asked) heard count
+  placed s v arrived asked body heard count own is e k =
+      let p : Place = place_at asked.topic asked.partition in
+      let o : Option ℕ = v.committed asked.group p in
+      let commit : WithinOffset k.bound (v.committed asked.group q) = rw own k.commit in
+      rw (e, is)
+      (taking_nothing q
+      (taking_after_move q (record { place = p; position = unwrap_or o 0; uncommitted = false }) k
+      (λ here. offset_within o k.bound (rw here commit))))
+
+  -- FETCH that was heard
+  fetched_in : (s : State) (v : View) (arrived : List Arrival) (asked : FetchRequest) (body : Body)
+      (heard : Option Reply) (count : ℕ) (c : Standing)
+      → standing (cursor_of s.cursors (place_at asked.topic asked.partition)) ≡ Some c → asked.offset ≡ c.position
+      → body ≡ bodies.Records (read_from (records_of (v.log (place_at asked.topic asked.partition))) asked.offset
+      asked.max)
+      → heard ≡ Some (Done body) → TakingIn s v arrived → After s v arrived (Fetch asked) heard count
+  fetched_in s v arrived asked body heard count c at here is e k =
+      let p : Place = place_at asked.topic asked.partition in
+      let records : List Record = records_of (v.log p) in
+      let xs : List (ℕ × Record) = take count (read_from records asked.offset asked.max) in
+      let fits : p ≡ q → Fits q (records_of (v.log q)) k.bound asked.offset xs =
+      λ e'. (
+        rw here (position_within s.cursors p q c k.bound at k.cursor e'),
+        read_in_order records asked.offset asked.max count,
+        subst (λ (y : Place). Rattle.std.specs.List.AllByRecursion (Stands (records_of (v.log y))) xs) e'
+            (read_stands records asked.offset asked.max count),
+      ) in
+      rw (e, is)
+      (taking_after_fetch q p asked.offset count xs k
+      (none_taken count (read_from records asked.offset asked.max)) fits)
+
+  -- OFFSET_COMMIT that was served
+  committed_in : (s : State) (v : View) (arrived : List Arrival) (asked : CommitRequest) (body : Body)
+      (heard : Option Reply) (count : ℕ) (c : Standing)
+      → standing (cursor_of s.cursors (place_at asked.topic asked.partition)) ≡ Some c → asked.offset ≡ c.position
+      → Hears heard (Done body) → TakingIn s v arrived
+      → After s (with_commit v asked.group (place_at asked.topic asked.partition) asked.offset) arrived
+      (OffsetCommit asked) heard count
+  committed_in s v arrived asked body heard count c at here hears k = go hears
+    where
+      p : Place
+      p = place_at asked.topic asked.partition
+
+      within : place_at asked.topic asked.partition ≡ q → asked.offset ≤ k.bound
+      within e = rw here (position_within s.cursors (place_at asked.topic asked.partition) q c k.bound at k.cursor e)
+
+      committed : TakingIn s (with_commit v asked.group (place_at asked.topic asked.partition) asked.offset) arrived
+      committed =
+          taking_with_commit q k
+          (commit_or_not (bytes_eq asked.group t.group && same_place (place_at asked.topic asked.partition) q)
+          asked.offset k.bound (v.committed t.group q)
+          (λ both.
+          within (places_are (place_at asked.topic asked.partition) q
+          (and_parts (bytes_eq asked.group t.group) (same_place (place_at asked.topic asked.partition) q) both).1))
+          k.commit)
+
+      go : Hears heard (Done body)
+          → After s (with_commit v asked.group (place_at asked.topic asked.partition) asked.offset) arrived
+          (OffsetCommit asked) heard count
+      go (inl e) =
+          taking_silent s (with_commit v asked.group (place_at asked.topic asked.partition) asked.offset) arrived
+          (OffsetCommit asked) heard count (heard_none heard e) committed
+      go (inr e) =
+          rw e
+          (taking_nothing q
+          (taking_after_move q
+          (record { place = place_at asked.topic asked.partition; position = asked.offset; uncommitted = false })
+          committed within))
+
+  -- a call that was served, whatever was heard
+  pub taking_served : (s : State) (v w : View) (arrived : List Arrival) (place : Place) (request : Request)
+      (reply : Reply) (heard : Option Reply) (count : ℕ)
+      → IsDueAs t place (standing (cursor_of s.cursors place)) request → Hears heard reply → Step v request reply w
+      → TakingIn s v arrived
+      → After s w arrived request heard count
+  taking_served s v w arrived place request (Denied code verdicts) heard count d hears step k =
+      taking_silent s w arrived request heard count (heard_no_done heard (Denied code verdicts) tt hears)
+      (rw (step.log q, step.committed t.group q) k)
+  taking_served s v w arrived place request (Refused code reason) heard count d hears step k =
+      taking_silent s w arrived request heard count (heard_no_done heard (Refused code reason) tt hears)
+      (rw (step.log q, step.committed t.group q) k)
+  taking_served s v w arrived place (OffsetFetch asked) (Done body) heard count d hears step k =
+      rw (step.1.log q, step.1.committed t.group q)
+      (elim hears [
+        | inl e ↦ taking_silent s v arrived (OffsetFetch asked) heard count (heard_none heard e) k
+        | inr e ↦ placed s v arrived asked body heard count d.0 step.0 e k
+      ])
+  taking_served s v w arrived place (OffsetCommit asked) (Done body) heard count d hears step k =
+      rw (step.log q, step.committed t.group q)
+      (committed_in s v arrived asked body heard count d.2
+      (ap (λ (y : Place). standing (cursor_of s.cursors y)) d.1 ∙ d.3) d.4 hears k)
+  taking_served s v w arrived place (Fetch asked) (Done body) heard count d hears step k =
+      rw (step.1.log q, step.1.committed t.group q)
+      (elim hears [
+        | inl e ↦ taking_silent s v arrived (Fetch asked) heard count (heard_none heard e) k
+        | inr e ↦ fetched_in s v arrived asked body heard count d.1
+            (ap (λ (y : Place). standing (cursor_of s.cursors y)) d.0 ∙ d.2) d.3 step.0 e k
+      ])
+  taking_served s v w arrived place _ (Done body) heard count d hears step k = absurd d
+
+-- ---- what a consumer takes in of a partition: by its own moves and the entries of the journal, each at its pace
+
+-- the moves of a consumer, one at a time
+
+abbrev call_of : Move → Option Call
+call_of Restarted = None
+call_of (Called call count) = Some call
+
+abbrev takes : State → Move → List Arrival
+takes s Restarted = []
+takes s (Called call count) = taken_by call.request call.heard count
+
+all_taken : (t : Subscription) (moves : List Move) (s : State) → taken_of moves ≡ added (after t) takes s moves
+all_taken t [] s = refl
+all_taken t (Restarted ∷ moves) s = all_taken t moves (after t s Restarted)
+all_taken t (Called call count ∷ moves) s =
+    ap (λ (more : List Arrival). taken_by call.request call.heard count ++ more)
+    (all_taken t moves (after t s (Called call count)))
+
+its_calls : (moves : List Move) → calls_of moves ≡ filter_map call_of moves
+its_calls [] = refl
+its_calls (Restarted ∷ moves) = its_calls moves
+its_calls (Called call count ∷ moves) = ap (λ (cs : List Call). call ∷ cs) (its_calls moves)
+
+is_run : (t : Subscription) (moves : List Move) (s final : State) → IsConsumerRun t s moves final
+    → IsRun (May t) (after t) s moves final
+is_run t [] s final run = run
+is_run t (move ∷ moves) s final run = (run.0, is_run t moves (after t s move) final run.1)
 
 within_left : (bound : ℕ) (o n : Option ℕ) → (n ≡ o) ⊎ (n ≡ None) → WithinOffset bound o → WithinOffset bound n
 within_left bound o n (inl e) w = subst (WithinOffset bound) (sym e) w
 within_left bound o n (inr e) w = subst (WithinOffset bound) (sym e) tt
 
-module _ (t : Subscription) (q : Place) where
-  taking_after_other : (s : State) (v w : View) (arrived : List Arrival) → Grows t.group q v w
-      → TakingIn t q s v arrived
-      → TakingIn t q s w arrived
-  taking_after_other s v w arrived g k =
-      taking_with_commit q (records_of (w.log q)) (v.committed t.group q) (w.committed t.group q) s.cursors arrived
-      grown
-      (within_left grown.bound (v.committed t.group q) (w.committed t.group q) g.commit grown.commit)
-    where
-      grown : Taking q (records_of (w.log q)) (v.committed t.group q) s.cursors arrived
-      grown =
-          subst (λ (rs : List Record). Taking q rs (v.committed t.group q) s.cursors arrived) (sym g.log)
-          (taking_later q (records_of (v.log q)) g.more (v.committed t.group q) s.cursors arrived k)
+module _ (t : Subscription) (q : Place) (worker : ℕ) (end : View) where
+  -- what is kept, by the entries that are left: the history from some view on, and the premises
+  record IsLeft (arrived : List Arrival) (s : State) (es : List Entry) : Type 0 where
+    view : View
+    history : IsHistory view es end
+    sole : IsSoleCommitter worker t.group q.topic es
+    never : IsNeverDeleted q.topic es
+    kept : TakingIn t q s view arrived
 
-  -- the moves up to a served call, of which this is what is left
-  record Led (all : List Arrival) (v : View) (final : State) (e : Served) (es : List Served) : Type 0 where
-    now : List Arrival
-    state : State
-    left : List Move
-    run : IsConsumerRun t state left final
-    rest_served : AreServed (calls_of left) es
-    arrived_are : now ++ taken_of left ≡ all
-    keeps : (w : View) → Step v e.request e.reply w → TakingIn t q state w now
+  taking_move : (m : Move) (arrived : List Arrival) (s : State) (v : View) → IsUnheard (call_of m)
+      → TakingIn t q s v arrived → TakingIn t q (after t s m) v (arrived ++ takes s m)
+  taking_move Restarted arrived s v u k = taking_nothing q (taking_after_restart q k)
+  taking_move (Called c count) arrived s v u k =
+      taking_silent t q s v arrived c.request c.heard count (heard_none c.heard u) k
 
-  led : (all : List Arrival) (v : View) (final : State) (e : Served) (es : List Served) (moves : List Move)
-      (arrived : List Arrival) (s : State)
-      → arrived ++ taken_of moves ≡ all → IsConsumerRun t s moves final → AreServed (calls_of moves) (e ∷ es)
-      → TakingIn t q s v arrived → Led all v final e es
-  led all v final e es [] arrived s are run served k = absurd served
-  led all v final e es (Restarted ∷ ms) arrived s are run served k =
-      led all v final e es ms arrived (after t s Restarted) are run.1 served
-      (taking_after_restart q (records_of (v.log q)) (v.committed t.group q) s.cursors arrived k)
-  led all v final e es (Called c count ∷ ms) arrived s are run (inl (none, served)) k =
-      let new : List Arrival = taken_by c.request c.heard count in
-      led all v final e es ms (arrived ++ new) (after t s (Called c count))
-      (append_assoc arrived new (taken_of ms) ∙ are) run.1 served
-      (taking_silent t q s v arrived c.request c.heard count (heard_none c.heard none) k)
-  led all v final e es (Called c count ∷ ms) arrived s are run (inr (same, hears, served)) k =
-      let new : List Arrival = taken_by c.request c.heard count in
+  moved : (m : Move) (arrived : List Arrival) (s : State) (es : List Entry) → May t s m → IsUnheard (call_of m)
+      → IsLeft arrived s es → IsLeft (arrived ++ takes s m) (after t s m) es
+  moved m arrived s es may u l =
       record {
-        now = arrived ++ new;
-        state = after t s (Called c count);
-        left = ms;
-        run = run.1;
-        rest_served = served;
-        arrived_are = append_assoc arrived new (taken_of ms) ∙ are;
-        keeps = λ w step.
-            taking_served t q s v w arrived run.0.0.place c.request e.reply c.heard count
-            (is_due_as t s c.request run.0.0) hears
-            (subst (λ (r : Request). Step v r e.reply w) same step) k;
+        view = l.view;
+        history = l.history;
+        sole = l.sole;
+        never = l.never;
+        kept = taking_move m arrived s l.view u l.kept;
       }
 
-  -- the moves after the last served call
-  to_the_end : (all : List Arrival) (v : View) (final : State) (moves : List Move) (arrived : List Arrival) (s : State)
-      → arrived ++ taken_of moves ≡ all → IsConsumerRun t s moves final → AreServed (calls_of moves) []
-      → TakingIn t q s v arrived → TakingIn t q final v all
-  to_the_end all v final [] arrived s are run served k =
-      subst (TakingIn t q final v) (sym (append-nil arrived) ∙ are)
-      (subst (λ (x : State). TakingIn t q x v arrived) (sym run) k)
-  to_the_end all v final (Restarted ∷ ms) arrived s are run served k =
-      to_the_end all v final ms arrived (after t s Restarted) are run.1 served
-      (taking_after_restart q (records_of (v.log q)) (v.committed t.group q) s.cursors arrived k)
-  to_the_end all v final (Called c count ∷ ms) arrived s are run (none, served) k =
-      let new : List Arrival = taken_by c.request c.heard count in
-      to_the_end all v final ms (arrived ++ new) (after t s (Called c count))
-      (append_assoc arrived new (taken_of ms) ∙ are) run.1 served
-      (taking_silent t q s v arrived c.request c.heard count (heard_none c.heard none) k)
+  served : (m : Move) (arrived : List Arrival) (s : State) (e : Entry) (es : List Entry) → May t s m
+      → IsServedBy e (call_of m) → e.worker ≡ worker → IsLeft arrived s (e ∷ es)
+      → IsLeft (arrived ++ takes s m) (after t s m) es
+  served Restarted arrived s e es may by own l = absurd by
+  served (Called c count) arrived s e es may by own l =
+      record {
+        view = l.history.0;
+        history = l.history.2;
+        sole = l.sole.1;
+        never = l.never.1;
+        kept =
+            taking_served t q s l.view l.history.0 arrived may.0.place c.request e.reply c.heard count
+            (is_due_as t s c.request may.0) by.1
+            (subst (λ (r : Request). Step l.view r e.reply l.history.0) by.0 l.history.1) l.kept;
+      }
 
-  whole_run : (worker : ℕ) (all : List Arrival) (end : View) (final : State) (journal : List Entry) (v : View)
-      (moves : List Move)
-      (arrived : List Arrival) (s : State)
-      → arrived ++ taken_of moves ≡ all → IsHistory v journal end → IsConsumerRun t s moves final
-      → AreServed (calls_of moves) (served_to worker journal) → IsSoleCommitter worker t.group q.topic journal
-      → IsNeverDeleted q.topic journal
-      → TakingIn t q s v arrived → TakingIn t q final end all
-  whole_run worker all end final [] v moves arrived s are history run served sole never k =
-      to_the_end all end final moves arrived s are run served (taking_shown t q s v end arrived history k)
-  whole_run worker all end final (e ∷ journal) v moves arrived s are (mid, step, history) run served sole never k =
-      elim (cases_Bool (e.worker == worker)) [
-        | inl own ↦
-            let own_served : AreServed (calls_of moves) (served_in e ∷ served_to worker journal) =
-            subst (AreServed (calls_of moves))
-            (cond-true (e.worker == worker) (served_in e ∷ served_to worker journal) (served_to worker journal) own)
-            served in
-            let l = led all v final (served_in e) (served_to worker journal) moves arrived s are run own_served k in
-            whole_run worker all end final journal mid l.left l.now l.state l.arrived_are history l.run l.rest_served
-            sole.1 never.1
-            (l.keeps mid step)
-        | inr other ↦
-            let differs = eqb-false e.worker worker other in
-            let grows : Grows t.group q v mid =
-            other_grows t.group q v mid e.event.request e.reply (λ c. differs (sole.0 c)) never.0 step in
-            let rest_served : AreServed (calls_of moves) (served_to worker journal) =
-            subst (AreServed (calls_of moves))
-            (cond-false (e.worker == worker) (served_in e ∷ served_to worker journal) (served_to worker journal) other)
-            served in
-            whole_run worker all end final journal mid moves arrived s are history run rest_served sole.1 never.1
-            (taking_after_other s v mid arrived grows k)
-      ]
+  others : (arrived : List Arrival) (s : State) (e : Entry) (es : List Entry) → (e.worker ≡ worker → ⊥)
+      → IsLeft arrived s (e ∷ es) → IsLeft arrived s es
+  others arrived s e es other l =
+      let v = l.view in
+      let w = l.history.0 in
+      let by : Leaves t.group q v w e.event.request e.reply =
+      leaves t.group q v w e.event.request e.reply l.never.0 l.history.1 in
+      let log : records_of (v.log q) ++ records_of by.more ≡ records_of (w.log q) =
+      sym (ap records_of by.log ∙ records_more (v.log q) by.more) in
+      let grown : Taking q (records_of (w.log q)) (v.committed t.group q) s.cursors arrived =
+      subst (λ (rs : List Record). Taking q rs (v.committed t.group q) s.cursors arrived) log
+      (taking_later q (records_of by.more) l.kept) in
+      record {
+        view = w;
+        history = l.history.2;
+        sole = l.sole.1;
+        never = l.never.1;
+        kept =
+            taking_with_commit q grown
+            (within_left grown.bound (v.committed t.group q) (w.committed t.group q)
+            (by.commit (λ c. other (l.sole.0 c))) grown.commit);
+      }
 
-  pub is_taken_in_order : (journal : List Entry) (worker : ℕ) (end : View) (moves : List Move) (final : State)
+  at_end : (arrived : List Arrival) (s : State) → IsLeft arrived s [] → TakingIn t q s end arrived
+  at_end arrived s l = rw (l.history.log q, l.history.committed t.group q) l.kept
+
+  pub is_taken_in_order : (journal : List Entry) (moves : List Move) (final : State)
       → IsHistory opening_view journal end → IsConsumerRun t start moves final
       → AreServed (calls_of moves) (served_to worker journal) → IsSoleCommitter worker t.group q.topic journal
       → IsNeverDeleted q.topic journal
       → IsTakenInOrder q (records_of (end.log q)) (taken_of moves)
-  is_taken_in_order journal worker end moves final history run served sole never =
-      let k = whole_run worker (taken_of moves) end final journal opening_view moves [] start refl history run served
-      sole never
-      (taking_first q) in
-      record { bound = k.bound; offsets = k.offsets; contents = k.contents }
+  is_taken_in_order journal moves final history run a sole never =
+      let l : IsLeft (added (after t) takes start moves) final [] =
+      kept_by_run (May t) (after t) call_of takes worker IsLeft moved served others moves start final journal
+      (is_run t moves start final run)
+      (subst (λ (cs : List Call). AreServed cs (served_to worker journal)) (its_calls moves) a)
+      (record { view = opening_view; history = history; sole = sole; never = never; kept = taking_first q }) in
+      let k = at_end (added (after t) takes start moves) final l in
+      subst (IsTakenInOrder q (records_of (end.log q))) (sym (all_taken t moves start))
+      (record { bound = k.bound; offsets = k.offsets; contents = k.contents })

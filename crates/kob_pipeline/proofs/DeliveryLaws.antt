@@ -1,15 +1,13 @@
 -- The laws of delivery, of the parts that workers have in a journal.
-use Rattle.std.proofs.Common.{ℕ, List, [], refl}
+use Rattle.std.proofs.Common.{ℕ, List}
 use Rattle.std.specs.Prelude.{Contains}
 use Rattle.std.specs.List.{AllByRecursion}
 use Rattle.kob_outbox.specs.Contents.{Event, empty}
 use Rattle.kob_partition.specs.Batches.{records_of}
 use Rattle.kob_router.specs.Dispatches.{dispatch_of}
-use Rattle.kob_router.specs.Run as router
 use Rattle.kob_router.specs.declared.dispatch.Target.{Target}
 use Rattle.kob_router.specs.declared.place.Place.{Place}
 use Rattle.kob_inbox.proofs.Running.{run_takes_in}
-use Rattle.kob_inbox.specs.Run as consumer
 use Rattle.kob_inbox.specs.declared.fetcher.Subscription.{Subscription}
 use Rattle.kob_shared.specs.declared.journal.Entry.{Entry}
 use Rattle.kob_pipeline.specs.Taking.{IsTakenInOrder}
@@ -19,13 +17,14 @@ use Rattle.kob_pipeline.specs.Premises.{ArePrivate, IsNeverDeleted, IsSoleCommit
 use Rattle.kob_pipeline.specs.Reaching.{ReachesInOrder, is_of_aggregate}
 use Rattle.kob_pipeline.specs.View.{IsHistory, View, opening_view}
 use Rattle.kob_pipeline.specs.Waiting.{IsWaitingOrSent}
-use Rattle.kob_pipeline.proofs.Aggregates.{rows_tell, told_all}
+use Rattle.kob_pipeline.proofs.Aggregates.{rows_tell, told_all, target_tells}
 use Rattle.kob_pipeline.proofs.Arriving.{all_assigned}
 use Rattle.kob_pipeline.proofs.ConsumerRun.{is_taken_in_order}
-use Rattle.kob_pipeline.proofs.Ids.{target_tells}
 use Rattle.kob_pipeline.proofs.Reaching.{reaches}
 use Rattle.kob_pipeline.proofs.RouterRun.{is_delivered}
 use Rattle.kob_pipeline.proofs.RowsRun.{all_wait_or_sent}
+use Rattle.kob_router.specs.Run as router
+use Rattle.kob_inbox.specs.Run as consumer
 
 pub holds_what_was_routed : (target : Target) (worker : ℕ) (journal : List Entry) (view : View)
     (moves : List router.Move)
@@ -34,7 +33,7 @@ pub holds_what_was_routed : (target : Target) (worker : ℕ) (journal : List Ent
     → IsSoleProducer worker place.topic journal → IsNeverDeleted place.topic journal
     → IsDelivered (dispatch_of target) place (rows_of moves) (records_of (view.log place))
 holds_what_was_routed target worker journal view moves now place history part sole never =
-    is_delivered (dispatch_of target) place (target_tells target) journal worker view moves now history part.run
+    is_delivered (dispatch_of target) place (target_tells target) worker view journal moves now history part.run
     part.served sole never
 
 pub takes_in_order : (t : Subscription) (worker : ℕ) (journal : List Entry) (view : View) (moves : List consumer.Move)
@@ -43,7 +42,7 @@ pub takes_in_order : (t : Subscription) (worker : ℕ) (journal : List Entry) (v
     → IsSoleCommitter worker t.group place.topic journal → IsNeverDeleted place.topic journal
     → IsTakenInOrder place (records_of (view.log place)) (consumer.taken_of moves)
 takes_in_order t worker journal view moves now place history part sole never =
-    is_taken_in_order t place journal worker view moves now history part.run part.served sole never
+    is_taken_in_order t place worker view journal moves now history part.run part.served sole never
 
 pub holds_a_prefix : (target : Target) (t : Subscription) (sender taker : ℕ) (journal : List Entry) (view : View)
     (sends : List router.Move) (service : router.State) (takes : List consumer.Move) (taking : consumer.State)
@@ -54,7 +53,7 @@ pub holds_a_prefix : (target : Target) (t : Subscription) (sender taker : ℕ) (
 holds_a_prefix target t sender taker journal view sends service takes taking kind id history sent took private =
     let rows : List Event = rows_of sends in
     reaches target rows (rows_tell target empty sends) kind id
-    (told_all (is_of_aggregate kind id) (dispatch_of target) rows sends router.start service [] refl sent.run refl tt)
+    (told_all (is_of_aggregate kind id) (dispatch_of target) sender journal sends service sent.run sent.served)
     (Contains t.assignment) (λ q. records_of (view.log q)) (consumer.taken_of takes) taking.inbox
     (λ q a. holds_what_was_routed target sender journal view sends service q history sent (private q a).producer
     (private q a).kept)

@@ -1,23 +1,67 @@
--- What is left where the journal is what was noted, and where it is not.
-use Rattle.std.proofs.Common.{◌≡◌, List, [], ◌∷◌, map, arith, refl, sym, subst}
+-- What workers left, one worker more at a time, and where the journal is what was noted, or is not.
+use Rattle.std.proofs.Common.{◌≡◌, List, [], ◌∷◌, ◌++◌, length, sym, ap, ◌∙◌, map, arith, refl}
+use Rattle.std.proofs.lemmas.List.{flat_map_more, map-append}
+use Rattle.kob_shared.specs.Fleets.{EachIsAnswered, IsAnswered, Follows, IsKept, IsTornAt}
+use Rattle.kob_shared.specs.Noted.{Noted}
+use Rattle.kob_shared.specs.Runs.{events_in, notes_of, told_in, IsAsNoted, IsTear}
+use Rattle.kob_shared.specs.declared.work.Done.{Done}
+use Rattle.kob_pipeline.specs.declared.end.InboxEnd.{InboxEnd}
+use Rattle.kob_pipeline.specs.declared.end.OutboxEnd.{OutboxEnd}
+use Rattle.kob_pipeline.specs.declared.end.WorkerEnd.{WorkerEnd}
+use Rattle.kob_pipeline.proofs.Lists.{all_last}
+use Rattle.kob_pipeline.specs.Leavings.{HasNoRefusal, IsKeptByStore, inbox_of, inboxes_of, outbox_of, outboxes_of}
 use Rattle.std.specs.List.{AllZip}
 use Rattle.kob_broker.specs.Change.{state_of}
 use Rattle.kob_names.specs.declared.settings.Settings.{Settings}
 use Rattle.kob_shared.specs.declared.compare.Difference.{Difference}
-use Rattle.kob_shared.specs.declared.journal.Entry.{Entry}
-use Rattle.kob_shared.specs.declared.work.Done.{Done}
-use Rattle.kob_shared.specs.Fleets.{EachIsAnswered, Follows, IsKept, IsTornAt}
 use Rattle.kob_shared.specs.Journals.{IsLegal, Record}
-use Rattle.kob_shared.specs.Noted.{Noted}
 use Rattle.kob_shared.specs.Openings.{opened_by}
-use Rattle.kob_shared.specs.Runs.{IsAsNoted, IsTear, events_in, notes_of, told_in}
 use Rattle.kob_shared.proofs.Beginnings.{begins_with}
 use Rattle.kob_pipeline.specs.declared.end.PipelineEnd.{PipelineEnd}
-use Rattle.kob_pipeline.specs.declared.end.WorkerEnd.{WorkerEnd}
 use Rattle.kob_pipeline.specs.declared.worker.Worker.{Worker}
 use Rattle.kob_pipeline.specs.Ends.{IsEnd}
-use Rattle.kob_pipeline.specs.Leavings.{HasNoRefusal, inboxes_of, outboxes_of}
 use Rattle.kob_pipeline.specs.Workers.{IsLeft, planned_as}
+
+pub notes_push : (first : Noted) (done : List (Done WorkerEnd)) (one : Done WorkerEnd) (notes : List Noted)
+    → notes ≡ notes_of first done → notes ++ one.notes ∷ [] ≡ notes_of first (done ++ one ∷ [])
+notes_push first done one notes same =
+    ap (λ (ns : List Noted). ns ++ one.notes ∷ []) same
+    ∙ ap (λ (ns : List Noted). first ∷ ns) (sym (map-append (λ (d : Done WorkerEnd). d.notes) done (one ∷ [])))
+
+pub answered_push : (notes : List Noted) (one : Noted) → EachIsAnswered (events_in notes) (told_in notes)
+    → IsAnswered (length one.events) one.told
+    → EachIsAnswered (events_in (notes ++ one ∷ [])) (told_in (notes ++ one ∷ []))
+answered_push [] one each here = (here, tt)
+answered_push (n ∷ notes) one each here = (each.0, answered_push notes one each.1 here)
+
+-- what was gathered of the workers so far
+pub record Gathers (first : Noted) (done : List (Done WorkerEnd)) (notes : List Noted) (os : List OutboxEnd)
+    (is : List InboxEnd) : Type 0 where
+  pub transcripts : notes ≡ notes_of first done
+  pub answered : EachIsAnswered (events_in notes) (told_in notes)
+  pub outboxes : os ≡ outboxes_of done
+  pub inboxes : is ≡ inboxes_of done
+  pub unrefused : HasNoRefusal done
+
+-- one worker more
+pub gathers_more : (first : Noted) (done : List (Done WorkerEnd)) (one : Done WorkerEnd) (notes : List Noted)
+    (os ps : List OutboxEnd) (is js : List InboxEnd) → Gathers first done notes os is
+    → IsAnswered (length one.notes.events) one.notes.told → IsKeptByStore one.end → ps ≡ os ++ outbox_of one.end
+    → js ≡ is ++ inbox_of one.end
+    → Gathers first (done ++ one ∷ []) (notes ++ one.notes ∷ []) ps js
+gathers_more first done one notes os ps is js was answered kept outbox inbox = record {
+  transcripts = notes_push first done one notes was.transcripts;
+  answered = answered_push notes one.notes was.answered answered;
+  outboxes =
+      outbox ∙ ap (λ (xs : List OutboxEnd). xs ++ outbox_of one.end) was.outboxes
+      ∙ flat_map_more (λ (d : Done WorkerEnd). outbox_of d.end) [] done one;
+  inboxes =
+      inbox ∙ ap (λ (xs : List InboxEnd). xs ++ inbox_of one.end) was.inboxes
+      ∙ flat_map_more (λ (d : Done WorkerEnd). inbox_of d.end) [] done one;
+  unrefused = all_last (λ (d : Done WorkerEnd). IsKeptByStore d.end) done one was.unrefused kept;
+}
+
+-- ---- what is left where the journal is what was noted, and where it is not
 
 all_planned : (workers : List Worker) (done : List (Done WorkerEnd))
     → AllZip (λ w d. IsLeft (planned_as w) d.notes d.end) workers done
@@ -40,17 +84,14 @@ pub ended : (opening : Settings) (first : Noted) (workers : List Worker) (done :
 ended opening first workers done found end legal kept follows each unrefused answered broker journal transcripts
     outboxes inboxes =
     let notes = notes_of first done in
-    let each_answered = subst (λ (ns : List Noted). EachIsAnswered (events_in ns) (told_in ns)) transcripts answered in
-    let here : IsKept (events_in notes) (told_in notes) end.journal =
-    subst (λ (h : List Entry). IsKept (events_in notes) (told_in notes) h) (sym journal) kept.1 in
+    let each_answered : EachIsAnswered (events_in notes) (told_in notes) = rw transcripts at answered in
+    let here : IsKept (events_in notes) (told_in notes) end.journal = rw journal kept.1 in
     record {
-      legal = subst (λ s. IsLegal (opened_by opening) end.journal s) (sym broker)
-          (subst (λ (h : List Entry). IsLegal (opened_by opening) h found.broker) (sym journal)
-          (subst (λ o. IsLegal (opened_by o) found.journal found.broker) kept.0 legal));
+      legal = rw (broker, journal, ← kept.0) legal;
       begins = begins_with first.events first.told end.journal (each_answered.0).counted follows
           (here.mine 0 (omega arith));
       answered = answered;
-      kept = subst (λ (ns : List Noted). IsKept (events_in ns) (told_in ns) end.journal) (sym transcripts) here;
+      kept = rw transcripts here;
       worker_0 = first;
       asked = refl;
       done = done;
@@ -65,5 +106,4 @@ ended opening first workers done found end legal kept follows each unrefused ans
 pub torn : (opening : Settings) (first : Noted) (done : List (Done WorkerEnd)) (found : Record) (d : Difference)
     (notes : List Noted) → IsTear opening (notes_of first done) found d → notes ≡ notes_of first done
     → IsTornAt opening (events_in notes) (told_in notes) found d.worker d.place
-torn opening first done found d notes tear same =
-    subst (λ (ns : List Noted). IsTornAt opening (events_in ns) (told_in ns) found d.worker d.place) (sym same) tear
+torn opening first done found d notes tear same = rw same tear

@@ -1,5 +1,5 @@
 -- What all workers left, told of each service, each consumer and each administrator.
-use Rattle.std.proofs.Common.{◌≡◌, ℕ, zero, suc, ◌+◌, List, [], ◌∷◌, ◌++◌, length, length-append, map, arith, refl, sym, ap, ◌∙◌, subst}
+use Rattle.std.proofs.Common.{◌≡◌, ℕ, zero, suc, ◌+◌, List, [], ◌∷◌, ◌++◌, length, length-append, append_assoc, append-nil, map, arith, refl, sym, ap, ◌∙◌, subst}
 use Rattle.std.specs.Prelude.{Some, slice_get, option_map}
 use Rattle.std.specs.List.{AllZip, flat_map}
 use Rattle.std.proofs.lemmas.List.{length-map}
@@ -33,193 +33,118 @@ use Rattle.kob_pipeline.specs.Leavings.{HasNoRefusal, IsKeptByStore, inbox_of, i
 use Rattle.kob_pipeline.specs.Pipelines.{IsPipeline}
 use Rattle.kob_pipeline.specs.Services.{IsServiceRun}
 use Rattle.kob_pipeline.specs.Workers.{IsAdministratorLeft, IsConsumptionLeft, IsLeft, IsServiceLeft, Planned, planned_as, planned_workers}
+use Rattle.kob_pipeline.proofs.Lists.{get_behind, get_front}
 use Rattle.kob_pipeline.specs.Workers.Planned.{Serving, Consuming, Administering}
 
 abbrev Left : Planned → Done WorkerEnd → Type 0
 Left w d = IsLeft w d.notes d.end
 
--- ---- one worker
-
--- what a worker leaves of its own kind is one thing, and it leaves none of the other kind
-record LeftOne {E F : Type 0} (own : WorkerEnd → List E) (other : WorkerEnd → List F) (Run : E → Type 0)
-    (end : WorkerEnd) : Type 0 where
-  left : E
-  here : own end ≡ left ∷ []
-  none : other end ≡ []
-  run : Run left
+-- what a worker leaves of its own kind
 
 service_end : (s : Service) (noted : Noted) (end : WorkerEnd) → IsServiceLeft s noted end → IsKeptByStore end
-    → LeftOne outbox_of inbox_of (IsServiceRun s noted) end
-service_end s noted (Outbox left) is kept = record { left = left; here = refl; none = refl; run = is }
+    → (left : OutboxEnd) × (end ≡ Outbox left) × IsServiceRun s noted left
+service_end s noted (Outbox left) is kept = (left, refl, is)
 service_end s noted StoreRefused is kept = absurd kept
-service_end s noted (Inbox left) is kept = absurd is
-service_end s noted Nothing is kept = absurd is
+service_end s noted _ is kept = absurd is
 
 consumer_end : (c : ConsumerPlan) (noted : Noted) (end : WorkerEnd) → IsConsumptionLeft c noted end
-    → IsKeptByStore end → LeftOne inbox_of outbox_of (IsConsumption c noted) end
-consumer_end c noted (Inbox left) is kept = record { left = left; here = refl; none = refl; run = is }
+    → IsKeptByStore end → (left : InboxEnd) × (end ≡ Inbox left) × IsConsumption c noted left
+consumer_end c noted (Inbox left) is kept = (left, refl, is)
 consumer_end c noted StoreRefused is kept = absurd kept
-consumer_end c noted (Outbox left) is kept = absurd is
-consumer_end c noted Nothing is kept = absurd is
+consumer_end c noted _ is kept = absurd is
+
+abbrev nothing : Unit {0} → WorkerEnd
+nothing x = Nothing
+
+abbrev Administered : Script → Noted → Unit {0} → Type 0
+Administered s noted left = noted.events ≡ events_of_script s
 
 administrator_end : (s : Script) (noted : Noted) (end : WorkerEnd)
-    → IsAdministratorLeft (events_of_script s) noted end
-    → (end ≡ Nothing) × (noted.events ≡ events_of_script s)
-administrator_end s noted Nothing is = (refl, is)
-administrator_end s noted StoreRefused is = absurd is
-administrator_end s noted (Outbox left) is = absurd is
-administrator_end s noted (Inbox left) is = absurd is
+    → IsAdministratorLeft (events_of_script s) noted end → IsKeptByStore end
+    → (left : Unit {0}) × (end ≡ nothing left) × Administered s noted left
+administrator_end s noted Nothing is kept = (tt, refl, is)
+administrator_end s noted _ is kept = absurd is
 
--- ---- the first workers are of one kind: services, or consumers where no services are left
+-- what one worker of a kind noted and left
+abbrev ended : {E : Type 0} → (E → WorkerEnd) → Noted × E → Done WorkerEnd
+ended end x = record { notes = x.0; end = end x.1 }
 
--- each worker of the kind leaves one thing
-abbrev LeavesOne : {P E F : Type 0} → (P → Planned) → (WorkerEnd → List E) → (WorkerEnd → List F)
-    → (P → Noted → E → Type 0) → Type 0
-LeavesOne {P} made own other Run =
-    (p : P) (noted : Noted) (end : WorkerEnd) → IsLeft (made p) noted end → IsKeptByStore end
-    → LeftOne own other (Run p noted) end
-
--- what all workers left of a kind
-abbrev all_left : {E : Type 0} → (WorkerEnd → List E) → List (Done WorkerEnd) → List E
-all_left own done = flat_map (λ (d : Done WorkerEnd). own d.end) done
-
--- a worker of the kind, with what it left
-record LeftAt {P E : Type 0} (own : WorkerEnd → List E) (Run : P → Noted → E → Type 0)
-    (done : List (Done WorkerEnd)) (k : ℕ) (p : P) : Type 0 where
-  one : Done WorkerEnd
-  left : E
-  here : slice_get done k ≡ Some one
-  kept : slice_get (all_left own done) k ≡ Some left
-  run : Run p one.notes left
-
-left_at : {P E F : Type 0} (made : P → Planned) (own : WorkerEnd → List E) (other : WorkerEnd → List F)
-    (Run : P → Noted → E → Type 0) → LeavesOne made own other Run
-    → (ps : List P) (rest : List Planned) (done : List (Done WorkerEnd)) → AllZip Left (map made ps ++ rest) done
-    → HasNoRefusal done → (k : ℕ) (p : P) → slice_get ps k ≡ Some p → LeftAt own Run done k p
-left_at made own other Run each [] rest done all kept k p is = absurd (cc)
-left_at made own other Run each (x ∷ ps) rest [] all kept k p is = absurd all
-left_at {P} {E} made own other Run each (x ∷ ps) rest (d ∷ ds) all kept zero p is =
-    let same : x ≡ p = cc in
-    let end = each x d.notes d.end all.0 kept.0 in
-    record {
-      one = d;
-      left = end.left;
-      here = refl;
-      kept = ap (λ (es : List E). slice_get (es ++ all_left own ds) 0) end.here;
-      run = subst (λ (q : P). Run q d.notes end.left) same end.run;
-    }
-left_at {P} {E} made own other Run each (x ∷ ps) rest (d ∷ ds) all kept (suc k) p is =
-    let end = each x d.notes d.end all.0 kept.0 in
-    let later = left_at made own other Run each ps rest ds all.1 kept.1 k p is in
-    record {
-      one = later.one;
-      left = later.left;
-      here = later.here;
-      kept = ap (λ (es : List E). slice_get (es ++ all_left own ds) (suc k)) end.here ∙ later.kept;
-      run = later.run;
-    }
-
--- what is left behind the workers of the kind
-record Behind {P E F : Type 0} (own : WorkerEnd → List E) (other : WorkerEnd → List F) (ps : List P)
-    (rest : List Planned) (done : List (Done WorkerEnd)) : Type 0 where
-  front : List (Done WorkerEnd)
+-- the first workers are of one kind, of which each leaves one thing: what they left, and what is behind them
+record Front {P E : Type 0} (end : E → WorkerEnd) (Run : P → Noted → E → Type 0) (ps : List P) (rest : List Planned)
+    (done : List (Done WorkerEnd)) : Type 0 where
+  own : List (Noted × E)
   later : List (Done WorkerEnd)
-  whole : done ≡ front ++ later
-  counted : length front ≡ length ps
+  whole : done ≡ map (ended end) own ++ later
+  runs : AllZip (λ p x. Run p x.0 x.1) ps own
   all : AllZip Left rest later
   kept : HasNoRefusal later
-  owned : length (all_left own done) ≡ length ps + length (all_left own later)
-  others : all_left other done ≡ all_left other later
 
-behind : {P E F : Type 0} (made : P → Planned) (own : WorkerEnd → List E) (other : WorkerEnd → List F)
-    (Run : P → Noted → E → Type 0) → LeavesOne made own other Run
+front : {P E : Type 0} (made : P → Planned) (end : E → WorkerEnd) (Run : P → Noted → E → Type 0)
+    → ((p : P) (noted : Noted) (e : WorkerEnd) → IsLeft (made p) noted e → IsKeptByStore e
+    → (left : E) × (e ≡ end left) × Run p noted left)
     → (ps : List P) (rest : List Planned) (done : List (Done WorkerEnd)) → AllZip Left (map made ps ++ rest) done
-    → HasNoRefusal done → Behind own other ps rest done
-behind made own other Run each [] rest done all kept = record {
-  front = [];
-  later = done;
-  whole = refl;
-  counted = refl;
-  all = all;
-  kept = kept;
-  owned = omega arith;
-  others = refl;
-}
-behind made own other Run each (x ∷ ps) rest [] all kept = absurd all
-behind {P} {E} {F} made own other Run each (x ∷ ps) rest (d ∷ ds) all kept =
-    let end = each x d.notes d.end all.0 kept.0 in
-    let below = behind made own other Run each ps rest ds all.1 kept.1 in
-    let one : length (all_left own (d ∷ ds)) ≡ length (end.left ∷ all_left own ds) =
-    ap (λ (es : List E). length (es ++ all_left own ds)) end.here in
-    let before = below.counted in
-    let after = below.owned in
+    → HasNoRefusal done → Front end Run ps rest done
+front made end Run each [] rest done all kept =
+    record { own = []; later = done; whole = refl; runs = tt; all = all; kept = kept }
+front made end Run each (p ∷ ps) rest [] all kept = absurd all
+front made end Run each (p ∷ ps) rest (d ∷ ds) all kept =
+    let e = each p d.notes d.end all.0 kept.0 in
+    let f = front made end Run each ps rest ds all.1 kept.1 in
     record {
-      front = d ∷ below.front;
-      later = below.later;
-      whole = ap (λ (es : List (Done WorkerEnd)). d ∷ es) below.whole;
-      counted = omega (arith, before);
-      all = below.all;
-      kept = below.kept;
-      owned = omega (arith, one, after);
-      others = ap (λ (fs : List F). fs ++ all_left other ds) end.none ∙ below.others;
+      own = (d.notes, e.0) ∷ f.own;
+      later = f.later;
+      whole =
+          ap (λ (x : WorkerEnd). record { notes = d.notes; end = x } ∷ ds) e.1
+          ∙ ap (λ (ds : List (Done WorkerEnd)). ended end (d.notes, e.0) ∷ ds) f.whole;
+      runs = (e.2, f.runs);
+      all = f.all;
+      kept = f.kept;
     }
 
--- ---- and last administrators
+-- what such workers left of one kind: all that they left, or nothing
+all_own : {E : Type 0} (of : WorkerEnd → List E) (end : E → WorkerEnd) (own : List (Noted × E))
+    (later : List (Done WorkerEnd))
+    → ((e : E) → of (end e) ≡ e ∷ [])
+    → flat_map (λ (d : Done WorkerEnd). of d.end) (map (ended end) own ++ later)
+    ≡ map (λ (x : Noted × E). x.1) own ++ flat_map (λ (d : Done WorkerEnd). of d.end) later
+all_own of end [] later is = refl
+all_own {E} of end (x ∷ own) later is =
+    rw (is x.1) (ap (λ (es : List E). x.1 ∷ es) (all_own of end own later is))
 
-record AdministeredAt (done : List (Done WorkerEnd)) (k : ℕ) (s : Script) : Type 0 where
-  one : Done WorkerEnd
-  here : slice_get done k ≡ Some one
-  events : one.notes.events ≡ events_of_script s
-
-administrator_at : (ss : List Script) (done : List (Done WorkerEnd)) → AllZip Left (map Administering ss) done
-    → (k : ℕ) (s : Script) → slice_get ss k ≡ Some s → AdministeredAt done k s
-administrator_at [] done all k s is = absurd (cc)
-administrator_at (x ∷ ss) [] all k s is = absurd all
-administrator_at (x ∷ ss) (d ∷ ds) all zero s is =
-    let same : x ≡ s = cc in
-    record { one = d; here = refl; events = (administrator_end x d.notes d.end all.0).1 ∙ ap events_of_script same }
-administrator_at (x ∷ ss) (d ∷ ds) all (suc k) s is =
-    let later = administrator_at ss ds all.1 k s is in
-    record { one = later.one; here = later.here; events = later.events }
-
--- they leave neither outbox nor inbox
-record LeaveNone (done : List (Done WorkerEnd)) : Type 0 where
-  outboxes : outboxes_of done ≡ []
-  inboxes : inboxes_of done ≡ []
-
-leave_none : (ss : List Script) (done : List (Done WorkerEnd)) → AllZip Left (map Administering ss) done
-    → LeaveNone done
-leave_none [] [] all = record { outboxes = refl; inboxes = refl }
-leave_none [] (d ∷ ds) all = absurd all
-leave_none (x ∷ ss) [] all = absurd all
-leave_none (x ∷ ss) (d ∷ ds) all =
-    let end = administrator_end x d.notes d.end all.0 in
-    let rest = leave_none ss ds all.1 in
-    record {
-      outboxes = ap (λ (e : WorkerEnd). outbox_of e ++ outboxes_of ds) end.0 ∙ rest.outboxes;
-      inboxes = ap (λ (e : WorkerEnd). inbox_of e ++ inboxes_of ds) end.0 ∙ rest.inboxes;
-    }
+no_other : {E F : Type 0} (of : WorkerEnd → List F) (end : E → WorkerEnd) (own : List (Noted × E))
+    (later : List (Done WorkerEnd))
+    → ((e : E) → of (end e) ≡ [])
+    → flat_map (λ (d : Done WorkerEnd). of d.end) (map (ended end) own ++ later)
+    ≡ flat_map (λ (d : Done WorkerEnd). of d.end) later
+no_other of end [] later is = refl
+no_other of end (x ∷ own) later is = rw (is x.1) (no_other of end own later is)
 
 -- ---- by numbers
 
-at_behind : {A : Type 0} (front later : List A) (m k : ℕ) → m ≡ length front + k
-    → slice_get (front ++ later) m ≡ slice_get later k
-at_behind [] later m k is = ap (slice_get later) (omega (arith, is))
-at_behind (x ∷ front) later zero k is = absurd (omega (arith, is))
-at_behind (x ∷ front) later (suc m) k is = at_behind front later m k (omega (arith, is))
+run_at : {P X : Type 0} (R : P → X → Type 0) (ps : List P) (xs : List X) (k : ℕ) (p : P) → AllZip R ps xs
+    → slice_get ps k ≡ Some p → (x : X) × (slice_get xs k ≡ Some x) × R p x
+run_at R [] xs k p all is = absurd (cc)
+run_at R (q ∷ ps) [] k p all is = absurd all
+run_at R (q ∷ ps) (x ∷ xs) zero p all is = let same : q ≡ p = cc in (x, refl, subst (λ r. R r x) same all.0)
+run_at R (q ∷ ps) (x ∷ xs) (suc k) p all is = run_at R ps xs k p all.1 is
 
-note_at : (first : Noted) (done : List (Done WorkerEnd)) (k : ℕ) (one : Done WorkerEnd) → slice_get done k ≡ Some one
-    → slice_get (notes_of first done) (suc k) ≡ Some one.notes
-note_at first done k one is =
-    slice_get-map (λ (d : Done WorkerEnd). d.notes) done k ∙ ap (option_map (λ (d : Done WorkerEnd). d.notes)) is
+-- what one of them left stands at its number
+left_at : {E : Type 0} (ends : List E) (own : List (Noted × E)) (k : ℕ) (x : Noted × E)
+    → ends ≡ map (λ (y : Noted × E). y.1) own → slice_get own k ≡ Some x → slice_get ends k ≡ Some x.1
+left_at {E} ends own k x are is =
+    rw are (slice_get-map (λ (y : Noted × E). y.1) own k ∙ ap (option_map (λ (y : Noted × E). y.1)) is)
 
--- the transcript of the worker behind so many others
-transcript_at : (notes : List Noted) (first : Noted) (done : List (Done WorkerEnd)) (worker k : ℕ)
-    (one : Done WorkerEnd) → notes ≡ notes_of first done → worker ≡ suc k → slice_get done k ≡ Some one
-    → slice_get notes worker ≡ Some one.notes
-transcript_at notes first done worker k one same number is =
-    ap (λ (ns : List Noted). slice_get ns worker) same ∙ ap (slice_get (notes_of first done)) number
-    ∙ note_at first done k one is
+-- its transcript stands behind that of worker 0 and those of the workers before
+transcript_at : {E : Type 0} (notes : List Noted) (first : Noted) (before : List Noted) (own : List (Noted × E))
+    (later : List Noted) (worker k : ℕ) (x : Noted × E)
+    → notes ≡ first ∷ (before ++ (map (λ (y : Noted × E). y.0) own ++ later))
+    → worker ≡ suc (length before + k) → slice_get own k ≡ Some x → slice_get notes worker ≡ Some x.0
+transcript_at {E} notes first before own later worker k x are number is =
+    let own_notes : List Noted = map (λ (y : Noted × E). y.0) own in
+    rw (are, number)
+    (get_behind before (own_notes ++ later) (length before + k) k refl
+    ∙ get_front own_notes later k x.0
+    (slice_get-map (λ (y : Noted × E). y.0) own k ∙ ap (option_map (λ (y : Noted × E). y.0)) is))
 
 planned_count : (ss : List Service) (cs : List ConsumerPlan) (ads : List Script)
     → length (map Serving ss ++ (map Consuming cs ++ map Administering ads)) ≡ length ss + length cs + length ads
@@ -237,92 +162,126 @@ workers_counted plan workers same =
     sym (length-map workers planned_as) ∙ ap length same
     ∙ planned_count plan.services.items plan.consumers.items plan.administrators.items
 
--- what each worker left by its number, from what all left
-pub pipeline_left : (opening : Settings) (plan : Plan) (end : PipelineEnd)
-    → opened_by opening ≡ opened_by plan.settings → IsEnd opening plan.first (planned_workers plan) end
-    → IsPipeline plan end
-pipeline_left opening plan end same left =
+notes_of_front : {E : Type 0} (end : E → WorkerEnd) (own : List (Noted × E)) (later : List (Done WorkerEnd))
+    → map (λ (d : Done WorkerEnd). d.notes) (map (ended end) own ++ later)
+    ≡ map (λ (x : Noted × E). x.0) own ++ map (λ (d : Done WorkerEnd). d.notes) later
+notes_of_front end [] later = refl
+notes_of_front end (x ∷ own) later = ap (λ (ns : List Noted). x.0 ∷ ns) (notes_of_front end own later)
+
+-- what services, consumers and administrators noted and left, one after another
+module _ (ss : List (Noted × OutboxEnd)) (cs : List (Noted × InboxEnd)) (ads : List (Noted × Unit {0})) where
+  abbrev all_ends : List (Done WorkerEnd)
+  all_ends = map (ended Outbox) ss ++ (map (ended Inbox) cs ++ (map (ended nothing) ads ++ []))
+
+  their_notes : (first : Noted) → notes_of first all_ends
+      ≡ first ∷ (map (λ (x : Noted × OutboxEnd). x.0) ss
+      ++ (map (λ (x : Noted × InboxEnd). x.0) cs ++ (map (λ (x : Noted × Unit {0}). x.0) ads ++ [])))
+  their_notes first =
+      ap (λ (ns : List Noted). first ∷ ns)
+      (rw (
+        notes_of_front Outbox ss (map (ended Inbox) cs ++ (map (ended nothing) ads ++ [])),
+        notes_of_front Inbox cs (map (ended nothing) ads ++ []),
+        notes_of_front nothing ads [],
+      ) refl)
+
+  their_outboxes : outboxes_of all_ends ≡ map (λ (x : Noted × OutboxEnd). x.1) ss
+  their_outboxes =
+      all_own outbox_of Outbox ss (map (ended Inbox) cs ++ (map (ended nothing) ads ++ [])) (λ o. refl)
+      ∙ ap (λ (os : List OutboxEnd). map (λ (x : Noted × OutboxEnd). x.1) ss ++ os)
+      (no_other outbox_of Inbox cs (map (ended nothing) ads ++ []) (λ i. refl)
+      ∙ no_other outbox_of nothing ads [] (λ u. refl))
+      ∙ append-nil (map (λ (x : Noted × OutboxEnd). x.1) ss)
+
+  their_inboxes : inboxes_of all_ends ≡ map (λ (x : Noted × InboxEnd). x.1) cs
+  their_inboxes =
+      no_other inbox_of Outbox ss (map (ended Inbox) cs ++ (map (ended nothing) ads ++ [])) (λ o. refl)
+      ∙ all_own inbox_of Inbox cs (map (ended nothing) ads ++ []) (λ i. refl)
+      ∙ ap (λ (is : List InboxEnd). map (λ (x : Noted × InboxEnd). x.1) cs ++ is)
+      (no_other inbox_of nothing ads [] (λ u. refl))
+      ∙ append-nil (map (λ (x : Noted × InboxEnd). x.1) cs)
+
+none_behind : (done : List (Done WorkerEnd)) → AllZip Left [] done → done ≡ []
+none_behind [] all = refl
+none_behind (d ∷ done) all = absurd all
+
+-- what each worker left by its number, from what the workers of each kind left
+by_number : (opening : Settings) (plan : Plan) (end : PipelineEnd) (left : IsEnd opening plan.first
+    (planned_workers plan) end)
+    (f : Front Outbox IsServiceRun plan.services.items
+    (map Consuming plan.consumers.items ++ map Administering plan.administrators.items) left.done)
+    (g : Front Inbox IsConsumption plan.consumers.items (map Administering plan.administrators.items) f.later)
+    (h : Front nothing Administered plan.administrators.items [] g.later)
+    → opened_by opening ≡ opened_by plan.settings → IsPipeline plan end
+by_number opening plan end left f g h same =
     let ss = plan.services.items in
     let cs = plan.consumers.items in
     let ads = plan.administrators.items in
-    let done = left.done in
-    let behind_services =
-    behind Serving outbox_of inbox_of IsServiceRun service_end ss (map Consuming cs ++ map Administering ads) done
-    left.each left.unrefused in
-    let last =
-    behind Consuming inbox_of outbox_of IsConsumption consumer_end cs (map Administering ads) behind_services.later
-    behind_services.all behind_services.kept in
-    let none = leave_none ads last.later last.all in
-    let outboxes_none = ap length none.outboxes in
-    let inboxes_none = ap length none.inboxes in
-    let outboxes_behind = ap length last.others in
-    let inboxes_all = ap length behind_services.others in
+    let whole : left.done ≡ all_ends f.own g.own h.own =
+    f.whole
+    ∙ ap (λ (ds : List (Done WorkerEnd)). map (ended Outbox) f.own ++ ds)
+    (g.whole ∙ ap (λ (ds : List (Done WorkerEnd)). map (ended Inbox) g.own ++ ds)
+    (h.whole ∙ ap (λ (ds : List (Done WorkerEnd)). map (ended nothing) h.own ++ ds) (none_behind h.later h.all))) in
+    let serving : List Noted = map (λ (x : Noted × OutboxEnd). x.0) f.own in
+    let consuming : List Noted = map (λ (x : Noted × InboxEnd). x.0) g.own in
+    let others : List Noted = map (λ (x : Noted × Unit {0}). x.0) h.own in
+    let notes : end.transcripts.items ≡ left.worker_0 ∷ (serving ++ (consuming ++ (others ++ []))) =
+    left.transcripts ∙ ap (notes_of left.worker_0) whole ∙ their_notes f.own g.own h.own left.worker_0 in
+    let outboxes : end.outboxes.items ≡ map (λ (x : Noted × OutboxEnd). x.1) f.own =
+    left.outboxes ∙ ap outboxes_of whole ∙ their_outboxes f.own g.own h.own in
+    let inboxes : end.inboxes.items ≡ map (λ (x : Noted × InboxEnd). x.1) g.own =
+    left.inboxes ∙ ap inboxes_of whole ∙ their_inboxes f.own g.own h.own in
+    let served = length_all_zip (λ s (x : Noted × OutboxEnd). IsServiceRun s x.0 x.1) ss f.own f.runs in
+    let consumed = length_all_zip (λ c (x : Noted × InboxEnd). IsConsumption c x.0 x.1) cs g.own g.runs in
+    let in_front = length-map f.own (λ (x : Noted × OutboxEnd). x.0) in
+    let next = length-map g.own (λ (x : Noted × InboxEnd). x.0) in
+    let both = length-append serving consuming in
     record {
       legal = subst (λ o. IsLegal o end.journal (state_of end.broker)) same left.legal;
       begins = left.begins;
-      first =
-          ap (λ (ns : List Noted). slice_get (events_in ns) 0) left.transcripts ∙ ap Some left.asked;
+      first = ap (λ (ns : List Noted). slice_get (events_in ns) 0) left.transcripts ∙ ap Some left.asked;
       answered = left.answered;
       kept = left.kept;
       counted =
           ap length left.transcripts
-          ∙ (let a = length-map done (λ (d : Done WorkerEnd). d.notes) in
-          let b = length_all_zip Left (planned_workers plan) done left.each in
+          ∙ (let a = length-map left.done (λ (d : Done WorkerEnd). d.notes) in
+          let b = length_all_zip Left (planned_workers plan) left.done left.each in
           let c = planned_count ss cs ads in omega (arith, a, b, c));
-      outboxes =
-          ap length left.outboxes
-          ∙ (let a = behind_services.owned in omega (arith, a, outboxes_behind, outboxes_none));
-      inboxes =
-          ap length left.inboxes ∙ inboxes_all ∙ (let a = last.owned in omega (arith, a, inboxes_none));
+      outboxes = ap length outboxes ∙ length-map f.own (λ (x : Noted × OutboxEnd). x.1) ∙ sym served;
+      inboxes = ap length inboxes ∙ length-map g.own (λ (x : Noted × InboxEnd). x.1) ∙ sym consumed;
       services = λ k s is.
-          let at =
-          left_at Serving outbox_of inbox_of IsServiceRun service_end ss
-          (map Consuming cs ++ map Administering ads) done
-          left.each left.unrefused k s is in
+          let at = run_at (λ s (x : Noted × OutboxEnd). IsServiceRun s x.0 x.1) ss f.own k s f.runs is in
           record {
-            noted = at.one.notes;
-            left = at.left;
+            noted = at.0.0;
+            left = at.0.1;
             transcript =
-                transcript_at end.transcripts.items left.worker_0 done (k + 1) k at.one left.transcripts
-                (omega arith) at.here;
-            outbox = ap (λ (os : List OutboxEnd). slice_get os k) left.outboxes ∙ at.kept;
-            run = at.run;
+                transcript_at end.transcripts.items left.worker_0 [] f.own (consuming ++ (others ++ [])) (k + 1) k at.0
+                notes (omega arith) at.1;
+            outbox = left_at end.outboxes.items f.own k at.0 outboxes at.1;
+            run = at.2;
           };
       consumers = λ k c is.
-          let at =
-          left_at Consuming inbox_of outbox_of IsConsumption consumer_end cs (map Administering ads)
-          behind_services.later behind_services.all behind_services.kept k c is in
-          let number = behind_services.counted in
-          let here =
-          ap (λ (ds : List (Done WorkerEnd)). slice_get ds (length ss + k)) behind_services.whole
-          ∙ at_behind behind_services.front behind_services.later (length ss + k) k (omega (arith, number))
-          ∙ at.here in
+          let at = run_at (λ c (x : Noted × InboxEnd). IsConsumption c x.0 x.1) cs g.own k c g.runs is in
           record {
-            noted = at.one.notes;
-            left = at.left;
+            noted = at.0.0;
+            left = at.0.1;
             transcript =
-                transcript_at end.transcripts.items left.worker_0 done (length ss + k + 1) (length ss + k) at.one
-                left.transcripts (omega arith) here;
-            inbox = ap (λ (os : List InboxEnd). slice_get os k) (left.inboxes ∙ behind_services.others) ∙ at.kept;
-            run = at.run;
+                transcript_at end.transcripts.items left.worker_0 serving g.own (others ++ []) (length ss + k + 1) k
+                at.0
+                notes (omega (arith, served, in_front)) at.1;
+            inbox = left_at end.inboxes.items g.own k at.0 inboxes at.1;
+            run = at.2;
           };
       administrators = λ k s is.
-          let at = administrator_at ads last.later last.all k s is in
-          let number = behind_services.counted in
-          let also = last.counted in
-          let n = length ss + length cs + k in
-          let here =
-          ap (λ (ds : List (Done WorkerEnd)). slice_get ds n) behind_services.whole
-          ∙ at_behind behind_services.front behind_services.later n (length cs + k) (omega (arith, number))
-          ∙ ap (λ (ds : List (Done WorkerEnd)). slice_get ds (length cs + k)) last.whole
-          ∙ at_behind last.front last.later (length cs + k) k (omega (arith, also))
-          ∙ at.here in
+          let at = run_at (λ s (x : Noted × Unit {0}). Administered s x.0 x.1) ads h.own k s h.runs is in
           record {
-            noted = at.one.notes;
+            noted = at.0.0;
             transcript =
-                transcript_at end.transcripts.items left.worker_0 done (length ss + length cs + k + 1) n at.one
-                left.transcripts (omega arith) here;
-            events = at.events;
+                transcript_at end.transcripts.items left.worker_0 (serving ++ consuming) h.own []
+                (length ss + length cs + k + 1) k at.0
+                (notes
+                ∙ ap (λ (ns : List Noted). left.worker_0 ∷ ns) (sym (append_assoc serving consuming (others ++ []))))
+                (omega (arith, served, consumed, in_front, next, both)) at.1;
+            events = at.2;
           };
     }
 
@@ -331,7 +290,17 @@ pub pipeline_ended : (opening : Settings) (plan : Plan) (events : List Event) (p
     (end : PipelineEnd) → opening ≡ settings_of (opened_by plan.settings) → events ≡ plan.first
     → planned ≡ planned_workers plan
     → IsEnd opening events planned end → IsPipeline plan end
-pipeline_ended opening plan events planned end stored first workers left =
-    pipeline_left opening plan end (ap opened_by stored ∙ sym (opened_again plan.settings))
-    (subst (λ (ws : List Planned). IsEnd opening plan.first ws end) workers
-    (subst (λ (es : List Event). IsEnd opening es planned end) first left))
+pipeline_ended opening plan events planned end stored first workers all =
+    let cs = plan.consumers.items in
+    let ads = plan.administrators.items in
+    let left : IsEnd opening plan.first (planned_workers plan) end =
+    subst (λ (ws : List Planned). IsEnd opening plan.first ws end) workers
+    (subst (λ (es : List Event). IsEnd opening es planned end) first all) in
+    let f =
+    front Serving Outbox IsServiceRun service_end plan.services.items (map Consuming cs ++ map Administering ads)
+    left.done left.each left.unrefused in
+    let g = front Consuming Inbox IsConsumption consumer_end cs (map Administering ads) f.later f.all f.kept in
+    by_number opening plan end left f g
+    (front Administering nothing Administered administrator_end ads [] g.later
+    (subst (λ (ws : List Planned). AllZip Left ws g.later) (sym (append-nil (map Administering ads))) g.all) g.kept)
+    (ap opened_by stored ∙ sym (opened_again plan.settings))

@@ -1,9 +1,9 @@
 -- Lemmas on lists and places.
-use Rattle.std.proofs.Common.{◌≡◌, ◌⊎◌, ℕ, zero, suc, List, [], ◌∷◌, ◌++◌, Bool, true, false, ◌||◌, refl, sym, ap, ◌∙◌, inl, inr, subst, arith}
+use Rattle.std.proofs.Common.{◌≡◌, ◌⊎◌, ℕ, zero, suc, ◌+◌, length, List, [], ◌∷◌, ◌++◌, Bool, true, false, ◌||◌, refl, sym, ap, ◌∙◌, inl, inr, subst, arith}
 use Rattle.std.specs.Prelude.{filter, map, Contains, Some, slice_get, bytes_eq}
 use Rattle.std.specs.List.{list_any, AllByRecursion}
 use Rattle.std.proofs.lemmas.Slice.Eq.{bytes_eq-Decides}
-use Rattle.std.proofs.lemmas.Bool.{eqb-true, eq-eqb, and_parts, and_from, cond-true, cond-false, cases_Bool, or_left, or_right, or_from, or_parts}
+use Rattle.std.proofs.lemmas.Bool.{eqb-true, eq-eqb, and_parts, and_from, cases_Bool, or_left, or_right, or_from, or_parts}
 use Rattle.std.proofs.lemmas.List.{append-nil}
 use Rattle.std.proofs.lemmas.List.Elements.{filter-append}
 use Rattle.std.proofs.lemmas.Option.{slice_get_within, get_or_from_slice_get}
@@ -53,9 +53,18 @@ pub first_is : {A : Type 0} (xs : List A) (x : A) → slice_get xs 0 ≡ Some x 
 first_is [] x h = cc
 first_is (y ∷ rest) x h = let e : y ≡ x = cc in (rest, ap (λ z. z ∷ rest) e)
 
-pub first_stays : {A : Type 0} (xs : List A) (y x : A) → slice_get xs 0 ≡ Some x → slice_get (xs ++ y ∷ []) 0 ≡ Some x
-first_stays [] y x h = cc
-first_stays (z ∷ rest) y x h = h
+-- what stands in a front, and behind it
+pub get_front : {A : Type 0} (xs ys : List A) (i : ℕ) (x : A) → slice_get xs i ≡ Some x
+    → slice_get (xs ++ ys) i ≡ Some x
+get_front [] ys i x h = cc
+get_front (y ∷ xs) ys zero x h = h
+get_front (y ∷ xs) ys (suc i) x h = get_front xs ys i x h
+
+pub get_behind : {A : Type 0} (xs ys : List A) (n i : ℕ) → n ≡ length xs + i
+    → slice_get (xs ++ ys) n ≡ slice_get ys i
+get_behind [] ys n i is = ap (slice_get ys) (omega (arith, is))
+get_behind (x ∷ xs) ys zero i is = absurd (omega (arith, is))
+get_behind (x ∷ xs) ys (suc n) i is = get_behind xs ys n i (omega (arith, is))
 
 pub contains_at : {A : Type 0} (xs : List A) (i : ℕ) (x : A) → slice_get xs i ≡ Some x → Contains xs x
 contains_at xs i x h = (i, slice_get_within xs i x h, get_or_from_slice_get xs i x x h)
@@ -99,38 +108,26 @@ filter_not_last p xs x h = filter-append p xs (x ∷ []) ∙ rw h (append-nil (f
 pub kept_by : {A : Type 0} (test : A → Bool) (xs : List A) (x : A) → Contains (filter test xs) x → Contains xs x
     × (test x ≡ true)
 kept_by test [] x (k, l, at) = absurd (omega arith)
-kept_by {A} test (y ∷ xs) x c =
+kept_by test (y ∷ xs) x c =
     elim (cases_Bool (test y)) [
-      | inl on ↦
-          elim (first_or_behind (filter test xs) y x (subst (λ (ys : List A). Contains ys x)
-          (cond-true (test y) (y ∷ filter test xs) (filter test xs) on) c)) [
-            | inl e ↦ ((0, omega arith, e), ap test (sym e) ∙ on)
-            | inr behind ↦ let k = kept_by test xs x behind in (contains_more xs y x k.0, k.1)
-          ]
-      | inr off ↦
-          let k = kept_by test xs x (subst (λ (ys : List A). Contains ys x)
-          (cond-false (test y) (y ∷ filter test xs) (filter test xs) off) c) in
-          (contains_more xs y x k.0, k.1)
+      | inl on ↦ elim (first_or_behind (filter test xs) y x (rw on at c)) [
+        | inl e ↦ ((0, omega arith, e), ap test (sym e) ∙ on)
+        | inr behind ↦ let k = kept_by test xs x behind in (contains_more xs y x k.0, k.1)
+      ]
+      | inr off ↦ let k = kept_by test xs x (rw off at c) in (contains_more xs y x k.0, k.1)
     ]
 
 -- what passes is kept
 pub keeps : {A : Type 0} (test : A → Bool) (xs : List A) (x : A) → Contains xs x → test x ≡ true
     → Contains (filter test xs) x
 keeps test [] x (k, l, at) h = absurd (omega arith)
-keeps {A} test (y ∷ xs) x c h =
-    elim (cases_Bool (test y)) [
-      | inl on ↦
-          subst (λ (ys : List A). Contains ys x) (sym (cond-true (test y) (y ∷ filter test xs) (filter test xs) on))
-          (elim (first_or_behind xs y x c) [
-            | inl e ↦ (0, omega arith, e)
-            | inr behind ↦ contains_more (filter test xs) y x (keeps test xs x behind h)
-          ])
-      | inr off ↦
-          subst (λ (ys : List A). Contains ys x) (sym (cond-false (test y) (y ∷ filter test xs) (filter test xs) off))
-          (elim (first_or_behind xs y x c) [
-            | inl e ↦ let bad : true ≡ false = sym h ∙ ap test (sym e) ∙ off in absurd cc
-            | inr behind ↦ keeps test xs x behind h
-          ])
+keeps test (y ∷ xs) x c h =
+    elim (first_or_behind xs y x c) [
+      | inl e ↦ rw (ap test e ∙ h) (0, omega arith, e)
+      | inr behind ↦ elim (cases_Bool (test y)) [
+        | inl on ↦ rw on (contains_more (filter test xs) y x (keeps test xs x behind h))
+        | inr off ↦ rw off (keeps test xs x behind h)
+      ]
     ]
 
 -- a test that fails on all fails on what a filter keeps
@@ -143,6 +140,10 @@ none_in_filter t f p (x ∷ xs) h =
       | inl hit ↦ rw hit (or_from _ _ parts.0 (none_in_filter t f p xs parts.1))
       | inr miss ↦ rw miss (none_in_filter t f p xs parts.1)
     ]
+
+pub or_false : (b : Bool) → (b || false) ≡ b
+or_false true = refl
+or_false false = refl
 
 pub any_last : {A : Type 0} (t : A → Bool) (xs : List A) (x : A) → t x ≡ true → list_any t (xs ++ x ∷ []) ≡ true
 any_last t [] x h = or_left (t x) false h
@@ -172,16 +173,15 @@ all_weaker P R f (x ∷ xs) h = (f x h.0, all_weaker P R f xs h.1)
 pub all_passing : {A : Type 0} (P : A → Type 0) (test : A → Bool) (xs : List A) → AllByRecursion P xs
     → AllByRecursion (λ x. P x × (test x ≡ true)) (filter test xs)
 all_passing P test [] h = tt
-all_passing {A} P test (x ∷ xs) h =
+all_passing P test (x ∷ xs) h =
     elim (cases_Bool (test x)) [
       | inl on ↦
+          let rest = all_passing P test xs h.1 in
           subst (AllByRecursion (λ y. P y × (test y ≡ true)))
-          (sym (cond-true (test x) (x ∷ filter test xs) (filter test xs) on))
-          ((h.0, on), all_passing P test xs h.1)
+          (let e : x ∷ filter test xs ≡ filter test (x ∷ xs) = rw on refl in e) ((h.0, on), rest)
       | inr off ↦
           subst (AllByRecursion (λ y. P y × (test y ≡ true)))
-          (sym (cond-false (test x) (x ∷ filter test xs) (filter test xs) off))
-          (all_passing P test xs h.1)
+          (let e : filter test xs ≡ filter test (x ∷ xs) = rw off refl in e) (all_passing P test xs h.1)
     ]
 
 pub all_both : {A : Type 0} (P R : A → Type 0) (xs : List A) → AllByRecursion P xs → AllByRecursion R xs

@@ -1,35 +1,125 @@
--- What a partition's log holds of the rows that are routed there.
-use Rattle.std.proofs.Common.{◌≡◌, ℕ, ◌≤◌, List, [], ◌∷◌, ◌++◌, Bool, true, false, refl, sym, ap, ◌∙◌, subst, append_assoc, arith}
-use Rattle.std.specs.Prelude.{Contains, Option, Some, None, bytes_eq}
+-- What the outbox of a service keeps of the rows that were recorded, and a partition's log of those routed there.
+use Rattle.std.proofs.Common.{◌≡◌, ℕ, ◌+◌, ◌<◌, ◌≤◌, List, [], ◌∷◌, ◌++◌, true, false, refl, sym, ap, ◌∙◌, length, append_assoc, arith, length-append}
+use Rattle.std.specs.Prelude.{filter, nat_lt, bytes_eq, Contains, Option, Some, None}
 use Rattle.std.specs.List.{list_any, AllByRecursion, filter_map}
-use Rattle.std.proofs.lemmas.Bool.{cond-true, cond-false}
-use Rattle.std.proofs.lemmas.List.{append-nil, map_push}
+use Rattle.std.proofs.lemmas.Bool.{ltb-true, lt-ltb, le-ltb}
+use Rattle.std.proofs.lemmas.List.{append-nil, map_push, map-append, length_push, length-map}
+use Rattle.kob_outbox.specs.Contents.{Contents, Event, empty}
+use Rattle.kob_outbox.specs.Events.{id_text, stored_event}
+use Rattle.kob_outbox.specs.Reading.{later_than, without_sent}
+use Rattle.kob_outbox.specs.Recording.{next_seq, after_record}
+use Rattle.kob_outbox.specs.declared.change.Change.{Change}
+use Rattle.kob_outbox.specs.declared.event.OutboxEvent.{OutboxEvent}
+use Rattle.kob_router.specs.Run.{IsRecordable}
+use Rattle.kob_pipeline.specs.Delivery.{ids_of, IsRecordOf, goes_to, routed_to, told_id}
+use Rattle.kob_pipeline.proofs.Lists.{any_same, bytes_turned, filter_twice, filter_all, filter_last, all_last, all_weaker, any_last, filter_not_last, none_in_filter, same_bytes, same_here}
 use Rattle.std.proofs.lemmas.List.Elements.{filter_map-append, Contains-append_left}
 use Rattle.kob_names.specs.declared.batch.Batch.{Batch}
 use Rattle.kob_names.specs.declared.batch.Idem.{Idem}
 use Rattle.kob_names.specs.declared.record.Record.{Record}
-use Rattle.kob_outbox.specs.Contents.{Event}
 use Rattle.kob_partition.specs.Batches.{records_of}
 use Rattle.kob_router.specs.Dispatches.{Dispatching}
 use Rattle.kob_router.specs.declared.place.Place.{Place}
-use Rattle.kob_pipeline.specs.Delivery.{IsRecordOf, goes_to, ids_of, routed_to, told_id}
-use Rattle.kob_pipeline.specs.Firsts.{firsts, with_each_new, with_new}
+use Rattle.kob_pipeline.specs.Firsts.{firsts, with_new}
 use Rattle.kob_pipeline.specs.View.{IsGiven}
-use Rattle.kob_pipeline.proofs.Lists.{all_last, all_weaker, any_last, filter_last, filter_not_last, none_in_filter, same_bytes, same_here}
+use Rattle.kob_pipeline.proofs.Once.{each_new_append}
 
-pub new_put : {A : Type 0} (same : A → A → Bool) (xs : List A) (x : A) → list_any (same x) xs ≡ false
-    → with_new same xs x ≡ xs ++ x ∷ []
-new_put same xs x h = cond-false (list_any (same x) xs) xs (xs ++ x ∷ []) h
+-- numbered from n + 1 on, and none with an id that was seen before
+abbrev pub InOrder : ℕ → List (List ℕ) → List Event → Type 0
+InOrder n seen [] = Unit {0}
+InOrder n seen (r ∷ rs) =
+    (r.seq ≡ n + 1) × (list_any (bytes_eq r.id) seen ≡ false) × InOrder (n + 1) (seen ++ r.id ∷ []) rs
 
-pub old_left : {A : Type 0} (same : A → A → Bool) (xs : List A) (x : A) → list_any (same x) xs ≡ true
-    → with_new same xs x ≡ xs
-old_left same xs x h = cond-true (list_any (same x) xs) xs (xs ++ x ∷ []) h
+-- of the rows that were recorded these were sent, and these wait
+pub record IsKept (rows : List Event) (c : Contents) (sent wait : List Event) : Type 0 where
+  pub rows_are : rows ≡ sent ++ wait
+  pub ids : c.ids ≡ ids_of rows
+  pub mark : c.mark ≡ length sent
+  pub waits : later_than c.mark c.events ≡ wait
+  pub order : InOrder (length sent) (ids_of sent) wait
 
--- one after another
-pub each_new_append : {A : Type 0} (same : A → A → Bool) (xs ys zs : List A)
-    → with_each_new same xs (ys ++ zs) ≡ with_each_new same (with_each_new same xs ys) zs
-each_new_append same xs [] zs = refl
-each_new_append same xs (y ∷ ys) zs = each_new_append same (with_new same xs y) ys zs
+order_last : (n : ℕ) (seen : List (List ℕ)) (rs : List Event) (row : Event) → InOrder n seen rs
+    → row.seq ≡ n + length rs + 1 → list_any (bytes_eq row.id) (seen ++ ids_of rs) ≡ false
+    → InOrder n seen (rs ++ row ∷ [])
+order_last n seen [] row h e new = (omega (arith, e), rw append-nil at new, tt)
+order_last n seen (r ∷ rs) row h e new =
+    (h.0, h.1, order_last (n + 1) (seen ++ r.id ∷ []) rs row h.2 (omega (arith, e)) (rw append_assoc new))
+
+order_beyond : (m n : ℕ) (seen : List (List ℕ)) (rs : List Event) → m ≤ n → InOrder n seen rs
+    → AllByRecursion (λ row. nat_lt m row.seq ≡ true) rs
+order_beyond m n seen [] l h = tt
+order_beyond m n seen (r ∷ rs) l h =
+    (lt-ltb m r.seq (omega (arith, h.0)), order_beyond m (n + 1) (seen ++ r.id ∷ []) rs (omega arith) h.2)
+
+pub kept_at_start : IsKept [] empty [] []
+kept_at_start = record { rows_are = refl; ids = refl; mark = refl; waits = refl; order = tt }
+
+-- the id of a row that may be recorded was never seen
+pub is_fresh : (c : Contents) (change : Change) (event : OutboxEvent) → IsRecordable c change event
+    → list_any (bytes_eq (id_text event.id)) c.ids ≡ false
+is_fresh c change event may =
+    any_same (bytes_eq (id_text event.id)) (λ x. bytes_eq x (id_text event.id)) (λ x. bytes_turned (id_text event.id) x)
+    c.ids
+    ∙ may.fresh
+
+pub kept_recorded : {rows : List Event} {c : Contents} {sent wait : List Event} (change : Change) (event : OutboxEvent)
+    → IsRecordable c change event → IsKept rows c sent wait
+    → IsKept (rows ++ stored_event (next_seq c) event ∷ []) (after_record c change event) sent
+    (wait ++ stored_event (next_seq c) event ∷ [])
+kept_recorded {rows} {c} {sent} {wait} change event may k =
+    let row : Event = stored_event (next_seq c) event in
+    let count : length c.ids ≡ length sent + length wait =
+    ap length k.ids ∙ length-map rows (λ r. r.id) ∙ ap length k.rows_are ∙ length-append sent wait in
+    let past : c.mark < row.seq = omega (arith, count, k.mark) in
+    let seen : ids_of sent ++ ids_of wait ≡ c.ids =
+    sym (map-append (λ r. r.id) sent wait) ∙ ap ids_of (sym k.rows_are) ∙ sym k.ids in
+    record {
+      rows_are = ap (λ rs. rs ++ row ∷ []) k.rows_are ∙ append_assoc sent wait (row ∷ []);
+      ids = ap (λ xs. xs ++ row.id ∷ []) k.ids ∙ sym (map_push (λ r. r.id) rows row);
+      mark = k.mark;
+      waits =
+          filter_last (λ r. nat_lt c.mark r.seq) c.events row (lt-ltb c.mark row.seq past)
+          ∙ ap (λ rs. rs ++ row ∷ []) k.waits;
+      order =
+          order_last (length sent) (ids_of sent) wait row k.order (omega (arith, count))
+          (rw seen (is_fresh c change event may));
+    }
+
+pub kept_swept : {rows : List Event} {c : Contents} {sent wait : List Event} → IsKept rows c sent wait
+    → IsKept rows (without_sent c.mark c) sent wait
+kept_swept {c = c} k =
+    record {
+      rows_are = k.rows_are;
+      ids = k.ids;
+      mark = k.mark;
+      waits =
+          filter_twice (λ row. nat_lt c.mark row.seq) (λ row. nat_lt c.mark row.seq) (λ x h. h) c.events ∙ k.waits;
+      order = k.order;
+    }
+
+-- the first row that waits is sent
+pub kept_marked : {rows : List Event} {c : Contents} {sent rest : List Event} {r : Event}
+    → IsKept rows c sent (r ∷ rest)
+    → IsKept rows (record c { mark = r.seq }) (sent ++ r ∷ []) rest
+kept_marked {c = c} {sent = sent} {rest = rest} {r = r} k =
+    let more : (x : Event) → nat_lt r.seq x.seq ≡ true → nat_lt c.mark x.seq ≡ true =
+    λ x h. lt-ltb c.mark x.seq (omega (arith, ltb-true r.seq x.seq h, k.mark, k.order.0)) in
+    let beyond =
+    order_beyond r.seq (length sent + 1) (ids_of sent ++ r.id ∷ []) rest (omega (arith, k.order.0)) k.order.2 in
+    let tail : filter (λ row. nat_lt r.seq row.seq) (r ∷ rest) ≡ rest =
+    rw (le-ltb r.seq r.seq (omega arith)) (filter_all (λ row. nat_lt r.seq row.seq) rest beyond) in
+    record {
+      rows_are = k.rows_are ∙ sym (append_assoc sent (r ∷ []) rest);
+      ids = k.ids;
+      mark = k.order.0 ∙ sym (length_push sent r);
+      waits =
+          sym (filter_twice (λ row. nat_lt r.seq row.seq) (λ row. nat_lt c.mark row.seq) more c.events)
+          ∙ ap (filter (λ row. nat_lt r.seq row.seq)) k.waits
+          ∙ tail;
+      order = rw (length_push sent r, map_push (λ (row : Event). row.id) sent r) k.order.2;
+    }
+
+-- ---- what a partition's log holds of the rows that are routed there
 
 pub records_more : (log more : List Batch) → records_of (log ++ more) ≡ records_of log ++ records_of more
 records_more [] more = refl
@@ -65,9 +155,9 @@ module _ (route : Dispatching) (q : Place) where
     pub each : AllByRecursion (IsRecordOf route q rows) (records_of log)
     pub given : AllByRecursion (λ (b : Batch). IsGiven next b.idem) log
 
-  pub logged_recorded : (rows : List Event) (log : List Batch) (next : ℕ) (upto : List Event) (row : Event)
+  pub logged_recorded : {rows : List Event} {log : List Batch} {next : ℕ} {upto : List Event} (row : Event)
       → IsLogged rows log next upto → IsLogged (rows ++ row ∷ []) log next upto
-  logged_recorded rows log next upto row k =
+  logged_recorded {rows} {log} row k =
       record {
         delivered = k.delivered;
         each = all_weaker (IsRecordOf route q rows) (IsRecordOf route q (rows ++ row ∷ []))
@@ -75,9 +165,9 @@ module _ (route : Dispatching) (q : Place) where
         given = k.given;
       }
 
-  pub logged_later : (rows : List Event) (log : List Batch) (next later : ℕ) (upto : List Event) → next ≤ later
+  pub logged_later : {rows : List Event} {log : List Batch} {next later : ℕ} {upto : List Event} → next ≤ later
       → IsLogged rows log next upto → IsLogged rows log later upto
-  logged_later rows log next later upto l k =
+  logged_later {log = log} {next = next} {later = later} l k =
       record {
         delivered = k.delivered;
         each = k.each;
@@ -86,9 +176,9 @@ module _ (route : Dispatching) (q : Place) where
       }
 
   -- a row that is routed elsewhere
-  pub logged_elsewhere : (rows : List Event) (log : List Batch) (next : ℕ) (upto : List Event) (row : Event)
+  pub logged_elsewhere : {rows : List Event} {log : List Batch} {next : ℕ} {upto : List Event} (row : Event)
       → goes_to q (route row) ≡ false → IsLogged rows log next upto → IsLogged rows log next (upto ++ row ∷ [])
-  logged_elsewhere rows log next upto row h k =
+  logged_elsewhere {upto = upto} row h k =
       record {
         delivered = k.delivered ∙ ap ids_of (sym (filter_not_last (λ r. goes_to q (route r)) upto row h));
         each = k.each;
@@ -96,12 +186,11 @@ module _ (route : Dispatching) (q : Place) where
       }
 
   -- what a log holds with one more batch
-  appended : (rows : List Event) (log : List Batch) (next : ℕ) (upto done : List Event) (row : Event) (b : Batch)
-      (x : Record)
-      → IsLogged rows log next upto → Contains rows row → IsBatchOf route q row x next b
+  appended : {rows : List Event} {log : List Batch} {next : ℕ} {upto : List Event} {row : Event} {x : Record}
+      {b : Batch} (done : List Event) → Contains rows row → IsBatchOf route q row x next b
       → with_new bytes_eq (ids_of (routed_to route q upto)) row.id ≡ ids_of (routed_to route q done)
-      → IsLogged rows (log ++ b ∷ []) next done
-  appended rows log next upto done row b x k at is e =
+      → IsLogged rows log next upto → IsLogged rows (log ++ b ∷ []) next done
+  appended {rows} {log} {next} {upto} {row} {x} {b} done at is e k =
       record {
         delivered =
             ap (λ xs. firsts bytes_eq (filter_map told_id xs)) (records_last log b x is.single)
@@ -110,40 +199,32 @@ module _ (route : Dispatching) (q : Place) where
             ∙ ap (λ xs. with_new bytes_eq xs row.id) k.delivered
             ∙ e;
         each =
-            subst (AllByRecursion (IsRecordOf route q rows)) (sym (records_last log b x is.single))
+            rw (records_last log b x is.single)
             (all_last (IsRecordOf route q rows) (records_of log) x k.each (row, at, is.routed));
         given = all_last (λ (c : Batch). IsGiven next c.idem) log b k.given is.given;
       }
 
-  goes_there : (row : Event) (x : Record) → route row ≡ Some (record { place = q; message = x })
-      → goes_to q (route row) ≡ true
-  goes_there row x r = ap (goes_to q) r ∙ same_here q
-
   routed_last : (sent : List Event) (row : Event) (x : Record) → route row ≡ Some (record { place = q; message = x })
       → ids_of (routed_to route q (sent ++ row ∷ [])) ≡ ids_of (routed_to route q sent) ++ row.id ∷ []
   routed_last sent row x r =
-      ap ids_of (filter_last (λ y. goes_to q (route y)) sent row (goes_there row x r))
+      ap ids_of (filter_last (λ y. goes_to q (route y)) sent row (ap (goes_to q) r ∙ same_here q))
       ∙ map_push (λ y. y.id) (routed_to route q sent) row
 
   -- the first batch of a row
-  pub logged_first : (rows : List Event) (log : List Batch) (next : ℕ) (sent : List Event) (row : Event) (b : Batch)
-      (x : Record)
-      → IsLogged rows log next sent → Contains rows row → IsBatchOf route q row x next b
+  pub logged_first : {rows : List Event} {log : List Batch} {next : ℕ} {sent : List Event} {row : Event} {x : Record}
+      {b : Batch} → Contains rows row → IsBatchOf route q row x next b
       → list_any (bytes_eq row.id) (ids_of sent) ≡ false
-      → IsLogged rows (log ++ b ∷ []) next (sent ++ row ∷ [])
-  logged_first rows log next sent row b x k at is new =
-      appended rows log next sent (sent ++ row ∷ []) row b x k at is
-      (new_put bytes_eq (ids_of (routed_to route q sent)) row.id
-      (none_in_filter (bytes_eq row.id) (λ r. r.id) (λ r. goes_to q (route r)) sent new)
-      ∙ sym (routed_last sent row x is.routed))
+      → IsLogged rows log next sent → IsLogged rows (log ++ b ∷ []) next (sent ++ row ∷ [])
+  logged_first {sent = sent} {row = row} {x = x} at is new k =
+      appended (sent ++ row ∷ []) at is
+      (rw (none_in_filter (bytes_eq row.id) (λ r. r.id) (λ r. goes_to q (route r)) sent new)
+      (sym (routed_last sent row x is.routed))) k
 
   -- a further batch of the last row
-  pub logged_again : (rows : List Event) (log : List Batch) (next : ℕ) (sent : List Event) (row : Event) (b : Batch)
-      (x : Record)
-      → IsLogged rows log next (sent ++ row ∷ []) → Contains rows row → IsBatchOf route q row x next b
-      → IsLogged rows (log ++ b ∷ []) next (sent ++ row ∷ [])
-  logged_again rows log next sent row b x k at is =
-      appended rows log next (sent ++ row ∷ []) (sent ++ row ∷ []) row b x k at is
-      (old_left bytes_eq (ids_of (routed_to route q (sent ++ row ∷ []))) row.id
-      (subst (λ (xs : List (List ℕ)). list_any (bytes_eq row.id) xs ≡ true) (sym (routed_last sent row x is.routed))
-      (any_last (bytes_eq row.id) (ids_of (routed_to route q sent)) row.id (same_bytes row.id))))
+  pub logged_again : {rows : List Event} {log : List Batch} {next : ℕ} {row : Event} {x : Record} {b : Batch}
+      (sent : List Event) → Contains rows row → IsBatchOf route q row x next b
+      → IsLogged rows log next (sent ++ row ∷ []) → IsLogged rows (log ++ b ∷ []) next (sent ++ row ∷ [])
+  logged_again {row = row} {x = x} sent at is k =
+      appended (sent ++ row ∷ []) at is
+      (rw (routed_last sent row x is.routed)
+      (rw (any_last (bytes_eq row.id) (ids_of (routed_to route q sent)) row.id (same_bytes row.id)) refl)) k

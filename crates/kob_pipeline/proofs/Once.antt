@@ -1,15 +1,22 @@
--- Lists with each element once, and filters of them.
-use Rattle.std.proofs.Common.{◌≡◌, ℕ, zero, suc, ◌+◌, ◌<◌, List, [], ◌∷◌, ◌++◌, Bool, true, false, ◌||◌, refl, sym, ap, ◌∙◌, inl, inr, subst, length, length-append, get_or, take, arith, append_assoc}
-use Rattle.std.specs.Prelude.{Option, Some, None, filter, map, slice_get, bytes_eq}
-use Rattle.std.specs.List.{list_any, AllByRecursion, IsDistinct, filter_map, cons_option}
-use Rattle.std.proofs.lemmas.Bool.{both_ways, cases_Bool, cases_eq, cond-false, cond-true, or_cases, or_left, or_parts, or_right, true≢false}
+-- Lists with each element once, their filters and beginnings, and numbers in order.
+use Rattle.std.proofs.Common.{◌≡◌, ℕ, zero, suc, ◌+◌, ◌<◌, ◌≤◌, List, [], ◌∷◌, ◌++◌, Bool, true, false, ◌||◌, refl, sym, ap, ◌∙◌, inl, inr, length, length-append, get_or, take, arith, append_assoc, true≢false}
+use Rattle.std.specs.Prelude.{Option, Some, None, filter, map, nat_eq, slice_get, bytes_eq}
+use Rattle.std.specs.List.{list_any, IsDistinct, filter_map, cons_option}
+use Rattle.std.proofs.lemmas.Bool.{both_ways, cases_Bool, cases_eq, eq-eqb, ne_eqb, or_cases, or_from, or_left, or_right}
+use Rattle.std.proofs.lemmas.Cmp.{nat_list_eq_equiv}
 use Rattle.std.proofs.lemmas.List.{append-nil, get_or_append_left, get_or_at, get_or_push, length_push}
 use Rattle.std.proofs.lemmas.List.Elements.{filter-append}
 use Rattle.std.proofs.lemmas.List.Folds.{list_any-append}
+use Rattle.std.proofs.lemmas.Map.Keys.{IsDistinct-push}
 use Rattle.kob_names.specs.declared.record.Record.{Record}
 use Rattle.kob_pipeline.specs.Firsts.{IsPrefixOf, firsts, numbers_below, with_each_new, with_new}
-use Rattle.kob_pipeline.proofs.Lists.{all_last, any_last, bytes_are, bytes_turned, filter_last, filter_not_last, same_bytes}
-use Rattle.kob_pipeline.proofs.Logged.{each_new_append, new_put, old_left}
+use Rattle.kob_pipeline.proofs.Lists.{any_last, bytes_are, filter_last, filter_not_last, same_bytes}
+
+-- one after another
+pub each_new_append : {A : Type 0} (same : A → A → Bool) (xs ys zs : List A)
+    → with_each_new same xs (ys ++ zs) ≡ with_each_new same (with_each_new same xs ys) zs
+each_new_append same xs [] zs = refl
+each_new_append same xs (y ∷ ys) zs = each_new_append same (with_new same xs y) ys zs
 
 -- only new elements are put behind
 pub each_new_more : {A : Type 0} (same : A → A → Bool) (xs ys : List A) → (rest : List A)
@@ -17,38 +24,18 @@ pub each_new_more : {A : Type 0} (same : A → A → Bool) (xs ys : List A) → 
 each_new_more same xs [] = ([], sym (append-nil xs))
 each_new_more same xs (y ∷ ys) =
     elim (cases_Bool (list_any (same y) xs)) [
-      | inl h ↦ let r = each_new_more same xs ys in (r.0, rw h r.1)
-      | inr h ↦ let r = each_new_more same (xs ++ y ∷ []) ys in (y ∷ r.0, rw h (r.1 ∙ append_assoc xs (y ∷ []) r.0))
+      | inl old ↦ let r = each_new_more same xs ys in (r.0, rw old r.1)
+      | inr new ↦ let r = each_new_more same (xs ++ y ∷ []) ys in (y ∷ r.0, rw new r.1 ∙ append_assoc xs (y ∷ []) r.0)
     ]
 
 -- no element is there twice
-
-all_apart : (xs : List (List ℕ)) (x : List ℕ) → list_any (bytes_eq x) xs ≡ false
-    → AllByRecursion (λ y. bytes_eq y x ≡ false) xs
-all_apart [] x h = tt
-all_apart (y ∷ xs) x h =
-    let parts = or_parts (bytes_eq x y) (list_any (bytes_eq x) xs) h in
-    (bytes_turned y x ∙ parts.0, all_apart xs x parts.1)
-
-distinct_last : (xs : List (List ℕ)) (x : List ℕ) → AllByRecursion (λ y. bytes_eq y x ≡ false) xs
-    → IsDistinct bytes_eq xs
-    → IsDistinct bytes_eq (xs ++ x ∷ [])
-unfolding IsDistinct
-distinct_last [] x apart d = (tt, tt)
-distinct_last (y ∷ xs) x apart d =
-    (all_last (λ z. bytes_eq y z ≡ false) xs x d.0 apart.0, distinct_last xs x apart.1 d.1)
-
-distinct_new : (xs : List (List ℕ)) (x : List ℕ) → IsDistinct bytes_eq xs → IsDistinct bytes_eq (with_new bytes_eq xs x)
-distinct_new xs x d =
-    elim (cases_Bool (list_any (bytes_eq x) xs)) [
-      | inl old ↦ subst (IsDistinct bytes_eq) (sym (old_left bytes_eq xs x old)) d
-      | inr new ↦ subst (IsDistinct bytes_eq) (sym (new_put bytes_eq xs x new))
-          (distinct_last xs x (all_apart xs x new) d)
-    ]
-
 distinct_each : (xs ys : List (List ℕ)) → IsDistinct bytes_eq xs → IsDistinct bytes_eq (with_each_new bytes_eq xs ys)
 distinct_each xs [] d = d
-distinct_each xs (y ∷ ys) d = distinct_each (with_new bytes_eq xs y) ys (distinct_new xs y d)
+distinct_each xs (y ∷ ys) d =
+    elim (cases_Bool (list_any (bytes_eq y) xs)) [
+      | inl old ↦ rw old (distinct_each xs ys d)
+      | inr new ↦ rw new (distinct_each (xs ++ y ∷ []) ys (IsDistinct-push nat_list_eq_equiv xs y d new))
+    ]
 
 pub firsts_distinct : (xs : List (List ℕ)) → IsDistinct bytes_eq (firsts bytes_eq xs)
 unfolding IsDistinct
@@ -63,51 +50,39 @@ any_passing test y h [] = refl
 any_passing test y h (x ∷ xs) =
     elim (cases_Bool (test x)) [
       | inl on ↦ rw on (ap (λ (b : Bool). bytes_eq y x || b) (any_passing test y h xs))
-      | inr off ↦
-          let apart : bytes_eq y x ≡ false =
-          elim (cases_Bool (bytes_eq y x)) [
-            | inl e ↦ absurd (both_ways (test x) off (ap test (sym (bytes_are y x e)) ∙ h))
-            | inr e ↦ e
-          ] in
-          rw (off, apart) (any_passing test y h xs)
+      | inr off ↦ elim (cases_Bool (bytes_eq y x)) [
+        | inl e ↦ absurd (both_ways (test x) off (ap test (sym (bytes_are y x e)) ∙ h))
+        | inr e ↦ rw (off, e) (any_passing test y h xs)
+      ]
     ]
 
 filter_new : (test : List ℕ → Bool) (xs : List (List ℕ)) (y : List ℕ) → test y ≡ true
     → filter test (with_new bytes_eq xs y) ≡ with_new bytes_eq (filter test xs) y
 filter_new test xs y h =
-    elim (cases_Bool (list_any (bytes_eq y) xs)) [
-      | inl old ↦
-          ap (filter test) (old_left bytes_eq xs y old)
-          ∙ sym (old_left bytes_eq (filter test xs) y (any_passing test y h xs ∙ old))
-      | inr new ↦
-          ap (filter test) (new_put bytes_eq xs y new)
-          ∙ filter_last test xs y h
-          ∙ sym (new_put bytes_eq (filter test xs) y (any_passing test y h xs ∙ new))
-    ]
+    rw (any_passing test y h xs)
+    (elim (cases_Bool (list_any (bytes_eq y) xs)) [
+      | inl old ↦ rw old refl
+      | inr new ↦ rw new (filter_last test xs y h)
+    ])
 
 filter_not_new : (test : List ℕ → Bool) (xs : List (List ℕ)) (y : List ℕ) → test y ≡ false
     → filter test (with_new bytes_eq xs y) ≡ filter test xs
 filter_not_new test xs y h =
     elim (cases_Bool (list_any (bytes_eq y) xs)) [
-      | inl old ↦ ap (filter test) (old_left bytes_eq xs y old)
-      | inr new ↦ ap (filter test) (new_put bytes_eq xs y new) ∙ filter_not_last test xs y h
+      | inl old ↦ rw old refl
+      | inr new ↦ rw new (filter_not_last test xs y h)
     ]
 
 filter_each_new : (test : List ℕ → Bool) (xs ys : List (List ℕ))
     → filter test (with_each_new bytes_eq xs ys) ≡ with_each_new bytes_eq (filter test xs) (filter test ys)
 filter_each_new test xs [] = refl
 filter_each_new test xs (y ∷ ys) =
+    let rest = filter_each_new test (with_new bytes_eq xs y) ys in
     elim (cases_Bool (test y)) [
       | inl on ↦
-          filter_each_new test (with_new bytes_eq xs y) ys
-          ∙ ap (λ (zs : List (List ℕ)). with_each_new bytes_eq zs (filter test ys)) (filter_new test xs y on)
-          ∙ sym (ap (with_each_new bytes_eq (filter test xs))
-          (cond-true (test y) (y ∷ filter test ys) (filter test ys) on))
+          rest ∙ ap (λ zs. with_each_new bytes_eq zs (filter test ys)) (filter_new test xs y on) ∙ rw on refl
       | inr off ↦
-          filter_each_new test (with_new bytes_eq xs y) ys
-          ∙ ap (λ (zs : List (List ℕ)). with_each_new bytes_eq zs (filter test ys)) (filter_not_new test xs y off)
-          ∙ sym (ap (with_each_new bytes_eq (filter test xs))
-          (cond-false (test y) (y ∷ filter test ys) (filter test ys) off))
+          rest ∙ ap (λ zs. with_each_new bytes_eq zs (filter test ys)) (filter_not_new test xs y off) ∙ rw off refl
     ]
 
 pub filter_firsts : (test : List ℕ → Bool) (xs : List (List ℕ))
@@ -168,13 +143,35 @@ next_number n m k rest e =
     ∙ ap (λ (xs : List ℕ). get_or xs n 0) e
     ∙ get_number m n (omega arith)
 
+-- a number is among those below a bound where it is below
+below_is_in : (n k : ℕ) → k < n → list_any (nat_eq k) (numbers_below n) ≡ true
+below_is_in zero k h = absurd (omega arith)
+below_is_in (suc n) k h =
+    elim (cases_eq k n) [
+      | inl e ↦ any_last (nat_eq k) (numbers_below n) n (eq-eqb k n e)
+      | inr ne ↦
+          list_any-append (nat_eq k) (numbers_below n) (n ∷ []) ∙ or_left _ _ (below_is_in n k (omega arith))
+    ]
+
+beyond_is_out : (n k : ℕ) → n ≤ k → list_any (nat_eq k) (numbers_below n) ≡ false
+beyond_is_out zero k h = refl
+beyond_is_out (suc n) k h =
+    list_any-append (nat_eq k) (numbers_below n) (n ∷ [])
+    ∙ or_from _ _ (beyond_is_out n k (omega arith)) (or_from (nat_eq k n) false (ne_eqb k n (λ e. omega arith)) refl)
+
+pub numbers_again : (n k : ℕ) → k < n → with_new nat_eq (numbers_below n) k ≡ numbers_below n
+numbers_again n k h = rw (below_is_in n k h) refl
+
+pub numbers_beyond : (n k : ℕ) → n ≤ k → with_new nat_eq (numbers_below n) k ≡ numbers_below n ++ k ∷ []
+numbers_beyond n k h = rw (beyond_is_out n k h) refl
+
+-- fronts of records
+
 pub take_one_more : (records : List Record) (n : ℕ) (x : Record) → slice_get records n ≡ Some x
     → take (suc n) records ≡ take n records ++ x ∷ []
 take_one_more [] n x h = cc
 take_one_more (r ∷ rs) zero x h = let e : r ≡ x = cc in ap (λ (y : Record). y ∷ []) e
 take_one_more (r ∷ rs) (suc n) x h = ap (λ (ys : List Record). r ∷ ys) (take_one_more rs n x h)
-
--- what is among the firsts
 
 any_behind : (id : List ℕ) (o : Option (List ℕ)) (xs : List (List ℕ)) → list_any (bytes_eq id) xs ≡ true
     → list_any (bytes_eq id) (cons_option o xs) ≡ true
@@ -193,38 +190,26 @@ front_has told (r ∷ rs) (suc n) zero x id l at e =
 front_has told (r ∷ rs) (suc n) (suc k) x id l at e =
     any_behind id (told r) (filter_map told (take n rs)) (front_has told rs n k x id (omega arith) at e)
 
-any_new : (x : List ℕ) (xs : List (List ℕ)) (y : List ℕ) → list_any (bytes_eq x) xs ≡ true
-    → list_any (bytes_eq x) (with_new bytes_eq xs y) ≡ true
-any_new x xs y h =
-    elim (cases_Bool (list_any (bytes_eq y) xs)) [
-      | inl old ↦ ap (list_any (bytes_eq x)) (old_left bytes_eq xs y old) ∙ h
-      | inr new ↦
-          ap (list_any (bytes_eq x)) (new_put bytes_eq xs y new)
-          ∙ list_any-append (bytes_eq x) xs (y ∷ [])
-          ∙ or_left (list_any (bytes_eq x) xs) (list_any (bytes_eq x) (y ∷ [])) h
-    ]
+-- what is there stays, and what is in a list is among its firsts
+
+any_stays : (x : List ℕ) (xs ys : List (List ℕ)) → list_any (bytes_eq x) xs ≡ true
+    → list_any (bytes_eq x) (with_each_new bytes_eq xs ys) ≡ true
+any_stays x xs ys h =
+    let m = each_new_more bytes_eq xs ys in
+    ap (list_any (bytes_eq x)) m.1 ∙ list_any-append (bytes_eq x) xs m.0 ∙ or_left _ _ h
 
 is_there_then : (x : List ℕ) (xs : List (List ℕ)) → list_any (bytes_eq x) (with_new bytes_eq xs x) ≡ true
 is_there_then x xs =
     elim (cases_Bool (list_any (bytes_eq x) xs)) [
-      | inl old ↦ ap (list_any (bytes_eq x)) (old_left bytes_eq xs x old) ∙ old
-      | inr new ↦ ap (list_any (bytes_eq x)) (new_put bytes_eq xs x new) ∙ any_last (bytes_eq x) xs x (same_bytes x)
+      | inl old ↦ rw old old
+      | inr new ↦ rw new (any_last (bytes_eq x) xs x (same_bytes x))
     ]
 
-any_stays : (x : List ℕ) (xs ys : List (List ℕ)) → list_any (bytes_eq x) xs ≡ true
-    → list_any (bytes_eq x) (with_each_new bytes_eq xs ys) ≡ true
-any_stays x xs [] h = h
-any_stays x xs (y ∷ ys) h = any_stays x (with_new bytes_eq xs y) ys (any_new x xs y h)
-
--- what is in a list is among its firsts
 pub any_first : (x : List ℕ) (xs ys : List (List ℕ)) → list_any (bytes_eq x) ys ≡ true
     → list_any (bytes_eq x) (with_each_new bytes_eq xs ys) ≡ true
 any_first x xs [] h = absurd (true≢false (sym h))
 any_first x xs (y ∷ ys) h =
     elim (or_cases (bytes_eq x y) (list_any (bytes_eq x) ys) h) [
-      | inl e ↦
-          any_stays x (with_new bytes_eq xs y) ys
-          (subst (λ (z : List ℕ). list_any (bytes_eq x) (with_new bytes_eq xs z) ≡ true) (bytes_are x y e)
-          (is_there_then x xs))
+      | inl e ↦ any_stays x (with_new bytes_eq xs y) ys (rw (← bytes_are x y e) (is_there_then x xs))
       | inr rest ↦ any_first x (with_new bytes_eq xs y) ys rest
     ]

@@ -1,10 +1,9 @@
 -- What reaches an inbox follows of what was delivered and what was taken in order, as an aggregate has one place.
-use Rattle.std.proofs.Common.{◌≡◌, ℕ, List, [], ◌∷◌, ◌++◌, Bool, true, false, refl, sym, ap, ◌∙◌, inl, inr, subst, take, drop}
+use Rattle.std.proofs.Common.{◌≡◌, ℕ, List, [], ◌∷◌, ◌++◌, Bool, true, false, refl, sym, ap, ◌∙◌, inl, inr, subst}
 use Rattle.std.specs.Prelude.{Option, Some, None, Contains, filter, bytes_eq}
 use Rattle.std.specs.List.{list_any, AllByRecursion, IsDistinct, filter_map}
-use Rattle.std.proofs.lemmas.Bool.{cases_Bool, cond-false, cond-true}
-use Rattle.std.proofs.lemmas.List.{take-append-drop}
-use Rattle.std.proofs.lemmas.List.Elements.{All-contains, All-from_recursion, filter_map-append}
+use Rattle.std.proofs.lemmas.Bool.{cases_Bool}
+use Rattle.std.proofs.lemmas.List.Elements.{All-contains, All-from_recursion}
 use Rattle.kob_names.specs.declared.record.Record.{Record}
 use Rattle.kob_outbox.specs.Contents.{Event}
 use Rattle.kob_router.specs.Dispatches.{dispatch_of, place_of}
@@ -18,12 +17,11 @@ use Rattle.kob_pipeline.specs.Taking.{IsTakenInOrder, from_place}
 use Rattle.kob_pipeline.specs.Delivery.{IsDelivered, IsRecordOf, goes_to, ids_of, routed_to, told_id}
 use Rattle.kob_pipeline.specs.Firsts.{IsPrefixOf, firsts}
 use Rattle.kob_pipeline.specs.Reaching.{IsCopy, ReachesInOrder, rows_of_aggregate, taken_of_aggregate, is_of_aggregate, taken_ids}
-use Rattle.kob_pipeline.proofs.Aggregates.{IsToldById, filter_both, one_place, passes_as}
-use Rattle.kob_pipeline.proofs.Arriving.{firsts_of_front, ids_told, inbox_ids, intake_new, intake_old, none_passes, one_passes, passes, passes_here, record_told, with_told}
+use Rattle.kob_pipeline.proofs.Aggregates.{IsToldById, filter_both, one_place, passes_as, sent_message}
+use Rattle.kob_pipeline.proofs.Arriving.{firsts_of_front, front_begins, front_ids, ids_told, inbox_ids, none_passes, one_passes, passes, passes_here, record_told, with_told}
 use Rattle.kob_pipeline.proofs.ConsumerKept.{IsContent}
-use Rattle.kob_pipeline.proofs.Ids.{sent_message}
 use Rattle.kob_pipeline.proofs.Lists.{all_at, all_both, all_last, all_passing, all_weaker, keeps, places_are, same_here, same_some}
-use Rattle.kob_pipeline.proofs.Once.{filter_firsts, filter_map_turned, firsts_distinct, prefix_filter, prefix_firsts, prefix_on}
+use Rattle.kob_pipeline.proofs.Once.{filter_firsts, filter_map_turned, firsts_distinct, prefix_filter, prefix_on}
 use Rattle.kob_pipeline.proofs.RouterKept.{TellsItsId}
 
 module _ (target : Target) (rows : List Event) where
@@ -40,20 +38,13 @@ module _ (target : Target) (rows : List Event) where
   rows_at q records each (a ∷ arrived) h =
       elim (cases_Bool (same_place a.place q)) [
         | inl on ↦
-            let e : from_place q (a ∷ arrived) ≡ a ∷ from_place q arrived =
-            cond-true (same_place a.place q) (a ∷ from_place q arrived) (from_place q arrived) on in
-            let h' : AllByRecursion (IsContent records) (a ∷ from_place q arrived) = subst
-            (AllByRecursion (IsContent records)) e h in
+            let h' : AllByRecursion (IsContent records) (a ∷ from_place q arrived) = rw on at h in
             let r = all_at (IsRecordOf (dispatch_of target) q rows) records a.offset a.message h'.0 each in
-            let there : dispatch_of target r.0 ≡ Some (record { place = a.place; message = a.message }) =
-            r.2 ∙ ap (λ (p : Place). Some (record { place = p; message = a.message })) (sym (places_are a.place q on))
+            let there =
+            ap (λ (p : Place). Some (record { place = p; message = a.message })) (sym (places_are a.place q on))
             in
-            subst (AllByRecursion IsFromRow) (sym e) ((r.0, r.1, there), rows_at q records each arrived h'.1)
-        | inr off ↦
-            let e : from_place q (a ∷ arrived) ≡ from_place q arrived =
-            cond-false (same_place a.place q) (a ∷ from_place q arrived) (from_place q arrived) off in
-            subst (AllByRecursion IsFromRow) (sym e)
-            (rows_at q records each arrived (subst (AllByRecursion (IsContent records)) e h))
+            rw on ((r.0, r.1, r.2 ∙ there), rows_at q records each arrived h'.1)
+        | inr off ↦ rw off (rows_at q records each arrived (rw off at h))
       ]
 
   -- all that arrived, where it is so for each place
@@ -62,23 +53,16 @@ module _ (target : Target) (rows : List Event) where
       → AllByRecursion (λ (a : Arrival). assigned a.place) arrived → AllByRecursion IsFromRow arrived
   from_rows assigned [] f h = tt
   from_rows assigned (a ∷ arrived) f h =
-      let e : from_place a.place (a ∷ arrived) ≡ a ∷ from_place a.place arrived =
-      cond-true (same_place a.place a.place) (a ∷ from_place a.place arrived) (from_place a.place arrived)
-      (same_here a.place) in
-      let first = subst (AllByRecursion IsFromRow) e (f a.place h.0) in
+      let first : AllByRecursion IsFromRow (a ∷ from_place a.place arrived) =
+      rw (same_here a.place) at (f a.place h.0) in
       (first.0, from_rows assigned arrived (λ q x. rest q (f q x)) h.1)
     where
       rest : (q : Place) → AllByRecursion IsFromRow (from_place q (a ∷ arrived))
           → AllByRecursion IsFromRow (from_place q arrived)
       rest q g =
           elim (cases_Bool (same_place a.place q)) [
-            | inl on ↦
-                let g' = subst (AllByRecursion IsFromRow)
-                (cond-true (same_place a.place q) (a ∷ from_place q arrived) (from_place q arrived) on) g in
-                g'.1
-            | inr off ↦
-                subst (AllByRecursion IsFromRow) (cond-false (same_place a.place q) (a ∷ from_place q arrived)
-                (from_place q arrived) off) g
+            | inl on ↦ let g' : AllByRecursion IsFromRow (a ∷ from_place q arrived) = rw on at g in g'.1
+            | inr off ↦ rw off at g
           ]
 
   module _ (tell : AllByRecursion (TellsItsId (dispatch_of target)) rows) where
@@ -108,10 +92,8 @@ module _ (target : Target) (rows : List Event) where
     copies_more inbox a (Some text) e f h =
         let new : Intake = intake_of text a in
         elim (cases_Bool (is_there inbox new.id)) [
-          | inl old ↦ subst (AllByRecursion (IsCopy rows)) (sym (intake_old inbox new old)) h
-          | inr fresh ↦
-              subst (AllByRecursion (IsCopy rows)) (sym (intake_new inbox new fresh))
-              (all_last (IsCopy rows) inbox new h (copy_of a text e f))
+          | inl old ↦ rw old h
+          | inr fresh ↦ rw fresh (all_last (IsCopy rows) inbox new h (copy_of a text e f))
         ]
 
     copies_all : (inbox : Contents) (arrived : List Arrival) → AllByRecursion IsFromRow arrived
@@ -120,8 +102,7 @@ module _ (target : Target) (rows : List Event) where
     copies_all inbox [] f h = h
     copies_all inbox (a ∷ arrived) f h =
         copies_all (with_record inbox (event_id a.message) a) arrived f.1
-        (subst (AllByRecursion (IsCopy rows)) (sym (record_told inbox (event_id a.message) a))
-        (copies_more inbox a (told_id a.message) refl f.0 h))
+        (rw (record_told inbox (event_id a.message) a) (copies_more inbox a (told_id a.message) refl f.0 h))
 
     -- what passes is of a row of the aggregate
     module _ (kind id : List ℕ) (said : AllByRecursion (IsToldById (is_of_aggregate kind id) rows) rows) where
@@ -173,11 +154,11 @@ module _ (target : Target) (rows : List Event) where
           (ids_of (rows_of_aggregate rows kind id))
       begins_here arrived a records from f pass delivered order =
           subst (λ (ids : List (List ℕ)). IsPrefixOf ids (ids_of (rows_of_aggregate rows kind id))) (sym first)
-          (subst (IsPrefixOf (filter in_aggregate (firsts bytes_eq (filter_map told_id (take order.bound records)))))
-          whole
-          (prefix_on (filter in_aggregate (firsts bytes_eq (filter_map told_id (take order.bound records))))
-          (filter in_aggregate (firsts bytes_eq (filter_map told_id records)))
-          (filter in_aggregate (ids_of (routed_to (dispatch_of target) a.place rows))) in_log in_rows))
+          (subst (IsPrefixOf (filter in_aggregate (front_ids records order.bound))) whole
+          (prefix_filter in_aggregate (front_ids records order.bound)
+          (ids_of (routed_to (dispatch_of target) a.place rows))
+          (prefix_on (front_ids records order.bound) (firsts bytes_eq (filter_map told_id records))
+          (ids_of (routed_to (dispatch_of target) a.place rows)) (front_begins records order.bound) delivered.ids)))
         where
           here : AllByRecursion (λ (b : Arrival). passes in_aggregate (told_id b.message) ≡ true → b.place ≡ a.place)
               arrived
@@ -185,38 +166,13 @@ module _ (target : Target) (rows : List Event) where
               all_weaker IsFromRow (λ (b : Arrival). passes in_aggregate (told_id b.message) ≡ true → b.place ≡ a.place)
               (λ b g pass_b. same_place_as a b f g pass pass_b) arrived from
 
-          front : firsts bytes_eq (ids_told (from_place a.place arrived)) ≡ firsts bytes_eq
-              (filter_map told_id (take order.bound records))
-          front = firsts_of_front records order.bound (from_place a.place arrived) 0 order.offsets order.contents
-
           first : firsts bytes_eq (filter in_aggregate (ids_told arrived)) ≡ filter in_aggregate
-              (firsts bytes_eq (filter_map told_id (take order.bound records)))
+              (front_ids records order.bound)
           first =
               ap (firsts bytes_eq) (passes_here in_aggregate a.place arrived here)
               ∙ sym (filter_firsts in_aggregate (ids_told (from_place a.place arrived)))
-              ∙ ap (filter in_aggregate) front
-
-          split : filter_map told_id (take order.bound records) ++ filter_map told_id (drop order.bound records) ≡
-              filter_map told_id records
-          split =
-              sym (filter_map-append told_id (take order.bound records) (drop order.bound records))
-              ∙ ap (filter_map told_id) (take-append-drop order.bound records)
-
-          in_log : IsPrefixOf (filter in_aggregate (firsts bytes_eq (filter_map told_id (take order.bound records))))
-              (filter in_aggregate (firsts bytes_eq (filter_map told_id records)))
-          in_log =
-              prefix_filter in_aggregate (firsts bytes_eq (filter_map told_id (take order.bound records)))
-              (firsts bytes_eq (filter_map told_id records))
-              (subst (λ (ids : List (List ℕ)). IsPrefixOf
-              (firsts bytes_eq (filter_map told_id (take order.bound records))) (firsts bytes_eq ids)) split
-              (prefix_firsts bytes_eq (filter_map told_id (take order.bound records))
-              (filter_map told_id (drop order.bound records))))
-
-          in_rows : IsPrefixOf (filter in_aggregate (firsts bytes_eq (filter_map told_id records)))
-              (filter in_aggregate (ids_of (routed_to (dispatch_of target) a.place rows)))
-          in_rows =
-              prefix_filter in_aggregate (firsts bytes_eq (filter_map told_id records))
-              (ids_of (routed_to (dispatch_of target) a.place rows)) delivered.ids
+              ∙ ap (filter in_aggregate)
+              (firsts_of_front records order.bound (from_place a.place arrived) 0 order.offsets order.contents)
 
           whole : filter in_aggregate (ids_of (routed_to (dispatch_of target) a.place rows)) ≡ ids_of
               (rows_of_aggregate rows kind id)

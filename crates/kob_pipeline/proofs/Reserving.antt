@@ -20,7 +20,7 @@ use Rattle.kob_partition.specs.Retained.{Retained}
 use Rattle.kob_broker.specs.State.{State}
 use Rattle.kob_rights.specs.Check.{on_group, on_topic}
 use Rattle.kob_rights.specs.Writes.{Write, write_of}
-use Rattle.kob_rights.specs.Writes.Write.{Append, CommitOffset, RemoveGroup, AddTopic, RemoveTopic, AdvanceStart, GiveProducerId, AddBindings, RemoveBindings}
+use Rattle.kob_rights.specs.Writes.Write.{AddBindings}
 use Rattle.kob_rights.specs.declared.event.Event.{Event}
 use Rattle.kob_rights.specs.declared.reply.Body.{Body}
 use Rattle.kob_rights.specs.declared.reply.Reply.{Reply}
@@ -44,14 +44,7 @@ use Rattle.kob_pipeline.proofs.Lists.{all_at, all_contained}
 changed_supers : (write : Option Write) (access : Contents) → (changed_access write access).supers ≡ access.supers
 changed_supers None access = refl
 changed_supers (Some (AddBindings create)) access = refl
-changed_supers (Some (RemoveBindings delete)) access = refl
-changed_supers (Some (Append produce)) access = refl
-changed_supers (Some (CommitOffset commit)) access = refl
-changed_supers (Some (RemoveGroup delete)) access = refl
-changed_supers (Some (AddTopic create)) access = refl
-changed_supers (Some (RemoveTopic delete)) access = refl
-changed_supers (Some (AdvanceStart delete)) access = refl
-changed_supers (Some GiveProducerId) access = refl
+changed_supers (Some _) access = refl
 
 supers_after : (reply : Reply) (request : Request) (access : Contents)
     → (access_after reply request access).supers ≡ access.supers
@@ -118,22 +111,7 @@ produce_needs : (access : Contents) (event : Event) (topic : List ℕ) (request 
 produce_needs access event topic (requests.Produce asked) (Done body) just is =
     subst (λ (name : List ℕ). Grants access event (on_topic WriteTo name)) is
     (write_granted access event asked.batch.idem asked.topic (just body refl))
-produce_needs access event topic (requests.Produce asked) (Denied code verdicts) just is = absurd is
-produce_needs access event topic (requests.Produce asked) (Refused code reason) just is = absurd is
-produce_needs access event topic (requests.OffsetCommit commit) reply just is = absurd is
-produce_needs access event topic (requests.Fetch asked) reply just is = absurd is
-produce_needs access event topic (requests.ListOffsets asked) reply just is = absurd is
-produce_needs access event topic (requests.Metadata asked) reply just is = absurd is
-produce_needs access event topic (requests.OffsetFetch asked) reply just is = absurd is
-produce_needs access event topic requests.ListGroups reply just is = absurd is
-produce_needs access event topic (requests.DeleteGroups delete) reply just is = absurd is
-produce_needs access event topic (requests.CreateTopics create) reply just is = absurd is
-produce_needs access event topic (requests.DeleteTopics delete) reply just is = absurd is
-produce_needs access event topic (requests.DeleteRecords delete) reply just is = absurd is
-produce_needs access event topic requests.InitProducerId reply just is = absurd is
-produce_needs access event topic (requests.DescribeAcls asked) reply just is = absurd is
-produce_needs access event topic (requests.CreateAcls create) reply just is = absurd is
-produce_needs access event topic (requests.DeleteAcls delete) reply just is = absurd is
+produce_needs access event topic _ _ just is = absurd is
 
 commit_needs : (access : Contents) (event : Event) (group topic : List ℕ) (request : Request) (reply : Reply)
     → ((body : Body) → reply ≡ Done body → EachGranted access event (rights request))
@@ -141,22 +119,7 @@ commit_needs : (access : Contents) (event : Event) (group topic : List ℕ) (req
 commit_needs access event group topic (requests.OffsetCommit asked) (Done body) just is =
     subst (λ (name : List ℕ). Grants access event (on_group Read name)) is.0
     (elim (just body refl).0 [ inl given ↦ given | inr none ↦ absurd none ])
-commit_needs access event group topic (requests.OffsetCommit asked) (Denied code verdicts) just is = absurd is
-commit_needs access event group topic (requests.OffsetCommit asked) (Refused code reason) just is = absurd is
-commit_needs access event group topic (requests.Produce asked) reply just is = absurd is
-commit_needs access event group topic (requests.Fetch asked) reply just is = absurd is
-commit_needs access event group topic (requests.ListOffsets asked) reply just is = absurd is
-commit_needs access event group topic (requests.Metadata asked) reply just is = absurd is
-commit_needs access event group topic (requests.OffsetFetch asked) reply just is = absurd is
-commit_needs access event group topic requests.ListGroups reply just is = absurd is
-commit_needs access event group topic (requests.DeleteGroups delete) reply just is = absurd is
-commit_needs access event group topic (requests.CreateTopics create) reply just is = absurd is
-commit_needs access event group topic (requests.DeleteTopics delete) reply just is = absurd is
-commit_needs access event group topic (requests.DeleteRecords delete) reply just is = absurd is
-commit_needs access event group topic requests.InitProducerId reply just is = absurd is
-commit_needs access event group topic (requests.DescribeAcls asked) reply just is = absurd is
-commit_needs access event group topic (requests.CreateAcls create) reply just is = absurd is
-commit_needs access event group topic (requests.DeleteAcls delete) reply just is = absurd is
+commit_needs access event group topic _ _ just is = absurd is
 
 -- ---- over a journal
 

@@ -1,28 +1,34 @@
 -- What a run of a router keeps, beside the log of one partition.
-use Rattle.std.proofs.Common.{◌≡◌, ◌⊎◌, ℕ, ◌+◌, ◌<◌, ◌≤◌, List, [], ◌∷◌, ◌++◌, refl, sym, ap, ◌∙◌, inl, inr, subst, length, append_assoc, arith}
-use Rattle.std.specs.Prelude.{Option, Some, None, slice_get}
+use Rattle.std.proofs.Common.{◌≡◌, ◌⊎◌, ℕ, ◌+◌, ◌<◌, ◌≤◌, List, [], ◌∷◌, ◌++◌, refl, sym, ap, ◌∙◌, inl, inr, length, append_assoc, arith, false, subst}
+use Rattle.std.specs.Prelude.{Option, Some, None, slice_get, Contains}
 use Rattle.std.specs.List.{AllByRecursion}
 use Rattle.kob_names.specs.declared.batch.Batch.{Batch}
 use Rattle.kob_outbox.specs.Contents.{Contents, Event}
 use Rattle.kob_outbox.specs.Events.{stored_event}
-use Rattle.kob_outbox.specs.Recording.{next_seq, after_record}
+use Rattle.kob_outbox.specs.Recording.{next_seq}
 use Rattle.kob_outbox.specs.declared.change.Change.{Change}
 use Rattle.kob_outbox.specs.declared.event.OutboxEvent.{OutboxEvent}
 use Rattle.kob_partition.specs.Batches.{history}
 use Rattle.kob_producers.specs.declared.sent.Sent.{Sent}
 use Rattle.kob_router.specs.Dispatches.{Dispatching, place_of}
-use Rattle.kob_router.specs.Places.{with_sequence_for, sequence_of}
-use Rattle.kob_router.specs.Run.{Hand, IsRecordable, May, State, after, start}
+use Rattle.kob_router.specs.Places.{with_sequence_for, sequence_of, same_place, after_use}
+use Rattle.kob_router.specs.Run.{Hand, IsRecordable, May, State, after, start, batch_of}
 use Rattle.kob_router.specs.Run.Move.{Recorded, Restarted, Swept, Took}
 use Rattle.kob_router.specs.declared.dispatch.Dispatch.{Dispatch}
 use Rattle.kob_router.specs.declared.place.Place.{Place}
 use Rattle.kob_router.specs.declared.sender.Producer.{Producer}
 use Rattle.kob_router.specs.declared.sequences.Sequence.{Sequence}
-use Rattle.kob_pipeline.specs.Delivery.{told_id}
-use Rattle.kob_pipeline.proofs.Events.{IsKept, kept_at_start, kept_recorded, kept_swept}
-use Rattle.kob_pipeline.proofs.Lists.{all_last, first_stays}
-use Rattle.kob_pipeline.proofs.Logged.{IsLogged, logged_later, logged_recorded}
-use Rattle.kob_pipeline.proofs.Sending.{AreCounted, counted_none, no_history, sequence_prepared, wrapped}
+use Rattle.kob_pipeline.specs.Delivery.{told_id, goes_to}
+use Rattle.kob_pipeline.proofs.Logged.{IsKept, kept_at_start, kept_recorded, kept_swept, kept_marked, IsLogged, logged_later, logged_recorded, IsBatchOf, logged_again, logged_elsewhere, logged_first}
+use Rattle.kob_pipeline.proofs.Lists.{all_last, get_front, first_is, place_cases, same_here, same_some}
+use Rattle.kob_pipeline.proofs.Sending.{AreCounted, counted_none, no_history, sequence_prepared, wrapped, IsNumber, apart_wrapped, counted_last, history_last, idem_of, next_base, next_wrapped, repeat_base, sequence_used_elsewhere, sequence_used_here}
+use Rattle.std.proofs.lemmas.Bool.{both_ways}
+use Rattle.std.proofs.lemmas.List.{append-nil, length_push}
+use Rattle.std.proofs.lemmas.List.Elements.{All-contains, All-from_recursion, Contains-append_right}
+use Rattle.kob_names.specs.declared.record.Record.{Record}
+use Rattle.kob_producers.specs.Judge.{judge}
+use Rattle.kob_producers.specs.Recent.{sent_batch}
+use Rattle.kob_producers.specs.declared.judge.Judgement.TheVariants.{Next, Repeat}
 
 abbrev pub here : Option Event → List Event
 here None = []
@@ -44,7 +50,7 @@ InHand route (Some h) wait = (slice_get wait 0 ≡ Some h.event) × (place_of (r
 pub in_hand_more : (route : Dispatching) (o : Option Hand) (wait : List Event) (row : Event) → InHand route o wait
     → InHand route o (wait ++ row ∷ [])
 in_hand_more route None wait row h = tt
-in_hand_more route (Some x) wait row h = (first_stays wait row x.event h.0, h.1)
+in_hand_more route (Some x) wait row h = (get_front wait (row ∷ []) 0 x.event h.0, h.1)
 
 -- the batch in hand is in the log, and was not acknowledged yet
 pub record IsPending (ss : List Sequence) (hand : Option Hand) (q : Place) (count : ℕ) (ahead : Option Event) : Type 0
@@ -80,17 +86,12 @@ known_later (Some p) ss hand q log next later ahead l k =
 
 -- with nothing in hand, nothing is pending
 in_step_taken : (ss : List Sequence) (old : Option Hand) (hand : Hand) (q : Place) (n : ℕ) (ahead : Option Event)
-    → old ≡ None
-    → InStep ss old q n ahead → InStep (with_sequence_for ss hand.place) (Some hand) q n ahead
-in_step_taken ss old hand q n ahead none h =
-    elim h [
-      | inl e ↦ inl (sequence_prepared ss hand.place q ∙ e)
-      | inr w ↦ let bad : Some w.held ≡ None = sym w.in_hand ∙ none in absurd cc
-    ]
+    → old ≡ None → InStep ss old q n ahead → InStep (with_sequence_for ss hand.place) (Some hand) q n ahead
+in_step_taken ss old hand q n ahead none (inl e) = inl (sequence_prepared ss hand.place q ∙ e)
+in_step_taken ss old hand q n ahead none (inr w) = let bad : Some w.held ≡ None = sym w.in_hand ∙ none in absurd cc
 
 known_taken : (o : Option Producer) (ss : List Sequence) (old : Option Hand) (hand : Hand) (q : Place)
-    (log : List Batch)
-    (next : ℕ) (ahead : Option Event) → old ≡ None → Known o ss old q log next ahead
+    (log : List Batch) (next : ℕ) (ahead : Option Event) → old ≡ None → Known o ss old q log next ahead
     → Known o (with_sequence_for ss hand.place) (Some hand) q log next ahead
 known_taken None ss old hand q log next ahead none k = sequence_prepared ss hand.place q ∙ k
 known_taken (Some p) ss old hand q log next ahead none k =
@@ -126,10 +127,9 @@ module _ (route : Dispatching) (q : Place) where
       }
 
   -- somebody was given a producer id
-  pub kept_later : (rows : List Event) (s : State) (log : List Batch) (next later : ℕ) → next ≤ later
-      → Kept rows s log next
-      → Kept rows s log later
-  kept_later rows s log next later l k =
+  pub kept_later : {rows : List Event} {s : State} {log : List Batch} {next later : ℕ} → next ≤ later
+      → Kept rows s log next → Kept rows s log later
+  kept_later {s = s} {log = log} {next = next} {later = later} l k =
       record {
         sent = k.sent;
         ahead = k.ahead;
@@ -137,99 +137,259 @@ module _ (route : Dispatching) (q : Place) where
         kept = k.kept;
         tells = k.tells;
         holds = k.holds;
-        logged = logged_later route q rows log next later (k.sent ++ here k.ahead) l k.logged;
+        logged = logged_later route q l k.logged;
         known = known_later s.producer s.sequences s.hand q log next later k.ahead l k.known;
       }
 
-  pub kept_after_record : (rows : List Event) (s : State) (log : List Batch) (next : ℕ) (change : Change)
-      (event : OutboxEvent)
-      → TellsIds route → IsRecordable s.outbox change event → Kept rows s log next
+  -- the router has another producer id, other sequences or another row in hand
+  kept_as : {rows : List Event} {s : State} {log : List Batch} {next : ℕ} (o : Option Producer) (ss : List Sequence)
+      (hand : Option Hand) (k : Kept rows s log next) → InHand route hand (here k.ahead ++ k.rest)
+      → Known o ss hand q log next k.ahead
+      → Kept rows (record { outbox = s.outbox; producer = o; sequences = ss; hand = hand }) log next
+  kept_as o ss hand k holds known =
+      record {
+        sent = k.sent;
+        ahead = k.ahead;
+        rest = k.rest;
+        kept = k.kept;
+        tells = k.tells;
+        holds = holds;
+        logged = k.logged;
+        known = known;
+      }
+
+  pub kept_after_record : {rows : List Event} {s : State} {log : List Batch} {next : ℕ} (change : Change)
+      (event : OutboxEvent) → TellsIds route → IsRecordable s.outbox change event → Kept rows s log next
       → Kept (rows ++ stored_event (next_seq s.outbox) event ∷ []) (after s (Recorded change event)) log next
-  kept_after_record rows s log next change event tells may k =
+  kept_after_record {rows} {s} change event tells may k =
       let row : Event = stored_event (next_seq s.outbox) event in
-      let wait : List Event = here k.ahead ++ k.rest in
-      let e : here k.ahead ++ (k.rest ++ row ∷ []) ≡ wait ++ row ∷ [] = sym
-      (append_assoc (here k.ahead) k.rest (row ∷ [])) in
+      let more = append_assoc (here k.ahead) k.rest (row ∷ []) in
       record {
         sent = k.sent;
         ahead = k.ahead;
         rest = k.rest ++ row ∷ [];
-        kept = subst (λ (w : List Event). IsKept (rows ++ row ∷ []) (after_record s.outbox change event) k.sent w)
-            (sym e)
-            (kept_recorded rows s.outbox k.sent wait change event k.kept may);
+        kept = rw (← more) (kept_recorded change event may k.kept);
         tells = all_last (TellsItsId route) rows row k.tells (tells (next_seq s.outbox) event);
-        holds = subst (λ (w : List Event). InHand route s.hand w) (sym e) (in_hand_more route s.hand wait row k.holds);
-        logged = logged_recorded route q rows log next (k.sent ++ here k.ahead) row k.logged;
+        holds = rw (← more) (in_hand_more route s.hand (here k.ahead ++ k.rest) row k.holds);
+        logged = logged_recorded route q row k.logged;
         known = k.known;
       }
 
-  pub kept_after_sweep : (rows : List Event) (s : State) (log : List Batch) (next : ℕ) → Kept rows s log next
+  pub kept_after_sweep : {rows : List Event} {s : State} {log : List Batch} {next : ℕ} → Kept rows s log next
       → Kept rows (after s Swept) log next
-  kept_after_sweep rows s log next k =
+  kept_after_sweep k =
       record {
         sent = k.sent;
         ahead = k.ahead;
         rest = k.rest;
-        kept = kept_swept rows s.outbox k.sent (here k.ahead ++ k.rest) k.kept;
+        kept = kept_swept k.kept;
         tells = k.tells;
         holds = k.holds;
         logged = k.logged;
         known = k.known;
       }
 
-  pub kept_after_restart : (rows : List Event) (s : State) (log : List Batch) (next : ℕ) → Kept rows s log next
+  pub kept_after_restart : {rows : List Event} {s : State} {log : List Batch} {next : ℕ} → Kept rows s log next
       → Kept rows (after s Restarted) log next
-  kept_after_restart rows s log next k =
-      record {
-        sent = k.sent;
-        ahead = k.ahead;
-        rest = k.rest;
-        kept = k.kept;
-        tells = k.tells;
-        holds = tt;
-        logged = k.logged;
-        known = refl;
-      }
+  kept_after_restart k = kept_as None [] None k tt refl
 
-  pub kept_after_take : (rows : List Event) (s : State) (log : List Batch) (next : ℕ) (hand : Hand)
-      → May route s (Took hand)
-      → Kept rows s log next → Kept rows (after s (Took hand)) log next
-  kept_after_take rows s log next hand may k =
-      record {
-        sent = k.sent;
-        ahead = k.ahead;
-        rest = k.rest;
-        kept = k.kept;
-        tells = k.tells;
-        holds = (subst (λ (w : List Event). slice_get w 0 ≡ Some hand.event) k.kept.waits may.1, may.2);
-        logged = k.logged;
-        known = known_taken s.producer s.sequences s.hand hand q log next k.ahead may.0 k.known;
-      }
+  pub kept_after_take : {rows : List Event} {s : State} {log : List Batch} {next : ℕ} (hand : Hand)
+      → May route s (Took hand) → Kept rows s log next → Kept rows (after s (Took hand)) log next
+  kept_after_take {s = s} {log = log} {next = next} hand may k =
+      kept_as s.producer (with_sequence_for s.sequences hand.place) (Some hand) k
+      (rw k.kept.waits at may.1, may.2)
+      (known_taken s.producer s.sequences s.hand hand q log next k.ahead may.0 k.known)
 
   -- the producer is given an id
-  pub kept_after_id : (rows : List Event) (c : Contents) (ss : List Sequence) (hand : Option Hand) (log : List Batch)
-      (next : ℕ)
-      → Kept rows (record { outbox = c; producer = None; sequences = ss; hand = hand }) log next
+  pub kept_after_id : {rows : List Event} {c : Contents} {ss : List Sequence} {hand : Option Hand} {log : List Batch}
+      {next : ℕ} → Kept rows (record { outbox = c; producer = None; sequences = ss; hand = hand }) log next
       → Kept rows (record {
         outbox = c;
         producer = Some (record { id = next; epoch = 0 });
         sequences = ss;
         hand = hand;
       }) log (next + 1)
-  kept_after_id rows c ss hand log next k =
+  unfolding kept_later
+  kept_after_id {ss = ss} {hand = hand} {log = log} {next = next} k =
       let p : Producer = record { id = next; epoch = 0 } in
       let none : history next log ≡ [] = no_history next next (omega arith) log k.logged.given in
+      kept_as (Some p) ss hand (kept_later (omega arith) k) k.holds
+      (record {
+        below = omega arith;
+        counted = rw none (counted_none p);
+        in_step = inl (k.known ∙ ap (λ (sents : List Sent). wrapped (length sents)) (sym none));
+      })
+
+-- ---- what a served call of a router keeps
+
+-- a router with a row in hand
+abbrev pub holding : Contents → Producer → List Sequence → Hand → State
+holding c p ss h = record { outbox = c; producer = Some p; sequences = ss; hand = Some h }
+
+-- its mark may move
+abbrev pub IsReady : List Sequence → Hand → Place → ℕ → Option Event → Type 0
+IsReady ss h q count ahead = (same_place h.place q ≡ false) ⊎ IsPending ss (Some h) q count ahead
+
+apart_back : (p q : Place) → same_place p q ≡ false → same_place q p ≡ false
+apart_back p q h =
+    elim (place_cases q p) [
+      | inl e ↦ absurd (both_ways (same_place p q) h (ap (same_place p) e ∙ same_here p))
+      | inr apart ↦ apart
+    ]
+
+goes_elsewhere : (o : Option Dispatch) (p q : Place) → place_of o ≡ Some p → same_place p q ≡ false
+    → goes_to q o ≡ false
+goes_elsewhere None p q e h = cc
+goes_elsewhere (Some d) p q e h =
+    let same : d.place ≡ p = cc in
+    ap (λ (x : Place). same_place q x) same ∙ apart_back p q h
+
+step_on : (ss : List Sequence) (h : Hand) (q : Place) (n : ℕ) (ahead : Option Event) → InStep ss (Some h) q n ahead
+    → IsReady ss h q n ahead → sequence_of (after_use ss h.place) q ≡ wrapped n
+step_on ss h q n ahead s (inl apart) =
+    sequence_used_elsewhere ss h.place q apart
+    ∙ elim s [
+      | inl e ↦ e
+      | inr w ↦
+          let e : h.place ≡ q = ap (λ (x : Hand). x.place) (same_some h w.held w.in_hand) ∙ w.here_it_goes in
+          absurd (both_ways (same_place h.place q) apart (ap (λ (x : Place). same_place x q) e ∙ same_here q))
+    ]
+step_on ss h q n ahead s (inr w) =
+    let e : h.place ≡ q = ap (λ (x : Hand). x.place) (same_some h w.held w.in_hand) ∙ w.here_it_goes in
+    rw (e, sequence_used_here ss q, w.base, next_wrapped w.before, w.one_more) refl
+
+sent_why : (route : Dispatching) (ss : List Sequence) (h : Hand) (q : Place) (n : ℕ) (ahead : Option Event)
+    → place_of (route h.event) ≡ Some h.place → IsReady ss h q n ahead
+    → (goes_to q (route h.event) ≡ false) ⊎ (ahead ≡ Some h.event)
+sent_why route ss h q n ahead at (inl apart) = inl (goes_elsewhere (route h.event) h.place q at apart)
+sent_why route ss h q n ahead at (inr w) =
+    inr (w.is_ahead ∙ ap (λ (x : Hand). Some x.event) (sym (same_some h w.held w.in_hand)))
+
+module _ (route : Dispatching) (q : Place) where
+  -- the row in hand counts as sent
+  sent_one : {rows : List Event} {c : Contents} {log : List Batch} {next : ℕ} {sent : List Event} (r : Event)
+      (ahead : Option Event) (rest : List Event)
+      → slice_get (here ahead ++ rest) 0 ≡ Some r → (goes_to q (route r) ≡ false) ⊎ (ahead ≡ Some r)
+      → IsKept rows c sent (here ahead ++ rest) → IsLogged route q rows log next (sent ++ here ahead)
+      → (tail : List Event) × IsKept rows (record c { mark = r.seq }) (sent ++ r ∷ []) tail
+      × IsLogged route q rows log next (sent ++ r ∷ [])
+  sent_one {rows} {c} {log} {next} {sent} r None rest f w k l =
+      let at = first_is rest r f in (
+        at.0,
+        kept_marked (subst (IsKept rows c sent) at.1 k),
+        elim w [
+          | inl e ↦ logged_elsewhere route q r e (subst (IsLogged route q rows log next) (append-nil sent) l)
+          | inr e ↦ absurd cc
+        ],
+      )
+  sent_one {rows} {c} {log} {next} {sent} r (Some x) rest f w k l =
+      let e : x ≡ r = same_some x r f in (
+        rest,
+        subst (λ (y : Event). IsKept rows (record c { mark = y.seq }) (sent ++ y ∷ []) rest) e (kept_marked k),
+        subst (λ (y : Event). IsLogged route q rows log next (sent ++ y ∷ [])) e l,
+      )
+
+  -- the mark moves to the row in hand
+  pub kept_after_mark : {rows : List Event} {c : Contents} {p : Producer} {ss : List Sequence} {h : Hand}
+      {log : List Batch} {next : ℕ} (k : Kept route q rows (holding c p ss h) log next)
+      → IsReady ss h q (length (history p.id log)) k.ahead
+      → Kept route q rows (record {
+        outbox = record c { mark = h.event.seq };
+        producer = Some p;
+        sequences = after_use ss h.place;
+        hand = None;
+      }) log next
+  kept_after_mark {rows} {c} {p} {ss} {h} {log} {next} k ready =
+      let one =
+      sent_one h.event k.ahead k.rest k.holds.0
+      (sent_why route ss h q (length (history p.id log)) k.ahead k.holds.1 ready) k.kept k.logged in
       record {
-        sent = k.sent;
-        ahead = k.ahead;
-        rest = k.rest;
-        kept = k.kept;
+        sent = k.sent ++ h.event ∷ [];
+        ahead = None;
+        rest = one.0;
+        kept = one.1;
         tells = k.tells;
-        holds = k.holds;
-        logged = logged_later route q rows log next (next + 1) (k.sent ++ here k.ahead) (omega arith) k.logged;
+        holds = tt;
+        logged = subst (IsLogged route q rows log next) (sym (append-nil (k.sent ++ h.event ∷ []))) one.2;
         known = record {
-          below = omega arith;
-          counted = subst (λ (sents : List Sent). AreCounted p sents) (sym none) (counted_none p);
-          in_step = inl (k.known ∙ ap (λ (sents : List Sent). wrapped (length sents)) (sym none));
+          below = k.known.below;
+          counted = k.known.counted;
+          in_step = inl (step_on ss h q (length (history p.id log)) k.ahead k.known.in_step ready);
         };
       }
+
+  log_more : {rows : List Event} {c : Contents} {log : List Batch} {next : ℕ} {sent : List Event} {r : Event}
+      {x : Record} {b : Batch} (ahead : Option Event) (rest tail : List Event) → here ahead ++ rest ≡ r ∷ tail
+      → Contains rows r → IsBatchOf route q r x next b → IsKept rows c sent (here ahead ++ rest)
+      → IsLogged route q rows log next (sent ++ here ahead)
+      → IsLogged route q rows (log ++ b ∷ []) next (sent ++ r ∷ [])
+  log_more {rows} {c} {log} {next} {sent} None rest tail w at is k l =
+      logged_first route q at is (subst (IsKept rows c sent) w k).order.1
+      (subst (IsLogged route q rows log next) (append-nil sent) l)
+  log_more {rows} {c} {log} {next} {sent} (Some y) rest tail w at is k l =
+      logged_again route q sent at is
+      (subst (λ (z : Event). IsLogged route q rows log next (sent ++ z ∷ [])) (cc) l)
+
+  -- a router whose row was put on the log, or goes elsewhere
+  abbrev pub IsServed : List Event → Contents → Producer → List Sequence → Hand → List Batch → ℕ → Type 0
+  IsServed rows c p ss h log next =
+      (k : Kept route q rows (holding c p ss h) log next) × IsReady ss h q (length (history p.id log)) k.ahead
+
+-- a new batch of the row in hand
+pub kept_after_batch : (route : Dispatching) (rows : List Event) (c : Contents) (p : Producer) (ss : List Sequence)
+    (h : Hand)
+    (log : List Batch) (next : ℕ) (x : Record)
+    → Kept route h.place rows (holding c p ss h) log next
+    → route h.event ≡ Some (record { place = h.place; message = x })
+    → judge (history p.id log) (idem_of p (sequence_of ss h.place)) 1 ≡ Next
+    → IsServed route h.place rows c p ss h (log ++ batch_of p (sequence_of ss h.place) x ∷ []) next
+kept_after_batch route rows c p ss h log next x k to comes =
+    let q : Place = h.place in
+    let b : Batch = batch_of p (sequence_of ss q) x in
+    let n : ℕ = length (history p.id log) in
+    let base : sequence_of ss q ≡ wrapped n = next_base p (history p.id log) (sequence_of ss q) k.known.counted comes in
+    let more = history_last p log (sequence_of ss q) x in
+    let s : Sent = sent_batch (idem_of p (sequence_of ss q)) 1 more.0 in
+    let number : IsNumber p n s = record { epoch = refl; base = base; single = refl } in
+    let count : length (history p.id (log ++ b ∷ [])) ≡ n + 1 = ap length more.1 ∙ length_push (history p.id log) s in
+    let at = first_is (here k.ahead ++ k.rest) h.event k.holds.0 in
+    let kept : IsKept rows c k.sent (h.event ∷ at.0) = subst (IsKept rows c k.sent) at.1 k.kept in
+    let has : Contains rows h.event =
+    rw kept.rows_are (Contains-append_right k.sent (h.event ∷ at.0) h.event (0, omega arith, refl)) in
+    let tells : TellsItsId route h.event =
+    All-contains (TellsItsId route) rows h.event (All-from_recursion (TellsItsId route) rows k.tells) has in
+    let is : IsBatchOf route q h.event x next b =
+    record { tells = tells (record { place = q; message = x }) to; routed = to; single = refl; given = k.known.below }
+    in
+    let pending : IsPending ss (Some h) q (length (history p.id (log ++ b ∷ []))) (Some h.event) =
+    record { before = n; one_more = count; base = base; held = h; in_hand = refl; here_it_goes = refl; is_ahead = refl }
+    in (
+      record {
+        sent = k.sent;
+        ahead = Some h.event;
+        rest = at.0;
+        kept = kept;
+        tells = k.tells;
+        holds = (refl, k.holds.1);
+        logged = log_more route q k.ahead k.rest at.0 at.1 has is k.kept k.logged;
+        known = record {
+          below = k.known.below;
+          counted = rw more.1 (counted_last p (history p.id log) s k.known.counted number);
+          in_step = inr pending;
+        };
+      },
+      inr pending,
+    )
+
+-- a repeat stands in the log
+pub repeat_is_pending : (route : Dispatching) (rows : List Event) (c : Contents) (p : Producer) (ss : List Sequence)
+    (h : Hand)
+    (log : List Batch) (next offset : ℕ) (k : Kept route h.place rows (holding c p ss h) log next)
+    → judge (history p.id log) (idem_of p (sequence_of ss h.place)) 1 ≡ Repeat offset
+    → IsReady ss h h.place (length (history p.id log)) k.ahead
+repeat_is_pending route rows c p ss h log next offset k again =
+    let j = repeat_base p (history p.id log) (sequence_of ss h.place) offset k.known.counted again in
+    elim k.known.in_step [
+      | inl e ↦ absurd (apart_wrapped j.0 (length (history p.id log)) j.1 j.2 (sym j.3 ∙ e))
+      | inr w ↦ inr w
+    ]

@@ -1,238 +1,284 @@
--- What a router leaves on a partition: by its own moves and the entries of the journal, each at its pace.
-use Rattle.std.proofs.Common.{◌≡◌, ℕ, suc, ◌≤◌, ◌==◌, List, [], ◌∷◌, ◌++◌, Bool, true, false, refl, sym, ap, ◌∙◌, inl, inr, subst, length, append_assoc, arith}
-use Rattle.std.specs.Prelude.{Option, Some, None, map, bytes_eq}
-use Rattle.std.proofs.lemmas.Bool.{cond-true, cond-false, cases_Bool, eqb-false}
-use Rattle.std.proofs.lemmas.List.{append-nil, map-append}
-use Rattle.std.proofs.lemmas.List.Elements.{filter-append}
+-- What each call of a router keeps, served or not, and what its run leaves on a partition.
+use Rattle.std.proofs.Common.{◌≡◌, List, [], ◌∷◌, ◌++◌, Bool, true, false, refl, sym, ap, ◌∙◌, inl, inr, subst, arith, ℕ, append_assoc, append-nil}
+use Rattle.std.specs.Prelude.{Option, Some, None, map}
+use Rattle.std.proofs.lemmas.Bool.{true≢false}
 use Rattle.kob_names.specs.declared.batch.Batch.{Batch}
+use Rattle.kob_names.specs.declared.record.Record.{Record}
 use Rattle.kob_outbox.specs.Contents.{Contents, Event}
-use Rattle.kob_outbox.specs.Events.{id_text, stored_event}
-use Rattle.kob_outbox.specs.Recording.{next_seq, after_record}
-use Rattle.kob_partition.specs.Batches.{records_of}
+use Rattle.kob_partition.specs.Batches.{history, records_of}
+use Rattle.kob_producers.specs.Judge.{judge}
 use Rattle.kob_producers.specs.declared.judge.Judgement.{Judgement}
 use Rattle.kob_producers.specs.declared.judge.Judgement.TheVariants.{Next, Repeat, OutOfOrder, OldEpoch}
+use Rattle.kob_rights.specs.declared.on_partitions.Produce.{Produce as ProduceRequest}
+use Rattle.kob_rights.specs.declared.reply.Body.{Body}
 use Rattle.kob_rights.specs.declared.reply.Reply.{Reply}
 use Rattle.kob_rights.specs.declared.reply.Reply.TheVariants.{Denied, Refused, Done}
 use Rattle.kob_rights.specs.declared.request.Request.{Request}
-use Rattle.kob_rights.specs.declared.request.Request.TheVariants.{DeleteGroups, DeleteTopics, Fetch, InitProducerId, OffsetCommit, OffsetFetch, Produce}
+use Rattle.kob_rights.specs.declared.request.Request.TheVariants.{InitProducerId, Produce}
 use Rattle.kob_router.specs.Dispatches.{Dispatching}
-use Rattle.kob_router.specs.Places.{same_place}
-use Rattle.kob_router.specs.Run.{Hand, IsRouterRun, Move, State, after_acknowledgement, after, calls_of, events_of, start}
+use Rattle.kob_router.specs.Places.{same_place, sequence_of}
+use Rattle.kob_router.specs.Run.{Hand, IsDone, IsSending, MayCall, State, after, batch_of, producer_after, IsRouterRun, May, Move, calls_of, events_of, start}
 use Rattle.kob_router.specs.Run.Move.{Called, Recorded, Restarted, Swept, Took}
-use Rattle.kob_router.specs.declared.line.Call.{Call}
 use Rattle.kob_router.specs.declared.place.Place.{Place}
-use Rattle.kob_inbox.specs.Run.{place_at}
+use Rattle.kob_router.specs.declared.sender.Producer.{Producer}
+use Rattle.kob_router.specs.declared.sequences.Sequence.{Sequence}
+use Rattle.kob_pipeline.specs.View.{Accepts, Does, Step, View, with_batch, with_producer, IsHistory, opening_view}
+use Rattle.kob_pipeline.proofs.Lists.{place_cases, same_here}
+use Rattle.kob_pipeline.proofs.RouterKept.{Kept, kept_after_id, kept_later, IsServed, holding, kept_after_batch, kept_after_mark, repeat_is_pending, TellsIds, here, kept_after_record, kept_after_restart, kept_after_sweep, kept_after_take, kept_first}
+use Rattle.kob_pipeline.proofs.Sending.{idem_of}
+use Rattle.kob_pipeline.proofs.ServedRuns.{Hears, IsServedBy, IsUnheard}
+use Rattle.std.proofs.lemmas.List.{map-append}
+use Rattle.std.proofs.lemmas.List.Elements.{filter-append}
+use Rattle.kob_router.specs.declared.line.Call.{Call}
 use Rattle.kob_shared.specs.declared.journal.Entry.{Entry}
 use Rattle.kob_pipeline.specs.Delivery.{IsDelivered, goes_to, routed_to}
-use Rattle.kob_pipeline.specs.Premises.{Deletes, IsNeverDeleted, IsSoleProducer, Produces}
-use Rattle.kob_pipeline.specs.Served.{AreServed, Served, served_in, served_to}
-use Rattle.kob_pipeline.specs.View.{Accepts, IsHistory, IsSameView, Step, View, judged_in, opening_view, with_batch}
-use Rattle.kob_pipeline.proofs.Lists.{bytes_are, places_are}
-use Rattle.kob_pipeline.proofs.RouterKept.{Kept, TellsIds, here, kept_after_record, kept_after_restart, kept_after_sweep, kept_after_take, kept_first, kept_later}
-use Rattle.kob_pipeline.proofs.RouterServed.{KeptIn, heard_none, kept_after_no_answer, kept_after_served, shown}
+use Rattle.kob_pipeline.specs.Premises.{IsNeverDeleted, IsSoleProducer}
+use Rattle.kob_pipeline.specs.Served.{AreServed, served_to}
+use Rattle.kob_pipeline.proofs.OtherSteps.{leaves}
+use Rattle.kob_pipeline.proofs.Rows.{call_of, kept_by_router, recorded}
+use Rattle.kob_rights.specs.declared.reply.Body.TheVariants as bodies
 
--- the events that moves record depend on the ids that were recorded alone
-pub same_events : (moves : List Move) (c d : Contents) → c.ids ≡ d.ids → events_of c moves ≡ events_of d moves
-same_events [] c d e = refl
-same_events (Recorded change event ∷ moves) c d e =
-    ap (λ (ids : List (List ℕ)). stored_event (suc (length ids)) event ∷ events_of (after_record c change event) moves)
-    e
-    ∙ ap (λ (es : List Event). stored_event (next_seq d) event ∷ es)
-    (same_events moves (after_record c change event) (after_record d change event)
-    (ap (λ (ids : List (List ℕ)). ids ++ id_text event.id ∷ []) e))
-same_events (_ ∷ moves) c d e = same_events moves c d e
+-- no Done was heard
+abbrev pub NotDone : Option Reply → Type 0
+NotDone None = Unit {0}
+NotDone (Some (Denied code verdicts)) = Unit {0}
+NotDone (Some (Refused code reason)) = Unit {0}
+NotDone (Some (Done body)) = ⊥
 
-advanced_ids : (s : State) (o : Option Hand) → (after_acknowledgement s o).outbox.ids ≡ s.outbox.ids
-advanced_ids s None = refl
-advanced_ids s (Some h) = refl
+-- the reply is no Done
+abbrev pub IsNoDone : Reply → Type 0
+IsNoDone reply = NotDone (Some reply)
 
-pub called_ids : (s : State) (call : Call) (marks : Bool) → (after s (Called call marks)).outbox.ids ≡ s.outbox.ids
-called_ids s call true = advanced_ids s s.hand
-called_ids s call false = refl
+pub heard_none : (heard : Option Reply) → heard ≡ None → NotDone heard
+heard_none heard e = subst NotDone (sym e) tt
 
--- all rows, where a move records none
-pub none_recorded : (all rows : List Event) (moves : List Move) (c d : Contents) → c.ids ≡ d.ids
-    → rows ++ events_of d moves ≡ all
-    → rows ++ events_of c moves ≡ all
-none_recorded all rows moves c d same e = ap (λ (es : List Event). rows ++ es) (same_events moves c d same) ∙ e
+pub heard_no_done : (heard : Option Reply) (reply : Reply) → IsNoDone reply → Hears heard reply → NotDone heard
+heard_no_done heard reply no_done (inl e) = heard_none heard e
+heard_no_done heard reply no_done (inr e) = subst NotDone (sym e) no_done
 
--- all rows, where a move records one
-pub one_recorded : (all rows more : List Event) (row : Event) → rows ++ row ∷ more ≡ all
-    → (rows ++ row ∷ []) ++ more ≡ all
-one_recorded all rows more row e = append_assoc rows (row ∷ []) more ∙ e
+pub not_both : (heard : Option Reply) → NotDone heard → IsDone heard → ⊥
+not_both None n d = d
+not_both (Some (Denied code verdicts)) n d = d
+not_both (Some (Refused code reason)) n d = d
+not_both (Some (Done body)) n d = n
 
--- what a step of somebody else leaves of a partition
-pub record Leaves (q : Place) (v w : View) : Type 0 where
-  pub log : w.log q ≡ v.log q
-  pub later : v.next_producer ≤ w.next_producer
+given_by_produce : (old : Option Producer) (asked : ProduceRequest) (heard : Option Reply)
+    → producer_after old (Produce asked) heard ≡ old
+given_by_produce old asked None = refl
+given_by_produce old asked (Some (Denied code verdicts)) = refl
+given_by_produce old asked (Some (Refused code reason)) = refl
+given_by_produce old asked (Some (Done body)) = refl
 
-leaves_as : (q : Place) (v x w : View) → IsSameView w x → x.log q ≡ v.log q → v.next_producer ≤ x.next_producer
-    → Leaves q v w
-leaves_as q v x w same log later =
-    record { log = same.log q ∙ log; later = let n = same.next_producer in omega arith }
+given_unheard : (old : Option Producer) (heard : Option Reply) → NotDone heard
+    → producer_after old InitProducerId heard ≡ old
+given_unheard old None n = refl
+given_unheard old (Some (Denied code verdicts)) n = refl
+given_unheard old (Some (Refused code reason)) n = refl
+given_unheard old (Some (Done body)) n = absurd n
 
-leaves_all : (q : Place) (v w : View) → IsSameView w v → Leaves q v w
-leaves_all q v w same = leaves_as q v v w same refl (omega arith)
+-- a state with another producer
+abbrev holding_id : State → Option Producer → State
+holding_id s o = record { outbox = s.outbox; producer = o; sequences = s.sequences; hand = s.hand }
 
-leaves_accepted : (q : Place) (v w : View) (place : Place) (b : Batch) (j : Judgement) → (place.topic ≡ q.topic → ⊥)
-    → Accepts j v place b w → Leaves q v w
-leaves_accepted q v w place b Next other a =
-    let apart : same_place place q ≡ false =
-    elim (cases_Bool (same_place place q)) [
-      | inl e ↦ absurd (other (ap (λ (x : Place). x.topic) (places_are place q e)))
-      | inr e ↦ e
-    ] in
-    leaves_as q v (with_batch v place b) w a (cond-false (same_place place q) (v.log q ++ b ∷ []) (v.log q) apart)
-    (omega arith)
-leaves_accepted q v w place b (Repeat offset) other a = leaves_all q v w a
-leaves_accepted q v w place b OutOfOrder other a = absurd a
-leaves_accepted q v w place b OldEpoch other a = absurd a
+is_holding : (s : State) (p : Producer) (h : Hand) → s.producer ≡ Some p → s.hand ≡ Some h
+    → s ≡ holding s.outbox p s.sequences h
+is_holding s p h e f =
+    ap (λ (o : Option Producer). holding_id s o) e
+    ∙ ap (λ (o : Option Hand). record { outbox = s.outbox; producer = Some p; sequences = s.sequences; hand = o }) f
 
-other_step : (q : Place) (v w : View) (request : Request) (reply : Reply) → (Produces q.topic request reply → ⊥)
-    → (Deletes q.topic request reply → ⊥) → Step v request reply w → Leaves q v w
-other_step q v w request (Denied code verdicts) p d step = leaves_all q v w step
-other_step q v w request (Refused code reason) p d step = leaves_all q v w step
-other_step q v w InitProducerId (Done body) p d step =
-    record { log = step.1.log q; later = let n = step.1.next_producer in omega arith }
-other_step q v w (Produce asked) (Done body) p d step =
-    leaves_accepted q v w (place_at asked.topic asked.partition) asked.batch
-    (judged_in (v.log (place_at asked.topic asked.partition)) asked.batch.idem (length asked.batch.records)) p step.1
-other_step q v w (Fetch asked) (Done body) p d step = leaves_all q v w step.1
-other_step q v w (OffsetFetch asked) (Done body) p d step = leaves_all q v w step.1
-other_step q v w (OffsetCommit asked) (Done body) p d step =
-    record { log = step.log q; later = let n = step.next_producer in omega arith }
-other_step q v w (DeleteGroups asked) (Done body) p d step =
-    record { log = step.log q; later = let n = step.next_producer in omega arith }
-other_step q v w (DeleteTopics asked) (Done body) p d step =
-    let apart : bytes_eq asked.name q.topic ≡ false =
-    elim (cases_Bool (bytes_eq asked.name q.topic)) [
-      | inl e ↦ absurd (d (bytes_are asked.name q.topic e))
-      | inr e ↦ e
-    ] in
-    record {
-      log = step.log q ∙ cond-false (bytes_eq asked.name q.topic) [] (v.log q) apart;
-      later = let n = step.next_producer in omega arith;
-    }
-other_step q v w _ (Done body) p d step = leaves_all q v w step
+-- the batch of the row in hand that comes next
+abbrev batch_in_hand : Producer → List Sequence → Hand → Record → Batch
+batch_in_hand p ss h x = batch_of p (sequence_of ss h.place) x
 
-module _ (route : Dispatching) (q : Place) (tells : TellsIds route) where
-  -- the moves up to a served call, of which this is what is left
-  record Led (all : List Event) (v : View) (final : State) (e : Served) (es : List Served) : Type 0 where
-    now : List Event
-    state : State
-    left : List Move
-    run : IsRouterRun route state left final
-    rest_served : AreServed (calls_of left) es
-    rows_are : now ++ events_of state.outbox left ≡ all
-    keeps : (w : View) → Step v e.request e.reply w → KeptIn route q now state w
+module _ (route : Dispatching) where
+  -- as a view shows it
+  abbrev pub KeptIn : Place → List Event → State → View → Type 0
+  KeptIn q rows s v = Kept route q rows s (v.log q) v.next_producer
 
-  led : (all : List Event) (v : View) (final : State) (e : Served) (es : List Served) (moves : List Move)
-      (rows : List Event) (s : State)
-      → rows ++ events_of s.outbox moves ≡ all → IsRouterRun route s moves final → AreServed (calls_of moves) (e ∷ es)
-      → KeptIn route q rows s v → Led all v final e es
-  led all v final e es [] rows s are run served k = absurd served
-  led all v final e es (Recorded change event ∷ ms) rows s are run served k =
-      let row : Event = stored_event (next_seq s.outbox) event in
-      led all v final e es ms (rows ++ row ∷ []) (after s (Recorded change event))
-      (one_recorded all rows (events_of (after_record s.outbox change event) ms) row are) run.1 served
-      (kept_after_record route q rows s (v.log q) v.next_producer change event tells run.0 k)
-  led all v final e es (Swept ∷ ms) rows s are run served k =
-      led all v final e es ms rows (after s Swept) (none_recorded all rows ms (after s Swept).outbox s.outbox refl are)
-      run.1 served
-      (kept_after_sweep route q rows s (v.log q) v.next_producer k)
-  led all v final e es (Restarted ∷ ms) rows s are run served k =
-      led all v final e es ms rows (after s Restarted) are run.1 served
-      (kept_after_restart route q rows s (v.log q) v.next_producer k)
-  led all v final e es (Took hand ∷ ms) rows s are run served k =
-      led all v final e es ms rows (after s (Took hand)) are run.1 served
-      (kept_after_take route q rows s (v.log q) v.next_producer hand run.0 k)
-  led all v final e es (Called c marks ∷ ms) rows s are run (inl (none, served)) k =
-      led all v final e es ms rows (after s (Called c marks))
-      (none_recorded all rows ms (after s (Called c marks)).outbox s.outbox (called_ids s c marks) are) run.1 served
-      (kept_after_no_answer route q rows s v c.request c.heard marks run.0 (heard_none c.heard none) k)
-  led all v final e es (Called c marks ∷ ms) rows s are run (inr (same, hears, served)) k =
-      record {
-        now = rows;
-        state = after s (Called c marks);
-        left = ms;
-        run = run.1;
-        rest_served = served;
-        rows_are = none_recorded all rows ms (after s (Called c marks)).outbox s.outbox (called_ids s c marks) are;
-        keeps = λ w step.
-            kept_after_served route q rows s v w c.request e.reply c.heard marks run.0 hears
-            (subst (λ (r : Request). Step v r e.reply w) same step) k;
-      }
+  abbrev pub ServedIn : Place → List Event → Contents → Producer → List Sequence → Hand → View → Type 0
+  ServedIn q rows c p ss h v = IsServed route q rows c p ss h (v.log q) v.next_producer
 
-  -- the moves after the last served call
-  to_the_end : (all : List Event) (v : View) (final : State) (moves : List Move) (rows : List Event) (s : State)
-      → rows ++ events_of s.outbox moves ≡ all → IsRouterRun route s moves final → AreServed (calls_of moves) []
-      → KeptIn route q rows s v → KeptIn route q all final v
-  to_the_end all v final [] rows s are run served k =
-      subst (λ (rs : List Event). KeptIn route q rs final v) (sym (append-nil rows) ∙ are)
-      (subst (λ (y : State). KeptIn route q rows y v) (sym run) k)
-  to_the_end all v final (Recorded change event ∷ ms) rows s are run served k =
-      let row : Event = stored_event (next_seq s.outbox) event in
-      to_the_end all v final ms (rows ++ row ∷ []) (after s (Recorded change event))
-      (one_recorded all rows (events_of (after_record s.outbox change event) ms) row are) run.1 served
-      (kept_after_record route q rows s (v.log q) v.next_producer change event tells run.0 k)
-  to_the_end all v final (Swept ∷ ms) rows s are run served k =
-      to_the_end all v final ms rows (after s Swept) (none_recorded all rows ms (after s Swept).outbox s.outbox refl
-      are) run.1 served
-      (kept_after_sweep route q rows s (v.log q) v.next_producer k)
-  to_the_end all v final (Restarted ∷ ms) rows s are run served k =
-      to_the_end all v final ms rows (after s Restarted) are run.1 served
-      (kept_after_restart route q rows s (v.log q) v.next_producer k)
-  to_the_end all v final (Took hand ∷ ms) rows s are run served k =
-      to_the_end all v final ms rows (after s (Took hand)) are run.1 served
-      (kept_after_take route q rows s (v.log q) v.next_producer hand run.0 k)
-  to_the_end all v final (Called c marks ∷ ms) rows s are run (none, served) k =
-      to_the_end all v final ms rows (after s (Called c marks))
-      (none_recorded all rows ms (after s (Called c marks)).outbox s.outbox (called_ids s c marks) are) run.1 served
-      (kept_after_no_answer route q rows s v c.request c.heard marks run.0 (heard_none c.heard none) k)
+  accepted_there : (rows : List Event) (c : Contents) (p : Producer) (ss : List Sequence) (h : Hand) (v w : View)
+      (x : Record) (j : Judgement) → KeptIn h.place rows (holding c p ss h) v
+      → route h.event ≡ Some (record { place = h.place; message = x })
+      → judge (history p.id (v.log h.place)) (idem_of p (sequence_of ss h.place)) 1 ≡ j
+      → Accepts j v h.place (batch_in_hand p ss h x) w
+      → ServedIn h.place rows c p ss h w
+  accepted_there rows c p ss h v w x Next k to judged a =
+      let e : (with_batch v h.place (batch_in_hand p ss h x)).log h.place
+      ≡ v.log h.place ++ batch_in_hand p ss h x ∷ [] = rw (same_here h.place) refl in
+      rw (a.log h.place, a.next_producer, e)
+      (kept_after_batch route rows c p ss h (v.log h.place) v.next_producer x k to judged)
+  accepted_there rows c p ss h v w x (Repeat offset) k to judged a =
+      rw (a.log h.place, a.next_producer)
+      (k, repeat_is_pending route rows c p ss h (v.log h.place) v.next_producer offset k judged)
+  accepted_there rows c p ss h v w x OutOfOrder k to judged a = absurd a
+  accepted_there rows c p ss h v w x OldEpoch k to judged a = absurd a
 
-  kept_after_other : (rows : List Event) (s : State) (v w : View) → Leaves q v w → KeptIn route q rows s v
-      → KeptIn route q rows s w
-  kept_after_other rows s v w l k =
-      subst (λ (log : List Batch). Kept route q rows s log w.next_producer) (sym l.log)
-      (kept_later route q rows s (v.log q) v.next_producer w.next_producer l.later k)
+  accepted_elsewhere : (q : Place) (rows : List Event) (c : Contents) (p : Producer) (ss : List Sequence) (h : Hand)
+      (v w : View) (b : Batch) (j : Judgement) → KeptIn q rows (holding c p ss h) v → same_place h.place q ≡ false
+      → Accepts j v h.place b w → ServedIn q rows c p ss h w
+  accepted_elsewhere q rows c p ss h v w b Next k apart a =
+      let e : (with_batch v h.place b).log q ≡ v.log q = rw apart refl in
+      rw (a.log q, a.next_producer, e) (k, inl apart)
+  accepted_elsewhere q rows c p ss h v w b (Repeat offset) k apart a = rw (a.log q, a.next_producer) (k, inl apart)
+  accepted_elsewhere q rows c p ss h v w b OutOfOrder k apart a = absurd a
+  accepted_elsewhere q rows c p ss h v w b OldEpoch k apart a = absurd a
 
-  whole_run : (worker : ℕ) (all : List Event) (end : View) (final : State) (journal : List Entry) (v : View)
-      (moves : List Move)
-      (rows : List Event) (s : State)
-      → rows ++ events_of s.outbox moves ≡ all → IsHistory v journal end → IsRouterRun route s moves final
-      → AreServed (calls_of moves) (served_to worker journal) → IsSoleProducer worker q.topic journal
-      → IsNeverDeleted q.topic journal
-      → KeptIn route q rows s v → KeptIn route q all final end
-  whole_run worker all end final [] v moves rows s are history run served sole never k =
-      to_the_end all end final moves rows s are run served
-      (shown (λ log next. Kept route q rows s log next) q v end history k)
-  whole_run worker all end final (e ∷ journal) v moves rows s are (mid, step, history) run served sole never k =
-      elim (cases_Bool (e.worker == worker)) [
-        | inl own ↦
-            let own_served : AreServed (calls_of moves) (served_in e ∷ served_to worker journal) =
-            subst (AreServed (calls_of moves))
-            (cond-true (e.worker == worker) (served_in e ∷ served_to worker journal) (served_to worker journal) own)
-            served in
-            let l = led all v final (served_in e) (served_to worker journal) moves rows s are run own_served k in
-            whole_run worker all end final journal mid l.left l.now l.state l.rows_are history l.run l.rest_served
-            sole.1 never.1
-            (l.keeps mid step)
-        | inr other ↦
-            let differs = eqb-false e.worker worker other in
-            let leaves : Leaves q v mid = other_step q v mid e.event.request e.reply (λ p. differs (sole.0 p)) never.0
-            step in
-            let rest_served : AreServed (calls_of moves) (served_to worker journal) =
-            subst (AreServed (calls_of moves))
-            (cond-false (e.worker == worker) (served_in e ∷ served_to worker journal) (served_to worker journal) other)
-            served in
-            whole_run worker all end final journal mid moves rows s are history run rest_served sole.1 never.1
-            (kept_after_other rows s v mid leaves k)
+  accepted : (q : Place) (rows : List Event) (c : Contents) (p : Producer) (ss : List Sequence) (h : Hand) (v w : View)
+      (x : Record)
+      → KeptIn q rows (holding c p ss h) v → route h.event ≡ Some (record { place = h.place; message = x })
+      → Accepts (judge (history p.id (v.log h.place)) (idem_of p (sequence_of ss h.place)) 1) v h.place
+      (batch_in_hand p ss h x) w
+      → ServedIn q rows c p ss h w
+  accepted q rows c p ss h v w x k to a =
+      let j : Judgement = judge (history p.id (v.log h.place)) (idem_of p (sequence_of ss h.place)) 1 in
+      elim (place_cases h.place q) [
+        | inl e ↦
+            subst (λ (y : Place). ServedIn y rows c p ss h w) e
+            (accepted_there rows c p ss h v w x j (subst (λ (y : Place). KeptIn y rows (holding c p ss h) v) (sym e) k)
+            to refl a)
+        | inr apart ↦ accepted_elsewhere q rows c p ss h v w (batch_in_hand p ss h x) j k apart a
       ]
 
+module _ (route : Dispatching) (q : Place) where
+  -- what is in hand was sent, and that this is done was heard, or was not
+  produced : (rows : List Event) (s : State) (v w : View) (asked : ProduceRequest) (body : Body) (heard : Option Reply)
+      (marks : Bool)
+      → KeptIn route q rows s v → IsSending route s asked → Does v (Produce asked) body w
+      → KeptIn route q rows (after s (Called (record { request = Produce asked; heard = heard }) marks)) w
+  produced rows s v w asked body heard marks k i d =
+      subst (λ (y : State). KeptIn route q rows (after y
+      (Called (record { request = Produce asked; heard = heard }) marks)) w) (sym same)
+      (marked_or_not marks done)
+    where
+      same : s ≡ holding s.outbox i.producer s.sequences i.hand
+      same = is_holding s i.producer i.hand i.has_producer i.has_hand
+
+      done : ServedIn route q rows s.outbox i.producer s.sequences i.hand w
+      done =
+          accepted route q rows s.outbox i.producer s.sequences i.hand v w i.message
+          (subst (λ (y : State). KeptIn route q rows y v) same k) i.routed
+          (rw (i.same_topic, i.same_partition, i.same_batch) at d.1)
+
+      marked_or_not : (m : Bool) → ServedIn route q rows s.outbox i.producer s.sequences i.hand w
+          → KeptIn route q rows (after (holding s.outbox i.producer s.sequences i.hand)
+          (Called (record { request = Produce asked; heard = heard }) m)) w
+      marked_or_not true x = kept_after_mark route q x.0 x.1
+      marked_or_not false x = rw (given_by_produce (Some i.producer) asked heard) x.0
+
+  -- a call that was not answered with Done changes nothing
+  pub kept_after_no_answer : (rows : List Event) (s : State) (v : View) (request : Request) (heard : Option Reply)
+      (marks : Bool)
+      → MayCall route s request heard marks → NotDone heard → KeptIn route q rows s v
+      → KeptIn route q rows (after s (Called (record { request = request; heard = heard }) marks)) v
+  kept_after_no_answer rows s v InitProducerId heard true may n k = absurd (true≢false may.1)
+  kept_after_no_answer rows s v InitProducerId heard false may n k = rw (given_unheard s.producer heard n) k
+  kept_after_no_answer rows s v (Produce asked) heard true may n k = absurd (not_both heard n (may.1 refl))
+  kept_after_no_answer rows s v (Produce asked) heard false may n k = rw (given_by_produce s.producer asked heard) k
+  kept_after_no_answer rows s v _ heard marks may n k = absurd may
+
+  -- an INIT_PRODUCER_ID that was answered
+  given_id : (rows : List Event) (s : State) (v : View) (body : Body) (heard : Option Reply)
+      → s.producer ≡ None → body ≡ bodies.Producer v.next_producer 0 → Hears heard (Done body) → KeptIn route q rows s v
+      → KeptIn route q rows (holding_id s (producer_after s.producer InitProducerId heard)) (with_producer v)
+  given_id rows s v body heard none is (inl e) k =
+      rw (given_unheard s.producer heard (heard_none heard e)) (kept_later route q (omega arith) k)
+  given_id rows s v body heard none is (inr e) k =
+      rw (e, is)
+      (kept_after_id route q (subst (λ (o : Option Producer). KeptIn route q rows (holding_id s o) v) none k))
+
+  -- a call that was served, whatever was heard
+  pub kept_after_served : (rows : List Event) (s : State) (v w : View) (request : Request) (reply : Reply)
+      (heard : Option Reply) (marks : Bool)
+      → MayCall route s request heard marks → Hears heard reply → Step v request reply w → KeptIn route q rows s v
+      → KeptIn route q rows (after s (Called (record { request = request; heard = heard }) marks)) w
+  kept_after_served rows s v w request (Denied code verdicts) heard marks may hears step k =
+      rw (step.log q, step.next_producer)
+      (kept_after_no_answer rows s v request heard marks may (heard_no_done heard (Denied code verdicts) tt hears) k)
+  kept_after_served rows s v w request (Refused code reason) heard marks may hears step k =
+      rw (step.log q, step.next_producer)
+      (kept_after_no_answer rows s v request heard marks may (heard_no_done heard (Refused code reason) tt hears) k)
+  kept_after_served rows s v w InitProducerId (Done body) heard true may hears step k = absurd (true≢false may.1)
+  kept_after_served rows s v w InitProducerId (Done body) heard false may hears step k =
+      rw (step.1.log q, step.1.next_producer) (given_id rows s v body heard may.0 step.0 hears k)
+  kept_after_served rows s v w (Produce asked) (Done body) heard marks may hears step k =
+      produced rows s v w asked body heard marks k may.0 step
+  kept_after_served rows s v w _ (Done body) heard marks may hears step k = absurd may
+
+-- ---- what a router leaves on a partition: by its own moves and the entries of the journal, each at its pace
+
+module _ (route : Dispatching) (q : Place) (tells : TellsIds route) (worker : ℕ) (end : View) where
+  -- what is kept, by the entries that are left: the history from some view on, and the premises
+  record IsLeft (rows : List Event) (s : State) (es : List Entry) : Type 0 where
+    view : View
+    history : IsHistory view es end
+    sole : IsSoleProducer worker q.topic es
+    never : IsNeverDeleted q.topic es
+    kept : KeptIn route q rows s view
+
+  no_more : {rows : List Event} {s : State} {log : List Batch} {next : ℕ} → Kept route q rows s log next
+      → Kept route q (rows ++ []) s log next
+  no_more {rows} k = rw (append-nil rows) k
+
+  kept_move : (m : Move) (rows : List Event) (s : State) (v : View) → May route s m → IsUnheard (call_of m)
+      → KeptIn route q rows s v → KeptIn route q (rows ++ recorded s m) (after s m) v
+  kept_move (Recorded change event) rows s v may u k = kept_after_record route q change event tells may k
+  kept_move Swept rows s v may u k = no_more (kept_after_sweep route q k)
+  kept_move Restarted rows s v may u k = no_more (kept_after_restart route q k)
+  kept_move (Took hand) rows s v may u k = no_more (kept_after_take route q hand may k)
+  kept_move (Called c marks) rows s v may u k =
+      no_more (kept_after_no_answer route q rows s v c.request c.heard marks may (heard_none c.heard u) k)
+
+  moved : (m : Move) (rows : List Event) (s : State) (es : List Entry) → May route s m → IsUnheard (call_of m)
+      → IsLeft rows s es → IsLeft (rows ++ recorded s m) (after s m) es
+  moved m rows s es may u l =
+      record {
+        view = l.view;
+        history = l.history;
+        sole = l.sole;
+        never = l.never;
+        kept = kept_move m rows s l.view may u l.kept;
+      }
+
+  served : (c : Call) (marks : Bool) (rows : List Event) (s : State) (e : Entry) (es : List Entry)
+      → May route s (Called c marks) → IsServedBy e (Some c) → e.worker ≡ worker → IsLeft rows s (e ∷ es)
+      → IsLeft rows (after s (Called c marks)) es
+  served c marks rows s e es may by own l =
+      record {
+        view = l.history.0;
+        history = l.history.2;
+        sole = l.sole.1;
+        never = l.never.1;
+        kept =
+            kept_after_served route q rows s l.view l.history.0 c.request e.reply c.heard marks may by.1
+            (subst (λ (r : Request). Step l.view r e.reply l.history.0) by.0 l.history.1) l.kept;
+      }
+
+  others : (rows : List Event) (s : State) (e : Entry) (es : List Entry) → (e.worker ≡ worker → ⊥)
+      → IsLeft rows s (e ∷ es) → IsLeft rows s es
+  others rows s e es other l =
+      let v = l.view in
+      let w = l.history.0 in
+      let by = leaves [] q v w e.event.request e.reply l.never.0 l.history.1 in
+      let log : v.log q ≡ w.log q =
+      sym (by.log ∙ ap (λ (more : List Batch). v.log q ++ more) (by.grows (λ p. other (l.sole.0 p)))
+      ∙ append-nil (v.log q)) in
+      record {
+        view = w;
+        history = l.history.2;
+        sole = l.sole.1;
+        never = l.never.1;
+        kept = rw (← log) (kept_later route q by.later l.kept);
+      }
+
+  at_end : (rows : List Event) (s : State) → IsLeft rows s [] → KeptIn route q rows s end
+  at_end rows s l = rw (l.history.log q, l.history.next_producer) l.kept
+
   -- what is kept says what was delivered
-  delivered : (rows : List Event) (s : State) (v : View) → KeptIn route q rows s v
-      → IsDelivered route q rows (records_of (v.log q))
-  delivered rows s v k =
+  delivered : (rows : List Event) (s : State) → KeptIn route q rows s end
+      → IsDelivered route q rows (records_of (end.log q))
+  delivered rows s k =
       let front : List Event = k.sent ++ here k.ahead in
       let all : front ++ k.rest ≡ rows = append_assoc k.sent (here k.ahead) k.rest ∙ sym k.kept.rows_are in
       record {
@@ -246,13 +292,14 @@ module _ (route : Dispatching) (q : Place) (tells : TellsIds route) where
         each = k.logged.each;
       }
 
-  pub is_delivered : (journal : List Entry) (worker : ℕ) (end : View) (moves : List Move) (final : State)
+  pub is_delivered : (journal : List Entry) (moves : List Move) (final : State)
       → IsHistory opening_view journal end → IsRouterRun route start moves final
       → AreServed (calls_of moves) (served_to worker journal) → IsSoleProducer worker q.topic journal
       → IsNeverDeleted q.topic journal
       → IsDelivered route q (events_of start.outbox moves) (records_of (end.log q))
-  is_delivered journal worker end moves final history run served sole never =
-      delivered (events_of start.outbox moves) final end
-      (whole_run worker (events_of start.outbox moves) end final journal opening_view moves [] start refl history run
-      served sole never
-      (kept_first route q))
+  is_delivered journal moves final history run a sole never =
+      let l =
+      kept_by_router route worker IsLeft moved served others moves final journal run a
+      (record { view = opening_view; history = history; sole = sole; never = never; kept = kept_first route q }) in
+      delivered (events_of start.outbox moves) final
+      (at_end (events_of start.outbox moves) final l)

@@ -1,13 +1,12 @@
 -- No recorded row is lost.
-use Rattle.std.proofs.Common.{◌≡◌, ℕ, ◌==◌, List, [], ◌∷◌, ◌++◌, Bool, true, false, refl, sym, ap, ◌∙◌, inl, inr, subst, arith}
+use Rattle.std.proofs.Common.{◌≡◌, ℕ, List, [], ◌∷◌, ◌++◌, Bool, true, false, refl, sym, ap, ◌∙◌, inl, inr, subst, append-nil, arith}
 use Rattle.std.specs.Prelude.{Option, Some, None, Contains, nat_lt, slice_get}
 use Rattle.std.specs.List.{AllByRecursion}
-use Rattle.std.proofs.lemmas.Bool.{cases_Bool, cond-false, cond-true, eqb-true, ltb-true, true≢false}
-use Rattle.std.proofs.lemmas.List.{append-nil}
+use Rattle.std.proofs.lemmas.Bool.{ltb-true, true≢false}
 use Rattle.kob_names.specs.declared.batch.Batch.{Batch}
 use Rattle.kob_outbox.specs.Contents.{Event}
 use Rattle.kob_outbox.specs.Events.{stored_event}
-use Rattle.kob_outbox.specs.Recording.{next_seq, after_record}
+use Rattle.kob_outbox.specs.Recording.{next_seq}
 use Rattle.kob_rights.specs.declared.on_partitions.Produce.{Produce as ProduceRequest}
 use Rattle.kob_rights.specs.declared.reply.Body.{Body}
 use Rattle.kob_rights.specs.declared.reply.Reply.{Reply}
@@ -15,63 +14,27 @@ use Rattle.kob_rights.specs.declared.reply.Reply.TheVariants.{Denied, Done, Refu
 use Rattle.kob_rights.specs.declared.request.Request.{Request}
 use Rattle.kob_rights.specs.declared.request.Request.TheVariants.{InitProducerId, Produce}
 use Rattle.kob_router.specs.Dispatches.{Dispatching}
-use Rattle.kob_router.specs.Run.{Hand, IsDone, IsRouterRun, IsSending, MayCall, Move, State, after_acknowledgement, after, calls_of, events_of, start}
+use Rattle.kob_router.specs.Run.{Hand, IsDone, IsRouterRun, IsSending, May, MayCall, Move, State, after_acknowledgement, after, calls_of, events_of, start}
 use Rattle.kob_router.specs.Run.Move.{Called, Recorded, Restarted, Swept, Took}
 use Rattle.kob_router.specs.declared.line.Call.{Call}
 use Rattle.kob_shared.specs.declared.journal.Entry.{Entry}
-use Rattle.kob_pipeline.specs.Served.{AreServed, Served, served_in, served_to}
+use Rattle.kob_pipeline.specs.Served.{AreServed, served_to}
 use Rattle.kob_pipeline.specs.Waiting.{IsSent, IsWaitingOrSent}
-use Rattle.kob_pipeline.proofs.Events.{IsKept, kept_at_start, kept_marked, kept_recorded, kept_swept}
-use Rattle.kob_pipeline.proofs.Lists.{all_append, all_contained, all_last, all_weaker, contains_more, first_is, first_or_behind, kept_by, same_some}
+use Rattle.kob_pipeline.proofs.Logged.{IsKept, kept_at_start, kept_marked, kept_recorded, kept_swept}
+use Rattle.kob_pipeline.proofs.Lists.{all_append, all_contained, all_last, all_weaker, contains_more, first_is, kept_by, same_some}
 use Rattle.kob_pipeline.proofs.RouterKept.{InHand, in_hand_more}
-use Rattle.kob_pipeline.proofs.RouterRun.{called_ids, none_recorded, one_recorded}
+use Rattle.kob_pipeline.proofs.Rows.{call_of, kept_by_router, recorded}
+use Rattle.kob_pipeline.proofs.RouterRun.{heard_none, not_both}
+use Rattle.kob_pipeline.proofs.ServedRuns.{Hears, IsServedBy, IsUnheard}
 
--- a heard Done was served
-heard_served : (c : Call) (body : Body) (es : List Served) (cs : List Call) → c.heard ≡ Some (Done body)
-    → AreServed (c ∷ cs) es
-    → (x : Served) × Contains es x × (x.request ≡ c.request) × (x.reply ≡ Done body)
-heard_served c body [] cs h a = let bad : Some (Done body) ≡ None = sym h ∙ a.0 in absurd cc
-heard_served c body (e ∷ es) cs h (inl a) = let bad : Some (Done body) ≡ None = sym h ∙ a.0 in absurd cc
-heard_served c body (e ∷ es) cs h (inr (same, inl none, a)) = let bad : Some (Done body) ≡ None = sym h
-    ∙ none in absurd cc
-heard_served c body (e ∷ es) cs h (inr (same, inr some, a)) =
-    (e, (0, omega arith, refl), same, same_some e.reply (Done body) (sym some ∙ h))
-
--- what the later calls were served
-later_served : (c : Call) (cs : List Call) (es : List Served) → AreServed (c ∷ cs) es
-    → (fs : List Served) × AreServed cs fs × ((x : Served) → Contains fs x → Contains es x)
-later_served c cs [] a = ([], a.1, λ x y. y)
-later_served c cs (e ∷ es) (inl a) = (e ∷ es, a.1, λ x y. y)
-later_served c cs (e ∷ es) (inr (same, heard, a)) = (es, a, λ x y. contains_more es e x y)
-
-done_body : (heard : Option Reply) → IsDone heard → (body : Body) × (heard ≡ Some (Done body))
-done_body None d = absurd d
-done_body (Some (Denied code verdicts)) d = absurd d
-done_body (Some (Refused code reason)) d = absurd d
-done_body (Some (Done b)) d = (b, refl)
-
--- what the journal served to the worker stands in an entry of its own
-abbrev IsEntryOf : ℕ → List Entry → Served → Type 0
-IsEntryOf worker journal x = (e : Entry) × Contains journal e × (e.worker ≡ worker) × (served_in e ≡ x)
-
-own_entry : (worker : ℕ) (journal : List Entry) (x : Served) → Contains (served_to worker journal) x
-    → IsEntryOf worker journal x
-own_entry worker [] x (k, l, at) = absurd (omega arith)
-own_entry worker (e ∷ journal) x c =
-    elim (cases_Bool (e.worker == worker)) [
-      | inl own ↦
-          elim (first_or_behind (served_to worker journal) (served_in e) x
-          (subst (λ (xs : List Served). Contains xs x)
-          (cond-true (e.worker == worker) (served_in e ∷ served_to worker journal) (served_to worker journal) own) c)) [
-            | inl first ↦ (e, (0, omega arith, refl), eqb-true e.worker worker own, first)
-            | inr behind ↦ let r = own_entry worker journal x behind in (r.0, contains_more journal e r.0 r.1, r.2, r.3)
-          ]
-      | inr other ↦
-          let r = own_entry worker journal x (subst (λ (xs : List Served). Contains xs x)
-          (cond-false (e.worker == worker) (served_in e ∷ served_to worker journal) (served_to worker journal) other) c)
-          in
-          (r.0, contains_more journal e r.0 r.1, r.2, r.3)
-    ]
+-- a Done that was heard is the reply
+done_body : (heard : Option Reply) (reply : Reply) → IsDone heard → Hears heard reply
+    → (body : Body) × (reply ≡ Done body)
+done_body None reply d h = absurd d
+done_body (Some (Denied code verdicts)) reply d h = absurd d
+done_body (Some (Refused code reason)) reply d h = absurd d
+done_body (Some (Done b)) reply d (inl none) = cc
+done_body (Some (Done b)) reply d (inr is) = (b, sym (same_some (Done b) reply is))
 
 module _ (route : Dispatching) (worker : ℕ) (journal : List Entry) where
   -- what a run keeps: each row up to the mark was sent
@@ -91,104 +54,117 @@ module _ (route : Dispatching) (worker : ℕ) (journal : List Entry) where
       record {
         sent = k.sent ++ hand.event ∷ [];
         wait = at.0;
-        kept = kept_marked rows s.outbox k.sent at.0 hand.event (subst (IsKept rows s.outbox k.sent) at.1 k.kept);
+        kept = kept_marked (subst (IsKept rows s.outbox k.sent) at.1 k.kept);
         holds = tt;
         each = all_last (IsSent route worker journal) k.sent hand.event k.each entry;
       }
 
   -- the entry that acknowledges what is in hand
-  acknowledged : (s : State) (asked : ProduceRequest) (heard : Option Reply) (es : List Served) (cs : List Call)
-      (i : IsSending route s asked)
-      → IsDone heard → AreServed (record { request = Produce asked; heard = heard } ∷ cs) es
-      → ((x : Served) → Contains es x → IsEntryOf worker journal x) → IsSent route worker journal i.hand.event
-  acknowledged s asked heard es cs i done a own =
-      let d = done_body heard done in
-      let x = heard_served (record { request = Produce asked; heard = heard }) d.0 es cs d.1 a in
-      let e = own x.0 x.1 in
+  acknowledged : (s : State) (asked : ProduceRequest) (c : Call) (e : Entry) (i : IsSending route s asked)
+      → c.request ≡ Produce asked → IsDone c.heard → IsServedBy e (Some c) → e.worker ≡ worker → Contains journal e
+      → IsSent route worker journal i.hand.event
+  acknowledged s asked c e i is done by own there =
+      let d = done_body c.heard e.reply done by.1 in
       record {
-        entry = e.0;
-        there = e.1;
+        entry = e;
+        there = there;
         sends = record {
           dispatch = record { place = i.hand.place; message = i.message };
           asked = asked;
           body = d.0;
-          own = e.2;
+          own = own;
           routed = i.routed;
-          request = ap (λ (y : Served). y.request) e.3 ∙ x.2;
+          request = by.0 ∙ is;
           topic = i.same_topic;
           partition = i.same_partition;
           content = ap (λ (b : Batch). b.records) i.same_batch;
-          done = ap (λ (y : Served). y.reply) e.3 ∙ x.3;
+          done = d.1;
         };
       }
 
+  -- a call that acknowledges nothing, or what the entry says that it is done
   kept_call : (rows : List Event) (s : State) (request : Request) (heard : Option Reply) (marks : Bool)
-      (es : List Served) (cs : List Call)
-      → MayCall route s request heard marks → AreServed (record { request = request; heard = heard } ∷ cs) es
-      → ((x : Served) → Contains es x → IsEntryOf worker journal x) → Kept rows s
-      → Kept rows (after s (Called (record { request = request; heard = heard }) marks))
-  kept_call rows s request heard false es cs may a own k =
+      → MayCall route s request heard marks
+      → (marks ≡ true → (asked : ProduceRequest) (i : IsSending route s asked) → request ≡ Produce asked → IsDone heard
+      → IsSent route worker journal i.hand.event)
+      → Kept rows s → Kept rows (after s (Called (record { request = request; heard = heard }) marks))
+  kept_call rows s request heard false may sent k =
       record { sent = k.sent; wait = k.wait; kept = k.kept; holds = k.holds; each = k.each }
-  kept_call rows s InitProducerId heard true es cs may a own k = absurd (true≢false may.1)
-  kept_call rows s (Produce asked) heard true es cs may a own k =
+  kept_call rows s InitProducerId heard true may sent k = absurd (true≢false may.1)
+  kept_call rows s (Produce asked) heard true may sent k =
       let i : IsSending route s asked = may.0 in
       subst (λ (o : Option Hand). Kept rows (after_acknowledgement s o)) (sym i.has_hand)
-      (kept_mark rows s i.hand i.has_hand (acknowledged s asked heard es cs i (may.1 refl) a own) k)
-  kept_call rows s _ heard true es cs may a own k = absurd may
+      (kept_mark rows s i.hand i.has_hand (sent refl asked i refl (may.1 refl)) k)
+  kept_call rows s _ heard true may sent k = absurd may
 
-  kept_all : (all : List Event) (final : State) (moves : List Move) (s : State) (rows : List Event) (es : List Served)
-      → rows ++ events_of s.outbox moves ≡ all → IsRouterRun route s moves final → AreServed (calls_of moves) es
-      → ((x : Served) → Contains es x → IsEntryOf worker journal x) → Kept rows s → Kept all final
-  kept_all all final [] s rows es are run a own k =
-      subst (λ (rs : List Event). Kept rs final) (sym (append-nil rows) ∙ are) (subst (Kept rows) (sym run) k)
-  kept_all all final (Recorded change event ∷ ms) s rows es are run a own k =
+  no_more : (rows : List Event) (s : State) → Kept rows s → Kept (rows ++ []) s
+  no_more rows s k = subst (λ (rs : List Event). Kept rs s) (sym (append-nil rows)) k
+
+  kept_move : (m : Move) (rows : List Event) (s : State) → May route s m → IsUnheard (call_of m) → Kept rows s
+      → Kept (rows ++ recorded s m) (after s m)
+  kept_move (Recorded change event) rows s may u k =
       let row : Event = stored_event (next_seq s.outbox) event in
-      kept_all all final ms (after s (Recorded change event)) (rows ++ row ∷ []) es
-      (one_recorded all rows (events_of (after_record s.outbox change event) ms) row are) run.1 a own
-      (record {
+      record {
         sent = k.sent;
         wait = k.wait ++ row ∷ [];
-        kept = kept_recorded rows s.outbox k.sent k.wait change event k.kept run.0;
+        kept = kept_recorded change event may k.kept;
         holds = in_hand_more route s.hand k.wait row k.holds;
         each = k.each;
-      })
-  kept_all all final (Swept ∷ ms) s rows es are run a own k =
-      kept_all all final ms (after s Swept) rows es (none_recorded all rows ms (after s Swept).outbox s.outbox refl are)
-      run.1 a own
+      }
+  kept_move Swept rows s may u k =
+      no_more rows (after s Swept)
       (record {
         sent = k.sent;
         wait = k.wait;
-        kept = kept_swept rows s.outbox k.sent k.wait k.kept;
+        kept = kept_swept k.kept;
         holds = k.holds;
         each = k.each;
       })
-  kept_all all final (Restarted ∷ ms) s rows es are run a own k =
-      kept_all all final ms (after s Restarted) rows es are run.1 a own
+  kept_move Restarted rows s may u k =
+      no_more rows (after s Restarted)
       (record { sent = k.sent; wait = k.wait; kept = k.kept; holds = tt; each = k.each })
-  kept_all all final (Took hand ∷ ms) s rows es are run a own k =
-      kept_all all final ms (after s (Took hand)) rows es are run.1 a own
+  kept_move (Took hand) rows s may u k =
+      no_more rows (after s (Took hand))
       (record {
         sent = k.sent;
         wait = k.wait;
         kept = k.kept;
-        holds = (subst (λ (w : List Event). slice_get w 0 ≡ Some hand.event) k.kept.waits run.0.1, run.0.2);
+        holds = (subst (λ (w : List Event). slice_get w 0 ≡ Some hand.event) k.kept.waits may.1, may.2);
         each = k.each;
       })
-  kept_all all final (Called c marks ∷ ms) s rows es are run a own k =
-      let l = later_served c (calls_of ms) es a in
-      kept_all all final ms (after s (Called c marks)) rows l.0
-      (none_recorded all rows ms (after s (Called c marks)).outbox s.outbox (called_ids s c marks) are) run.1 l.1
-      (λ x y. own x (l.2 x y))
-      (kept_call rows s c.request c.heard marks es (calls_of ms) run.0 a own k)
+  kept_move (Called c marks) rows s may u k =
+      no_more rows (after s (Called c marks))
+      (kept_call rows s c.request c.heard marks may
+      (λ on asked i is done. absurd (not_both c.heard (heard_none c.heard u) done)) k)
+
+  -- the entries that are left are of the journal
+  record IsLeft (rows : List Event) (s : State) (es : List Entry) : Type 0 where
+    within : (e : Entry) → Contains es e → Contains journal e
+    kept : Kept rows s
 
   pub all_wait_or_sent : (moves : List Move) (final : State) → IsRouterRun route start moves final
       → AreServed (calls_of moves) (served_to worker journal)
       → AllByRecursion (IsWaitingOrSent route worker journal final.outbox) (events_of start.outbox moves)
   all_wait_or_sent moves final run served =
-      let k : Kept (events_of start.outbox moves) final =
-      kept_all (events_of start.outbox moves) final moves start [] (served_to worker journal) refl run served
-      (own_entry worker journal)
-      (record { sent = []; wait = []; kept = kept_at_start; holds = tt; each = tt }) in
+      let l : IsLeft (events_of start.outbox moves) final [] =
+      kept_by_router route worker IsLeft
+      (λ m rows s es may u l. record { within = l.within; kept = kept_move m rows s may u l.kept })
+      (λ c marks rows s e es may by own l.
+      record {
+        within = λ x there. l.within x (contains_more es e x there);
+        kept =
+            kept_call rows s c.request c.heard marks may
+            (λ on asked i is done. acknowledged s asked c e i is done by own (l.within e (0, omega arith, refl)))
+            l.kept;
+      })
+      (λ rows s e es other l.
+      record { within = λ x there. l.within x (contains_more es e x there); kept = l.kept }) moves final journal run
+      served
+      (record {
+        within = λ x there. there;
+        kept = record { sent = []; wait = []; kept = kept_at_start; holds = tt; each = tt };
+      }) in
+      let k = l.kept in
       let waits : AllByRecursion (IsWaitingOrSent route worker journal final.outbox) k.wait =
       all_contained (IsWaitingOrSent route worker journal final.outbox) k.wait
       (λ row c.

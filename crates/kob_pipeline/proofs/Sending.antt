@@ -2,8 +2,9 @@
 use Rattle.std.proofs.Common.{◌≡◌, ℕ, suc, ◌+◌, ◌-◌, ◌%◌, ◌<◌, ◌≤◌, ◌==◌, ◌&&◌, List, [], ◌∷◌, ◌++◌, Bool, true, false, cond, refl, sym, ap, ◌∙◌, inl, inr, subst, length, get_or, drop, find, arith, append_assoc, eqb-true, nat_lt}
 use Rattle.std.specs.Prelude.{Option, Some, None, slice_get}
 use Rattle.std.specs.List.{AllByRecursion}
-use Rattle.std.proofs.lemmas.Bool.{cases_Bool, cond-true, cond-false, and_parts, cases_eq, le-ltb, eqb-false}
+use Rattle.std.proofs.lemmas.Bool.{cases_Bool, cond-false, and_parts, cases_eq, le-ltb, eq-eqb}
 use Rattle.std.proofs.lemmas.List.{append-nil, get_or_append_left, get_or_push, get_or-drop, length-drop, length_push}
+use Rattle.std.proofs.lemmas.Option.{slice_get-get_or}
 use Rattle.circular_buffer.specs.Buffer.{keep_last, last_item}
 use Rattle.kob_names.specs.declared.batch.Batch.{Batch}
 use Rattle.kob_names.specs.declared.batch.Idem.{Idem}
@@ -50,21 +51,15 @@ pub counted_last : (p : Producer) (sents : List Sent) (s : Sent) → AreCounted 
     → AreCounted p (sents ++ s ∷ [])
 counted_last p sents s h n i d l =
     elim (cases_eq i (length sents)) [
-      | inl e ↦
-          let at : get_or (sents ++ s ∷ []) i d ≡ s = get_or_push sents s d i (sym e) in
-          subst (λ (c : Sent). IsNumber p i c) (sym at) (subst (λ (k : ℕ). IsNumber p k s) (sym e) n)
+      | inl e ↦ rw (get_or_push sents s d i (sym e), e) n
       | inr ne ↦
           let below : i < length sents = omega (arith, length_push sents s) in
-          subst (λ (c : Sent). IsNumber p i c) (sym (get_or_append_left sents (s ∷ []) d i below)) (h i d below)
+          rw (get_or_append_left sents (s ∷ []) d i below) (h i d below)
     ]
 
 -- the last of some batches is the one before their number
 last_is : (x : Sent) (xs : List Sent) → slice_get (x ∷ xs) (length xs) ≡ Some (get_or (x ∷ xs) (length xs) x)
-last_is x xs = go x xs x
-  where
-    go : (y : Sent) (ys : List Sent) (d : Sent) → slice_get (y ∷ ys) (length ys) ≡ Some (get_or (y ∷ ys) (length ys) d)
-    go y [] d = refl
-    go y (z ∷ zs) d = go z zs d
+last_is x xs = slice_get-get_or (x ∷ xs) (length xs) x (omega arith)
 
 -- a batch with the producer's epoch and this base
 abbrev pub idem_of : Producer → ℕ → Idem
@@ -77,12 +72,8 @@ first_base base false is h = cc
 later_base : (n : ℕ) (base : ℕ) (l : Sent) (p : Producer) (b : Bool) → IsNumber p n l
     → (base == next_sequence (last_of l.base l.count)) ≡ b → cond b Next OutOfOrder ≡ Next → base ≡ wrapped (n + 1)
 later_base n base l p true num is h =
-    let e : base ≡ next_sequence (last_of l.base l.count) = eqb-true base (next_sequence (last_of l.base l.count)) is in
-    let m : next_sequence (last_of l.base l.count) ≡ next_sequence (last_of (wrapped n) 1) =
-    ap (λ (k : ℕ). next_sequence (last_of k l.count)) num.base
-    ∙ ap (λ (k : ℕ). next_sequence (last_of (wrapped n) k)) num.single in
-    let w : next_sequence (last_of (wrapped n) 1) ≡ wrapped (n + 1) = omega arith in
-    e ∙ m ∙ w
+    let next : next_sequence (last_of (wrapped n) 1) ≡ wrapped (n + 1) = omega arith in
+    eqb-true base (next_sequence (last_of l.base l.count)) is ∙ rw (num.base, num.single) next
 later_base n base l p false num is h = cc
 
 same_base : (n : ℕ) (base : ℕ) (l : Sent) (p : Producer) (o : Option Sent) → IsNumber p n l → judge_same o base l ≡ Next
@@ -122,15 +113,13 @@ next_base p (x ∷ xs) base h next =
 found_at : {A : Type 0} (test : A → Bool) (xs : List A) (y : A) → find test xs ≡ Some y
     → (k : ℕ) × (k < length xs) × (get_or xs k y ≡ y) × (test y ≡ true)
 found_at test [] y h = cc
-found_at {A} test (x ∷ xs) y h =
+found_at test (x ∷ xs) y h =
     elim (cases_Bool (test x)) [
       | inl on ↦
-          let some : Some x ≡ Some y = sym (cond-true (test x) (Some x) (find test xs) on) ∙ h in
+          let some : Some x ≡ Some y = rw on at h in
           let e : x ≡ y = cc in
           (0, omega arith, e, ap test (sym e) ∙ on)
-      | inr off ↦
-          let r = found_at test xs y (sym (cond-false (test x) (Some x) (find test xs) off) ∙ h) in
-          (suc r.0, omega (arith, r.1), r.2, r.3)
+      | inr off ↦ let r = found_at test xs y (rw off at h) in (suc r.0, omega (arith, r.1), r.2, r.3)
     ]
 
 repeat_found : (o : Option Sent) (base offset : ℕ) (l : Sent) → judge_same o base l ≡ Repeat offset → (s : Sent)
@@ -186,11 +175,7 @@ pub history_last : (p : Producer) (log : List Batch) (base : ℕ) (message : Rec
     offset ∷ [])
 history_last p log base message =
     let r = history_last_from p.id 0 log (batch_of p base message) in
-    let own : (p.id == p.id) ≡ true = eq_self p.id in
-    (r.0, r.1 ∙ ap (λ (b : Bool). history p.id log ++ cond b (sent_batch (idem_of p base) 1 r.0 ∷ []) []) own)
-  where
-    eq_self : (n : ℕ) → (n == n) ≡ true
-    eq_self n = Rattle.std.proofs.lemmas.Bool.eq-eqb n n refl
+    (r.0, r.1 ∙ rw (eq-eqb p.id p.id refl) refl)
 
 not_its : (id next offset count : ℕ) → next ≤ id → (o : Option Idem) → IsGiven next o → sent_in id offset count o ≡ []
 not_its id next offset count l None h = refl

@@ -1,236 +1,291 @@
--- What is read of a partition after its topic was written, made or taken away.
-use Rattle.std.proofs.Common.{◌≡◌, ℕ, zero, suc, ◌<◌, Bool, true, false, cond, ◌&&◌, nat_lt, nat_eq, List, [], ◌∷◌, ◌++◌, Option, Some, None, length, set, get_or, slice_get, slice_set, replicate, refl, ap, sym, ◌∙◌, arith}
-use Rattle.std.proofs.lemmas.List.Folds.{find-append, find-set, find_at}
-use Rattle.std.proofs.lemmas.List.Sums.{passes_at_first}
-use Rattle.std.proofs.lemmas.Bool.{eqb-false, eqb-true, ltb-false, ltb-true}
-use Rattle.std.proofs.lemmas.Option.{none-some, slice_get-get_or, slice_get_past, slice_get_within}
-use Rattle.std.proofs.lemmas.Slice.Eq.{bytes_eq-Decides}
-use Rattle.std.specs.List.{find, position_or_len, remove}
-use Rattle.std.specs.Option.{option_or}
+-- What is read of topics after one was written, made or taken away, and that no two have one name.
+use Rattle.std.proofs.Common.{◌≡◌, ℕ, zero, suc, ◌+◌, Bool, true, false, cond, ◌&&◌, ◌||◌, nat_eq, List, [], ◌∷◌, ◌++◌, Option, Some, None, is_some, slice_get, slice_set, replicate, refl, ap, sym, ◌∙◌, arith, true≢false, inl, inr, position, option_map}
+use Rattle.std.proofs.lemmas.Bool.{cases_Bool, or_parts, eqb-true, eqb-false}
+use Rattle.std.proofs.lemmas.Option.{none-some}
+use Rattle.std.proofs.lemmas.Iterator.Adapters.{position_from-zero}
+use Rattle.std.specs.List.{position_from}
 use Rattle.kob_names.specs.Same.{same_text}
 use Rattle.kob_partition.specs.Batches.{Plain}
 use Rattle.kob_partition.specs.Retained.{plain_meaning}
 use Rattle.kob_catalog.specs.Creation.{new_topic}
-use Rattle.kob_catalog.specs.Topics.{Topic, no_topic, partition_at, partition_of, topic_at, with_partition, with_partition_found, without_topic, without_topic_found}
-use Rattle.kob_pipeline.proofs.Texts.{either_way}
+use Rattle.kob_catalog.specs.Topics.{Topic, has_topic, partition_at, partition_of, place_of, with_partition, with_partition_found, without_topic, without_topic_found}
 use Rattle.kob_pipeline.specs.BrokerView.{batches_of}
+use Rattle.kob_pipeline.proofs.Lists.{or_false, bytes_are, bytes_turned}
 
--- a partition of a topic, if both are there
-abbrev pub found_of : Option (Topic Plain) → ℕ → Option Plain
-found_of None number = None
-found_of (Some topic) number = slice_get topic.partitions number
+-- the first place that passes, by the first element
 
-abbrev pub is_named : List ℕ → Topic Plain → Bool
-is_named name topic = same_text name topic.name
+later : {X : Type 0} (p : X → Bool) (i : ℕ) (xs : List X)
+    → position_from p (i + 1) xs ≡ option_map suc (position_from p i xs)
+later p i [] = refl
+later p i (x ∷ xs) =
+    elim (cases_Bool (p x)) [
+      | inl hit ↦ rw hit (let e : i + 1 ≡ suc i = omega arith in ap Some e)
+      | inr miss ↦ rw miss (later p (i + 1) xs)
+    ]
 
-read_at : (topics : List (Topic Plain)) (place number : ℕ) (within : Bool) → nat_lt place (length topics) ≡ within
-    → partition_at topics (cond within (Some place) None) number ≡ found_of (slice_get topics place) number
-read_at topics place number true is =
-    ap (λ topic. found_of topic number)
-    (sym (slice_get-get_or topics place no_topic (ltb-true place (length topics) is)))
-read_at topics place number false is =
-    ap (λ topic. found_of topic number) (sym (slice_get_past topics place (ltb-false place (length topics) is)))
+position_cons : {X : Type 0} (p : X → Bool) (x : X) (xs : List X)
+    → position p (x ∷ xs) ≡ cond (p x) (Some 0) (option_map suc (position p xs))
+position_cons p x xs =
+    position_from-zero p (x ∷ xs)
+    ∙ ap (cond (p x) (Some 0)) (later p 0 xs ∙ ap (option_map suc) (sym (position_from-zero p xs)))
 
--- the partition is that of the first topic of the name
-pub is_first : (name : List ℕ) (number : ℕ) (topics : List (Topic Plain))
-    → partition_of name number topics ≡ found_of (find (is_named name) topics) number
-is_first name number topics =
-    read_at topics (position_or_len (is_named name) topics) number
-    (nat_lt (position_or_len (is_named name) topics) (length topics)) refl
-    ∙ ap (λ topic. found_of topic number) (sym (find_at (is_named name) topics))
+or_assoc : (a b c : Bool) → ((a || b) || c) ≡ (a || (b || c))
+or_assoc true b c = refl
+or_assoc false b c = refl
 
--- one that does not pass takes the place of one that does not pass
-find_past_written : {X : Type 0} (p : X → Bool) (xs : List X) (i : ℕ) (y d : X) → p y ≡ false → p (get_or xs i d)
-    ≡ false
-    → find p (set xs i y) ≡ find p xs
-find_past_written p [] i y d new old = refl
-find_past_written p (x ∷ xs) zero y d new old =
-    ap (λ b. cond b (Some y) (find p xs)) new ∙ sym (ap (λ b. cond b (Some x) (find p xs)) old)
-find_past_written p (x ∷ xs) (suc i) y d new old =
-    ap (λ rest. cond (p x) (Some x) rest) (find_past_written p xs i y d new old)
+module _ {P : Type 0} where
+  abbrev named : List ℕ → Topic P → Bool
+  named name topic = same_text name topic.name
 
--- one that does not pass is taken away
-find_past_removed : {X : Type 0} (p : X → Bool) (xs : List X) (i : ℕ) (d : X) → p (get_or xs i d) ≡ false
-    → find p (remove xs i) ≡ find p xs
-find_past_removed p [] zero d old = refl
-find_past_removed p [] (suc i) d old = refl
-find_past_removed p (x ∷ xs) zero d old = sym (ap (λ b. cond b (Some x) (find p xs)) old)
-find_past_removed p (x ∷ xs) (suc i) d old =
-    ap (λ rest. cond (p x) (Some x) rest) (find_past_removed p xs i d old)
+  -- the look-ups and the edits by the first topic
 
--- the topic with a partition written
-abbrev pub with_it : ℕ → Plain → Topic Plain → Topic Plain
-with_it number written topic = record topic { partitions = slice_set topic.partitions number written }
+  of_cons : (name : List ℕ) (n : ℕ) (t : Topic P) (ts : List (Topic P))
+      → partition_of name n (t ∷ ts) ≡ cond (same_text name t.name) (slice_get t.partitions n) (partition_of name n ts)
+  of_cons name n t ts =
+      ap (λ at. partition_at (t ∷ ts) at n) (position_cons (named name) t ts) ∙ by (named name t) (place_of name ts)
+    where
+      by : (hit : Bool) (at : Option ℕ) → partition_at (t ∷ ts) (cond hit (Some 0) (option_map suc at)) n
+          ≡ cond hit (slice_get t.partitions n) (partition_at ts at n)
+      by true at = refl
+      by false None = refl
+      by false (Some place) = refl
 
-none_below : (i : ℕ) → i < 0 → ⊥
-none_below i below = omega (arith, below)
+  has_cons : (name : List ℕ) (t : Topic P) (ts : List (Topic P))
+      → has_topic name (t ∷ ts) ≡ same_text name t.name || has_topic name ts
+  has_cons name t ts = ap is_some (position_cons (named name) t ts) ∙ by (named name t) (place_of name ts)
+    where
+      by : (hit : Bool) (at : Option ℕ) → is_some (cond hit (Some 0) (option_map suc at)) ≡ hit || is_some at
+      by true at = refl
+      by false None = refl
+      by false (Some place) = refl
 
--- a list with one item written, read elsewhere
-elsewhere : {X : Type 0} (xs : List X) (i j : ℕ) (y : X) → (i ≡ j → ⊥) → slice_get (slice_set xs i y) j ≡ slice_get xs j
-elsewhere [] zero j y other = refl
-elsewhere [] (suc i) j y other = refl
-elsewhere (x ∷ xs) zero zero y other = absurd (other refl)
-elsewhere (x ∷ xs) zero (suc j) y other = refl
-elsewhere (x ∷ xs) (suc i) zero y other = refl
-elsewhere (x ∷ xs) (suc i) (suc j) y other = elsewhere xs i j y (λ same. other (ap suc same))
+  -- the topic with a partition written
+  abbrev with_it : ℕ → P → Topic P → Topic P
+  with_it n written t = record t { partitions = slice_set t.partitions n written }
 
--- and read there
-right_there : {X : Type 0} (xs : List X) (i : ℕ) (y : X) → i < length xs → slice_get (slice_set xs i y) i ≡ Some y
-right_there [] i y within = absurd (none_below i within)
-right_there (x ∷ xs) zero y within = refl
-right_there (x ∷ xs) (suc i) y within = right_there xs i y (omega (arith, within))
+  with_cons : (name : List ℕ) (n : ℕ) (written : P) (t : Topic P) (ts : List (Topic P))
+      → with_partition name n written (t ∷ ts)
+      ≡ cond (same_text name t.name) (with_it n written t ∷ ts) (t ∷ with_partition name n written ts)
+  with_cons name n written t ts =
+      ap (λ at. with_partition_found at n written (t ∷ ts)) (position_cons (named name) t ts)
+      ∙ by (same_text name t.name) (place_of name ts)
+    where
+      by : (hit : Bool) (at : Option ℕ)
+          → with_partition_found (cond hit (Some 0) (option_map suc at)) n written (t ∷ ts)
+          ≡ cond hit (with_it n written t ∷ ts) (t ∷ with_partition_found at n written ts)
+      by true at = refl
+      by false None = refl
+      by false (Some place) = refl
 
-written_in : (written : Plain) (partitions : List Plain) (number other : ℕ) (same : Bool) → nat_eq number other ≡ same
-    → number < length partitions
-    → slice_get (slice_set partitions number written) other ≡ cond same (Some written) (slice_get partitions other)
-written_in written partitions number other true is within =
-    ap (slice_get (slice_set partitions number written)) (sym (eqb-true number other is))
-    ∙ right_there partitions number written within
-written_in written partitions number other false is within =
-    elsewhere partitions number other written (eqb-false number other is)
+  without_cons : (name : List ℕ) (t : Topic P) (ts : List (Topic P))
+      → without_topic name (t ∷ ts) ≡ cond (same_text name t.name) ts (t ∷ without_topic name ts)
+  without_cons name t ts =
+      ap (λ at. without_topic_found at (t ∷ ts)) (position_cons (named name) t ts)
+      ∙ by (named name t) (place_of name ts)
+    where
+      by : (hit : Bool) (at : Option ℕ) → without_topic_found (cond hit (Some 0) (option_map suc at)) (t ∷ ts)
+          ≡ cond hit ts (t ∷ without_topic_found at ts)
+      by true at = refl
+      by false None = refl
+      by false (Some place) = refl
 
-transport_lt : {i j : ℕ} (n : ℕ) → i ≡ j → i < n → j < n
-transport_lt n is below = omega (arith, is, below)
+  -- a partition that was written is read as written, and all others as they were
 
--- the name's test says the same of two names that it tells to be one
-same_test : (name other : List ℕ) (topic : Topic Plain) → same_text name topic.name ≡ true
-    → same_text other topic.name ≡ same_text other name
-same_test name other topic is = ap (same_text other) (sym ((bytes_eq-Decides name topic.name).0 is))
+  elsewhere : (xs : List P) (i j : ℕ) (y : P) → (i ≡ j → ⊥) → slice_get (slice_set xs i y) j ≡ slice_get xs j
+  elsewhere [] i j y other = refl
+  elsewhere (x ∷ xs) zero zero y other = absurd (other refl)
+  elsewhere (x ∷ xs) zero (suc j) y other = refl
+  elsewhere (x ∷ xs) (suc i) zero y other = refl
+  elsewhere (x ∷ xs) (suc i) (suc j) y other = elsewhere xs i j y (λ same. other (ap suc same))
 
-module _ (name : List ℕ) (number : ℕ) (written : Plain) (topics : List (Topic Plain)) (place : ℕ)
-    (is : place ≡ position_or_len (is_named name) topics) (within : place < length topics) where
-  abbrev the_topic : Topic Plain
-  the_topic = topic_at topics place
+  right_there : (xs : List P) (i : ℕ) (x y : P) → slice_get xs i ≡ Some x → slice_get (slice_set xs i y) i ≡ Some y
+  right_there [] i x y there = cc
+  right_there (z ∷ xs) zero x y there = refl
+  right_there (z ∷ xs) (suc i) x y there = right_there xs i x y there
 
-  its_name : is_named name the_topic ≡ true
-  its_name =
-      ap (λ i. is_named name (topic_at topics i)) is
-      ∙ passes_at_first (is_named name) topics no_topic (transport_lt (length topics) is within)
+  written_in : (xs : List P) (i j : ℕ) (p written : P) → slice_get xs i ≡ Some p
+      → slice_get (slice_set xs i written) j ≡ cond (nat_eq i j) (Some written) (slice_get xs j)
+  written_in xs i j p written there =
+      elim (cases_Bool (nat_eq i j)) [
+        | inl hit ↦ rw (hit, ← eqb-true i j hit) (right_there xs i p written there)
+        | inr miss ↦ rw miss (elsewhere xs i j written (eqb-false i j miss))
+      ]
 
-  abbrev rewritten : Topic Plain
-  rewritten = with_it number written the_topic
+  pub read_written : (name : List ℕ) (i : ℕ) (p written : P) (topics : List (Topic P)) (other : List ℕ) (j : ℕ)
+      → partition_of name i topics ≡ Some p
+      → partition_of other j (with_partition name i written topics)
+      ≡ cond (same_text name other && nat_eq i j) (Some written) (partition_of other j topics)
+  read_written name i p written [] other j there = absurd (none-some p there)
+  read_written name i p written (t ∷ ts) other j there =
+      elim (cases_Bool (same_text name t.name)) [
+        | inl hit ↦
+            let at : slice_get t.partitions i ≡ Some p = rw (of_cons name i t ts, hit) at there in
+            rw (
+              with_cons name i written t ts,
+              hit,
+              of_cons other j (with_it i written t) ts,
+              of_cons other j t ts,
+              written_in t.partitions i j p written at,
+              bytes_are name t.name hit,
+              bytes_turned t.name other,
+            )
+            (by (same_text other t.name))
+        | inr miss ↦
+            let at : partition_of name i ts ≡ Some p = rw (of_cons name i t ts, miss) at there in
+            rw (
+              with_cons name i written t ts,
+              miss,
+              of_cons other j t (with_partition name i written ts),
+              of_cons other j t ts,
+              read_written name i p written ts other j at,
+            )
+            (elim (cases_Bool (same_text other t.name)) [
+              | inl on ↦ rw (on, ap (same_text name) (bytes_are other t.name on), miss) refl
+              | inr off ↦ rw off refl
+            ])
+      ]
+    where
+      by : (b : Bool) → cond b (cond (nat_eq i j) (Some written) (slice_get t.partitions j)) (partition_of other j ts)
+          ≡ cond (b && nat_eq i j) (Some written) (cond b (slice_get t.partitions j) (partition_of other j ts))
+      by true = refl
+      by false = refl
 
-  of_name : find (is_named name) (slice_set topics place rewritten) ≡ Some rewritten
-  of_name = find-set (is_named name) topics place rewritten is within its_name
+  -- the partitions of a topic that was taken away are gone, and all others stay
 
-  found_first : find (is_named name) topics ≡ Some the_topic
-  found_first = find_at (is_named name) topics ∙ ap (slice_get topics) (sym is)
-      ∙ slice_get-get_or topics place no_topic within
-
-  of_another : (other : List ℕ) → same_text other name ≡ false
-      → find (is_named other) (slice_set topics place rewritten) ≡ find (is_named other) topics
-  of_another other differs =
-      find_past_written (is_named other) topics place rewritten no_topic
-      (same_test name other the_topic its_name ∙ differs) (same_test name other the_topic its_name ∙ differs)
-
-  -- the partition that is written is there
-  is_there : (p : Plain) → partition_of name number topics ≡ Some p → number < length the_topic.partitions
-  is_there p there =
-      slice_get_within the_topic.partitions number p
-      (sym (ap (λ topic. found_of topic number) found_first) ∙ sym (is_first name number topics) ∙ there)
-
-  same_name : (p : Plain) (j : ℕ) → partition_of name number topics ≡ Some p
-      → partition_of name j (slice_set topics place rewritten)
-      ≡ cond (nat_eq number j) (Some written) (partition_of name j topics)
-  same_name p j there =
-      is_first name j (slice_set topics place rewritten)
-      ∙ ap (λ topic. found_of topic j) of_name
-      ∙ written_in written the_topic.partitions number j (nat_eq number j) refl (is_there p there)
-      ∙ ap (cond (nat_eq number j) (Some written))
-      (sym (ap (λ topic. found_of topic j) found_first) ∙ sym (is_first name j topics))
-
-  other_name : (other : List ℕ) (j : ℕ) → same_text other name ≡ false
-      → partition_of other j (slice_set topics place rewritten) ≡ partition_of other j topics
-  other_name other j differs =
-      is_first other j (slice_set topics place rewritten)
-      ∙ ap (λ topic. found_of topic j) (of_another other differs)
-      ∙ sym (is_first other j topics)
-
-  by_name : (p : Plain) (other : List ℕ) (j : ℕ) (same : Bool) → same_text name other ≡ same
-      → partition_of name number topics ≡ Some p
-      → partition_of other j (slice_set topics place rewritten)
-      ≡ cond (same && nat_eq number j) (Some written) (partition_of other j topics)
-  by_name p other j true one there =
-      let is_name : name ≡ other = (bytes_eq-Decides name other).0 one in
-      ap (λ of. partition_of of j (slice_set topics place rewritten)) (sym is_name)
-      ∙ same_name p j there
-      ∙ ap (λ of. cond (nat_eq number j) (Some written) (partition_of of j topics)) is_name
-  by_name p other j false one there = other_name other j (either_way other name ∙ one)
-
-written_at : (name : List ℕ) (number : ℕ) (p written : Plain) (topics : List (Topic Plain)) (other : List ℕ) (j : ℕ)
-    (within : Bool)
-    → nat_lt (position_or_len (is_named name) topics) (length topics) ≡ within
-    → partition_of name number topics ≡ Some p
-    → partition_of other j
-    (with_partition_found (cond within (Some (position_or_len (is_named name) topics)) None) number written topics)
-    ≡ cond (same_text name other && nat_eq number j) (Some written) (partition_of other j topics)
-written_at name number p written topics other j true is there =
-    by_name name number written topics (position_or_len (is_named name) topics) refl
-    (ltb-true (position_or_len (is_named name) topics) (length topics) is) p other j (same_text name other) refl there
-written_at name number p written topics other j false is there =
-    absurd (none-some p
-    (sym (ap (λ place. partition_at topics place number)
-    (ap (λ b. cond b (Some (position_or_len (is_named name) topics)) None) is))
-    ∙ there))
-
--- after a partition was written that is there, it is read as written, and all others as they were
-pub read_written : (name : List ℕ) (number : ℕ) (p written : Plain) (topics : List (Topic Plain)) (other : List ℕ)
-    (j : ℕ)
-    → partition_of name number topics ≡ Some p
-    → partition_of other j (with_partition name number written topics)
-    ≡ cond (same_text name other && nat_eq number j) (Some written) (partition_of other j topics)
-read_written name number p written topics other j there =
-    written_at name number p written topics other j (nat_lt (position_or_len (is_named name) topics) (length topics))
-    refl there
-
--- the partitions of a topic that was taken away
-module _ (name : List ℕ) (topics : List (Topic Plain)) where
-  others_stay : (other : List ℕ) (j : ℕ) (within : Bool)
-      → nat_lt (position_or_len (is_named name) topics) (length topics) ≡ within
+  pub read_of_others : (name : List ℕ) (topics : List (Topic P)) (other : List ℕ) (j : ℕ)
       → same_text other name ≡ false
-      → partition_of other j
-      (without_topic_found (cond within (Some (position_or_len (is_named name) topics)) None) topics)
-      ≡ partition_of other j topics
-  others_stay other j true is differs =
-      is_first other j (remove topics (position_or_len (is_named name) topics))
-      ∙ ap (λ topic. found_of topic j)
-      (find_past_removed (is_named other) topics (position_or_len (is_named name) topics) no_topic
-      (same_test name other (topic_at topics (position_or_len (is_named name) topics))
-      (passes_at_first (is_named name) topics no_topic
-      (ltb-true (position_or_len (is_named name) topics) (length topics) is)) ∙ differs))
-      ∙ sym (is_first other j topics)
-  others_stay other j false is differs = refl
-
-  -- those of other topics are read as they were
-  pub read_of_others : (other : List ℕ) (j : ℕ) → same_text other name ≡ false
       → partition_of other j (without_topic name topics) ≡ partition_of other j topics
-  read_of_others other j differs =
-      others_stay other j (nat_lt (position_or_len (is_named name) topics) (length topics)) refl differs
+  read_of_others name [] other j differs = refl
+  read_of_others name (t ∷ ts) other j differs =
+      elim (cases_Bool (same_text name t.name)) [
+        | inl hit ↦
+            rw (
+              without_cons name t ts,
+              hit,
+              of_cons other j t ts,
+              ap (same_text other) (sym (bytes_are name t.name hit)) ∙ differs,
+            ) refl
+        | inr miss ↦
+            rw (
+              without_cons name t ts,
+              miss,
+              of_cons other j t ts,
+              of_cons other j t (without_topic name ts),
+              read_of_others name ts other j differs,
+            ) refl
+      ]
 
--- a topic with empty partitions is put last
-of_empty : (count j : ℕ) → batches_of (slice_get (replicate count plain_meaning.empty) j) ≡ []
-of_empty zero j = refl
-of_empty (suc count) zero = refl
-of_empty (suc count) (suc j) = of_empty count j
+  -- no topic has the name of an earlier one
+  abbrev pub IsOnceNamed : List (Topic P) → Type 0
+  IsOnceNamed [] = Unit {0}
+  IsOnceNamed (t ∷ ts) = (has_topic t.name ts ≡ false) × IsOnceNamed ts
 
-put_last : (name : List ℕ) (made : Topic Plain) (j : ℕ) (found : Option (Topic Plain))
-    → ((i : ℕ) → batches_of (slice_get made.partitions i) ≡ [])
-    → batches_of (found_of (option_or found (cond (same_text name made.name) (Some made) None)) j)
-    ≡ batches_of (found_of found j)
-put_last name made j (Some topic) empty = refl
-put_last name made j None empty = by (same_text name made.name)
-  where
-    by : (hit : Bool) → batches_of (found_of (cond hit (Some made) None) j) ≡ []
-    by true = empty j
-    by false = refl
+  unknown : (name : List ℕ) (topics : List (Topic P)) (j : ℕ) → has_topic name topics ≡ false
+      → partition_of name j topics ≡ None
+  unknown name topics j = by (place_of name topics)
+    where
+      by : (at : Option ℕ) → is_some at ≡ false → partition_at topics at j ≡ None
+      by None none = refl
+      by (Some place) none = absurd (true≢false none)
+
+  pub read_of_removed : (name : List ℕ) (j : ℕ) (topics : List (Topic P)) → IsOnceNamed topics
+      → partition_of name j (without_topic name topics) ≡ None
+  read_of_removed name j [] once = refl
+  read_of_removed name j (t ∷ ts) once =
+      elim (cases_Bool (same_text name t.name)) [
+        | inl hit ↦
+            rw (without_cons name t ts, hit) (unknown name ts j (rw (← bytes_are name t.name hit) at once.0))
+        | inr miss ↦
+            rw (without_cons name t ts, miss, of_cons name j t (without_topic name ts), miss)
+            (read_of_removed name j ts once.1)
+      ]
+
+  -- the names that topics have after each edit
+
+  has_with : (other name : List ℕ) (n : ℕ) (written : P) (topics : List (Topic P))
+      → has_topic other (with_partition name n written topics) ≡ has_topic other topics
+  has_with other name n written [] = refl
+  has_with other name n written (t ∷ ts) =
+      elim (cases_Bool (same_text name t.name)) [
+        | inl hit ↦
+            rw (with_cons name n written t ts, hit)
+            (has_cons other (with_it n written t) ts ∙ sym (has_cons other t ts))
+        | inr miss ↦
+            rw (
+              with_cons name n written t ts,
+              miss,
+              has_cons other t (with_partition name n written ts),
+              has_with other name n written ts,
+            ) (sym (has_cons other t ts))
+      ]
+
+  has_without : (other name : List ℕ) (topics : List (Topic P)) → has_topic other topics ≡ false
+      → has_topic other (without_topic name topics) ≡ false
+  has_without other name [] none = refl
+  has_without other name (t ∷ ts) none =
+      let parts = or_parts (same_text other t.name) (has_topic other ts) (sym (has_cons other t ts) ∙ none) in
+      elim (cases_Bool (same_text name t.name)) [
+        | inl hit ↦ rw (without_cons name t ts, hit) parts.1
+        | inr miss ↦
+            rw (without_cons name t ts, miss, has_cons other t (without_topic name ts), parts.0)
+            (has_without other name ts parts.1)
+      ]
+
+  has_added : (other : List ℕ) (made : Topic P) (topics : List (Topic P))
+      → has_topic other (topics ++ made ∷ []) ≡ has_topic other topics || same_text other made.name
+  has_added other made [] = has_cons other made [] ∙ or_false (same_text other made.name)
+  has_added other made (t ∷ ts) =
+      has_cons other t (ts ++ made ∷ []) ∙ ap (λ b. same_text other t.name || b) (has_added other made ts)
+      ∙ rw (has_cons other t ts) (sym (or_assoc (same_text other t.name) _ _))
+
+  pub once_with : (name : List ℕ) (n : ℕ) (written : P) (topics : List (Topic P)) → IsOnceNamed topics
+      → IsOnceNamed (with_partition name n written topics)
+  once_with name n written [] once = tt
+  once_with name n written (t ∷ ts) once =
+      elim (cases_Bool (same_text name t.name)) [
+        | inl hit ↦ rw (with_cons name n written t ts, hit) once
+        | inr miss ↦
+            rw (with_cons name n written t ts, miss)
+            (has_with t.name name n written ts ∙ once.0, once_with name n written ts once.1)
+      ]
+
+  pub once_without : (name : List ℕ) (topics : List (Topic P)) → IsOnceNamed topics
+      → IsOnceNamed (without_topic name topics)
+  once_without name [] once = tt
+  once_without name (t ∷ ts) once =
+      elim (cases_Bool (same_text name t.name)) [
+        | inl hit ↦ rw (without_cons name t ts, hit) once.1
+        | inr miss ↦
+            rw (without_cons name t ts, miss) (has_without t.name name ts once.0, once_without name ts once.1)
+      ]
+
+  pub once_added : (topics : List (Topic P)) (made : Topic P) → has_topic made.name topics ≡ false
+      → IsOnceNamed topics → IsOnceNamed (topics ++ made ∷ [])
+  once_added [] made new once = (refl, tt)
+  once_added (t ∷ ts) made new once =
+      let parts = or_parts (same_text made.name t.name) (has_topic made.name ts)
+      (sym (has_cons made.name t ts) ∙ new) in (
+        rw (has_added t.name made ts, once.0) (bytes_turned t.name made.name ∙ parts.0),
+        once_added ts made parts.1 once.1,
+      )
 
 -- a topic that is made has no batches
 pub read_added : (name : List ℕ) (j : ℕ) (topics : List (Topic Plain)) (made : List ℕ) (count : ℕ)
     → batches_of (partition_of name j (topics ++ new_topic plain_meaning made count ∷ []))
     ≡ batches_of (partition_of name j topics)
-read_added name j topics made count =
-    ap batches_of
-    (is_first name j (topics ++ new_topic plain_meaning made count ∷ [])
-    ∙ ap (λ topic. found_of topic j) (find-append (is_named name) topics (new_topic plain_meaning made count ∷ [])))
-    ∙ put_last name (new_topic plain_meaning made count) j (find (is_named name) topics) (of_empty count)
-    ∙ ap batches_of (sym (is_first name j topics))
+read_added name j [] made count = rw (of_cons name j (new_topic plain_meaning made count) []) (by (same_text name made))
+  where
+    of_empty : (count j : ℕ) → batches_of (slice_get (replicate count plain_meaning.empty) j) ≡ []
+    of_empty zero j = refl
+    of_empty (suc count) zero = refl
+    of_empty (suc count) (suc j) = of_empty count j
+
+    by : (hit : Bool) → batches_of (cond hit (slice_get (replicate count plain_meaning.empty) j) None) ≡ []
+    by true = of_empty count j
+    by false = refl
+read_added name j (t ∷ ts) made count =
+    rw (of_cons name j t (ts ++ new_topic plain_meaning made count ∷ []), of_cons name j t ts)
+    (elim (cases_Bool (same_text name t.name)) [
+      | inl hit ↦ rw hit refl
+      | inr miss ↦ rw miss (read_added name j ts made count)
+    ])

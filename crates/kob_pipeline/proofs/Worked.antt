@@ -1,33 +1,147 @@
 -- What a worker's steps, its losses and its notes make together.
-use Rattle.std.proofs.Common.{◌≡◌, List, [], ◌++◌, map, Result, Ok, Err, IfOk, sym, ap, ◌∙◌, subst}
+use Rattle.std.proofs.Common.{◌≡◌, List, [], ◌∷◌, ◌++◌, refl, ap, subst, ℕ, ◌+◌, ◌<◌, length, take, get_or, sym, ◌∙◌, append_assoc, append-nil, inl, inr, map, Result, Ok, Err, IfOk}
+use Rattle.kob_router.specs.declared.line.Call.{Call}
+use Rattle.kob_inbox.specs.declared.fetcher.Subscription.{Subscription}
+use Rattle.kob_inbox.specs.Run.{IsConsumerRun, Move, State, after, calls_of}
+use Rattle.kob_inbox.specs.Run.Move.{Called, Restarted}
+use Rattle.std.proofs.lemmas.List.{take_more}
+use Rattle.kob_pipeline.specs.declared.plan.Loss.{Loss}
+use Rattle.kob_pipeline.specs.Steps.{Doing, Leads, Standing, Steps, standing}
 use Rattle.std.specs.List.{All, enumerate_from}
 use Rattle.kob_inbox.specs.Rows.{placed_intake}
-use Rattle.kob_inbox.specs.Run as consumers
-use Rattle.kob_inbox.specs.declared.fetcher.Subscription.{Subscription}
 use Rattle.kob_outbox.specs.Events.{stored_row}
 use Rattle.kob_outbox.specs.Reading.{later_than}
 use Rattle.kob_router.specs.Dispatches.{Dispatching, dispatch_of}
-use Rattle.kob_router.specs.Run as routers
-use Rattle.kob_router.specs.declared.line.Call.{Call}
 use Rattle.kob_router.proofs.Runs.{run_append}
 use Rattle.kob_shared.specs.Noted.{Noted}
 use Rattle.kob_pipeline.specs.declared.end.InboxEnd.{InboxEnd}
 use Rattle.kob_pipeline.specs.declared.end.OutboxEnd.{OutboxEnd}
 use Rattle.kob_pipeline.specs.declared.plan.ConsumerPlan.{ConsumerPlan}
 use Rattle.kob_pipeline.specs.declared.plan.ConsumerStep.{ConsumerStep}
-use Rattle.kob_pipeline.specs.declared.plan.Loss.{Loss}
 use Rattle.kob_pipeline.specs.declared.plan.Service.{Service}
 use Rattle.kob_pipeline.specs.declared.plan.ServiceStep.{ServiceStep}
 use Rattle.kob_pipeline.specs.Consumers.{IsConsumerStep, IsConsumption}
 use Rattle.kob_pipeline.specs.Losses.{AreServedByLoss}
-use Rattle.kob_pipeline.specs.Served.{served_by_notes}
+use Rattle.kob_pipeline.specs.Served.{AreServed, Served, served_by_notes}
 use Rattle.kob_pipeline.specs.Services.{IsServiceRun, IsServiceStep}
-use Rattle.kob_pipeline.specs.Steps.{Leads, Steps, standing}
 use Rattle.kob_pipeline.specs.Workers.{IsInboxLeft, IsOutboxLeft}
-use Rattle.kob_pipeline.proofs.ConsumerRuns.{consumer_run_append}
-use Rattle.kob_pipeline.proofs.Numbers.{all_later, run_numbered}
-use Rattle.kob_pipeline.proofs.Stepping.{steps_run}
-use Rattle.kob_pipeline.proofs.Ticked.{served_by_loss}
+use Rattle.kob_pipeline.proofs.Rows.{all_later, run_numbered}
+use Rattle.kob_inbox.specs.Run as consumers
+use Rattle.kob_router.specs.Run as routers
+use Rattle.kob_pipeline.specs.declared.plan.Loss.TheVariants as lost
+
+pub consumer_run_append : (t : Subscription) (ms ns : List Move) (a b c : State) → IsConsumerRun t a ms b
+    → IsConsumerRun t b ns c → IsConsumerRun t a (ms ++ ns) c
+consumer_run_append t [] ns a b c one two = subst (λ (s : State). IsConsumerRun t s ns c) one two
+consumer_run_append t (m ∷ ms) ns a b c one two = (one.0, consumer_run_append t ms ns (after t a m) b c one.1 two)
+
+pub consumer_calls_append : (ms ns : List Move) → calls_of (ms ++ ns) ≡ calls_of ms ++ calls_of ns
+consumer_calls_append [] ns = refl
+consumer_calls_append (Restarted ∷ ms) ns = consumer_calls_append ms ns
+consumer_calls_append (Called call count ∷ ms) ns =
+    ap (λ (calls : List Call). call ∷ calls) (consumer_calls_append ms ns)
+
+-- ---- steps one after another, and what they make in all
+
+-- one step more
+pub steps_push : {S T M : Type 0} (does : S → T → List M → List Loss → S → Type 0) (old mid new : S) (steps : List T)
+    (step : T) (front last : List M) (ls ms : List Loss)
+    → Steps does old steps front ls mid → does mid step last ms new
+    → Steps does old (steps ++ step ∷ []) (front ++ last) (ls ++ ms) new
+steps_push does old mid new [] step front last ls ms all here = (
+  new,
+  last,
+  [],
+  ms,
+  [],
+  subst-start here,
+  (refl, refl, refl),
+  ap (λ xs. xs ++ last) all.0
+      ∙ sym (append-nil last),
+  ap (λ xs. xs ++ ms) all.1 ∙ sym (append-nil ms),
+)
+  where
+    subst-start : does mid step last ms new → does old step last ms new
+    subst-start d = subst (λ s. does s step last ms new) all.2 d
+steps_push does old mid new (s ∷ steps) step front last ls ms all here = (
+  all.0,
+  all.1,
+  all.2 ++ last,
+  all.3,
+  all.4 ++ ms,
+  all.5,
+  steps_push does all.0 mid new steps step all.2 last all.4 ms all.6 here,
+  ap (λ xs. xs ++ last) all.7 ∙ append_assoc all.1 all.2 last,
+  ap (λ xs. xs ++ ms) all.8 ∙ append_assoc all.3 all.4 ms,
+)
+
+-- one step more, with its calls
+leads_push : {S T M : Type 0} {does : Doing S T M} {calls_of : List M → List Call} {old mid new : Standing S} {step : T}
+    (steps : List T) → ((xs ys : List M) → calls_of (xs ++ ys) ≡ calls_of xs ++ calls_of ys)
+    → Leads (Steps does) calls_of old steps mid → Leads does calls_of mid step new
+    → Leads (Steps does) calls_of old (steps ++ step ∷ []) new
+leads_push {does = does} {calls_of = calls_of} {old = old} {mid = mid} {new = new} {step = step} steps joined before
+    here = record {
+      moves = before.moves ++ here.moves;
+      losses = before.losses ++ here.losses;
+      done = steps_push does old.state mid.state new.state steps step before.moves here.moves before.losses here.losses
+          before.done here.done;
+      calls =
+          here.calls ∙ ap (λ cs. cs ++ calls_of here.moves) before.calls
+          ∙ append_assoc old.calls (calls_of before.moves) (calls_of here.moves)
+          ∙ ap (λ cs. old.calls ++ cs) (sym (joined before.moves here.moves));
+      lost = here.lost ∙ ap (λ ls. ls ++ here.losses) before.lost ∙ append_assoc old.losses before.losses here.losses;
+    }
+
+-- the steps up to one more place
+pub leads_more : {S T M : Type 0} {does : Doing S T M} {calls_of : List M → List Call} {old mid new : Standing S}
+    {step : T} (steps : List T) (i : ℕ) → ((xs ys : List M) → calls_of (xs ++ ys) ≡ calls_of xs ++ calls_of ys)
+    → i < length steps → step ≡ get_or steps i step
+    → Leads (Steps does) calls_of old (take i steps) mid → Leads does calls_of mid step new
+    → Leads (Steps does) calls_of old (take (i + 1) steps) new
+leads_more {T = T} {does = does} {calls_of = calls_of} {old = old} {new = new} {step = step} steps i joined within is
+    before here =
+    let longer : take (i + 1) steps ≡ take i steps ++ step ∷ [] =
+    take_more steps i step within ∙ ap (λ (t : T). take i steps ++ t ∷ []) (sym is) in
+    subst (λ (ts : List T). Leads (Steps does) calls_of old ts new) (sym longer)
+    (leads_push (take i steps) joined before here)
+
+-- a step that makes no call
+pub leads_still : {S T M : Type 0} {does : Doing S T M} {calls_of : List M → List Call} {old new : S} {step : T}
+    {cs : List Call} {ls : List Loss} (moves : List M) → calls_of moves ≡ [] → does old step moves [] new
+    → Leads does calls_of (standing old cs ls) step (standing new cs ls)
+leads_still {cs = cs} {ls = ls} moves none here = record {
+  moves = moves;
+  losses = [];
+  done = here;
+  calls = sym (append-nil cs) ∙ ap (λ xs. cs ++ xs) (sym none);
+  lost = sym (append-nil ls);
+}
+
+-- what holds of each step's moves, and of moves one after another, holds of all
+pub steps_run : {S T M : Type 0} (does : S → T → List M → List Loss → S → Type 0) (Run : S → List M → S → Type 0)
+    → ((s t : S) → t ≡ s → Run s [] t)
+    → ((a b c : S) (xs ys : List M) → Run a xs b → Run b ys c → Run a (xs ++ ys) c)
+    → ((a : S) (t : T) (xs : List M) (ls : List Loss) (b : S) → does a t xs ls b → Run a xs b)
+    → (old new : S) (steps : List T) (moves : List M) (ls : List Loss) → Steps does old steps moves ls new
+    → Run old moves new
+steps_run does Run still joined each old new [] moves ls all =
+    subst (λ xs. Run old xs new) (sym all.0) (still old new all.2)
+steps_run does Run still joined each old new (step ∷ steps) moves ls all =
+    subst (λ xs. Run old xs new) (sym all.7)
+    (joined old all.0 new all.1 all.2 (each old step all.1 all.3 all.0 all.5)
+    (steps_run does Run still joined each all.0 new steps all.2 all.4 all.6))
+
+-- ---- what a worker's steps, its losses and its notes make together
+
+-- calls that were served as their losses say were served
+pub served_by_loss : (ls : List Loss) (cs : List Call) (ss : List Served) → AreServedByLoss ls cs ss → AreServed cs ss
+served_by_loss [] [] [] is = tt
+served_by_loss (lost.None ∷ ls) (c ∷ cs) (s ∷ ss) is = inr (is.0, inr is.1, served_by_loss ls cs ss is.2)
+served_by_loss (lost.BeforeServe ∷ ls) (c ∷ cs) [] is = (is.0, served_by_loss ls cs [] is.1)
+served_by_loss (lost.BeforeServe ∷ ls) (c ∷ cs) (s ∷ ss) is = inl (is.0, served_by_loss ls cs (s ∷ ss) is.1)
+served_by_loss (lost.AfterServe ∷ ls) (c ∷ cs) (s ∷ ss) is = inr (is.0, inl is.1, served_by_loss ls cs ss is.2)
+served_by_loss ls cs ss is = absurd is
 
 -- the steps of a service are a router's run
 service_run : (route : Dispatching) (old new : routers.State) (steps : List ServiceStep) (moves : List routers.Move)
@@ -49,8 +163,7 @@ pub service_run_of : (s : Service) (noted : Noted) (left : OutboxEnd) (calls : L
     → IsOutboxLeft s calls ls left → AreServedByLoss ls calls (served_by_notes noted.events noted.told)
     → All (λ e. (e.principal ≡ s.principal) × (e.host ≡ s.host)) noted.events → IsServiceRun s noted left
 service_run_of s noted left calls ls is told own =
-    let lost =
-    subst (λ (cs : List Call). AreServedByLoss ls cs (served_by_notes noted.events noted.told)) is.made told in
+    let lost = rw is.made at told in
     record {
       moves = is.moves;
       losses = ls;
@@ -68,8 +181,7 @@ pub consumption_of : (c : ConsumerPlan) (noted : Noted) (left : InboxEnd) (calls
     → IsInboxLeft c calls ls left → AreServedByLoss ls calls (served_by_notes noted.events noted.told)
     → All (λ e. (e.principal ≡ c.principal) × (e.host ≡ c.host)) noted.events → IsConsumption c noted left
 consumption_of c noted left calls ls is told own =
-    let lost =
-    subst (λ (cs : List Call). AreServedByLoss ls cs (served_by_notes noted.events noted.told)) is.made told in
+    let lost = rw is.made at told in
     record {
       moves = is.moves;
       losses = ls;
@@ -87,13 +199,14 @@ behind_none : {A : Type 0} (before now these : List A) → before ≡ [] → now
 behind_none before now these none is = is ∙ ap (λ xs. xs ++ these) none
 
 -- what the steps of a service leave, from nothing on
-pub outbox_left : (s : Service) (begun new : routers.State) (before now : List Call) (ls ms fs : List Loss)
-    (left : OutboxEnd) → begun ≡ routers.start → before ≡ [] → ls ≡ [] → fs ≡ ms
+pub outbox_left : (s : Service) {begun new : routers.State} {before now : List Call} {ls ms fs : List Loss}
+    {left : OutboxEnd} → begun ≡ routers.start → before ≡ [] → ls ≡ [] → fs ≡ ms
     → Leads (Steps (IsServiceStep (dispatch_of s.target))) routers.calls_of (standing begun before ls) s.steps.items
     (standing new now ms)
     → map stored_row left.rows.items ≡ later_than 0 new.outbox.events → left.mark ≡ new.outbox.mark
     → IsOutboxLeft s now fs left
-outbox_left s begun new before now ls ms fs left start none unlost same leads rows mark =
+outbox_left s {new = new} {before = before} {now = now} {ls = ls} {ms = ms} {fs = fs} start none unlost same leads rows
+    mark =
     let route = dispatch_of s.target in
     let lost : leads.losses ≡ fs = sym (same ∙ behind_none ls ms leads.losses unlost leads.lost) in
     let steps : Steps (IsServiceStep route) routers.start s.steps.items leads.moves fs new =
@@ -111,14 +224,14 @@ outbox_left s begun new before now ls ms fs left start none unlost same leads ro
     }
 
 -- what the steps of a consumer leave, from nothing on
-pub inbox_left : (c : ConsumerPlan) (begun new : consumers.State) (before now : List Call) (ls ms fs : List Loss)
-    (left : InboxEnd) → begun ≡ consumers.start → before ≡ [] → ls ≡ [] → fs ≡ ms
+pub inbox_left : (c : ConsumerPlan) {begun new : consumers.State} {before now : List Call} {ls ms fs : List Loss}
+    {left : InboxEnd} → begun ≡ consumers.start → before ≡ [] → ls ≡ [] → fs ≡ ms
     → Leads (Steps (IsConsumerStep c.subscription)) consumers.calls_of (standing begun before ls) c.steps.items
     (standing new now ms)
     → map placed_intake left.rows.items ≡ enumerate_from 1 new.inbox → IsInboxLeft c now fs left
-inbox_left c begun new before now ls ms fs left start none unlost same leads rows =
+inbox_left c {new = new} {before = before} {now = now} {ls = ls} {ms = ms} start none unlost same leads rows =
     let t = c.subscription in
-    let lost : leads.losses ≡ fs = sym (same ∙ behind_none ls ms leads.losses unlost leads.lost) in
+    let lost = sym (same ∙ behind_none ls ms leads.losses unlost leads.lost) in
     record {
       moves = leads.moves;
       state = new;

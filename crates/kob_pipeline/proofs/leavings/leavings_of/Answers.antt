@@ -1,6 +1,6 @@
 use Rattle.std.proofs.Common.{◌++◌, [], ◌∷◌, sym, ap, ◌∙◌, append_assoc, Vec}
 use Rattle.std.specs.Vec.Iter.{into_iter_items}
-use Rattle.kob_pipeline.proofs.Gathered.{gathers_more}
+use Rattle.kob_pipeline.proofs.Ended.{gathers_more}
 use Rattle.kob_pipeline.proofs.leavings.leavings_of.Goals as goal
 
 pub loop-one-preserved : goal.loop-one-preserved

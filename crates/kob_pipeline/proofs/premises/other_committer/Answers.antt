@@ -8,7 +8,8 @@ pub loop-place-preserved : goal.loop-place-preserved
 loop-place-preserved c =
     let place = c.loop-place.place in
     let entry = c.entry_at-entry.result.now in
-    kept_more (λ e. IsOwnCommit c.args.worker c.args.group.now c.args.topic.now e) c.args.journal.now place (place + 1) entry
+    kept_more (λ e. IsOwnCommit c.args.worker c.args.group.now c.args.topic.now e) c.args.journal.now place (place + 1)
+    entry
     (omega arith) c.entry_at-entry.ensures c.loop-place.invariant
     (elim c.else-commits.branch [
       | else-commits-via-then-commits+else-entry-worker w ↦ λ is. let own = w.if-entry-worker in search

@@ -1,14 +1,10 @@
 use Rattle.std.proofs.Common.{[], ◌∷◌, inl, inr, refl, sym, ap, subst}
 use Rattle.std.specs.Prelude.{Err, option_map}
-use Rattle.kob_router.specs.Dispatches.{dispatch_of}
-use Rattle.kob_router.specs.Run.{calls_of}
 use Rattle.kob_router.specs.Run.Move.{Recorded}
 use Rattle.kob_router.specs.Tick.{IsFirst, hand_of, state_of}
-use Rattle.kob_pipeline.specs.declared.plan.ServiceStep.TheVariants as steps
-use Rattle.kob_pipeline.specs.Services.{IsServiceStep}
 use Rattle.kob_outbox.specs.Fields.{first_bad}
 use Rattle.kob_pipeline.proofs.Outboxes.{first_recorded, fits_unless}
-use Rattle.kob_pipeline.proofs.Stepping.{leads_still}
+use Rattle.kob_pipeline.proofs.Worked.{leads_still}
 use Rattle.kob_pipeline.proofs.posting.Posting.note.Goals as goal
 
 pub returns-in-Ok-clause-first : goal.returns-in-Ok-clause-first
@@ -20,29 +16,21 @@ returns-in-Ok-clause-first c =
 
 pub returns-in-Ok-clause-done : goal.returns-in-Ok-clause-done
 returns-in-Ok-clause-done c = λ calls.
-    let was = c.args.self.now in
-    let route = dispatch_of was.router.target in
     let made = c.in-Ok.ensures in
-    let change = c.args.change.now in
-    let event = c.args.event.now in
-    leads_still (IsServiceStep route) calls_of (state_of was.router was.outbox) (state_of was.router c.record.new.self)
-    (steps.Record change event)
-    (Recorded change event ∷ []) calls was.losses.items was.losses.items
+    leads_still (Recorded c.args.change.now c.args.event.now ∷ []) refl
     (record {
-      run = (record { fits = made.good; fresh = made.fresh; room = made.room }, ap (state_of was.router) made.ok);
+      run = (
+        record { fits = made.good; fresh = made.fresh; room = made.room },
+        ap (state_of c.args.self.now.router) made.ok,
+      );
       own = (inl refl, refl);
     })
-    refl refl
 
 pub returns-in-Err-BadField-clause-done : goal.returns-in-Err-BadField-clause-done
 returns-in-Err-BadField-clause-done c = λ calls.
-    let was = c.args.self.now in
-    let route = dispatch_of was.router.target in
-    leads_still (IsServiceStep route) calls_of (state_of was.router was.outbox) (state_of was.router c.record.new.self)
-    (steps.Record c.args.change.now c.args.event.now)
-    [] calls was.losses.items was.losses.items
+    leads_still [] refl
     (record {
-      run = ap (state_of was.router) c.in-Err-BadField.ensures.err;
+      run = ap (state_of c.args.self.now.router) c.in-Err-BadField.ensures.err;
       own = (
         inr (
           refl,
@@ -52,7 +40,6 @@ returns-in-Err-BadField-clause-done c = λ calls.
         refl,
       );
     })
-    refl refl
 
 pub returns-in-Err-Memory-clause-fits : goal.returns-in-Err-Memory-clause-fits
 returns-in-Err-Memory-clause-fits c =

@@ -1,16 +1,9 @@
-use Rattle.std.proofs.Common.{◌≡◌, List, map, Vec, IfOk, subst}
+use Rattle.std.proofs.Common.{◌≡◌, map, Vec, IfOk, subst}
 use Rattle.kob_outbox.specs.Events.{stored_row}
 use Rattle.kob_outbox.specs.Reading.{later_than}
-use Rattle.kob_router.specs.Dispatches.{dispatch_of}
-use Rattle.kob_router.specs.Run.{calls_of}
-use Rattle.kob_router.specs.Tick.{state_of}
-use Rattle.kob_router.specs.declared.dispatch.Target.{Target}
 use Rattle.kob_pipeline.specs.declared.end.OutboxEnd.{OutboxEnd}
 use Rattle.kob_pipeline.specs.declared.plan.Loss.{Loss}
 use Rattle.kob_pipeline.specs.declared.plan.Service.{Service}
-use Rattle.kob_pipeline.specs.declared.plan.ServiceStep.{ServiceStep}
-use Rattle.kob_pipeline.specs.Services.{IsServiceStep}
-use Rattle.kob_pipeline.specs.Steps.{Leads, Steps, standing}
 use Rattle.kob_pipeline.specs.Workers.{IsOutboxLeft}
 use Rattle.kob_pipeline.proofs.Worked.{if_ok_three, outbox_left}
 use Rattle.kob_pipeline.proofs.service_worker.ServiceWorker.leave.Goals as goal
@@ -18,27 +11,16 @@ use Rattle.kob_pipeline.proofs.service_worker.ServiceWorker.leave.Goals as goal
 pub returns : goal.returns
 returns g c =
     let service = c.self.inside.service.now in
-    let at_first = c.in_ok-posting.posting in
     let opened = c.in_ok-posting.ensures in
     let at_last = c.run.new.self in
-    let before = c.args.line.now.calls.items in
     let now = c.run.new.line.calls.items in
-    let old = standing (state_of at_first.router at_first.outbox) before at_first.losses.items in
-    let new = standing (state_of at_last.router at_last.outbox) now at_last.losses.items in
-    let leads : Leads (Steps (IsServiceStep (dispatch_of service.target))) calls_of old service.steps.items new =
-    subst (λ (t : Target). Leads (Steps (IsServiceStep (dispatch_of t))) calls_of old service.steps.items new)
-    opened.target
-    (subst (λ (steps : List ServiceStep). Leads
-    (Steps (IsServiceStep (dispatch_of at_first.router.target))) calls_of old steps new) c.deref.ensures.value
-    c.in_ok-run.ensures) in
+    let leads = rw (c.deref.ensures.value, opened.target) at c.in_ok-run.ensures in
     subst (λ (s : Service). IfOk c.close.result (λ left. IsOutboxLeft s now left.1.items left.0)) c.self.view_is
-    (if_ok_three (λ (left : OutboxEnd × Vec Loss _). map stored_row left.0.rows.items
-    ≡ later_than 0 at_last.outbox.events) (λ (left : OutboxEnd × Vec Loss _). left.0.mark ≡ at_last.outbox.mark)
+    (if_ok_three
+    (λ (left : OutboxEnd × Vec Loss _). map stored_row left.0.rows.items ≡ later_than 0 at_last.outbox.events)
+    (λ (left : OutboxEnd × Vec Loss _). left.0.mark ≡ at_last.outbox.mark)
     (λ (left : OutboxEnd × Vec Loss _). left.1.items ≡ at_last.losses.items)
     (λ (left : OutboxEnd × Vec Loss _). IsOutboxLeft service now left.1.items left.0) c.close.result
     (λ left rows mark lost.
-    outbox_left service (state_of at_first.router at_first.outbox)
-    (state_of at_last.router at_last.outbox) before now at_first.losses.items at_last.losses.items left.1.items
-    left.0
-    opened.state c.requires.calls opened.losses lost leads rows mark)
+    outbox_left service opened.state c.requires.calls opened.losses lost leads rows mark)
     c.close.ensures.rows c.close.ensures.mark c.close.ensures.losses)

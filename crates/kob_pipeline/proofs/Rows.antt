@@ -1,0 +1,248 @@
+-- The moves of a router, one at a time: what they record, keep along a journal, and leave of the rows.
+use Rattle.std.proofs.Common.{◌≡◌, ℕ, suc, List, [], ◌∷◌, ◌++◌, Bool, true, false, refl, sym, ap, ◌∙◌, subst, length, append-nil, ◌<◌, filter, cond, arith, ◌⊎◌, ◌^◌, not, ◌&&◌, nat_lt, Option, Some, None, is_none, inl, inr, append_assoc, true≢false}
+use Rattle.std.specs.Prelude.{Option, Some, None, nat_lt}
+use Rattle.std.specs.List.{filter_map, AllByRecursion}
+use Rattle.kob_outbox.specs.Contents.{Contents, Event}
+use Rattle.kob_outbox.specs.Events.{id_text, stored_event}
+use Rattle.kob_outbox.specs.Recording.{next_seq, after_record, is_recorded}
+use Rattle.kob_router.specs.Dispatches.{Dispatching}
+use Rattle.kob_router.specs.Run.{Hand, IsRouterRun, May, Move, State, after_acknowledgement, after, calls_of, events_of, start, IsRecordable}
+use Rattle.kob_router.specs.Run.Move.{Called, Recorded, Restarted, Swept, Took}
+use Rattle.kob_router.specs.declared.line.Call.{Call}
+use Rattle.kob_shared.specs.declared.journal.Entry.{Entry}
+use Rattle.kob_pipeline.specs.Served.{AreServed, served_to}
+use Rattle.kob_pipeline.proofs.ServedRuns.{IsRun, IsServedBy, IsUnheard, added, kept_by_run}
+use Rattle.std.proofs.lemmas.Bool.{cond-true, lt-ltb, ltb-true}
+use Rattle.kob_outbox.specs.Reading.{later_than}
+use Rattle.kob_outbox.specs.Fields.{first_bad}
+use Rattle.kob_outbox.specs.declared.fields.Column.{Column}
+use Rattle.kob_outbox.specs.declared.change.Change.{Change}
+use Rattle.kob_outbox.specs.declared.event.OutboxEvent.{OutboxEvent}
+use Rattle.kob_router.specs.Tick.{IsOfTick}
+use Rattle.kob_pipeline.specs.PlanRows.{is_accepted, rows_from}
+use Rattle.kob_pipeline.specs.Services.{IsServiceStep}
+use Rattle.kob_pipeline.specs.Steps.{Steps}
+use Rattle.kob_pipeline.specs.declared.plan.Loss.{Loss}
+use Rattle.kob_pipeline.specs.declared.plan.ServiceStep.{ServiceStep}
+use Rattle.kob_pipeline.specs.declared.plan.ServiceStep.TheVariants as steps
+
+abbrev pub call_of : Move → Option Call
+call_of (Called call marks) = Some call
+call_of _ = None
+
+abbrev pub recorded : State → Move → List Event
+recorded s (Recorded change event) = stored_event (next_seq s.outbox) event ∷ []
+recorded s _ = []
+
+-- the events that moves record depend on the ids that were recorded alone
+pub same_events : (moves : List Move) (c d : Contents) → c.ids ≡ d.ids → events_of c moves ≡ events_of d moves
+same_events [] c d e = refl
+same_events (Recorded change event ∷ moves) c d e =
+    ap (λ (ids : List (List ℕ)). stored_event (suc (length ids)) event ∷ events_of (after_record c change event) moves)
+    e
+    ∙ ap (λ (es : List Event). stored_event (next_seq d) event ∷ es)
+    (same_events moves (after_record c change event) (after_record d change event)
+    (ap (λ (ids : List (List ℕ)). ids ++ id_text event.id ∷ []) e))
+same_events (_ ∷ moves) c d e = same_events moves c d e
+
+advanced_ids : (s : State) (o : Option Hand) → (after_acknowledgement s o).outbox.ids ≡ s.outbox.ids
+advanced_ids s None = refl
+advanced_ids s (Some h) = refl
+
+pub called_ids : (s : State) (call : Call) (marks : Bool) → (after s (Called call marks)).outbox.ids ≡ s.outbox.ids
+called_ids s call true = advanced_ids s s.hand
+called_ids s call false = refl
+
+-- what one move records, and then the others
+pub events_behind : (s : State) (move : Move) (moves : List Move)
+    → events_of s.outbox (move ∷ moves) ≡ recorded s move ++ events_of (after s move).outbox moves
+events_behind s (Recorded change event) moves = refl
+events_behind s Swept moves = same_events moves s.outbox (after s Swept).outbox refl
+events_behind s Restarted moves = refl
+events_behind s (Took hand) moves = refl
+events_behind s (Called call marks) moves =
+    same_events moves s.outbox (after s (Called call marks)).outbox (sym (called_ids s call marks))
+
+events_added : (moves : List Move) (s : State) → events_of s.outbox moves ≡ added after recorded s moves
+events_added [] s = refl
+events_added (move ∷ moves) s =
+    events_behind s move moves ∙ ap (λ (es : List Event). recorded s move ++ es) (events_added moves (after s move))
+
+its_calls : (moves : List Move) → calls_of moves ≡ filter_map call_of moves
+its_calls [] = refl
+its_calls (Called call marks ∷ moves) = ap (λ (cs : List Call). call ∷ cs) (its_calls moves)
+its_calls (_ ∷ moves) = its_calls moves
+
+is_run : (route : Dispatching) (moves : List Move) (s t : State) → IsRouterRun route s moves t
+    → IsRun (May route) after s moves t
+is_run route [] s t run = run
+is_run route (move ∷ moves) s t run = (run.0, is_run route moves (after s move) t run.1)
+
+-- what is kept along a journal holds at the end, of all rows
+module _ (route : Dispatching) (worker : ℕ) (K : List Event → State → List Entry → Type 0)
+    (moved : (m : Move) (rows : List Event) (s : State) (es : List Entry) → May route s m → IsUnheard (call_of m)
+    → K rows s es → K (rows ++ recorded s m) (after s m) es)
+    (served : (c : Call) (marks : Bool) (rows : List Event) (s : State) (e : Entry) (es : List Entry)
+    → May route s (Called c marks) → IsServedBy e (Some c) → e.worker ≡ worker → K rows s (e ∷ es)
+    → K rows (after s (Called c marks)) es)
+    (others : (rows : List Event) (s : State) (e : Entry) (es : List Entry) → (e.worker ≡ worker → ⊥)
+    → K rows s (e ∷ es) → K rows s es) where
+  serves : (m : Move) (rows : List Event) (s : State) (e : Entry) (es : List Entry) → May route s m
+      → IsServedBy e (call_of m) → e.worker ≡ worker → K rows s (e ∷ es) → K (rows ++ recorded s m) (after s m) es
+  serves (Called c marks) rows s e es may by own k =
+      subst (λ (rs : List Event). K rs (after s (Called c marks)) es) (sym (append-nil rows))
+      (served c marks rows s e es may by own k)
+  serves _ rows s e es may by own k = absurd by
+
+  pub kept_by_router : (moves : List Move) (final : State) (journal : List Entry) → IsRouterRun route start moves final
+      → AreServed (calls_of moves) (served_to worker journal) → K [] start journal
+      → K (events_of start.outbox moves) final []
+  kept_by_router moves final journal run a k =
+      subst (λ (rows : List Event). K rows final []) (sym (events_added moves start))
+      (kept_by_run (May route) after call_of recorded worker K moved serves others moves start final journal
+      (is_run route moves start final run)
+      (subst (λ (cs : List Call). AreServed cs (served_to worker journal)) (its_calls moves) a) k)
+
+-- ---- the numbers of an outbox's rows are positive, so that a read from 0 on gives all
+
+-- each row has a positive number
+abbrev IsNumbered : List Event → Type 0
+IsNumbered events = AllByRecursion (λ (e : Event). 0 < e.seq) events
+
+numbered_push : (events : List Event) (e : Event) → IsNumbered events → 0 < e.seq → IsNumbered (events ++ e ∷ [])
+numbered_push [] e is positive = (positive, tt)
+numbered_push (x ∷ events) e is positive = (is.0, numbered_push events e is.1 positive)
+
+kept_or_not : (b : Bool) (e : Event) (events : List Event) → 0 < e.seq → IsNumbered events
+    → IsNumbered (cond b (e ∷ events) events)
+kept_or_not true e events here is = (here, is)
+kept_or_not false e events here is = is
+
+numbered_filter : (test : Event → Bool) (events : List Event) → IsNumbered events → IsNumbered (filter test events)
+numbered_filter test [] is = tt
+numbered_filter test (e ∷ events) is =
+    kept_or_not (test e) e (filter test events) is.0 (numbered_filter test events is.1)
+
+advanced_numbered : (s : State) (hand : Option Hand) → IsNumbered s.outbox.events
+    → IsNumbered (after_acknowledgement s hand).outbox.events
+advanced_numbered s None is = is
+advanced_numbered s (Some hand) is = is
+
+called_numbered : (s : State) (call : _) (marks : Bool) → IsNumbered s.outbox.events
+    → IsNumbered (after s (Called call marks)).outbox.events
+called_numbered s call true is = advanced_numbered s s.hand is
+called_numbered s call false is = is
+
+move_numbered : (s : State) (move : Move) → IsNumbered s.outbox.events → IsNumbered (after s move).outbox.events
+move_numbered s (Recorded change event) is =
+    numbered_push s.outbox.events (stored_event (next_seq s.outbox) event) is (omega arith)
+move_numbered s Swept is = numbered_filter (λ (e : Event). nat_lt s.outbox.mark e.seq) s.outbox.events is
+move_numbered s Restarted is = is
+move_numbered s (Took hand) is = is
+move_numbered s (Called call marks) is = called_numbered s call marks is
+
+pub run_numbered : (route : Dispatching) (moves : List Move) (old new : State) → IsRouterRun route old moves new
+    → IsNumbered old.outbox.events → IsNumbered new.outbox.events
+run_numbered route [] old new run is = subst (λ (s : State). IsNumbered s.outbox.events) (sym run) is
+run_numbered route (move ∷ moves) old new run is =
+    run_numbered route moves (after old move) new run.1 (move_numbered old move is)
+
+-- none is left out
+pub all_later : (events : List Event) → IsNumbered events → later_than 0 events ≡ events
+all_later [] is = refl
+all_later (e ∷ events) is =
+    cond-true (nat_lt 0 e.seq) (e ∷ later_than 0 events) (later_than 0 events) (lt-ltb 0 e.seq is.0)
+    ∙ ap (λ (es : List Event). e ∷ es) (all_later events is.1)
+
+-- ---- the rows that a run records are those of the plan's steps that the outbox accepts
+
+-- the rows of a run and of what comes after it
+rows_split : (route : Dispatching) (s mid : State) (these those : List Move) → IsRouterRun route s these mid
+    → events_of s.outbox (these ++ those) ≡ events_of s.outbox these ++ events_of mid.outbox those
+rows_split route s mid [] those run = ap (λ (t : State). events_of t.outbox those) (sym run)
+rows_split route s mid (move ∷ these) those run =
+    events_behind s move (these ++ those)
+    ∙ ap (λ rows. recorded s move ++ rows) (rows_split route (after s move) mid these those run.1)
+    ∙ sym (append_assoc (recorded s move) (events_of (after s move).outbox these) (events_of mid.outbox those))
+    ∙ ap (λ rows. rows ++ events_of mid.outbox those) (sym (events_behind s move these))
+
+-- a tick records nothing
+none_by_tick : (c : Contents) (moves : List Move) → AllByRecursion IsOfTick moves → events_of c moves ≡ []
+none_by_tick c [] own = refl
+none_by_tick c (Took hand ∷ moves) own = none_by_tick c moves own.1
+none_by_tick c (Called call marks ∷ moves) own = none_by_tick c moves own.1
+none_by_tick c (_ ∷ moves) own = absurd own.0
+
+ids_by_tick : (route : Dispatching) (s new : State) (moves : List Move) → AllByRecursion IsOfTick moves
+    → IsRouterRun route s moves new → new.outbox.ids ≡ s.outbox.ids
+ids_by_tick route s new [] own run = ap (λ (t : State). t.outbox.ids) run
+ids_by_tick route s new (Took hand ∷ moves) own run = ids_by_tick route (after s (Took hand)) new moves own.1 run.1
+ids_by_tick route s new (Called call marks ∷ moves) own run =
+    ids_by_tick route (after s (Called call marks)) new moves own.1 run.1 ∙ called_ids s call marks
+ids_by_tick route s new (_ ∷ moves) own run = absurd own.0
+
+-- what an outbox accepts is what may be recorded
+accepted : (c : Contents) (change : Change) (event : OutboxEvent) → IsRecordable c change event
+    → is_accepted c.ids change event ≡ true
+accepted c change event may =
+    ap (λ bad. is_none bad && (not (is_recorded c.ids (id_text event.id)) && nat_lt (suc (length c.ids)) (2 ^ 63)))
+    may.fits
+    ∙ ap (λ spent. not spent && nat_lt (suc (length c.ids)) (2 ^ 63)) may.fresh
+    ∙ lt-ltb (suc (length c.ids)) (2 ^ 63) may.room
+
+may_record : (c : Contents) (change : Change) (event : OutboxEvent) → is_accepted c.ids change event ≡ true
+    → IsRecordable c change event
+may_record c change event is = by (first_bad change event) (is_recorded c.ids (id_text event.id))
+    (nat_lt (suc (length c.ids)) (2 ^ 63)) refl refl refl is
+  where
+    by : (bad : Option Column) (spent room : Bool) → first_bad change event ≡ bad
+        → is_recorded c.ids (id_text event.id) ≡ spent
+        → nat_lt (suc (length c.ids)) (2 ^ 63) ≡ room → is_none bad && (not spent && room) ≡ true
+        → IsRecordable c change event
+    by None false true fits fresh room all =
+        record { fits = fits; fresh = fresh; room = ltb-true (suc (length c.ids)) (2 ^ 63) room }
+    by None false false fits fresh room all = absurd (true≢false (sym all))
+    by None true room fits fresh is' all = absurd (true≢false (sym all))
+    by (Some column) spent room fits fresh is' all = absurd (true≢false (sym all))
+
+-- what is not recorded although it might be
+not_accepted : (c : Contents) (change : Change) (event : OutboxEvent) (accepts : Bool) → is_accepted c.ids change event
+    ≡ accepts
+    → (IsRecordable c change event → ⊥) → is_accepted c.ids change event ≡ false
+not_accepted c change event true is never = absurd (never (may_record c change event is))
+not_accepted c change event false is never = is
+
+module _ (route : Dispatching) where
+  -- one step, and the rows of the steps after it
+  of_step : (s mid : State) (step : ServiceStep) (more : List ServiceStep) (these : List Move) (losses : List Loss)
+      → IsServiceStep route s step these losses mid
+      → events_of s.outbox these ++ rows_from mid.outbox.ids more ≡ rows_from s.outbox.ids (step ∷ more)
+  of_step s mid (steps.Record change event) more these losses does = by does.own.0
+    where
+      by : (these ≡ Recorded change event ∷ []) ⊎ ((these ≡ []) × (IsRecordable s.outbox change event → ⊥))
+          → events_of s.outbox these ++ rows_from mid.outbox.ids more
+          ≡ rows_from s.outbox.ids (steps.Record change event ∷ more)
+      by (inl is) =
+          let run : IsRouterRun route s (Recorded change event ∷ []) mid = rw is at does.run in
+          rw (is, run.1, accepted s.outbox change event run.0) refl
+      by (inr is) =
+          let run : IsRouterRun route s [] mid = rw is.0 at does.run in
+          rw (is.0, run, not_accepted s.outbox change event (is_accepted s.outbox.ids change event) refl is.1) refl
+  of_step s mid (steps.Tick loss) more these losses does =
+      ap (λ rows. rows ++ rows_from mid.outbox.ids more) (none_by_tick s.outbox these does.own.own)
+      ∙ ap (λ ids. rows_from ids more) (ids_by_tick route s mid these does.own.own does.run)
+  of_step s mid steps.Restart more these losses does =
+      let run : IsRouterRun route s (Restarted ∷ []) mid = rw does.own.0 at does.run in rw (does.own.0, run.1) refl
+  of_step s mid steps.Sweep more these losses does =
+      let run : IsRouterRun route s (Swept ∷ []) mid = rw does.own.0 at does.run in rw (does.own.0, run.1) refl
+
+  -- the moves of a service's steps record the rows of its plan
+  pub rows_of_steps : (s new : State) (plan : List ServiceStep) (moves : List Move) (losses : List Loss)
+      → Steps (IsServiceStep route) s plan moves losses new
+      → events_of s.outbox moves ≡ rows_from s.outbox.ids plan
+  rows_of_steps s new [] moves losses all = ap (events_of s.outbox) all.0
+  rows_of_steps s new (step ∷ plan) moves losses (mid, these, those, first, rest, does, later, made, lost) =
+      ap (events_of s.outbox) made
+      ∙ rows_split route s mid these those does.run
+      ∙ ap (λ rows. events_of s.outbox these ++ rows) (rows_of_steps mid new plan those rest later)
+      ∙ of_step s mid step plan these first does
