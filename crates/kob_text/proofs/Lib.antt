@@ -1,3 +1,4 @@
+pub mod Ends
 pub mod InputLines
 pub mod Interrupted
 pub mod Outputs

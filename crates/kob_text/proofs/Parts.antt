@@ -4,7 +4,7 @@ use Rattle.std.proofs.lemmas.List.{take-append-le}
 use Rattle.std.proofs.Math.Seq.{take-append-add}
 use Rattle.std.proofs.KnownBytes.{Appends-nil, Appends-trans}
 use Rattle.std.specs.Io.KnownBytes.{Appends}
-use Rattle.kob_text.specs.Transfer.{AppendsFront, AppendsPart, AppendsAllBut}
+use Rattle.kob_text.specs.Transfer.{AppendsPart, AppendsAllBut}
 
 -- a part of what follows is a part of the whole
 pub part_after : (a b c : Option (List ℕ)) (written more : List ℕ) → Appends a b written → AppendsPart b c more
@@ -25,9 +25,6 @@ part_of_front a b front more (count, fewer, wrote) =
       omega (arith, length-append front more, fewer),
       subst (Appends a b) (sym (take-append-le count front more within)) wrote,
     )
-
-pub front_of_part : (a b : Option (List ℕ)) (text : List ℕ) → AppendsPart a b text → AppendsFront a b text
-front_of_part a b text (count, fewer, wrote) = (count, wrote)
 
 pub all_held : (a : Option (List ℕ)) (text held : List ℕ) → held ≡ text → AppendsAllBut a a text held
 all_held a text held is = ([], sym is, Appends-nil a)

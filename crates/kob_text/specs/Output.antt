@@ -1,12 +1,18 @@
 -- What a run writes for a script.
-use Rattle.std.specs.Io.KnownBytes.{Appends}
-use Rattle.std.specs.Prelude.{◌≡◌, ◌<◌, ◌++◌, ℕ, List, length, take, Option, Result, Ok, Err}
+use Rattle.std.specs.Io.KnownBytes.{Appends, Keeps}
+use Rattle.std.specs.Prelude.{◌≡◌, ◌<◌, ◌≤◌, ◌++◌, ℕ, List, length, take, Option, Result, Ok, Err, IfSome}
 use Rattle.kob_broker.specs.State.{open_state}
 use Rattle.kob_broker.specs.Step.{replies_of}
 use Rattle.kob_names.specs.declared.settings.Settings.{Settings}
 use Rattle.kob_partition.specs.Retained.{plain_meaning}
 use Rattle.kob_rights.specs.declared.event.Event.{Event}
 use Rattle.kob_rights.specs.declared.reply.Reply.{Reply}
+use Rattle.kob_text.specs.Limits.{script_limit}
+use Rattle.kob_text.specs.Transfer.{AppendsPart}
+use Rattle.kob_text.specs.declared.fault.OutputFault.{OutputFault}
+use Rattle.kob_text.specs.declared.fault.OutputFault.TheVariants as output
+use Rattle.kob_text.specs.declared.fault.RunFault.{RunFault}
+use Rattle.kob_text.specs.declared.fault.RunFault.TheVariants as run
 use Rattle.kob_text.specs.declared.output.Ended.{Ended}
 use Rattle.kob_text.specs.declared.output.Ended.TheVariants.{Clean, Fault, Stopped}
 use Rattle.kob_script.specs.declared.fault.Fault as fault
@@ -43,3 +49,34 @@ HasReading bytes P = (read : Result Script fault.Fault) × ReadsAs bytes read ×
 -- What was written is an output for what was read, by how the run ended.
 abbrev pub Writes : Result Script fault.Fault → Ended → Option (List ℕ) → Option (List ℕ) → Type 0
 Writes read ended old new = (text : List ℕ) × IsOutput read ended text × Appends old new text
+
+-- after a failed write a part of an output was written, and nothing where memory was out
+abbrev pub IsWritten : Result Script fault.Fault → Option (List ℕ) → Option (List ℕ)
+    → Result Ended OutputFault → Type 0
+IsWritten read old new (Ok ended) = Writes read ended old new
+IsWritten read old new (Err (output.WriteFailed failed)) = HasOutput read (AppendsPart old new)
+IsWritten read old new (Err output.Memory) = Keeps old new
+
+-- the same for what bytes may be read as
+abbrev pub IsWrittenOf : List ℕ → Option (List ℕ) → Option (List ℕ) → Result Ended OutputFault
+    → Type 0
+IsWrittenOf bytes old new (Ok ended) =
+    HasReading bytes (λ read. IsWritten read old new (Ok ended))
+IsWrittenOf bytes old new (Err (output.WriteFailed failed)) =
+    HasReading bytes (λ read. HasOutput read (AppendsPart old new))
+IsWrittenOf bytes old new (Err output.Memory) = Keeps old new
+
+-- How a run ended on the bytes that its reader had left, as far as they are known, and what was
+-- written by then: the output, or a part of it after a failed write, or else nothing.
+abbrev pub IsEnd : Option (List ℕ) → Option (List ℕ) → Option (List ℕ) → Result Ended RunFault
+    → Type 0
+IsEnd input old new (Ok ended) =
+    IfSome input (λ bytes. (length bytes ≤ script_limit)
+    × HasReading bytes (λ read. Writes read ended old new))
+IsEnd input old new (Err run.WriteFailed) =
+    IfSome input (λ bytes. (length bytes ≤ script_limit)
+    × HasReading bytes (λ read. HasOutput read (AppendsPart old new)))
+IsEnd input old new (Err run.TooLong) =
+    IfSome input (λ bytes. script_limit < length bytes) × Keeps old new
+IsEnd input old new (Err run.ReadFailed) = Keeps old new
+IsEnd input old new (Err run.Memory) = Keeps old new

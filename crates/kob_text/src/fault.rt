@@ -1,7 +1,7 @@
 //! Why a run gave no whole output.
 
-use crate::sink::WriteFailed;
 use crate::source::ReadFailed;
+use crate::writing::WriteFailed;
 use std::alloc::{AllocError, AllocFailed};
 use thiserror::Error;
 
@@ -18,78 +18,79 @@ pub enum RunFault {
     Memory,
 }
 
-/// What kept the output of a script that was read from being written.
+/// What kept a script from being read.
 #[derive(Clone, Copy, Debug, PartialEq, Eq)]
-pub enum OutputFault {
-    WriteFailed,
+pub enum InputFault {
+    ReadFailed(ReadFailed),
+    TooLong,
     Memory,
 }
 
-impl From<AllocError> for RunFault {
-    ghost use Rattle.std.specs.Prelude.{◌≡◌};
-    ghost use Rattle.kob_text.specs.declared.fault.RunFault.TheVariants.{Memory};
-
-    ghost from_gives = { λ _ fault. fault ≡ Memory };
-
-    fn from(_error: AllocError) -> RunFault {
-        RunFault::Memory
-    }
+/// What kept the output of a script that was read from being written.
+#[derive(Clone, Copy, Debug, PartialEq, Eq)]
+pub enum OutputFault {
+    WriteFailed(WriteFailed),
+    Memory,
 }
 
-impl<T: Drop> From<AllocFailed<T>> for RunFault {
+impl From<InputFault> for RunFault {
     ghost use Rattle.std.specs.Prelude.{◌≡◌};
-    ghost use Rattle.kob_text.specs.declared.fault.RunFault.TheVariants.{Memory};
+    ghost use Rattle.kob_text.specs.Faults.{unread};
 
-    ghost from_gives = { λ _ fault. fault ≡ Memory };
+    ghost from_gives = { λ input fault. fault ≡ unread input };
 
-    fn from(_error: AllocFailed<T>) -> RunFault {
-        RunFault::Memory
-    }
-}
-
-impl From<ReadFailed> for RunFault {
-    ghost use Rattle.std.specs.Prelude.{◌≡◌};
-    ghost use Rattle.kob_text.specs.declared.fault.RunFault.TheVariants as variant;
-
-    ghost from_gives = { λ _ fault. fault ≡ variant.ReadFailed };
-
-    fn from(_failed: ReadFailed) -> RunFault {
-        RunFault::ReadFailed
+    fn from(fault: InputFault) -> RunFault {
+        match fault {
+            InputFault::ReadFailed(_) => RunFault::ReadFailed,
+            InputFault::TooLong => RunFault::TooLong,
+            InputFault::Memory => RunFault::Memory,
+        }
     }
 }
 
 impl From<OutputFault> for RunFault {
     ghost use Rattle.std.specs.Prelude.{◌≡◌};
-    ghost use Rattle.kob_text.specs.Faults.{run_fault};
+    ghost use Rattle.kob_text.specs.Faults.{unwritten};
 
-    ghost from_gives = { λ output fault. fault ≡ run_fault output };
+    ghost from_gives = { λ output fault. fault ≡ unwritten output };
 
     fn from(fault: OutputFault) -> RunFault {
         match fault {
-            OutputFault::WriteFailed => RunFault::WriteFailed,
+            OutputFault::WriteFailed(_) => RunFault::WriteFailed,
             OutputFault::Memory => RunFault::Memory,
         }
     }
 }
 
-impl From<AllocError> for OutputFault {
+impl From<AllocError> for InputFault {
     ghost use Rattle.std.specs.Prelude.{◌≡◌};
-    ghost use Rattle.kob_text.specs.declared.fault.OutputFault.TheVariants.{Memory};
+    ghost use Rattle.kob_text.specs.declared.fault.InputFault.TheVariants.{Memory};
 
     ghost from_gives = { λ _ fault. fault ≡ Memory };
 
-    fn from(_error: AllocError) -> OutputFault {
-        OutputFault::Memory
+    fn from(_error: AllocError) -> InputFault {
+        InputFault::Memory
     }
 }
 
-impl From<WriteFailed> for OutputFault {
+impl<T: Drop> From<AllocFailed<T>> for InputFault {
     ghost use Rattle.std.specs.Prelude.{◌≡◌};
-    ghost use Rattle.kob_text.specs.declared.fault.OutputFault.TheVariants as variant;
+    ghost use Rattle.kob_text.specs.declared.fault.InputFault.TheVariants.{Memory};
 
-    ghost from_gives = { λ _ fault. fault ≡ variant.WriteFailed };
+    ghost from_gives = { λ _ fault. fault ≡ Memory };
 
-    fn from(_failed: WriteFailed) -> OutputFault {
-        OutputFault::WriteFailed
+    fn from(_error: AllocFailed<T>) -> InputFault {
+        InputFault::Memory
+    }
+}
+
+impl From<ReadFailed> for InputFault {
+    ghost use Rattle.std.specs.Prelude.{◌≡◌};
+    ghost use Rattle.kob_text.specs.declared.fault.InputFault.TheVariants as variant;
+
+    ghost from_gives = { λ failed fault. fault ≡ variant.ReadFailed failed };
+
+    fn from(failed: ReadFailed) -> InputFault {
+        InputFault::ReadFailed(failed)
     }
 }

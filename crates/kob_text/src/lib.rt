@@ -8,9 +8,9 @@ mod output;
 mod pieces;
 mod replies;
 mod run;
-mod sink;
 mod source;
 mod transfer;
+mod writing;
 
 pub use fault::RunFault;
 pub use limits::{READ_LIMIT, SCRIPT_LIMIT};

@@ -1,19 +1,14 @@
 //! What a run writes for a script.
 
 ghost use Rattle.std.specs.List.{concat};
-ghost use Rattle.std.specs.Prelude.{◌≡◌, ◌≤◌, Err, length, true, IfOk, IsErrOf};
-ghost use Rattle.std.specs.Io.KnownBytes.{Keeps};
+ghost use Rattle.std.specs.Prelude.{◌≤◌, Err, length};
 ghost use Rattle.kob_text.specs.Limits.{script_limit};
-ghost use Rattle.kob_text.specs.Output.{HasOutput, HasReading, Writes};
-ghost use Rattle.kob_text.specs.Transfer.{AppendsPart};
+ghost use Rattle.kob_text.specs.Output.{IsWritten, IsWrittenOf};
 ghost use Rattle.kob_script.specs.Blocks.{AreWholeLines};
-ghost use Rattle.kob_script.specs.Script.{script_of};
-ghost use Rattle.kob_script.specs.ScriptReadings.{HasNoAclLine};
 
 use crate::fault::OutputFault;
 use crate::replies::write_run;
-use crate::sink::Sink;
-use crate::transfer::write_all;
+use crate::writing::write_all;
 use kob_names::Bytes;
 use kob_script::{Fault, ScriptError, check_script, print_fault};
 use std::alloc::Global;
@@ -34,50 +29,30 @@ pub enum Ended {
 /// request.
 pub fn write_output<W: Write>(
     alloc: Global,
-    sink: &mut Sink<'_, W>,
+    writer: &mut W,
     blocks: Vec<Bytes>,
 ) -> Result<Ended, OutputFault>
     requires whole { AreWholeLines blocks.items }
     requires short { length (concat blocks.items) ≤ script_limit }
-    ensures same_reference { sink.new.writer.ghost_name ≡ sink.old.writer.ghost_name }
-    ensures any { IfOk result (λ ended. HasReading (concat blocks.items) (λ read. Writes read ended
-        (W.contents sink.old.writer.now) (W.contents sink.new.writer.now))) }
-    ensures plain { IfOk result (λ ended. HasNoAclLine (concat blocks.items)
-        → Writes (script_of (concat blocks.items)) ended
-        (W.contents sink.old.writer.now) (W.contents sink.new.writer.now)) }
-    ensures part_any { IsErrOf result OutputFault.WriteFailed
-        → HasReading (concat blocks.items) (λ read. HasOutput read
-        (AppendsPart (W.contents sink.old.writer.now) (W.contents sink.new.writer.now))) }
-    ensures part { IsErrOf result OutputFault.WriteFailed → HasNoAclLine (concat blocks.items)
-        → HasOutput (script_of (concat blocks.items))
-        (AppendsPart (W.contents sink.old.writer.now) (W.contents sink.new.writer.now)) }
-    ensures memory { IsErrOf result OutputFault.Memory
-        → Keeps (W.contents sink.old.writer.now) (W.contents sink.new.writer.now) }
-    ensures failed { IsErrOf result OutputFault.WriteFailed → sink.new.failed ≡ true }
+    ensures { IsWrittenOf (concat blocks.items) (W.contents writer.old) (W.contents writer.new)
+        result }
 {
     match check_script(alloc, blocks) {
-        Ok(script) => write_run(alloc, sink, script),
+        Ok(script) => write_run(alloc, writer, script),
         Err(ScriptError::Memory) => Err(OutputFault::Memory),
-        Err(ScriptError::Fault(fault)) => write_fault(alloc, sink, fault),
+        Err(ScriptError::Fault(fault)) => write_fault(alloc, writer, fault),
     }
 }
 
-fn write_fault<W: Write>(
-    alloc: Global,
-    sink: &mut Sink<'_, W>,
-    fault: Fault,
-) -> Result<Ended, OutputFault>
-    ensures same_reference { sink.new.writer.ghost_name ≡ sink.old.writer.ghost_name }
-    ensures output { IfOk result (λ ended. Writes (Err fault) ended
-        (W.contents sink.old.writer.now) (W.contents sink.new.writer.now)) }
-    ensures part { IsErrOf result OutputFault.WriteFailed → HasOutput (Err fault)
-        (AppendsPart (W.contents sink.old.writer.now) (W.contents sink.new.writer.now)) }
-    ensures memory { IsErrOf result OutputFault.Memory
-        → Keeps (W.contents sink.old.writer.now) (W.contents sink.new.writer.now) }
-    ensures failed { IsErrOf result OutputFault.WriteFailed → sink.new.failed ≡ true }
+fn write_fault<W: Write>(alloc: Global, writer: &mut W, fault: Fault) -> Result<Ended, OutputFault>
+    ensures { IsWritten (Err fault) (W.contents writer.old) (W.contents writer.new) result }
 {
     let mut text = Vec::new(alloc);
-    print_fault(&mut text, fault)?;
-    write_all(sink, &text)?;
-    Ok(Ended::Fault)
+    if print_fault(&mut text, fault).is_err() {
+        return Err(OutputFault::Memory);
+    }
+    match write_all(writer, &text) {
+        Ok(()) => Ok(Ended::Fault),
+        Err(failed) => Err(OutputFault::WriteFailed(failed)),
+    }
 }

@@ -1,45 +1,37 @@
 //! Writing in pieces: texts are held until there are 65,536 bytes of them.
 
 ghost use Rattle.std.specs.Prelude.{◌≡◌, ◌≤◌, ◌++◌, vec_len, vec_capacity};
-ghost use Rattle.std.specs.Prelude.{OnOk, OnErr, true};
+ghost use Rattle.std.specs.Prelude.{OnOk, OnErr};
 ghost use Rattle.std.specs.Io.KnownBytes.{Appends};
 ghost use Rattle.kob_script.specs.PrintedReply.{stopped_text};
 ghost use Rattle.kob_text.specs.Limits.{piece_limit};
 ghost use Rattle.kob_text.specs.Transfer.{AppendsPart, AppendsAllBut};
 
 use crate::limits::PIECE_LIMIT;
-use crate::sink::{Sink, WriteFailed};
-use crate::transfer::write_all;
+use crate::writing::{WriteFailed, write_all};
 use itoa::Buffer;
 use std::io::Write;
 
 /// Puts a text behind what is held. Where there would be more than 65,536 bytes, what is held is
 /// written first, and the text too where it alone is longer. No memory is taken.
-pub fn put<W: Write>(
-    sink: &mut Sink<'_, W>,
-    held: &mut Vec<u8>,
-    text: &[u8],
-) -> Result<(), WriteFailed>
+pub fn put<W: Write>(writer: &mut W, held: &mut Vec<u8>, text: &[u8]) -> Result<(), WriteFailed>
     requires piece { vec_len held.old ≤ piece_limit }
     requires room { piece_limit ≤ vec_capacity held.old }
     ensures piece { vec_len held.new ≤ piece_limit }
     ensures room { piece_limit ≤ vec_capacity held.new }
-    ensures same_reference { sink.new.writer.ghost_name ≡ sink.old.writer.ghost_name }
-    ensures put { OnOk result (AppendsAllBut (W.contents sink.old.writer.now)
-        (W.contents sink.new.writer.now) (held.old.items ++ text.now) held.new.items) }
-    ensures part { OnErr result (AppendsPart (W.contents sink.old.writer.now)
-        (W.contents sink.new.writer.now) (held.old.items ++ text.now)) }
-    ensures sound { OnOk result (sink.new.failed ≡ sink.old.failed) }
-    ensures failed { OnErr result (sink.new.failed ≡ true) }
+    ensures put { OnOk result (AppendsAllBut (W.contents writer.old)
+        (W.contents writer.new) (held.old.items ++ text.now) held.new.items) }
+    ensures part { OnErr result (AppendsPart (W.contents writer.old)
+        (W.contents writer.new) (held.old.items ++ text.now)) }
 {
     if text.len() <= PIECE_LIMIT - held.len() {
         held.extend_from_slice(text).unwrap();
         return Ok(());
     }
-    write_all(sink, held)?;
+    write_all(writer, held)?;
     held.clear();
     if text.len() > PIECE_LIMIT {
-        return write_all(sink, text);
+        return write_all(writer, text);
     }
     held.extend_from_slice(text).unwrap();
     Ok(())
@@ -47,22 +39,20 @@ pub fn put<W: Write>(
 
 /// Writes what is held, and then the line `stopped after DONE` with its line feed.
 pub fn write_stopped<W: Write>(
-    sink: &mut Sink<'_, W>,
+    writer: &mut W,
     held: &mut Vec<u8>,
     done: u64,
 ) -> Result<(), WriteFailed>
     requires piece { vec_len held.old ≤ piece_limit }
     requires room { piece_limit ≤ vec_capacity held.old }
-    ensures same_reference { sink.new.writer.ghost_name ≡ sink.old.writer.ghost_name }
-    ensures whole { OnOk result (Appends (W.contents sink.old.writer.now)
-        (W.contents sink.new.writer.now) (held.old.items ++ stopped_text done)) }
-    ensures part { OnErr result (AppendsPart (W.contents sink.old.writer.now)
-        (W.contents sink.new.writer.now) (held.old.items ++ stopped_text done)) }
-    ensures failed { OnErr result (sink.new.failed ≡ true) }
+    ensures whole { OnOk result (Appends (W.contents writer.old)
+        (W.contents writer.new) (held.old.items ++ stopped_text done)) }
+    ensures part { OnErr result (AppendsPart (W.contents writer.old)
+        (W.contents writer.new) (held.old.items ++ stopped_text done)) }
 {
     let mut digits = Buffer::new();
-    put(sink, held, b"stopped after ")?;
-    put(sink, held, digits.format(done).as_bytes())?;
-    put(sink, held, b"\n")?;
-    write_all(sink, held)
+    put(writer, held, b"stopped after ")?;
+    put(writer, held, digits.format(done).as_bytes())?;
+    put(writer, held, b"\n")?;
+    write_all(writer, held)
 }

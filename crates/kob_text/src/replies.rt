@@ -1,9 +1,8 @@
 //! The replies to a script, served, printed and written one after another.
 
-ghost use Rattle.std.specs.Prelude.{◌≡◌, ◌<◌, ◌≤◌, List, [], ◌∷◌, Ok, length, true};
+ghost use Rattle.std.specs.Prelude.{◌≡◌, ◌<◌, ◌≤◌, List, [], ◌∷◌, Ok, length};
 ghost use Rattle.std.specs.Prelude.{vec_len, vec_capacity};
-ghost use Rattle.std.specs.Prelude.{IfOk, OnOk, OnErr, IsErrOf};
-ghost use Rattle.std.specs.Io.KnownBytes.{Keeps};
+ghost use Rattle.std.specs.Prelude.{IfOk, OnOk, OnErr};
 ghost use Rattle.kob_broker.specs.Change.{state_of};
 ghost use Rattle.kob_broker.specs.Step.{step, replies_of};
 ghost use Rattle.kob_partition.specs.Retained.{retained_meaning};
@@ -11,16 +10,14 @@ ghost use Rattle.kob_rights.specs.declared.event.Event as event;
 ghost use Rattle.kob_script.specs.Checks.{checked};
 ghost use Rattle.kob_script.specs.PrintedReply.{reply_text};
 ghost use Rattle.kob_text.specs.Limits.{piece_limit};
-ghost use Rattle.kob_text.specs.Output.{HasOutput, Writes, replies_to};
+ghost use Rattle.kob_text.specs.Output.{IsWritten, replies_to};
 ghost use Rattle.kob_text.specs.Runs.{WritesRun, WritesPartOfRun, replies_from};
-ghost use Rattle.kob_text.specs.Transfer.{AppendsPart};
 
 use crate::fault::OutputFault;
 use crate::limits::PIECE_LIMIT;
 use crate::output::Ended;
 use crate::pieces::{put, write_stopped};
-use crate::sink::{Sink, WriteFailed};
-use crate::transfer::write_all;
+use crate::writing::{WriteFailed, write_all};
 use kob_broker::{Broker, OpenFault};
 use kob_names::Settings;
 use kob_rights::Event;
@@ -82,7 +79,7 @@ fn print_next(
 /// doesn't keep of it is freed before the next. Lack of memory ends the run as `Stopped`.
 fn write_replies<W: Write>(
     alloc: Global,
-    sink: &mut Sink<'_, W>,
+    writer: &mut W,
     held: &mut Vec<u8>,
     broker: &mut Broker,
     mut requests: Requests,
@@ -90,71 +87,60 @@ fn write_replies<W: Write>(
     requires none { held.old.items ≡ [] }
     requires piece { vec_len held.old ≤ piece_limit }
     requires room { piece_limit ≤ vec_capacity held.old }
-    ensures same_reference { sink.new.writer.ghost_name ≡ sink.old.writer.ghost_name }
     ensures output { IfOk result (λ ended. WritesRun (replies_from (state_of broker.old))
-        requests ended (W.contents sink.old.writer.now) (W.contents sink.new.writer.now)) }
+        requests ended (W.contents writer.old) (W.contents writer.new)) }
     ensures part { OnErr result (WritesPartOfRun (replies_from (state_of broker.old)) requests
-        (W.contents sink.old.writer.now) (W.contents sink.new.writer.now)) }
-    ensures failed { OnErr result (sink.new.failed ≡ true) }
+        (W.contents writer.old) (W.contents writer.new)) }
 {
     let mut text = Vec::new(alloc);
     for done in 0..requests.len() {
         if print_next(alloc, broker, &mut requests, done + 1, &mut text).is_err() {
-            write_stopped(sink, held, done)?;
+            write_stopped(writer, held, done)?;
             return Ok(Ended::Stopped);
         }
-        put(sink, held, &text)?;
+        put(writer, held, &text)?;
     }
-    write_all(sink, held)?;
+    write_all(writer, held)?;
     Ok(Ended::Clean)
 }
 
-// What is dear to drop goes by a `drop` of its own: a proof takes it apart anew at each early return.
+// What is dear to drop goes by a `drop` of its own: a proof takes it apart anew at each return.
 fn write_served<W: Write>(
     alloc: Global,
-    sink: &mut Sink<'_, W>,
+    writer: &mut W,
     held: &mut Vec<u8>,
     script: CheckedScript,
 ) -> Result<Ended, OutputFault>
     requires none { held.old.items ≡ [] }
     requires piece { vec_len held.old ≤ piece_limit }
     requires room { piece_limit ≤ vec_capacity held.old }
-    ensures same_reference { sink.new.writer.ghost_name ≡ sink.old.writer.ghost_name }
-    ensures output { IfOk result (λ ended. Writes (Ok (checked script)) ended
-        (W.contents sink.old.writer.now) (W.contents sink.new.writer.now)) }
-    ensures part { IsErrOf result OutputFault.WriteFailed → HasOutput (Ok (checked script))
-        (AppendsPart (W.contents sink.old.writer.now) (W.contents sink.new.writer.now)) }
-    ensures memory { IsErrOf result OutputFault.Memory
-        → Keeps (W.contents sink.old.writer.now) (W.contents sink.new.writer.now) }
-    ensures failed { IsErrOf result OutputFault.WriteFailed → sink.new.failed ≡ true }
+    ensures { IsWritten (Ok (checked script)) (W.contents writer.old) (W.contents writer.new) result }
 {
     let CheckedScript { settings, requests } = script;
-    let mut broker = broker_by(alloc, settings)?;
-    let written = write_replies(alloc, sink, held, &mut broker, requests);
+    let Ok(mut broker) = broker_by(alloc, settings) else {
+        drop(requests);
+        return Err(OutputFault::Memory);
+    };
+    let written = write_replies(alloc, writer, held, &mut broker, requests);
     drop(broker);
-    let ended = written?;
-    Ok(ended)
+    match written {
+        Ok(ended) => Ok(ended),
+        Err(failed) => Err(OutputFault::WriteFailed(failed)),
+    }
 }
 
 /// Serves a script and writes its output. `Memory` comes before the first request alone.
 pub fn write_run<W: Write>(
     alloc: Global,
-    sink: &mut Sink<'_, W>,
+    writer: &mut W,
     script: CheckedScript,
 ) -> Result<Ended, OutputFault>
-    ensures same_reference { sink.new.writer.ghost_name ≡ sink.old.writer.ghost_name }
-    ensures output { IfOk result (λ ended. Writes (Ok (checked script)) ended
-        (W.contents sink.old.writer.now) (W.contents sink.new.writer.now)) }
-    ensures part { IsErrOf result OutputFault.WriteFailed → HasOutput (Ok (checked script))
-        (AppendsPart (W.contents sink.old.writer.now) (W.contents sink.new.writer.now)) }
-    ensures memory { IsErrOf result OutputFault.Memory
-        → Keeps (W.contents sink.old.writer.now) (W.contents sink.new.writer.now) }
-    ensures failed { IsErrOf result OutputFault.WriteFailed → sink.new.failed ≡ true }
+    ensures { IsWritten (Ok (checked script)) (W.contents writer.old) (W.contents writer.new) result }
 {
     let Ok(held) = Vec::with_capacity(alloc, PIECE_LIMIT) else {
         drop(script);
         return Err(OutputFault::Memory);
     };
     let mut held = held;
-    write_served(alloc, sink, &mut held, script)
+    write_served(alloc, writer, &mut held, script)
 }

@@ -9,7 +9,6 @@ use Rattle.kob_text.proofs.replies.write_replies.Goals as goal
 
 pub loop-done-init : goal.loop-done-init
 loop-done-init g c = record {
-  same_reference = search rules;
   piece = search rules;
   room = search rules;
   left = refl;
@@ -55,7 +54,6 @@ loop-done-preserved g c =
     let (few, at, others) =
     next_left c.args.requests _ _ c.loop-done.done event c.loop-done.invariant.left split in
     record {
-      same_reference = search rules;
       piece = search rules;
       room = search rules;
       left = others;

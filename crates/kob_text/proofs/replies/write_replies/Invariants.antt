@@ -11,14 +11,12 @@ use Rattle.kob_text.proofs.replies.write_replies.Given as goal
 
 abbrev pub invariant-loop-done : goal.invariant-loop-done
 invariant-loop-done g l = record {
-  same_reference : l.sink.writer.ghost_name ≡ l.initial.sink.writer.ghost_name;
   piece : vec_len l.held ≤ piece_limit;
   room : piece_limit ≤ vec_capacity l.held;
   left : l.requests ≡ drop l.done l.fn.requests;
   count : l.done-end ≡ length l.fn.requests;
   state : state_of l.broker
       ≡ state_after retained_meaning (take l.done l.fn.requests) (state_of l.initial.broker);
-  written : AppendsAllBut (g.W.Write.contents l.initial.sink.writer.now)
-      (g.W.Write.contents l.sink.writer.now)
+  written : AppendsAllBut (g.W.Write.contents l.initial.writer) (g.W.Write.contents l.writer)
       (text_of_replies (replies_from (state_of l.initial.broker) (take l.done l.fn.requests))) l.held.items;
 }

@@ -35,7 +35,6 @@ loop-input-preserved g c =
     record {
       within = omega (arith, long, grown, length-append read piece, c.loop-input.invariant.within, c.if-left-count.false);
       lines = c.in_ok-push.ensures.lines c.loop-input.invariant.lines;
-      sound = c.in_ok-count.ensures.sound ∙ c.loop-input.invariant.sound;
       read = rw c.in_ok-push.ensures.bytes
           (Consumes-trans _ _ _ read piece c.loop-input.invariant.read c.in_ok-count.ensures.bytes);
     }

@@ -9,7 +9,6 @@ abbrev pub invariant-loop-input : goal.invariant-loop-input
 invariant-loop-input g l = record {
   within : l.left + length (bytes_in l.input) ≡ script_limit;
   lines : EndLines l.input.blocks.items;
-  sound : l.source.failed ≡ l.initial.source.failed;
   read : Consumes (g.R.Read.remaining l.initial.source.reader.now)
       (g.R.Read.remaining l.source.reader.now) (bytes_in l.input);
 }

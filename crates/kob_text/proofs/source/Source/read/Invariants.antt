@@ -1,12 +1,11 @@
 -- The calls so far were interrupted, and gave nothing.
-use Rattle.std.proofs.Common.{◌≡◌, ◌≤◌}
+use Rattle.std.proofs.Common.{◌≤◌}
 use Rattle.std.specs.Io.KnownBytes.{Keeps}
 use Rattle.kob_text.proofs.source.Source.read.Given as goal
 
 abbrev pub invariant-loop-self : goal.invariant-loop-self
 invariant-loop-self g l = record {
   fewer : l.self.calls_left ≤ l.initial.self.calls_left;
-  sound : l.self.failed ≡ l.initial.self.failed;
   kept : Keeps (g.R.Read.remaining l.initial.self.reader.now) (g.R.Read.remaining l.self.reader.now);
 }
 

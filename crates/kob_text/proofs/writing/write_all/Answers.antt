@@ -5,7 +5,7 @@ use Rattle.std.proofs.Math.Seq.{take-append_seam}
 use Rattle.std.specs.Io.KnownBytes.{Appends}
 use Rattle.std.proofs.KnownBytes.{Appends-trans, Appends-kept}
 use Rattle.kob_text.specs.Transfer.{AppendsPart}
-use Rattle.kob_text.proofs.transfer.write_all.Goals as goal
+use Rattle.kob_text.proofs.writing.write_all.Goals as goal
 
 -- what is done is a part of the text while something is left
 part_of : (a b : Option (List ℕ)) (text done rest : List ℕ) → text ≡ done ++ rest → 0 < length rest → Appends a b done
@@ -30,19 +30,14 @@ on_err (Err e) p = p
 
 pub returns-in_err-count-clause-part : goal.returns-in_err-count-clause-part
 returns-in_err-count-clause-part g c =
-    let (done, split, appended) = c.loop-rest.invariant.written in
+    let (done, split, appended) = c.loop-rest.invariant in
     on_err c.from_residual.result (part_of _ _ _ done c.loop-rest.rest.now split (search rules)
     (Appends-kept _ _ _ _ appended c.in_err-count.ensures.kept))
 
 pub loop-rest-preserved : goal.loop-rest-preserved
 loop-rest-preserved g c =
-    let (done, split, appended) = c.loop-rest.invariant.written in
-    record {
-      same_reference = search rules;
-      sound = search rules;
-      written = (
-        done ++ take c.in_ok-count.count c.loop-rest.rest.now,
-        moves_front _ done c.loop-rest.rest.now c.in_ok-count.count split,
-        Appends-trans _ _ _ _ _ appended c.in_ok-count.ensures.taken,
-      );
-    }
+    let (done, split, appended) = c.loop-rest.invariant in (
+      done ++ take c.in_ok-count.count c.loop-rest.rest.now,
+      moves_front _ done c.loop-rest.rest.now c.in_ok-count.count split,
+      Appends-trans _ _ _ _ _ appended c.in_ok-count.ensures.taken,
+    )

@@ -1,0 +1,39 @@
+-- How a run ended, by what kept it from its output.
+use Rattle.std.proofs.Common.{◌≡◌, ◌≤◌, ◌<◌, ℕ, List, length, Option, Some, None, Result, Ok, Err, refl, sym, subst}
+use Rattle.std.specs.Io.KnownBytes.{Keeps}
+use Rattle.std.specs.Option.{IfSome}
+use Rattle.kob_text.specs.Faults.{unread, unwritten}
+use Rattle.kob_text.specs.Limits.{script_limit}
+use Rattle.kob_text.specs.Output.{IsEnd, IsWrittenOf}
+use Rattle.kob_text.specs.declared.fault.InputFault.{InputFault}
+use Rattle.kob_text.specs.declared.fault.InputFault.TheVariants as input_fault
+use Rattle.kob_text.specs.declared.fault.OutputFault.{OutputFault}
+use Rattle.kob_text.specs.declared.fault.OutputFault.TheVariants as output_fault
+use Rattle.kob_text.specs.declared.output.Ended.{Ended}
+
+keeps_itself : (held : Option (List ℕ)) → Keeps held held
+keeps_itself None = tt
+keeps_itself (Some bytes) = refl
+
+-- a script that was not read leaves the writer as it was
+pub not_read : (fault : InputFault) (input old : Option (List ℕ))
+    → (fault ≡ input_fault.TooLong → IfSome input (λ bytes. script_limit < length bytes))
+    → IsEnd input old old (Err (unread fault))
+not_read (input_fault.ReadFailed failed) input old long = keeps_itself old
+not_read input_fault.TooLong input old long = (long refl, keeps_itself old)
+not_read input_fault.Memory input old long = keeps_itself old
+
+-- the output of the bytes that were read
+pub written : (ended : Ended) (bytes : List ℕ) (input old new : Option (List ℕ)) → IfSome input (λ all. bytes ≡ all)
+    → length bytes ≤ script_limit → IsWrittenOf bytes old new (Ok ended) → IsEnd input old new (Ok ended)
+written ended bytes None old new read short is = tt
+written ended bytes (Some all) old new read short is =
+    subst (λ all. IsEnd (Some all) old new (Ok ended)) read (short, is)
+
+pub not_written : (fault : OutputFault) (bytes : List ℕ) (input old new : Option (List ℕ))
+    → IfSome input (λ all. bytes ≡ all) → length bytes ≤ script_limit → IsWrittenOf bytes old new (Err fault)
+    → IsEnd input old new (Err (unwritten fault))
+not_written (output_fault.WriteFailed failed) bytes None old new read short is = tt
+not_written (output_fault.WriteFailed failed) bytes (Some all) old new read short is =
+    subst (λ all. IsEnd (Some all) old new (Err (unwritten (output_fault.WriteFailed failed)))) read (short, is)
+not_written output_fault.Memory bytes input old new read short is = is

@@ -1,0 +1,48 @@
+//! Texts written whole.
+
+ghost use Rattle.std.specs.Prelude.{◌<◌, ◌≤◌, length, take, OnErr, OnOk, IfOk};
+ghost use Rattle.std.specs.Io.KnownBytes.{Appends, Keeps};
+ghost use Rattle.kob_text.specs.Transfer.{AppendsPart};
+
+use std::io::{ErrorKind, Write};
+
+/// A call of the writer failed, or took nothing. Only this module makes one.
+#[derive(Clone, Copy, Debug, PartialEq, Eq)]
+pub struct WriteFailed(());
+
+/// Writes some of the text, and returns the number of bytes. An interrupted call is made again.
+/// For an empty text the writer is not called.
+fn write_some<W: Write>(writer: &mut W, text: &[u8]) -> Result<usize, WriteFailed>
+    ensures bound { IfOk result (λ count. count ≤ length text.now) }
+    ensures some { IfOk result (λ count. 0 < length text.now → 0 < count) }
+    ensures nothing { OnErr result (0 < length text.now) }
+    ensures taken { IfOk result (λ count. Appends (W.contents writer.old)
+        (W.contents writer.new) (take count text.now)) }
+    ensures kept { OnErr result (Keeps (W.contents writer.old) (W.contents writer.new)) }
+{
+    if text.is_empty() {
+        return Ok(0);
+    }
+    for _ in 0..u64::MAX {
+        match writer.write(text) {
+            Ok(count) if count > 0 => return Ok(count),
+            Err(error) if error.kind() == ErrorKind::Interrupted => {}
+            _ => break,
+        }
+    }
+    Err(WriteFailed(()))
+}
+
+/// Writes all of the text. After a failure the writer has taken a prefix of it, and not all.
+pub fn write_all<W: Write>(writer: &mut W, text: &[u8]) -> Result<(), WriteFailed>
+    ensures whole { OnOk result (Appends (W.contents writer.old) (W.contents writer.new) text.now) }
+    ensures part { OnErr result
+        (AppendsPart (W.contents writer.old) (W.contents writer.new) text.now) }
+{
+    let mut rest = text;
+    while !rest.is_empty() {
+        let count = write_some(writer, rest)?;
+        rest = &rest[count..];
+    }
+    Ok(())
+}
