@@ -12,7 +12,26 @@ use std::sync::Wait;
 use std::test::Fail;
 use std::thread::Threads;
 
-/// Runs the scripts on a new broker with these bindings, after the first events.
+/// What the scripts come to on a new broker with these bindings, after the first events.
+pub(crate) fn ended<R: Threads + Wait + Sync, G: Gate + Sync>(
+    rt: &R,
+    opening: Vec<Binding>,
+    first: Vec<Event>,
+    scripts: Vec<Script>,
+    gate: &G,
+    alloc: Global,
+) -> Result<Result<FleetEnd, FleetFault>, Fail> {
+    match broker(alloc, opening) {
+        Ok(broker) => Ok(run_scripts(rt, alloc, broker, first, scripts, gate)),
+        Err(fail) => {
+            drop(first);
+            drop(scripts);
+            Err(fail)
+        }
+    }
+}
+
+/// Runs them to the end.
 pub(crate) fn run<R: Threads + Wait + Sync, G: Gate + Sync>(
     rt: &R,
     opening: Vec<Binding>,
@@ -21,8 +40,7 @@ pub(crate) fn run<R: Threads + Wait + Sync, G: Gate + Sync>(
     gate: &G,
     alloc: Global,
 ) -> Result<FleetEnd, Fail> {
-    let broker = broker(alloc, opening)?;
-    let end = run_scripts(rt, alloc, broker, first, scripts, gate);
+    let end = ended(rt, opening, first, scripts, gate, alloc)?;
     Ok(end.ok().ok_or("the fleet ran to its end")?)
 }
 
@@ -211,27 +229,12 @@ enum Refusal {
     Neither,
 }
 
-fn refusal_in(fault: &Option<FleetFault>) -> Refusal {
-    match fault {
-        Some(FleetFault::TooManyWorkers) => Refusal::Workers,
-        Some(FleetFault::JournalFull) => Refusal::Entries,
+fn refusal_in(ended: &Result<FleetEnd, FleetFault>) -> Refusal {
+    match ended {
+        Err(FleetFault::TooManyWorkers) => Refusal::Workers,
+        Err(FleetFault::JournalFull) => Refusal::Entries,
         _ => Refusal::Neither,
     }
-}
-
-/// Runs scripts on a new broker, with no first events.
-fn refusal_of<R: Threads + Wait + Sync>(
-    rt: &R,
-    alloc: Global,
-    scripts: Vec<Script>,
-    gate: &Open,
-) -> Result<Refusal, Fail> {
-    let broker = broker(alloc, Vec::new(alloc))?;
-    let end = run_scripts(rt, alloc, broker, Vec::new(alloc), scripts, gate);
-    let fault = end.err();
-    let refusal = refusal_in(&fault);
-    drop(fault);
-    Ok(refusal)
 }
 
 /// What so many scripts of so many requests are refused for.
@@ -242,7 +245,10 @@ fn refusal_to<R: Threads + Wait + Sync>(
     gate: &Open,
 ) -> Result<Refusal, Fail> {
     let scripts = scripts_of(alloc, workers, requests)?;
-    refusal_of(rt, alloc, scripts, gate)
+    let ended = ended(rt, Vec::new(alloc), Vec::new(alloc), scripts, gate, alloc)?;
+    let refusal = refusal_in(&ended);
+    drop(ended);
+    Ok(refusal)
 }
 
 /// Whether 65 workers are refused, and a script longer than a journal, before any gate is called.

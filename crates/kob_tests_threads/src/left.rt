@@ -77,7 +77,9 @@ fn answer(alloc: Global, broker: &mut Broker, request: Request) -> Option<Reply>
         host,
         request,
     };
-    broker.serve(alloc, &event).ok()
+    let reply = broker.serve(alloc, &event).ok();
+    drop(event);
+    reply
 }
 
 /// What the group `g` has committed on the topic.
@@ -90,11 +92,18 @@ fn commit(alloc: Global, broker: &mut Broker) -> Option<Reply> {
     answer(alloc, broker, request)
 }
 
-fn is_committed(alloc: Global, broker: &mut Broker, due: Option<u64>) -> bool {
-    match commit(alloc, broker) {
-        Some(Reply::Done(Body::Commit(found))) => found == due,
+fn is_commit(reply: &Option<Reply>, due: Option<u64>) -> bool {
+    match reply {
+        Some(Reply::Done(Body::Commit(found))) => *found == due,
         _ => false,
     }
+}
+
+fn is_committed(alloc: Global, broker: &mut Broker, due: Option<u64>) -> bool {
+    let reply = commit(alloc, broker);
+    let is_due = is_commit(&reply, due);
+    drop(reply);
+    is_due
 }
 
 /// What the topic holds.
@@ -120,12 +129,19 @@ fn are_of(found: &[(u64, Record)], ids: &[u128]) -> bool {
     true
 }
 
-/// Whether the topic holds records of these ids, in order.
-pub(crate) fn are_records(alloc: Global, broker: &mut Broker, ids: &[u128]) -> bool {
-    match records(alloc, broker) {
+fn are_told(reply: &Option<Reply>, ids: &[u128]) -> bool {
+    match reply {
         Some(Reply::Done(Body::Records(found))) => are_of(found.as_slice(), ids),
         _ => false,
     }
+}
+
+/// Whether the topic holds records of these ids, in order.
+pub(crate) fn are_records(alloc: Global, broker: &mut Broker, ids: &[u128]) -> bool {
+    let reply = records(alloc, broker);
+    let are_told = are_told(&reply, ids);
+    drop(reply);
+    are_told
 }
 
 /// Whether the service's mark is this.

@@ -1,11 +1,11 @@
 //! Plans of pipelines that the tests share.
 
-use crate::making::at_host;
+use crate::making::{at_host, script};
 use kob_inbox::Subscription;
-use kob_names::{Items, Text};
+use kob_names::{BindingFilter, FilterPattern, Items, Operation, Principal, ResourceKind, Text};
 use kob_outbox::{Change, OutboxEvent};
 use kob_pipeline::{ConsumerPlan, ConsumerStep, Loss, Plan, Service, ServiceStep};
-use kob_rights::{Event, Request};
+use kob_rights::{DeleteAcls, Request};
 use kob_router::{Place, Route, RouteSettings, Target};
 use kob_script::read_script;
 use kob_shared::Script;
@@ -29,9 +29,6 @@ User:root h create-acl allow User:con * Read Group literal g2
 
 /// How many these events are.
 pub(crate) const FIRST_EVENTS: usize = 6;
-
-/// Takes the right to the group `g` away.
-const REVOCATION: &str = "User:root h delete-acls Group g any User:con - Read -\n";
 
 /// What a service is to do.
 #[derive(Clone, Copy)]
@@ -140,10 +137,6 @@ fn consumers(
     Ok(consumers)
 }
 
-fn request_of(event: Event) -> Request {
-    event.request
-}
-
 /// An administrator who takes the consumers' right to the group `g` away, if there is to be one.
 fn administrators(alloc: Global, revoked: bool) -> Result<Vec<Script>, Fail> {
     let mut scripts = Vec::new(alloc);
@@ -154,16 +147,23 @@ fn administrators(alloc: Global, revoked: bool) -> Result<Vec<Script>, Fail> {
 }
 
 fn revoker(alloc: Global) -> Result<Script, Fail> {
-    let (principal, host) = at_host(alloc, "User:root")?;
     let mut requests = Vec::new(alloc);
-    for event in read_script(alloc, REVOCATION.as_bytes())?.events.into_vec() {
-        requests.push(request_of(event))?;
-    }
-    Ok(Script {
-        principal,
-        host,
-        requests,
-    })
+    requests.push(revocation(alloc)?)?;
+    script(alloc, "User:root", requests)
+}
+
+/// DELETE_ACLS of what lets `User:con` read the group `g`.
+fn revocation(alloc: Global) -> Result<Request, Fail> {
+    let filter = BindingFilter {
+        resource: Some(ResourceKind::Group),
+        name: Some(Text::copied(alloc, "g")?),
+        pattern: FilterPattern::Any,
+        principal: Some(Principal::parse(alloc, "User:con")?),
+        host: None,
+        operation: Some(Operation::Read),
+        permission: None,
+    };
+    Ok(Request::DeleteAcls(DeleteAcls { filter }))
 }
 
 /// A plan with one service and, for each group, one consumer.

@@ -3,16 +3,16 @@
 
 ghost use Rattle.std.specs.Prelude.{◌≤◌};
 
-use crate::fleets::{scripts_of, tells_two_each};
+use crate::fleets::{ended, scripts_of, tells_two_each};
 use crate::gates::Open;
 use crate::left::{are_records, begins, is_marked};
-use crate::making::{broker, offset_of, produce, shared};
+use crate::making::{offset_of, produce, shared};
 use crate::pipelines::{STEP, TWO, run};
 use crate::plans::{Cast, plan};
 use crate::sessions::{create_topic, session};
 use kob_pipeline::{PipelineEnd, PipelineFault};
 use kob_rights::Request;
-use kob_shared::{CallFault, FleetFault, Receipt, Session, SharedBroker, run_scripts};
+use kob_shared::{CallFault, FleetEnd, FleetFault, Receipt, Session, SharedBroker};
 use std::alloc::Global;
 use std::sync::Wait;
 use std::test::Fail;
@@ -36,6 +36,13 @@ fn called<R: Wait>(
     called
 }
 
+fn is_at(called: &Result<Receipt, CallFault>, offset: u64, place: usize) -> bool {
+    match called {
+        Ok(receipt) => offset_of(&receipt.reply) == Some(offset) && receipt.place == place,
+        Err(_) => false,
+    }
+}
+
 /// Whether a write gets this offset, with an entry at this place.
 fn writes<R: Wait>(
     rt: &R,
@@ -45,10 +52,10 @@ fn writes<R: Wait>(
     place: usize,
 ) -> Result<bool, Fail> {
     let requests = (produce(alloc)?, produce(alloc)?);
-    Ok(match called(rt, alloc, session, requests) {
-        Ok(receipt) => offset_of(&receipt.reply) == Some(offset) && receipt.place == place,
-        Err(_) => false,
-    })
+    let called = called(rt, alloc, session, requests);
+    let is_at = is_at(&called, offset, place);
+    drop(called);
+    Ok(is_at)
 }
 
 /// Whether two writes go in one after another.
@@ -61,7 +68,9 @@ fn writes_two<R: Wait>(rt: &R, alloc: Global, shared: &SharedBroker) -> Result<b
 
 fn session_writes_two<R: Wait>(rt: &R, alloc: Global) -> Result<bool, Fail> {
     let shared = shared(alloc, Vec::new(alloc), 10)?;
-    writes_two(rt, alloc, &shared)
+    let wrote = writes_two(rt, alloc, &shared);
+    drop(shared);
+    wrote
 }
 
 #[test]
@@ -71,22 +80,23 @@ fn calls_of_a_session(rt: HostRuntime) -> Result<(), Fail> {
     Ok(())
 }
 
-/// Whether two scripts are run to the right end. None where memory or a thread was wanting.
-fn serves_two<R: Threads + Wait + Sync>(rt: &R, alloc: Global) -> Result<Option<bool>, Fail> {
-    let broker = broker(alloc, Vec::new(alloc))?;
-    let scripts = scripts_of(alloc, 2, 2)?;
-    match run_scripts(rt, alloc, broker, Vec::new(alloc), scripts, &Open::new()) {
-        Ok(end) => {
-            let told = tells_two_each(&end, 2);
-            drop(end);
-            Ok(Some(told))
-        }
-        Err(FleetFault::Memory | FleetFault::NotBegun) => Ok(None),
-        Err(fault) => {
-            drop(fault);
-            Ok(Some(false))
-        }
+/// Whether this is the right end of two scripts. None where memory or a thread was wanting.
+fn is_told(ended: &Result<FleetEnd, FleetFault>) -> Option<bool> {
+    match ended {
+        Ok(end) => Some(tells_two_each(end, 2)),
+        Err(FleetFault::Memory | FleetFault::NotBegun) => None,
+        Err(_) => Some(false),
     }
+}
+
+/// Whether two scripts are run to the right end.
+fn serves_two<R: Threads + Wait + Sync>(rt: &R, alloc: Global) -> Result<Option<bool>, Fail> {
+    let scripts = scripts_of(alloc, 2, 2)?;
+    let gate = Open::new();
+    let ended = ended(rt, Vec::new(alloc), Vec::new(alloc), scripts, &gate, alloc)?;
+    let told = is_told(&ended);
+    drop(ended);
+    Ok(told)
 }
 
 #[test]
@@ -115,7 +125,19 @@ fn is_whole(alloc: Global, end: &mut PipelineEnd) -> bool {
         && is_marked(end, 2)
 }
 
-/// Whether a pipeline comes to such an end. None where memory or a thread was wanting.
+/// Whether this is such an end. None where memory or a thread was wanting.
+fn is_delivered(
+    alloc: Global,
+    ran: &mut Option<Result<PipelineEnd, PipelineFault>>,
+) -> Option<bool> {
+    match ran {
+        Some(Ok(end)) => Some(is_whole(alloc, end)),
+        Some(Err(PipelineFault::Memory | PipelineFault::NotBegun)) => None,
+        _ => Some(false),
+    }
+}
+
+/// Whether a pipeline comes to such an end.
 fn delivers_two<R: Threads + Wait + Sync>(rt: &R, alloc: Global) -> Result<Option<bool>, Fail> {
     let cast = Cast {
         service: &TWO,
@@ -126,19 +148,10 @@ fn delivers_two<R: Threads + Wait + Sync>(rt: &R, alloc: Global) -> Result<Optio
     let plan = plan(alloc, cast)?;
     let ran = run(rt, alloc, &plan, &Open::new());
     drop(plan);
-    match ran {
-        Some(Ok(end)) => {
-            let mut end = end;
-            let whole = is_whole(alloc, &mut end);
-            drop(end);
-            Ok(Some(whole))
-        }
-        Some(Err(PipelineFault::Memory | PipelineFault::NotBegun)) => Ok(None),
-        other => {
-            drop(other);
-            Ok(Some(false))
-        }
-    }
+    let mut ran = ran;
+    let delivered = is_delivered(alloc, &mut ran);
+    drop(ran);
+    Ok(delivered)
 }
 
 #[test]

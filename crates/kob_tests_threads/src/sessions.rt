@@ -214,7 +214,9 @@ fn revoke_between<R: Wait>(rt: &R, alloc: Global, shared: &SharedBroker) -> Resu
 /// Whether the revocation is seen on a broker on which `User:svc` may write to `t` at first.
 fn is_seen<R: Wait>(rt: &R, alloc: Global) -> Result<bool, Fail> {
     let shared = shared(alloc, write_allowed(alloc)?, 10)?;
-    revoke_between(rt, alloc, &shared)
+    let seen = revoke_between(rt, alloc, &shared);
+    drop(shared);
+    seen
 }
 
 #[test]

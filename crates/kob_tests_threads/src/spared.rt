@@ -65,20 +65,23 @@ fn goes_round(recorded: Recorded, asker: (Principal, Host)) -> bool {
     read && unseen && apart
 }
 
-/// A record of one event.
-fn of_one_event(alloc: Global) -> Result<Recorded, Fail> {
+/// Serves one event for worker 1.
+fn serve_one(alloc: Global, recorded: &mut Recorded) -> Result<(), Fail> {
     let event = event(alloc, "User:root", creation(alloc)?)?;
-    let mut recorded = recorded(alloc, Vec::new(alloc), 1)?;
     let served = recorded.serve_as(alloc, 1, &event);
     drop(event);
-    match served {
-        Ok(receipt) => {
-            drop(receipt);
-            Ok(recorded)
-        }
-        Err(fault) => {
+    drop(served?);
+    Ok(())
+}
+
+/// A record of one event.
+fn of_one_event(alloc: Global) -> Result<Recorded, Fail> {
+    let mut recorded = recorded(alloc, Vec::new(alloc), 1)?;
+    match serve_one(alloc, &mut recorded) {
+        Ok(()) => Ok(recorded),
+        Err(fail) => {
             drop(recorded);
-            Err(fault.into())
+            Err(fail)
         }
     }
 }
@@ -126,19 +129,43 @@ fn is_blank(desk: Desk<'_>) -> bool {
     blank
 }
 
+/// A desk that has noted one event.
+fn of_one_call<'a, R: Wait>(
+    rt: &R,
+    alloc: Global,
+    shared: &'a SharedBroker,
+) -> Result<Desk<'a>, Fail> {
+    let mut desk = Desk::open(alloc, session(alloc, shared, 1, "User:root")?);
+    match desk.call(rt, alloc, metadata()) {
+        Ok(()) => Ok(desk),
+        Err(fault) => {
+            drop(desk);
+            Err(fault.into())
+        }
+    }
+}
+
 /// Whether one desk is closed and another opened.
 fn opens_and_closes<R: Wait>(rt: &R, alloc: Global, shared: &SharedBroker) -> Result<bool, Fail> {
-    let other = session(alloc, shared, 2, "User:root")?;
-    let mut desk = Desk::open(alloc, session(alloc, shared, 1, "User:root")?);
-    desk.call(rt, alloc, metadata())?;
-    spare(alloc);
-    let blank = is_blank(Desk::open(alloc, other));
-    Ok(closes(desk) && blank)
+    let desk = of_one_call(rt, alloc, shared)?;
+    match session(alloc, shared, 2, "User:root") {
+        Ok(other) => {
+            spare(alloc);
+            let blank = is_blank(Desk::open(alloc, other));
+            Ok(closes(desk) && blank)
+        }
+        Err(fail) => {
+            drop(desk);
+            Err(fail)
+        }
+    }
 }
 
 fn serves_desks<R: Wait>(rt: &R, alloc: Global) -> Result<bool, Fail> {
     let shared = shared(alloc, Vec::new(alloc), 1)?;
-    opens_and_closes(rt, alloc, &shared)
+    let closed = opens_and_closes(rt, alloc, &shared);
+    drop(shared);
+    closed
 }
 
 #[test]
