@@ -65,7 +65,7 @@ add_text = codes "kafka-acls.sh --add"
 
 -- what Kafka does otherwise (KIP-679), above the line of a right that it does not ask for
 abbrev pub write_note : Bool → List ℕ
-write_note true = codes "# Since Kafka 3.0 a producer with an id needs Write on the topic alone.\n"
+write_note true = codes "# Kafka 2.8 and later accept Write on any topic instead (KIP-679).\n"
 write_note false = codes ""
 
 abbrev pub binding_line : Draft → List ℕ

@@ -29,7 +29,7 @@ fn write_note(is_of_producers: bool) -> &'static str
     ensures { result.now ≡ write_note is_of_producers }
 {
     if is_of_producers {
-        "# Since Kafka 3.0 a producer with an id needs Write on the topic alone.\n"
+        "# Kafka 2.8 and later accept Write on any topic instead (KIP-679).\n"
     } else {
         ""
     }

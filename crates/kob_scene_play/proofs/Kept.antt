@@ -1,16 +1,23 @@
--- What is in hand stays the first row after the mark.
-use Rattle.std.proofs.Common.{◌≡◌, ℕ, sym, subst}
-use Rattle.std.specs.Prelude.{Err, OnErr, OnOk, Ok, Option, Result}
+-- What is in hand stays the first row after the mark; what a record answered.
+use Rattle.std.proofs.Common.{◌≡◌, ℕ, refl, sym, subst}
+use Rattle.std.specs.Prelude.{Err, IfOk, IsErrOf, IsTrue, OnErr, OnOk, Ok, Option, Result, Some}
 use Rattle.kob_outbox.specs.Contents.{Contents}
 use Rattle.kob_outbox.specs.Reading.{without_sent}
-use Rattle.kob_outbox.specs.Recording.{after_record}
+use Rattle.kob_outbox.specs.Fields.{first_bad}
+use Rattle.kob_outbox.specs.Events.{id_text}
+use Rattle.kob_outbox.specs.Recording.{after_record, is_recorded, next_seq}
 use Rattle.kob_outbox.specs.declared.change.Change.{Change}
 use Rattle.kob_outbox.specs.declared.event.OutboxEvent.{OutboxEvent}
 use Rattle.kob_outbox.specs.declared.fault.OutboxFault.{OutboxFault}
+use Rattle.kob_outbox.specs.declared.fields.Column.{Column}
 use Rattle.kob_outbox.specs.declared.fault.RecordFault.{RecordFault}
+use Rattle.kob_outbox.specs.declared.fault.RecordFault.TheVariants as faults
 use Rattle.kob_pipeline.proofs.Outboxes.{first_recorded, first_swept}
 use Rattle.kob_router.specs.Run.{Hand}
+use Rattle.kob_router.specs.Run.Move.{Recorded}
 use Rattle.kob_router.specs.Tick.{IsFirst}
+use Rattle.kob_scene_play.specs.Steps.{Records}
+use Rattle.kob_scene_play.specs.Workers.{Does, Service}
 
 pub first_after_record : (hand : Option Hand) (old new : Contents) (change : Change) (event : OutboxEvent)
     (result : Result ℕ RecordFault) → IsFirst hand old → OnOk result (new ≡ after_record old change event)
@@ -23,3 +30,16 @@ pub first_after_sweep : (hand : Option Hand) (old new : Contents) (result : Resu
     → IsFirst hand old → OnOk result (new ≡ without_sent old.mark old) → OnErr result (new ≡ old) → IsFirst hand new
 first_after_sweep hand old new (Ok count) first ok err = subst (IsFirst hand) (sym ok) (first_swept hand old first)
 first_after_sweep hand old new (Err fault) first ok err = subst (IsFirst hand) (sym err) first
+
+-- what a record answered, by its clauses
+pub records : (change : Change) (event : OutboxEvent) (old new : Service) (result : Result ℕ RecordFault)
+    → IfOk result (λ seq. seq ≡ next_seq old.outbox) → OnOk result (Does (Recorded change event) old new)
+    → OnErr result (new ≡ old)
+    → ((column : Column) → IsErrOf result (faults.BadField column) → first_bad change event ≡ Some column)
+    → (IsErrOf result faults.DuplicateId → IsTrue (is_recorded old.outbox.ids (id_text event.id)))
+    → Records change event old new result
+records change event old new (Ok seq) value ok err bad duplicate = (ok, value)
+records change event old new (Err (faults.BadField column)) value ok err bad duplicate = (err, bad column refl)
+records change event old new (Err faults.DuplicateId) value ok err bad duplicate = (err, duplicate refl)
+records change event old new (Err faults.Memory) value ok err bad duplicate = err
+records change event old new (Err faults.Store) value ok err bad duplicate = err

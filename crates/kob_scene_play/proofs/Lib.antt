@@ -1,6 +1,9 @@
+pub mod Answered
 pub mod ConsumerRunning
 pub mod Kept
+pub mod Listed
 pub mod Places
-pub mod Printed
+pub mod Played
 pub mod Running
 pub mod Ticking
+pub mod Written

@@ -1,6 +1,7 @@
 -- A list in which one element was changed in its place.
 use Rattle.std.proofs.Common.{◌≡◌, ℕ, zero, suc, List, [], ◌∷◌, refl, sym, ap, subst, set}
-use Rattle.std.specs.Prelude.{◌≢◌, slice_get}
+use Rattle.std.proofs.lemmas.Option.{none-some}
+use Rattle.std.specs.Prelude.{◌≢◌, Option, None, Some, slice_get}
 use Rattle.kob_scene_play.specs.Scenes.{OthersStay}
 
 -- what stands at another place stays
@@ -10,6 +11,12 @@ kept_at (y ∷ ys) zero zero x other = absurd (other refl)
 kept_at (y ∷ ys) zero (suc k) x other = refl
 kept_at (y ∷ ys) (suc i) zero x other = refl
 kept_at (y ∷ ys) (suc i) (suc k) x other = kept_at ys i k x (λ same. other (ap suc same))
+
+-- what was put stands at its place
+pub put_at : {A : Type 0} (xs : List A) (i : ℕ) (was x : A) → slice_get xs i ≡ Some was → slice_get (set xs i x) i ≡ Some x
+put_at [] i was x stood = absurd (none-some was stood)
+put_at (y ∷ ys) zero was x stood = refl
+put_at (y ∷ ys) (suc i) was x stood = put_at ys i was x stood
 
 -- so all others stay
 pub others_stay : {A : Type 0} (old new : List A) (which : ℕ) (x : A) → new ≡ set old which x → OthersStay which old new

@@ -1,28 +1,87 @@
--- What a step of a scene adds to its numbers, and what it leaves as it was.
-use Rattle.std.specs.Prelude.{◌≡◌, ◌≢◌, ℕ, List, slice_get}
+-- What a step of a scene changes and prints, and what a whole scene does.
+use Rattle.std.specs.Prelude.{◌≡◌, ◌≢◌, ℕ, List, [], ◌∷◌, ◌++◌, Some, map, slice_get}
 use Rattle.kob_router.specs.Line.{one_more}
+use Rattle.kob_scene_play.specs.Journals.{journal_text}
+use Rattle.kob_scene_play.specs.Laws.{IsAnswered}
+use Rattle.kob_scene_play.specs.Stages.{IsOpened, declared_consumer, declared_service, named_consumer, named_service}
+use Rattle.kob_scene_play.specs.Steps.{IsConsumerStep, IsServiceStep}
+use Rattle.kob_scene_play.specs.declared.stage.PlayedConsumer.{PlayedConsumer}
+use Rattle.kob_scene_play.specs.declared.stage.PlayedService.{PlayedService}
+use Rattle.kob_scene_play.specs.declared.stage.Stage.{Stage}
 use Rattle.kob_scene_text.specs.declared.scene.ConsumerStep.{ConsumerStep}
-use Rattle.kob_scene_text.specs.declared.scene.ConsumerStep.TheVariants as consumer_steps
+use Rattle.kob_scene_text.specs.declared.scene.Scene.{Scene}
 use Rattle.kob_scene_text.specs.declared.scene.ServiceStep.{ServiceStep}
-use Rattle.kob_scene_text.specs.declared.scene.ServiceStep.TheVariants as service_steps
+use Rattle.kob_scene_text.specs.declared.scene.Step.{Step}
+use Rattle.kob_scene_text.specs.declared.scene.Step.TheVariants as steps
+use Rattle.kob_script.specs.PrintedReply.{reply_text}
+use Rattle.kob_shared.specs.Journals.{after_event, outcome_of}
 
--- at every other place stands what stood there
+-- at every other place is what was there
 abbrev pub OthersStay : {A : Type 0} → ℕ → List A → List A → Type 0
 OthersStay which old new = (k : ℕ) → k ≢ which → slice_get new k ≡ slice_get old k
 
--- a step of a service tells one answer; of a run nothing is said here
-abbrev pub CountsService : ServiceStep → ℕ → ℕ → Type 0
-CountsService (service_steps.Record change event) told then_told = then_told ≡ one_more told
-CountsService (service_steps.Tick lost) told then_told = then_told ≡ one_more told
-CountsService service_steps.Run told then_told = Unit {0}
-CountsService service_steps.Restart told then_told = then_told ≡ one_more told
-CountsService service_steps.Sweep told then_told = then_told ≡ one_more told
-CountsService service_steps.Outbox told then_told = then_told ≡ one_more told
-CountsService (service_steps.Business kind key) told then_told = then_told ≡ one_more told
+-- the service at this place made the step, printed its answer, and kept its name
+abbrev pub IsServed : ℕ → ServiceStep → List PlayedService → List PlayedService → ℕ → ℕ → List ℕ
+    → Type 0
+IsServed which step old new told then_told text =
+    (was is : PlayedService)
+    × (slice_get old which ≡ Some was)
+    × (slice_get new which ≡ Some is)
+    × (is.name ≡ was.name)
+    × IsServiceStep step was.service is.service told then_told text
 
--- a step of a consumer tells one answer; of a run nothing is said here
-abbrev pub CountsConsumer : ConsumerStep → ℕ → ℕ → Type 0
-CountsConsumer (consumer_steps.Tick lost) told then_told = then_told ≡ one_more told
-CountsConsumer consumer_steps.Run told then_told = Unit {0}
-CountsConsumer consumer_steps.Restart told then_told = then_told ≡ one_more told
-CountsConsumer consumer_steps.Inbox told then_told = then_told ≡ one_more told
+-- the consumer at this place made the step, printed its answer, and kept its name
+abbrev pub IsRead : ℕ → ConsumerStep → List PlayedConsumer → List PlayedConsumer → ℕ → ℕ → List ℕ
+    → Type 0
+IsRead which step old new told then_told text =
+    (was is : PlayedConsumer)
+    × (slice_get old which ≡ Some was)
+    × (slice_get new which ≡ Some is)
+    × (is.name ≡ was.name)
+    × IsConsumerStep step was.consumer is.consumer told then_told text
+
+-- What a step changes, and what it prints; before it so many answers were printed, and then so many.
+-- A request is one entry more, of worker 0. A step of a worker changes no other worker; a question
+-- changes nothing.
+abbrev pub IsStep : Step → Stage → Stage → ℕ → ℕ → List ℕ → Type 0
+IsStep (steps.Request event) old new told then_told text =
+    (new.recorded ≡ after_event old.recorded 0 event)
+    × (new.services ≡ old.services)
+    × (new.consumers ≡ old.consumers)
+    × (then_told ≡ one_more told)
+    × (text ≡ reply_text (one_more told) (outcome_of old.recorded event).reply)
+IsStep (steps.Service which step) old new told then_told text =
+    (new.consumers ≡ old.consumers)
+    × OthersStay which old.services.items new.services.items
+    × IsServed which step old.services.items new.services.items told then_told text
+IsStep (steps.Consumer which step) old new told then_told text =
+    (new.services ≡ old.services)
+    × OthersStay which old.consumers.items new.consumers.items
+    × IsRead which step old.consumers.items new.consumers.items told then_told text
+IsStep steps.Journal old new told then_told text =
+    (new ≡ old) × (then_told ≡ one_more told) × (text ≡ journal_text (one_more told) old)
+IsStep (steps.Law service consumer) old new told then_told text =
+    (new.recorded ≡ old.recorded)
+    × (new.services ≡ old.services)
+    × OthersStay consumer old.consumers.items new.consumers.items
+    × (then_told ≡ one_more told)
+    × IsAnswered service consumer old told text
+
+-- steps, each from where the one before it ended: what they change, how many answers are printed,
+-- and what they print, one text behind the other
+abbrev pub ArePlayed : List Step → Stage → Stage → ℕ → ℕ → List ℕ → Type 0
+ArePlayed [] old new told then_told text = (new ≡ old) × (then_told ≡ told) × (text ≡ [])
+ArePlayed (step ∷ later) old new told then_told text =
+    (mid : Stage) × (mid_told : ℕ) × (front back : List ℕ)
+    × IsStep step old mid told mid_told front
+    × ArePlayed later mid new mid_told then_told back
+    × (text ≡ front ++ back)
+
+-- all steps of a scene, from a stage where none was made: each declared worker is there in its order
+abbrev pub IsPlayed : Scene → List ℕ → Type 0
+IsPlayed scene text =
+    (opened closed : Stage) × (told : ℕ)
+    × IsOpened scene.settings opened
+    × (map named_service opened.services.items ≡ map declared_service scene.services.items)
+    × (map named_consumer opened.consumers.items ≡ map declared_consumer scene.consumers.items)
+    × ArePlayed scene.steps.items opened closed 0 told text

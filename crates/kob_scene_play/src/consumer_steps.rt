@@ -1,9 +1,8 @@
 //! The steps of a consumer.
 
-ghost use Rattle.std.specs.Prelude.{◌≡◌, OnOk};
-ghost use Rattle.kob_router.specs.Line.{one_more};
-ghost use Rattle.kob_scene_play.specs.Scenes.{CountsConsumer};
-ghost use Rattle.kob_scene_play.specs.Steps.{IsConsumerStep, Tells};
+ghost use Rattle.std.specs.Prelude.{OnOk};
+ghost use Rattle.kob_scene_play.specs.Printing.{Tells};
+ghost use Rattle.kob_scene_play.specs.Steps.{IsConsumerStep};
 ghost use Rattle.kob_scene_text.specs.declared.scene.ConsumerStep.TheVariants as consumer_steps;
 
 use crate::consumer_worker::ConsumerWorker;
@@ -14,7 +13,6 @@ use kob_inbox::Tick;
 use kob_scene_text::{ConsumerStep, Lost, print_consumer_tick, print_inbox, print_restarted};
 use kob_shared::Recorded;
 use std::alloc::Global;
-use std::io::Write;
 
 /// What a tick leaves to be done.
 #[derive(Clone, Copy, Debug, PartialEq, Eq)]
@@ -28,17 +26,15 @@ enum Left {
 }
 
 /// Makes a step, and prints what it answers.
-pub(crate) fn play_consumer<W: Write>(
+pub(crate) fn play_consumer(
     alloc: Global,
     recorded: &mut Recorded,
     consumer: &mut ConsumerWorker,
     step: &ConsumerStep,
-    out: &mut Output<'_, W>,
+    out: &mut Output,
 ) -> Result<(), PlayFault>
-    ensures done { OnOk result (Tells (IsConsumerStep step.now consumer.old
-        consumer.new out.old.told) (W.contents out.old.writer.now) out.old.text.items
-        (W.contents out.new.writer.now) out.new.text.items) }
-    ensures told { OnOk result (CountsConsumer step.now out.old.told out.new.told) }
+    ensures { OnOk result (Tells (IsConsumerStep step.now consumer.old
+        consumer.new out.old.told out.new.told) out.old.text.items out.new.text.items) }
 {
     match step {
         ConsumerStep::Tick(lost) => {
@@ -51,23 +47,21 @@ pub(crate) fn play_consumer<W: Write>(
     }
 }
 
-fn tick<W: Write>(
+fn tick(
     alloc: Global,
     recorded: &mut Recorded,
     consumer: &mut ConsumerWorker,
     lost: Option<Lost>,
-    out: &mut Output<'_, W>,
+    out: &mut Output,
 ) -> Result<Left, PlayFault>
-    ensures done { OnOk result (Tells (IsConsumerStep (consumer_steps.Tick lost) consumer.old
-        consumer.new out.old.told) (W.contents out.old.writer.now) out.old.text.items
-        (W.contents out.new.writer.now) out.new.text.items) }
-    ensures told { OnOk result (out.new.told ≡ one_more out.old.told) }
+    ensures { OnOk result (Tells (IsConsumerStep (consumer_steps.Tick lost) consumer.old
+        consumer.new out.old.told out.new.told) out.old.text.items out.new.text.items) }
 {
     let tick = consumer.tick(alloc, recorded, loss_of(lost))?;
     let left = left_by(&tick);
     let number = out.number();
     print_consumer_tick(&mut out.text, number, tick)?;
-    out.tell()?;
+    out.tell();
     Ok(left)
 }
 
@@ -80,16 +74,15 @@ fn left_by(tick: &Tick) -> Left {
 }
 
 /// Ticks until each assigned partition was idle in turn, or the consumer is stopped.
-#[tactic(auto, using(crate::proofs::ConsumerRunning::none_at_first, crate::proofs::ConsumerRunning::one_tick_more, crate::proofs::ConsumerRunning::all_read))]
-fn run<W: Write>(
+#[tactic(auto, using(crate::proofs::ConsumerRunning::none_at_first, crate::proofs::ConsumerRunning::one_tick_more))]
+fn run(
     alloc: Global,
     recorded: &mut Recorded,
     consumer: &mut ConsumerWorker,
-    out: &mut Output<'_, W>,
+    out: &mut Output,
 ) -> Result<(), PlayFault>
-    ensures done { OnOk result (Tells (IsConsumerStep consumer_steps.Run consumer.old
-        consumer.new out.old.told) (W.contents out.old.writer.now) out.old.text.items
-        (W.contents out.new.writer.now) out.new.text.items) }
+    ensures { OnOk result (Tells (IsConsumerStep consumer_steps.Run consumer.old
+        consumer.new out.old.told out.new.told) out.old.text.items out.new.text.items) }
 {
     let round = consumer.subscription().assignment.len();
     let mut idle: usize = 0;
@@ -106,32 +99,24 @@ fn run<W: Write>(
     Ok(())
 }
 
-fn restart<W: Write>(
-    consumer: &mut ConsumerWorker,
-    out: &mut Output<'_, W>,
-) -> Result<(), PlayFault>
-    ensures done { OnOk result (Tells (IsConsumerStep consumer_steps.Restart consumer.old
-        consumer.new out.old.told) (W.contents out.old.writer.now) out.old.text.items
-        (W.contents out.new.writer.now) out.new.text.items) }
-    ensures told { OnOk result (out.new.told ≡ one_more out.old.told) }
+fn restart(consumer: &mut ConsumerWorker, out: &mut Output) -> Result<(), PlayFault>
+    ensures { OnOk result (Tells (IsConsumerStep consumer_steps.Restart consumer.old
+        consumer.new out.old.told out.new.told) out.old.text.items out.new.text.items) }
 {
     consumer.restart();
     let number = out.number();
     print_restarted(&mut out.text, number)?;
-    out.tell()
+    out.tell();
+    Ok(())
 }
 
-fn show_inbox<W: Write>(
-    consumer: &mut ConsumerWorker,
-    out: &mut Output<'_, W>,
-) -> Result<(), PlayFault>
-    ensures done { OnOk result (Tells (IsConsumerStep consumer_steps.Inbox consumer.old
-        consumer.new out.old.told) (W.contents out.old.writer.now) out.old.text.items
-        (W.contents out.new.writer.now) out.new.text.items) }
-    ensures told { OnOk result (out.new.told ≡ one_more out.old.told) }
+fn show_inbox(consumer: &mut ConsumerWorker, out: &mut Output) -> Result<(), PlayFault>
+    ensures { OnOk result (Tells (IsConsumerStep consumer_steps.Inbox consumer.old
+        consumer.new out.old.told out.new.told) out.old.text.items out.new.text.items) }
 {
     let rows = consumer.rows()?;
     let number = out.number();
     print_inbox(&mut out.text, number, &rows)?;
-    out.tell()
+    out.tell();
+    Ok(())
 }

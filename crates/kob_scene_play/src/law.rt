@@ -1,51 +1,123 @@
 //! Whether the laws of delivery speak of a service and a consumer, and what its inbox shows.
 
+ghost use Rattle.std.specs.Prelude.{◌≡◌, ◌++◌, OnOk, slice_get};
+ghost use Rattle.kob_router.specs.Line.{one_more};
+ghost use Rattle.std.specs.Option.{option_copied};
+ghost use Rattle.kob_scene_play.specs.Laws.{IsAnswered, IsLaw, breach_text, broken_text, law_text};
+ghost use Rattle.kob_scene_play.specs.Laws.{misplaced_text, name_text, order_text, premise_text, topic_text};
+ghost use Rattle.kob_scene_play.specs.Printing.{Tells};
+ghost use Rattle.kob_scene_play.specs.Scenes.{OthersStay};
+
+use crate::consumer_worker::ConsumerWorker;
 use crate::fault::PlayFault;
 use crate::order::first_out_of_order;
-use crate::output::Output;
+use crate::output::{Output, push_counted};
 use crate::stage::{PlayedService, Stage};
-use kob_inbox::Subscription;
+use kob_names::Text;
 use kob_outbox::OutboxEvent;
 use kob_pipeline::{Breach, Premise, first_breach};
+use kob_router::Place;
 use kob_scene_text::{ServiceStep, Step};
+use kob_shared::Journal;
 use kob_words::{push_bytes, push_number};
 use std::alloc::{AllocError, Global};
-use std::io::Write;
 
 /// Tells `N law holds` where only this service sends to the topics that the consumer reads, only
 /// this consumer commits for its group on them, and nobody deleted one; else `N law says nothing`
 /// with the premise that is broken, and the first entry that breaks it. Behind that it says whether
 /// the inbox has of each aggregate the first rows that the service recorded, in their order.
-pub(crate) fn show_law<W: Write>(
+pub(crate) fn show_law(
     alloc: Global,
     stage: &mut Stage,
     steps: &[Step],
     service: usize,
     consumer: usize,
-    out: &mut Output<'_, W>,
-) -> Result<(), PlayFault> {
+    out: &mut Output,
+) -> Result<(), PlayFault>
+    ensures recorded { stage.new.recorded ≡ stage.old.recorded }
+    ensures services { stage.new.services ≡ stage.old.services }
+    ensures others { OthersStay consumer stage.old.consumers.items stage.new.consumers.items }
+    ensures done { OnOk result (Tells (IsAnswered service consumer stage.old out.old.told)
+        out.old.text.items out.new.text.items) }
+    ensures told { OnOk result (out.new.told ≡ one_more out.old.told) }
+{
     let Some(sender) = stage.services.get(service) else {
         return Err(PlayFault::NoWorker);
     };
     let Some(taker) = stage.consumers.get_mut(consumer) else {
         return Err(PlayFault::NoWorker);
     };
-    let rows = rows_of(alloc, sender, steps)?;
-    let inbox = taker.consumer.rows()?;
-    let out_of_order = first_out_of_order(alloc, &rows, &inbox)?;
-    let subscription = taker.consumer.subscription();
-    let breach = first_breach(
+    let misplaced = misplaced_row(alloc, sender, steps, &mut taker.consumer)?;
+    answer(
         stage.recorded.journal(),
         sender.service.number(),
-        taker.consumer.number(),
+        &taker.consumer,
+        misplaced,
+        out,
+    )
+}
+
+/// Prints whether the laws speak of a service by its number and a consumer.
+fn answer(
+    journal: &Journal,
+    sender: usize,
+    taker: &ConsumerWorker,
+    misplaced: Option<u64>,
+    out: &mut Output,
+) -> Result<(), PlayFault>
+    ensures done { OnOk result (Tells (IsLaw sender taker.now.worker taker.now.fetcher.subscription
+        journal.now out.old.told) out.old.text.items out.new.text.items) }
+    ensures told { OnOk result (out.new.told ≡ one_more out.old.told) }
+{
+    let subscription = taker.subscription();
+    let assignment = subscription.assignment.as_slice();
+    let breach = first_breach(
+        journal,
+        sender,
+        taker.number(),
         &subscription.group,
-        subscription.assignment.as_slice(),
+        assignment,
     );
     let number = out.number();
-    push_number(&mut out.text, number)?;
-    push_breach(&mut out.text, subscription, breach)?;
-    push_order(&mut out.text, out_of_order)?;
-    out.tell()
+    push_law(&mut out.text, number, assignment, breach, misplaced)?;
+    out.tell();
+    Ok(())
+}
+
+#[tactic(auto, using(kob_words::proofs::Appending::appending))]
+fn push_law(
+    out: &mut Vec<u8>,
+    number: u64,
+    assignment: &[Place],
+    breach: Option<Breach>,
+    misplaced: Option<u64>,
+) -> Result<(), AllocError>
+    ensures { OnOk result (out.new.items
+        ≡ out.old.items ++ law_text number assignment.now breach misplaced) }
+{
+    push_number(out, number)?;
+    push_breach(out, assignment, breach)?;
+    push_order(out, misplaced)
+}
+
+/// The place of the first row of the inbox that is out of order.
+fn misplaced_row(
+    alloc: Global,
+    sender: &PlayedService,
+    steps: &[Step],
+    consumer: &mut ConsumerWorker,
+) -> Result<Option<u64>, PlayFault>
+    ensures { consumer.new ≡ consumer.old }
+{
+    let inbox = consumer.rows()?;
+    let Ok(rows) = rows_of(alloc, sender, steps) else {
+        drop(inbox);
+        return Err(PlayFault::Memory);
+    };
+    match first_out_of_order(alloc, &rows, &inbox) {
+        Ok(place) => Ok(place),
+        Err(_) => Err(PlayFault::Memory),
+    }
 }
 
 /// The events that the service recorded, in their order.
@@ -65,37 +137,72 @@ fn rows_of<'s>(
 
 fn push_breach(
     out: &mut Vec<u8>,
-    subscription: &Subscription,
+    assignment: &[Place],
     breach: Option<Breach>,
-) -> Result<(), AllocError> {
-    let Some(breach) = breach else {
-        return out.extend_from_slice(b" law holds");
-    };
-    out.extend_from_slice(b" law says nothing: ")?;
-    out.extend_from_slice(premise_name(breach.premise).as_bytes())?;
-    if let Some(place) = subscription.assignment.as_slice().get(breach.assigned) {
-        out.extend_from_slice(b" ")?;
-        push_bytes(out, place.topic.as_str().as_bytes())?;
+) -> Result<(), AllocError>
+    ensures { OnOk result (out.new.items ≡ out.old.items ++ breach_text assignment.now breach) }
+{
+    match breach {
+        None => out.extend_from_slice(b" law holds"),
+        Some(breach) => push_broken(out, place_at(assignment, breach.assigned), breach),
     }
+}
+
+fn place_at(assignment: &[Place], assigned: usize) -> Option<&Place>
+    ensures { option_copied result ≡ slice_get assignment.now assigned }
+{
+    assignment.get(assigned)
+}
+
+#[tactic(auto, using(kob_words::proofs::Appending::appending))]
+fn push_broken(out: &mut Vec<u8>, place: Option<&Place>, breach: Breach) -> Result<(), AllocError>
+    ensures { OnOk result (out.new.items
+        ≡ out.old.items ++ broken_text (option_copied place.entry) breach) }
+{
+    out.extend_from_slice(broken(breach.premise).as_bytes())?;
+    push_topic(out, place)?;
     out.extend_from_slice(b" entry ")?;
     push_number(out, breach.entry as u64)
 }
 
-fn premise_name(premise: Premise) -> &'static str {
-    match premise {
-        Premise::SoleProducer => "SoleProducer",
-        Premise::SoleCommitter => "SoleCommitter",
-        Premise::NeverDeleted => "NeverDeleted",
+fn push_topic(out: &mut Vec<u8>, place: Option<&Place>) -> Result<(), AllocError>
+    ensures { OnOk result (out.new.items ≡ out.old.items ++ topic_text (option_copied place.entry)) }
+{
+    match place {
+        None => out.extend_from_slice(b""),
+        Some(place) => push_name(out, &place.topic),
     }
 }
 
-fn push_order(out: &mut Vec<u8>, out_of_order: Option<u64>) -> Result<(), AllocError> {
-    match out_of_order {
-        None => out.extend_from_slice(b", in order\n"),
-        Some(place) => {
-            out.extend_from_slice(b", out of order at row ")?;
-            push_number(out, place)?;
-            out.extend_from_slice(b"\n")
-        }
+#[tactic(auto, using(kob_words::proofs::Appending::appending))]
+fn push_name(out: &mut Vec<u8>, topic: &Text) -> Result<(), AllocError>
+    ensures { OnOk result (out.new.items ≡ out.old.items ++ name_text topic.now) }
+{
+    out.extend_from_slice(b" ")?;
+    push_bytes(out, topic.as_str().as_bytes())
+}
+
+fn broken(premise: Premise) -> &'static str
+    ensures { result.now ≡ premise_text premise }
+{
+    match premise {
+        Premise::SoleProducer => " law says nothing: SoleProducer",
+        Premise::SoleCommitter => " law says nothing: SoleCommitter",
+        Premise::NeverDeleted => " law says nothing: NeverDeleted",
     }
+}
+
+fn push_order(out: &mut Vec<u8>, misplaced: Option<u64>) -> Result<(), AllocError>
+    ensures { OnOk result (out.new.items ≡ out.old.items ++ order_text misplaced) }
+{
+    match misplaced {
+        None => out.extend_from_slice(b", in order\n"),
+        Some(place) => push_misplaced(out, place),
+    }
+}
+
+fn push_misplaced(out: &mut Vec<u8>, place: u64) -> Result<(), AllocError>
+    ensures { OnOk result (out.new.items ≡ out.old.items ++ misplaced_text place) }
+{
+    push_counted(out, b", out of order at row ", place, b"\n")
 }

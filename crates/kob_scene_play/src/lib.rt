@@ -17,7 +17,6 @@ mod text;
 
 pub use consumer_worker::ConsumerWorker;
 pub use fault::PlayFault;
-pub use output::Output;
 pub use playing::play;
 pub use service_worker::ServiceWorker;
 pub use stage::{PlayedConsumer, PlayedService, Stage};

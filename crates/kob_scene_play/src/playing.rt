@@ -1,9 +1,10 @@
 //! A scene is played.
 
-ghost use Rattle.std.specs.Prelude.{◌≡◌, OnOk};
+ghost use Rattle.std.specs.Prelude.{◌≡◌, ◌++◌, [], IfOk, OnOk};
 ghost use Rattle.kob_router.specs.Line.{one_more};
-ghost use Rattle.kob_scene_play.specs.Printing.{Prints};
-ghost use Rattle.kob_scene_play.specs.Scenes.{CountsConsumer, CountsService, OthersStay};
+ghost use Rattle.kob_scene_play.specs.Printing.{Tells};
+ghost use Rattle.kob_scene_play.specs.Scenes.{IsRead, IsServed, IsStep, OthersStay};
+ghost use Rattle.kob_scene_play.specs.Texts.{EndsAs, WritesAll, WritesSteps};
 ghost use Rattle.kob_script.specs.PrintedReply.{reply_text};
 ghost use Rattle.kob_shared.specs.Journals.{after_event, outcome_of};
 
@@ -14,6 +15,7 @@ use crate::law::show_law;
 use crate::output::Output;
 use crate::service_steps::play_service;
 use crate::stage::Stage;
+use crate::text::Ended;
 use kob_rights::Event;
 use kob_scene_text::{ConsumerStep, Scene, ServiceStep, Step};
 use kob_script::print_reply;
@@ -21,61 +23,114 @@ use kob_shared::Recorded;
 use std::alloc::Global;
 use std::io::Write;
 
-/// Plays a scene, one step after another, and prints what each answers. After a fault, answers of
-/// the steps before it are printed.
-pub fn play<W: Write>(
+/// Plays a scene, one step after another, and writes what each answers and nothing else. The fault is
+/// `WriteFailed`, or `Memory` before the first step.
+pub fn play<W: Write>(alloc: Global, scene: Scene, writer: &mut W) -> Result<Ended, PlayFault>
+    ensures { IfOk result (EndsAs scene (W.contents writer.old) (W.contents writer.new)) }
+{
+    let Ok(mut out) = Output::open(alloc) else {
+        drop(scene);
+        return Err(PlayFault::Memory);
+    };
+    match play_scene(alloc, scene, &mut out, writer) {
+        Ok(()) => Ok(Ended::Clean),
+        Err(PlayFault::WriteFailed) => Err(PlayFault::WriteFailed),
+        Err(fault) => {
+            out.stop(writer)?;
+            Ok(Ended::Stopped(fault))
+        }
+    }
+}
+
+/// Plays a scene into an output with nothing printed. After a fault, answers of the steps before it
+/// are printed.
+fn play_scene<W: Write>(
     alloc: Global,
     scene: Scene,
-    out: &mut Output<'_, W>,
-) -> Result<(), PlayFault> {
+    out: &mut Output,
+    writer: &mut W,
+) -> Result<(), PlayFault>
+    requires text { out.old.text.items ≡ [] }
+    requires told { out.old.told ≡ 0 }
+    ensures { OnOk result (WritesAll scene (W.contents writer.old) (W.contents writer.new)) }
+{
     let Scene {
         settings,
         services,
         consumers,
         steps,
     } = scene;
-    let mut stage = Stage::open(alloc, settings, services, consumers)?;
-    for place in 0..steps.len() {
-        play_step(alloc, &mut stage, &steps, place, out)?;
+    let mut stage = match Stage::open(alloc, settings, services, consumers) {
+        Ok(stage) => stage,
+        Err(fault) => {
+            drop(steps);
+            return Err(fault);
+        }
+    };
+    let played = play_steps(alloc, &mut stage, &steps, out, writer);
+    drop(stage);
+    drop(steps);
+    match played {
+        Ok(()) => out.write(writer),
+        Err(fault) => Err(fault),
     }
-    out.finish()
 }
 
-/// Plays the step at a place that the scene has.
-fn play_step<W: Write>(
+/// Plays all steps.
+fn play_steps<W: Write>(
+    alloc: Global,
+    stage: &mut Stage,
+    steps: &[Step],
+    out: &mut Output,
+    writer: &mut W,
+) -> Result<(), PlayFault>
+    ensures { OnOk result (WritesSteps steps.now stage.old stage.new out.old.told out.new.told
+        (W.contents writer.old) out.old.text.items (W.contents writer.new) out.new.text.items) }
+{
+    for place in 0..steps.len() {
+        play_step(alloc, stage, steps, place, &steps[place], out)?;
+        out.write_piece(writer)?;
+    }
+    Ok(())
+}
+
+/// Plays a step, which is at this place of the scene.
+fn play_step(
     alloc: Global,
     stage: &mut Stage,
     steps: &[Step],
     place: usize,
-    out: &mut Output<'_, W>,
-) -> Result<(), PlayFault> {
-    match steps.get(place) {
-        None => Ok(()),
-        Some(Step::Request(event)) => play_request(alloc, &mut stage.recorded, event, out),
-        Some(Step::Service(which, step)) => {
-            play_service_at(alloc, stage, *which, place, step, out)
-        }
-        Some(Step::Consumer(which, step)) => play_consumer_at(alloc, stage, *which, step, out),
-        Some(Step::Journal) => show_journal(stage, out),
-        Some(Step::Law { service, consumer }) => {
+    step: &Step,
+    out: &mut Output,
+) -> Result<(), PlayFault>
+    ensures { OnOk result (Tells (IsStep step.now stage.old stage.new out.old.told out.new.told)
+        out.old.text.items out.new.text.items) }
+{
+    match step {
+        Step::Request(event) => play_request(alloc, &mut stage.recorded, event, out),
+        Step::Service(which, step) => play_service_at(alloc, stage, *which, place, step, out),
+        Step::Consumer(which, step) => play_consumer_at(alloc, stage, *which, step, out),
+        Step::Journal => show_journal(stage, out),
+        Step::Law { service, consumer } => {
             show_law(alloc, stage, steps, *service, *consumer, out)
         }
     }
 }
 
 /// Plays a step of the service at this place of the stage.
-#[tactic(auto, using(crate::proofs::Places::others_stay))]
-fn play_service_at<W: Write>(
+
+fn play_service_at(
     alloc: Global,
     stage: &mut Stage,
     which: usize,
     place: usize,
     step: &ServiceStep,
-    out: &mut Output<'_, W>,
+    out: &mut Output,
 ) -> Result<(), PlayFault>
     ensures consumers { stage.new.consumers ≡ stage.old.consumers }
     ensures others { OthersStay which stage.old.services.items stage.new.services.items }
-    ensures told { OnOk result (CountsService step.now out.old.told out.new.told) }
+    ensures done { OnOk result (Tells (IsServed which step.now stage.old.services.items
+        stage.new.services.items out.old.told out.new.told) out.old.text.items out.new.text.items) }
 {
     match stage.services.get_mut(which) {
         Some(played) => play_service(alloc, &mut stage.recorded, played, place, step, out),
@@ -84,17 +139,18 @@ fn play_service_at<W: Write>(
 }
 
 /// Plays a step of the consumer at this place of the stage.
-#[tactic(auto, using(crate::proofs::Places::others_stay))]
-fn play_consumer_at<W: Write>(
+
+fn play_consumer_at(
     alloc: Global,
     stage: &mut Stage,
     which: usize,
     step: &ConsumerStep,
-    out: &mut Output<'_, W>,
+    out: &mut Output,
 ) -> Result<(), PlayFault>
     ensures services { stage.new.services ≡ stage.old.services }
     ensures others { OthersStay which stage.old.consumers.items stage.new.consumers.items }
-    ensures told { OnOk result (CountsConsumer step.now out.old.told out.new.told) }
+    ensures done { OnOk result (Tells (IsRead which step.now stage.old.consumers.items
+        stage.new.consumers.items out.old.told out.new.told) out.old.text.items out.new.text.items) }
 {
     match stage.consumers.get_mut(which) {
         Some(played) => {
@@ -105,20 +161,20 @@ fn play_consumer_at<W: Write>(
 }
 
 /// Serves a request of a principal, as worker 0's, and prints the reply.
-fn play_request<W: Write>(
+fn play_request(
     alloc: Global,
     recorded: &mut Recorded,
     event: &Event,
-    out: &mut Output<'_, W>,
+    out: &mut Output,
 ) -> Result<(), PlayFault>
     ensures recorded { OnOk result (recorded.new ≡ after_event recorded.old 0 event.now) }
-    ensures printed { OnOk result (Prints (W.contents out.old.writer.now) out.old.text.items
-        (W.contents out.new.writer.now) out.new.text.items
-        (reply_text (one_more out.old.told) (outcome_of recorded.old event.now).reply)) }
+    ensures printed { OnOk result (out.new.text.items ≡ out.old.text.items
+        ++ reply_text (one_more out.old.told) (outcome_of recorded.old event.now).reply) }
     ensures told { OnOk result (out.new.told ≡ one_more out.old.told) }
 {
     let receipt = recorded.serve_as(alloc, 0, event)?;
     let number = out.number();
     print_reply(&mut out.text, number, &receipt.reply)?;
-    out.tell()
+    out.tell();
+    Ok(())
 }

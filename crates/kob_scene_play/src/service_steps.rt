@@ -1,9 +1,8 @@
 //! The steps of a service.
 
 ghost use Rattle.std.specs.Prelude.{◌≡◌, IfOk, OnOk};
-ghost use Rattle.kob_router.specs.Line.{one_more};
-ghost use Rattle.kob_scene_play.specs.Scenes.{CountsService};
-ghost use Rattle.kob_scene_play.specs.Steps.{IsServiceStep, IsTold, Tells, goes_on_after, loss_for};
+ghost use Rattle.kob_scene_play.specs.Printing.{Tells};
+ghost use Rattle.kob_scene_play.specs.Steps.{IsServiceStep, IsTold, goes_on_after, loss_for};
 ghost use Rattle.kob_scene_text.specs.declared.scene.ServiceStep.TheVariants as service_steps;
 
 use crate::fault::PlayFault;
@@ -20,24 +19,21 @@ use kob_scene_text::{
 };
 use kob_shared::Recorded;
 use std::alloc::Global;
-use std::io::Write;
 
 /// A step `run` makes no more ticks than this.
 pub(crate) const RUN_LIMIT: u32 = 1_000_000;
 
 /// Makes the step at this place of the scene, and prints what it answers.
-pub(crate) fn play_service<W: Write>(
+pub(crate) fn play_service(
     alloc: Global,
     recorded: &mut Recorded,
     played: &mut PlayedService,
     place: usize,
     step: &ServiceStep,
-    out: &mut Output<'_, W>,
+    out: &mut Output,
 ) -> Result<(), PlayFault>
     ensures done { OnOk result (Tells (IsServiceStep step.now played.old.service
-        played.new.service out.old.told) (W.contents out.old.writer.now) out.old.text.items
-        (W.contents out.new.writer.now) out.new.text.items) }
-    ensures told { OnOk result (CountsService step.now out.old.told out.new.told) }
+        played.new.service out.old.told out.new.told) out.old.text.items out.new.text.items) }
     ensures name { played.new.name ≡ played.old.name }
 {
     match step {
@@ -55,17 +51,16 @@ pub(crate) fn play_service<W: Write>(
 }
 
 /// Records an event with its change; the place is noted where the row was made.
-fn record<W: Write>(
+#[tactic(auto, using(crate::proofs::Kept::records))]
+fn record(
     played: &mut PlayedService,
     place: usize,
     change: &Change,
     event: &OutboxEvent,
-    out: &mut Output<'_, W>,
+    out: &mut Output,
 ) -> Result<(), PlayFault>
     ensures done { OnOk result (Tells (IsServiceStep (service_steps.Record change.now event.now) played.old.service
-        played.new.service out.old.told) (W.contents out.old.writer.now) out.old.text.items
-        (W.contents out.new.writer.now) out.new.text.items) }
-    ensures told { OnOk result (out.new.told ≡ one_more out.old.told) }
+        played.new.service out.old.told out.new.told) out.old.text.items out.new.text.items) }
     ensures name { played.new.name ≡ played.old.name }
 {
     played.recorded_by.reserve(1)?;
@@ -79,27 +74,26 @@ fn record<W: Write>(
     }
     let number = out.number();
     print_recorded(&mut out.text, number, recorded)?;
-    out.tell()
+    out.tell();
+    Ok(())
 }
 
 /// One tick; true where the next one has something to do.
-fn tick<W: Write>(
+fn tick(
     alloc: Global,
     recorded: &mut Recorded,
     service: &mut ServiceWorker,
     lost: Option<Lost>,
-    out: &mut Output<'_, W>,
+    out: &mut Output,
 ) -> Result<bool, PlayFault>
-    ensures done { IfOk result (λ goes_on. IsTold lost goes_on service.old service.new out.old.told
-        (W.contents out.old.writer.now) out.old.text.items
-        (W.contents out.new.writer.now) out.new.text.items) }
-    ensures told { OnOk result (out.new.told ≡ one_more out.old.told) }
+    ensures { IfOk result (λ goes_on. IsTold lost goes_on service.old service.new out.old.told
+        out.new.told out.old.text.items out.new.text.items) }
 {
     let tick = service.tick(alloc, recorded, loss_of(lost))?;
     let goes_on = goes_on(&tick);
     let number = out.number();
     print_service_tick(&mut out.text, number, tick)?;
-    out.tell()?;
+    out.tell();
     Ok(goes_on)
 }
 
@@ -117,15 +111,14 @@ fn goes_on(tick: &Tick) -> bool
 
 /// Ticks until one neither moves nor repeats.
 #[tactic(auto, using(crate::proofs::Running::none_at_first, crate::proofs::Running::one_tick_more, crate::proofs::Running::last_tick, crate::proofs::Running::spent))]
-fn run<W: Write>(
+fn run(
     alloc: Global,
     recorded: &mut Recorded,
     service: &mut ServiceWorker,
-    out: &mut Output<'_, W>,
+    out: &mut Output,
 ) -> Result<(), PlayFault>
-    ensures done { OnOk result (Tells (IsServiceStep service_steps.Run service.old
-        service.new out.old.told) (W.contents out.old.writer.now) out.old.text.items
-        (W.contents out.new.writer.now) out.new.text.items) }
+    ensures { OnOk result (Tells (IsServiceStep service_steps.Run service.old
+        service.new out.old.told out.new.told) out.old.text.items out.new.text.items) }
 {
     for _ in 0..RUN_LIMIT {
         if !tick(alloc, recorded, service, None, out)? {
@@ -135,62 +128,55 @@ fn run<W: Write>(
     Ok(())
 }
 
-fn restart<W: Write>(service: &mut ServiceWorker, out: &mut Output<'_, W>) -> Result<(), PlayFault>
-    ensures done { OnOk result (Tells (IsServiceStep service_steps.Restart service.old
-        service.new out.old.told) (W.contents out.old.writer.now) out.old.text.items
-        (W.contents out.new.writer.now) out.new.text.items) }
-    ensures told { OnOk result (out.new.told ≡ one_more out.old.told) }
+fn restart(service: &mut ServiceWorker, out: &mut Output) -> Result<(), PlayFault>
+    ensures { OnOk result (Tells (IsServiceStep service_steps.Restart service.old
+        service.new out.old.told out.new.told) out.old.text.items out.new.text.items) }
 {
     service.restart();
     let number = out.number();
     print_restarted(&mut out.text, number)?;
-    out.tell()
+    out.tell();
+    Ok(())
 }
 
-fn sweep<W: Write>(service: &mut ServiceWorker, out: &mut Output<'_, W>) -> Result<(), PlayFault>
-    ensures done { OnOk result (Tells (IsServiceStep service_steps.Sweep service.old
-        service.new out.old.told) (W.contents out.old.writer.now) out.old.text.items
-        (W.contents out.new.writer.now) out.new.text.items) }
-    ensures told { OnOk result (out.new.told ≡ one_more out.old.told) }
+fn sweep(service: &mut ServiceWorker, out: &mut Output) -> Result<(), PlayFault>
+    ensures { OnOk result (Tells (IsServiceStep service_steps.Sweep service.old
+        service.new out.old.told out.new.told) out.old.text.items out.new.text.items) }
 {
     let count = service.sweep()?;
     let number = out.number();
     print_swept(&mut out.text, number, count)?;
-    out.tell()
+    out.tell();
+    Ok(())
 }
 
 /// Tells the mark, and the rows after it.
-fn show_outbox<W: Write>(
-    service: &mut ServiceWorker,
-    out: &mut Output<'_, W>,
-) -> Result<(), PlayFault>
-    ensures done { OnOk result (Tells (IsServiceStep service_steps.Outbox service.old
-        service.new out.old.told) (W.contents out.old.writer.now) out.old.text.items
-        (W.contents out.new.writer.now) out.new.text.items) }
-    ensures told { OnOk result (out.new.told ≡ one_more out.old.told) }
+fn show_outbox(service: &mut ServiceWorker, out: &mut Output) -> Result<(), PlayFault>
+    ensures { OnOk result (Tells (IsServiceStep service_steps.Outbox service.old
+        service.new out.old.told out.new.told) out.old.text.items out.new.text.items) }
 {
     let mark = service.mark()?;
     let rows = service.rows_after(mark, u32::MAX)?;
     let number = out.number();
     print_outbox(&mut out.text, number, mark, &rows)?;
-    out.tell()
+    out.tell();
+    Ok(())
 }
 
-fn show_state<W: Write>(
+fn show_state(
     service: &mut ServiceWorker,
     kind: &Text,
     key: &Text,
-    out: &mut Output<'_, W>,
+    out: &mut Output,
 ) -> Result<(), PlayFault>
     ensures done { OnOk result (Tells (IsServiceStep (service_steps.Business kind.now key.now) service.old
-        service.new out.old.told) (W.contents out.old.writer.now) out.old.text.items
-        (W.contents out.new.writer.now) out.new.text.items) }
-    ensures told { OnOk result (out.new.told ≡ one_more out.old.told) }
+        service.new out.old.told out.new.told) out.old.text.items out.new.text.items) }
 {
     let state = service.business(kind.as_str(), key.as_str())?;
     let number = out.number();
     print_state(&mut out.text, number, &state)?;
-    out.tell()
+    out.tell();
+    Ok(())
 }
 
 /// What becomes of the first call of a tick.

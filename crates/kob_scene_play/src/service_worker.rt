@@ -1,10 +1,12 @@
 //! A service as a worker of the journal.
 
-ghost use Rattle.std.specs.Prelude.{◌≡◌, ◌≤◌, [], None, IfOk, OnErr, OnOk, map, option_map};
-ghost use Rattle.std.specs.Prelude.{string_bytes};
+ghost use Rattle.std.specs.Prelude.{◌≡◌, ◌≤◌, [], None, Some, IfOk, IsErrOf, IsTrue, OnErr, OnOk};
+ghost use Rattle.std.specs.Prelude.{length, map, option_map, string_bytes};
 ghost use Rattle.kob_outbox.specs.Contents.{empty};
-ghost use Rattle.kob_outbox.specs.Events.{stored_row};
-ghost use Rattle.kob_outbox.specs.Reading.{first_after, state_at};
+ghost use Rattle.kob_outbox.specs.Events.{id_text, stored_row};
+ghost use Rattle.kob_outbox.specs.Fields.{first_bad};
+ghost use Rattle.kob_outbox.specs.Reading.{first_after, state_at, up_to};
+ghost use Rattle.kob_outbox.specs.Recording.{is_recorded, next_seq};
 ghost use Rattle.kob_router.specs.Run.Move.{Recorded as RecordedMove, Restarted, Swept};
 ghost use Rattle.kob_scene_play.specs.Workers.{Does, IsServiceTick};
 
@@ -88,8 +90,13 @@ impl ServiceWorker {
 
     /// Records an event together with the change that it reports.
     pub fn record(&mut self, change: &Change, event: &OutboxEvent) -> Result<u64, RecordFault>
+        ensures value { IfOk result (λ seq. seq ≡ next_seq self.old.outbox) }
         ensures ok { OnOk result (Does (RecordedMove change.now event.now) self.old self.new) }
         ensures err { OnErr result (self.new ≡ self.old) }
+        ensures bad { (column : _) → IsErrOf result (RecordFault.BadField column)
+            → first_bad change.now event.now ≡ Some column }
+        ensures duplicate { IsErrOf result RecordFault.DuplicateId
+            → IsTrue (is_recorded self.old.outbox.ids (id_text event.now.id)) }
     {
         self.outbox.record(change, event)
     }
@@ -125,6 +132,8 @@ impl ServiceWorker {
 
     /// Drops the rows up to the mark, and answers how many they were.
     pub fn sweep(&mut self) -> Result<u64, OutboxFault>
+        ensures value { IfOk result (λ count. count
+            ≡ length (up_to self.old.outbox.mark self.old.outbox.events)) }
         ensures ok { OnOk result (Does Swept self.old self.new) }
         ensures err { OnErr result (self.new ≡ self.old) }
     {

@@ -55,14 +55,32 @@ impl Stage {
         ensures consumers { IfOk result (λ stage. map named_consumer stage.consumers.items
             ≡ map declared_consumer consumers.items) }
     {
-        let recorded = recorded_by(alloc, settings)?;
-        let services = all_services(alloc, services)?;
-        let consumers = all_consumers(alloc, consumers)?;
-        Ok(Stage {
-            recorded,
-            services,
-            consumers,
-        })
+        let services = match all_services(alloc, services) {
+            Ok(services) => services,
+            Err(fault) => {
+                drop(consumers);
+                return Err(fault);
+            }
+        };
+        let consumers = match all_consumers(alloc, consumers) {
+            Ok(consumers) => consumers,
+            Err(fault) => {
+                drop(services);
+                return Err(fault);
+            }
+        };
+        match recorded_by(alloc, settings) {
+            Ok(recorded) => Ok(Stage {
+                recorded,
+                services,
+                consumers,
+            }),
+            Err(fault) => {
+                drop(services);
+                drop(consumers);
+                Err(fault)
+            }
+        }
     }
 
     /// The name of a worker; `-` for worker 0, which has none.

@@ -1,9 +1,14 @@
 //! A scene from its text to its output.
 
+ghost use Rattle.std.specs.Prelude.{◌≡◌, IfOk, OnOk};
+ghost use Rattle.std.specs.Io.KnownBytes.{Appends};
+ghost use Rattle.kob_scene_play.specs.Texts.{IsWritten};
+ghost use Rattle.kob_scene_play.specs.declared.text.Ended.TheVariants as ended;
+ghost use Rattle.kob_scene_text.specs.PrintedFault.{scene_fault_text};
+
 use crate::fault::PlayFault;
-use crate::output::Output;
 use crate::playing::play;
-use kob_scene_text::{Scene, SceneError, SceneFault, print_scene_fault, read_scene};
+use kob_scene_text::{SceneError, SceneFault, print_scene_fault, read_scene};
 use std::alloc::Global;
 use std::io::Write;
 
@@ -20,32 +25,30 @@ pub enum Ended {
 
 /// Reads a scene, plays it, and writes its output and nothing else. The fault is `WriteFailed`, or
 /// `Memory` before the first step.
-pub fn play_text<W: Write>(alloc: Global, text: &[u8], writer: &mut W) -> Result<Ended, PlayFault> {
-    let mut out = Output::open(alloc, writer)?;
+#[tactic(auto, using(crate::proofs::Written::scene_written, crate::proofs::Written::fault_written))]
+pub fn play_text<W: Write>(alloc: Global, text: &[u8], writer: &mut W) -> Result<Ended, PlayFault>
+    ensures { IfOk result (IsWritten text.now (W.contents writer.old) (W.contents writer.new)) }
+{
     match read_scene(alloc, text) {
-        Ok(scene) => play_scene(alloc, scene, &mut out),
+        Ok(scene) => play(alloc, scene, writer),
         Err(SceneError::Memory) => Err(PlayFault::Memory),
-        Err(SceneError::Fault(fault)) => tell_fault(fault, &mut out),
+        Err(SceneError::Fault(fault)) => write_fault(alloc, fault, writer),
     }
 }
 
-fn tell_fault<W: Write>(fault: SceneFault, out: &mut Output<'_, W>) -> Result<Ended, PlayFault> {
-    print_scene_fault(&mut out.text, fault)?;
-    out.finish()?;
-    Ok(Ended::Fault(fault))
-}
-
-fn play_scene<W: Write>(
+fn write_fault<W: Write>(
     alloc: Global,
-    scene: Scene,
-    out: &mut Output<'_, W>,
-) -> Result<Ended, PlayFault> {
-    match play(alloc, scene, out) {
-        Ok(()) => Ok(Ended::Clean),
-        Err(PlayFault::WriteFailed) => Err(PlayFault::WriteFailed),
-        Err(fault) => {
-            out.stop()?;
-            Ok(Ended::Stopped(fault))
-        }
+    fault: SceneFault,
+    writer: &mut W,
+) -> Result<Ended, PlayFault>
+    ensures ended { IfOk result (λ end. end ≡ ended.Fault fault) }
+    ensures written { OnOk result (Appends (W.contents writer.old) (W.contents writer.new)
+        (scene_fault_text fault)) }
+{
+    let mut line = Vec::new(alloc);
+    print_scene_fault(&mut line, fault)?;
+    match writer.write_all(&line) {
+        Ok(()) => Ok(Ended::Fault(fault)),
+        Err(_) => Err(PlayFault::WriteFailed),
     }
 }

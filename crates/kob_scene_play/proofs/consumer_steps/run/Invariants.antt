@@ -1,7 +1,9 @@
-use Rattle.kob_scene_play.proofs.ConsumerRunning.{HasRead}
+use Rattle.kob_scene_play.specs.Printing.{Tells}
+use Rattle.kob_scene_play.specs.Steps.{IsConsumerStep}
 use Rattle.kob_scene_play.proofs.consumer_steps.run.Given as goal
+use Rattle.kob_scene_text.specs.declared.scene.ConsumerStep.TheVariants as consumer_steps
 
 abbrev pub invariant-loop : goal.invariant-loop
-invariant-loop g l =
-    HasRead l.initial.consumer l.consumer (g.W.Write.contents l.initial.out.writer.now)
-    (g.W.Write.contents l.out.writer.now) l.initial.out.text.items l.out.text.items
+invariant-loop l =
+    Tells (IsConsumerStep consumer_steps.Run l.initial.consumer l.consumer l.initial.out.told l.out.told)
+    l.initial.out.text.items l.out.text.items

@@ -2,6 +2,5 @@ use Rattle.kob_scene_play.proofs.Running.{HasRun}
 use Rattle.kob_scene_play.proofs.service_steps.run.Given as goal
 
 abbrev pub invariant-loop : goal.invariant-loop
-invariant-loop g l =
-    HasRun l.initial.service l.service l.initial.out.told l.out.told (g.W.Write.contents l.initial.out.writer.now)
-    (g.W.Write.contents l.out.writer.now) l.initial.out.text.items l.out.text.items l.counter
+invariant-loop l =
+    HasRun l.initial.service l.service l.initial.out.told l.out.told l.initial.out.text.items l.out.text.items l.counter

@@ -9,3 +9,6 @@ invariant_of-self c =
     let made = c.record.ensures in
     first_after_record (option_map hand_of was.router.hand) was.outbox c.record.new.self c.args.change.now
     c.args.event.now c.record.result c.self.invariant made.ok made.err
+
+pub returns-clause-bad : goal.returns-clause-bad
+returns-clause-bad c = λ column is. (c.record.ensures.bad column).0 is

@@ -1,0 +1,37 @@
+-- What is answered about the laws.
+use Rattle.std.proofs.Common.{◌≡◌, ℕ, List, ◌++◌, ap, ◌∙◌, refl, rules}
+use Rattle.std.specs.Prelude.{Err, MatchOption, Ok, OnOk, Option, Result, Some, slice_get}
+use Rattle.kob_inbox.specs.declared.fetcher.Subscription.{Subscription}
+use Rattle.kob_pipeline.specs.Premises.{ArePrivate, IsBreach}
+use Rattle.kob_pipeline.specs.declared.premises.Breach.{Breach}
+use Rattle.kob_router.specs.Line.{one_more}
+use Rattle.kob_scene_play.specs.Laws.{IsAnswered, IsLaw, law_text}
+use Rattle.kob_scene_play.specs.Printing.{Tells}
+use Rattle.kob_scene_play.specs.declared.stage.PlayedConsumer.{PlayedConsumer}
+use Rattle.kob_scene_play.specs.declared.stage.PlayedService.{PlayedService}
+use Rattle.kob_scene_play.specs.declared.stage.Stage.{Stage}
+use Rattle.kob_shared.specs.declared.journal.Entry.{Entry}
+
+-- the text of what was found
+pub answered : (sender taker : ℕ) (subscription : Subscription) (journal : List Entry) (told number : ℕ)
+    (breach : Option Breach) (misplaced : Option ℕ) (held now : List ℕ) → number ≡ one_more told
+    → MatchOption breach (ArePrivate sender taker subscription.group subscription.assignment journal)
+    (IsBreach sender taker subscription.group subscription.assignment journal)
+    → now ≡ held ++ law_text number subscription.assignment breach misplaced
+    → Tells (IsLaw sender taker subscription journal told) held now
+answered sender taker subscription journal told number breach misplaced held now next found printed = (
+  law_text (one_more told) subscription.assignment breach misplaced,
+  (breach, misplaced, found, refl),
+  printed ∙ ap (λ n. held ++ law_text n subscription.assignment breach misplaced) next,
+)
+
+-- of the service and the consumer at these places
+pub asked : {E : Type 0} (result : Result (Unit {0}) E) (service consumer : ℕ) (stage : Stage) (sender : PlayedService)
+    (taker : PlayedConsumer) (told : ℕ) (held now : List ℕ) → slice_get stage.services.items service ≡ Some sender
+    → slice_get stage.consumers.items consumer ≡ Some taker
+    → OnOk result (Tells (IsLaw sender.service.worker taker.consumer.worker taker.consumer.fetcher.subscription
+    stage.recorded.journal told) held now)
+    → OnOk result (Tells (IsAnswered service consumer stage told) held now)
+asked (Ok done) service consumer stage sender taker told held now first second (text, is, printed) =
+    (text, (sender, taker, first, second, is), printed)
+asked (Err fault) service consumer stage sender taker told held now first second is = is

@@ -1,0 +1,13 @@
+use Rattle.std.proofs.Common.{refl, rules}
+use Rattle.std.proofs.lemmas.Option.{slice_get_read}
+use Rattle.kob_scene_play.proofs.Answered.{asked}
+use Rattle.kob_scene_play.proofs.law.show_law.Goals as goal
+
+pub returns-clause-done : goal.returns-clause-done
+returns-clause-done c =
+    asked c.answer.result c.args.service c.args.consumer c.args.stage.now c.in-Some.sender.now
+    c.in-Some-get_mut.taker.now c.args.out.now.told _ _
+    (slice_get_read c.args.stage.now.services.items _ c.args.service c.in-Some.sender.now refl (search rules) (search rules))
+    (slice_get_read c.args.stage.now.consumers.items _ c.args.consumer c.in-Some-get_mut.taker.now refl (search rules)
+    (search rules))
+    (rw c.misplaced_row.ensures at (rw c.number.ensures at (rw c.journal.ensures.value at c.answer.ensures.done)))

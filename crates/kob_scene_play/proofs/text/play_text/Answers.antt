@@ -1,0 +1,5 @@
+use Rattle.kob_scene_play.proofs.Written.{scene_written}
+use Rattle.kob_scene_play.proofs.text.play_text.Goals as goal
+
+pub returns-in-Ok : goal.returns-in-Ok
+returns-in-Ok g c = scene_written c.args.text.now c.in-Ok.scene c.play.result _ _ c.in-Ok.ensures c.play.ensures
