@@ -1,93 +1,55 @@
 //! The state at the end of a scene, as Kafka and Debezium take it.
 
-ghost use Rattle.std.specs.Prelude.{◌≡◌, ◌++◌, flat_map, IfOk, OnOk};
-ghost use Rattle.kob_broker.specs.Change.{state_of};
-ghost use Rattle.kob_broker.specs.State.{open_state};
-ghost use Rattle.kob_scene.specs.Export.{commands_mark, properties_mark};
-ghost use Rattle.kob_scene.specs.Export.{request_in, requests_in, service_text};
-ghost use Rattle.kob_scene.specs.Export.{settings_part, topic_line};
+ghost use Rattle.std.specs.Prelude.{◌≡◌, ◌++◌, flat_map, OnOk};
+ghost use Rattle.kob_scene.specs.Export.{commands_mark, commands_part, export_text, exported};
+ghost use Rattle.kob_scene.specs.Export.{properties_mark, service_text, settings_part, topic_line};
+ghost use Rattle.kob_scene.specs.Standing.{seen};
 ghost use Rattle.kob_scene_export.specs.Bindings.{binding_line};
 
-use crate::standing::{Topic, topics_by};
-use kob_broker::Broker;
-use kob_names::{Binding, PlainValue, Settings};
-use kob_rights::Event;
+use crate::standing::{End, Topic, end_of};
+use kob_names::{Binding, Settings};
 use kob_scene_export::{
     export_binding, export_connector, export_head, export_settings, export_topic,
 };
-use kob_scene_text::{Scene, Service, Step};
+use kob_scene_text::{Scene, Service};
 use std::alloc::{AllocError, Global};
 
 /// Adds the settings of a scene, the topics and the bindings at its end, and its
 /// services. Topics and bindings are those that its requests leave: no step of a service or a
 /// consumer asks for a change of them. The error is out of memory.
-pub fn export_scene(alloc: Global, out: &mut Vec<u8>, scene: &Scene) -> Result<(), AllocError> {
-    let mut events = Vec::new(alloc);
-    push_requests(alloc, &mut events, &scene.steps)?;
-    let mut broker = broker_of(alloc, &scene.settings)?;
-    export_from(alloc, out, &mut broker, &events, &scene.services)
-}
-
-fn broker_of(alloc: Global, settings: &Settings) -> Result<Broker, AllocError>
-    ensures { IfOk result (λ broker. state_of broker ≡ open_state settings.now) }
+pub fn export_scene(alloc: Global, out: &mut Vec<u8>, scene: &Scene) -> Result<(), AllocError>
+    ensures { OnOk result (out.new.items ≡ out.old.items ++ export_text scene.now) }
 {
-    let settings = settings.copy(alloc)?;
-    match Broker::open(alloc, settings) {
-        Ok(broker) => Ok(broker),
-        Err(_) => Err(AllocError),
-    }
+    let end = end_of(alloc, scene)?;
+    let made = push_end(alloc, out, &end, &scene.services);
+    drop(end);
+    made
 }
 
-fn push_requests(alloc: Global, events: &mut Vec<Event>, steps: &[Step]) -> Result<(), AllocError>
-    ensures { OnOk result (events.new.items ≡ events.old.items ++ requests_in steps.now) }
-{
-    for step in steps {
-        push_request(alloc, events, step)?;
-    }
-    Ok(())
-}
-
-fn push_request(alloc: Global, events: &mut Vec<Event>, step: &Step) -> Result<(), AllocError>
-    ensures { OnOk result (events.new.items ≡ events.old.items ++ request_in step.now) }
-{
-    if let Step::Request(event) = step {
-        let event = event.copy(alloc)?;
-        events.push(event)?;
-    }
-    Ok(())
-}
-
-/// The state after these events on a broker with no topic.
-fn export_from(
+fn push_end(
     alloc: Global,
     out: &mut Vec<u8>,
-    broker: &mut Broker,
-    events: &[Event],
+    end: &End,
     services: &[Service],
-) -> Result<(), AllocError> {
-    let topics = topics_by(alloc, broker, events)?;
-    export_ended(alloc, out, broker, &topics, services)
+) -> Result<(), AllocError>
+    ensures { OnOk result (out.new.items ≡ out.old.items ++ exported (seen end.now) services.now) }
+{
+    let settings = end.broker.opening(alloc)?;
+    push_all(out, &settings, &end.topics, services)
 }
 
-fn export_ended(
-    alloc: Global,
-    out: &mut Vec<u8>,
-    broker: &Broker,
-    topics: &[Topic],
-    services: &[Service],
-) -> Result<(), AllocError> {
-    let ended = broker.opening(alloc)?;
-    push_all(out, &ended, topics, services)
-}
-
+#[tactic(auto, using(kob_words::proofs::Appending::appending))]
 fn push_all(
     out: &mut Vec<u8>,
-    ended: &Settings,
+    settings: &Settings,
     topics: &[Topic],
     services: &[Service],
-) -> Result<(), AllocError> {
-    push_settings(out, ended)?;
-    push_commands(out, ended, topics)?;
+) -> Result<(), AllocError>
+    ensures { OnOk result (out.new.items ≡ out.old.items ++ (settings_part settings.now
+        ++ commands_part settings.now topics.now ++ flat_map service_text services.now)) }
+{
+    push_settings(out, settings)?;
+    push_commands(out, settings, topics)?;
     push_services(out, services)
 }
 
@@ -107,7 +69,10 @@ fn properties_mark() -> &'static str
     "# server.properties\n"
 }
 
-fn push_commands(out: &mut Vec<u8>, ended: &Settings, topics: &[Topic]) -> Result<(), AllocError> {
+#[tactic(auto, using(kob_words::proofs::Appending::appending))]
+fn push_commands(out: &mut Vec<u8>, ended: &Settings, topics: &[Topic]) -> Result<(), AllocError>
+    ensures { OnOk result (out.new.items ≡ out.old.items ++ commands_part ended.now topics.now) }
+{
     out.extend_from_slice(commands_mark().as_bytes())?;
     push_topics(out, topics)?;
     push_bindings(out, ended.opening.as_slice())
@@ -120,7 +85,10 @@ fn commands_mark() -> &'static str
     "# commands\n"
 }
 
-fn push_topics(out: &mut Vec<u8>, topics: &[Topic]) -> Result<(), AllocError> {
+#[tactic(auto, using(kob_words::proofs::Appending::appending))]
+fn push_topics(out: &mut Vec<u8>, topics: &[Topic]) -> Result<(), AllocError>
+    ensures { OnOk result (out.new.items ≡ out.old.items ++ flat_map topic_line topics.now) }
+{
     for topic in topics {
         push_topic(out, topic)?;
     }

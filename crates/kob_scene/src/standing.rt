@@ -1,15 +1,16 @@
-//! The topics that exist after the requests of a scene.
+//! The broker after the requests of a scene, and the topics that exist then.
 
-ghost use Rattle.std.specs.Prelude.{◌≡◌, filter, OnOk};
+ghost use Rattle.std.specs.Prelude.{◌≡◌, filter, IfOk, OnOk};
 ghost use Rattle.kob_broker.specs.Change.{state_of};
-ghost use Rattle.kob_broker.specs.Step.{state_after};
-ghost use Rattle.kob_partition.specs.Retained.{retained_meaning};
-ghost use Rattle.kob_scene.specs.Standing.{is_other, topics_after, topics_done};
+ghost use Rattle.kob_broker.specs.State.{open_state};
+ghost use Rattle.kob_scene.specs.Standing.{after_event, after_step, end_of, is_other, seen};
+ghost use Rattle.kob_scene.specs.Standing.{topics_after, topics_done};
 ghost use Rattle.kob_rights.specs.declared.request.Request.TheVariants as requests;
 
 use kob_broker::Broker;
-use kob_names::{PlainValue, Text};
+use kob_names::{PlainValue, Settings, Text};
 use kob_rights::{CreateTopics, Event, Reply, Request};
+use kob_scene_text::{Scene, Step};
 use std::alloc::{AllocError, Global};
 
 /// A topic, with its number of partitions.
@@ -19,32 +20,52 @@ pub struct Topic {
     pub partitions: u64,
 }
 
-/// Serves events, and returns which topics exist then, of a broker that had none.
-pub fn topics_by(
-    alloc: Global,
-    broker: &mut Broker,
-    events: &[Event],
-) -> Result<Vec<Topic>, AllocError>
-    ensures { OnOk result (state_of broker.new
-        ≡ state_after retained_meaning events.now (state_of broker.old)) }
+/// A broker after requests, and the topics that exist then.
+#[derive(Drop)]
+pub struct End {
+    pub broker: Broker,
+    pub topics: Vec<Topic>,
+}
+
+/// Serves the requests of a scene, on a broker as it opens it.
+#[tactic(auto, using(std::proofs::lemmas::List::Sums::fold_more))]
+pub fn end_of(alloc: Global, scene: &Scene) -> Result<End, AllocError>
+    ensures { IfOk result (λ end. seen end ≡ end_of scene.now) }
 {
-    match broker.run(alloc, events) {
-        Ok(replies) => topics_told(alloc, events, &replies),
+    let mut end = End {
+        broker: broker_of(alloc, &scene.settings)?,
+        topics: Vec::new(alloc),
+    };
+    for step in &scene.steps {
+        take_step(alloc, &mut end, step)?;
+    }
+    Ok(end)
+}
+
+fn broker_of(alloc: Global, settings: &Settings) -> Result<Broker, AllocError>
+    ensures { IfOk result (λ broker. state_of broker ≡ open_state settings.now) }
+{
+    let settings = settings.copy(alloc)?;
+    match Broker::open(alloc, settings) {
+        Ok(broker) => Ok(broker),
         Err(_) => Err(AllocError),
     }
 }
 
-/// The topics that exist after these replies to these events.
-fn topics_told(
-    alloc: Global,
-    events: &[Event],
-    replies: &[Reply],
-) -> Result<Vec<Topic>, AllocError> {
-    let mut topics = Vec::new(alloc);
-    for (event, reply) in events.iter().zip(replies) {
-        note_topics(alloc, &mut topics, &event.request, reply)?;
+fn take_step(alloc: Global, end: &mut End, step: &Step) -> Result<(), AllocError>
+    ensures { OnOk result (seen end.new ≡ after_step (seen end.old) step.now) }
+{
+    match step {
+        Step::Request(event) => serve(alloc, end, event),
+        _ => Ok(()),
     }
-    Ok(topics)
+}
+
+fn serve(alloc: Global, end: &mut End, event: &Event) -> Result<(), AllocError>
+    ensures { OnOk result (seen end.new ≡ after_event (seen end.old) event.now) }
+{
+    let reply = end.broker.serve(alloc, event)?;
+    note_topics(alloc, &mut end.topics, &event.request, &reply)
 }
 
 /// Notes what a request did to the topics that exist.
