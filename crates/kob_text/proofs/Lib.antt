@@ -1,6 +1,5 @@
 pub mod Ends
 pub mod InputLines
-pub mod Interrupted
 pub mod Outputs
 pub mod Parts
 pub mod PrintedReplies

@@ -1,8 +1,8 @@
 -- What was written of the text of a run.
-use Rattle.std.proofs.Common.{◌≡◌, ◌∙◌, ◌+◌, ◌<◌, ◌≤◌, ◌++◌, ℕ, List, ◌∷◌, length, suc, get_or, take, drop, arith, Option, Result, Ok, Err, OnOk, false, ap, refl, sym, inl, inr, append-nil, take-append-drop, drop_of_length-le}
+use Rattle.std.proofs.Common.{◌≡◌, ◌∙◌, ◌+◌, ◌<◌, ◌≤◌, ◌++◌, ℕ, List, ◌∷◌, length, suc, get_or, take, drop, arith, Option, Result, Ok, Err, OnOk, false, ap, refl, sym, inl, inr}
 use Rattle.std.specs.Result.{is_err}
 use Rattle.std.proofs.lemmas.Bool.{cases_lt}
-use Rattle.std.proofs.lemmas.List.{drop_more, length-drop}
+use Rattle.std.proofs.lemmas.List.{drop_more, length-drop, take_all}
 use Rattle.std.specs.Io.KnownBytes.{Appends}
 use Rattle.kob_rights.specs.declared.event.Event.{Event}
 use Rattle.kob_rights.specs.declared.reply.Reply.{Reply}
@@ -16,11 +16,6 @@ pub of_ok : {T E : Type 0} {P : Type 0} (r : Result T E) → is_err r ≡ false 
 of_ok (Ok x) is holds = holds
 of_ok (Err e) is holds = absurd (cc is)
 
-take_all : {A : Type 0} (xs : List A) (n : ℕ) → length xs ≤ n → take n xs ≡ xs
-take_all xs n past =
-    sym (append-nil (take n xs)) ∙ ap (λ rest. take n xs ++ rest) (sym (drop_of_length-le xs past))
-    ∙ take-append-drop n xs
-
 -- what is left from a place on begins with what stands at the place
 pub next_left : {A : Type 0} (xs left more : List A) (i : ℕ) (x : A) → left ≡ drop i xs → left ≡ x ∷ more
     → (i < length xs) × (x ≡ get_or xs i x) × (more ≡ drop (i + 1) xs)
@@ -29,12 +24,6 @@ next_left xs left more i x is front =
     let few : i < length xs = omega (arith, length-drop i xs, long) in
     let both = sym (drop_more xs i x few) ∙ (sym is ∙ front) in
     (few, sym (ap (λ rest. get_or rest 0 x) both), sym (ap (λ rest. drop 1 rest) both))
-
-pub nothing_left : {A : Type 0} (xs left : List A) (i count : ℕ) → left ≡ drop i xs → count ≡ length left → count ≡ 0
-    → length xs ≤ i
-nothing_left xs left i count is counts none =
-    let short : length (drop i xs) ≡ 0 = sym (ap length is) ∙ sym counts ∙ none in
-    omega (arith, length-drop i xs, short)
 
 module _ (replies : List Event → List Reply) (events : List Event) (done : ℕ) (a b : Option (List ℕ)) where
   -- a part of the text of the first replies is a part of that of a run
@@ -49,14 +38,14 @@ module _ (replies : List Event → List Reply) (events : List Event) (done : ℕ
           (done, fewer, refl),
           part_of_front a b text (stopped_text done) part,
         )
-        | inr all ↦ (Clean, text, ap (λ some. text_of_replies (replies some)) (take_all events done all), part)
+        | inr all ↦ (Clean, text, ap (λ some. text_of_replies (replies some)) (take_all done events all), part)
       ]
 
   module _ (c : Option (List ℕ)) (held : List ℕ) (so_far : AppendsAllBut a b (text_of_replies (replies (take done events))) held) where
     pub all_of_run : length events ≤ done → Appends b c held → WritesRun replies events Clean a c
     all_of_run past wrote = (
       text_of_replies (replies (take done events)),
-      ap (λ some. text_of_replies (replies some)) (take_all events done past),
+      ap (λ some. text_of_replies (replies some)) (take_all done events past),
       all_written a b c (text_of_replies (replies (take done events))) held so_far wrote,
     )
 
@@ -64,7 +53,7 @@ module _ (replies : List Event → List Reply) (events : List Event) (done : ℕ
     part_of_whole_run past part = (
       Clean,
       text_of_replies (replies (take done events)),
-      ap (λ some. text_of_replies (replies some)) (take_all events done past),
+      ap (λ some. text_of_replies (replies some)) (take_all done events past),
       part_of_held a b c (text_of_replies (replies (take done events))) held so_far part,
     )
 

@@ -8,7 +8,7 @@ ghost use Rattle.kob_script.specs.Blocks.{AreWholeLines};
 
 use crate::fault::OutputFault;
 use crate::replies::write_run;
-use crate::writing::write_all;
+use crate::transfer::write_all;
 use kob_names::Bytes;
 use kob_script::{Fault, ScriptError, check_script, print_fault};
 use std::alloc::Global;

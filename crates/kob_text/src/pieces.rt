@@ -8,7 +8,8 @@ ghost use Rattle.kob_text.specs.Limits.{piece_limit};
 ghost use Rattle.kob_text.specs.Transfer.{AppendsPart, AppendsAllBut};
 
 use crate::limits::PIECE_LIMIT;
-use crate::writing::{WriteFailed, write_all};
+use crate::transfer::write_all;
+use crate::writing::WriteFailed;
 use itoa::Buffer;
 use std::io::Write;
 

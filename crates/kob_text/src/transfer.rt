@@ -1,17 +1,20 @@
-//! Reading a whole script.
+//! Reading a whole script and writing a whole text.
 
 ghost use Rattle.std.specs.List.{concat};
-ghost use Rattle.std.specs.Prelude.{◌≡◌, ◌<◌, ◌≤◌, length, IfOk, IfSome, IsErrOf};
+ghost use Rattle.std.specs.Prelude.{◌≡◌, ◌<◌, ◌≤◌, length, IfOk, IfSome, IsErrOf, OnErr, OnOk};
+ghost use Rattle.std.specs.Io.KnownBytes.{Appends};
 ghost use Rattle.kob_script.specs.Blocks.{AreWholeLines};
 ghost use Rattle.kob_text.specs.Limits.{script_limit};
+ghost use Rattle.kob_text.specs.Transfer.{AppendsPart};
 
 use crate::fault::InputFault;
 use crate::input::Input;
 use crate::limits::SCRIPT_LIMIT;
 use crate::source::Source;
+use crate::writing::{WriteFailed, write_some};
 use kob_names::Bytes;
 use std::alloc::Global;
-use std::io::Read;
+use std::io::{Read, Write};
 
 /// All that the reader has left, at most 16,777,216 bytes of it, in blocks of whole lines.
 pub fn read_all<R: Read>(
@@ -39,4 +42,18 @@ pub fn read_all<R: Read>(
         left -= count;
         input.push(alloc, &piece[..count])?;
     }
+}
+
+/// Writes all of the text. After a failure the writer has taken a prefix of it, and not all.
+pub fn write_all<W: Write>(writer: &mut W, text: &[u8]) -> Result<(), WriteFailed>
+    ensures whole { OnOk result (Appends (W.contents writer.old) (W.contents writer.new) text.now) }
+    ensures part { OnErr result
+        (AppendsPart (W.contents writer.old) (W.contents writer.new) text.now) }
+{
+    let mut rest = text;
+    while !rest.is_empty() {
+        let count = write_some(writer, rest)?;
+        rest = &rest[count..];
+    }
+    Ok(())
 }

@@ -1,8 +1,7 @@
-//! Texts written whole.
+//! Calls of a writer.
 
 ghost use Rattle.std.specs.Prelude.{◌<◌, ◌≤◌, length, take, OnErr, OnOk, IfOk};
 ghost use Rattle.std.specs.Io.KnownBytes.{Appends, Keeps};
-ghost use Rattle.kob_text.specs.Transfer.{AppendsPart};
 
 use std::io::{ErrorKind, Write};
 
@@ -12,7 +11,7 @@ pub struct WriteFailed(());
 
 /// Writes some of the text, and returns the number of bytes. An interrupted call is made again.
 /// For an empty text the writer is not called.
-fn write_some<W: Write>(writer: &mut W, text: &[u8]) -> Result<usize, WriteFailed>
+pub fn write_some<W: Write>(writer: &mut W, text: &[u8]) -> Result<usize, WriteFailed>
     ensures bound { IfOk result (λ count. count ≤ length text.now) }
     ensures some { IfOk result (λ count. 0 < length text.now → 0 < count) }
     ensures nothing { OnErr result (0 < length text.now) }
@@ -31,18 +30,4 @@ fn write_some<W: Write>(writer: &mut W, text: &[u8]) -> Result<usize, WriteFaile
         }
     }
     Err(WriteFailed(()))
-}
-
-/// Writes all of the text. After a failure the writer has taken a prefix of it, and not all.
-pub fn write_all<W: Write>(writer: &mut W, text: &[u8]) -> Result<(), WriteFailed>
-    ensures whole { OnOk result (Appends (W.contents writer.old) (W.contents writer.new) text.now) }
-    ensures part { OnErr result
-        (AppendsPart (W.contents writer.old) (W.contents writer.new) text.now) }
-{
-    let mut rest = text;
-    while !rest.is_empty() {
-        let count = write_some(writer, rest)?;
-        rest = &rest[count..];
-    }
-    Ok(())
 }

@@ -5,7 +5,7 @@ use Rattle.std.proofs.Math.Seq.{take-append_seam}
 use Rattle.std.specs.Io.KnownBytes.{Appends}
 use Rattle.std.proofs.KnownBytes.{Appends-trans, Appends-kept}
 use Rattle.kob_text.specs.Transfer.{AppendsPart}
-use Rattle.kob_text.proofs.writing.write_all.Goals as goal
+use Rattle.kob_text.proofs.transfer.write_all.Goals as goal
 
 -- what is done is a part of the text while something is left
 part_of : (a b : Option (List ℕ)) (text done rest : List ℕ) → text ≡ done ++ rest → 0 < length rest → Appends a b done

@@ -1,7 +1,7 @@
 -- What is gone from `rest` was written.
 use Rattle.std.proofs.Common.{◌≡◌, ℕ, List, ◌++◌, length}
 use Rattle.std.specs.Io.KnownBytes.{Appends}
-use Rattle.kob_text.proofs.writing.write_all.Given as goal
+use Rattle.kob_text.proofs.transfer.write_all.Given as goal
 
 abbrev pub invariant-loop-rest : goal.invariant-loop-rest
 invariant-loop-rest g l =
