@@ -7,7 +7,7 @@ use Rattle.kob_router.specs.Line.{one_more}
 use Rattle.kob_scene_play.specs.Laws.{IsAnswered}
 use Rattle.kob_scene_play.proofs.Places.{put_at}
 use Rattle.kob_scene_play.specs.Printing.{Tells, Writes}
-use Rattle.kob_scene_play.specs.Scenes.{ArePlayed, IsRead, IsServed, IsStep, OthersStay}
+use Rattle.kob_scene_play.specs.Scenes.{ArePlayed, ConsumerKeeps, IsRead, IsServed, IsStep, OthersStay, ServiceKeeps}
 use Rattle.kob_scene_play.specs.Stages.{IsOpened, declared_consumer, declared_service, named_consumer, named_service}
 use Rattle.kob_scene_play.specs.Steps.{IsConsumerStep, IsServiceStep}
 use Rattle.kob_scene_play.specs.Texts.{WritesAll, WritesSteps}
@@ -58,11 +58,6 @@ written_both a b c held mid then_mid then_held one two (front, is_front, appende
   Appends-trans a b c front back appended then_appended,
 )
 
--- no step at first
-pub no_step : (stage : Stage) (told : ℕ) (first : Option (List ℕ)) (held : List ℕ)
-    → WritesSteps [] stage stage told told first held first held
-no_step stage told first held = ([], (refl, refl, refl), ([], append-nil held, Appends-nil first))
-
 -- one step more
 pub one_step_more : (before : List Step) (step : Step) (old mid new : Stage) (told mid_told then_told : ℕ)
     (first second third : Option (List ℕ)) (held mid_held then_mid_held then_held : List ℕ)
@@ -105,32 +100,32 @@ all_played (Err fault) scene opened closed told then_told first second third hel
 -- a step of a service
 pub service_played : {E : Type 0} (result : Result (Unit {0}) E) (which : ℕ) (step : ServiceStep) (old new : Stage)
     (told then_told : ℕ) (held then_held : List ℕ) → new.consumers ≡ old.consumers
-    → OthersStay which old.services.items new.services.items
+    → OnOk result (ServiceKeeps step old.recorded new.recorded) → OthersStay which old.services.items new.services.items
     → OnOk result (Tells (IsServed which step old.services.items new.services.items told then_told) held then_held)
     → OnOk result (Tells (IsStep (steps.Service which step) old new told then_told) held then_held)
-service_played (Ok done) which step old new told then_told held then_held consumers others (text, made, prints) =
-    (text, (consumers, others, made), prints)
-service_played (Err fault) which step old new told then_told held then_held consumers others made = tt
+service_played (Ok done) which step old new told then_told held then_held consumers kept others (text, made, prints) =
+    (text, (consumers, kept, others, made), prints)
+service_played (Err fault) which step old new told then_told held then_held consumers kept others made = tt
 
 -- a step of a consumer
 pub consumer_played : {E : Type 0} (result : Result (Unit {0}) E) (which : ℕ) (step : ConsumerStep) (old new : Stage)
     (told then_told : ℕ) (held then_held : List ℕ) → new.services ≡ old.services
-    → OthersStay which old.consumers.items new.consumers.items
+    → OnOk result (ConsumerKeeps step old.recorded new.recorded) → OthersStay which old.consumers.items new.consumers.items
     → OnOk result (Tells (IsRead which step old.consumers.items new.consumers.items told then_told) held then_held)
     → OnOk result (Tells (IsStep (steps.Consumer which step) old new told then_told) held then_held)
-consumer_played (Ok done) which step old new told then_told held then_held services others (text, made, prints) =
-    (text, (services, others, made), prints)
-consumer_played (Err fault) which step old new told then_told held then_held services others made = tt
+consumer_played (Ok done) which step old new told then_told held then_held services kept others (text, made, prints) =
+    (text, (services, kept, others, made), prints)
+consumer_played (Err fault) which step old new told then_told held then_held services kept others made = tt
 
 -- a question about the laws
 pub law_played : {E : Type 0} (result : Result (Unit {0}) E) (service consumer : ℕ) (old new : Stage) (told then_told : ℕ)
     (held then_held : List ℕ) → new.recorded ≡ old.recorded → new.services ≡ old.services
-    → OthersStay consumer old.consumers.items new.consumers.items → OnOk result (then_told ≡ one_more told)
+    → new.consumers.items ≡ old.consumers.items → OnOk result (then_told ≡ one_more told)
     → OnOk result (Tells (IsAnswered service consumer old told) held then_held)
     → OnOk result (Tells (IsStep (steps.Law service consumer) old new told then_told) held then_held)
-law_played (Ok done) service consumer old new told then_told held then_held recorded services others counted (text, answered, prints) =
-    (text, (recorded, services, others, counted, answered), prints)
-law_played (Err fault) service consumer old new told then_told held then_held recorded services others counted answered = tt
+law_played (Ok done) service consumer old new told then_told held then_held recorded services consumers counted (text, answered, prints) =
+    (text, (recorded, services, consumers, counted, answered), prints)
+law_played (Err fault) service consumer old new told then_told held then_held recorded services consumers counted answered = tt
 
 -- the service at a place made its step
 pub served_at : {E : Type 0} (result : Result (Unit {0}) E) (which : ℕ) (step : ServiceStep) (old : List PlayedService)

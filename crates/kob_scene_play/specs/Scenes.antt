@@ -9,8 +9,10 @@ use Rattle.kob_scene_play.specs.declared.stage.PlayedConsumer.{PlayedConsumer}
 use Rattle.kob_scene_play.specs.declared.stage.PlayedService.{PlayedService}
 use Rattle.kob_scene_play.specs.declared.stage.Stage.{Stage}
 use Rattle.kob_scene_text.specs.declared.scene.ConsumerStep.{ConsumerStep}
+use Rattle.kob_scene_text.specs.declared.scene.ConsumerStep.TheVariants as consumer_steps
 use Rattle.kob_scene_text.specs.declared.scene.Scene.{Scene}
 use Rattle.kob_scene_text.specs.declared.scene.ServiceStep.{ServiceStep}
+use Rattle.kob_scene_text.specs.declared.scene.ServiceStep.TheVariants as service_steps
 use Rattle.kob_scene_text.specs.declared.scene.Step.{Step}
 use Rattle.kob_scene_text.specs.declared.scene.Step.TheVariants as steps
 use Rattle.kob_script.specs.PrintedReply.{reply_text}
@@ -19,6 +21,18 @@ use Rattle.kob_shared.specs.Journals.{after_event, outcome_of}
 -- at every other place is what was there
 abbrev pub OthersStay : {A : Type 0} → ℕ → List A → List A → Type 0
 OthersStay which old new = (k : ℕ) → k ≢ which → slice_get new k ≡ slice_get old k
+
+-- a step of a service that makes no tick leaves the journal as it was
+abbrev pub ServiceKeeps : {A : Type 0} → ServiceStep → A → A → Type 0
+ServiceKeeps (service_steps.Tick lost) old new = Unit {0}
+ServiceKeeps service_steps.Run old new = Unit {0}
+ServiceKeeps step old new = new ≡ old
+
+-- and one of a consumer
+abbrev pub ConsumerKeeps : {A : Type 0} → ConsumerStep → A → A → Type 0
+ConsumerKeeps (consumer_steps.Tick lost) old new = Unit {0}
+ConsumerKeeps consumer_steps.Run old new = Unit {0}
+ConsumerKeeps step old new = new ≡ old
 
 -- the service at this place made the step, printed its answer, and kept its name
 abbrev pub IsServed : ℕ → ServiceStep → List PlayedService → List PlayedService → ℕ → ℕ → List ℕ
@@ -52,10 +66,12 @@ IsStep (steps.Request event) old new told then_told text =
     × (text ≡ reply_text (one_more told) (outcome_of old.recorded event).reply)
 IsStep (steps.Service which step) old new told then_told text =
     (new.consumers ≡ old.consumers)
+    × ServiceKeeps step old.recorded new.recorded
     × OthersStay which old.services.items new.services.items
     × IsServed which step old.services.items new.services.items told then_told text
 IsStep (steps.Consumer which step) old new told then_told text =
     (new.services ≡ old.services)
+    × ConsumerKeeps step old.recorded new.recorded
     × OthersStay which old.consumers.items new.consumers.items
     × IsRead which step old.consumers.items new.consumers.items told then_told text
 IsStep steps.Journal old new told then_told text =
@@ -63,7 +79,7 @@ IsStep steps.Journal old new told then_told text =
 IsStep (steps.Law service consumer) old new told then_told text =
     (new.recorded ≡ old.recorded)
     × (new.services ≡ old.services)
-    × OthersStay consumer old.consumers.items new.consumers.items
+    × (new.consumers.items ≡ old.consumers.items)
     × (then_told ≡ one_more told)
     × IsAnswered service consumer old told text
 

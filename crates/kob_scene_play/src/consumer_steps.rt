@@ -2,6 +2,7 @@
 
 ghost use Rattle.std.specs.Prelude.{OnOk};
 ghost use Rattle.kob_scene_play.specs.Printing.{Tells};
+ghost use Rattle.kob_scene_play.specs.Scenes.{ConsumerKeeps};
 ghost use Rattle.kob_scene_play.specs.Steps.{IsConsumerStep};
 ghost use Rattle.kob_scene_text.specs.declared.scene.ConsumerStep.TheVariants as consumer_steps;
 
@@ -33,8 +34,9 @@ pub(crate) fn play_consumer(
     step: &ConsumerStep,
     out: &mut Output,
 ) -> Result<(), PlayFault>
-    ensures { OnOk result (Tells (IsConsumerStep step.now consumer.old
+    ensures done { OnOk result (Tells (IsConsumerStep step.now consumer.old
         consumer.new out.old.told out.new.told) out.old.text.items out.new.text.items) }
+    ensures journal { OnOk result (ConsumerKeeps step.now recorded.old recorded.new) }
 {
     match step {
         ConsumerStep::Tick(lost) => {

@@ -6,7 +6,6 @@ ghost use Rattle.std.specs.Option.{option_copied};
 ghost use Rattle.kob_scene_play.specs.Laws.{IsAnswered, IsLaw, breach_text, broken_text, law_text};
 ghost use Rattle.kob_scene_play.specs.Laws.{misplaced_text, name_text, order_text, premise_text, topic_text};
 ghost use Rattle.kob_scene_play.specs.Printing.{Tells};
-ghost use Rattle.kob_scene_play.specs.Scenes.{OthersStay};
 
 use crate::consumer_worker::ConsumerWorker;
 use crate::fault::PlayFault;
@@ -36,7 +35,7 @@ pub(crate) fn show_law(
 ) -> Result<(), PlayFault>
     ensures recorded { stage.new.recorded ≡ stage.old.recorded }
     ensures services { stage.new.services ≡ stage.old.services }
-    ensures others { OthersStay consumer stage.old.consumers.items stage.new.consumers.items }
+    ensures consumers { stage.new.consumers.items ≡ stage.old.consumers.items }
     ensures done { OnOk result (Tells (IsAnswered service consumer stage.old out.old.told)
         out.old.text.items out.new.text.items) }
     ensures told { OnOk result (out.new.told ≡ one_more out.old.told) }

@@ -3,7 +3,8 @@
 ghost use Rattle.std.specs.Prelude.{◌≡◌, ◌++◌, [], IfOk, OnOk};
 ghost use Rattle.kob_router.specs.Line.{one_more};
 ghost use Rattle.kob_scene_play.specs.Printing.{Tells};
-ghost use Rattle.kob_scene_play.specs.Scenes.{IsRead, IsServed, IsStep, OthersStay};
+ghost use Rattle.kob_scene_play.specs.Scenes.{ConsumerKeeps, IsRead, IsServed, IsStep};
+ghost use Rattle.kob_scene_play.specs.Scenes.{OthersStay, ServiceKeeps};
 ghost use Rattle.kob_scene_play.specs.Texts.{EndsAs, WritesAll, WritesSteps};
 ghost use Rattle.kob_script.specs.PrintedReply.{reply_text};
 ghost use Rattle.kob_shared.specs.Journals.{after_event, outcome_of};
@@ -23,8 +24,8 @@ use kob_shared::Recorded;
 use std::alloc::Global;
 use std::io::Write;
 
-/// Plays a scene, one step after another, and writes what each answers and nothing else. The fault is
-/// `WriteFailed`, or `Memory` before the first step.
+/// Plays a scene, one step after another, and writes what each answers and nothing else. The
+/// fault is `WriteFailed`, or `Memory` before the first step.
 pub fn play<W: Write>(alloc: Global, scene: Scene, writer: &mut W) -> Result<Ended, PlayFault>
     ensures { IfOk result (EndsAs scene (W.contents writer.old) (W.contents writer.new)) }
 {
@@ -118,7 +119,6 @@ fn play_step(
 }
 
 /// Plays a step of the service at this place of the stage.
-
 fn play_service_at(
     alloc: Global,
     stage: &mut Stage,
@@ -128,6 +128,8 @@ fn play_service_at(
     out: &mut Output,
 ) -> Result<(), PlayFault>
     ensures consumers { stage.new.consumers ≡ stage.old.consumers }
+    ensures journal { OnOk result
+        (ServiceKeeps step.now stage.old.recorded stage.new.recorded) }
     ensures others { OthersStay which stage.old.services.items stage.new.services.items }
     ensures done { OnOk result (Tells (IsServed which step.now stage.old.services.items
         stage.new.services.items out.old.told out.new.told) out.old.text.items out.new.text.items) }
@@ -139,7 +141,6 @@ fn play_service_at(
 }
 
 /// Plays a step of the consumer at this place of the stage.
-
 fn play_consumer_at(
     alloc: Global,
     stage: &mut Stage,
@@ -148,9 +149,12 @@ fn play_consumer_at(
     out: &mut Output,
 ) -> Result<(), PlayFault>
     ensures services { stage.new.services ≡ stage.old.services }
+    ensures journal { OnOk result
+        (ConsumerKeeps step.now stage.old.recorded stage.new.recorded) }
     ensures others { OthersStay which stage.old.consumers.items stage.new.consumers.items }
     ensures done { OnOk result (Tells (IsRead which step.now stage.old.consumers.items
-        stage.new.consumers.items out.old.told out.new.told) out.old.text.items out.new.text.items) }
+        stage.new.consumers.items out.old.told out.new.told) out.old.text.items
+        out.new.text.items) }
 {
     match stage.consumers.get_mut(which) {
         Some(played) => {

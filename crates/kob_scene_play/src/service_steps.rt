@@ -2,6 +2,7 @@
 
 ghost use Rattle.std.specs.Prelude.{◌≡◌, IfOk, OnOk};
 ghost use Rattle.kob_scene_play.specs.Printing.{Tells};
+ghost use Rattle.kob_scene_play.specs.Scenes.{ServiceKeeps};
 ghost use Rattle.kob_scene_play.specs.Steps.{IsServiceStep, IsTold, goes_on_after, loss_for};
 ghost use Rattle.kob_scene_text.specs.declared.scene.ServiceStep.TheVariants as service_steps;
 
@@ -35,6 +36,7 @@ pub(crate) fn play_service(
     ensures done { OnOk result (Tells (IsServiceStep step.now played.old.service
         played.new.service out.old.told out.new.told) out.old.text.items out.new.text.items) }
     ensures name { played.new.name ≡ played.old.name }
+    ensures journal { OnOk result (ServiceKeeps step.now recorded.old recorded.new) }
 {
     match step {
         ServiceStep::Record(change, event) => record(played, place, change, event, out),
@@ -59,8 +61,9 @@ fn record(
     event: &OutboxEvent,
     out: &mut Output,
 ) -> Result<(), PlayFault>
-    ensures done { OnOk result (Tells (IsServiceStep (service_steps.Record change.now event.now) played.old.service
-        played.new.service out.old.told out.new.told) out.old.text.items out.new.text.items) }
+    ensures done { OnOk result (Tells (IsServiceStep
+        (service_steps.Record change.now event.now) played.old.service played.new.service
+        out.old.told out.new.told) out.old.text.items out.new.text.items) }
     ensures name { played.new.name ≡ played.old.name }
 {
     played.recorded_by.reserve(1)?;
@@ -169,8 +172,9 @@ fn show_state(
     key: &Text,
     out: &mut Output,
 ) -> Result<(), PlayFault>
-    ensures done { OnOk result (Tells (IsServiceStep (service_steps.Business kind.now key.now) service.old
-        service.new out.old.told out.new.told) out.old.text.items out.new.text.items) }
+    ensures { OnOk result (Tells (IsServiceStep (service_steps.Business kind.now key.now)
+        service.old service.new out.old.told out.new.told) out.old.text.items
+        out.new.text.items) }
 {
     let state = service.business(kind.as_str(), key.as_str())?;
     let number = out.number();

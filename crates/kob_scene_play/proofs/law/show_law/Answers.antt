@@ -1,6 +1,7 @@
 use Rattle.std.proofs.Common.{refl, rules}
 use Rattle.std.proofs.lemmas.Option.{slice_get_read}
 use Rattle.kob_scene_play.proofs.Answered.{asked}
+use Rattle.kob_scene_play.proofs.Places.{same_put}
 use Rattle.kob_scene_play.proofs.law.show_law.Goals as goal
 
 pub returns-clause-done : goal.returns-clause-done
@@ -11,3 +12,9 @@ returns-clause-done c =
     (slice_get_read c.args.stage.now.consumers.items _ c.args.consumer c.in-Some-get_mut.taker.now refl (search rules)
     (search rules))
     (rw c.misplaced_row.ensures at (rw c.number.ensures at (rw c.journal.ensures.value at c.answer.ensures.done)))
+
+pub returns-clause-consumers : goal.returns-clause-consumers
+returns-clause-consumers c =
+    rw c.misplaced_row.ensures (same_put c.args.stage.now.consumers.items c.args.consumer c.in-Some-get_mut.taker.now
+    (slice_get_read c.args.stage.now.consumers.items _ c.args.consumer c.in-Some-get_mut.taker.now refl (search rules)
+    (search rules)))
