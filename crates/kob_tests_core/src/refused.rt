@@ -54,12 +54,12 @@ pub(crate) fn binding(alloc: Global, kind: PatternKind, name: &str) -> Option<Bi
 }
 
 /// A filter by the name `orders` alone.
-pub(crate) fn of_orders(alloc: Global, pattern: FilterPattern) -> Option<BindingFilter> {
+pub(crate) fn of_orders(alloc: Global) -> Option<BindingFilter> {
     let name = Text::copied(alloc, "orders").ok()?;
     Some(BindingFilter {
         resource: None,
         name: Some(name),
-        pattern,
+        pattern: FilterPattern::Any,
         principal: None,
         host: None,
         operation: None,
@@ -67,20 +67,13 @@ pub(crate) fn of_orders(alloc: Global, pattern: FilterPattern) -> Option<Binding
     })
 }
 
-/// Whoever asks, and ten bindings, of which nine differ.
-#[derive(Drop)]
-pub(crate) struct Asked {
-    pub(crate) asker: (Principal, Host),
-    pub(crate) bindings: Vec<Binding>,
-}
-
-pub(crate) fn ten_bindings(alloc: Global) -> Option<Asked> {
-    let mut bindings = Vec::new(alloc);
-    for (kind, name) in PATTERNS {
-        bindings.push(binding(alloc, kind, name)?).ok()?;
+/// Puts ten bindings, of which nine differ.
+pub(crate) fn put_bindings(alloc: Global, bindings: &mut Vec<Binding>) -> Option<()> {
+    for (kind, name) in &PATTERNS {
+        let binding = binding(alloc, *kind, name)?;
+        bindings.push(binding).ok()?;
     }
-    let asker = asker(alloc)?;
-    Some(Asked { asker, bindings })
+    Some(())
 }
 
 fn may_write(authorizer: &Authorizer, asker: &(Principal, Host), topic: &str) -> Verdict {
@@ -145,29 +138,35 @@ fn come_and_go(
     alloc: Global,
     authorizer: &mut Authorizer,
     asker: &(Principal, Host),
-    bindings: &[Binding],
+    bindings: &mut Vec<Binding>,
 ) -> Option<bool> {
-    let come = gets_serials(alloc, authorizer, asker, bindings).ok()?
-        && stands(authorizer, asker, 9, ALL);
-    let filter = of_orders(alloc, FilterPattern::Any)?;
-    let taken = takes_two(alloc, authorizer, asker, &filter).ok();
-    drop(filter);
-    Some(come && taken? && stands(authorizer, asker, 7, WITHOUT_TWO))
+    put_bindings(alloc, bindings)?;
+    let come = gets_serials(alloc, authorizer, asker, bindings).ok()?;
+    let stood = stands(authorizer, asker, 9, ALL);
+    let orders = of_orders(alloc)?;
+    let taken = takes_two(alloc, authorizer, asker, &orders);
+    drop(orders);
+    Some(come && stood && taken == Ok(true) && stands(authorizer, asker, 7, WITHOUT_TWO))
 }
 
 fn ten_come_and_go(alloc: Global) -> Option<bool> {
-    let Asked { asker, bindings } = ten_bindings(alloc)?;
+    let asker = asker(alloc)?;
+    let mut bindings = Vec::new(alloc);
     let mut authorizer = Authorizer::open(alloc, Vec::new(alloc), false);
-    let done = come_and_go(alloc, &mut authorizer, &asker, &bindings);
+    let done = come_and_go(alloc, &mut authorizer, &asker, &mut bindings);
     drop(authorizer);
+    drop(bindings);
     done
 }
 
 /// Where one allocation is refused outside of the calls that are looked at, all is done once more.
 #[test]
 fn ten_bindings_come_and_go(rt: HostRuntime) {
-    let done = ten_come_and_go(rt.alloc()).or_else(|| ten_come_and_go(rt.alloc()));
-    assert_eq!(rt; done, Some(true));
+    let done = match ten_come_and_go(rt.alloc()) {
+        None => ten_come_and_go(rt.alloc()),
+        done => done,
+    };
+    assert!(rt; done == Some(true));
 }
 
 pub(crate) const NEW: Idem = Idem {
@@ -205,17 +204,20 @@ fn appended(alloc: Global, log: &mut PartitionLog) -> Result<u64, AppendFault> {
     log.append(batch(alloc, Some(NEW), 100)?)
 }
 
+/// Puts 200 records of no producer into a log.
+pub(crate) fn put_two_hundred(alloc: Global, log: &mut PartitionLog) -> Option<()> {
+    let batch = batch(alloc, None, 200).ok()?;
+    log.append(batch).ok()?;
+    Some(())
+}
+
 /// Whether they get the offset 200, and are there.
 fn appends_across(alloc: Global, log: &mut PartitionLog) -> Option<bool> {
-    log.append(batch(alloc, None, 200).ok()?).ok()?;
+    put_two_hundred(alloc, log)?;
     let offset = appended(alloc, log).ok()?;
-    let fetched = log.fetch(alloc, 200, 1_000).ok()?;
-    Some(
-        offset == 200
-            && fetched.len() == 100
-            && log.end() == 300
-            && log.judge(&NEW, 100) == Judgement::Repeat(200),
-    )
+    let count = log.fetch(alloc, 200, 1_000).ok()?.len();
+    let judged = log.judge(&NEW, 100) == Judgement::Repeat(200);
+    Some((offset, count, log.end(), judged) == (200, 100, 300, true))
 }
 
 fn new_producer_across_edge(alloc: Global) -> Option<bool> {
@@ -227,8 +229,9 @@ fn new_producer_across_edge(alloc: Global) -> Option<bool> {
 
 #[test]
 fn new_producer_across_chunk_edge(rt: HostRuntime) {
-    let done = new_producer_across_edge(rt.alloc()).or_else(|| new_producer_across_edge(
-        rt.alloc(),
-    ));
-    assert_eq!(rt; done, Some(true));
+    let done = match new_producer_across_edge(rt.alloc()) {
+        None => new_producer_across_edge(rt.alloc()),
+        done => done,
+    };
+    assert!(rt; done == Some(true));
 }

@@ -1,20 +1,18 @@
 //! Second steps, which take no memory: it was all taken by the first. `.ci/refuse` runs them with
 //! every allocation refused from `spare` on.
 
+use crate::chunks::put_below;
+use crate::names::copied_twice;
 use crate::refused::{
-    ALL, Asked, NEW, SERIALS, WITHOUT_TWO, asker, batch, of_orders, stands, ten_bindings,
+    ALL, NEW, SERIALS, WITHOUT_TWO, asker, batch, of_orders, put_bindings, put_two_hundred, stands,
 };
 use kob_authorizer::Authorizer;
 use kob_chunks::ChunkList;
-use kob_names::{
-    Batch, Binding, FilterPattern, Host, Operation, PlainValue, Principal, ResourceKind, Text,
-    Verdict,
-};
+use kob_names::{Batch, Binding, BindingFilter, Host, Operation, Principal, ResourceKind, Verdict};
 use kob_partition::{AdvanceFault, PartitionLog, Placement};
 use kob_prefix_tree::{PatternKind, PrefixTree};
 use kob_producers::Judgement;
 use std::alloc::{AllocError, Global};
-use std::test::Fail;
 
 /// The size of the allocation by which `.ci/refuse` knows that all that come after it are to be
 /// refused.
@@ -38,54 +36,75 @@ fn commits_creation(
     alloc: Global,
     authorizer: &mut Authorizer,
     asker: &(Principal, Host),
-    bindings: &[Binding],
+    bindings: &mut Vec<Binding>,
 ) -> Option<bool> {
+    put_bindings(alloc, bindings)?;
     let prepared = authorizer.prepare_create(alloc, bindings).ok()?;
     spare(alloc);
-    let is_prepared = prepared.serials() == SERIALS && is_empty(authorizer);
-    let serials = authorizer.commit_create(prepared);
-    Some(is_prepared && serials.as_slice() == SERIALS && stands(authorizer, asker, 9, ALL))
-}
-
-/// Whether the two bindings that name `orders` are taken away.
-fn commits_deletion(
-    alloc: Global,
-    authorizer: &mut Authorizer,
-    asker: &(Principal, Host),
-) -> Option<bool> {
-    let filter = of_orders(alloc, FilterPattern::Any)?;
-    let prepared = authorizer.prepare_delete(alloc, &filter).ok()?;
-    spare(alloc);
-    let is_prepared = prepared.taken().len() == 2 && stands(authorizer, asker, 9, ALL);
-    let taken = authorizer.commit_delete(prepared).len();
-    Some(is_prepared && taken == 2 && stands(authorizer, asker, 7, WITHOUT_TWO))
+    let is_shown = prepared.serials() == SERIALS;
+    let is_prepared = is_empty(authorizer);
+    let is_given = authorizer.commit_create(prepared).as_slice() == SERIALS;
+    Some(is_shown && is_prepared && is_given && stands(authorizer, asker, 9, ALL))
 }
 
 fn creates(alloc: Global) -> Option<bool> {
-    let Asked { asker, bindings } = ten_bindings(alloc)?;
+    let asker = asker(alloc)?;
+    let mut bindings = Vec::new(alloc);
     let mut authorizer = Authorizer::open(alloc, Vec::new(alloc), false);
-    let done = commits_creation(alloc, &mut authorizer, &asker, &bindings);
+    let done = commits_creation(alloc, &mut authorizer, &asker, &mut bindings);
     drop(authorizer);
+    drop(bindings);
     done
 }
 
 #[test]
 fn bindings_are_committed(rt: HostRuntime) {
-    assert_eq!(rt; creates(rt.alloc()), Some(true));
+    assert!(rt; creates(rt.alloc()) == Some(true));
+}
+
+/// Whether the two bindings that the filter takes are taken away.
+fn commits_deletion(
+    alloc: Global,
+    authorizer: &mut Authorizer,
+    asker: &(Principal, Host),
+    orders: &BindingFilter,
+) -> Option<bool> {
+    let prepared = authorizer.prepare_delete(alloc, orders).ok()?;
+    spare(alloc);
+    let shown = prepared.taken().len();
+    let is_prepared = stands(authorizer, asker, 9, ALL);
+    let taken = authorizer.commit_delete(prepared).len();
+    Some(is_prepared && (shown, taken) == (2, 2) && stands(authorizer, asker, 7, WITHOUT_TWO))
+}
+
+/// Whether ten bindings are created, and the two that name `orders` are taken away.
+fn creates_and_deletes(
+    alloc: Global,
+    authorizer: &mut Authorizer,
+    asker: &(Principal, Host),
+    bindings: &mut Vec<Binding>,
+) -> Option<bool> {
+    put_bindings(alloc, bindings)?;
+    authorizer.create(alloc, bindings).ok()?;
+    let orders = of_orders(alloc)?;
+    let done = commits_deletion(alloc, authorizer, asker, &orders);
+    drop(orders);
+    done
 }
 
 fn deletes(alloc: Global) -> Option<bool> {
-    let Asked { asker, bindings } = ten_bindings(alloc)?;
+    let asker = asker(alloc)?;
+    let mut bindings = Vec::new(alloc);
     let mut authorizer = Authorizer::open(alloc, Vec::new(alloc), false);
-    let created = authorizer.create(alloc, &bindings).is_ok();
-    let done = commits_deletion(alloc, &mut authorizer, &asker);
+    let done = creates_and_deletes(alloc, &mut authorizer, &asker, &mut bindings);
     drop(authorizer);
-    Some(created && done?)
+    drop(bindings);
+    done
 }
 
 #[test]
 fn deletions_are_committed(rt: HostRuntime) {
-    assert_eq!(rt; deletes(rt.alloc()), Some(true));
+    assert!(rt; deletes(rt.alloc()) == Some(true));
 }
 
 /// Whether an authorizer is opened, and grants a super user at once.
@@ -98,16 +117,22 @@ fn opens(alloc: Global, supers: Vec<Principal>, (root, from): &(Principal, Host)
     verdict == Verdict::Super && listed == 1
 }
 
-fn opens_with_super_user(alloc: Global) -> Option<bool> {
+fn super_users(alloc: Global) -> Option<Vec<Principal>> {
+    let root = Principal::parse(alloc, "User:svc").ok()?;
     let mut supers = Vec::new(alloc);
-    supers.push(Principal::parse(alloc, "User:svc").ok()?).ok()?;
+    supers.push(root).ok()?;
+    Some(supers)
+}
+
+fn opens_with_super_user(alloc: Global) -> Option<bool> {
     let asker = asker(alloc)?;
+    let supers = super_users(alloc)?;
     Some(opens(alloc, supers, &asker))
 }
 
 #[test]
 fn an_authorizer_is_opened(rt: HostRuntime) {
-    assert_eq!(rt; opens_with_super_user(rt.alloc()), Some(true));
+    assert!(rt; opens_with_super_user(rt.alloc()) == Some(true));
 }
 
 /// Whether a prepared batch of a new producer is put behind 200 records, and the start moved up.
@@ -126,45 +151,53 @@ fn commits_batch(alloc: Global, log: &mut PartitionLog, batch: Batch) -> bool {
     offset == 200 && beyond && judged && (log.start(), log.end()) == (299, 300)
 }
 
-#[test]
-fn a_batch_is_committed(rt: HostRuntime) -> Result<(), Fail> {
-    let mut log = PartitionLog::new(rt.alloc());
-    log.append(batch(rt.alloc(), None, 200)?)?;
-    let batch = batch(rt.alloc(), Some(NEW), 100)?;
-    assert!(rt; commits_batch(rt.alloc(), &mut log, batch));
-    Ok(())
+fn follows_records(alloc: Global, log: &mut PartitionLog) -> Option<bool> {
+    put_two_hundred(alloc, log)?;
+    let batch = batch(alloc, Some(NEW), 100).ok()?;
+    Some(commits_batch(alloc, log, batch))
 }
 
-/// Whether a tree takes in what is prepared, in another order, which cuts a node in two, and lets
-/// all go.
-fn changes_tree(alloc: Global, tree: &mut PrefixTree) -> Result<bool, AllocError> {
+#[test]
+fn a_batch_is_committed(rt: HostRuntime) {
+    let mut log = PartitionLog::new(rt.alloc());
+    let done = follows_records(rt.alloc(), &mut log);
+    drop(log);
+    assert!(rt; done == Some(true));
+}
+
+/// Adds a serial, and puts in two that are prepared, in another order, which cuts a node in two.
+fn put_three(alloc: Global, tree: &mut PrefixTree) -> Result<(), AllocError> {
     tree.add(alloc, b"abcd", PatternKind::Prefixed, 1)?;
     let second = tree.prepare_add(alloc, b"ab", PatternKind::Prefixed, 2)?;
     let third = tree.prepare_add(alloc, b"ab", PatternKind::Prefixed, 3)?;
     spare(alloc);
     tree.commit_add(third);
     tree.commit_add(second);
+    Ok(())
+}
+
+/// Whether the tree has the three, and lets them go.
+fn lets_three_go(tree: &mut PrefixTree) -> bool {
     let found = tree.walk(b"abcd").eq([3, 2, 1])
         && tree.listed(b"abcd", PatternKind::Prefixed).eq([1]);
     let gone = tree.remove(b"abcd", PatternKind::Prefixed, 1)
         && !tree.remove_all(b"ab", PatternKind::Literal, &[2])
         && tree.remove_all(b"ab", PatternKind::Prefixed, &[3, 2]);
-    Ok(found && gone && tree.levels(b"abcd") == 1)
+    found && gone && tree.levels(b"abcd") == 1
 }
 
 #[test]
-fn a_tree_is_changed(rt: HostRuntime) -> Result<(), Fail> {
+fn a_tree_is_changed(rt: HostRuntime) {
     let mut tree = PrefixTree::new();
-    assert!(rt; changes_tree(rt.alloc(), &mut tree)?);
-    Ok(())
+    let is_put = put_three(rt.alloc(), &mut tree).is_ok();
+    let is_gone = lets_three_go(&mut tree);
+    drop(tree);
+    assert!(rt; is_put && is_gone);
 }
 
 /// Whether a list of 255 items takes two more and gives its first chunk back.
 fn changes_list(alloc: Global, list: &mut ChunkList<u64>) -> Result<bool, AllocError> {
-    for item in 0..255 {
-        list.reserve_one()?;
-        list.push_reserved(item);
-    }
+    put_below(list, 255)?;
     list.reserve(2)?;
     spare(alloc);
     list.push_reserved(255);
@@ -177,19 +210,26 @@ fn changes_list(alloc: Global, list: &mut ChunkList<u64>) -> Result<bool, AllocE
 }
 
 #[test]
-fn a_list_is_changed(rt: HostRuntime) -> Result<(), Fail> {
+fn a_list_is_changed(rt: HostRuntime) {
     let mut list = ChunkList::new(rt.alloc());
-    assert!(rt; changes_list(rt.alloc(), &mut list)?);
-    Ok(())
+    let done = changes_list(rt.alloc(), &mut list);
+    drop(list);
+    assert!(rt; done == Ok(true));
 }
 
-/// Texts of at most 30 bytes are copied, and copied once more.
-#[test]
-fn short_texts_are_copied(rt: HostRuntime) -> Result<(), Fail> {
-    spare(rt.alloc());
+/// Whether copies of copies of texts of at most 30 bytes hold them, without memory.
+fn short_copies_hold(alloc: Global) -> bool {
+    spare(alloc);
     for content in ["abcdefghijklmnopqrstuvwxyz0123", "ééééééééééééééé", ""] {
-        let text = Text::copied(rt.alloc(), content)?;
-        assert!(rt; text.copy(rt.alloc())?.as_str() == content);
+        let copy = copied_twice(alloc, content);
+        if !matches!(&copy, Some(text) if text.as_str() == content) {
+            return false;
+        }
     }
-    Ok(())
+    true
+}
+
+#[test]
+fn short_texts_are_copied(rt: HostRuntime) {
+    assert!(rt; short_copies_hold(rt.alloc()));
 }

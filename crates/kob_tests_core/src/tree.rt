@@ -3,7 +3,6 @@
 
 use kob_prefix_tree::{PatternKind, PrefixTree};
 use std::alloc::{AllocError, Global};
-use std::test::Fail;
 
 /// More bytes than two nodes hold.
 const LONG: &[u8] = b"abcdefghijklmnopqrstuvwxyzABCDEFGHIJKLMNOPQRSTUVWXYZ";
@@ -23,62 +22,83 @@ fn lets_beginnings_go(tree: &mut PrefixTree) -> bool {
     for length in 0..=LONG.len() {
         let key = &LONG[..length];
         let serial = length as u64;
-        if !tree.remove(key, PatternKind::Prefixed, serial)
-            || tree.remove(key, PatternKind::Prefixed, serial)
-            || !tree.walk(LONG).eq(serial + 1..53)
-        {
+        let is_gone = tree.remove(key, PatternKind::Prefixed, serial);
+        let again = tree.remove(key, PatternKind::Prefixed, serial);
+        if !is_gone || again || !tree.walk(LONG).eq(serial + 1..53) {
             return false;
         }
     }
     tree.levels(LONG) == 1
 }
 
-fn begins_and_ends(alloc: Global, tree: &mut PrefixTree) -> Result<bool, AllocError> {
-    put_beginnings(alloc, tree)?;
-    let is_put = tree.walk(LONG).eq(0..53) && tree.levels(b"abcdefgx") == 8;
-    Ok(is_put && lets_beginnings_go(tree))
+/// Whether a serial on each beginning of the long key is put and comes out again.
+fn begins_and_ends(alloc: Global, tree: &mut PrefixTree) -> bool {
+    put_beginnings(alloc, tree).is_ok()
+        && tree.walk(LONG).eq(0..53)
+        && tree.levels(b"abcdefgx") == 8
+        && lets_beginnings_go(tree)
 }
 
 #[test]
-fn keys_end_at_each_byte_of_a_node(rt: HostRuntime) -> Result<(), Fail> {
+fn keys_end_at_each_byte_of_a_node(rt: HostRuntime) {
     let mut tree = PrefixTree::new();
-    assert!(rt; begins_and_ends(rt.alloc(), &mut tree)?);
-    Ok(())
+    let done = begins_and_ends(rt.alloc(), &mut tree);
+    drop(tree);
+    assert!(rt; done);
 }
 
-/// A hundred thousand serials on one key, put last one by one.
-#[test]
-fn many_serials_on_one_key(rt: HostRuntime) -> Result<(), Fail> {
-    let mut tree = PrefixTree::new();
+/// Whether a hundred thousand serials on one key, put last one by one, are there.
+fn puts_many(alloc: Global, tree: &mut PrefixTree) -> bool {
     for serial in 0..100_000u64 {
-        tree.add(rt.alloc(), b"events", PatternKind::Prefixed, serial)?;
+        if tree
+            .add(alloc, b"events", PatternKind::Prefixed, serial)
+            .is_err()
+        {
+            return false;
+        }
     }
-    assert!(rt; tree.walk(b"events-of-today").eq(0..100_000));
-    Ok(())
+    tree.walk(b"events-of-today").eq(0..100_000)
 }
 
-/// Whether the key takes three serials, in one step and in two, and lets them go.
-fn comes_and_goes(alloc: Global, tree: &mut PrefixTree, key: &[u8]) -> Result<bool, AllocError> {
+#[test]
+fn many_serials_on_one_key(rt: HostRuntime) {
+    let mut tree = PrefixTree::new();
+    let done = puts_many(rt.alloc(), &mut tree);
+    drop(tree);
+    assert!(rt; done);
+}
+
+/// Puts three serials on the key, in one step and in two.
+fn put_three(alloc: Global, tree: &mut PrefixTree, key: &[u8]) -> Result<(), AllocError> {
     tree.add(alloc, key, PatternKind::Literal, 1)?;
     tree.add(alloc, key, PatternKind::Literal, 2)?;
     let prepared = tree.prepare_add(alloc, key, PatternKind::Literal, 3)?;
     tree.commit_add(prepared);
-    if !tree.literal(key).eq(1..4) || tree.levels(key) != 1_000_001 {
-        return Ok(false);
-    }
-    Ok(
-        tree.remove(key, PatternKind::Literal, 2)
-            && tree.remove_all(key, PatternKind::Literal, &[1, 3])
-            && tree.levels(key) == 1,
-    )
+    Ok(())
+}
+
+/// Whether the tree has the three and lets them go.
+fn lets_three_go(tree: &mut PrefixTree, key: &[u8]) -> bool {
+    tree.literal(key).eq(1..4)
+        && tree.levels(key) == 1_000_001
+        && tree.remove(key, PatternKind::Literal, 2)
+        && tree.remove_all(key, PatternKind::Literal, &[1, 3])
+        && tree.levels(key) == 1
+}
+
+fn comes_and_goes(alloc: Global) -> Option<bool> {
+    let key = vec![in alloc; b'k'; 1_000_000].ok()?;
+    let mut tree = PrefixTree::new();
+    let is_put = put_three(alloc, &mut tree, &key).is_ok();
+    let is_gone = lets_three_go(&mut tree, &key);
+    drop(tree);
+    drop(key);
+    Some(is_put && is_gone)
 }
 
 #[test]
-fn a_key_of_a_million_bytes_comes_and_goes(rt: HostRuntime) -> Result<(), Fail> {
-    let key = vec![in rt.alloc(); b'k'; 1_000_000]?;
-    let mut tree = PrefixTree::new();
-    assert!(rt; comes_and_goes(rt.alloc(), &mut tree, key.as_slice())?);
-    Ok(())
+fn a_key_of_a_million_bytes_comes_and_goes(rt: HostRuntime) {
+    assert!(rt; comes_and_goes(rt.alloc()) == Some(true));
 }
 
 /// Three additions, of which the last cuts a node in two, and which of them were made.
@@ -92,11 +112,15 @@ fn adds(alloc: Global, tree: &mut PrefixTree) -> [bool; 3] {
 /// Whether the tree holds what was added.
 fn holds(tree: &PrefixTree, [first, second, third]: [bool; 3]) -> bool {
     let mut walk = tree.walk(b"abcd");
-    (!first || walk.next() == Some(1))
-        && (!second || walk.next() == Some(2))
-        && walk.next().is_none()
-        && tree.literal(b"abc").eq([3]) == third
-        && (tree.levels(b"abcd") == 5) == second
+    let walked = (walk.next(), walk.next(), walk.next());
+    let expected = match (first, second) {
+        (true, true) => (Some(1), Some(2), None),
+        (true, false) => (Some(1), None, None),
+        (false, true) => (Some(2), None, None),
+        (false, false) => (None, None, None),
+    };
+    let has_third = tree.literal(b"abc").eq([3]);
+    walked == expected && has_third == third && (tree.levels(b"abcd") == 5) == second
 }
 
 /// Wherever memory was refused, the tree is as it was before that addition; run with each allocation
@@ -105,5 +129,7 @@ fn holds(tree: &PrefixTree, [first, second, third]: [bool; 3]) -> bool {
 fn refused_addition_leaves_the_tree(rt: HostRuntime) {
     let mut tree = PrefixTree::new();
     let added = adds(rt.alloc(), &mut tree);
-    assert!(rt; holds(&tree, added));
+    let holds = holds(&tree, added);
+    drop(tree);
+    assert!(rt; holds);
 }
