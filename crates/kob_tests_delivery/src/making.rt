@@ -5,7 +5,7 @@ use kob_lines::BrokerLine;
 use kob_names::{Host, Items, Principal, Text};
 use kob_outbox::{Change, Outbox, OutboxEvent, Row};
 use kob_rights::{Event, Reply};
-use kob_router::{Place, Route, RouteSettings};
+use kob_router::{Place, Route, RouteBy, RouteFault, RouteSettings};
 use kob_script::{Script, read_script};
 use std::alloc::{AllocError, Global};
 use std::test::Fail;
@@ -15,41 +15,52 @@ use uuid::Uuid;
 pub(crate) const ORDERS: &str = "outbox.event.orders";
 
 /// The topic is created.
-const CREATED: &str = "super User:root\nUser:root h create-topic outbox.event.orders 1\n";
+const CREATED: &str = "User:root h create-topic outbox.event.orders 1";
 
-/// An event of the aggregate `42` of this kind.
-pub(crate) fn event(alloc: Global, id: u128, kind: &str) -> Result<OutboxEvent, AllocError> {
+/// An event of an aggregate of this kind.
+fn event(alloc: Global, id: u128, kind: &str, aggregate: &str) -> Result<OutboxEvent, AllocError> {
     Ok(OutboxEvent {
         id: Uuid::from_u128(id),
         aggregate_type: String::from_str(alloc, kind)?,
-        aggregate_id: String::from_str(alloc, "42")?,
+        aggregate_id: String::from_str(alloc, aggregate)?,
         event_type: String::from_str(alloc, "OrderPaid")?,
         payload: String::from_str(alloc, "{}")?,
     })
 }
 
-/// That event as a row.
-pub(crate) fn row(alloc: Global, id: u128, kind: &str) -> Result<Row, AllocError> {
-    let event = event(alloc, id, kind)?;
+/// A row with such an event, whose id is 10.
+pub(crate) fn row(alloc: Global, kind: &str, aggregate: &str) -> Result<Row, AllocError> {
+    let event = event(alloc, 0xA, kind, aggregate)?;
     Ok(Row { seq: 1, event })
 }
 
-/// Settings by the aggregate's type.
-pub(crate) fn settings(
+/// A route by the aggregate's type.
+pub(crate) fn route(
     alloc: Global,
     replacement: &str,
     placement: &str,
-) -> Result<RouteSettings, AllocError> {
-    let mut settings = RouteSettings::by_default(alloc)?;
-    settings.replacement = Text::copied(alloc, replacement)?;
-    settings.placement = Text::copied(alloc, placement)?;
-    Ok(settings)
+) -> Result<Route, RouteFault> {
+    let replacement = Text::copied(alloc, replacement)?;
+    let placement = Text::copied(alloc, placement)?;
+    route_by(
+        alloc,
+        RouteSettings {
+            by: RouteBy::AggregateType,
+            replacement,
+            placement,
+        },
+    )
 }
 
 /// The default route.
-pub(crate) fn default_route(alloc: Global) -> Result<Route, Fail> {
-    let settings = RouteSettings::by_default(alloc)?;
-    Ok(Route::new(alloc, &settings)?)
+pub(crate) fn default_route(alloc: Global) -> Result<Route, RouteFault> {
+    route_by(alloc, RouteSettings::by_default(alloc)?)
+}
+
+fn route_by(alloc: Global, settings: RouteSettings) -> Result<Route, RouteFault> {
+    let route = Route::new(alloc, &settings);
+    drop(settings);
+    route
 }
 
 fn change(alloc: Global) -> Result<Change, AllocError> {
@@ -63,11 +74,21 @@ fn change(alloc: Global) -> Result<Change, AllocError> {
 /// An outbox with so many events about orders, whose ids are 1, 2 and so on.
 pub(crate) fn outbox(alloc: Global, count: u128) -> Result<Outbox, Fail> {
     let mut outbox = Outbox::open_in_memory(alloc)?;
+    match record_all(alloc, &mut outbox, count) {
+        Ok(()) => Ok(outbox),
+        Err(fail) => {
+            drop(outbox);
+            Err(fail)
+        }
+    }
+}
+
+fn record_all(alloc: Global, outbox: &mut Outbox, count: u128) -> Result<(), Fail> {
     let change = change(alloc)?;
     for id in 0..count {
-        outbox.record(&change, &event(alloc, id.wrapping_add(1), "orders")?)?;
+        outbox.record(&change, &event(alloc, id.wrapping_add(1), "orders", "42")?)?;
     }
-    Ok(outbox)
+    Ok(())
 }
 
 /// The one event of a script's line.
@@ -81,16 +102,23 @@ pub(crate) fn event_of(alloc: Global, line: &str) -> Option<Event> {
 
 /// A broker with the topic of orders.
 pub(crate) fn broker(alloc: Global) -> Result<Broker, Fail> {
-    let Script { settings, events } = read_script(alloc, CREATED.as_bytes())?;
-    let mut broker = Broker::open(alloc, settings)?;
-    let done = broker.run(alloc, events.as_slice());
-    let is_done = done.is_ok();
-    drop(done);
-    if is_done {
-        return Ok(broker);
+    let mut broker = opened(alloc)?;
+    match answer(alloc, &mut broker, CREATED) {
+        Some(reply) => {
+            drop(reply);
+            Ok(broker)
+        }
+        None => {
+            drop(broker);
+            Err(Fail::from("memory"))
+        }
     }
-    drop(broker);
-    Err(Fail::from("memory"))
+}
+
+fn opened(alloc: Global) -> Result<Broker, Fail> {
+    let Script { settings, events } = read_script(alloc, b"super User:root")?;
+    drop(events);
+    Ok(Broker::open(alloc, settings)?)
 }
 
 /// What a line of a script is answered, or none where memory is refused.

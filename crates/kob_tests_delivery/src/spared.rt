@@ -6,10 +6,9 @@ use crate::refused::{Came, consumer_tick, router_tick};
 use kob_broker::Broker;
 use kob_inbox::{Consumer, Inbox};
 use kob_lines::BrokerLine;
-use kob_names::{Items, Text};
 use kob_outbox::Outbox;
 use kob_rights::{Event, Reason, Reply, Request};
-use kob_router::{Call, Line, Place, Route, Router};
+use kob_router::{Call, Line, Router};
 use std::alloc::Global;
 use std::test::Fail;
 
@@ -39,35 +38,35 @@ fn are_first_two(calls: &[Call]) -> bool {
 fn starts_again(
     alloc: Global,
     outbox: &mut Outbox,
-    [route, other]: [Route; 2],
     line: &mut BrokerLine<'_>,
-) -> bool {
+) -> Result<bool, Fail> {
+    let other = default_route(alloc)?;
+    let route = default_route(alloc)?;
     let mut router = Router::new(alloc, route, 1);
     let moved = router_tick(alloc, outbox, &mut router, line) == Came::On;
     let idle = router_tick(alloc, outbox, &mut router, line) == Came::Idle;
     spare(alloc);
     router.restart();
-    let other = Router::new(alloc, other, 1_000);
+    drop(Router::new(alloc, other, 1_000));
     drop(router);
-    drop(other);
-    moved && idle && are_first_two(line.made_calls()) && line.unmade_calls() == 0
+    Ok(moved && idle && are_first_two(line.made_calls()) && line.unmade_calls() == 0)
 }
 
-fn router_starts_again(alloc: Global, broker: &mut Broker) -> Result<bool, Fail> {
-    let routes = [default_route(alloc)?, default_route(alloc)?];
-    let mut outbox = outbox(alloc, 1)?;
-    let mut line = line_to(alloc, broker).ok_or("memory")?;
-    let again = starts_again(alloc, &mut outbox, routes, &mut line);
-    drop(line);
-    drop(outbox);
-    Ok(again)
+fn router_starts_again(alloc: Global, outbox: &mut Outbox) -> Result<bool, Fail> {
+    let mut broker = broker(alloc)?;
+    let again = match line_to(alloc, &mut broker) {
+        Some(mut line) => starts_again(alloc, outbox, &mut line),
+        None => Err(Fail::from("memory")),
+    };
+    drop(broker);
+    again
 }
 
 #[test]
 fn a_router_starts_again(rt: HostRuntime) -> Result<(), Fail> {
-    let mut broker = broker(rt.alloc())?;
-    let again = router_starts_again(rt.alloc(), &mut broker);
-    drop(broker);
+    let mut outbox = outbox(rt.alloc(), 1)?;
+    let again = router_starts_again(rt.alloc(), &mut outbox);
+    drop(outbox);
     assert!(rt; again?);
     Ok(())
 }
@@ -84,12 +83,9 @@ fn asked_and_fetched(calls: &[Call]) -> bool {
 }
 
 /// Whether a consumer that has asked twice starts again, and another is made, without a call.
-fn begins_again(
-    alloc: Global,
-    inbox: &mut Inbox,
-    line: &mut BrokerLine<'_>,
-    [one, other]: [(Text, Items<Place>); 2],
-) -> bool {
+fn begins_again(alloc: Global, inbox: &mut Inbox, line: &mut BrokerLine<'_>) -> Result<bool, Fail> {
+    let other = group_and_assignment(alloc).ok_or("memory")?;
+    let one = group_and_assignment(alloc).ok_or("memory")?;
     let mut consumer = Consumer::new(alloc, one.0, one.1, 10);
     let placed = consumer_tick(alloc, inbox, &mut consumer, line) == Came::On;
     let idle = consumer_tick(alloc, inbox, &mut consumer, line) == Came::Idle;
@@ -97,25 +93,24 @@ fn begins_again(
     consumer.restart();
     drop(Consumer::new(alloc, other.0, other.1, 10));
     drop(consumer);
-    placed && idle && asked_and_fetched(line.made_calls()) && line.unmade_calls() == 0
+    Ok(placed && idle && asked_and_fetched(line.made_calls()) && line.unmade_calls() == 0)
 }
 
-fn consumer_begins_again(alloc: Global, broker: &mut Broker) -> Result<bool, Fail> {
-    let one = group_and_assignment(alloc).ok_or("memory")?;
-    let other = group_and_assignment(alloc).ok_or("memory")?;
-    let mut inbox = Inbox::open_in_memory(alloc)?;
-    let mut line = line_to(alloc, broker).ok_or("memory")?;
-    let again = begins_again(alloc, &mut inbox, &mut line, [one, other]);
-    drop(line);
-    drop(inbox);
-    Ok(again)
+fn consumer_begins_again(alloc: Global, inbox: &mut Inbox) -> Result<bool, Fail> {
+    let mut broker = broker(alloc)?;
+    let again = match line_to(alloc, &mut broker) {
+        Some(mut line) => begins_again(alloc, inbox, &mut line),
+        None => Err(Fail::from("memory")),
+    };
+    drop(broker);
+    again
 }
 
 #[test]
 fn a_consumer_begins_again(rt: HostRuntime) -> Result<(), Fail> {
-    let mut broker = broker(rt.alloc())?;
-    let again = consumer_begins_again(rt.alloc(), &mut broker);
-    drop(broker);
+    let mut inbox = Inbox::open_in_memory(rt.alloc())?;
+    let again = consumer_begins_again(rt.alloc(), &mut inbox);
+    drop(inbox);
     assert!(rt; again?);
     Ok(())
 }
