@@ -20,31 +20,48 @@ const ROWS: [Row; 8] = [
     ("f", 1_000, Ok(())),
 ];
 
-/// Whether a creation is answered so. Lack of memory leaves the topics.
-fn creates(alloc: Global, catalog: &mut Catalog, row: &Row) -> Result<bool, Fail> {
-    let (name, partitions, expected) = row;
-    let text = Text::copied(alloc, name)?;
-    let before = (catalog.len(), catalog.partitions(&text));
-    let mut created = catalog.create(alloc, TopicName::parse(alloc, name)?, *partitions);
-    if created == Err(CreateFault::Memory) && (catalog.len(), catalog.partitions(&text)) == before {
-        created = catalog.create(alloc, TopicName::parse(alloc, name)?, *partitions);
-    }
-    Ok(created == *expected)
+/// Creates a topic.
+pub(crate) fn create(
+    alloc: Global,
+    catalog: &mut Catalog,
+    name: &str,
+    partitions: u64,
+) -> Result<(), CreateFault> {
+    let Ok(name) = TopicName::parse(alloc, name) else {
+        return Err(CreateFault::Memory);
+    };
+    catalog.create(alloc, name, partitions)
 }
 
-fn creates_all(alloc: Global, catalog: &mut Catalog) -> Result<bool, Fail> {
-    let last = Text::copied(alloc, "f")?;
+/// Whether a creation is answered so. Lack of memory leaves the topics.
+fn creates(alloc: Global, catalog: &mut Catalog, text: &Text, row: &Row) -> bool {
+    let (name, partitions, expected) = row;
+    let before = (catalog.len(), catalog.partitions(text));
+    let mut created = create(alloc, catalog, name, *partitions);
+    if created == Err(CreateFault::Memory) && (catalog.len(), catalog.partitions(text)) == before {
+        created = create(alloc, catalog, name, *partitions);
+    }
+    created == *expected
+}
+
+fn creates_all(alloc: Global, catalog: &mut Catalog) -> Option<bool> {
     for row in &ROWS {
-        if !creates(alloc, catalog, row)? {
-            return Ok(false);
+        let text = Text::copied(alloc, row.0).ok()?;
+        let is_answered = creates(alloc, catalog, &text, row);
+        drop(text);
+        if !is_answered {
+            return Some(false);
         }
     }
-    Ok(catalog.len() == 6 && catalog.partitions(&last) == Some(1_000))
+    let last = Text::copied(alloc, "f").ok()?;
+    Some(catalog.len() == 6 && catalog.partitions(&last) == Some(1_000))
 }
 
 #[test]
 fn refused_allocation_leaves_the_topics(rt: HostRuntime) -> Result<(), Fail> {
     let mut catalog = Catalog::new(rt.alloc());
-    assert!(rt; creates_all(rt.alloc(), &mut catalog)?);
+    let done = creates_all(rt.alloc(), &mut catalog);
+    drop(catalog);
+    assert!(rt; done.ok_or("memory")?);
     Ok(())
 }

@@ -1,7 +1,8 @@
 //! The limits of an outbox, many rows, copies, and lack of memory.
 
-use kob_outbox::{Change, Column, MarkFault, Outbox, OutboxEvent, RecordFault, Row};
+use kob_outbox::{Change, Column, MarkFault, Outbox, OutboxEvent, OutboxFault, RecordFault, Row};
 use std::alloc::{AllocError, Global};
+use std::ops::Range;
 use std::test::Fail;
 use uuid::Uuid;
 
@@ -31,17 +32,31 @@ fn record_of(
     Ok((change, event))
 }
 
-/// Records the event with this id, and so many times this piece as the text at this place.
-fn recorded(
+/// Records the event with this id, and this text at this place.
+fn record(
     alloc: Global,
     outbox: &mut Outbox,
-    event_id: u128,
+    event_id: u32,
+    (at, text): (usize, &str),
+) -> Result<u64, RecordFault> {
+    let Ok((change, event)) = record_of(alloc, event_id as u128, at, text) else {
+        return Err(RecordFault::Memory);
+    };
+    outbox.record(&change, &event)
+}
+
+/// Records the event with this id, and so many times this piece as the text at this place.
+fn record_long(
+    alloc: Global,
+    outbox: &mut Outbox,
+    event_id: u32,
     at: usize,
     (piece, times): (&str, usize),
-) -> Result<Result<u64, RecordFault>, AllocError> {
-    let text = piece.repeat(alloc, times)?;
-    let (change, event) = record_of(alloc, event_id, at, text.as_str())?;
-    Ok(outbox.record(&change, &event))
+) -> Result<u64, RecordFault> {
+    let Ok(text) = piece.repeat(alloc, times) else {
+        return Err(RecordFault::Memory);
+    };
+    record(alloc, outbox, event_id, (at, text.as_str()))
 }
 
 const COLUMNS: [(Column, usize); 7] = [
@@ -56,54 +71,49 @@ const COLUMNS: [(Column, usize); 7] = [
 
 /// Whether the longest text of a column is recorded, a longer one is refused, and so is a zero byte,
 /// which comes before an id that was recorded.
-fn has_limit(
-    alloc: Global,
-    outbox: &mut Outbox,
-    at: usize,
-    (column, most): (Column, usize),
-) -> Result<bool, Fail> {
+fn has_limit(alloc: Global, outbox: &mut Outbox, at: u32, (column, most): (Column, usize)) -> bool {
     let refused = Err(RecordFault::BadField(column));
+    let place = at as usize;
     for text in [
         ("a", most.saturating_add(1)),
         ("é", most / 2 + 1),
         ("\0", 1),
         ("a\0", 1),
     ] {
-        if recorded(alloc, outbox, 100, at, text)? != refused {
-            return Ok(false);
+        if record_long(alloc, outbox, 100, place, text) != refused {
+            return false;
         }
     }
-    let longest = recorded(alloc, outbox, at as u128, at, ("a", most))?;
-    Ok(
-        longest == Ok((at as u64).saturating_add(1))
-            && recorded(alloc, outbox, at as u128, at, ("\0", 1))? == refused,
-    )
+    record_long(alloc, outbox, at, place, ("a", most)) == Ok(at as u64 + 1)
+        && record(alloc, outbox, at, (place, "\0")) == refused
 }
 
-fn have_limits(alloc: Global, outbox: &mut Outbox) -> Result<bool, Fail> {
-    for (at, column) in COLUMNS.into_iter().enumerate() {
-        if !has_limit(alloc, outbox, at, column)? {
-            return Ok(false);
+fn have_limits(alloc: Global, outbox: &mut Outbox) -> bool {
+    for (at, column) in (0..7).zip(COLUMNS) {
+        if !has_limit(alloc, outbox, at, column) {
+            return false;
         }
     }
-    Ok(recorded(alloc, outbox, 100, 0, ("", 0))? == Ok(8))
+    record(alloc, outbox, 100, (0, "")) == Ok(8)
 }
 
 #[test]
 fn each_text_has_its_limit(rt: HostRuntime) -> Result<(), Fail> {
     let mut outbox = Outbox::open_in_memory(rt.alloc())?;
-    assert!(rt; have_limits(rt.alloc(), &mut outbox)?);
+    let done = have_limits(rt.alloc(), &mut outbox);
+    drop(outbox);
+    assert!(rt; done);
     Ok(())
 }
 
-/// Records events with the ids from 1 on.
-fn fill(alloc: Global, outbox: &mut Outbox, count: u64) -> Result<bool, AllocError> {
-    for id in 1..=count {
-        if recorded(alloc, outbox, id as u128, 6, ("paid", 1))? != Ok(id) {
-            return Ok(false);
+/// Records ten thousand events with the ids from 1 on.
+fn fill(alloc: Global, outbox: &mut Outbox) -> bool {
+    for id in 1..10_001 {
+        if record(alloc, outbox, id, (6, "paid")) != Ok(id as u64) {
+            return false;
         }
     }
-    Ok(true)
+    true
 }
 
 /// The number after which rows are read, how many at most, and the numbers of the rows, once the
@@ -118,50 +128,55 @@ const AFTER: [(u64, u32, u64, u64); 7] = [
     (u64::MAX, 10, 0, 0),
 ];
 
-fn read_in_order(outbox: &mut Outbox) -> Result<bool, Fail> {
+fn reads(outbox: &mut Outbox, seq: u64, limit: u32, expected: Range<u64>) -> Option<bool> {
+    let rows = outbox.after(seq, limit).ok()?;
+    Some(rows.iter().map(|row| row.seq).eq(expected))
+}
+
+fn reads_in_order(outbox: &mut Outbox) -> bool {
     for (seq, limit, first, end) in AFTER {
-        let rows = outbox.after(seq, limit)?;
-        if !rows.iter().map(|row| row.seq).eq(first..end) {
-            return Ok(false);
+        if reads(outbox, seq, limit, first..end) != Some(true) {
+            return false;
         }
     }
-    Ok(true)
+    true
 }
 
 /// Whether the first twenty rows go once, and the mark neither goes back nor ahead.
-fn is_swept(outbox: &mut Outbox) -> Result<bool, Fail> {
-    outbox.set_mark(20)?;
-    let swept = (outbox.sweep()?, outbox.sweep()?);
-    Ok(
-        swept == (20, 0)
-            && outbox.set_mark(19) == Err(MarkFault::Backwards)
-            && outbox.set_mark(10_001) == Err(MarkFault::Ahead)
-            && outbox.mark()? == 20,
-    )
+fn is_swept(outbox: &mut Outbox) -> bool {
+    let marked = outbox.set_mark(20);
+    let swept = (outbox.sweep(), outbox.sweep());
+    (marked, swept) == (Ok(()), (Ok(20), Ok(0)))
+        && outbox.set_mark(19) == Err(MarkFault::Backwards)
+        && outbox.set_mark(10_001) == Err(MarkFault::Ahead)
+        && outbox.mark() == Ok(20)
 }
 
-fn many_rows(alloc: Global, outbox: &mut Outbox) -> Result<bool, Fail> {
-    let filled = fill(alloc, outbox, 10_000)?;
-    let swept = is_swept(outbox)?;
-    let read = read_in_order(outbox)?;
-    let again = recorded(alloc, outbox, 1, 6, ("paid", 1))?;
+fn many_rows(alloc: Global, outbox: &mut Outbox) -> bool {
+    let kept = fill(alloc, outbox) && is_swept(outbox) && reads_in_order(outbox);
+    let again = record(alloc, outbox, 1, (6, "paid"));
     outbox.is_in_order();
-    Ok(filled && swept && read && again == Err(RecordFault::DuplicateId))
+    kept && again == Err(RecordFault::DuplicateId)
 }
 
 #[test]
 fn ten_thousand_rows(rt: HostRuntime) -> Result<(), Fail> {
     let mut outbox = Outbox::open_in_memory(rt.alloc())?;
-    assert!(rt; many_rows(rt.alloc(), &mut outbox)?);
+    let done = many_rows(rt.alloc(), &mut outbox);
+    drop(outbox);
+    assert!(rt; done);
     Ok(())
 }
 
 /// Records copies of a business row and of an event.
-fn record_copies(alloc: Global, outbox: &mut Outbox) -> Result<u64, Fail> {
-    let (change, event) = record_of(alloc, 0xA, 7, "")?;
-    let change_again = change.copy(alloc)?;
-    let event_again = event.copy(alloc)?;
-    Ok(outbox.record(&change_again, &event_again)?)
+fn record_copies(
+    alloc: Global,
+    outbox: &mut Outbox,
+    (change, event): &(Change, OutboxEvent),
+) -> Option<u64> {
+    let change = change.copy(alloc).ok()?;
+    let event = event.copy(alloc).ok()?;
+    outbox.record(&change, &event).ok()
 }
 
 fn is_usual(row: &Row) -> bool {
@@ -169,66 +184,94 @@ fn is_usual(row: &Row) -> bool {
 }
 
 /// Whether a copy of the only row is that of the usual texts.
-fn copies(alloc: Global, outbox: &mut Outbox) -> Result<bool, Fail> {
-    let rows = outbox.after(0, 2)?;
-    match rows.as_slice() {
-        [row] => Ok(is_usual(&row.copy(alloc)?)),
-        _ => Ok(false),
-    }
+fn is_copied(alloc: Global, rows: &[Row]) -> Option<bool> {
+    let [row] = rows else {
+        return Some(false);
+    };
+    let copy = row.copy(alloc).ok()?;
+    Some(is_usual(&copy))
+}
+
+fn copies(alloc: Global, outbox: &mut Outbox) -> Option<bool> {
+    let usual = record_of(alloc, 0xA, 7, "").ok()?;
+    let number = record_copies(alloc, outbox, &usual);
+    drop(usual);
+    let rows = outbox.after(0, 2).ok()?;
+    Some(number == Some(1) && is_copied(alloc, &rows) == Some(true))
 }
 
 #[test]
 fn a_row_is_copied(rt: HostRuntime) -> Result<(), Fail> {
     let mut outbox = Outbox::open_in_memory(rt.alloc())?;
-    assert_eq!(rt; record_copies(rt.alloc(), &mut outbox)?, 1);
-    assert!(rt; copies(rt.alloc(), &mut outbox)?);
+    let done = copies(rt.alloc(), &mut outbox);
+    drop(outbox);
+    assert!(rt; done == Some(true));
     Ok(())
 }
 
-/// Whether an event gets that number. Lack of memory leaves the mark and so many rows.
+/// The mark, and the number of rows.
+fn left(outbox: &mut Outbox) -> Result<(u64, usize), OutboxFault> {
+    let mark = outbox.mark()?;
+    Ok((mark, outbox.after(0, 10)?.len()))
+}
+
+/// The number that an event gets. Lack of memory leaves the mark and so many rows.
 fn records(
+    alloc: Global,
     outbox: &mut Outbox,
-    (change, event): &(Change, OutboxEvent),
+    (event_id, at, text): (u32, usize, &str),
     before: (u64, usize),
 ) -> Result<u64, RecordFault> {
-    let recorded = outbox.record(change, event);
-    if recorded != Err(RecordFault::Memory) {
-        return recorded;
-    }
-    let left = (outbox.mark()?, outbox.after(0, 10)?.len());
-    if left == before {
-        outbox.record(change, event)
+    let recorded = record(alloc, outbox, event_id, (at, text));
+    if recorded == Err(RecordFault::Memory) && left(outbox) == Ok(before) {
+        record(alloc, outbox, event_id, (at, text))
     } else {
         recorded
     }
 }
 
 /// Marks and sweeps the first of two rows; a call that memory refuses works when it is made again.
-fn sweeps(outbox: &mut Outbox) -> Result<bool, Fail> {
-    let marked = outbox.set_mark(1).or_else(|_| outbox.set_mark(1));
-    let swept = outbox.sweep().or_else(|_| outbox.sweep());
-    Ok(marked == Ok(()) && swept == Ok(1))
+fn sweeps(outbox: &mut Outbox) -> bool {
+    let marked = match outbox.set_mark(1) {
+        Err(_) => outbox.set_mark(1),
+        marked => marked,
+    };
+    let swept = match outbox.sweep() {
+        Err(_) => outbox.sweep(),
+        swept => swept,
+    };
+    (marked, swept) == (Ok(()), Ok(1))
+}
+
+fn has_second_row(outbox: &mut Outbox) -> Result<bool, OutboxFault> {
+    let rows = outbox.after(0, 10)?;
+    Ok(matches!(rows.as_slice(), [row] if row.seq == 2))
+}
+
+fn is_void(outbox: &mut Outbox) -> Result<bool, OutboxFault> {
+    let state = outbox.business("order", "42")?;
+    Ok(state.as_deref() == Some("void"))
 }
 
 /// Whether the second of two rows is left, and its business row.
-fn second_is_left(outbox: &mut Outbox) -> Result<bool, Fail> {
-    let rows = outbox.after(0, 10).or_else(|_| outbox.after(0, 10))?;
-    let is_second = rows.iter().map(|row| row.seq).eq([2]);
-    drop(rows);
-    let state = outbox
-        .business("order", "42")
-        .or_else(|_| outbox.business("order", "42"))?;
-    Ok(is_second && state.as_deref() == Some("void"))
+fn second_is_left(outbox: &mut Outbox) -> Result<bool, OutboxFault> {
+    let is_left = match has_second_row(outbox) {
+        Err(_) => has_second_row(outbox)?,
+        is_left => is_left?,
+    };
+    let is_void = match is_void(outbox) {
+        Err(_) => is_void(outbox)?,
+        is_void => is_void?,
+    };
+    Ok(is_left && is_void)
 }
 
-fn goes_on(alloc: Global, outbox: &mut Outbox) -> Result<bool, Fail> {
-    let first = record_of(alloc, 1, 6, "first")?;
-    let second = record_of(alloc, 2, 2, "void")?;
-    let recorded = records(outbox, &first, (0, 0)) == Ok(1)
-        && records(outbox, &second, (0, 1)) == Ok(2);
-    let swept = sweeps(outbox)? && second_is_left(outbox)?;
-    let again = records(outbox, &first, (1, 1));
-    Ok(recorded && swept && again == Err(RecordFault::DuplicateId))
+fn goes_on(alloc: Global, outbox: &mut Outbox) -> bool {
+    records(alloc, outbox, (1, 6, "first"), (0, 0)) == Ok(1)
+        && records(alloc, outbox, (2, 2, "void"), (0, 1)) == Ok(2)
+        && sweeps(outbox)
+        && second_is_left(outbox) == Ok(true)
+        && records(alloc, outbox, (1, 6, "first"), (1, 1)) == Err(RecordFault::DuplicateId)
 }
 
 /// Where one allocation is refused, whichever it is, the call that wanted it leaves all and works
@@ -236,6 +279,8 @@ fn goes_on(alloc: Global, outbox: &mut Outbox) -> Result<bool, Fail> {
 #[test]
 fn refused_allocation_leaves_all(rt: HostRuntime) -> Result<(), Fail> {
     let mut outbox = Outbox::open_in_memory(rt.alloc())?;
-    assert!(rt; goes_on(rt.alloc(), &mut outbox)?);
+    let done = goes_on(rt.alloc(), &mut outbox);
+    drop(outbox);
+    assert!(rt; done);
     Ok(())
 }

@@ -1,57 +1,66 @@
 //! Calls on topics and their partitions that take no memory. `.ci/refuse` runs them with every
 //! allocation refused from `spare` on.
 
+use crate::catalog::create;
 use crate::spared::{LONG, spare};
 use kob_catalog::{Catalog, CreateFault};
 use kob_names::{Batch, Bytes, Items, Record, Text, TopicName};
 use kob_partition::Placement;
 use std::alloc::{AllocError, Global};
-use std::test::Fail;
 
 /// Creates the topics `a` of two partitions and `b` of 300.
-fn create_two(alloc: Global, catalog: &mut Catalog) -> Result<(), Fail> {
-    catalog.create(alloc, TopicName::parse(alloc, "a")?, 2)?;
-    catalog.create(alloc, TopicName::parse(alloc, "b")?, 300)?;
-    Ok(())
+fn create_two(alloc: Global, catalog: &mut Catalog) -> Result<(), CreateFault> {
+    create(alloc, catalog, "a", 2)?;
+    create(alloc, catalog, "b", 300)
 }
 
 /// Whether a third topic is put last.
-fn third_comes(alloc: Global, catalog: &mut Catalog) -> Result<bool, Fail> {
-    create_two(alloc, catalog)?;
-    let name = TopicName::parse(alloc, "c")?;
-    let prepared = catalog.prepare_create(alloc, &name, 5)?;
+fn third_comes(alloc: Global, catalog: &mut Catalog) -> Option<bool> {
+    create_two(alloc, catalog).ok()?;
+    let name = TopicName::parse(alloc, "c").ok()?;
+    let prepared = catalog.prepare_create(alloc, &name, 5).ok()?;
     spare(alloc);
     catalog.commit_create(prepared);
-    Ok(catalog.len() == 3 && catalog.partitions(name.as_text()) == Some(5))
+    Some(catalog.len() == 3 && catalog.partitions(name.as_text()) == Some(5))
 }
 
 #[test]
-fn a_topic_comes(rt: HostRuntime) -> Result<(), Fail> {
+fn a_topic_comes(rt: HostRuntime) {
     let mut catalog = Catalog::new(rt.alloc());
-    assert!(rt; third_comes(rt.alloc(), &mut catalog)?);
-    Ok(())
+    let done = third_comes(rt.alloc(), &mut catalog);
+    drop(catalog);
+    assert!(rt; done == Some(true));
+}
+
+/// Whether the creation is refused for this, in two steps and in one.
+fn refuses(
+    alloc: Global,
+    catalog: &mut Catalog,
+    name: TopicName,
+    partitions: u64,
+    fault: CreateFault,
+) -> bool {
+    let prepared = catalog.prepare_create(alloc, &name, partitions).err();
+    let created = catalog.create(alloc, name, partitions);
+    prepared == Some(fault) && created == Err(fault)
 }
 
 /// Whether creations are refused by the rules that they break.
-fn refuses_creations(alloc: Global, catalog: &mut Catalog) -> Result<bool, Fail> {
-    catalog.create(alloc, TopicName::parse(alloc, LONG)?, 1)?;
-    let there = TopicName::parse(alloc, LONG)?;
-    let again = TopicName::parse(alloc, LONG)?;
-    let other = TopicName::parse(alloc, "another-name-whose-copies-take-memory")?;
+fn refuses_creations(alloc: Global, catalog: &mut Catalog) -> Option<bool> {
+    create(alloc, catalog, LONG, 1).ok()?;
+    let there = TopicName::parse(alloc, LONG).ok()?;
+    let other = TopicName::parse(alloc, "another-name-whose-copies-take-memory").ok()?;
     spare(alloc);
-    Ok(
-        catalog.prepare_create(alloc, &there, 1).err() == Some(CreateFault::Exists)
-            && catalog.prepare_create(alloc, &other, 0).err() == Some(CreateFault::BadPartitions)
-            && catalog.create(alloc, again, 1) == Err(CreateFault::Exists)
-            && catalog.create(alloc, other, 0) == Err(CreateFault::BadPartitions),
-    )
+    let exists = refuses(alloc, catalog, there, 1, CreateFault::Exists);
+    Some(refuses(alloc, catalog, other, 0, CreateFault::BadPartitions) && exists)
 }
 
 #[test]
-fn broken_rules_are_told(rt: HostRuntime) -> Result<(), Fail> {
+fn broken_rules_are_told(rt: HostRuntime) {
     let mut catalog = Catalog::new(rt.alloc());
-    assert!(rt; refuses_creations(rt.alloc(), &mut catalog)?);
-    Ok(())
+    let done = refuses_creations(rt.alloc(), &mut catalog);
+    drop(catalog);
+    assert!(rt; done == Some(true));
 }
 
 /// A batch of one record.
@@ -99,18 +108,20 @@ fn advance_to(catalog: &mut Catalog, name: &Text, offset: u64) -> Option<(u64, u
 }
 
 /// Whether a batch of one record is put into a partition alone, and its start moved up behind it.
-fn writes_and_advances(alloc: Global, catalog: &mut Catalog) -> Result<bool, Fail> {
-    create_two(alloc, catalog)?;
-    let name = Text::copied(alloc, "b")?;
-    let placed = appends(alloc, catalog, &name, batch(alloc)?);
+fn writes_and_advances(alloc: Global, catalog: &mut Catalog) -> Option<bool> {
+    create_two(alloc, catalog).ok()?;
+    let name = Text::copied(alloc, "b").ok()?;
+    let batch = batch(alloc).ok()?;
+    let placed = appends(alloc, catalog, &name, batch);
     let beside = catalog.partition(&name, 298).map(|log| log.end());
     let moved = advance_to(catalog, &name, 1);
-    Ok(placed == Some(Placement::New(0)) && beside == Ok(0) && moved == Some((1, 1)))
+    Some(placed == Some(Placement::New(0)) && beside == Ok(0) && moved == Some((1, 1)))
 }
 
 #[test]
-fn a_partition_is_written_and_advanced(rt: HostRuntime) -> Result<(), Fail> {
+fn a_partition_is_written_and_advanced(rt: HostRuntime) {
     let mut catalog = Catalog::new(rt.alloc());
-    assert!(rt; writes_and_advances(rt.alloc(), &mut catalog)?);
-    Ok(())
+    let done = writes_and_advances(rt.alloc(), &mut catalog);
+    drop(catalog);
+    assert!(rt; done == Some(true));
 }
