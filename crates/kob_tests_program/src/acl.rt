@@ -1,12 +1,10 @@
 //! The administrators' command line: which word a fault names, and what is printed of bindings.
 
 use kob_acl_cli::{CommandFault, commands_of, print_list, read_line};
-use kob_broker::Broker;
-use kob_names::{Binding, Items};
-use kob_rights::{Body, Reply};
-use kob_script::read_script;
+use kob_broker::{Broker, Settings};
+use kob_rights::{Body, Event, Reply};
+use kob_script::{Script, read_script};
 use std::alloc::Global;
-use std::test::Fail;
 
 /// Lines of which some words are not read, in another order than that of their options, and the
 /// first of these.
@@ -47,16 +45,26 @@ fn the_first_misread_word_is_named(rt: HostRuntime) {
     }
 }
 
-/// The bindings that the reply to the last event of a script holds.
-fn last_bindings(alloc: Global, script: &str) -> Option<Items<(u64, Binding)>> {
-    let script = read_script(alloc, script.as_bytes()).ok()?;
-    let mut broker = Broker::open(alloc, script.settings).ok()?;
-    let replies = broker.run(alloc, script.events.as_slice());
+fn reply_to_last(alloc: Global, settings: Settings, events: &[Event]) -> Option<Reply> {
+    let mut broker = Broker::open(alloc, settings).ok()?;
+    let replies = broker.run(alloc, events);
     drop(broker);
-    match replies.ok()?.pop()? {
-        Reply::Done(Body::Bindings(found)) => Some(found),
-        _ => None,
-    }
+    replies.ok()?.pop()
+}
+
+/// The reply to the last event of a script.
+fn last_reply(alloc: Global, script: &str) -> Option<Reply> {
+    let Script { settings, events } = read_script(alloc, script.as_bytes()).ok()?;
+    reply_to_last(alloc, settings, events.as_slice())
+}
+
+/// Whether the bindings of a reply print so.
+fn prints(alloc: Global, reply: &Reply, lines: &str) -> Option<bool> {
+    let Reply::Done(Body::Bindings(found)) = reply else {
+        return None;
+    };
+    let printed = print_list(alloc, found.as_slice()).ok()?;
+    Some(printed.as_str() == lines)
 }
 
 const REMOVED: &str = "super User:root
@@ -70,11 +78,12 @@ binding 3 ALLOW User:a * Create Topic LITERAL t
 binding 4 ALLOW User:a * Read Topic LITERAL t
 ";
 
+fn prints_removed(alloc: Global) -> Option<bool> {
+    let reply = last_reply(alloc, REMOVED)?;
+    prints(alloc, &reply, LINES)
+}
+
 #[test]
-fn removed_bindings_are_printed(rt: HostRuntime) -> Result<(), Fail> {
-    let Some(found) = last_bindings(rt.alloc(), REMOVED) else {
-        return Err(Fail::from("no bindings"));
-    };
-    assert_eq!(rt; print_list(rt.alloc(), found.as_slice())?.as_str(), LINES);
-    Ok(())
+fn removed_bindings_are_printed(rt: HostRuntime) {
+    assert!(rt; prints_removed(rt.alloc()) == Some(true));
 }

@@ -4,7 +4,6 @@ use kob_text::{Ended, RunFault, SCRIPT_LIMIT, run_text};
 use std::alloc::{AllocError, Global};
 use std::io;
 use std::io::{Error, ErrorKind, Read, Write};
-use std::test::Fail;
 
 /// Reads or writes at most so many bytes a call, and interrupts every other call. The call after so
 /// many that were not interrupted fails, and no other. It keeps the most bytes that it was given.
@@ -83,16 +82,21 @@ const OUTPUT: &str = "1 ok created
 6 denied 29 TOPIC_AUTHORIZATION_FAILED no-allow
 ";
 
-fn play<R: Read + Drop>(alloc: Global, reader: R) -> (Result<Ended, RunFault>, Vec<u8>) {
+/// How a script ends, and whether that is written.
+fn play<R: Read + Drop>(
+    alloc: Global,
+    reader: R,
+    output: &[u8],
+) -> (Result<Ended, RunFault>, bool) {
     let (mut reader, mut written) = (reader, Vec::new(alloc));
     let ended = run_text(alloc, &mut reader, &mut written);
-    (ended, written)
+    (ended, written.as_slice() == output)
 }
 
 #[test]
 fn each_prefix_ends(rt: HostRuntime) {
     for end in 0..=SCRIPT.len() {
-        let (ended, _) = play(rt.alloc(), &SCRIPT.as_bytes()[..end]);
+        let (ended, _) = play(rt.alloc(), &SCRIPT.as_bytes()[..end], b"");
         assert!(rt;
             ended == Ok(Ended::Clean) || ended == Ok(Ended::Fault),
             "the first {end} bytes"
@@ -103,12 +107,13 @@ fn each_prefix_ends(rt: HostRuntime) {
 /// Whether a reader whose call after so many fails leaves nothing written, and one that is asked
 /// for each byte and the end before that plays the script.
 fn reads(alloc: Global, calls: usize) -> bool {
-    let (ended, written) = play(alloc, Shaken::new(SCRIPT.as_bytes(), 1, calls));
-    if calls <= SCRIPT.len() {
-        ended == Err(RunFault::ReadFailed) && written.is_empty()
+    let (ended, output) = if calls <= SCRIPT.len() {
+        (Err(RunFault::ReadFailed), "")
     } else {
-        ended == Ok(Ended::Clean) && written.as_slice() == OUTPUT.as_bytes()
-    }
+        (Ok(Ended::Clean), OUTPUT)
+    };
+    let reader = Shaken::new(SCRIPT.as_bytes(), 1, calls);
+    play(alloc, reader, output.as_bytes()) == (ended, true)
 }
 
 #[test]
@@ -124,47 +129,45 @@ fn calls_of_a_reader_have_a_limit(rt: HostRuntime) {
     let mut reader = Shaken::new(io::repeat(b'#'), 1, 20_000_000);
     let mut written = Vec::new(rt.alloc());
     let ended = run_text(rt.alloc(), &mut reader, &mut written);
-    assert_eq!(rt; ended, Err(RunFault::ReadFailed));
-    assert_eq!(rt; (reader.calls, written.len()), (10_000_000, 0));
+    let left = (reader.calls, written.len());
+    drop(reader);
+    drop(written);
+    assert!(rt; (ended, left) == (Err(RunFault::ReadFailed), (10_000_000, 0)));
 }
 
-/// How a comment of so many bytes ends; nothing is written.
-fn comment_ends(alloc: Global, bytes: usize) -> Option<Result<Ended, RunFault>> {
-    let (ended, written) = play(alloc, io::repeat(b'#').take(bytes as u64));
-    written.is_empty().then_some(ended)
+/// Whether a comment of so many bytes ends so, and nothing is written.
+fn comment_ends(alloc: Global, bytes: usize, ended: Result<Ended, RunFault>) -> bool {
+    play(alloc, io::repeat(b'#').take(bytes as u64), b"") == (ended, true)
 }
 
 #[test]
 fn scripts_have_a_limit(rt: HostRuntime) {
-    let longest = comment_ends(rt.alloc(), SCRIPT_LIMIT);
-    assert!(rt; longest == Some(Ok(Ended::Clean)));
-    let too_long = comment_ends(rt.alloc(), SCRIPT_LIMIT + 1);
-    assert!(rt; too_long == Some(Err(RunFault::TooLong)));
+    assert!(rt; comment_ends(rt.alloc(), SCRIPT_LIMIT, Ok(Ended::Clean)));
+    assert!(rt; comment_ends(rt.alloc(), SCRIPT_LIMIT + 1, Err(RunFault::TooLong)));
 }
 
-/// A script that puts a record of so many bytes into a topic.
-fn producing(alloc: Global, bytes: usize) -> Result<Vec<u8>, AllocError> {
-    let mut script = Vec::new(alloc);
+/// Begins a script that puts a record of this value into a topic.
+fn put_producing(script: &mut Vec<u8>, value: &[u8]) -> Result<(), AllocError> {
     script.extend_from_slice(b"super User:r\nUser:r h create-topic t 1\nUser:r h produce t 0 - ")?;
-    let value = vec![in alloc; b'v'; bytes]?;
-    script.extend_from_slice(value.as_slice())?;
-    Ok(script)
+    script.extend_from_slice(value)
+}
+
+/// Whether that is written for a record of so many bytes.
+fn batch_writes(alloc: Global, bytes: usize, output: &str) -> Option<bool> {
+    let value = vec![in alloc; b'v'; bytes].ok()?;
+    let mut script = Vec::new(alloc);
+    let is_put = put_producing(&mut script, &value).is_ok();
+    drop(value);
+    let (_, is_written) = play(alloc, script.as_slice(), output.as_bytes());
+    Some(is_put && is_written)
 }
 
 #[test]
-fn batches_have_a_limit(rt: HostRuntime) -> Result<(), Fail> {
-    for (bytes, output) in [
-        (2_097_152, "1 ok created\n2 ok offset 0\n"),
-        (
-            2_097_153,
-            "1 ok created\n2 refused 10 MESSAGE_TOO_LARGE TooLarge\n",
-        ),
-    ] {
-        let script = producing(rt.alloc(), bytes)?;
-        let (_, written) = play(rt.alloc(), script.as_slice());
-        assert_eq!(rt; written.as_slice(), output.as_bytes());
-    }
-    Ok(())
+fn batches_have_a_limit(rt: HostRuntime) {
+    let output = "1 ok created\n2 ok offset 0\n";
+    assert!(rt; batch_writes(rt.alloc(), 2_097_152, output) == Some(true));
+    let output = "1 ok created\n2 refused 10 MESSAGE_TOO_LARGE TooLarge\n";
+    assert!(rt; batch_writes(rt.alloc(), 2_097_153, output) == Some(true));
 }
 
 /// A writer that takes so many calls of so many bytes has their bytes of the output, and the run
@@ -191,6 +194,22 @@ fn failed_writes_leave_a_front(rt: HostRuntime) {
     }
 }
 
+/// Puts down a reply, which ends with a value.
+fn put_reply(
+    alloc: Global,
+    output: &mut Vec<u8>,
+    number: u32,
+    kind: &str,
+    value: &[u8],
+) -> Result<(), AllocError> {
+    let reply = format!(in alloc; "{number} ok {kind}")?;
+    let put = output.extend_from_slice(reply.as_bytes());
+    drop(reply);
+    put?;
+    output.extend_from_slice(value)?;
+    output.extend_from_slice(b"\n")
+}
+
 /// Asks for a short reply, or twice for one that is longer than a piece, and puts down the reply.
 fn ask(
     alloc: Global,
@@ -200,15 +219,25 @@ fn ask(
 ) -> Result<(), AllocError> {
     if number == 5_000 || number == 5_001 {
         script.extend_from_slice(b"\nUser:r h fetch t 0 0 1")?;
-        let reply = format!(in alloc; "{number} ok records 0:")?;
-        output.extend_from_slice(reply.as_bytes())?;
-        output.extend_from_slice(value)?;
+        put_reply(alloc, output, number, "records 0:", value)
     } else {
         script.extend_from_slice(b"\nUser:r h groups")?;
-        let reply = format!(in alloc; "{number} ok groups")?;
-        output.extend_from_slice(reply.as_bytes())?;
+        put_reply(alloc, output, number, "groups", b"")
     }
-    output.push(b'\n')?;
+}
+
+/// Puts down a script of 10,000 short requests, between which a record of this value is fetched
+/// twice, and its output.
+fn put_requests(
+    alloc: Global,
+    (script, output): (&mut Vec<u8>, &mut Vec<u8>),
+    value: &[u8],
+) -> Result<(), AllocError> {
+    put_producing(script, value)?;
+    output.extend_from_slice(b"1 ok created\n2 ok offset 0\n")?;
+    for number in 3..10_003 {
+        ask(alloc, (&mut *script, &mut *output), number, value)?;
+    }
     Ok(())
 }
 
@@ -229,19 +258,25 @@ fn takes_pieces(alloc: Global, script: &[u8], output: &[u8], calls: usize) -> bo
     ended == end && output.starts_with(writer.inner.as_slice()) && writer.widest < 70_030
 }
 
-fn is_written_in_pieces(alloc: Global, script: &mut Vec<u8>) -> Result<bool, AllocError> {
-    let value = vec![in alloc; b'v'; 70_000]?;
-    let mut output = Vec::from_slice(alloc, b"1 ok created\n2 ok offset 0\n")?;
-    for number in 3..10_003 {
-        ask(alloc, (script, &mut output), number, &value)?;
+fn all_take_pieces(alloc: Global, script: &[u8], output: &[u8]) -> bool {
+    for calls in 0..10 {
+        if !takes_pieces(alloc, script, output, calls) {
+            return false;
+        }
     }
-    Ok((0..10).all(|calls| takes_pieces(alloc, script, &output, calls)))
+    true
 }
 
-/// A record of 70,000 bytes is fetched twice between 10,000 short requests.
+fn is_written_in_pieces(alloc: Global) -> Option<bool> {
+    let value = vec![in alloc; b'v'; 70_000].ok()?;
+    let (mut script, mut output) = (Vec::new(alloc), Vec::new(alloc));
+    let is_put = put_requests(alloc, (&mut script, &mut output), &value).is_ok();
+    drop(value);
+    let is_taken = all_take_pieces(alloc, &script, &output);
+    Some(is_put && is_taken)
+}
+
 #[test]
-fn long_output_is_written_in_pieces(rt: HostRuntime) -> Result<(), Fail> {
-    let mut script = producing(rt.alloc(), 70_000)?;
-    assert!(rt; is_written_in_pieces(rt.alloc(), &mut script)?);
-    Ok(())
+fn long_output_is_written_in_pieces(rt: HostRuntime) {
+    assert!(rt; is_written_in_pieces(rt.alloc()) == Some(true));
 }
