@@ -1,36 +1,36 @@
 -- Questions are read line by line.
-use Rattle.std.proofs.Common.{◌≡◌, ◌∙◌, ◌+◌, ℕ, List, [], ◌∷◌, Result, Ok, Err, sym, ap}
+use Rattle.std.proofs.Common.{◌≡◌, ◌∙◌, ◌+◌, ℕ, Bool, List, [], ◌∷◌, Result, Ok, Err, sym, ap}
 use Rattle.kob_script.specs.declared.fault.Fault as fault
 use Rattle.kob_script.specs.declared.fault.FaultKind.{FaultKind}
 use Rattle.kob_script.specs.declared.fault.LineError.{LineError}
 use Rattle.kob_script.specs.declared.fault.LineError.TheVariants.{Memory, Fault}
 use Rattle.kob_script.specs.Reading.{Fails}
 use Rattle.kob_policy_text.specs.Policy.{IsStopped, fault_at}
-use Rattle.kob_policy_text.specs.Questions.{Questions, lines_from, then_lines}
+use Rattle.kob_policy_text.specs.Questions.{Questions, lines_from, then_lines, with_line}
 
-pub line_keeps : (step : Questions → List ℕ → Result Questions FaultKind) (so_far next : Questions) (number : ℕ)
+pub line_keeps : (are_names : Bool) (so_far next : Questions) (number : ℕ)
     (rest : List (List ℕ)) (line : List ℕ) (more : List (List ℕ)) (whole : Result Questions fault.Fault)
-    → lines_from step so_far number rest ≡ whole → rest ≡ line ∷ more → step so_far line ≡ Ok next
-    → lines_from step next (number + 1) more ≡ whole
+    → lines_from are_names so_far number rest ≡ whole → rest ≡ line ∷ more → with_line are_names so_far line ≡ Ok next
+    → lines_from are_names next (number + 1) more ≡ whole
 unfolding lines_from
-line_keeps step so_far next number rest line more whole kept split gives =
-    sym (ap (lines_from step so_far number) split
-    ∙ ap (λ (r : Result Questions FaultKind). then_lines number r (λ q. lines_from step q (number + 1) more)) gives)
+line_keeps are_names so_far next number rest line more whole kept split gives =
+    sym (ap (lines_from are_names so_far number) split
+    ∙ ap (λ (r : Result Questions FaultKind). then_lines number r (λ q. lines_from are_names q (number + 1) more)) gives)
     ∙ kept
 
-pub line_stops : (step : Questions → List ℕ → Result Questions FaultKind) (so_far : Questions)
+pub line_stops : (are_names : Bool) (so_far : Questions)
     (number : ℕ) (rest : List (List ℕ)) (line : List ℕ) (more : List (List ℕ))
     (whole : Result Questions fault.Fault) (e : LineError)
-    → lines_from step so_far number rest ≡ whole → rest ≡ line ∷ more → Fails e (step so_far line)
+    → lines_from are_names so_far number rest ≡ whole → rest ≡ line ∷ more → Fails e (with_line are_names so_far line)
     → IsStopped (fault_at number e) (λ (read : Result Questions fault.Fault). read ≡ whole)
 unfolding lines_from
-line_stops step so_far number rest line more whole Memory kept split fails = tt
-line_stops step so_far number rest line more whole (Fault kind) kept split fails =
-    sym (sym kept ∙ ap (lines_from step so_far number) split
-    ∙ ap (λ (r : Result Questions FaultKind). then_lines number r (λ q. lines_from step q (number + 1) more)) fails)
+line_stops are_names so_far number rest line more whole Memory kept split fails = tt
+line_stops are_names so_far number rest line more whole (Fault kind) kept split fails =
+    sym (sym kept ∙ ap (lines_from are_names so_far number) split
+    ∙ ap (λ (r : Result Questions FaultKind). then_lines number r (λ q. lines_from are_names q (number + 1) more)) fails)
 
-pub lines_end : (step : Questions → List ℕ → Result Questions FaultKind) (so_far : Questions) (number : ℕ)
+pub lines_end : (are_names : Bool) (so_far : Questions) (number : ℕ)
     (rest : List (List ℕ)) (whole : Result Questions fault.Fault)
-    → lines_from step so_far number rest ≡ whole → rest ≡ [] → Ok so_far ≡ whole
+    → lines_from are_names so_far number rest ≡ whole → rest ≡ [] → Ok so_far ≡ whole
 unfolding lines_from
-lines_end step so_far number rest whole kept none = sym (ap (lines_from step so_far number) none) ∙ kept
+lines_end are_names so_far number rest whole kept none = sym (ap (lines_from are_names so_far number) none) ∙ kept

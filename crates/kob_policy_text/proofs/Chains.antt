@@ -1,10 +1,10 @@
--- A last step of reading, and what a line says.
+-- A step of reading that fails, and what a line says.
 use Rattle.std.proofs.Common.{◌≡◌, ℕ, true, false, List, None, Result, Ok, Err, sym, subst, refl, ◌∙◌, Bool}
 use Rattle.std.proofs.lemmas.Bool.{false≢true}
 use Rattle.kob_script.specs.declared.fault.FaultKind.{FaultKind}
 use Rattle.kob_script.specs.declared.fault.LineError.{LineError}
 use Rattle.kob_script.specs.declared.fault.LineError.TheVariants.{Memory, Fault}
-use Rattle.kob_script.specs.Reading.{◌>>=◌, Fails, Gives, GivesSeen}
+use Rattle.kob_script.specs.Reading.{◌>>=◌, Fails, GivesSeen}
 use Rattle.kob_script.specs.ScriptReadings.{IsAnswerToLine}
 use Rattle.kob_script.specs.Words.{words_of}
 use Rattle.kob_policy_text.specs.declared.item.Item.{Item}
@@ -12,9 +12,10 @@ use Rattle.kob_policy_text.specs.Lines.{Says, SaysBy, SaysByWords, is_listed, it
 use Rattle.kob_policy_text.specs.Outcomes.{MayFail, MayGive}
 use Rattle.kob_policy_text.specs.Pieces.{trimmed}
 
-pub gives_after : {A B : Type 0} (r : Result B LineError) (read : Result A FaultKind) (x : A)
-    (f : A → Result B FaultKind) → read ≡ Ok x → Gives r (f x) → Gives r (read >>= f)
-gives_after r read x f read_is gives = subst (λ (q : _). Gives r (q >>= f)) (sym read_is) gives
+pub fails_at : {A B : Type 0} (e : LineError) (read : Result A FaultKind) (f : A → Result B FaultKind)
+    → Fails e read → Fails e (read >>= f)
+fails_at Memory read f fails = tt
+fails_at (Fault kind) read f fails = rw fails refl
 
 listed_by : {A : Type 0} (view : A → List Item) (line : List ℕ) (r : Result A LineError)
     → is_listed line ≡ true → (is_listed line ≡ false → ⊥) → GivesSeen view r (listed_items line)

@@ -90,57 +90,32 @@ grant_item words = do
   host ← host_of text
   Ok (granted permission host operation user)
 
--- PRINCIPAL, host=HOST, with the operation and the permission that stood behind
-unfoldable pub newer_holder : List ℕ → List ℕ → List ℕ → Result Item FaultKind
-newer_holder holder operation permission = do
-  by_host ← around_last holder (codes ", host=")
-  grant_item (record {
-    principal = by_host.0;
-    host = by_host.1;
-    operation = operation;
-    permission = permission;
-  })
-
--- PRINCIPAL, host=HOST, operation=OPERATION, with the permission that stood behind
-unfoldable pub newer_operation : List ℕ → List ℕ → Result Item FaultKind
-newer_operation front permission = do
-  by_operation ← around_last front (codes ", operation=")
-  newer_holder by_operation.0 by_operation.1 permission
-
--- PRINCIPAL, host=HOST, operation=OPERATION, permissionType=PERMISSION
-unfoldable pub newer_parts : List ℕ → Result Item FaultKind
-newer_parts inside = do
-  by_permission ← around_last inside (codes ", permissionType=")
-  newer_operation by_permission.0 by_permission.1
-
 -- (principal=PRINCIPAL, host=HOST, operation=OPERATION, permissionType=PERMISSION)
 unfoldable pub newer_grant : List ℕ → Result Item FaultKind
 newer_grant line = do
   inside ← around_first line (codes "(principal=")
-  newer_parts inside.1
-
--- PRINCIPAL has PERMISSION, with the operation and the host that stood behind
-unfoldable pub older_holder : List ℕ → List ℕ → List ℕ → Result Item FaultKind
-older_holder holder operation host = do
-  by_permission ← around_last holder (codes " has ")
+  by_permission ← around_last inside.1 (codes ", permissionType=")
+  by_operation ← around_last by_permission.0 (codes ", operation=")
+  by_host ← around_last by_operation.0 (codes ", host=")
   grant_item (record {
-    principal = by_permission.0;
-    host = host;
-    operation = operation;
+    principal = by_host.0;
+    host = by_host.1;
+    operation = by_operation.1;
     permission = by_permission.1;
   })
-
--- PRINCIPAL has PERMISSION permission for operations: OPERATION, with the host that stood behind
-unfoldable pub older_operation : List ℕ → List ℕ → Result Item FaultKind
-older_operation front host = do
-  by_operation ← around_last front (codes " permission for operations: ")
-  older_holder by_operation.0 by_operation.1 host
 
 -- PRINCIPAL has PERMISSION permission for operations: OPERATION from hosts: HOST
 unfoldable pub older_grant : List ℕ → Result Item FaultKind
 older_grant line = do
   by_host ← around_last line (codes " from hosts: ")
-  older_operation by_host.0 by_host.1
+  by_operation ← around_last by_host.0 (codes " permission for operations: ")
+  by_permission ← around_last by_operation.0 (codes " has ")
+  grant_item (record {
+    principal = by_permission.0;
+    host = by_host.1;
+    operation = by_operation.1;
+    permission = by_permission.1;
+  })
 
 -- what the bindings below a heading are on, nothing where it is left out
 abbrev pub headed : Option ResourceKind → PatternKind → List ℕ → Option Target
@@ -161,24 +136,14 @@ target_item words = do
   name ← text_in words.name
   Ok (item.Resource (headed kind pattern name))
 
--- NAME, patternType=PATTERN), with the kind of resource that stood before
-unfoldable pub newer_named : List ℕ → List ℕ → Result Item FaultKind
-newer_named resource rest = do
-  by_pattern ← around_last rest (codes ", patternType=")
-  target_item
-      (record { resource = resource; pattern = by_pattern.1; name = by_pattern.0 })
-
--- ResourcePattern(resourceType=RESOURCE, and what stands behind the mark of the name
-unfoldable pub newer_target : List ℕ → List ℕ → Result Item FaultKind
-newer_target front rest = do
-  by_kind ← around_first front (codes "resourceType=")
-  newer_named by_kind.1 rest
-
 -- ResourcePattern(resourceType=RESOURCE, name=NAME, patternType=PATTERN)
 unfoldable pub newer_resource : List ℕ → Result Item FaultKind
 newer_resource text = do
   by_name ← around_first text (codes ", name=")
-  newer_target by_name.0 by_name.1
+  by_kind ← around_first by_name.0 (codes "resourceType=")
+  by_pattern ← around_last by_name.1 (codes ", patternType=")
+  target_item
+      (record { resource = by_kind.1; pattern = by_pattern.1; name = by_pattern.0 })
 
 -- the word is a kind of pattern, as it stands before a name
 abbrev pub is_pattern_word : List ℕ → Bool

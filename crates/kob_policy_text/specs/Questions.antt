@@ -1,5 +1,5 @@
 -- Questions, a line each.
-use Rattle.std.specs.Prelude.{◌+◌, ℕ, List, [], ◌∷◌, ◌++◌, Bool, not, is_some, Option, Some, None, Result, Ok, Err, codes, if◌then◌else◌}
+use Rattle.std.specs.Prelude.{◌+◌, ℕ, List, [], ◌∷◌, ◌++◌, Bool, true, false, not, is_some, Option, Some, None, Result, Ok, Err, codes, if◌then◌else◌}
 use Rattle.std.specs.Str.{bytes_eq}
 use Rattle.kob_names.specs.declared.batch.Idem.{Idem}
 use Rattle.kob_rights.specs.declared.event.Event.{Event}
@@ -106,20 +106,14 @@ may_words (principal ∷ host ∷ command ∷ one ∷ other ∷ []) =
     may_by (principal ∷ host ∷ command ∷ one ∷ other ∷ []) principal host command one other
 may_words words = may_request words
 
--- who OPERATION RESOURCE NAME HOST
-unfoldable pub who_from : Word → Word → Word → Word → Result Question FaultKind
-who_from operation resource name host = do
+-- who OPERATION RESOURCE NAME, and HOST behind it
+abbrev pub who_words : List Word → Result Question FaultKind
+who_words (operation ∷ resource ∷ name ∷ []) =
+    right_of operation resource name >>= λ right. Ok (Who right None)
+who_words (operation ∷ resource ∷ name ∷ host ∷ []) = do
   right ← right_of operation resource name
   place ← host_in host
   Ok (Who right (Some place))
-
-unfoldable pub who_anywhere : Word → Word → Word → Result Question FaultKind
-who_anywhere operation resource name =
-    right_of operation resource name >>= λ right. Ok (Who right None)
-
-abbrev pub who_words : List Word → Result Question FaultKind
-who_words (operation ∷ resource ∷ name ∷ []) = who_anywhere operation resource name
-who_words (operation ∷ resource ∷ name ∷ host ∷ []) = who_from operation resource name host
 who_words _ = Err BadLine
 
 abbrev pub sees_words : List Word → Result Question FaultKind
@@ -159,24 +153,16 @@ with_question so_far first words =
     question_by first words
     >>= λ question. Ok (record so_far { asked = so_far.asked ++ question ∷ [] })
 
--- a line more; a skipped line has no words
-abbrev pub with_words : Questions → List Word → Result Questions FaultKind
-with_words so_far [] = Ok so_far
-with_words so_far (first ∷ words) =
-    if is_word first (codes "topic") then topic_words so_far words
-    else with_question so_far first words
+-- a line more, of a file of names or of questions; a skipped line has no words
+abbrev pub with_words : Bool → Questions → List Word → Result Questions FaultKind
+with_words are_names so_far [] = Ok so_far
+with_words are_names so_far (first ∷ words) =
+    if are_names then topic_words so_far (first ∷ words)
+    else (if is_word first (codes "topic") then topic_words so_far words
+    else with_question so_far first words)
 
-unfoldable pub with_line : Questions → List ℕ → Result Questions FaultKind
-with_line so_far line = words_of line >>= with_words so_far
-
--- a line of a file of names
-abbrev pub with_names : Questions → List Word → Result Questions FaultKind
-with_names so_far [] = Ok so_far
-with_names so_far (name ∷ []) = text_of name >>= λ text. Ok (with_topic so_far text)
-with_names so_far _ = Err BadLine
-
-unfoldable pub with_name_line : Questions → List ℕ → Result Questions FaultKind
-with_name_line so_far line = words_of line >>= with_names so_far
+unfoldable pub with_line : Bool → Questions → List ℕ → Result Questions FaultKind
+with_line are_names so_far line = words_of line >>= with_words are_names so_far
 
 abbrev pub then_lines : ℕ → Result Questions FaultKind → (Questions → Result Questions Fault)
     → Result Questions Fault
@@ -184,16 +170,20 @@ then_lines number (Ok next) others = others next
 then_lines number (Err kind) others = Err (record { line = number; kind = kind })
 
 -- the lines from one on, whose number is given, up to the first fault
-unfoldable pub lines_from : (Questions → List ℕ → Result Questions FaultKind) → Questions → ℕ
-    → List (List ℕ) → Result Questions Fault
-lines_from step so_far number [] = Ok so_far
-lines_from step so_far number (line ∷ lines) =
-    then_lines number (step so_far line) (λ next. lines_from step next (number + 1) lines)
+unfoldable pub lines_from : Bool → Questions → ℕ → List (List ℕ) → Result Questions Fault
+lines_from are_names so_far number [] = Ok so_far
+lines_from are_names so_far number (line ∷ lines) =
+    then_lines number (with_line are_names so_far line)
+    (λ next. lines_from are_names next (number + 1) lines)
 
--- the questions that a text adds, or its first fault, with lines counted from 1
+-- what a text adds, or its first fault, with lines counted from 1
+abbrev pub with_lines : Bool → Questions → List ℕ → Result Questions Fault
+with_lines are_names so_far text = lines_from are_names so_far 1 (lines_in text)
+
+-- the questions that a text adds
 abbrev pub with_questions : Questions → List ℕ → Result Questions Fault
-with_questions so_far text = lines_from with_line so_far 1 (lines_in text)
+with_questions so_far text = with_lines false so_far text
 
 -- the topics that a file of names adds, a name on a line
 abbrev pub with_topics : Questions → List ℕ → Result Questions Fault
-with_topics so_far text = lines_from with_name_line so_far 1 (lines_in text)
+with_topics so_far text = with_lines true so_far text

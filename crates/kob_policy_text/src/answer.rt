@@ -5,7 +5,6 @@ ghost use Rattle.kob_policy_text.specs.Answers.{answer_line, answers_text, omiss
 ghost use Rattle.kob_policy_text.specs.Answers.{question_text, review_text};
 
 use crate::asked::Asked;
-use crate::at_hand::hand_of;
 use crate::changes::print_changes;
 use crate::judge::Judge;
 use crate::policy::Policy;
@@ -43,15 +42,8 @@ fn push_question(
         Question::Ask(event) => push_request(out, judge, event),
         Question::Who(right, host) => push_who(alloc, out, judge, right, host),
         Question::Sees(asker) => push_sees(out, judge, topics, asker),
-        Question::Unused => push_unused(
-            alloc,
-            out,
-            judge,
-            &hand_of(alloc, judge.policy(), topics)?,
-        ),
-        Question::Shadowed => {
-            push_shadowed(alloc, out, judge, &hand_of(alloc, judge.policy(), topics)?)
-        }
+        Question::Unused => push_unused(alloc, out, judge, topics),
+        Question::Shadowed => push_shadowed(alloc, out, judge, topics),
     }
 }
 

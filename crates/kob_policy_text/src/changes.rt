@@ -1,7 +1,7 @@
 //! What changes from one policy to another.
 
 ghost use Rattle.std.specs.Prelude.{◌≡◌, ◌++◌, OnOk, flat_map};
-ghost use Rattle.kob_policy_text.specs.Answers.{change_line, change_text, changes_text, same_answer};
+ghost use Rattle.kob_policy_text.specs.Answers.{change_line, changes_text, same_answer};
 
 use crate::asked::Asked;
 use crate::at_hand::{add_bindings, hand_of};
@@ -18,25 +18,8 @@ pub fn same_answer(one: &Judge, other: &Judge, asked: &Asked<'_>) -> bool
     if one.is_yes(asked) { is_yes } else { !is_yes }
 }
 
-#[tactic(auto, using(kob_words::proofs::Appending::appending))]
-fn push_change(
-    out: &mut Vec<u8>,
-    before: &Judge,
-    after: &Judge,
-    asked: &Asked<'_>,
-) -> Result<(), AllocError>
-    ensures { OnOk result (out.new.items ≡ out.old.items
-        ++ change_text before.now after.now asked.now) }
-{
-    push_asked(out, asked)?;
-    out.extend_from_slice(b" ")?;
-    push_reason(out, before, before.verdict(asked))?;
-    out.extend_from_slice(b" -> ")?;
-    push_reason(out, after, after.verdict(asked))?;
-    out.extend_from_slice(b"\n")
-}
-
-#[tactic(auto, unfolding(crate::specs::Answers::change_line))]
+/// A question whose answer changes, with both answers.
+#[tactic(auto, using(kob_words::proofs::Appending::appending), unfolding(crate::specs::Answers::change_line))]
 fn push_change_line(
     out: &mut Vec<u8>,
     before: &Judge,
@@ -47,10 +30,17 @@ fn push_change_line(
         ++ change_line before.now after.now asked.now) }
 {
     if same_answer(before, after, asked) {
-        Ok(())
-    } else {
-        push_change(out, before, after, asked)
+        return Ok(());
     }
+    push_asked(out, asked)?;
+    out.extend_from_slice(b" ")?;
+    push_reason(out, before, before.verdict(asked))?;
+    out.extend_from_slice(b" -> ")?;
+    push_reason(out, after, after.verdict(asked))?;
+    out.extend_from_slice(
+        b"
+",
+    )
 }
 
 fn push_changes(

@@ -4,7 +4,7 @@ ghost use Rattle.std.specs.Prelude.{◌≡◌, ◌∷◌, [], IfOk, Ok, map};
 ghost use Rattle.std.specs.List.{slice_split};
 ghost use Rattle.kob_policy_text.specs.Lines.{SaysBy, Says, between_semicolons, everyone_item};
 ghost use Rattle.kob_policy_text.specs.Lines.{base_name, has_other_kind, is_listed, is_tool, left_out_by};
-ghost use Rattle.kob_policy_text.specs.Lines.{listed_items, names_left_out, property_by};
+ghost use Rattle.kob_policy_text.specs.Lines.{listed_items, property_by};
 ghost use Rattle.kob_policy_text.specs.Lines.{property_items, rules_in, rules_of, said};
 ghost use Rattle.kob_policy_text.specs.Lines.{script_line, setting_items, super_item, tool_line};
 ghost use Rattle.kob_policy_text.specs.Lines.{SaysByWords, any_left_out, any_other_kind, has_shell_mark};
@@ -201,17 +201,13 @@ fn setting_items(
     one(alloc, item)
 }
 
-fn names_left_out(word: &Word<'_>) -> bool
-    ensures { result ≡ names_left_out word.now }
-{
-    word.decoded().starts_with(b"--delegation-token")
-        || word.decoded().starts_with(b"--user-principal")
-}
-
 fn any_left_out(words: &[Word<'_>]) -> bool
     ensures { result ≡ any_left_out words.now }
 {
-    words.iter().any(|word| names_left_out(word))
+    words.iter().any(|word| {
+        word.decoded().starts_with(b"--delegation-token")
+            || word.decoded().starts_with(b"--user-principal")
+    })
 }
 
 fn has_other_kind(answer: &Option<CliArgs>) -> bool

@@ -4,11 +4,9 @@ ghost use Rattle.std.specs.Prelude.{◌≡◌, codes};
 ghost use Rattle.kob_policy_text.specs.Listing.{grant_item, granted, headed, heading_item};
 ghost use Rattle.kob_policy_text.specs.Listing.{listed_operation, listed_pattern};
 ghost use Rattle.kob_policy_text.specs.Listing.{listed_permission, listed_resource};
-ghost use Rattle.kob_policy_text.specs.Listing.{newer_grant, newer_resource, older_grant};
-ghost use Rattle.kob_policy_text.specs.Listing.{older_resource, older_target, resource_item};
-ghost use Rattle.kob_policy_text.specs.Listing.{is_pattern_word, newer_holder, newer_parts};
-ghost use Rattle.kob_policy_text.specs.Listing.{newer_named, newer_operation, newer_target};
-ghost use Rattle.kob_policy_text.specs.Listing.{older_holder, older_operation, target_item};
+ghost use Rattle.kob_policy_text.specs.Listing.{is_pattern_word, newer_grant, newer_resource};
+ghost use Rattle.kob_policy_text.specs.Listing.{older_grant, older_resource, older_target};
+ghost use Rattle.kob_policy_text.specs.Listing.{resource_item, target_item};
 ghost use Rattle.kob_policy_text.specs.Pieces.{first_parts};
 ghost use Rattle.kob_script.specs.Reading.{Gives, GivesSeen, found_or};
 ghost use Rattle.kob_script.specs.declared.fault.FaultKind.TheVariants.{BadWord};
@@ -176,15 +174,14 @@ fn grant_item(alloc: Global, words: &GrantWords<'_>) -> Result<Item, LineError>
     Ok(granted(permission, host, operation, user))
 }
 
-#[tactic(auto, unfolding(crate::specs::Listing::newer_holder))]
-fn newer_holder(
-    alloc: Global,
-    holder: &[u8],
-    operation: &[u8],
-    permission: &[u8],
-) -> Result<Item, LineError>
-    ensures { Gives result (newer_holder holder.now operation.now permission.now) }
+/// `(principal=PRINCIPAL, host=HOST, operation=OPERATION, permissionType=PERMISSION)`
+#[tactic(auto, unfolding(crate::specs::Listing::newer_grant))]
+pub fn newer_grant(alloc: Global, line: &[u8]) -> Result<Item, LineError>
+    ensures { Gives result (newer_grant line.now) }
 {
+    let (_, inside) = around_first(line, b"(principal=")?;
+    let (front, permission) = around_last(inside, b", permissionType=")?;
+    let (holder, operation) = around_last(front, b", operation=")?;
     let (principal, host) = around_last(holder, b", host=")?;
     let words = GrantWords {
         principal,
@@ -195,40 +192,13 @@ fn newer_holder(
     grant_item(alloc, &words)
 }
 
-#[tactic(auto, unfolding(crate::specs::Listing::newer_operation))]
-fn newer_operation(alloc: Global, front: &[u8], permission: &[u8]) -> Result<Item, LineError>
-    ensures { Gives result (newer_operation front.now permission.now) }
+/// `PRINCIPAL has PERMISSION permission for operations: OPERATION from hosts: HOST`
+#[tactic(auto, unfolding(crate::specs::Listing::older_grant))]
+pub fn older_grant(alloc: Global, line: &[u8]) -> Result<Item, LineError>
+    ensures { Gives result (older_grant line.now) }
 {
-    let (holder, operation) = around_last(front, b", operation=")?;
-    newer_holder(alloc, holder, operation, permission)
-}
-
-#[tactic(auto, unfolding(crate::specs::Listing::newer_parts))]
-fn newer_parts(alloc: Global, inside: &[u8]) -> Result<Item, LineError>
-    ensures { Gives result (newer_parts inside.now) }
-{
-    let (front, permission) = around_last(inside, b", permissionType=")?;
-    newer_operation(alloc, front, permission)
-}
-
-/// `(principal=PRINCIPAL, host=HOST, operation=OPERATION, permissionType=PERMISSION)`
-#[tactic(auto, unfolding(crate::specs::Listing::newer_grant))]
-pub fn newer_grant(alloc: Global, line: &[u8]) -> Result<Item, LineError>
-    ensures { Gives result (newer_grant line.now) }
-{
-    let (_, inside) = around_first(line, b"(principal=")?;
-    newer_parts(alloc, inside)
-}
-
-#[tactic(auto, unfolding(crate::specs::Listing::older_holder))]
-fn older_holder(
-    alloc: Global,
-    holder: &[u8],
-    operation: &[u8],
-    host: &[u8],
-) -> Result<Item, LineError>
-    ensures { Gives result (older_holder holder.now operation.now host.now) }
-{
+    let (front, host) = around_last(line, b" from hosts: ")?;
+    let (holder, operation) = around_last(front, b" permission for operations: ")?;
     let (principal, permission) = around_last(holder, b" has ")?;
     let words = GrantWords {
         principal,
@@ -237,23 +207,6 @@ fn older_holder(
         permission,
     };
     grant_item(alloc, &words)
-}
-
-#[tactic(auto, unfolding(crate::specs::Listing::older_operation))]
-fn older_operation(alloc: Global, front: &[u8], host: &[u8]) -> Result<Item, LineError>
-    ensures { Gives result (older_operation front.now host.now) }
-{
-    let (holder, operation) = around_last(front, b" permission for operations: ")?;
-    older_holder(alloc, holder, operation, host)
-}
-
-/// `PRINCIPAL has PERMISSION permission for operations: OPERATION from hosts: HOST`
-#[tactic(auto, unfolding(crate::specs::Listing::older_grant))]
-pub fn older_grant(alloc: Global, line: &[u8]) -> Result<Item, LineError>
-    ensures { Gives result (older_grant line.now) }
-{
-    let (front, host) = around_last(line, b" from hosts: ")?;
-    older_operation(alloc, front, host)
 }
 
 fn headed(kind: Option<ResourceKind>, pattern: PatternKind, name: Text) -> Option<Target>
@@ -282,10 +235,12 @@ fn target_item(alloc: Global, words: &TargetWords<'_>) -> Result<Item, LineError
     Ok(Item::Resource(headed(kind, pattern, name)))
 }
 
-#[tactic(auto, unfolding(crate::specs::Listing::newer_named))]
-fn newer_named(alloc: Global, resource: &[u8], rest: &[u8]) -> Result<Item, LineError>
-    ensures { Gives result (newer_named resource.now rest.now) }
+#[tactic(auto, unfolding(crate::specs::Listing::newer_resource))]
+fn newer_resource(alloc: Global, text: &[u8]) -> Result<Item, LineError>
+    ensures { Gives result (newer_resource text.now) }
 {
+    let (front, rest) = around_first(text, b", name=")?;
+    let (_, resource) = around_first(front, b"resourceType=")?;
     let (name, pattern) = around_last(rest, b", patternType=")?;
     let words = TargetWords {
         resource,
@@ -293,22 +248,6 @@ fn newer_named(alloc: Global, resource: &[u8], rest: &[u8]) -> Result<Item, Line
         name,
     };
     target_item(alloc, &words)
-}
-
-#[tactic(auto, unfolding(crate::specs::Listing::newer_target))]
-fn newer_target(alloc: Global, front: &[u8], rest: &[u8]) -> Result<Item, LineError>
-    ensures { Gives result (newer_target front.now rest.now) }
-{
-    let (_, resource) = around_first(front, b"resourceType=")?;
-    newer_named(alloc, resource, rest)
-}
-
-#[tactic(auto, unfolding(crate::specs::Listing::newer_resource))]
-fn newer_resource(alloc: Global, text: &[u8]) -> Result<Item, LineError>
-    ensures { Gives result (newer_resource text.now) }
-{
-    let (front, rest) = around_first(text, b", name=")?;
-    newer_target(alloc, front, rest)
 }
 
 fn is_pattern_word(word: &[u8]) -> bool

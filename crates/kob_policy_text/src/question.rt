@@ -2,9 +2,8 @@
 
 ghost use Rattle.std.specs.Prelude.{◌≡◌, []};
 ghost use Rattle.kob_policy_text.specs.Policy.{IsRead};
-ghost use Rattle.kob_policy_text.specs.Questions.{topic_words, with_line, with_name_line, with_names};
-ghost use Rattle.kob_policy_text.specs.Questions.{with_question, with_questions, with_topics};
-ghost use Rattle.kob_policy_text.specs.Questions.{with_words};
+ghost use Rattle.kob_policy_text.specs.Questions.{topic_words, with_line, with_lines, with_question};
+ghost use Rattle.kob_policy_text.specs.Questions.{with_questions, with_topics, with_words};
 ghost use Rattle.kob_script.specs.Reading.{GivesSeen};
 
 use crate::policy::fault_at;
@@ -117,11 +116,18 @@ impl Questions {
     }
 }
 
-fn add_words(alloc: Global, questions: &mut Questions, words: &[Word<'_>]) -> Result<(), LineError>
-    ensures { GivesSeen (λ _. questions.new) result (with_words questions.old words.now) }
+fn add_words(
+    alloc: Global,
+    questions: &mut Questions,
+    words: &[Word<'_>],
+    are_names: bool,
+) -> Result<(), LineError>
+    ensures { GivesSeen (λ _. questions.new) result
+        (with_words are_names questions.old words.now) }
 {
     match words {
         [] => Ok(()),
+        _ if are_names => questions.add_topic(alloc, words),
         [first, arguments @ ..] if is_word(first, b"topic") => {
             questions.add_topic(alloc, arguments)
         }
@@ -130,28 +136,38 @@ fn add_words(alloc: Global, questions: &mut Questions, words: &[Word<'_>]) -> Re
 }
 
 #[tactic(auto, unfolding(crate::specs::Questions::with_line))]
-fn add_line(alloc: Global, questions: &mut Questions, line: &[u8]) -> Result<(), LineError>
-    ensures { GivesSeen (λ _. questions.new) result (with_line questions.old line.now) }
+fn add_line(
+    alloc: Global,
+    questions: &mut Questions,
+    line: &[u8],
+    are_names: bool,
+) -> Result<(), LineError>
+    ensures { GivesSeen (λ _. questions.new) result
+        (with_line are_names questions.old line.now) }
 {
     let words = words_of(alloc, line)?;
-    add_words(alloc, questions, &words)
+    add_words(alloc, questions, &words, are_names)
 }
 
-fn add_names(alloc: Global, questions: &mut Questions, words: &[Word<'_>]) -> Result<(), LineError>
-    ensures { GivesSeen (λ _. questions.new) result (with_names questions.old words.now) }
+/// Reads lines of names or of questions.
+fn read_lines(
+    alloc: Global,
+    questions: &mut Questions,
+    text: &[u8],
+    are_names: bool,
+) -> Result<(), ScriptError>
+    ensures { IsRead result questions.new
+        (λ read. read ≡ with_lines are_names questions.old text.now) }
 {
-    match words {
-        [] => Ok(()),
-        _ => questions.add_topic(alloc, words),
+    let mut number: u64 = 0;
+    for line in text.lines() {
+        number += 1;
+        match add_line(alloc, questions, line, are_names) {
+            Ok(()) => {}
+            Err(error) => return Err(fault_at(error, number)),
+        }
     }
-}
-
-#[tactic(auto, unfolding(crate::specs::Questions::with_name_line))]
-fn add_name_line(alloc: Global, questions: &mut Questions, line: &[u8]) -> Result<(), LineError>
-    ensures { GivesSeen (λ _. questions.new) result (with_name_line questions.old line.now) }
-{
-    let words = words_of(alloc, line)?;
-    add_names(alloc, questions, &words)
+    Ok(())
 }
 
 /// Reads questions, a line each, after those that were read before: `may`, `who`, `sees`, `unused`
@@ -164,28 +180,12 @@ pub fn read_questions(
 ) -> Result<(), ScriptError>
     ensures { IsRead result questions.new (λ read. read ≡ with_questions questions.old text.now) }
 {
-    let mut number: u64 = 0;
-    for line in text.lines() {
-        number += 1;
-        match add_line(alloc, questions, line) {
-            Ok(()) => {}
-            Err(error) => return Err(fault_at(error, number)),
-        }
-    }
-    Ok(())
+    read_lines(alloc, questions, text, false)
 }
 
 /// Reads names of topics, one on a line.
 pub fn read_topics(alloc: Global, questions: &mut Questions, text: &[u8]) -> Result<(), ScriptError>
     ensures { IsRead result questions.new (λ read. read ≡ with_topics questions.old text.now) }
 {
-    let mut number: u64 = 0;
-    for line in text.lines() {
-        number += 1;
-        match add_name_line(alloc, questions, line) {
-            Ok(()) => {}
-            Err(error) => return Err(fault_at(error, number)),
-        }
-    }
-    Ok(())
+    read_lines(alloc, questions, text, true)
 }

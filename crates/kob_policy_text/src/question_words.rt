@@ -4,8 +4,7 @@ ghost use Rattle.std.specs.Prelude.{◌≡◌};
 ghost use Rattle.kob_policy_text.specs.Questions.{alone, asker_of, asks, first_of_producer, host_in};
 ghost use Rattle.kob_policy_text.specs.Questions.{is_word, may_by, may_consume, may_produce, may_request};
 ghost use Rattle.kob_policy_text.specs.Questions.{may_right, may_words, produces, question_by};
-ghost use Rattle.kob_policy_text.specs.Questions.{right_of, sees_words, who_anywhere, who_from};
-ghost use Rattle.kob_policy_text.specs.Questions.{who_words};
+ghost use Rattle.kob_policy_text.specs.Questions.{right_of, sees_words, who_words};
 ghost use Rattle.kob_script.specs.Reading.{Gives};
 
 use crate::lines::only_event;
@@ -202,40 +201,18 @@ fn may_words(alloc: Global, words: &[Word<'_>]) -> Result<Question, LineError>
     }
 }
 
-#[tactic(auto, unfolding(crate::specs::Questions::who_from))]
-fn who_from(
-    alloc: Global,
-    operation: &Word<'_>,
-    resource: &Word<'_>,
-    name: &Word<'_>,
-    host: &Word<'_>,
-) -> Result<Question, LineError>
-    ensures { Gives result (who_from operation.now resource.now name.now host.now) }
-{
-    let right = right_of(alloc, operation, resource, name)?;
-    let host = host_in(alloc, host)?;
-    Ok(Question::Who(right, Some(host)))
-}
-
-#[tactic(auto, unfolding(crate::specs::Questions::who_anywhere))]
-fn who_anywhere(
-    alloc: Global,
-    operation: &Word<'_>,
-    resource: &Word<'_>,
-    name: &Word<'_>,
-) -> Result<Question, LineError>
-    ensures { Gives result (who_anywhere operation.now resource.now name.now) }
-{
-    let right = right_of(alloc, operation, resource, name)?;
-    Ok(Question::Who(right, None))
-}
-
 fn who_words(alloc: Global, words: &[Word<'_>]) -> Result<Question, LineError>
     ensures { Gives result (who_words words.now) }
 {
     match words {
-        [operation, resource, name] => who_anywhere(alloc, operation, resource, name),
-        [operation, resource, name, host] => who_from(alloc, operation, resource, name, host),
+        [operation, resource, name] => {
+            Ok(Question::Who(right_of(alloc, operation, resource, name)?, None))
+        }
+        [operation, resource, name, host] => {
+            let right = right_of(alloc, operation, resource, name)?;
+            let host = host_in(alloc, host)?;
+            Ok(Question::Who(right, Some(host)))
+        }
         _ => Err(LineError::Fault(FaultKind::BadLine)),
     }
 }

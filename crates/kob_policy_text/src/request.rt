@@ -8,25 +8,18 @@ ghost use Rattle.kob_rights.specs.Rights.{check_view, clause_view, rights_view};
 use crate::asked::Asked;
 use crate::judge::Judge;
 use crate::printed::{push_reason, push_right, push_yes_or_no};
-use kob_names::{Host, Principal};
 use kob_rights::{Check, Clause, Event, Rights};
 use kob_words::push_number;
 use std::alloc::AllocError;
 
-/// Who asks from where, by a request.
-#[derive(Clone, Copy)]
-struct By<'a> {
-    principal: &'a Principal,
-    host: &'a Host,
-}
-
-fn on<'a>(by: &By<'a>, check: &Check<'a>) -> Asked<'a>
-    ensures { result ≡ question_on by.entry.now.principal.now by.entry.now.host.now
+/// What a check of the rights of an event asks.
+fn on<'a>(event: &'a Event, check: &Check<'a>) -> Asked<'a>
+    ensures { result ≡ question_on event.entry.now.principal event.entry.now.host
         (check_view check.entry.now) }
 {
     Asked {
-        principal: by.principal,
-        host: by.host,
+        principal: &event.principal,
+        host: &event.host,
         operation: check.operation,
         resource: check.resource,
         name: check.name,
@@ -57,18 +50,18 @@ fn push_clause(
     out: &mut Vec<u8>,
     judge: &Judge,
     number: u64,
-    by: &By<'_>,
+    event: &Event,
     clause: &Clause<'_>,
 ) -> Result<(), AllocError>
     ensures { OnOk result (out.new.items ≡ out.old.items
-        ++ clause_text judge.now number by.now.principal.now by.now.host.now
+        ++ clause_text judge.now number event.now.principal event.now.host
         (clause_view clause.now)) }
 {
     match clause {
-        Clause::Only(check) => push_check(out, judge, number, &on(by, check)),
+        Clause::Only(check) => push_check(out, judge, number, &on(event, check)),
         Clause::Either(one, other) => {
-            push_check(out, judge, number, &on(by, one))?;
-            push_check(out, judge, number, &on(by, other))
+            push_check(out, judge, number, &on(event, one))?;
+            push_check(out, judge, number, &on(event, other))
         }
     }
 }
@@ -77,42 +70,44 @@ fn push_clause(
 fn push_clauses(
     out: &mut Vec<u8>,
     judge: &Judge,
-    by: &By<'_>,
+    event: &Event,
     rights: &Rights<'_>,
 ) -> Result<(), AllocError>
     ensures { OnOk result (out.new.items ≡ out.old.items
-        ++ clauses_text judge.now 1 by.now.principal.now by.now.host.now
+        ++ clauses_text judge.now 1 event.now.principal event.now.host
         (rights_view rights.now)) }
 {
     match rights {
         Rights::Free => Ok(()),
-        Rights::One(clause) => push_clause(out, judge, 1, by, clause),
+        Rights::One(clause) => push_clause(out, judge, 1, event, clause),
         Rights::Both(one, other) => {
-            push_clause(out, judge, 1, by, one)?;
-            push_clause(out, judge, 2, by, other)
+            push_clause(out, judge, 1, event, one)?;
+            push_clause(out, judge, 2, event, other)
         }
     }
 }
 
-fn is_clause_met(judge: &Judge, by: &By<'_>, clause: &Clause<'_>) -> bool
-    ensures { result ≡ is_clause_met judge.now by.now.principal.now by.now.host.now
+fn is_clause_met(judge: &Judge, event: &Event, clause: &Clause<'_>) -> bool
+    ensures { result ≡ is_clause_met judge.now event.now.principal event.now.host
         (clause_view clause.now) }
 {
     match clause {
-        Clause::Only(check) => judge.is_yes(&on(by, check)),
-        Clause::Either(one, other) => { judge.is_yes(&on(by, one)) || judge.is_yes(&on(by, other)) }
+        Clause::Only(check) => judge.is_yes(&on(event, check)),
+        Clause::Either(one, other) => {
+            judge.is_yes(&on(event, one)) || judge.is_yes(&on(event, other))
+        }
     }
 }
 
-fn are_met(judge: &Judge, by: &By<'_>, rights: &Rights<'_>) -> bool
-    ensures { result ≡ are_met judge.now by.now.principal.now by.now.host.now
+fn are_met(judge: &Judge, event: &Event, rights: &Rights<'_>) -> bool
+    ensures { result ≡ are_met judge.now event.now.principal event.now.host
         (rights_view rights.now) }
 {
     match rights {
         Rights::Free => true,
-        Rights::One(clause) => is_clause_met(judge, by, clause),
+        Rights::One(clause) => is_clause_met(judge, event, clause),
         Rights::Both(one, other) => {
-            is_clause_met(judge, by, one) && is_clause_met(judge, by, other)
+            is_clause_met(judge, event, one) && is_clause_met(judge, event, other)
         }
     }
 }
@@ -121,12 +116,8 @@ fn are_met(judge: &Judge, by: &By<'_>, rights: &Rights<'_>) -> bool
 pub fn push_request(out: &mut Vec<u8>, judge: &Judge, event: &Event) -> Result<(), AllocError>
     ensures { OnOk result (out.new.items ≡ out.old.items ++ request_text judge.now event.now) }
 {
-    let by = By {
-        principal: &event.principal,
-        host: &event.host,
-    };
     let rights = event.request.rights();
-    push_yes_or_no(out, are_met(judge, &by, &rights))?;
+    push_yes_or_no(out, are_met(judge, event, &rights))?;
     out.extend_from_slice(b"\n")?;
-    push_clauses(out, judge, &by, &rights)
+    push_clauses(out, judge, event, &rights)
 }

@@ -3,17 +3,16 @@
 ghost use Rattle.std.specs.Prelude.{◌≡◌, ◌++◌, OnOk, length};
 ghost use Rattle.kob_authorizer.specs.Decide.{is_hit};
 ghost use Rattle.kob_names.specs.declared.kinds.Permission.TheVariants.{Allow};
-ghost use Rattle.kob_policy_text.specs.Answers.{is_always_beaten, is_beaten, is_beaten_at};
-ghost use Rattle.kob_policy_text.specs.Answers.{is_denied, is_denied_at, is_ever_denied};
-ghost use Rattle.kob_policy_text.specs.Answers.{is_shadowed, is_shadowed_at, shadowed_line};
-ghost use Rattle.kob_policy_text.specs.Answers.{shadowed_lines, shadowed_text};
+ghost use Rattle.kob_policy_text.specs.Answers.{hand_of, is_always_beaten, is_beaten, is_denied};
+ghost use Rattle.kob_policy_text.specs.Answers.{is_ever_denied, is_shadowed_at};
+ghost use Rattle.kob_policy_text.specs.Answers.{shadowed_line, shadowed_lines, shadowed_text};
 ghost use Rattle.kob_policy_text.specs.AtHand.{asked_at_hand};
 
 use crate::asked::Asked;
-use crate::at_hand::AtHand;
+use crate::at_hand::hand_of;
 use crate::judge::Judge;
 use crate::printed::push_line_at;
-use kob_names::{Binding, Permission, Verdict};
+use kob_names::{Binding, Permission, Text, Verdict};
 use std::alloc::{AllocError, Global};
 
 fn is_beaten(verdict: Verdict) -> bool
@@ -37,12 +36,6 @@ fn is_allowing(binding: &Binding, asked: &Asked<'_>) -> bool
         && Permission::Allow.reaches(parts.operation, asked.operation)
 }
 
-fn is_beaten_at(judge: &Judge, binding: &Binding, asked: &Asked<'_>) -> bool
-    ensures { result ≡ is_beaten_at judge.now binding.now asked.now }
-{
-    !is_allowing(binding, asked) || is_beaten(judge.verdict(asked))
-}
-
 fn is_denied(verdict: Verdict) -> bool
     ensures { result ≡ is_denied verdict }
 {
@@ -52,34 +45,16 @@ fn is_denied(verdict: Verdict) -> bool
     }
 }
 
-fn is_denied_at(judge: &Judge, binding: &Binding, asked: &Asked<'_>) -> bool
-    ensures { result ≡ is_denied_at judge.now binding.now asked.now }
-{
-    is_allowing(binding, asked) && is_denied(judge.verdict(asked))
-}
-
 fn is_ever_denied(judge: &Judge, asked: &[Asked<'_>], binding: &Binding) -> bool
     ensures { result ≡ is_ever_denied judge.now asked.now binding.now }
 {
-    asked
-        .iter()
-        .any(|asked| is_denied_at(judge, binding, asked))
+    asked.iter().any(|asked| is_allowing(binding, asked) && is_denied(judge.verdict(asked)))
 }
 
 fn is_always_beaten(judge: &Judge, asked: &[Asked<'_>], binding: &Binding) -> bool
     ensures { result ≡ is_always_beaten judge.now asked.now binding.now }
 {
-    asked
-        .iter()
-        .all(|asked| is_beaten_at(judge, binding, asked))
-}
-
-fn is_shadowed(judge: &Judge, asked: &[Asked<'_>], binding: &Binding) -> bool
-    ensures { result ≡ is_shadowed judge.now asked.now binding.now }
-{
-    binding.parts().permission == Permission::Allow
-        && is_always_beaten(judge, asked, binding)
-        && is_ever_denied(judge, asked, binding)
+    asked.iter().all(|asked| !is_allowing(binding, asked) || is_beaten(judge.verdict(asked)))
 }
 
 fn push_shadowed_lines(
@@ -102,7 +77,11 @@ fn is_shadowed_at(judge: &Judge, asked: &[Asked<'_>], place: usize) -> bool
 {
     match judge.policy().bindings().get(place) {
         None => false,
-        Some(binding) => is_shadowed(judge, asked, binding),
+        Some(binding) => {
+            binding.parts().permission == Permission::Allow
+                && is_always_beaten(judge, asked, binding)
+                && is_ever_denied(judge, asked, binding)
+        }
     }
 }
 
@@ -127,12 +106,13 @@ pub fn push_shadowed(
     alloc: Global,
     out: &mut Vec<u8>,
     judge: &Judge,
-    hand: &AtHand,
+    topics: &[Text],
 ) -> Result<(), AllocError>
     ensures { OnOk result (out.new.items ≡ out.old.items
-        ++ shadowed_text judge.now (asked_at_hand hand.now)) }
+        ++ shadowed_text judge.now (asked_at_hand (hand_of judge.now topics.now))) }
 {
     out.extend_from_slice(b"shadowed\n")?;
+    let hand = hand_of(alloc, judge.policy(), topics)?;
     let asked = hand.asked(alloc)?;
     push_shadowed_lines(out, judge, &asked)
 }

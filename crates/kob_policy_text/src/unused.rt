@@ -1,22 +1,17 @@
 //! Bindings that no other needs: without one of them, taken alone, no answer at hand changes.
 
 ghost use Rattle.std.specs.Prelude.{◌≡◌, ◌++◌, ◌<◌, IfOk, OnOk, length};
-ghost use Rattle.kob_policy_text.specs.Answers.{is_same, is_unused, unused_line, unused_lines};
+ghost use Rattle.kob_policy_text.specs.Answers.{hand_of, is_unused, unused_line, unused_lines};
 ghost use Rattle.kob_policy_text.specs.Answers.{unused_text};
 ghost use Rattle.kob_policy_text.specs.AtHand.{asked_at_hand};
 
 use crate::asked::Asked;
-use crate::at_hand::AtHand;
+use crate::at_hand::hand_of;
 use crate::changes::same_answer;
 use crate::judge::Judge;
 use crate::printed::push_line_at;
+use kob_names::Text;
 use std::alloc::{AllocError, Global};
-
-fn is_same(one: &Judge, other: &Judge, asked: &[Asked<'_>]) -> bool
-    ensures { result ≡ is_same one.now other.now asked.now }
-{
-    asked.iter().all(|asked| same_answer(one, other, asked))
-}
 
 fn is_unused(
     alloc: Global,
@@ -28,9 +23,9 @@ fn is_unused(
     ensures { IfOk result (λ unused. unused ≡ is_unused judge.now asked.now place) }
 {
     let other = judge.without(alloc, place)?;
-    let is_same = is_same(judge, &other, asked);
+    let unused = asked.iter().all(|asked| same_answer(judge, &other, asked));
     drop(other);
-    Ok(is_same)
+    Ok(unused)
 }
 
 fn push_unused_lines(
@@ -71,12 +66,13 @@ pub fn push_unused(
     alloc: Global,
     out: &mut Vec<u8>,
     judge: &Judge,
-    hand: &AtHand,
+    topics: &[Text],
 ) -> Result<(), AllocError>
     ensures { OnOk result (out.new.items ≡ out.old.items
-        ++ unused_text judge.now (asked_at_hand hand.now)) }
+        ++ unused_text judge.now (asked_at_hand (hand_of judge.now topics.now))) }
 {
     out.extend_from_slice(b"unused\n")?;
+    let hand = hand_of(alloc, judge.policy(), topics)?;
     let asked = hand.asked(alloc)?;
     push_unused_lines(alloc, out, judge, &asked)
 }

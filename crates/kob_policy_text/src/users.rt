@@ -1,7 +1,7 @@
 //! Principals of the kind `User`, and those of other kinds, which are left out.
 
 ghost use Rattle.std.specs.Prelude.{◌≡◌};
-ghost use Rattle.kob_policy_text.specs.Users.{is_other_kind, user_in, user_named};
+ghost use Rattle.kob_policy_text.specs.Users.{is_other_kind, user_in};
 ghost use Rattle.kob_script.specs.Reading.{Gives, GivesSeen};
 ghost use Rattle.kob_script.specs.Texts.{text_in};
 
@@ -30,18 +30,13 @@ pub fn is_other_kind(text: &str) -> bool
     }
 }
 
-fn user_named(alloc: Global, text: &str) -> Result<Option<Principal>, LineError>
-    ensures { Gives result (user_named text.now) }
-{
-    if is_other_kind(text) {
-        return Ok(None);
-    }
-    Ok(Some(principal_of(alloc, text)?))
-}
-
 /// The principal that bytes name, or nothing for one of another kind than `User`.
 pub fn user_in(alloc: Global, bytes: &[u8]) -> Result<Option<Principal>, LineError>
     ensures { Gives result (user_in bytes.now) }
 {
-    user_named(alloc, text_in(bytes)?)
+    let text = text_in(bytes)?;
+    if is_other_kind(text) {
+        return Ok(None);
+    }
+    Ok(Some(principal_of(alloc, text)?))
 }

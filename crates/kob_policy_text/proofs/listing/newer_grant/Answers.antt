@@ -1,8 +1,17 @@
-use Rattle.std.proofs.Common.{List, ℕ}
-use Rattle.kob_policy_text.specs.Listing.{newer_grant, newer_parts}
-use Rattle.kob_policy_text.proofs.Chains.{gives_after}
+use Rattle.std.proofs.lemmas.Result.{err_from_is_err_and}
+use Rattle.kob_policy_text.specs.Listing.{newer_grant}
+use Rattle.kob_policy_text.proofs.Chains.{fails_at}
 use Rattle.kob_policy_text.proofs.listing.newer_grant.Goals as goal
+
+pub returns-in_err-principal : goal.returns-in_err-principal
+unfolding newer_grant
+returns-in_err-principal c =
+    let p = err_from_is_err_and c.from_residual-in_err-principal.result c.from_residual-in_err-principal.ensures.1 in
+    rw (p.1, p.2)
+    (rw (c.in_ok-inside.ensures, c.in_ok-front.ensures, c.in_ok-holder.ensures) (fails_at _ _ _ c.in_err-principal.ensures))
 
 pub returns : goal.returns
 unfolding newer_grant
-returns c = gives_after _ _ _ (λ (by : List ℕ × List ℕ). newer_parts by.1) c.in_ok-inside.ensures c.newer_parts.ensures
+returns c =
+    rw (c.in_ok-inside.ensures, c.in_ok-front.ensures, c.in_ok-holder.ensures, c.in_ok-principal.ensures)
+    c.grant_item.ensures
