@@ -37,10 +37,7 @@ fn push_change_line(
     push_reason(out, before, before.verdict(asked))?;
     out.extend_from_slice(b" -> ")?;
     push_reason(out, after, after.verdict(asked))?;
-    out.extend_from_slice(
-        b"
-",
-    )
+    out.extend_from_slice(b"\n")
 }
 
 fn push_changes(
