@@ -1,6 +1,6 @@
 //! Brokers, and calls whose replies say how many were served before.
 
-ghost use Rattle.std.specs.Prelude.{IfOk, ◌≤◌};
+ghost use Rattle.std.specs.Prelude.{IfOk, IfSome, ◌≤◌};
 ghost use Rattle.kob_shared.specs.Openings.{IsFresh};
 
 use kob_broker::{Broker, OpenFault, Settings};
@@ -9,7 +9,6 @@ use kob_rights::{Body, Reply, Request};
 use kob_router::{Delivery, Line};
 use kob_shared::Recorded;
 use std::alloc::Global;
-use std::test::Fail;
 
 fn opened(alloc: Global, settings: Settings) -> Result<Broker, OpenFault>
     ensures { IfOk result IsFresh }
@@ -18,35 +17,32 @@ fn opened(alloc: Global, settings: Settings) -> Result<Broker, OpenFault>
 }
 
 /// A broker whose one super user is `User:root`.
-pub(crate) fn broker(alloc: Global) -> Result<Broker, Fail>
-    ensures { IfOk result IsFresh }
+pub(crate) fn broker(alloc: Global) -> Option<Broker>
+    ensures { IfSome result IsFresh }
 {
+    let root = Principal::parse(alloc, "User:root").ok()?;
     let mut supers = Vec::new(alloc);
-    supers.push(root(alloc)?)?;
+    supers.push(root).ok()?;
     let settings = Settings {
         supers: Items::from_vec(supers),
         opening: Items::from_vec(Vec::new(alloc)),
         everyone: false,
     };
-    Ok(opened(alloc, settings)?)
+    opened(alloc, settings).ok()
 }
 
 /// Such a broker with a journal of at most so many entries.
-pub(crate) fn recorded(alloc: Global, limit: usize) -> Result<Recorded, Fail>
+pub(crate) fn recorded(alloc: Global, limit: usize) -> Option<Recorded>
     requires { limit ≤ 1000000 }
 {
     let broker = broker(alloc)?;
-    Ok(Recorded::open(alloc, broker, limit).ok().ok_or("memory")?)
+    Recorded::open(alloc, broker, limit).ok()
 }
 
-/// The super user.
-pub(crate) fn root(alloc: Global) -> Result<Principal, Fail> {
-    Ok(Principal::parse(alloc, "User:root")?)
-}
-
-/// Its host.
-pub(crate) fn host(alloc: Global) -> Result<Host, Fail> {
-    Ok(Host::parse(alloc, "10.0.0.1")?)
+/// The super user and its host.
+pub(crate) fn asker(alloc: Global) -> Option<(Principal, Host)> {
+    let host = Host::parse(alloc, "10.0.0.1").ok()?;
+    Some((Principal::parse(alloc, "User:root").ok()?, host))
 }
 
 /// Asks for a producer id, of which the broker gives 0, 1, 2 and so on; the one that was received.
