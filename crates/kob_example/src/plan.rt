@@ -5,11 +5,11 @@ use kob_inbox::Subscription;
 use kob_names::{Host, Items, Principal, Text};
 use kob_outbox::{Change, OutboxEvent};
 use kob_pipeline::{ConsumerPlan, ConsumerStep, Loss, Plan, Service, ServiceStep};
-use kob_rights::{Event, Request};
+use kob_rights::Request;
 use kob_router::{Place, Route, RouteSettings, Target};
 use kob_script::read_script;
 use kob_shared::Script;
-use std::alloc::Global;
+use std::alloc::{AllocError, Global};
 use uuid::Uuid;
 
 /// How many partitions each topic has.
@@ -31,9 +31,10 @@ User:root h create-acl allow User:books * Read Group literal books
 ";
 
 /// The right of the payments service to write is revoked, and granted again.
-const CHANGES: &str = "User:root h delete-acls - - any User:payments - Write -
-User:root h create-acl allow User:payments * Write Topic prefixed outbox.event.payment
-";
+const CHANGES: [&str; 2] = [
+    "User:root h delete-acls - - any User:payments - Write -",
+    "User:root h create-acl allow User:payments * Write Topic prefixed outbox.event.payment",
+];
 
 /// The event's id, the aggregate's type and id, and what happened to it.
 type Happening = (u128, &'static str, &'static str, &'static str);
@@ -50,52 +51,76 @@ const PAYMENTS: [Happening; 3] = [
     (13, "payment", "7", "refunded"),
 ];
 
-fn record(alloc: Global, happening: Happening) -> Result<ServiceStep, ExampleFault> {
-    let (id, kind, aggregate, event) = happening;
-    let change = Change {
+/// What a service does once its events are recorded.
+#[derive(Clone, Copy)]
+enum Then {
+    Tick(Loss),
+    Restart,
+    Sweep,
+}
+
+/// The reply to the second PRODUCE is lost and the router restarts, so that the broker gets this
+/// record twice.
+const AFTER_ORDERS: [Then; 6] = [
+    Then::Tick(Loss::None),
+    Then::Tick(Loss::AfterServe),
+    Then::Restart,
+    Then::Tick(Loss::None),
+    Then::Tick(Loss::None),
+    Then::Sweep,
+];
+
+/// The second PRODUCE is denied and sent again, and the third never reaches the broker, so that its
+/// row waits.
+const AFTER_PAYMENTS: [Then; 4] = [
+    Then::Tick(Loss::None),
+    Then::Tick(Loss::None),
+    Then::Tick(Loss::None),
+    Then::Tick(Loss::BeforeServe),
+];
+
+fn change(alloc: Global, happening: Happening) -> Result<Change, AllocError> {
+    let (_, kind, aggregate, event) = happening;
+    Ok(Change {
         kind: String::from_str(alloc, kind)?,
         id: String::from_str(alloc, aggregate)?,
         state: String::from_str(alloc, event)?,
-    };
-    let event = OutboxEvent {
+    })
+}
+
+fn event(alloc: Global, happening: Happening) -> Result<OutboxEvent, AllocError> {
+    let (id, kind, aggregate, event) = happening;
+    Ok(OutboxEvent {
         id: Uuid::from_u128(id),
         aggregate_type: String::from_str(alloc, kind)?,
         aggregate_id: String::from_str(alloc, aggregate)?,
         event_type: String::from_str(alloc, event)?,
         payload: String::from_str(alloc, event)?,
-    };
-    Ok(ServiceStep::Record(change, event))
+    })
 }
 
-fn record_all(alloc: Global, all: [Happening; 3]) -> Result<Vec<ServiceStep>, ExampleFault> {
-    let mut steps = Vec::new(alloc);
-    for it in all {
-        steps.push(record(alloc, it)?)?;
+fn record(alloc: Global, happening: Happening) -> Result<ServiceStep, AllocError> {
+    let change = change(alloc, happening)?;
+    Ok(ServiceStep::Record(change, event(alloc, happening)?))
+}
+
+fn push_steps(
+    alloc: Global,
+    steps: &mut Vec<ServiceStep>,
+    happenings: [Happening; 3],
+    then: &[Then],
+) -> Result<(), AllocError> {
+    for happening in happenings {
+        steps.push(record(alloc, happening)?)?;
     }
-    Ok(steps)
-}
-
-/// The reply to the second PRODUCE is lost and the router restarts, so that the broker gets this
-/// record twice.
-fn of_orders(alloc: Global) -> Result<Vec<ServiceStep>, ExampleFault> {
-    let mut steps = record_all(alloc, ORDERS)?;
-    steps.push(ServiceStep::Tick(Loss::None))?;
-    steps.push(ServiceStep::Tick(Loss::AfterServe))?;
-    steps.push(ServiceStep::Restart)?;
-    steps.push(ServiceStep::Tick(Loss::None))?;
-    steps.push(ServiceStep::Tick(Loss::None))?;
-    steps.push(ServiceStep::Sweep)?;
-    Ok(steps)
-}
-
-/// The second PRODUCE is denied and sent again, and the third never reaches the broker, so that its
-/// row waits.
-fn of_payments(alloc: Global) -> Result<Vec<ServiceStep>, ExampleFault> {
-    let mut steps = record_all(alloc, PAYMENTS)?;
-    for loss in [Loss::None, Loss::None, Loss::None, Loss::BeforeServe] {
-        steps.push(ServiceStep::Tick(loss))?;
+    for it in then {
+        steps.push(match it {
+            Then::Tick(loss) => ServiceStep::Tick(*loss),
+            Then::Restart => ServiceStep::Restart,
+            Then::Sweep => ServiceStep::Sweep,
+        })?;
     }
-    Ok(steps)
+    Ok(())
 }
 
 fn at_host(alloc: Global, who: &str) -> Result<(Principal, Host), ExampleFault> {
@@ -104,28 +129,40 @@ fn at_host(alloc: Global, who: &str) -> Result<(Principal, Host), ExampleFault> 
     Ok((principal, host))
 }
 
-fn service(alloc: Global, who: &str, steps: Vec<ServiceStep>) -> Result<Service, ExampleFault> {
-    let (principal, host) = at_host(alloc, who)?;
-    let route = Route::new(alloc, &RouteSettings::by_default(alloc)?)?;
-    Ok(Service {
-        principal,
-        host,
-        target: Target {
-            route,
-            partitions: PARTITIONS,
-        },
-        steps,
+fn target(alloc: Global) -> Result<Target, ExampleFault> {
+    let settings = RouteSettings::by_default(alloc)?;
+    let route = Route::new(alloc, &settings);
+    drop(settings);
+    Ok(Target {
+        route: route?,
+        partitions: PARTITIONS,
     })
 }
 
-fn services(alloc: Global) -> Result<Vec<Service>, ExampleFault> {
-    let mut services = Vec::new(alloc);
-    services.push(service(alloc, "User:orders", of_orders(alloc)?)?)?;
-    services.push(service(alloc, "User:payments", of_payments(alloc)?)?)?;
-    Ok(services)
+fn service(
+    alloc: Global,
+    who: &str,
+    happenings: [Happening; 3],
+    then: &[Then],
+) -> Result<Service, ExampleFault> {
+    let target = target(alloc)?;
+    let (principal, host) = at_host(alloc, who)?;
+    let mut service = Service {
+        principal,
+        host,
+        target,
+        steps: Vec::new(alloc),
+    };
+    match push_steps(alloc, &mut service.steps, happenings, then) {
+        Ok(()) => Ok(service),
+        Err(fault) => {
+            drop(service);
+            Err(ExampleFault::from(fault))
+        }
+    }
 }
 
-fn subscription(alloc: Global, group: &str, topic: &str) -> Result<Subscription, ExampleFault> {
+fn assignment(alloc: Global, topic: &str) -> Result<Items<Place>, AllocError> {
     let mut assignment = Vec::new(alloc);
     for partition in 0..PARTITIONS {
         assignment.push(Place {
@@ -133,68 +170,95 @@ fn subscription(alloc: Global, group: &str, topic: &str) -> Result<Subscription,
             partition: partition as u64,
         })?;
     }
+    Ok(Items::from_vec(assignment))
+}
+
+fn subscription(alloc: Global, group: &str, topic: &str) -> Result<Subscription, AllocError> {
+    let group = Text::copied(alloc, group)?;
     Ok(Subscription {
-        group: Text::copied(alloc, group)?,
-        assignment: Items::from_vec(assignment),
+        group,
+        assignment: assignment(alloc, topic)?,
         max: 10,
     })
 }
 
 /// Ticks enough for both partitions, the second one lost, and a restart after the fourth.
-fn consumer_steps(alloc: Global) -> Result<Vec<ConsumerStep>, ExampleFault> {
+fn consumer_steps(alloc: Global) -> Result<Vec<ConsumerStep>, AllocError> {
     let mut steps = vec![in alloc; ConsumerStep::Tick(Loss::None); 12]?;
     steps[1] = ConsumerStep::Tick(Loss::AfterServe);
     steps.insert(4, ConsumerStep::Restart)?;
     Ok(steps)
 }
 
-fn consumers(alloc: Global) -> Result<Vec<ConsumerPlan>, ExampleFault> {
-    let mut consumers = Vec::new(alloc);
-    for (who, group, topic) in [
-        ("User:mail", "mail", "outbox.event.order"),
-        ("User:books", "books", "outbox.event.payment"),
-    ] {
-        let (principal, host) = at_host(alloc, who)?;
-        consumers.push(ConsumerPlan {
-            principal,
-            host,
-            subscription: subscription(alloc, group, topic)?,
-            steps: consumer_steps(alloc)?,
-        })?;
-    }
-    Ok(consumers)
-}
-
-fn request_of(event: Event) -> Request {
-    event.request
-}
-
-fn administrators(alloc: Global) -> Result<Vec<Script>, ExampleFault> {
-    let mut requests = Vec::new(alloc);
-    for event in read_script(alloc, CHANGES.as_bytes())?.events.into_vec() {
-        requests.push(request_of(event))?;
-    }
-    let (principal, host) = at_host(alloc, "User:root")?;
-    let mut scripts = Vec::new(alloc);
-    scripts.push(Script {
+fn consumer(
+    alloc: Global,
+    who: &str,
+    group: &str,
+    topic: &str,
+) -> Result<ConsumerPlan, ExampleFault> {
+    let (principal, host) = at_host(alloc, who)?;
+    let steps = consumer_steps(alloc)?;
+    Ok(ConsumerPlan {
         principal,
         host,
-        requests,
-    })?;
-    Ok(scripts)
+        subscription: subscription(alloc, group, topic)?,
+        steps,
+    })
+}
+
+/// The request of a script's one line.
+fn request_of(alloc: Global, line: &str) -> Result<Request, ExampleFault> {
+    match read_script(alloc, line.as_bytes())?.events.into_vec().pop() {
+        Some(event) => Ok(event.request),
+        None => Err(ExampleFault::BadText),
+    }
+}
+
+fn changes(alloc: Global) -> Result<Vec<Request>, ExampleFault> {
+    let mut requests = Vec::new(alloc);
+    for line in CHANGES {
+        requests.push(request_of(alloc, line)?)?;
+    }
+    Ok(requests)
+}
+
+fn administrator(alloc: Global) -> Result<Script, ExampleFault> {
+    let (principal, host) = at_host(alloc, "User:root")?;
+    Ok(Script {
+        principal,
+        host,
+        requests: changes(alloc)?,
+    })
+}
+
+fn push_workers(alloc: Global, plan: &mut Plan) -> Result<(), ExampleFault> {
+    let orders = service(alloc, "User:orders", ORDERS, &AFTER_ORDERS)?;
+    plan.services.push(orders)?;
+    let payments = service(alloc, "User:payments", PAYMENTS, &AFTER_PAYMENTS)?;
+    plan.services.push(payments)?;
+    let mail = consumer(alloc, "User:mail", "mail", "outbox.event.order")?;
+    plan.consumers.push(mail)?;
+    let books = consumer(alloc, "User:books", "books", "outbox.event.payment")?;
+    plan.consumers.push(books)?;
+    plan.administrators.push(administrator(alloc)?)?;
+    Ok(())
 }
 
 /// Two services, two consumers and an administrator.
 pub(crate) fn plan_of(alloc: Global) -> Result<Plan, ExampleFault> {
-    let services = services(alloc)?;
-    let consumers = consumers(alloc)?;
-    let administrators = administrators(alloc)?;
     let opening = read_script(alloc, OPENING.as_bytes())?;
-    Ok(Plan {
+    let mut plan = Plan {
         settings: opening.settings,
         first: opening.events,
-        services,
-        consumers,
-        administrators,
-    })
+        services: Vec::new(alloc),
+        consumers: Vec::new(alloc),
+        administrators: Vec::new(alloc),
+    };
+    match push_workers(alloc, &mut plan) {
+        Ok(()) => Ok(plan),
+        Err(fault) => {
+            drop(plan);
+            Err(fault)
+        }
+    }
 }

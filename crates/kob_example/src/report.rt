@@ -16,20 +16,16 @@ const AGGREGATES: [&str; 4] = ["41", "42", "7", "8"];
 
 /// Prints what waits in each outbox, what each inbox holds of each aggregate, and whether the law of
 /// delivery holds between each service and the consumer of its topic.
-pub(crate) fn report<W: Write + Drop>(
-    mut out: W,
-    plan: &Plan,
-    end: &PipelineEnd,
-) -> io::Result<()> {
+pub(crate) fn report<W: Write>(out: &mut W, plan: &Plan, end: &PipelineEnd) -> io::Result<()> {
     writeln!(out, "{} requests were served", end.journal.len())?;
     for (name, outbox) in SERVICES.iter().zip(end.outboxes.iter()) {
-        report_outbox(&mut out, name, outbox)?;
+        report_outbox(out, name, outbox)?;
     }
     for (name, inbox) in CONSUMERS.iter().zip(end.inboxes.iter()) {
-        report_inbox(&mut out, name, inbox)?;
+        report_inbox(out, name, inbox)?;
     }
     for (place, consumer) in plan.consumers.iter().enumerate() {
-        report_law(&mut out, place, &consumer.subscription, end)?;
+        report_law(out, place, &consumer.subscription, end)?;
     }
     Ok(())
 }
