@@ -60,7 +60,8 @@ impl From<ScriptError> for ExampleFault {
 }
 
 impl From<PipelineFault> for ExampleFault {
-    fn from(_fault: PipelineFault) -> ExampleFault {
+    fn from(fault: PipelineFault) -> ExampleFault {
+        drop(fault);
         ExampleFault::Pipeline
     }
 }

@@ -231,15 +231,21 @@ fn administrator(alloc: Global) -> Result<Script, ExampleFault> {
     })
 }
 
+fn push_services(alloc: Global, services: &mut Vec<Service>) -> Result<(), ExampleFault> {
+    services.push(service(alloc, "User:orders", ORDERS, &AFTER_ORDERS)?)?;
+    services.push(service(alloc, "User:payments", PAYMENTS, &AFTER_PAYMENTS)?)?;
+    Ok(())
+}
+
+fn push_consumers(alloc: Global, consumers: &mut Vec<ConsumerPlan>) -> Result<(), ExampleFault> {
+    consumers.push(consumer(alloc, "User:mail", "mail", "outbox.event.order")?)?;
+    consumers.push(consumer(alloc, "User:books", "books", "outbox.event.payment")?)?;
+    Ok(())
+}
+
 fn push_workers(alloc: Global, plan: &mut Plan) -> Result<(), ExampleFault> {
-    let orders = service(alloc, "User:orders", ORDERS, &AFTER_ORDERS)?;
-    plan.services.push(orders)?;
-    let payments = service(alloc, "User:payments", PAYMENTS, &AFTER_PAYMENTS)?;
-    plan.services.push(payments)?;
-    let mail = consumer(alloc, "User:mail", "mail", "outbox.event.order")?;
-    plan.consumers.push(mail)?;
-    let books = consumer(alloc, "User:books", "books", "outbox.event.payment")?;
-    plan.consumers.push(books)?;
+    push_services(alloc, &mut plan.services)?;
+    push_consumers(alloc, &mut plan.consumers)?;
     plan.administrators.push(administrator(alloc)?)?;
     Ok(())
 }
