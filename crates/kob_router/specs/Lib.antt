@@ -8,5 +8,6 @@ pub mod Placement
 pub mod Places
 pub mod Route
 pub mod Run
+pub mod Served
 pub mod Template
 pub mod Tick

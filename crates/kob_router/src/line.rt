@@ -48,12 +48,17 @@ pub trait Line {
     /// How often there was no memory to note a call, which was then not made.
     ghost unmade: { Self → ℕ };
 
+    /// Whether the first line may be the second one after any number of calls: what stays of it,
+    /// and what the calls added.
+    ghost becomes: { Self → Self → Type 0 };
+
     /// Makes a call. Where there is no memory to note it, it is not made, and the answer is `Lost`;
     /// this is counted.
     fn send(&mut self, alloc: Global, request: Request) -> Delivery
         ensures added { Adds (calls self.old) (calls self.new) (unmade self.old) (unmade self.new)
             request result }
-        ensures faithful { IsFaithful request result };
+        ensures faithful { IsFaithful request result }
+        ensures line { becomes self.old self.new };
 
     /// The calls that were made, the oldest first. No memory is taken.
     fn made_calls(&self) -> &[Call]
@@ -62,4 +67,11 @@ pub trait Line {
     /// How often a call was not made for lack of memory, counted up to 18,446,744,073,709,551,615.
     fn unmade_calls(&self) -> u64
         ensures { result ≡ unmade self.now };
+
+    /// A line of which no call was made is as it was.
+    ghost stays: { (line : Self) → becomes line line };
+
+    /// Calls after calls are calls.
+    ghost goes_on: { (first : Self) (mid : Self) (last : Self)
+        → becomes first mid → becomes mid last → becomes first last };
 }

@@ -76,6 +76,7 @@ impl Router {
             (scene_of self.new outbox.new (L.calls line.new) (L.unmade line.new))
             result }
         ensures first { IsFirst (option_map hand_of self.new.hand) outbox.new }
+        ensures line { L.becomes line.old line.new }
     {
         self.sender.tick(alloc, outbox, line)
     }

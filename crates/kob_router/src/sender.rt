@@ -56,6 +56,7 @@ impl Sender {
             (scene_of self.old outbox.old (L.calls line.old) (L.unmade line.old))
             (scene_of self.new outbox.new (L.calls line.new) (L.unmade line.new))
             result }
+        ensures line { L.becomes line.old line.new }
     {
         let producer = match self.introduce(alloc, line) {
             Ok(producer) => producer,
@@ -82,6 +83,7 @@ impl Sender {
         ensures rest { self.new ≡ record self.old { producer = self.new.producer } }
         ensures made { Introduces self.old.producer self.new.producer
             (L.calls line.old) (L.calls line.new) (L.unmade line.old) (L.unmade line.new) result }
+        ensures line { L.becomes line.old line.new }
     {
         if let Some(producer) = self.producer {
             return Ok(producer);
@@ -145,6 +147,7 @@ impl Sender {
             (scene_of self.old outbox.old (L.calls line.old) (L.unmade line.old))
             (scene_of self.new outbox.new (L.calls line.new) (L.unmade line.new))
             result }
+        ensures line { L.becomes line.old line.new }
     {
         let request = match self.request(alloc, producer) {
             Ok(request) => request,
