@@ -72,6 +72,7 @@ impl Consumer {
             (scene_of self.old inbox.old (L.calls line.old) (L.unmade line.old))
             (scene_of self.new inbox.new (L.calls line.new) (L.unmade line.new))
             result }
+        ensures line { L.becomes line.old line.new }
     {
         self.fetcher.tick(alloc, inbox, line)
     }

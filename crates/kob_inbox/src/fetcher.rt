@@ -68,6 +68,7 @@ impl Fetcher {
             (scene_of self.old inbox.old (L.calls line.old) (L.unmade line.old))
             (scene_of self.new inbox.new (L.calls line.new) (L.unmade line.new))
             result }
+        ensures line { L.becomes line.old line.new }
     {
         let Some(assigned) = place_on(self.subscription.assignment.as_slice(), self.turn) else {
             return Tick::Idle;
