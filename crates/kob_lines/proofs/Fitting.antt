@@ -1,5 +1,5 @@
 -- A reply fits its request, whatever state a broker is in.
-use Rattle.std.proofs.Common.{◌≡◌, ℕ, [], false}
+use Rattle.std.proofs.Common.{◌≡◌, [], false}
 use Rattle.kob_broker.specs.State.{State}
 use Rattle.kob_broker.specs.Step.{step}
 use Rattle.kob_names.specs.declared.settings.Settings.{Settings}

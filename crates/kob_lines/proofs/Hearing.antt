@@ -1,5 +1,5 @@
 -- What is heard in a session.
-use Rattle.std.proofs.Common.{◌≡◌, ◌+◌, ◌≤◌, Some, None, arith, subst}
+use Rattle.std.proofs.Common.{◌+◌, Some, None, arith, subst}
 use Rattle.std.specs.Prelude.{Option}
 use Rattle.kob_rights.specs.declared.reply.Reply.{Reply}
 use Rattle.kob_rights.specs.declared.request.Request.{Request}

@@ -1,2 +1,4 @@
+pub mod Adding
 pub mod Fitting
 pub mod Hearing
+pub mod Through

@@ -1,6 +1,5 @@
 -- What is heard of a call.
 use Rattle.std.specs.Prelude.{◌≡◌, ◌⊎◌, ℕ, ◌+◌, ◌≤◌, List, [], ◌∷◌, ◌++◌, Option, None, Some}
-use Rattle.kob_rights.specs.declared.event.Event.{Event}
 use Rattle.kob_rights.specs.declared.reply.Reply.{Reply}
 use Rattle.kob_rights.specs.declared.request.Request.{Request}
 use Rattle.kob_router.specs.declared.line.Call.{Call}
@@ -20,6 +19,11 @@ IsHeardOf there Lost = Unit {0}
 abbrev pub IsServedAtMostOnce : {S : Type 0} → S → S → S → Reply → Delivery → Type 0
 IsServedAtMostOnce before served now reply (Delivered heard) = (now ≡ served) × (heard ≡ reply)
 IsServedAtMostOnce before served now reply Lost = (now ≡ served) ⊎ (now ≡ before)
+
+-- a reply that is there is the broker's, which served the call; without one it did not
+abbrev pub IsServedIfHeard : {S : Type 0} → S → S → S → Reply → Option Reply → Type 0
+IsServedIfHeard before served now reply (Some heard) = (now ≡ served) × (heard ≡ reply)
+IsServedIfHeard before served now reply None = now ≡ before
 
 -- what a session hears of a call: a reply that a broker gives to its event, after a legal journal
 -- of which it knew no more; or nothing, where it may have come to know more entries

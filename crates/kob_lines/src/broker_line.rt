@@ -89,9 +89,18 @@ impl<'a> BrokerLine<'a> {
 }
 
 impl<'a> Line for BrokerLine<'a> {
+    ghost use Rattle.std.specs.Prelude.{refl};
+    ghost use Rattle.std.proofs.Common.{◌∙◌};
+
     ghost calls = { λ line. line.calls.made.items };
 
     ghost unmade = { λ line. line.calls.unmade };
+
+    /// It stays with its broker, its principal and its host.
+    ghost becomes = { λ old new.
+        (new.broker.ghost_name ≡ old.broker.ghost_name)
+        × (new.principal ≡ old.principal)
+        × (new.host ≡ old.host) };
 
     /// Makes a call: the broker serves it at once. A reply with an offset past the limit of a log,
     /// which no broker gives that began with [`Broker::open`], is not received.
@@ -99,9 +108,9 @@ impl<'a> Line for BrokerLine<'a> {
         ensures added { Adds self.old.calls.made.items self.new.calls.made.items
             self.old.calls.unmade self.new.calls.unmade request result }
         ensures faithful { IsFaithful request result }
-        ensures same_broker { self.new.broker.ghost_name ≡ self.old.broker.ghost_name }
-        ensures principal { self.new.principal ≡ self.old.principal }
-        ensures host { self.new.host ≡ self.old.host }
+        ensures line { (self.new.broker.ghost_name ≡ self.old.broker.ghost_name)
+            × (self.new.principal ≡ self.old.principal)
+            × (self.new.host ≡ self.old.host) }
         ensures served { let event = event_by self.old.principal self.old.host request in
             let served = step retained_meaning (state_of self.old.broker.now) event in
             IsServedAtMostOnce (state_of self.old.broker.now) served.state
@@ -128,4 +137,8 @@ impl<'a> Line for BrokerLine<'a> {
     fn unmade_calls(&self) -> u64 {
         self.calls.unmade
     }
+
+    ghost stays = { λ line. (refl, refl, refl) };
+
+    ghost goes_on = { λ a b c one two. (two.0 ∙ one.0, two.1 ∙ one.1, two.2 ∙ one.2) };
 }

@@ -1,8 +1,8 @@
 //! What a line keeps of its calls.
 
-ghost use Rattle.std.specs.Prelude.{◌≡◌, ◌<◌, [], None, IfSome, IfNone, OnSome};
+ghost use Rattle.std.specs.Prelude.{◌≡◌, ◌<◌, [], ◌∷◌, ◌++◌, None, IfSome, IfNone, OnSome};
 ghost use Rattle.std.specs.Prelude.{vec_capacity, vec_len};
-ghost use Rattle.kob_lines.specs.Heard.{IsHeardOf};
+ghost use Rattle.kob_lines.specs.Heard.{IsHeardOf, reply_of};
 ghost use Rattle.kob_rights.specs.Bodies.{Fits};
 ghost use Rattle.kob_rights.specs.Offsets.{OffsetsWithin};
 ghost use Rattle.kob_router.specs.Line.{Adds, IsFaithful, one_more};
@@ -70,6 +70,8 @@ impl Calls {
             request result }
         ensures faithful { IsFaithful request result }
         ensures heard { IsHeardOf heard result }
+        ensures noted { self.new.made.items
+            ≡ self.old.made.items ++ record { request = request; heard = reply_of result } ∷ [] }
     {
         let Some(reply) = heard else {
             self.made.push_reserved(Call {

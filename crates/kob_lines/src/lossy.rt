@@ -71,11 +71,21 @@ impl<L: Line> Lossy<L> {
 }
 
 impl<L: Line> Line for Lossy<L> {
+    ghost use Rattle.kob_lines.specs.Becoming.{PassesCallsOn};
+    ghost use Rattle.kob_lines.specs.Joined.{calls_are_passed_on, no_call_is_passed_on};
+
     ghost calls = { λ line. line.calls.made.items };
 
     ghost unmade = { λ line. line.calls.unmade };
 
+    /// The line below is what calls make of it, and these are calls of this line, of which those
+    /// that were heard all reached the line below.
+    ghost becomes = { λ old new. L.becomes old.line new.line
+        × PassesCallsOn old.calls.made.items new.calls.made.items (L.calls old.line)
+        (L.calls new.line) };
+
     /// Makes a call, unless it is lost before it is served.
+    #[tactic(auto, using(crate::proofs::Adding::one_call_is_passed_on))]
     fn send(&mut self, alloc: Global, request: Request) -> Delivery
         ensures added { Adds self.old.calls.made.items self.new.calls.made.items
             self.old.calls.unmade self.new.calls.unmade request result }
@@ -83,6 +93,9 @@ impl<L: Line> Line for Lossy<L> {
         ensures loss { self.new.loss ≡ Loss.None }
         ensures passed { PassesOn self.old.loss (L.calls self.old.line) (L.calls self.new.line)
             request (reply_of result) }
+        ensures line { L.becomes self.old.line self.new.line
+            × PassesCallsOn self.old.calls.made.items self.new.calls.made.items
+            (L.calls self.old.line) (L.calls self.new.line) }
     {
         let loss = self.loss;
         self.loss = Loss::None;
@@ -101,11 +114,23 @@ impl<L: Line> Line for Lossy<L> {
     fn unmade_calls(&self) -> u64 {
         self.calls.unmade
     }
+
+    ghost stays = { λ line. (
+      L.stays line.line,
+      no_call_is_passed_on line.calls.made.items (L.calls line.line),
+    ) };
+
+    ghost goes_on = { λ a b c one two. (
+      L.goes_on a.line b.line c.line one.0 two.0,
+      calls_are_passed_on a.calls.made.items b.calls.made.items c.calls.made.items
+          (L.calls a.line) (L.calls b.line) (L.calls c.line) one.1 two.1,
+    ) };
 }
 
 /// Makes a call of the line, unless it is lost before; the reply, unless it is lost.
 fn pass_on<L: Line>(line: &mut L, alloc: Global, request: Request, loss: Loss) -> Option<Reply>
     ensures passed { PassesOn loss (L.calls line.old) (L.calls line.new) request result }
+    ensures line { L.becomes line.old line.new }
     ensures fits { IfSome result (λ reply. Fits request reply) }
     ensures within { IfSome result (λ reply. OffsetsWithin reply) }
 {

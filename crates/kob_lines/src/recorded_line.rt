@@ -1,7 +1,7 @@
 //! A line over a borrowed broker with its journal.
 
-ghost use Rattle.std.specs.Prelude.{◌≡◌, ◌≤◌, [], None, IfOk, IsErrOf, OnErr, OnOk, length};
-ghost use Rattle.kob_lines.specs.Heard.{IsServedAtMostOnce};
+ghost use Rattle.std.specs.Prelude.{◌≡◌, ◌≤◌, [], None, IfOk, IfSome, IsErrOf, OnErr, OnOk, length};
+ghost use Rattle.kob_lines.specs.Heard.{IsServedAtMostOnce, IsServedIfHeard};
 ghost use Rattle.kob_router.specs.Line.{Adds, IsFaithful};
 ghost use Rattle.kob_shared.specs.Journals.{after_event, outcome_of};
 ghost use Rattle.kob_shared.specs.Sessions.{event_by};
@@ -85,6 +85,30 @@ impl<'a> RecordedLine<'a> {
         }
     }
 
+    /// Calls, and keeps why no reply was received.
+    fn hear(&mut self, alloc: Global, request: Request) -> Option<Reply>
+        ensures same_broker { self.new.recorded.ghost_name ≡ self.old.recorded.ghost_name }
+        ensures worker { self.new.worker ≡ self.old.worker }
+        ensures principal { self.new.principal ≡ self.old.principal }
+        ensures host { self.new.host ≡ self.old.host }
+        ensures made { self.new.calls.made ≡ self.old.calls.made }
+        ensures unmade { self.new.calls.unmade ≡ self.old.calls.unmade }
+        ensures served { let event = event_by self.old.principal self.old.host request in
+            IsServedIfHeard self.old.recorded.now
+            (after_event self.old.recorded.now self.old.worker event) self.new.recorded.now
+            (outcome_of self.old.recorded.now event).reply result }
+        ensures fits { IfSome result (λ reply. Fits request reply) }
+        ensures within { IfSome result (λ reply. OffsetsWithin reply) }
+    {
+        match self.call(alloc, request) {
+            Ok(reply) => Some(reply),
+            Err(fault) => {
+                self.calls.fault = Some(fault.into());
+                None
+            }
+        }
+    }
+
     /// The calls that were made, the oldest first. The broker is free again; no memory is taken.
     pub fn close(self) -> Vec<Call>
         ensures { result.items ≡ self.entry.calls.made.items }
@@ -101,19 +125,37 @@ impl<'a> RecordedLine<'a> {
 }
 
 impl<'a> Line for RecordedLine<'a> {
+    ghost use Rattle.std.specs.Prelude.{refl};
+    ghost use Rattle.std.proofs.Common.{◌∙◌};
+    ghost use Rattle.kob_lines.specs.Becoming.{Journals};
+    ghost use Rattle.kob_lines.specs.Joined.{calls_are_journaled, no_call_is_journaled};
+
     ghost calls = { λ line. line.calls.made.items };
 
     ghost unmade = { λ line. line.calls.unmade };
 
+    /// It stays with its broker, its worker, its principal and its host, and the calls put entries
+    /// at the end of the journal.
+    ghost becomes = { λ old new.
+        (new.recorded.ghost_name ≡ old.recorded.ghost_name)
+        × (new.worker ≡ old.worker)
+        × (new.principal ≡ old.principal)
+        × (new.host ≡ old.host)
+        × Journals old.worker old.principal old.host old.calls.made.items new.calls.made.items
+        old.recorded.now new.recorded.now };
+
     /// Makes a call: the broker serves it at once, as the line's worker's.
+    #[tactic(auto, using(crate::proofs::Adding::one_call_is_journaled, crate::proofs::Adding::served_if_told))]
     fn send(&mut self, alloc: Global, request: Request) -> Delivery
         ensures added { Adds self.old.calls.made.items self.new.calls.made.items
             self.old.calls.unmade self.new.calls.unmade request result }
         ensures faithful { IsFaithful request result }
-        ensures same_broker { self.new.recorded.ghost_name ≡ self.old.recorded.ghost_name }
-        ensures worker { self.new.worker ≡ self.old.worker }
-        ensures principal { self.new.principal ≡ self.old.principal }
-        ensures host { self.new.host ≡ self.old.host }
+        ensures line { (self.new.recorded.ghost_name ≡ self.old.recorded.ghost_name)
+            × (self.new.worker ≡ self.old.worker)
+            × (self.new.principal ≡ self.old.principal)
+            × (self.new.host ≡ self.old.host)
+            × Journals self.old.worker self.old.principal self.old.host self.old.calls.made.items
+            self.new.calls.made.items self.old.recorded.now self.new.recorded.now }
         ensures served { let event = event_by self.old.principal self.old.host request in
             IsServedAtMostOnce self.old.recorded.now
             (after_event self.old.recorded.now self.old.worker event) self.new.recorded.now
@@ -123,13 +165,7 @@ impl<'a> Line for RecordedLine<'a> {
             drop(request);
             return Delivery::Lost;
         };
-        let heard = match self.call(alloc, request) {
-            Ok(reply) => Some(reply),
-            Err(fault) => {
-                self.calls.fault = Some(fault.into());
-                None
-            }
-        };
+        let heard = self.hear(alloc, request);
         self.calls.note(alloc, noted, heard)
     }
 
@@ -140,4 +176,23 @@ impl<'a> Line for RecordedLine<'a> {
     fn unmade_calls(&self) -> u64 {
         self.calls.unmade
     }
+
+    ghost stays = { λ line. (
+      refl,
+      refl,
+      refl,
+      refl,
+      no_call_is_journaled line.worker line.principal line.host line.calls.made.items
+          line.recorded.now,
+    ) };
+
+    ghost goes_on = { λ a b c one two. (
+      two.0 ∙ one.0,
+      two.1 ∙ one.1,
+      two.2 ∙ one.2,
+      two.3 ∙ one.3,
+      calls_are_journaled a.worker b.worker a.principal b.principal a.host b.host
+          a.calls.made.items b.calls.made.items c.calls.made.items
+          a.recorded.now b.recorded.now c.recorded.now one.1 one.2 one.3 one.4 two.4,
+    ) };
 }

@@ -69,18 +69,25 @@ impl<'a, R: Wait> SessionLine<'a, R> {
 }
 
 impl<'a, R: Wait> Line for SessionLine<'a, R> {
+    ghost use Rattle.kob_lines.specs.Becoming.{KeepsSeat};
+    ghost use Rattle.kob_lines.specs.Joined.{seat_goes_on, seat_stays};
+
     ghost calls = { λ line. line.calls.made.items };
 
     ghost unmade = { λ line. line.calls.unmade };
 
+    /// It stays with its session's worker, principal and host.
+    ghost becomes = { λ old new. KeepsSeat old.session new.session };
+
     /// Makes a call through the session, as [`Session::call`] does.
-    #[tactic(auto, using(crate::proofs::Hearing::heard_in_session))]
+    #[tactic(auto, using(crate::proofs::Hearing::heard_in_session, crate::proofs::Adding::heard_keeps_seat))]
     fn send(&mut self, alloc: Global, request: Request) -> Delivery
         ensures added { Adds self.old.calls.made.items self.new.calls.made.items
             self.old.calls.unmade self.new.calls.unmade request result }
         ensures faithful { IsFaithful request result }
         ensures served { IsServedInSession self.old.session self.new.session request
             (reply_of result) }
+        ensures line { KeepsSeat self.old.session self.new.session }
     {
         let Some(noted) = self.calls.room_for(alloc, &request) else {
             drop(request);
@@ -97,4 +104,8 @@ impl<'a, R: Wait> Line for SessionLine<'a, R> {
     fn unmade_calls(&self) -> u64 {
         self.calls.unmade
     }
+
+    ghost stays = { λ line. seat_stays line.session };
+
+    ghost goes_on = { λ a b c. seat_goes_on a.session b.session c.session };
 }
