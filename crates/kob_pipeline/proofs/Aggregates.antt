@@ -31,7 +31,8 @@ use Rattle.kob_router.specs.Run.Move.{Called, Recorded, Restarted, Swept, Took}
 use Rattle.kob_router.specs.declared.place.Place.{Place}
 use Rattle.kob_shared.specs.declared.journal.Entry.{Entry}
 use Rattle.kob_pipeline.specs.Reaching.{is_of_aggregate}
-use Rattle.kob_pipeline.specs.Served.{AreServed, served_to}
+use Rattle.kob_router.specs.Served.{AreServed}
+use Rattle.kob_pipeline.specs.Served.{served_to}
 use Rattle.kob_pipeline.proofs.Logged.{is_fresh}
 use Rattle.kob_pipeline.proofs.Rows.{call_of, called_ids, kept_by_router, recorded}
 use Rattle.kob_pipeline.proofs.ServedRuns.{IsUnheard}

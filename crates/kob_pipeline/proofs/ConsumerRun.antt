@@ -31,7 +31,8 @@ use Rattle.kob_inbox.specs.Run.Move.{Called, Restarted}
 use Rattle.kob_shared.specs.declared.journal.Entry.{Entry}
 use Rattle.kob_pipeline.specs.Taking.{IsTakenInOrder}
 use Rattle.kob_pipeline.specs.Premises.{IsNeverDeleted, IsSoleCommitter}
-use Rattle.kob_pipeline.specs.Served.{AreServed, served_to}
+use Rattle.kob_router.specs.Served.{AreServed}
+use Rattle.kob_pipeline.specs.Served.{served_to}
 use Rattle.kob_pipeline.proofs.Logged.{records_more}
 use Rattle.kob_pipeline.proofs.OtherSteps.{Leaves, leaves}
 use Rattle.kob_rights.specs.declared.reply.Body.TheVariants as bodies

@@ -8,7 +8,8 @@ use Rattle.kob_shared.specs.Noted.{Noted}
 use Rattle.kob_shared.specs.Runs.{events_in, told_in}
 use Rattle.kob_shared.specs.declared.journal.Entry.{Entry}
 use Rattle.kob_shared.specs.declared.journal.Receipt.{Receipt}
-use Rattle.kob_pipeline.specs.Served.{Served, served_by_notes, served_in, served_to}
+use Rattle.kob_router.specs.Served.{Served}
+use Rattle.kob_pipeline.specs.Served.{served_by_notes, served_in, served_to}
 use Rattle.std.proofs.lemmas.Simd.{map-map}
 use Rattle.std.specs.List.{AllByRecursion, enumerate_from}
 use Rattle.std.specs.Prelude.{Contains}

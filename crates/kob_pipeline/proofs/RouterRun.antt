@@ -33,7 +33,8 @@ use Rattle.kob_router.specs.declared.line.Call.{Call}
 use Rattle.kob_shared.specs.declared.journal.Entry.{Entry}
 use Rattle.kob_pipeline.specs.Delivery.{IsDelivered, goes_to, routed_to}
 use Rattle.kob_pipeline.specs.Premises.{IsNeverDeleted, IsSoleProducer}
-use Rattle.kob_pipeline.specs.Served.{AreServed, served_to}
+use Rattle.kob_router.specs.Served.{AreServed}
+use Rattle.kob_pipeline.specs.Served.{served_to}
 use Rattle.kob_pipeline.proofs.OtherSteps.{leaves}
 use Rattle.kob_pipeline.proofs.Rows.{call_of, kept_by_router, recorded}
 use Rattle.kob_rights.specs.declared.reply.Body.TheVariants as bodies

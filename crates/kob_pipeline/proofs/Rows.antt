@@ -10,7 +10,8 @@ use Rattle.kob_router.specs.Run.{Hand, IsRouterRun, May, Move, State, after_ackn
 use Rattle.kob_router.specs.Run.Move.{Called, Recorded, Restarted, Swept, Took}
 use Rattle.kob_router.specs.declared.line.Call.{Call}
 use Rattle.kob_shared.specs.declared.journal.Entry.{Entry}
-use Rattle.kob_pipeline.specs.Served.{AreServed, served_to}
+use Rattle.kob_router.specs.Served.{AreServed}
+use Rattle.kob_pipeline.specs.Served.{served_to}
 use Rattle.kob_pipeline.proofs.ServedRuns.{IsRun, IsServedBy, IsUnheard, added, kept_by_run}
 use Rattle.std.proofs.lemmas.Bool.{cond-true, lt-ltb, ltb-true}
 use Rattle.kob_outbox.specs.Reading.{later_than}

@@ -18,7 +18,8 @@ use Rattle.kob_router.specs.Run.{Hand, IsDone, IsRouterRun, IsSending, May, MayC
 use Rattle.kob_router.specs.Run.Move.{Called, Recorded, Restarted, Swept, Took}
 use Rattle.kob_router.specs.declared.line.Call.{Call}
 use Rattle.kob_shared.specs.declared.journal.Entry.{Entry}
-use Rattle.kob_pipeline.specs.Served.{AreServed, served_to}
+use Rattle.kob_router.specs.Served.{AreServed}
+use Rattle.kob_pipeline.specs.Served.{served_to}
 use Rattle.kob_pipeline.specs.Waiting.{IsSent, IsWaitingOrSent}
 use Rattle.kob_pipeline.proofs.Logged.{IsKept, kept_at_start, kept_marked, kept_recorded, kept_swept}
 use Rattle.kob_pipeline.proofs.Lists.{all_append, all_contained, all_last, all_weaker, contains_more, first_is, kept_by, same_some}

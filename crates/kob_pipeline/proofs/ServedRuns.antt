@@ -6,7 +6,8 @@ use Rattle.std.proofs.lemmas.Bool.{cases_Bool, eqb-false, eqb-true}
 use Rattle.kob_rights.specs.declared.reply.Reply.{Reply}
 use Rattle.kob_router.specs.declared.line.Call.{Call}
 use Rattle.kob_shared.specs.declared.journal.Entry.{Entry}
-use Rattle.kob_pipeline.specs.Served.{AreServed, Served, served_in, served_to}
+use Rattle.kob_router.specs.Served.{AreServed, Served}
+use Rattle.kob_pipeline.specs.Served.{served_in, served_to}
 
 -- what was heard of a reply
 abbrev pub Hears : Option Reply → Reply → Type 0

@@ -22,7 +22,8 @@ use Rattle.kob_pipeline.specs.declared.plan.Service.{Service}
 use Rattle.kob_pipeline.specs.declared.plan.ServiceStep.{ServiceStep}
 use Rattle.kob_pipeline.specs.Consumers.{IsConsumerStep, IsConsumption}
 use Rattle.kob_pipeline.specs.Losses.{AreServedByLoss}
-use Rattle.kob_pipeline.specs.Served.{AreServed, Served, served_by_notes}
+use Rattle.kob_router.specs.Served.{AreServed, Served}
+use Rattle.kob_pipeline.specs.Served.{served_by_notes}
 use Rattle.kob_pipeline.specs.Services.{IsServiceRun, IsServiceStep}
 use Rattle.kob_pipeline.specs.Workers.{IsInboxLeft, IsOutboxLeft}
 use Rattle.kob_pipeline.proofs.Rows.{all_later, run_numbered}

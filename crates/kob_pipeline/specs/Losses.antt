@@ -4,7 +4,7 @@ use Rattle.kob_rights.specs.declared.reply.Reply.{Reply}
 use Rattle.kob_router.specs.declared.line.Call.{Call}
 use Rattle.kob_pipeline.specs.declared.plan.Loss.{Loss}
 use Rattle.kob_pipeline.specs.declared.plan.Loss.TheVariants as losses
-use Rattle.kob_pipeline.specs.Served.{Served}
+use Rattle.kob_router.specs.Served.{Served}
 
 -- how the calls of a tick are lost: its loss is that of the first
 abbrev pub losses_of : Loss → List Call → List Loss

@@ -6,7 +6,8 @@ use Rattle.kob_router.specs.declared.dispatch.Target.{Target}
 use Rattle.kob_inbox.specs.Run as consumer
 use Rattle.kob_inbox.specs.declared.fetcher.Subscription.{Subscription}
 use Rattle.kob_shared.specs.declared.journal.Entry.{Entry}
-use Rattle.kob_pipeline.specs.Served.{AreServed, served_to}
+use Rattle.kob_router.specs.Served.{AreServed}
+use Rattle.kob_pipeline.specs.Served.{served_to}
 
 -- a service and its router, from an empty outbox on
 pub record IsServicePart (target : Target) (worker : ℕ) (journal : List Entry)

@@ -16,7 +16,8 @@ use Rattle.kob_pipeline.specs.declared.plan.Service.{Service}
 use Rattle.kob_pipeline.specs.declared.plan.ServiceStep.{ServiceStep}
 use Rattle.kob_pipeline.specs.declared.plan.ServiceStep.TheVariants as steps
 use Rattle.kob_pipeline.specs.Losses.{AreServedByLoss, losses_of}
-use Rattle.kob_pipeline.specs.Served.{AreServed, served_by_notes}
+use Rattle.kob_router.specs.Served.{AreServed}
+use Rattle.kob_pipeline.specs.Served.{served_by_notes}
 use Rattle.kob_pipeline.specs.Steps.{Steps}
 
 -- neither memory nor the database stopped the tick

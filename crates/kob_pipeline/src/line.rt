@@ -195,6 +195,8 @@ impl<'a, R: Wait, G: Gate> Line for DeskLine<'a, R, G> {
 
     ghost unmade = { λ line. line.unmade };
 
+    ghost becomes = { λ old new. Unit {0} };
+
     fn send(&mut self, alloc: Global, request: Request) -> Delivery {
         let loss = self.loss;
         self.loss = Loss::None;
@@ -221,6 +223,10 @@ impl<'a, R: Wait, G: Gate> Line for DeskLine<'a, R, G> {
     fn unmade_calls(&self) -> u64 {
         self.unmade
     }
+
+    ghost stays = { λ line. tt };
+
+    ghost goes_on = { λ a b c one two. tt };
 }
 
 /// Calls, and gives the reply twice.
