@@ -19,7 +19,8 @@ pub mod Breaches
 pub mod BrokerSteps
 pub mod Finals
 pub mod Ended
-pub mod LossNotes
+pub mod Losing
+pub mod Ticked
 pub mod Opened
 pub mod Outboxes
 pub mod PipelineFaults

@@ -13,7 +13,8 @@ use Rattle.kob_outbox.specs.Events.{stored_row}
 use Rattle.kob_outbox.specs.Reading.{later_than}
 use Rattle.kob_router.specs.Dispatches.{Dispatching, dispatch_of}
 use Rattle.kob_router.proofs.Runs.{run_append}
-use Rattle.kob_shared.specs.Noted.{Noted}
+use Rattle.kob_rights.specs.declared.event.Event.{Event}
+use Rattle.kob_shared.specs.Noted.{AtDesk, Noted, nothing}
 use Rattle.kob_pipeline.specs.declared.end.InboxEnd.{InboxEnd}
 use Rattle.kob_pipeline.specs.declared.end.OutboxEnd.{OutboxEnd}
 use Rattle.kob_pipeline.specs.declared.plan.ConsumerPlan.{ConsumerPlan}
@@ -21,7 +22,8 @@ use Rattle.kob_pipeline.specs.declared.plan.ConsumerStep.{ConsumerStep}
 use Rattle.kob_pipeline.specs.declared.plan.Service.{Service}
 use Rattle.kob_pipeline.specs.declared.plan.ServiceStep.{ServiceStep}
 use Rattle.kob_pipeline.specs.Consumers.{IsConsumerStep, IsConsumption}
-use Rattle.kob_pipeline.specs.Losses.{AreServedByLoss}
+use Rattle.kob_pipeline.specs.Losses.{AreNoted, AreServedByLoss, IsEventOf}
+use Rattle.kob_pipeline.specs.Noting.{noted_append, nothing_is_noted}
 use Rattle.kob_router.specs.Served.{AreServed, Served}
 use Rattle.kob_pipeline.specs.Served.{served_by_notes}
 use Rattle.kob_pipeline.specs.Services.{IsServiceRun, IsServiceStep}
@@ -76,6 +78,16 @@ steps_push does old mid new (s ∷ steps) step front last ls ms all here = (
   ap (λ xs. xs ++ ms) all.8 ∙ append_assoc all.3 all.4 ms,
 )
 
+-- no step was made yet
+pub no_step : {S T M : Type 0} {does : Doing S T M} {calls_of : List M → List Call} {state : S} (desk : AtDesk)
+    → calls_of [] ≡ [] → Leads (Steps does) calls_of (standing state desk) [] (standing state desk)
+no_step desk none = record {
+  moves = [];
+  losses = [];
+  done = (refl, refl, refl);
+  noted = subst (λ (cs : List Call). AreNoted [] cs desk desk) (sym none) (nothing_is_noted desk);
+}
+
 -- one step more, with its calls
 leads_push : {S T M : Type 0} {does : Doing S T M} {calls_of : List M → List Call} {old mid new : Standing S} {step : T}
     (steps : List T) → ((xs ys : List M) → calls_of (xs ++ ys) ≡ calls_of xs ++ calls_of ys)
@@ -87,11 +99,11 @@ leads_push {does = does} {calls_of = calls_of} {old = old} {mid = mid} {new = ne
       losses = before.losses ++ here.losses;
       done = steps_push does old.state mid.state new.state steps step before.moves here.moves before.losses here.losses
           before.done here.done;
-      calls =
-          here.calls ∙ ap (λ cs. cs ++ calls_of here.moves) before.calls
-          ∙ append_assoc old.calls (calls_of before.moves) (calls_of here.moves)
-          ∙ ap (λ cs. old.calls ++ cs) (sym (joined before.moves here.moves));
-      lost = here.lost ∙ ap (λ ls. ls ++ here.losses) before.lost ∙ append_assoc old.losses before.losses here.losses;
+      noted =
+          subst (λ (cs : List Call). AreNoted (before.losses ++ here.losses) cs old.desk new.desk)
+          (sym (joined before.moves here.moves))
+          (noted_append before.losses here.losses (calls_of before.moves) (calls_of here.moves) old.desk mid.desk
+          new.desk before.noted here.noted);
     }
 
 -- the steps up to one more place
@@ -109,14 +121,13 @@ leads_more {T = T} {does = does} {calls_of = calls_of} {old = old} {new = new} {
 
 -- a step that makes no call
 pub leads_still : {S T M : Type 0} {does : Doing S T M} {calls_of : List M → List Call} {old new : S} {step : T}
-    {cs : List Call} {ls : List Loss} (moves : List M) → calls_of moves ≡ [] → does old step moves [] new
-    → Leads does calls_of (standing old cs ls) step (standing new cs ls)
-leads_still {cs = cs} {ls = ls} moves none here = record {
+    {desk : AtDesk} (moves : List M) → calls_of moves ≡ [] → does old step moves [] new
+    → Leads does calls_of (standing old desk) step (standing new desk)
+leads_still {desk = desk} moves none here = record {
   moves = moves;
   losses = [];
   done = here;
-  calls = sym (append-nil cs) ∙ ap (λ xs. cs ++ xs) (sym none);
-  lost = sym (append-nil ls);
+  noted = subst (λ (cs : List Call). AreNoted [] cs desk desk) (sym none) (nothing_is_noted desk);
 }
 
 -- what holds of each step's moves, and of moves one after another, holds of all
@@ -160,98 +171,106 @@ consumer_run t old new steps moves ls all =
     (λ a b c xs ys one two. consumer_run_append t xs ys a b c one two)
     (λ a u xs ms b done. done.run) old new steps moves ls all
 
-pub service_run_of : (s : Service) (noted : Noted) (left : OutboxEnd) (calls : List Call) (ls : List Loss)
-    → IsOutboxLeft s calls ls left → AreServedByLoss ls calls (served_by_notes noted.events noted.told)
-    → All (λ e. (e.principal ≡ s.principal) × (e.host ≡ s.host)) noted.events → IsServiceRun s noted left
-service_run_of s noted left calls ls is told own =
-    let lost = rw is.made at told in
+-- what was noted from nothing on is all
+all_noted : (ls : List Loss) (cs : List Call) (begun desk : AtDesk) → begun.noted ≡ nothing
+    → AreNoted ls cs begun desk → AreServedByLoss ls cs (served_by_notes desk.noted.events desk.noted.told)
+all_noted ls cs begun desk none is =
+    let all = is.noted ∙ ap (λ (n : Noted). served_by_notes n.events n.told ++ is.served) none in
+    subst (λ (ss : List Served). AreServedByLoss ls cs ss) (sym all) is.by_loss
+
+all_own : (ls : List Loss) (cs : List Call) (principal host : List ℕ) (begun desk : AtDesk) → begun.noted ≡ nothing
+    → begun.seat.principal ≡ principal → begun.seat.host ≡ host → AreNoted ls cs begun desk
+    → All (IsEventOf principal host) desk.noted.events
+all_own ls cs principal host begun desk none same_principal same_host is =
+    let all = is.added ∙ ap (λ (n : Noted). n.events ++ is.events) none in
+    subst (λ (es : List Event). All (IsEventOf principal host) es) (sym all)
+    (subst (λ p. All (IsEventOf p host) is.events) same_principal
+    (subst (λ h. All (IsEventOf begun.seat.principal h) is.events) same_host is.own))
+
+pub service_run_of : (s : Service) (begun desk : AtDesk) (left : OutboxEnd) → begun.noted ≡ nothing
+    → begun.seat.principal ≡ s.principal → begun.seat.host ≡ s.host → IsOutboxLeft s begun desk left
+    → IsServiceRun s desk.noted left
+service_run_of s begun desk left none principal host is =
+    let calls = routers.calls_of is.moves in
+    let lost = all_noted is.losses calls begun desk none is.noted in
     record {
       moves = is.moves;
-      losses = ls;
+      losses = is.losses;
       state = is.state;
       steps = is.steps;
-      run = service_run (dispatch_of s.target) routers.start is.state s.steps.items is.moves ls is.steps;
-      served = served_by_loss ls (routers.calls_of is.moves) (served_by_notes noted.events noted.told) lost;
+      run = service_run (dispatch_of s.target) routers.start is.state s.steps.items is.moves is.losses is.steps;
+      served = served_by_loss is.losses calls (served_by_notes desk.noted.events desk.noted.told) lost;
       lost = lost;
-      own = own;
+      own = all_own is.losses calls s.principal s.host begun desk none principal host is.noted;
       rows = is.rows;
       mark = is.mark;
     }
 
-pub consumption_of : (c : ConsumerPlan) (noted : Noted) (left : InboxEnd) (calls : List Call) (ls : List Loss)
-    → IsInboxLeft c calls ls left → AreServedByLoss ls calls (served_by_notes noted.events noted.told)
-    → All (λ e. (e.principal ≡ c.principal) × (e.host ≡ c.host)) noted.events → IsConsumption c noted left
-consumption_of c noted left calls ls is told own =
-    let lost = rw is.made at told in
+pub consumption_of : (c : ConsumerPlan) (begun desk : AtDesk) (left : InboxEnd) → begun.noted ≡ nothing
+    → begun.seat.principal ≡ c.principal → begun.seat.host ≡ c.host → IsInboxLeft c begun desk left
+    → IsConsumption c desk.noted left
+consumption_of c begun desk left none principal host is =
+    let calls = consumers.calls_of is.moves in
+    let lost = all_noted is.losses calls begun desk none is.noted in
     record {
       moves = is.moves;
-      losses = ls;
+      losses = is.losses;
       state = is.state;
       steps = is.steps;
-      run = consumer_run c.subscription consumers.start is.state c.steps.items is.moves ls is.steps;
-      served = served_by_loss ls (consumers.calls_of is.moves) (served_by_notes noted.events noted.told) lost;
+      run = consumer_run c.subscription consumers.start is.state c.steps.items is.moves is.losses is.steps;
+      served = served_by_loss is.losses calls (served_by_notes desk.noted.events desk.noted.told) lost;
       lost = lost;
-      own = own;
+      own = all_own is.losses calls c.principal c.host begun desk none principal host is.noted;
       rows = is.rows;
     }
 
--- what stands behind nothing is all
-behind_none : {A : Type 0} (before now these : List A) → before ≡ [] → now ≡ before ++ these → now ≡ these
-behind_none before now these none is = is ∙ ap (λ xs. xs ++ these) none
-
--- what the steps of a service leave, from nothing on
-pub outbox_left : (s : Service) {begun new : routers.State} {before now : List Call} {ls ms fs : List Loss}
-    {left : OutboxEnd} → begun ≡ routers.start → before ≡ [] → ls ≡ [] → fs ≡ ms
-    → Leads (Steps (IsServiceStep (dispatch_of s.target))) routers.calls_of (standing begun before ls) s.steps.items
-    (standing new now ms)
+-- what the steps of a service leave, from the start on
+pub outbox_left : (s : Service) {begun new : routers.State} {before now : AtDesk} {left : OutboxEnd}
+    → begun ≡ routers.start
+    → Leads (Steps (IsServiceStep (dispatch_of s.target))) routers.calls_of (standing begun before) s.steps.items
+    (standing new now)
     → map stored_row left.rows.items ≡ later_than 0 new.outbox.events → left.mark ≡ new.outbox.mark
-    → IsOutboxLeft s now fs left
-outbox_left s {new = new} {before = before} {now = now} {ls = ls} {ms = ms} {fs = fs} start none unlost same leads rows
-    mark =
+    → IsOutboxLeft s before now left
+outbox_left s {new = new} start leads rows mark =
     let route = dispatch_of s.target in
-    let lost : leads.losses ≡ fs = sym (same ∙ behind_none ls ms leads.losses unlost leads.lost) in
-    let steps : Steps (IsServiceStep route) routers.start s.steps.items leads.moves fs new =
-    subst (λ (xs : List Loss). Steps (IsServiceStep route) routers.start s.steps.items leads.moves xs new) lost
-    (subst (λ (b : routers.State). Steps (IsServiceStep route) b s.steps.items leads.moves leads.losses new) start
-    leads.done) in
-    let run = service_run route routers.start new s.steps.items leads.moves fs steps in
+    let steps : Steps (IsServiceStep route) routers.start s.steps.items leads.moves leads.losses new =
+    subst (λ (b : routers.State). Steps (IsServiceStep route) b s.steps.items leads.moves leads.losses new) start
+    leads.done in
+    let run = service_run route routers.start new s.steps.items leads.moves leads.losses steps in
     record {
       moves = leads.moves;
+      losses = leads.losses;
       state = new;
       steps = steps;
-      made = behind_none before now (routers.calls_of leads.moves) none leads.calls;
+      noted = leads.noted;
       rows = rows ∙ all_later new.outbox.events (run_numbered route leads.moves routers.start new run tt);
       mark = mark;
     }
 
--- what the steps of a consumer leave, from nothing on
-pub inbox_left : (c : ConsumerPlan) {begun new : consumers.State} {before now : List Call} {ls ms fs : List Loss}
-    {left : InboxEnd} → begun ≡ consumers.start → before ≡ [] → ls ≡ [] → fs ≡ ms
-    → Leads (Steps (IsConsumerStep c.subscription)) consumers.calls_of (standing begun before ls) c.steps.items
-    (standing new now ms)
-    → map placed_intake left.rows.items ≡ enumerate_from 1 new.inbox → IsInboxLeft c now fs left
-inbox_left c {new = new} {before = before} {now = now} {ls = ls} {ms = ms} start none unlost same leads rows =
-    let t = c.subscription in
-    let lost = sym (same ∙ behind_none ls ms leads.losses unlost leads.lost) in
-    record {
-      moves = leads.moves;
-      state = new;
-      steps =
-          subst (λ (xs : List Loss). Steps (IsConsumerStep t) consumers.start c.steps.items leads.moves xs new) lost
-          (subst (λ (b : consumers.State). Steps (IsConsumerStep t) b c.steps.items leads.moves leads.losses new) start
-          leads.done);
-      made = behind_none before now (consumers.calls_of leads.moves) none leads.calls;
-      rows = rows;
-    }
+-- what the steps of a consumer leave, from the start on
+pub inbox_left : (c : ConsumerPlan) {begun new : consumers.State} {before now : AtDesk} {left : InboxEnd}
+    → begun ≡ consumers.start
+    → Leads (Steps (IsConsumerStep c.subscription)) consumers.calls_of (standing begun before) c.steps.items
+    (standing new now)
+    → map placed_intake left.rows.items ≡ enumerate_from 1 new.inbox → IsInboxLeft c before now left
+inbox_left c {new = new} start leads rows = record {
+  moves = leads.moves;
+  losses = leads.losses;
+  state = new;
+  steps =
+      subst (λ (b : consumers.State). Steps (IsConsumerStep c.subscription) b c.steps.items leads.moves leads.losses
+      new) start leads.done;
+  noted = leads.noted;
+  rows = rows;
+}
 
--- what three facts of a result give together
-pub if_ok_three : {V E : Type 0} (P Q R S : V → Type 0) (r : Result V E) → ((v : V) → P v → Q v → R v → S v) → IfOk r P
-    → IfOk r Q → IfOk r R → IfOk r S
-if_ok_three P Q R S (Ok v) all p q r = all v p q r
-if_ok_three P Q R S (Err e) all p q r = tt
-
--- the same of two
+-- what two facts of a result give together
 pub if_ok_two : {V E : Type 0} (P Q S : V → Type 0) (r : Result V E) → ((v : V) → P v → Q v → S v) → IfOk r P
     → IfOk r Q → IfOk r S
 if_ok_two P Q S (Ok v) all p q = all v p q
 if_ok_two P Q S (Err e) all p q = tt
+
+-- the same of one
+pub if_ok_one : {V E : Type 0} (P S : V → Type 0) (r : Result V E) → ((v : V) → P v → S v) → IfOk r P → IfOk r S
+if_ok_one P S (Ok v) all p = all v p
+if_ok_one P S (Err e) all p = tt

@@ -14,6 +14,7 @@ pub mod Ends
 pub mod Faults
 pub mod Leavings
 pub mod Losses
+pub mod Noting
 pub mod Pipelines
 pub mod Plans
 pub mod Services

@@ -1,7 +1,9 @@
 -- Steps of a worker, one after another.
 use Rattle.std.specs.Prelude.{◌≡◌, List, [], ◌∷◌, ◌++◌}
 use Rattle.kob_router.specs.declared.line.Call.{Call}
+use Rattle.kob_shared.specs.Noted.{AtDesk}
 use Rattle.kob_pipeline.specs.declared.plan.Loss.{Loss}
+use Rattle.kob_pipeline.specs.Losses.{AreNoted}
 
 -- what one kind of step does: it leads from a state to another by these moves, whose calls have
 -- these losses
@@ -18,20 +20,18 @@ Steps {S} {T} {M} does old (step ∷ steps) moves losses new =
     × (moves ≡ these ++ those)
     × (losses ≡ first ++ rest)
 
--- a worker between two steps: its state, the calls that it made, and how they were lost
+-- a worker between two steps: its state, and its desk
 pub record Standing (S : Type 0) : Type 0 where
   pub state : S
-  pub calls : List Call
-  pub losses : List Loss
+  pub desk : AtDesk
 
-abbrev pub standing : {S : Type 0} → S → List Call → List Loss → Standing S
-standing state calls losses = record { state = state; calls = calls; losses = losses }
+abbrev pub standing : {S : Type 0} → S → AtDesk → Standing S
+standing state desk = record { state = state; desk = desk }
 
--- what is done leads from the one to the other, and its moves' calls are the new ones
+-- what is done leads from the one to the other, and its moves' calls are noted
 pub record Leads {S T M : Type 0} (does : Doing S T M) (calls_of : List M → List Call)
     (old : Standing S) (what : T) (new : Standing S) : Type 0 where
   pub moves : List M
   pub losses : List Loss
   pub done : does old.state what moves losses new.state
-  pub calls : new.calls ≡ old.calls ++ calls_of moves
-  pub lost : new.losses ≡ old.losses ++ losses
+  pub noted : AreNoted losses (calls_of moves) old.desk new.desk

@@ -6,10 +6,9 @@ use Rattle.kob_inbox.specs.Run as consumers
 use Rattle.kob_outbox.specs.Events.{stored_row}
 use Rattle.kob_router.specs.Dispatches.{dispatch_of}
 use Rattle.kob_router.specs.Run as routers
-use Rattle.kob_router.specs.declared.line.Call.{Call}
 use Rattle.kob_rights.specs.declared.event.Event.{Event}
 use Rattle.kob_shared.specs.Fleets.{events_of_script}
-use Rattle.kob_shared.specs.Noted.{Noted}
+use Rattle.kob_shared.specs.Noted.{AtDesk, Noted}
 use Rattle.kob_shared.specs.declared.script.Script.{Script}
 use Rattle.kob_pipeline.specs.declared.end.InboxEnd.{InboxEnd}
 use Rattle.kob_pipeline.specs.declared.end.OutboxEnd.{OutboxEnd}
@@ -23,27 +22,28 @@ use Rattle.kob_pipeline.specs.declared.worker.Worker.{Worker}
 use Rattle.kob_pipeline.specs.declared.worker.Worker.TheVariants as workers
 use Rattle.kob_pipeline.specs.Consumers.{IsConsumerStep, IsConsumption}
 use Rattle.kob_pipeline.specs.Services.{IsServiceRun, IsServiceStep}
+use Rattle.kob_pipeline.specs.Losses.{AreNoted}
 use Rattle.kob_pipeline.specs.Steps.{Steps}
 
--- the steps of a service made these calls, lost so, and this is left of its outbox
-pub record IsOutboxLeft (service : Service) (calls : List Call) (losses : List Loss)
-    (left : OutboxEnd) : Type 0 where
+-- the steps of a service made calls, which are noted at its desk, and this is left of its outbox
+pub record IsOutboxLeft (service : Service) (old new : AtDesk) (left : OutboxEnd) : Type 0 where
   pub moves : List routers.Move
+  pub losses : List Loss
   pub state : routers.State
   pub steps : Steps (IsServiceStep (dispatch_of service.target)) routers.start
       service.steps.items moves losses state
-  pub made : calls ≡ routers.calls_of moves
+  pub noted : AreNoted losses (routers.calls_of moves) old new
   pub rows : map stored_row left.rows.items ≡ state.outbox.events
   pub mark : left.mark ≡ state.outbox.mark
 
--- the steps of a consumer made these calls, lost so, and this is left of its inbox
-pub record IsInboxLeft (consumer : ConsumerPlan) (calls : List Call) (losses : List Loss)
-    (left : InboxEnd) : Type 0 where
+-- the steps of a consumer made calls, which are noted at its desk, and this is left of its inbox
+pub record IsInboxLeft (consumer : ConsumerPlan) (old new : AtDesk) (left : InboxEnd) : Type 0 where
   pub moves : List consumers.Move
+  pub losses : List Loss
   pub state : consumers.State
   pub steps : Steps (IsConsumerStep consumer.subscription) consumers.start
       consumer.steps.items moves losses state
-  pub made : calls ≡ consumers.calls_of moves
+  pub noted : AreNoted losses (consumers.calls_of moves) old new
   pub rows : map placed_intake left.rows.items ≡ enumerate_from 1 state.inbox
 
 -- what a service leaves, unless its database refused

@@ -1,6 +1,6 @@
 //! A consumer at work: its inbox and how far it has come, step by step.
 
-ghost use Rattle.std.specs.Prelude.{◌≡◌, [], map, IfOk, OnErr, OnOk};
+ghost use Rattle.std.specs.Prelude.{◌≡◌, map, IfOk, OnErr, OnOk};
 ghost use Rattle.std.specs.List.{enumerate_from};
 ghost use Rattle.kob_inbox.specs.Rows.{placed_intake};
 ghost use Rattle.kob_inbox.specs.Run.{calls_of, start};
@@ -11,7 +11,6 @@ ghost use Rattle.kob_pipeline.specs.Steps.{Leads, Steps, standing};
 
 use crate::end::InboxEnd;
 use crate::line::DeskLine;
-use crate::losses::note_losses;
 use crate::plan::{ConsumerPlan, ConsumerStep, Loss};
 use crate::step_fault::StepFault;
 use kob_inbox::{Consumer, Inbox, StopReason, Tick};
@@ -21,12 +20,11 @@ use kob_shared::{CallFault, Gate};
 use std::alloc::Global;
 use std::sync::Wait;
 
-/// A consumer with its inbox, and how the calls of its line are lost.
+/// A consumer with its inbox.
 #[derive(Drop)]
 pub(crate) struct Consuming {
     consumer: Consumer,
     inbox: Inbox,
-    losses: Vec<Loss>,
 }
 
 impl Consuming {
@@ -36,7 +34,6 @@ impl Consuming {
             at_work.consumer.subscription ≡ plan.now.subscription) }
         ensures state { IfOk result (λ at_work.
             state_of at_work.consumer at_work.inbox ≡ start) }
-        ensures losses { IfOk result (λ at_work. at_work.losses.items ≡ []) }
     {
         let group = plan.subscription.group.copy(alloc)?;
         let assignment = plan.subscription.assignment.copy(alloc)?;
@@ -44,7 +41,6 @@ impl Consuming {
         Ok(Consuming {
             consumer: Consumer::new(alloc, group, assignment, plan.subscription.max),
             inbox,
-            losses: Vec::new(alloc),
         })
     }
 
@@ -58,11 +54,9 @@ impl Consuming {
         requires { line.old.unmade ≡ 0 }
         ensures { OnOk result (Leads (Steps (IsConsumerStep self.old.consumer.subscription))
             calls_of
-            (standing (state_of self.old.consumer self.old.inbox) line.old.calls.items
-            self.old.losses.items)
+            (standing (state_of self.old.consumer self.old.inbox) line.old.desk)
             steps.now
-            (standing (state_of self.new.consumer self.new.inbox) line.new.calls.items
-            self.new.losses.items)) }
+            (standing (state_of self.new.consumer self.new.inbox) line.new.desk)) }
     {
         for step in steps {
             self.step(alloc, line, step)?;
@@ -84,11 +78,9 @@ impl Consuming {
             (self.new.consumer.subscription ≡ self.old.consumer.subscription) }
         ensures done { OnOk result (Leads (IsConsumerStep self.old.consumer.subscription)
             calls_of
-            (standing (state_of self.old.consumer self.old.inbox) line.old.calls.items
-            self.old.losses.items)
+            (standing (state_of self.old.consumer self.old.inbox) line.old.desk)
             step.now
-            (standing (state_of self.new.consumer self.new.inbox) line.new.calls.items
-            self.new.losses.items)) }
+            (standing (state_of self.new.consumer self.new.inbox) line.new.desk)) }
     {
         match step {
             ConsumerStep::Tick(loss) => self.tick(alloc, line, *loss),
@@ -112,34 +104,28 @@ impl Consuming {
             (self.new.consumer.subscription ≡ self.old.consumer.subscription) }
         ensures done { OnOk result (Leads (IsConsumerStep self.old.consumer.subscription)
             calls_of
-            (standing (state_of self.old.consumer self.old.inbox) line.old.calls.items
-            self.old.losses.items)
+            (standing (state_of self.old.consumer self.old.inbox) line.old.desk)
             (steps.Tick loss)
-            (standing (state_of self.new.consumer self.new.inbox) line.new.calls.items
-            self.new.losses.items)) }
+            (standing (state_of self.new.consumer self.new.inbox) line.new.desk)) }
     {
-        let made = line.made_calls().len();
         line.lose(loss);
         let tick = self.consumer.tick(alloc, &mut self.inbox, line);
         goes_on(tick)?;
         line.goes_on()?;
-        note_losses(&mut self.losses, loss, &line.made_calls()[made..])?;
         Ok(())
     }
 
-    /// What is left, and how the calls were lost.
-    pub(crate) fn close(self) -> Result<(InboxEnd, Vec<Loss>), StepFault>
-        ensures rows { IfOk result (λ left.
-            map placed_intake left.0.rows.items ≡ enumerate_from 1 self.inbox) }
-        ensures losses { IfOk result (λ left. left.1.items ≡ self.losses.items) }
+    /// What is left.
+    pub(crate) fn close(self) -> Result<InboxEnd, StepFault>
+        ensures { IfOk result (λ left.
+            map placed_intake left.rows.items ≡ enumerate_from 1 self.inbox) }
     {
         let Consuming {
             consumer: _,
             mut inbox,
-            losses,
         } = self;
         let rows = inbox.taken()?;
-        Ok((InboxEnd { rows }, losses))
+        Ok(InboxEnd { rows })
     }
 }
 

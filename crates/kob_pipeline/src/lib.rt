@@ -12,8 +12,6 @@ mod fault;
 mod laws;
 mod leavings;
 mod line;
-mod losses;
-mod noted;
 mod pipelines;
 mod plan;
 mod posting;

@@ -1,16 +1,14 @@
 //! A desk as a line, which loses the calls that a plan loses.
 
-ghost use Rattle.std.specs.Prelude.{◌≡◌, ◌<◌, [], IfOk, IfSome, OnOk, vec_capacity, vec_len};
+ghost use Rattle.std.specs.Prelude.{◌≡◌, ◌<◌, [], ◌∷◌, ◌++◌, IfNone, IfOk, IfSome, None, OnOk, Some};
+ghost use Rattle.std.specs.Prelude.{option_map, vec_capacity, vec_len};
 ghost use Rattle.kob_rights.specs.Bodies.{Fits};
 ghost use Rattle.kob_rights.specs.Offsets.{OffsetsWithin};
-ghost use Rattle.std.specs.List.{All};
-ghost use Rattle.kob_pipeline.specs.Losses.{AreServedByLoss};
-ghost use Rattle.kob_pipeline.specs.Served.{served_by_notes};
+ghost use Rattle.kob_pipeline.specs.Losses.{AreNoted};
 ghost use Rattle.kob_router.specs.Line.{Adds, IsFaithful, one_more};
 
-use crate::noted::{are_by, are_served};
 use crate::plan::Loss;
-use kob_names::{Host, PlainValue, Principal};
+use kob_names::PlainValue;
 use kob_rights::{Reply, Request};
 use kob_router::{Call, Delivery, Line};
 use kob_shared::{CallFault, Desk, Gate, Notes};
@@ -42,7 +40,7 @@ impl<'a, R: Wait, G: Gate> DeskLine<'a, R, G> {
         worker: usize,
         desk: Desk<'a>,
     ) -> DeskLine<'a, R, G>
-        ensures calls { result.calls.items ≡ [] }
+        ensures desk { result.desk ≡ desk.entry }
         ensures unmade { result.unmade ≡ 0 }
     {
         DeskLine {
@@ -59,16 +57,15 @@ impl<'a, R: Wait, G: Gate> DeskLine<'a, R, G> {
 
     /// Says what becomes of the next call. All replies after it are received.
     pub(crate) fn lose(&mut self, loss: Loss)
-        ensures calls { self.new.calls ≡ self.old.calls }
-        ensures unmade { self.new.unmade ≡ self.old.unmade }
-        ensures loss { self.new.loss ≡ loss }
+        ensures { self.new ≡ record self.old { loss = loss } }
     {
         self.loss = loss;
     }
 
     /// Why a call was not served, or not noted, where that was not to be.
     pub(crate) fn goes_on(&self) -> Result<(), CallFault>
-        ensures { OnOk result (self.now.unmade ≡ 0) }
+        ensures fault { OnOk result (self.now.fault ≡ None) }
+        ensures unmade { OnOk result (self.now.unmade ≡ 0) }
     {
         if let Some(fault) = self.fault {
             return Err(fault);
@@ -84,76 +81,84 @@ impl<'a, R: Wait, G: Gate> DeskLine<'a, R, G> {
         self.gate.before(self.worker, self.calls.len() + 1);
     }
 
-    /// What was noted, after the last call. It is held to the calls that were made, to how they
-    /// were to be lost, and to who made them, since the steps that made them say no more.
-    pub(crate) fn settle(
-        self,
-        losses: &[Loss],
-        principal: &Principal,
-        host: &Host,
-    ) -> Result<Notes, CallFault>
-        ensures served { IfOk result (λ notes. AreServedByLoss losses.now self.entry.calls.items
-            (served_by_notes notes.events notes.told)) }
-        ensures own { IfOk result (λ notes. All (λ e. (e.principal ≡ principal.now)
-            × (e.host ≡ host.now)) notes.events) }
+    /// What was noted, after the last call.
+    pub(crate) fn settle(self) -> Notes
+        ensures { result ≡ self.entry.desk.noted }
     {
         self.ask();
-        let fault = self.fault;
-        let (calls, notes) = self.close();
-        if are_served(losses, &calls, &notes) && are_by(notes.events(), principal, host) {
-            return Ok(notes);
-        }
-        drop(notes);
-        Err(fault.unwrap_or(CallFault::Memory))
+        self.close()
     }
 
-    /// The calls that were made, and what was noted. No memory is taken.
-    pub(crate) fn close(self) -> (Vec<Call>, Notes)
-        ensures { result.0.items ≡ self.entry.calls.items }
+    /// What was noted. No memory is taken.
+    pub(crate) fn close(self) -> Notes
+        ensures { result ≡ self.entry.desk.noted }
     {
         let DeskLine {
             rt: _,
             gate: _,
             worker: _,
             desk,
-            calls,
+            calls: _,
             unmade: _,
             loss: _,
             fault: _,
         } = self;
-        (calls, desk.close())
+        desk.close()
     }
 
     /// Notes that there was no memory to note a call.
     fn miss(&mut self)
         ensures calls { self.new.calls ≡ self.old.calls }
         ensures unmade { self.new.unmade ≡ one_more self.old.unmade }
+        ensures fault { self.new.fault ≡ Some CallFault.Memory }
     {
         self.unmade = self.unmade.saturating_add(1);
         self.fault = Some(CallFault::Memory);
     }
 
     /// Makes a call, unless it is lost before. The reply comes twice: to be noted, and to be given.
+    #[tactic(auto, using(crate::proofs::Losing::noted_if_served, crate::proofs::Losing::noted_if_unheard, crate::proofs::Losing::faultless_before, crate::proofs::Losing::unserved_is_noted))]
     fn make(&mut self, alloc: Global, request: Request, loss: Loss) -> Option<(Reply, Reply)>
         ensures calls { self.new.calls ≡ self.old.calls }
         ensures unmade { self.new.unmade ≡ self.old.unmade }
-        ensures heard { IfSome result (λ _. loss ≡ Loss.None) }
+        ensures loss { self.new.loss ≡ self.old.loss }
+        ensures fault { self.new.fault ≡ None → self.old.fault ≡ None }
+        ensures noted { self.new.fault ≡ None → AreNoted (loss ∷ [])
+            (record { request = request; heard = option_map (λ r. r.0) result } ∷ [])
+            self.old.desk self.new.desk }
         ensures same { IfSome result (λ r. r.0 ≡ r.1) }
         ensures fits { IfSome result (λ r. Fits request r.1) }
         ensures within { IfSome result (λ r. OffsetsWithin r.1) }
     {
-        if loss == Loss::BeforeServe {
-            drop(request);
-            return None;
-        }
-        match replies_of(self.rt, alloc, &mut self.desk, request) {
-            Ok(replies) => {
-                if loss == Loss::None {
-                    return Some(replies);
-                }
-                drop(replies);
+        match loss {
+            Loss::None => self.serve(alloc, request),
+            Loss::BeforeServe => {
+                drop(request);
                 None
             }
+            Loss::AfterServe => {
+                drop(self.serve(alloc, request));
+                None
+            }
+        }
+    }
+
+    /// Makes a call, and keeps why it was not served, or its reply not kept.
+    #[tactic(auto, using(crate::proofs::Losing::a_fault_is_one))]
+    fn serve(&mut self, alloc: Global, request: Request) -> Option<(Reply, Reply)>
+        ensures calls { self.new.calls ≡ self.old.calls }
+        ensures unmade { self.new.unmade ≡ self.old.unmade }
+        ensures loss { self.new.loss ≡ self.old.loss }
+        ensures fault { IfSome result (λ _. self.new.fault ≡ self.old.fault) }
+        ensures unserved { IfNone result (self.new.fault ≡ None → ⊥) }
+        ensures noted { IfSome result (λ r. AreNoted (Loss.None ∷ [])
+            (record { request = request; heard = Some r.0 } ∷ []) self.old.desk self.new.desk) }
+        ensures same { IfSome result (λ r. r.0 ≡ r.1) }
+        ensures fits { IfSome result (λ r. Fits request r.1) }
+        ensures within { IfSome result (λ r. OffsetsWithin r.1) }
+    {
+        match replies_of(self.rt, alloc, &mut self.desk, request) {
+            Ok(replies) => Some(replies),
             Err(fault) => {
                 self.fault = Some(fault);
                 None
@@ -170,6 +175,9 @@ impl<'a, R: Wait, G: Gate> DeskLine<'a, R, G> {
         ensures added { Adds self.old.calls.items self.new.calls.items
             self.old.unmade self.new.unmade request result }
         ensures faithful { IsFaithful request result }
+        ensures calls { self.new.calls.items ≡ self.old.calls.items
+            ++ record { request = request; heard = option_map (λ r. r.0) replies } ∷ [] }
+        ensures rest { self.new ≡ record self.old { calls = self.new.calls } }
     {
         match replies {
             Some((kept, reply)) => {
@@ -191,11 +199,17 @@ impl<'a, R: Wait, G: Gate> DeskLine<'a, R, G> {
 }
 
 impl<'a, R: Wait, G: Gate> Line for DeskLine<'a, R, G> {
+    ghost use Rattle.kob_pipeline.specs.Losses.{AreMade};
+    ghost use Rattle.kob_pipeline.specs.Noting.{calls_are_made, no_call_is_made};
+
     ghost calls = { λ line. line.calls.items };
 
     ghost unmade = { λ line. line.unmade };
 
-    ghost becomes = { λ old new. Unit {0} };
+    /// Unless a call was not served, or not noted, that was to be, each call is noted at the desk or
+    /// lost on purpose.
+    ghost becomes = { λ old new. new.fault ≡ None
+        → AreMade old.fault old.loss new.loss old.calls.items new.calls.items old.desk new.desk };
 
     fn send(&mut self, alloc: Global, request: Request) -> Delivery {
         let loss = self.loss;
@@ -224,9 +238,13 @@ impl<'a, R: Wait, G: Gate> Line for DeskLine<'a, R, G> {
         self.unmade
     }
 
-    ghost stays = { λ line. tt };
+    ghost stays = { λ line faultless.
+        no_call_is_made line.fault line.loss line.calls.items line.desk faultless };
 
-    ghost goes_on = { λ a b c one two. tt };
+    ghost goes_on = { λ a b c one two faultless.
+        let last = two faultless in
+        calls_are_made a.fault b.fault a.loss b.loss c.loss a.calls.items b.calls.items
+        c.calls.items a.desk b.desk c.desk (one last.begun) last };
 }
 
 /// Calls, and gives the reply twice.
@@ -236,12 +254,13 @@ fn replies_of<R: Wait>(
     desk: &mut Desk<'_>,
     request: Request,
 ) -> Result<(Reply, Reply), CallFault>
+    ensures noted { IfOk result (λ r. AreNoted (Loss.None ∷ [])
+        (record { request = request; heard = Some r.0 } ∷ []) desk.old desk.new) }
     ensures same { IfOk result (λ r. r.0 ≡ r.1) }
     ensures fits { IfOk result (λ r. Fits request r.1) }
     ensures within { IfOk result (λ r. OffsetsWithin r.1) }
 {
     desk.call(rt, alloc, request)?;
-    let receipts = desk.receipts();
-    let reply = &receipts[receipts.len() - 1].reply;
+    let reply = &desk.receipts()[desk.len() - 1].reply;
     Ok((reply.copy(alloc)?, reply.copy(alloc)?))
 }

@@ -1,6 +1,6 @@
 //! A service at work: its router and its outbox, step by step.
 
-ghost use Rattle.std.specs.Prelude.{◌≡◌, ◌≤◌, ◌⊎◌, ◌^◌, [], map, IfErr, IfOk, IsErrOf, None};
+ghost use Rattle.std.specs.Prelude.{◌≡◌, ◌≤◌, ◌⊎◌, ◌^◌, map, IfErr, IfOk, IsErrOf, None};
 ghost use Rattle.std.specs.Prelude.{OnErr, OnOk, false, option_map};
 ghost use Rattle.kob_outbox.specs.Events.{id_text, stored_row};
 ghost use Rattle.kob_outbox.specs.Fields.{first_bad};
@@ -15,7 +15,6 @@ ghost use Rattle.kob_pipeline.specs.Steps.{Leads, Steps, standing};
 
 use crate::end::OutboxEnd;
 use crate::line::DeskLine;
-use crate::losses::note_losses;
 use crate::plan::{Loss, Service, ServiceStep};
 use crate::step_fault::StepFault;
 use kob_outbox::{Change, Outbox, OutboxEvent, OutboxFault, RecordFault, Row};
@@ -24,17 +23,15 @@ use kob_shared::{CallFault, Gate};
 use std::alloc::Global;
 use std::sync::Wait;
 
-/// A service's router and outbox, and how the calls of its line are lost.
+/// A service's router and outbox.
 #[derive(Drop)]
 pub(crate) struct Posting {
     router: Router,
     outbox: Outbox,
-    losses: Vec<Loss>,
 }
 
 impl Posting {
-    ghost use Rattle.std.specs.Prelude.{List};
-    ghost use Rattle.kob_router.specs.declared.line.Call.{Call};
+    ghost use Rattle.kob_shared.specs.Noted.{AtDesk};
 
     /// A service's database and router, before its first step.
     pub(crate) fn open(alloc: Global, service: &Service) -> Result<Posting, StepFault>
@@ -43,14 +40,12 @@ impl Posting {
         ensures target { IfOk result (λ posting. posting.router.target ≡ service.now.target) }
         ensures hand { IfOk result (λ posting. posting.router.hand ≡ None) }
         ensures state { IfOk result (λ posting. state_of posting.router posting.outbox ≡ start) }
-        ensures losses { IfOk result (λ posting. posting.losses.items ≡ []) }
     {
         let route = service.target.route.copy(alloc)?;
         let outbox = Outbox::open_in_memory(alloc)?;
         Ok(Posting {
             router: Router::new(alloc, route, service.target.partitions),
             outbox,
-            losses: Vec::new(alloc),
         })
     }
 
@@ -65,11 +60,9 @@ impl Posting {
         requires made { line.old.unmade ≡ 0 }
         ensures { OnOk result (Leads (Steps (IsServiceStep (dispatch_of self.old.router.target)))
             calls_of
-            (standing (state_of self.old.router self.old.outbox) line.old.calls.items
-            self.old.losses.items)
+            (standing (state_of self.old.router self.old.outbox) line.old.desk)
             steps.now
-            (standing (state_of self.new.router self.new.outbox) line.new.calls.items
-            self.new.losses.items)) }
+            (standing (state_of self.new.router self.new.outbox) line.new.desk)) }
     {
         for step in steps {
             self.step(alloc, line, step)?;
@@ -93,11 +86,9 @@ impl Posting {
         ensures same { OnOk result (self.new.router.target ≡ self.old.router.target) }
         ensures done { OnOk result (Leads (IsServiceStep (dispatch_of self.old.router.target))
             calls_of
-            (standing (state_of self.old.router self.old.outbox) line.old.calls.items
-            self.old.losses.items)
+            (standing (state_of self.old.router self.old.outbox) line.old.desk)
             step.now
-            (standing (state_of self.new.router self.new.outbox) line.new.calls.items
-            self.new.losses.items)) }
+            (standing (state_of self.new.router self.new.outbox) line.new.desk)) }
     {
         match step {
             ServiceStep::Record(change, event) => self.note(change, event),
@@ -117,11 +108,11 @@ impl Posting {
         ensures first { OnOk result (IsFirst (option_map hand_of self.new.router.hand)
             self.new.outbox) }
         ensures same { OnOk result (self.new.router ≡ self.old.router) }
-        ensures done { OnOk result ((calls : List Call)
+        ensures done { OnOk result ((desk : AtDesk)
             → Leads (IsServiceStep (dispatch_of self.old.router.target)) calls_of
-            (standing (state_of self.old.router self.old.outbox) calls self.old.losses.items)
+            (standing (state_of self.old.router self.old.outbox) desk)
             (steps.Record change.now event.now)
-            (standing (state_of self.new.router self.new.outbox) calls self.new.losses.items)) }
+            (standing (state_of self.new.router self.new.outbox) desk)) }
         ensures fits { OnErr result (first_bad change.now event.now ≡ None) }
         ensures own { IfErr result (λ fault.
             (fault ≡ StepFault.Store) ⊎ (fault ≡ StepFault.Call CallFault.Memory)) }
@@ -144,11 +135,11 @@ impl Posting {
         ensures first { OnOk result (IsFirst (option_map hand_of self.new.router.hand)
             self.new.outbox) }
         ensures same { OnOk result (self.new.router ≡ self.old.router) }
-        ensures done { OnOk result ((calls : List Call)
+        ensures done { OnOk result ((desk : AtDesk)
             → Leads (IsServiceStep (dispatch_of self.old.router.target)) calls_of
-            (standing (state_of self.old.router self.old.outbox) calls self.old.losses.items)
+            (standing (state_of self.old.router self.old.outbox) desk)
             steps.Sweep
-            (standing (state_of self.new.router self.new.outbox) calls self.new.losses.items)) }
+            (standing (state_of self.new.router self.new.outbox) desk)) }
     {
         self.outbox.sweep()?;
         Ok(())
@@ -169,36 +160,30 @@ impl Posting {
         ensures same { OnOk result (self.new.router.target ≡ self.old.router.target) }
         ensures done { OnOk result (Leads (IsServiceStep (dispatch_of self.old.router.target))
             calls_of
-            (standing (state_of self.old.router self.old.outbox) line.old.calls.items
-            self.old.losses.items)
+            (standing (state_of self.old.router self.old.outbox) line.old.desk)
             (steps.Tick loss)
-            (standing (state_of self.new.router self.new.outbox) line.new.calls.items
-            self.new.losses.items)) }
+            (standing (state_of self.new.router self.new.outbox) line.new.desk)) }
     {
-        let made = line.made_calls().len();
         line.lose(loss);
         let tick = self.router.tick(alloc, &mut self.outbox, line);
         goes_on(tick)?;
         line.goes_on()?;
-        note_losses(&mut self.losses, loss, &line.made_calls()[made..])?;
         Ok(())
     }
 
-    /// What is left, and how the calls were lost.
-    pub(crate) fn close(self) -> Result<(OutboxEnd, Vec<Loss>), StepFault>
+    /// What is left.
+    pub(crate) fn close(self) -> Result<OutboxEnd, StepFault>
         ensures rows { IfOk result (λ left.
-            map stored_row left.0.rows.items ≡ later_than 0 self.outbox.events) }
-        ensures mark { IfOk result (λ left. left.0.mark ≡ self.outbox.mark) }
-        ensures losses { IfOk result (λ left. left.1.items ≡ self.losses.items) }
+            map stored_row left.rows.items ≡ later_than 0 self.outbox.events) }
+        ensures mark { IfOk result (λ left. left.mark ≡ self.outbox.mark) }
     {
         let Posting {
             router: _,
             mut outbox,
-            losses,
         } = self;
         let mark = outbox.mark()?;
         let rows = rows_of(&mut outbox)?;
-        Ok((OutboxEnd { rows, mark }, losses))
+        Ok(OutboxEnd { rows, mark })
     }
 }
 

@@ -1,12 +1,12 @@
 //! Workers that are services.
 
-ghost use Rattle.std.specs.Prelude.{◌≡◌, ◌≤◌, [], IfOk};
+ghost use Rattle.std.specs.Prelude.{◌≡◌, ◌≤◌, IfOk};
 ghost use Rattle.kob_pipeline.specs.Workers.{IsOutboxLeft, IsServiceLeft};
 
 use crate::desk::desk_at;
 use crate::end::{OutboxEnd, WorkerEnd};
 use crate::line::DeskLine;
-use crate::plan::{Loss, Service};
+use crate::plan::Service;
 use crate::posting::Posting;
 use crate::step_fault::StepFault;
 use kob_shared::{CallFault, Done, Gate, SharedBroker};
@@ -56,31 +56,26 @@ impl<'a> ServiceWorker<'a> {
         let desk = desk_at(alloc, shared, worker, &service.principal, &service.host)?;
         let mut line = DeskLine::open(rt, alloc, gate, worker, desk);
         match self.leave(alloc, &mut line) {
-            Ok((left, losses)) => {
-                let notes = line.settle(&losses, &service.principal, &service.host)?;
-                Ok(Done {
-                    notes,
-                    end: WorkerEnd::Outbox(left),
-                })
-            }
+            Ok(left) => Ok(Done {
+                notes: line.settle(),
+                end: WorkerEnd::Outbox(left),
+            }),
             Err(StepFault::Store) => Ok(Done {
-                notes: line.close().1,
+                notes: line.close(),
                 end: WorkerEnd::StoreRefused,
             }),
             Err(StepFault::Call(fault)) => Err(fault),
         }
     }
 
-    /// What the steps leave of the database, and how the calls were lost.
+    /// What the steps leave of the database.
     fn leave<R: Wait, G: Gate>(
         &self,
         alloc: Global,
         line: &mut DeskLine<'_, R, G>,
-    ) -> Result<(OutboxEnd, Vec<Loss>), StepFault>
-        requires calls { line.old.calls.items ≡ [] }
-        requires made { line.old.unmade ≡ 0 }
-        ensures { IfOk result (λ left.
-            IsOutboxLeft self.now line.new.calls.items left.1.items left.0) }
+    ) -> Result<OutboxEnd, StepFault>
+        requires { line.old.unmade ≡ 0 }
+        ensures { IfOk result (IsOutboxLeft self.now line.old.desk line.new.desk) }
     {
         let mut posting = Posting::open(alloc, self.service)?;
         posting.run(alloc, line, &self.service.steps)?;

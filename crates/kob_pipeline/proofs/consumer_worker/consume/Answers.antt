@@ -1,8 +1,14 @@
+use Rattle.std.proofs.Common.{sym, ap, ◌∙◌, subst}
+use Rattle.kob_shared.specs.Noted.{AtDesk, Noted}
+use Rattle.kob_pipeline.specs.Consumers.{IsConsumption}
 use Rattle.kob_pipeline.proofs.Worked.{consumption_of}
 use Rattle.kob_pipeline.proofs.consumer_worker.consume.Goals as goal
 
-pub returns-in_ok-notes-in-Ok : goal.returns-in_ok-notes-in-Ok
-returns-in_ok-notes-in-Ok g c =
-    let told = c.in_ok-notes-in-Ok.ensures in
-    consumption_of c.args.consumer.now c.in_ok-notes-in-Ok.notes c.in-Ok.left c.leave.new.line.calls.items
-    c.in-Ok.losses.items c.in-Ok.ensures (rw c.deref.ensures.value at told.served) told.own
+pub returns-in-Ok : goal.returns-in-Ok
+returns-in-Ok g c =
+    let consumer = c.args.consumer.now in
+    let begun = c.open-line.ensures.desk ∙ c.in_ok-desk.ensures in
+    subst (λ (noted : Noted). IsConsumption consumer noted c.in-Ok.left) (sym c.settle.ensures)
+    (consumption_of consumer c.open-line.result.desk c.leave.new.line.desk c.in-Ok.left
+    (ap (λ (d : AtDesk). d.noted) begun) (ap (λ (d : AtDesk). d.seat.principal) begun)
+    (ap (λ (d : AtDesk). d.seat.host) begun) c.in-Ok.ensures)

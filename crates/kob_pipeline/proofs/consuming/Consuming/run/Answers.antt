@@ -1,8 +1,8 @@
-use Rattle.std.proofs.Common.{length, get_or, ◌<◌, arith, sym, ◌∙◌}
+use Rattle.std.proofs.Common.{length, get_or, ◌<◌, arith, refl, sym, ◌∙◌}
 use Rattle.std.proofs.lemmas.Option.{get_or_from_slice_get, slice_get-get_or}
 use Rattle.kob_pipeline.specs.declared.plan.ConsumerStep.TheVariants.{Tick}
 use Rattle.kob_pipeline.specs.declared.plan.Loss.TheVariants.{None}
-use Rattle.kob_pipeline.proofs.Worked.{consumer_calls_append, leads_more}
+use Rattle.kob_pipeline.proofs.Worked.{consumer_calls_append, leads_more, no_step}
 use Rattle.kob_pipeline.proofs.consuming.Consuming.run.Goals as goal
 
 pub loop-step-preserved : goal.loop-step-preserved
@@ -19,3 +19,6 @@ loop-step-preserved g c =
       made.same ∙ was.invariant.1,
       leads_more steps was.step-index consumer_calls_append within is was.invariant.2 (rw was.invariant.1 at made.done),
     )
+
+pub loop-step-init : goal.loop-step-init
+loop-step-init g c = (c.requires, refl, no_step c.args.line.now.desk refl)

@@ -10,6 +10,6 @@ invariant-loop-step g l =
     (l.line.unmade ≡ 0)
     × (l.self.consumer.subscription ≡ l.fn.self.consumer.subscription)
     × Leads (Steps (IsConsumerStep l.fn.self.consumer.subscription)) calls_of
-    (standing (state_of l.fn.self.consumer l.fn.self.inbox) l.fn.line.calls.items l.fn.self.losses.items)
+    (standing (state_of l.fn.self.consumer l.fn.self.inbox) l.fn.line.desk)
     (take l.step-index l.steps)
-    (standing (state_of l.self.consumer l.self.inbox) l.line.calls.items l.self.losses.items)
+    (standing (state_of l.self.consumer l.self.inbox) l.line.desk)

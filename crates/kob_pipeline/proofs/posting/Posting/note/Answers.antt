@@ -15,7 +15,7 @@ returns-in-Ok-clause-first c =
     (first_recorded hand was.outbox c.args.change.now c.args.event.now c.requires)
 
 pub returns-in-Ok-clause-done : goal.returns-in-Ok-clause-done
-returns-in-Ok-clause-done c = λ calls.
+returns-in-Ok-clause-done c = λ desk.
     let made = c.in-Ok.ensures in
     leads_still (Recorded c.args.change.now c.args.event.now ∷ []) refl
     (record {
@@ -27,7 +27,7 @@ returns-in-Ok-clause-done c = λ calls.
     })
 
 pub returns-in-Err-BadField-clause-done : goal.returns-in-Err-BadField-clause-done
-returns-in-Err-BadField-clause-done c = λ calls.
+returns-in-Err-BadField-clause-done c = λ desk.
     leads_still [] refl
     (record {
       run = ap (state_of c.args.self.now.router) c.in-Err-BadField.ensures.err;
@@ -51,3 +51,18 @@ returns-in-Err-Store-clause-fits c = (c.in-Err-Store.ensures.store (ap Err c.in-
 
 pub returns-in-Err-Store-clause-fresh : goal.returns-in-Err-Store-clause-fresh
 returns-in-Err-Store-clause-fresh c = λ stored. (c.in-Err-Store.ensures.store (ap Err c.in-Err-Store.field-0-is)).1
+
+pub returns-in-Err-DuplicateId-clause-done : goal.returns-in-Err-DuplicateId-clause-done
+returns-in-Err-DuplicateId-clause-done c = λ desk.
+    let made = c.in-Err-DuplicateId.ensures in
+    leads_still [] refl
+    (record {
+      run = ap (state_of c.args.self.now.router) made.err;
+      own = (
+        inr (
+          refl,
+          λ may. let spent = (made.duplicate (ap Err c.in-Err-DuplicateId.field-0-is)).1 in let fresh = may.fresh in absurd (cc),
+        ),
+        refl,
+      );
+    })

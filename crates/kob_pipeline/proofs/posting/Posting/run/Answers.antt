@@ -1,6 +1,6 @@
-use Rattle.std.proofs.Common.{length, ◌<◌, arith, ◌∙◌}
+use Rattle.std.proofs.Common.{length, ◌<◌, arith, refl, ◌∙◌}
 use Rattle.kob_router.proofs.Runs.{calls_append}
-use Rattle.kob_pipeline.proofs.Worked.{leads_more}
+use Rattle.kob_pipeline.proofs.Worked.{leads_more, no_step}
 use Rattle.kob_pipeline.proofs.posting.Posting.run.Goals as goal
 
 pub loop-step-preserved : goal.loop-step-preserved
@@ -14,3 +14,6 @@ loop-step-preserved g c =
       leads_more c.args.steps.now was.step-index calls_append within c.step-item.is was.invariant.3
           (rw was.invariant.2 at made.done),
     )
+
+pub loop-step-init : goal.loop-step-init
+loop-step-init g c = (c.requires.made, c.requires.first, refl, no_step c.args.line.now.desk refl)

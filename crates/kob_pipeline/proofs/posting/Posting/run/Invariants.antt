@@ -13,6 +13,6 @@ invariant-loop-step g l =
     × IsFirst (option_map hand_of l.self.router.hand) l.self.outbox
     × (l.self.router.target ≡ l.fn.self.router.target)
     × Leads (Steps (IsServiceStep (dispatch_of l.fn.self.router.target))) calls_of
-    (standing (state_of l.fn.self.router l.fn.self.outbox) l.fn.line.calls.items l.fn.self.losses.items)
+    (standing (state_of l.fn.self.router l.fn.self.outbox) l.fn.line.desk)
     (take l.step-index l.steps)
-    (standing (state_of l.self.router l.self.outbox) l.line.calls.items l.self.losses.items)
+    (standing (state_of l.self.router l.self.outbox) l.line.desk)

@@ -1,7 +1,9 @@
-use Rattle.std.proofs.Common.{sym, subst}
+use Rattle.std.proofs.Common.{[], ◌∷◌, refl, sym, ap, subst}
 use Rattle.std.specs.Prelude.{option_map}
-use Rattle.kob_router.specs.Tick.{IsFirst, hand_of}
+use Rattle.kob_router.specs.Run.Move.{Swept}
+use Rattle.kob_router.specs.Tick.{IsFirst, hand_of, state_of}
 use Rattle.kob_pipeline.proofs.Outboxes.{first_swept}
+use Rattle.kob_pipeline.proofs.Worked.{leads_still}
 use Rattle.kob_pipeline.proofs.posting.Posting.sweep.Goals as goal
 
 pub returns-clause-first : goal.returns-clause-first
@@ -9,3 +11,8 @@ returns-clause-first c =
     let was = c.args.self.now in
     let hand = option_map hand_of was.router.hand in
     subst (IsFirst hand) (sym c.in_ok-sweep.ensures.ok) (first_swept hand was.outbox c.requires)
+
+pub returns-clause-done : goal.returns-clause-done
+returns-clause-done c = λ desk.
+    leads_still (Swept ∷ []) refl
+    (record { run = (tt, ap (state_of c.args.self.now.router) c.in_ok-sweep.ensures.ok); own = (refl, refl) })

@@ -1,8 +1,17 @@
+use Rattle.std.proofs.Common.{sym, ap, ◌∙◌, subst}
+use Rattle.kob_shared.specs.Noted.{AtDesk, Noted}
+use Rattle.kob_pipeline.specs.declared.plan.Service.{Service}
+use Rattle.kob_pipeline.specs.Services.{IsServiceRun}
 use Rattle.kob_pipeline.proofs.Worked.{service_run_of}
 use Rattle.kob_pipeline.proofs.service_worker.ServiceWorker.work.Goals as goal
 
-pub returns-in_ok-notes-in-Ok : goal.returns-in_ok-notes-in-Ok
-returns-in_ok-notes-in-Ok g c =
-    let told = c.in_ok-notes-in-Ok.ensures in
-    service_run_of c.args.self.now c.in_ok-notes-in-Ok.notes c.in-Ok.left c.leave.new.line.calls.items
-    c.in-Ok.losses.items c.in-Ok.ensures (rw c.deref.ensures.value at told.served) (rw c.self.view_is at told.own)
+pub returns-in-Ok : goal.returns-in-Ok
+returns-in-Ok g c =
+    let service = c.args.self.now in
+    let begun = c.open-line.ensures.desk ∙ c.in_ok-desk.ensures in
+    let same = c.self.view_is in
+    subst (λ (noted : Noted). IsServiceRun service noted c.in-Ok.left) (sym c.settle.ensures)
+    (service_run_of service c.open-line.result.desk c.leave.new.line.desk c.in-Ok.left
+    (ap (λ (d : AtDesk). d.noted) begun)
+    (ap (λ (d : AtDesk). d.seat.principal) begun ∙ ap (λ (s : Service). s.principal) same)
+    (ap (λ (d : AtDesk). d.seat.host) begun ∙ ap (λ (s : Service). s.host) same) c.in-Ok.ensures)

@@ -1,0 +1,141 @@
+-- One call at a desk, and those of a tick.
+use Rattle.std.proofs.Common.{◌≡◌, ℕ, ◌-◌, get_or, length, List, [], ◌∷◌, ◌++◌, Option, None, Some, refl, sym, ap, ◌∙◌, subst, arith}
+use Rattle.std.specs.Prelude.{IfNone, IfSome, option_map}
+use Rattle.std.proofs.lemmas.List.{append_cancel_left, append-nil, get_or_push, length-append}
+use Rattle.std.proofs.lemmas.List.Elements.{All-cons, All-nil}
+use Rattle.kob_rights.specs.declared.event.Event.{Event}
+use Rattle.kob_rights.specs.declared.reply.Reply.{Reply}
+use Rattle.kob_rights.specs.declared.request.Request.{Request}
+use Rattle.kob_router.specs.Served.{Served}
+use Rattle.kob_router.specs.declared.line.Call.{Call}
+use Rattle.kob_shared.specs.Noted.{AtDesk, IsHeard, event_at}
+use Rattle.kob_shared.specs.declared.faults.CallFault.{CallFault}
+use Rattle.kob_shared.specs.declared.journal.Receipt.{Receipt}
+use Rattle.kob_pipeline.specs.Losses.{AreMade, AreNoted, AreServedByLoss, IsEventOf, losses_of}
+use Rattle.kob_pipeline.specs.Served.{served_by_notes}
+use Rattle.kob_pipeline.specs.declared.plan.Loss.{Loss}
+use Rattle.kob_pipeline.specs.declared.plan.Loss.TheVariants as lost
+
+-- one more event with its receipt
+notes_push : (es : List Event) (rs : List Receipt) (e : Event) (r : Receipt) → length es ≡ length rs
+    → served_by_notes (es ++ e ∷ []) (rs ++ r ∷ [])
+    ≡ served_by_notes es rs ++ record { request = e.request; reply = r.reply } ∷ []
+notes_push [] [] e r same = refl
+notes_push [] (x ∷ rs) e r same = absurd (omega (arith, same))
+notes_push (x ∷ es) [] e r same = absurd (omega (arith, same))
+notes_push (x ∷ es) (y ∷ rs) e r same =
+    ap (λ (ss : List Served). record { request = x.request; reply = y.reply } ∷ ss) (notes_push es rs e r (omega (arith, same)))
+
+-- a call that was heard is noted
+pub heard_is_noted : (old new : AtDesk) (request : Request) (kept : Reply) (last : Receipt) (n : ℕ)
+    → IsHeard old new request → n ≡ length new.noted.events → n ≡ length new.noted.told
+    → last ≡ get_or new.noted.told (n - 1) last → kept ≡ last.reply
+    → AreNoted (lost.None ∷ []) (record { request = request; heard = Some kept } ∷ []) old new
+heard_is_noted old new request kept last n heard events told at_last is =
+    let e = event_at old.seat request in
+    let r = heard.receipt in
+    let events_now : new.noted.events ≡ old.noted.events ++ e ∷ [] = ap (λ (d : AtDesk). d.noted.events) heard.noted in
+    let told_now : new.noted.told ≡ old.noted.told ++ r ∷ [] = ap (λ (d : AtDesk). d.noted.told) heard.noted in
+    let events_long = ap (λ (es : List Event). length es) events_now ∙ length-append old.noted.events (e ∷ []) in
+    let told_long = ap (λ (rs : List Receipt). length rs) told_now ∙ length-append old.noted.told (r ∷ []) in
+    let same : length old.noted.events ≡ length old.noted.told =
+    omega (arith, events, told, events_long, told_long) in
+    let place : length old.noted.told ≡ n - 1 = omega (arith, told, told_long) in
+    let there : last ≡ r =
+    at_last ∙ ap (λ (rs : List Receipt). get_or rs (n - 1) last) told_now
+    ∙ get_or_push old.noted.told r last (n - 1) place in
+    record {
+      principal = ap (λ (d : AtDesk). d.seat.principal) heard.noted;
+      host = ap (λ (d : AtDesk). d.seat.host) heard.noted;
+      served = record { request = request; reply = r.reply } ∷ [];
+      by_loss = (refl, ap (λ (reply : Reply). Some reply) (is ∙ ap (λ (x : Receipt). x.reply) there), tt);
+      noted =
+          ap (λ (d : AtDesk). served_by_notes d.noted.events d.noted.told) heard.noted
+          ∙ notes_push old.noted.events old.noted.told e r same;
+      events = e ∷ [];
+      added = events_now;
+      own = All-cons (IsEventOf old.seat.principal old.seat.host) e [] (refl, refl)
+          (All-nil (IsEventOf old.seat.principal old.seat.host));
+    }
+
+-- where its reply is lost, it is served and not heard
+served_once : (request : Request) (kept : Reply) (ss : List Served)
+    → AreServedByLoss (lost.None ∷ []) (record { request = request; heard = Some kept } ∷ []) ss
+    → AreServedByLoss (lost.AfterServe ∷ []) (record { request = request; heard = None } ∷ []) ss
+served_once request kept [] is = absurd is
+served_once request kept (s ∷ []) is = (is.0, refl, tt)
+served_once request kept (s ∷ t ∷ ss) is = absurd is.2
+
+pub unheard_is_noted : (old new : AtDesk) (request : Request) (kept : Reply)
+    → AreNoted (lost.None ∷ []) (record { request = request; heard = Some kept } ∷ []) old new
+    → AreNoted (lost.AfterServe ∷ []) (record { request = request; heard = None } ∷ []) old new
+unheard_is_noted old new request kept noted = record {
+  principal = noted.principal;
+  host = noted.host;
+  served = noted.served;
+  by_loss = served_once request kept noted.served noted.by_loss;
+  noted = noted.noted;
+  events = noted.events;
+  added = noted.added;
+  own = noted.own;
+}
+
+-- a call that is lost before is not noted
+pub unserved_is_noted : (desk : AtDesk) (request : Request)
+    → AreNoted (lost.BeforeServe ∷ []) (record { request = request; heard = None } ∷ []) desk desk
+unserved_is_noted desk request = record {
+  principal = refl;
+  host = refl;
+  served = [];
+  by_loss = (refl, tt);
+  noted = sym (append-nil (served_by_notes desk.noted.events desk.noted.told));
+  events = [];
+  added = sym (append-nil desk.noted.events);
+  own = All-nil (IsEventOf desk.seat.principal desk.seat.host);
+}
+
+-- a call is made
+pub one_call_is_made : (fault : Option CallFault) (loss : Loss) (calls then_calls : List Call) (call : Call)
+    (old new : AtDesk) → fault ≡ None → then_calls ≡ calls ++ call ∷ [] → AreNoted (loss ∷ []) (call ∷ []) old new
+    → AreMade fault loss lost.None calls then_calls old new
+one_call_is_made fault loss calls then_calls call old new begun added noted = record {
+  begun = begun;
+  made = call ∷ [];
+  calls_now = added;
+  next = refl;
+  noted = noted;
+}
+
+-- the calls of a tick are those that were noted
+pub calls_of_a_tick : (fault : Option CallFault) (loss then_loss : Loss) (calls then_calls made : List Call)
+    (old new : AtDesk) → AreMade fault loss then_loss calls then_calls old new → then_calls ≡ calls ++ made
+    → AreNoted (losses_of loss made) made old new
+calls_of_a_tick fault loss then_loss calls then_calls made old new are is =
+    subst (λ (cs : List Call). AreNoted (losses_of loss cs) cs old new)
+    (append_cancel_left calls are.made made (sym are.calls_now ∙ is)) are.noted
+
+-- ---- what a desk heard, and what of it a line notes
+
+pub noted_if_served : (request : Request) (heard : Option (Reply × Reply)) (fault : Option CallFault) (old new : AtDesk)
+    → IfNone heard (fault ≡ None → ⊥)
+    → IfSome heard (λ r. AreNoted (lost.None ∷ []) (record { request = request; heard = Some r.0 } ∷ []) old new)
+    → fault ≡ None
+    → AreNoted (lost.None ∷ []) (record { request = request; heard = option_map (λ r. r.0) heard } ∷ []) old new
+noted_if_served request (Some r) fault old new unserved served none = served
+noted_if_served request None fault old new unserved served none = absurd (unserved none)
+
+pub noted_if_unheard : (request : Request) (heard : Option (Reply × Reply)) (fault : Option CallFault) (old new : AtDesk)
+    → IfNone heard (fault ≡ None → ⊥)
+    → IfSome heard (λ r. AreNoted (lost.None ∷ []) (record { request = request; heard = Some r.0 } ∷ []) old new)
+    → fault ≡ None → AreNoted (lost.AfterServe ∷ []) (record { request = request; heard = None } ∷ []) old new
+noted_if_unheard request (Some r) fault old new unserved served none = unheard_is_noted old new request r.0 served
+noted_if_unheard request None fault old new unserved served none = absurd (unserved none)
+
+pub faultless_before : (heard : Option (Reply × Reply)) (fault before : Option CallFault)
+    → IfNone heard (fault ≡ None → ⊥) → IfSome heard (λ r. fault ≡ before) → fault ≡ None → before ≡ None
+faultless_before (Some r) fault before unserved same none = sym same ∙ none
+faultless_before None fault before unserved same none = absurd (unserved none)
+
+-- a fault is there
+pub a_fault_is_one : (fault : Option CallFault) (why : CallFault) → fault ≡ Some why → fault ≡ None → ⊥
+a_fault_is_one fault why is none = cc

@@ -1,0 +1,86 @@
+-- A tick over a line at a desk is a step of its worker.
+use Rattle.std.proofs.Common.{◌≡◌, ℕ, List, refl, subst}
+use Rattle.std.specs.Prelude.{Option}
+use Rattle.kob_inbox.specs.declared.fetcher.Subscription.{Subscription}
+use Rattle.kob_inbox.specs.declared.tick.Tick.{Tick as ConsumerAnswer}
+use Rattle.kob_inbox.specs.Run as consumers
+use Rattle.kob_inbox.specs.Tick as consumer_ticks
+use Rattle.kob_router.specs.Dispatches.{Dispatching}
+use Rattle.kob_router.specs.Run as routers
+use Rattle.kob_router.specs.Tick as router_ticks
+use Rattle.kob_router.specs.declared.line.Call.{Call}
+use Rattle.kob_router.specs.declared.tick.Tick.{Tick as RouterAnswer}
+use Rattle.kob_shared.specs.Noted.{AtDesk}
+use Rattle.kob_shared.specs.declared.faults.CallFault.{CallFault}
+use Rattle.kob_pipeline.specs.declared.plan.ConsumerStep.TheVariants as consumer_steps
+use Rattle.kob_pipeline.specs.declared.plan.Loss.{Loss}
+use Rattle.kob_pipeline.specs.declared.plan.ServiceStep.TheVariants as service_steps
+use Rattle.kob_pipeline.specs.Consumers as consuming
+use Rattle.kob_pipeline.specs.Losses.{AreMade, losses_of}
+use Rattle.kob_pipeline.specs.Services as serving
+use Rattle.kob_pipeline.specs.Steps.{Leads, standing}
+use Rattle.kob_pipeline.proofs.Losing.{calls_of_a_tick}
+
+abbrev pub router_scene : routers.State → List Call → ℕ → router_ticks.Scene
+router_scene state calls unmade = record { state = state; calls = calls; unmade = unmade }
+
+abbrev pub consumer_scene : consumers.State → List Call → ℕ → consumer_ticks.Scene
+consumer_scene state calls unmade = record { state = state; calls = calls; unmade = unmade }
+
+-- the line is the worker's, whose loss was set
+module _ (loss set then_loss : Loss) (fault : Option CallFault) (calls then_calls : List Call) (unmade then_unmade : ℕ)
+    (before begun desk : AtDesk) (is_set : set ≡ loss) (same : begun ≡ before) (none : unmade ≡ 0)
+    (still_none : then_unmade ≡ 0) (made : AreMade fault set then_loss calls then_calls begun desk) where
+  here : AreMade fault loss then_loss calls then_calls before desk
+  here = subst (λ l. AreMade fault l then_loss calls then_calls before desk) is_set
+      (subst (λ d. AreMade fault set then_loss calls then_calls d desk) same made)
+
+  pub service_ticked : (route : Dispatching) (old new : routers.State) (tick : RouterAnswer) → serving.GoesOn tick
+      → router_ticks.Ticks router_ticks.IsOneTick route (router_scene old calls unmade)
+      (router_scene new then_calls then_unmade) tick
+      → Leads (serving.IsServiceStep route) routers.calls_of (standing old before) (service_steps.Tick loss)
+      (standing new desk)
+  service_ticked route old new tick goes_on ticks = record {
+    moves = ticks.moves;
+    losses = losses_of loss (routers.calls_of ticks.moves);
+    done = record {
+      run = ticks.run;
+      own = record {
+        own = ticks.own;
+        few = ticks.few;
+        tick = tick;
+        goes_on = goes_on;
+        answer =
+            subst (λ u. router_ticks.IsAnswer route tick ticks.moves new u 0) none
+            (subst (λ u. router_ticks.IsAnswer route tick ticks.moves new unmade u) still_none ticks.answer);
+        lost = refl;
+      };
+    };
+    noted =
+        calls_of_a_tick fault loss then_loss calls then_calls (routers.calls_of ticks.moves) before desk here
+        ticks.calls;
+  }
+
+  pub consumer_ticked : (t : Subscription) (old new : consumers.State) (tick : ConsumerAnswer) → consuming.GoesOn tick
+      → consumer_ticks.Ticks t (consumer_scene old calls unmade) (consumer_scene new then_calls then_unmade) tick
+      → Leads (consuming.IsConsumerStep t) consumers.calls_of (standing old before) (consumer_steps.Tick loss)
+      (standing new desk)
+  consumer_ticked t old new tick goes_on ticks = record {
+    moves = ticks.moves;
+    losses = losses_of loss (consumers.calls_of ticks.moves);
+    done = record {
+      run = ticks.run;
+      own = record {
+        tick = tick;
+        goes_on = goes_on;
+        answer = ticks.answer;
+        made =
+            subst (λ u. consumer_ticks.unmade_by tick ticks.moves u ≡ 0) none
+            (subst (λ u. u ≡ 0) ticks.counted still_none);
+        lost = refl;
+      };
+    };
+    noted =
+        calls_of_a_tick fault loss then_loss calls then_calls (consumers.calls_of ticks.moves) before desk here
+        ticks.calls;
+  }
