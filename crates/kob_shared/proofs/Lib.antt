@@ -19,3 +19,4 @@ pub mod Noted
 pub mod FleetEnds
 pub mod Decided
 pub mod Told
+pub mod Continuing

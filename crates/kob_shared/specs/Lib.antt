@@ -1,6 +1,7 @@
 pub mod Limits
 pub mod Openings
 pub mod Journals
+pub mod Continuations
 pub mod Sessions
 pub mod Faults
 pub mod Fleets

@@ -1,6 +1,6 @@
 //! What follows for every legal journal. These functions do nothing: their contracts are the laws.
 
-ghost use Rattle.std.specs.Prelude.{List};
+ghost use Rattle.std.specs.Prelude.{List, ◌++◌};
 ghost use Rattle.kob_broker.specs.State.{State};
 ghost use Rattle.kob_names.specs.declared.settings.Settings.{Settings};
 ghost use Rattle.kob_partition.specs.Retained.{Retained};
@@ -24,6 +24,17 @@ pub fn each_entry_is_just()
 pub fn each_entry_is_one_step()
     ensures { (opening : Settings) (journal : List Entry) (now : State Retained)
         → IsLegal (opened_by opening) journal now → EachEntryIsOneStep opening journal }
+{
+    // The contract is the law.
+}
+
+/// A journal that begins where a legal one ends goes on with it: the two together are legal, from
+/// where the first begins.
+pub fn journals_in_turn_are_legal()
+    ensures { (begins : State Retained) (first : List Entry) (between : State Retained)
+        (second : List Entry) (now : State Retained)
+        → IsLegal begins first between → IsLegal between second now
+        → IsLegal begins (first ++ second) now }
 {
     // The contract is the law.
 }

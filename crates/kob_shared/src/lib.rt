@@ -2,12 +2,14 @@
 #![tactic(auto)]
 
 mod compare;
+mod continued;
 mod desk;
 mod faults;
 mod fleet;
 mod fleet_fault;
 mod fleet_stop;
 mod journal;
+mod kept;
 mod laws;
 mod notes;
 mod recorded;
@@ -18,16 +20,17 @@ mod work;
 mod worker;
 
 pub use compare::Difference;
+pub use continued::Continued;
 pub use desk::Desk;
-pub use faults::{CallFault, ServeFault};
+pub use faults::{CallFault, PlacesUsedUp, ServeFault};
 pub use fleet::{Ran, find_tear, run_fleet};
 pub use fleet_fault::FleetFault;
 pub use fleet_stop::FleetStop;
-pub use journal::{Entry, Journal, Receipt};
-pub use laws::{each_entry_is_just, each_entry_is_one_step};
+pub use journal::{Entry, Journal, PastJournal, Receipt};
+pub use laws::{each_entry_is_just, each_entry_is_one_step, journals_in_turn_are_legal};
 pub use notes::Notes;
 pub use recorded::{ENTRY_LIMIT, Recorded};
 pub use script::{Script, Transcript};
 pub use scripts::{FleetEnd, WORKER_LIMIT, run_scripts};
-pub use session::{Session, SharedBroker};
+pub use session::{RotatingBroker, Session, SharedBroker};
 pub use work::{Done, Gate, Work};

@@ -3,12 +3,14 @@
 ghost use Rattle.std.specs.Prelude.{◌≡◌, ◌+◌, ◌<◌, ◌≤◌, IfOk, IfErr, OnErr};
 ghost use Rattle.kob_rights.specs.Offsets.{OffsetsWithin};
 ghost use Rattle.kob_rights.specs.Bodies.{Fits};
+ghost use Rattle.kob_shared.specs.Continuations.{IsContinued, IsPast};
 ghost use Rattle.kob_shared.specs.Journals.{IsSound};
-ghost use Rattle.kob_shared.specs.Limits.{entry_limit};
+ghost use Rattle.kob_shared.specs.Limits.{entry_limit, place_limit};
 ghost use Rattle.kob_shared.specs.Sessions.{Seat, event_by, IsServed, IsStaleOnlyBelow};
 
-use crate::faults::CallFault;
-use crate::journal::Receipt;
+use crate::continued::Continued;
+use crate::faults::{CallFault, PlacesUsedUp};
+use crate::journal::{PastJournal, Receipt};
 use crate::recorded::Recorded;
 use kob_names::{Host, PlainValue, Principal};
 use kob_rights::{Event, Request};
@@ -37,7 +39,7 @@ impl SharedBroker {
             ≡ record { worker = worker; principal = principal; host = host; seen = 0 } }
     {
         Session {
-            shared: self,
+            shared: Shared::Whole(self),
             worker,
             principal,
             host,
@@ -75,10 +77,108 @@ impl SharedBroker {
     }
 }
 
-/// What one worker knows of the shared journal.
+/// A broker whose journal is handed out from time to time, under one lock, so that it may serve for
+/// as long as it is used. No other state is shared.
+#[derive(Drop)]
+pub struct RotatingBroker {
+    continued: Mutex<Continued>,
+}
+
+impl RotatingBroker {
+    /// Puts the broker and its journal under the lock; no memory is taken.
+    pub fn open(continued: Continued) -> RotatingBroker {
+        RotatingBroker {
+            continued: Mutex::new(continued),
+        }
+    }
+
+    /// A session of a worker, for one principal at one host, that has seen nothing yet. It goes on
+    /// when the journal is handed out. No memory is taken.
+    pub fn session(&self, worker: usize, principal: Principal, host: Host) -> Session<'_>
+        ensures { result
+            ≡ record { worker = worker; principal = principal; host = host; seen = 0 } }
+    {
+        Session {
+            shared: Shared::Rotating(self),
+            worker,
+            principal,
+            host,
+            seen: 0,
+        }
+    }
+
+    /// Serves an event under the lock, for a worker who has seen so many entries.
+    fn serve<R: Wait>(
+        &self,
+        rt: &R,
+        alloc: Global,
+        worker: usize,
+        event: Event,
+        seen: usize,
+    ) -> Result<Receipt, CallFault>
+        ensures place { IfOk result (λ r. (seen ≤ r.place) × (r.place < place_limit)) }
+        ensures served { IfOk result (λ r. IsServed event r) }
+        ensures fits { IfOk result (λ r. Fits event.request r.reply) }
+        ensures offsets { IfOk result (λ r. OffsetsWithin r.reply) }
+        ensures stale { IfErr result (IsStaleOnlyBelow seen) }
+    {
+        let mut continued = self.continued.lock(rt);
+        continued.serve_after(alloc, worker, event, seen)
+    }
+
+    /// Hands out the journal under the lock, whole, and goes on with an empty one, as
+    /// `Continued::rotate` does. Sessions go on, and places count on. No memory is taken.
+    pub fn rotate<R: Wait>(&self, rt: &R, alloc: Global) -> Result<PastJournal, PlacesUsedUp>
+        ensures { IfOk result IsPast }
+    {
+        let mut continued = self.continued.lock(rt);
+        continued.rotate(alloc)
+    }
+
+    /// Gives back the broker and the journal that was not handed out; it waits for nobody.
+    pub fn finish(self) -> Continued
+        ensures { IsContinued result }
+    {
+        let continued = self.continued.into_inner();
+        let _ = continued.journal();
+        continued
+    }
+}
+
+/// The broker that a session calls.
+#[derive(Clone, Copy)]
+enum Shared<'a> {
+    Whole(&'a SharedBroker),
+    Rotating(&'a RotatingBroker),
+}
+
+impl<'a> Shared<'a> {
+    /// Serves an event under the broker's lock, for a worker who has seen so many entries.
+    fn serve<R: Wait>(
+        &self,
+        rt: &R,
+        alloc: Global,
+        worker: usize,
+        event: Event,
+        seen: usize,
+    ) -> Result<Receipt, CallFault>
+        ensures place { IfOk result (λ r. (seen ≤ r.place) × (r.place < place_limit)) }
+        ensures served { IfOk result (λ r. IsServed event r) }
+        ensures fits { IfOk result (λ r. Fits event.request r.reply) }
+        ensures offsets { IfOk result (λ r. OffsetsWithin r.reply) }
+        ensures stale { IfErr result (IsStaleOnlyBelow seen) }
+    {
+        match self {
+            Shared::Whole(shared) => shared.serve(rt, alloc, worker, event, seen),
+            Shared::Rotating(shared) => shared.serve(rt, alloc, worker, event, seen),
+        }
+    }
+}
+
+/// What one worker knows of the journals of a shared broker.
 #[derive(Drop)]
 pub struct Session<'a> {
-    shared: &'a SharedBroker,
+    shared: Shared<'a>,
     worker: usize,
     principal: Principal,
     host: Host,
