@@ -1,2 +1,4 @@
 pub mod Fitting
 pub mod Hearing
+pub mod ConsumerCourses
+pub mod ServiceCourses

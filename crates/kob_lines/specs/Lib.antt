@@ -1,1 +1,4 @@
 pub mod Heard
+pub mod ProgramFaults
+pub mod ConsumerCourse
+pub mod ServiceCourse
