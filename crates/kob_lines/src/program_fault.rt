@@ -1,0 +1,184 @@
+//! One fault for a program that runs services and consumers.
+
+use kob_broker::OpenFault;
+use kob_inbox::InboxFault;
+use kob_names::{HostFault, PrincipalFault};
+use kob_outbox::{OutboxFault, RecordFault};
+use kob_router::RouteFault;
+use kob_shared::{CallFault, ServeFault};
+use std::alloc::{AllocError, AllocFailed};
+use std::io;
+use thiserror::Error;
+
+/// Why a program that runs services and consumers did not do its work. Each fault that their calls
+/// return converts to it, so that `?` takes them all.
+#[derive(Clone, Copy, Debug, PartialEq, Eq, Error)]
+pub enum ProgramFault {
+    #[error("out of memory")]
+    Memory,
+    /// A principal, a host, a route or another text that was to be read.
+    #[error("a text is not as it has to be")]
+    BadText,
+    /// Too many opening bindings, or what a program finds before it begins.
+    #[error("the work cannot begin")]
+    NotBegun,
+    /// A text of the event is too long or has a zero byte, or its id was recorded before.
+    #[error("an event cannot be recorded")]
+    NotRecorded,
+    #[error("a database refused")]
+    Store,
+    /// The journal is full.
+    #[error("a request was not served")]
+    NotServed,
+    /// What a program finds after it began: no fault converts to it.
+    #[error("the work did not come to its end")]
+    Stopped,
+    #[error("the output could not be written")]
+    WriteFailed,
+}
+
+impl From<AllocError> for ProgramFault {
+    ghost use Rattle.std.specs.Prelude.{◌≡◌};
+    ghost use Rattle.kob_lines.specs.declared.program_fault.ProgramFault.TheVariants.{Memory};
+
+    ghost from_gives = { λ _ fault. fault ≡ Memory };
+
+    fn from(_refused: AllocError) -> ProgramFault {
+        ProgramFault::Memory
+    }
+}
+
+impl<T: Drop> From<AllocFailed<T>> for ProgramFault {
+    ghost use Rattle.std.specs.Prelude.{◌≡◌};
+    ghost use Rattle.kob_lines.specs.declared.program_fault.ProgramFault.TheVariants.{Memory};
+
+    ghost from_gives = { λ _ fault. fault ≡ Memory };
+
+    fn from(_refused: AllocFailed<T>) -> ProgramFault {
+        ProgramFault::Memory
+    }
+}
+
+impl From<PrincipalFault> for ProgramFault {
+    ghost use Rattle.kob_lines.specs.ProgramFaults.{IsOfPrincipal};
+
+    ghost from_gives = { IsOfPrincipal };
+
+    fn from(fault: PrincipalFault) -> ProgramFault {
+        match fault {
+            PrincipalFault::Memory => ProgramFault::Memory,
+            _ => ProgramFault::BadText,
+        }
+    }
+}
+
+impl From<HostFault> for ProgramFault {
+    ghost use Rattle.kob_lines.specs.ProgramFaults.{IsOfHost};
+
+    ghost from_gives = { IsOfHost };
+
+    fn from(fault: HostFault) -> ProgramFault {
+        match fault {
+            HostFault::Memory => ProgramFault::Memory,
+            _ => ProgramFault::BadText,
+        }
+    }
+}
+
+impl From<RouteFault> for ProgramFault {
+    ghost use Rattle.kob_lines.specs.ProgramFaults.{IsOfRoute};
+
+    ghost from_gives = { IsOfRoute };
+
+    fn from(fault: RouteFault) -> ProgramFault {
+        match fault {
+            RouteFault::Memory => ProgramFault::Memory,
+            _ => ProgramFault::BadText,
+        }
+    }
+}
+
+impl From<OpenFault> for ProgramFault {
+    ghost use Rattle.kob_lines.specs.ProgramFaults.{IsOfOpening};
+
+    ghost from_gives = { IsOfOpening };
+
+    fn from(fault: OpenFault) -> ProgramFault {
+        match fault {
+            OpenFault::Memory => ProgramFault::Memory,
+            OpenFault::TooMany => ProgramFault::NotBegun,
+        }
+    }
+}
+
+impl From<RecordFault> for ProgramFault {
+    ghost use Rattle.kob_lines.specs.ProgramFaults.{IsOfRecord};
+
+    ghost from_gives = { IsOfRecord };
+
+    fn from(fault: RecordFault) -> ProgramFault {
+        match fault {
+            RecordFault::Memory => ProgramFault::Memory,
+            RecordFault::Store => ProgramFault::Store,
+            RecordFault::BadField(_) | RecordFault::DuplicateId => ProgramFault::NotRecorded,
+        }
+    }
+}
+
+impl From<OutboxFault> for ProgramFault {
+    ghost use Rattle.kob_lines.specs.ProgramFaults.{IsOfOutbox};
+
+    ghost from_gives = { IsOfOutbox };
+
+    fn from(fault: OutboxFault) -> ProgramFault {
+        match fault {
+            OutboxFault::Memory => ProgramFault::Memory,
+            OutboxFault::Store => ProgramFault::Store,
+        }
+    }
+}
+
+impl From<InboxFault> for ProgramFault {
+    ghost use Rattle.kob_lines.specs.ProgramFaults.{IsOfInbox};
+
+    ghost from_gives = { IsOfInbox };
+
+    fn from(fault: InboxFault) -> ProgramFault {
+        match fault {
+            InboxFault::Memory => ProgramFault::Memory,
+            InboxFault::Store => ProgramFault::Store,
+        }
+    }
+}
+
+impl From<ServeFault> for ProgramFault {
+    ghost use Rattle.kob_lines.specs.ProgramFaults.{IsOfServing};
+
+    ghost from_gives = { IsOfServing };
+
+    fn from(fault: ServeFault) -> ProgramFault {
+        match fault {
+            ServeFault::Memory => ProgramFault::Memory,
+            ServeFault::JournalFull => ProgramFault::NotServed,
+        }
+    }
+}
+
+impl From<CallFault> for ProgramFault {
+    ghost use Rattle.kob_lines.specs.ProgramFaults.{IsOfCall};
+
+    ghost from_gives = { IsOfCall };
+
+    fn from(fault: CallFault) -> ProgramFault {
+        match fault {
+            CallFault::Memory => ProgramFault::Memory,
+            CallFault::JournalFull | CallFault::Stale { .. } => ProgramFault::NotServed,
+        }
+    }
+}
+
+impl From<io::Error> for ProgramFault {
+    fn from(_error: io::Error) -> ProgramFault {
+        ProgramFault::WriteFailed
+    }
+}

@@ -1,0 +1,39 @@
+//! How a service's run goes on. This function does nothing: its contract is the law.
+
+ghost use Rattle.std.specs.Prelude.{◌++◌, ◌∷◌, [], List};
+ghost use Rattle.kob_outbox.specs.Contents.{Event};
+ghost use Rattle.kob_outbox.specs.Events.{stored_event};
+ghost use Rattle.kob_outbox.specs.Recording.{next_seq};
+ghost use Rattle.kob_outbox.specs.declared.change.Change.{Change};
+ghost use Rattle.kob_outbox.specs.declared.event.OutboxEvent.{OutboxEvent};
+ghost use Rattle.kob_lines.specs.ServiceCourse.{HasServiceRun};
+ghost use Rattle.kob_router.specs.Dispatches.{Dispatching};
+ghost use Rattle.kob_router.specs.Run.Move.{Recorded, Restarted, Swept};
+ghost use Rattle.kob_router.specs.Run.{IsRecordable, IsRouterRun, Move, State, after, start};
+ghost use Rattle.kob_router.specs.Tick.{IsOneTick, Scene, Ticks};
+ghost use Rattle.kob_router.specs.declared.line.Call.{Call};
+ghost use Rattle.kob_router.specs.declared.tick.Tick.{Tick};
+
+/// A run goes on with each tick, with each event that is recorded, with a sweep and with a restart;
+/// its calls are all that the line tells, and its rows all that were recorded. Two runs of which one
+/// begins where the other ends are one.
+pub fn a_service_run_goes_on()
+    ensures begins { (route : Dispatching) → HasServiceRun route start [] [] }
+    ensures ticks { (route : Dispatching) (old new : Scene) (tick : Tick) (rows : List Event)
+        → HasServiceRun route old.state old.calls rows → Ticks IsOneTick route old new tick
+        → HasServiceRun route new.state new.calls rows }
+    ensures records { (route : Dispatching) (old : State) (calls : List Call) (rows : List Event)
+        (change : Change) (event : OutboxEvent)
+        → HasServiceRun route old calls rows → IsRecordable old.outbox change event
+        → HasServiceRun route (after old (Recorded change event)) calls
+        (rows ++ stored_event (next_seq old.outbox) event ∷ []) }
+    ensures sweeps { (route : Dispatching) (old : State) (calls : List Call) (rows : List Event)
+        → HasServiceRun route old calls rows → HasServiceRun route (after old Swept) calls rows }
+    ensures restarts { (route : Dispatching) (old : State) (calls : List Call) (rows : List Event)
+        → HasServiceRun route old calls rows → HasServiceRun route (after old Restarted) calls rows }
+    ensures joined { (route : Dispatching) (one two : List Move) (old middle new : State)
+        → IsRouterRun route old one middle → IsRouterRun route middle two new
+        → IsRouterRun route old (one ++ two) new }
+{
+    // The contract is the law.
+}
