@@ -8,10 +8,14 @@ mod event;
 mod lossy;
 mod offsets;
 mod recorded_line;
+mod relay;
 mod session_line;
+mod shared_relay;
 
 pub use broker_line::BrokerLine;
 pub use calls::Calls;
 pub use lossy::{Loss, Lossy};
 pub use recorded_line::RecordedLine;
+pub use relay::Relay;
 pub use session_line::SessionLine;
+pub use shared_relay::SharedRelay;
