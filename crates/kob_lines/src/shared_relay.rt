@@ -43,8 +43,9 @@ impl SharedRelay {
 
     /// One step of the router under the lock, as [`Relay::tick`] makes it.
     pub fn tick<R: Wait, L: Line>(&self, rt: &R, alloc: Global, line: &mut L) -> Tick
-        ensures { IsSomeTick (L.calls line.old) (L.calls line.new) (L.unmade line.old)
+        ensures done { IsSomeTick (L.calls line.old) (L.calls line.new) (L.unmade line.old)
             (L.unmade line.new) result }
+        ensures line { L.becomes line.old line.new }
     {
         let mut relay = self.relay.lock(rt);
         relay.tick(alloc, line)
