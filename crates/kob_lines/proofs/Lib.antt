@@ -4,3 +4,4 @@ pub mod Hearing
 pub mod Through
 pub mod ConsumerCourses
 pub mod ServiceCourses
+pub mod Relaying

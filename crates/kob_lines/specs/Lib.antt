@@ -4,3 +4,4 @@ pub mod Joined
 pub mod ProgramFaults
 pub mod ConsumerCourse
 pub mod ServiceCourse
+pub mod Relayed

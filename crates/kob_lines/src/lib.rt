@@ -1,5 +1,6 @@
 //! Lines to a broker: over a borrowed one, over one with a journal, over a session, and a line that
-//! loses calls on purpose. And one fault for programs that use them.
+//! loses calls on purpose. A router with its outbox under one lock, laws of runs that go on, and one
+//! fault for programs that use all these.
 #![tactic(auto)]
 
 mod broker_line;
@@ -10,8 +11,10 @@ mod lossy;
 mod offsets;
 mod program_fault;
 mod recorded_line;
+mod relay;
 mod service_course;
 mod session_line;
+mod shared_relay;
 
 pub use broker_line::BrokerLine;
 pub use calls::Calls;
@@ -19,5 +22,7 @@ pub use consumer_course::a_consumer_run_goes_on;
 pub use lossy::{Loss, Lossy};
 pub use program_fault::ProgramFault;
 pub use recorded_line::RecordedLine;
+pub use relay::Relay;
 pub use service_course::a_service_run_goes_on;
 pub use session_line::SessionLine;
+pub use shared_relay::SharedRelay;

@@ -1,0 +1,30 @@
+-- An outbox, and the router that sends its rows.
+use Rattle.std.specs.Prelude.{◌≡◌, ℕ, List, option_map}
+use Rattle.kob_outbox.specs.Contents.{Contents}
+use Rattle.kob_router.specs.Dispatches.{dispatch_of}
+use Rattle.kob_router.specs.Tick.{IsFirst, IsOneTick, Ticks, hand_of, scene_of}
+use Rattle.kob_router.specs.declared.line.Call.{Call}
+use Rattle.kob_router.specs.declared.sender.Sender.{Sender}
+use Rattle.kob_router.specs.declared.tick.Tick.{Tick}
+
+-- a router with its outbox
+pub record Relayed : Type 0 where
+  pub outbox : Contents
+  pub router : Sender
+
+-- the row in hand, if there is one, is the first after the mark
+abbrev pub HoldsFirst : Relayed → Type 0
+HoldsFirst r = IsFirst (option_map hand_of r.router.hand) r.outbox
+
+-- one step of the router
+abbrev pub IsTick : Relayed → Relayed → List Call → List Call → ℕ → ℕ → Tick → Type 0
+IsTick old new calls then_calls unmade then_unmade tick =
+    (new.router.target ≡ old.router.target)
+    × Ticks IsOneTick (dispatch_of old.router.target) (scene_of old.router old.outbox calls unmade)
+    (scene_of new.router new.outbox then_calls then_unmade) tick
+
+-- one step of a router over some outbox, before and after which the row in hand is the first
+abbrev pub IsSomeTick : List Call → List Call → ℕ → ℕ → Tick → Type 0
+IsSomeTick calls then_calls unmade then_unmade tick =
+    (old : Relayed) × (new : Relayed) × HoldsFirst old × HoldsFirst new
+    × IsTick old new calls then_calls unmade then_unmade tick
