@@ -5,3 +5,5 @@
 mod lines;
 #[cfg(test)]
 mod making;
+#[cfg(test)]
+mod rotations;
