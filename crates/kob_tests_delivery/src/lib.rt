@@ -1,9 +1,16 @@
-//! Tests of routes, of routers and consumers that out of memory stops, and of calls of theirs that
-//! take none. What steps over a broker answer is shown by the scenes of `kob_scene`.
+//! Tests of outboxes and inboxes, of routes, of lines to a broker, of routers and consumers that out
+//! of memory stops, and of calls of theirs that take none. What steps over a broker answer is shown
+//! by the scenes of `kob_scene`.
 #![tactic(auto)]
 
 #[cfg(test)]
+mod inbox;
+#[cfg(test)]
+mod lines;
+#[cfg(test)]
 mod making;
+#[cfg(test)]
+mod outbox;
 #[cfg(test)]
 mod refused;
 #[cfg(test)]
