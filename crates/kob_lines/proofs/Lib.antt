@@ -1,4 +1,3 @@
 pub mod Adding
 pub mod Fitting
 pub mod Hearing
-pub mod Through
