@@ -20,7 +20,8 @@ use Rattle.kob_pipeline.proofs.DeliveryLaws.{holds_a_prefix}
 use Rattle.kob_pipeline.specs.BrokerView.{view_after}
 use Rattle.kob_pipeline.specs.Premises.{ArePrivate}
 use Rattle.kob_pipeline.specs.Reaching.{ReachesInOrder}
-use Rattle.kob_pipeline.specs.Served.{AreServed, served_to}
+use Rattle.kob_router.specs.Served.{AreServed}
+use Rattle.kob_pipeline.specs.Served.{served_to}
 
 pub reaches : (opening : Settings) (journal : List Entry) (now : State Retained) (sender taker : ℕ)
     (sends takes : List Call) (t : Subscription)

@@ -2,7 +2,8 @@
 use Rattle.std.specs.Prelude.{◌≡◌, ℕ, ◌+◌, ◌<◌, List, ◌∷◌, drop, length, Some, slice_get}
 use Rattle.kob_router.specs.declared.line.Call.{Call}
 use Rattle.kob_shared.specs.declared.journal.Entry.{Entry}
-use Rattle.kob_pipeline.specs.Served.{AreServed, served_in, served_to}
+use Rattle.kob_router.specs.Served.{AreServed}
+use Rattle.kob_pipeline.specs.Served.{served_in, served_to}
 
 -- the worker's first entry from a place on is at this place
 pub record IsNext (worker : ℕ) (journal : List Entry) (from place : ℕ) : Type 0 where

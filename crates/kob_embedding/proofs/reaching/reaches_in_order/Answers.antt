@@ -1,6 +1,7 @@
 use Rattle.std.proofs.Common.{List, refl, subst}
 use Rattle.kob_pipeline.specs.Premises.{ArePrivate}
-use Rattle.kob_pipeline.specs.Served.{AreServed, served_to}
+use Rattle.kob_router.specs.Served.{AreServed}
+use Rattle.kob_pipeline.specs.Served.{served_to}
 use Rattle.kob_router.specs.declared.place.Place.{Place}
 use Rattle.kob_shared.specs.declared.journal.Entry.{Entry}
 use Rattle.kob_embedding.proofs.Reachings.{reaches}
