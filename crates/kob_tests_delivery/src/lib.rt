@@ -1,11 +1,20 @@
-//! Tests of routes, of routers and consumers that out of memory stops, and of calls of theirs that
-//! take none. What steps over a broker answer is shown by the scenes of `kob_scene`.
+//! Tests of outboxes and inboxes, of routes, of lines to a broker, of journals that are handed out, of
+//! routers and consumers that run out of memory, and of calls of theirs that take none. What steps
+//! over a broker answer is shown by the scenes of `kob_scene`.
 #![tactic(auto)]
 
 #[cfg(test)]
+mod inbox;
+#[cfg(test)]
+mod lines;
+#[cfg(test)]
 mod making;
 #[cfg(test)]
+mod outbox;
+#[cfg(test)]
 mod refused;
+#[cfg(test)]
+mod rotations;
 #[cfg(test)]
 mod routes;
 #[cfg(test)]

@@ -1,12 +1,16 @@
 //! Rows, routes, outboxes, brokers and lines that the tests share.
 
-use kob_broker::Broker;
+ghost use Rattle.std.specs.Prelude.{IfOk, IfSome, ◌≤◌};
+ghost use Rattle.kob_shared.specs.Openings.{IsFresh};
+
+use kob_broker::{Broker, OpenFault, Settings};
 use kob_lines::BrokerLine;
 use kob_names::{Host, Items, Principal, Text};
 use kob_outbox::{Change, Outbox, OutboxEvent, Row};
 use kob_rights::{Event, Reply};
 use kob_router::{Place, Route, RouteBy, RouteFault, RouteSettings};
 use kob_script::{Script, read_script};
+use kob_shared::Recorded;
 use std::alloc::{AllocError, Global};
 use std::test::Fail;
 use uuid::Uuid;
@@ -100,9 +104,32 @@ pub(crate) fn event_of(alloc: Global, line: &str) -> Option<Event> {
         .pop()
 }
 
-/// A broker with the topic of orders.
+fn open(alloc: Global, settings: Settings) -> Result<Broker, OpenFault>
+    ensures { IfOk result IsFresh }
+{
+    Broker::open(alloc, settings)
+}
+
+/// A broker that is just opened, whose one super user is `User:root`.
+pub(crate) fn opened(alloc: Global) -> Option<Broker>
+    ensures { IfSome result IsFresh }
+{
+    let Script { settings, events } = read_script(alloc, b"super User:root").ok()?;
+    drop(events);
+    open(alloc, settings).ok()
+}
+
+/// Such a broker with a journal of at most so many entries.
+pub(crate) fn recorded(alloc: Global, limit: usize) -> Option<Recorded>
+    requires { limit ≤ 1000000 }
+{
+    let broker = opened(alloc)?;
+    Recorded::open(alloc, broker, limit).ok()
+}
+
+/// Such a broker with the topic of orders.
 pub(crate) fn broker(alloc: Global) -> Result<Broker, Fail> {
-    let mut broker = opened(alloc)?;
+    let mut broker = opened(alloc).ok_or("memory")?;
     match answer(alloc, &mut broker, CREATED) {
         Some(reply) => {
             drop(reply);
@@ -115,12 +142,6 @@ pub(crate) fn broker(alloc: Global) -> Result<Broker, Fail> {
     }
 }
 
-fn opened(alloc: Global) -> Result<Broker, Fail> {
-    let Script { settings, events } = read_script(alloc, b"super User:root")?;
-    drop(events);
-    Ok(Broker::open(alloc, settings)?)
-}
-
 /// What a line of a script is answered, or none where memory is refused.
 pub(crate) fn answer(alloc: Global, broker: &mut Broker, line: &str) -> Option<Reply> {
     let event = event_of(alloc, line)?;
@@ -129,10 +150,15 @@ pub(crate) fn answer(alloc: Global, broker: &mut Broker, line: &str) -> Option<R
     reply
 }
 
+/// The super user, and the host `h`.
+pub(crate) fn asker(alloc: Global) -> Option<(Principal, Host)> {
+    let principal = Principal::parse(alloc, "User:root").ok()?;
+    Some((principal, Host::parse(alloc, "h").ok()?))
+}
+
 /// A line of the super user.
 pub(crate) fn line_to(alloc: Global, broker: &mut Broker) -> Option<BrokerLine<'_>> {
-    let principal = Principal::parse(alloc, "User:root").ok()?;
-    let host = Host::parse(alloc, "h").ok()?;
+    let (principal, host) = asker(alloc)?;
     Some(BrokerLine::open(alloc, broker, principal, host))
 }
 

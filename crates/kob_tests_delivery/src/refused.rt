@@ -18,7 +18,7 @@ use std::test::Fail;
 const TICKS: usize = 8;
 
 /// What a tick came to.
-#[derive(Clone, Copy, Debug, PartialEq, Eq)]
+#[derive(Clone, Copy, PartialEq, Eq)]
 pub(crate) enum Came {
     /// There was nothing to do.
     Idle,

@@ -1,15 +1,10 @@
-//! Tests of a service's tables, of an inbox, of a catalog's topics and of groups, over their public
-//! surface: what no scene can show.
+//! Tests of a catalog's topics and of groups, over their public surface: what no scene can show.
 #![tactic(auto)]
 
 #[cfg(test)]
 mod catalog;
 #[cfg(test)]
 mod groups;
-#[cfg(test)]
-mod inbox;
-#[cfg(test)]
-mod outbox;
 #[cfg(test)]
 mod spared;
 #[cfg(test)]

@@ -1,13 +1,21 @@
 //! Each line makes, loses and keeps calls.
 
-use crate::making::{asker, broker, heard_id, recorded};
+use crate::making::{asker, line_to, opened, recorded};
 use kob_broker::Broker;
-use kob_lines::{BrokerLine, Loss, Lossy, RecordedLine, SessionLine};
-use kob_rights::Request;
-use kob_router::{Call, Line};
+use kob_lines::{Loss, Lossy, RecordedLine, SessionLine};
+use kob_rights::{Body, Reply, Request};
+use kob_router::{Call, Delivery, Line};
 use kob_shared::{CallFault, Recorded, SharedBroker};
 use std::alloc::Global;
 use std::sync::Wait;
+
+/// Asks for a producer id, of which the broker gives 0, 1, 2 and so on; the one that was received.
+fn heard_id<L: Line>(alloc: Global, line: &mut L) -> Option<u64> {
+    match line.send(alloc, Request::InitProducerId) {
+        Delivery::Delivered(Reply::Done(Body::Producer { id, .. })) => Some(id),
+        _ => None,
+    }
+}
 
 fn is_heard(calls: &[Call], place: usize) -> Option<bool> {
     Some(calls.get(place)?.heard.is_some())
@@ -39,8 +47,7 @@ fn workers(recorded: &Recorded) -> [Option<usize>; 4] {
 
 /// The producer ids that two calls of a line hear.
 fn two_ids(alloc: Global, broker: &mut Broker) -> Option<[Option<u64>; 2]> {
-    let (principal, host) = asker(alloc)?;
-    let mut line = BrokerLine::open(alloc, broker, principal, host);
+    let mut line = line_to(alloc, broker)?;
     let ids = [heard_id(alloc, &mut line), heard_id(alloc, &mut line)];
     let unmade = line.unmade_calls();
     let calls = line.close();
@@ -53,7 +60,7 @@ fn two_ids(alloc: Global, broker: &mut Broker) -> Option<[Option<u64>; 2]> {
 }
 
 fn ids_of_two_lines(alloc: Global) -> Option<[[Option<u64>; 2]; 2]> {
-    let mut broker = broker(alloc)?;
+    let mut broker = opened(alloc)?;
     let first = two_ids(alloc, &mut broker);
     let next = two_ids(alloc, &mut broker);
     drop(broker);
