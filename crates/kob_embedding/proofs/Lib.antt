@@ -1,2 +1,3 @@
 pub mod Servings
 pub mod Reachings
+pub mod ReservedExample

@@ -17,11 +17,14 @@ use crate::end::OutboxEnd;
 use crate::line::DeskLine;
 use crate::plan::{Loss, Service, ServiceStep};
 use crate::step_fault::StepFault;
-use kob_outbox::{Change, Outbox, OutboxEvent, OutboxFault, RecordFault, Row};
+use kob_outbox::{Change, Outbox, OutboxEvent, RecordFault, Row};
 use kob_router::{Line, Router, StopReason, Tick};
 use kob_shared::{CallFault, Gate};
 use std::alloc::Global;
 use std::sync::Wait;
+
+/// How many rows one read of the outbox gives at most.
+const PAGE: u32 = 1_000;
 
 /// A service's router and outbox.
 #[derive(Drop)]
@@ -199,16 +202,21 @@ fn goes_on(tick: Tick) -> Result<(), StepFault>
     }
 }
 
-/// All rows that were not swept. One read gives up to 4,294,967,295; as many are out of memory,
-/// since there may be more.
-fn rows_of(outbox: &mut Outbox) -> Result<Vec<Row>, OutboxFault>
+/// All rows that were not swept, by rising numbers, read a page at a time. The error is out of
+/// memory, where an allocation failed.
+fn rows_of(outbox: &mut Outbox) -> Result<Vec<Row>, StepFault>
     ensures rows { IfOk result (λ rows.
         map stored_row rows.items ≡ later_than 0 outbox.old.events) }
     ensures same { outbox.new ≡ outbox.old }
 {
-    let rows = outbox.after(0, u32::MAX)?;
-    if rows.len() >= u32::MAX as usize {
-        return Err(OutboxFault::Memory);
+    outbox.is_in_order();
+    let mut rows = outbox.after(0, PAGE)?;
+    while let Some(last) = rows.last() {
+        let mut page = outbox.after(last.seq, PAGE)?;
+        if page.is_empty() {
+            break;
+        }
+        rows.append(&mut page)?;
     }
     Ok(rows)
 }
