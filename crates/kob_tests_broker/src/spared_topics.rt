@@ -2,11 +2,13 @@
 //! allocation refused from `spare` on.
 
 use crate::catalog::create;
-use crate::spared::{LONG, spare};
+use crate::refused::batch;
+use crate::spared::spare;
+use crate::spared_groups::LONG;
 use kob_catalog::{Catalog, CreateFault};
-use kob_names::{Batch, Bytes, Items, Record, Text, TopicName};
+use kob_names::{Batch, Text, TopicName};
 use kob_partition::Placement;
-use std::alloc::{AllocError, Global};
+use std::alloc::Global;
 
 /// Creates the topics `a` of two partitions and `b` of 300.
 fn create_two(alloc: Global, catalog: &mut Catalog) -> Result<(), CreateFault> {
@@ -63,20 +65,6 @@ fn broken_rules_are_told(rt: HostRuntime) {
     assert!(rt; done == Some(true));
 }
 
-/// A batch of one record.
-fn batch(alloc: Global) -> Result<Batch, AllocError> {
-    let mut records = Vec::new(alloc);
-    records.push(Record {
-        key: None,
-        value: Bytes::from_vec(Vec::new(alloc)),
-        headers: Items::from_vec(Vec::new(alloc)),
-    })?;
-    Ok(Batch {
-        idem: None,
-        records: Items::from_vec(records),
-    })
-}
-
 /// Puts a prepared batch last in the last partition of the topic `b`, and answers where.
 fn appends(alloc: Global, catalog: &mut Catalog, name: &Text, batch: Batch) -> Option<Placement> {
     let Ok(log) = catalog.partition_mut(name, 299) else {
@@ -111,7 +99,7 @@ fn advance_to(catalog: &mut Catalog, name: &Text, offset: u64) -> Option<(u64, u
 fn writes_and_advances(alloc: Global, catalog: &mut Catalog) -> Option<bool> {
     create_two(alloc, catalog).ok()?;
     let name = Text::copied(alloc, "b").ok()?;
-    let batch = batch(alloc).ok()?;
+    let batch = batch(alloc, None, 1).ok()?;
     let placed = appends(alloc, catalog, &name, batch);
     let beside = catalog.partition(&name, 298).map(|log| log.end());
     let moved = advance_to(catalog, &name, 1);

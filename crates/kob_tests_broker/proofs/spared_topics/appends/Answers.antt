@@ -4,7 +4,7 @@ use Rattle.kob_catalog.proofs.Lent.{written_is_read}
 use Rattle.kob_catalog.proofs.Places.{partition_of_mapped}
 use Rattle.kob_catalog.specs.Kept.{empty_log, kept_of, with_log}
 use Rattle.kob_partition.specs.Log.{CanAppend, CanCommit, LogKept}
-use Rattle.kob_tests_tables.proofs.spared_topics.appends.Goals as goal
+use Rattle.kob_tests_broker.proofs.spared_topics.appends.Goals as goal
 
 pub commit_append-requires-clause-partition : goal.commit_append-requires-clause-partition
 commit_append-requires-clause-partition c =

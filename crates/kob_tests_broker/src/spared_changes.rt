@@ -1,19 +1,11 @@
 //! Changes that are committed without memory. `.ci/refuse` runs them with every allocation refused
 //! from `spare` on.
 
+use crate::spared::spare;
 use kob_broker::{Broker, Settings};
 use kob_rights::{Event, Reply};
 use kob_script::{Script, read_script};
 use std::alloc::Global;
-
-/// The size of the allocation by which `.ci/refuse` knows that all that come after it are to be
-/// refused.
-const CUE: usize = 7_654_321;
-
-/// No memory is taken from here on, and where `.ci/refuse` runs the test, none is given.
-fn spare(alloc: Global) -> bool {
-    Vec::<u8>::with_capacity(alloc, CUE).is_ok()
-}
 
 /// Whether the last of the events, once it is prepared, is done.
 fn does_last(alloc: Global, broker: &mut Broker, events: &[Event]) -> Option<bool> {

@@ -2,18 +2,10 @@
 //! `spare` on.
 
 use crate::groups::{STEPS, commit, holds, numbered, texts};
+use crate::spared::spare;
 use kob_groups::{CommitFault, GROUP_LIMIT, Groups};
 use kob_names::Text;
 use std::alloc::Global;
-
-/// The size of the allocation by which `.ci/refuse` knows that all that come after it are to be
-/// refused.
-const CUE: usize = 7_654_321;
-
-/// No memory is taken from here on, and where `.ci/refuse` runs the test, none is given.
-pub(crate) fn spare(alloc: Global) -> bool {
-    Vec::<u8>::with_capacity(alloc, CUE).is_ok()
-}
 
 /// Commits what so many steps commit.
 fn commit_steps(alloc: Global, groups: &mut Groups, count: usize) -> Option<()> {
