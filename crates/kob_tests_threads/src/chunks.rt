@@ -1,29 +1,17 @@
 //! A journal that is longer than one chunk of its memory, which is 256 entries.
 
-use crate::making::{offset_of, shared};
-use crate::sessions::{create_topic, session, write};
+use crate::making::{CREATE, WRITE, offset_of, shared};
+use crate::sessions::{place_of, session};
 use kob_rights::{Body, Reply};
 use kob_shared::{Entry, Journal, Session, SharedBroker};
 use std::alloc::Global;
 use std::sync::Wait;
-use std::test::Fail;
 
 /// How often two workers write in turn, after the first of them has created the topic.
 const TURNS: usize = 150;
 
 /// An entry for each of these requests.
 const ENTRIES: usize = 301;
-
-/// Writes one record, and says whether its entry has this place.
-fn writes_at<R: Wait>(
-    rt: &R,
-    alloc: Global,
-    session: &mut Session<'_>,
-    place: usize,
-) -> Result<bool, Fail> {
-    let receipt = write(rt, alloc, session)?;
-    Ok(receipt.place == place)
-}
 
 /// Worker 1 creates the topic, and then workers 2 and 1 write in turn: whether they receive the
 /// places one after another.
@@ -32,22 +20,25 @@ fn take_turns<R: Wait>(
     alloc: Global,
     first: &mut Session<'_>,
     second: &mut Session<'_>,
-) -> Result<bool, Fail> {
-    create_topic(rt, alloc, first)?;
+) -> Option<bool> {
+    place_of(rt, alloc, first, CREATE)?;
     for turn in 0..TURNS {
-        let by_second = writes_at(rt, alloc, second, 2 * turn + 1)?;
-        let by_first = writes_at(rt, alloc, first, 2 * turn + 2)?;
-        if !(by_second && by_first) {
-            return Ok(false);
+        let by_second = place_of(rt, alloc, second, WRITE)?;
+        let by_first = place_of(rt, alloc, first, WRITE)?;
+        if by_second != 2 * turn + 1 || by_first != 2 * turn + 2 {
+            return Some(false);
         }
     }
-    Ok(true)
+    Some(true)
 }
 
-fn write_in_turn<R: Wait>(rt: &R, alloc: Global, shared: &SharedBroker) -> Result<bool, Fail> {
+fn write_in_turn<R: Wait>(rt: &R, alloc: Global, shared: &SharedBroker) -> Option<bool> {
     let mut first = session(alloc, shared, 1, "User:root")?;
     let mut second = session(alloc, shared, 2, "User:root")?;
-    take_turns(rt, alloc, &mut first, &mut second)
+    let told = take_turns(rt, alloc, &mut first, &mut second);
+    drop(first);
+    drop(second);
+    told
 }
 
 /// Whether the entry at a place is the one that was due there: the topic's creation, and then the
@@ -98,16 +89,14 @@ fn ends_whole(shared: SharedBroker) -> bool {
 }
 
 /// Whether the writers receive the places that the journal has.
-fn keeps_turns<R: Wait>(rt: &R, alloc: Global) -> Result<bool, Fail> {
+fn keeps_turns<R: Wait>(rt: &R, alloc: Global) -> Option<bool> {
     let shared = shared(alloc, Vec::new(alloc), ENTRIES)?;
     let told = write_in_turn(rt, alloc, &shared);
     let whole = ends_whole(shared);
-    Ok(told? && whole)
+    Some(told? && whole)
 }
 
 #[test]
-fn journal_crosses_chunks(rt: HostRuntime) -> Result<(), Fail> {
-    let holds = keeps_turns(&rt, rt.alloc())?;
-    assert!(rt; holds);
-    Ok(())
+fn journal_crosses_chunks(rt: HostRuntime) {
+    assert!(rt; keeps_turns(&rt, rt.alloc()) == Some(true));
 }

@@ -3,13 +3,12 @@
 ghost use Rattle.std.specs.Prelude.{◌≤◌};
 
 use crate::gates::{Meeting, Open};
-use crate::making::{broker, metadata_times, offset_of, produce_times, script, topic_created};
+use crate::making::{CREATE, METADATA, WRITE, broker, events_of, offset_of, scripts_of};
 use kob_names::Binding;
 use kob_rights::Event;
 use kob_shared::{FleetEnd, FleetFault, Gate, Script, Transcript, run_scripts};
 use std::alloc::Global;
 use std::sync::Wait;
-use std::test::Fail;
 use std::thread::Threads;
 
 /// What the scripts come to on a new broker with these bindings, after the first events.
@@ -20,13 +19,13 @@ pub(crate) fn ended<R: Threads + Wait + Sync, G: Gate + Sync>(
     scripts: Vec<Script>,
     gate: &G,
     alloc: Global,
-) -> Result<Result<FleetEnd, FleetFault>, Fail> {
+) -> Option<Result<FleetEnd, FleetFault>> {
     match broker(alloc, opening) {
-        Ok(broker) => Ok(run_scripts(rt, alloc, broker, first, scripts, gate)),
-        Err(fail) => {
+        Some(broker) => Some(run_scripts(rt, alloc, broker, first, scripts, gate)),
+        None => {
             drop(first);
             drop(scripts);
-            Err(fail)
+            None
         }
     }
 }
@@ -39,38 +38,8 @@ pub(crate) fn run<R: Threads + Wait + Sync, G: Gate + Sync>(
     scripts: Vec<Script>,
     gate: &G,
     alloc: Global,
-) -> Result<FleetEnd, Fail> {
-    let end = ended(rt, opening, first, scripts, gate, alloc)?;
-    Ok(end.ok().ok_or("the fleet ran to its end")?)
-}
-
-/// A script of `User:root` of so many METADATA requests.
-fn metadata_script(alloc: Global, requests: usize) -> Result<Script, Fail> {
-    script(alloc, "User:root", metadata_times(alloc, requests)?)
-}
-
-/// So many scripts of `User:root`, each of so many METADATA requests.
-pub(crate) fn scripts_of(
-    alloc: Global,
-    workers: usize,
-    requests: usize,
-) -> Result<Vec<Script>, Fail> {
-    let mut scripts = Vec::new(alloc);
-    for _ in 0..workers {
-        scripts.push(metadata_script(alloc, requests)?)?;
-    }
-    Ok(scripts)
-}
-
-/// So many workers, each of whom is held at its second request until all have come to theirs.
-fn meet<R: Threads + Wait + Sync>(
-    rt: &R,
-    alloc: Global,
-    workers: usize,
-    gate: &Meeting,
-) -> Result<FleetEnd, Fail> {
-    let scripts = scripts_of(alloc, workers, 2)?;
-    run(rt, Vec::new(alloc), Vec::new(alloc), scripts, gate, alloc)
+) -> Option<FleetEnd> {
+    ended(rt, opening, first, scripts, gate, alloc)?.ok()
 }
 
 /// Whether each of so many workers received two replies, and nothing else happened.
@@ -85,46 +54,39 @@ pub(crate) fn tells_two_each(end: &FleetEnd, workers: usize) -> bool
     end.journal.len() == 2 * workers && end.transcripts.len() == workers + 1
 }
 
-/// Whether so many workers are served, two requests each.
+/// Whether so many workers, each of whom is held at its second request until all have come to
+/// theirs, are served, two requests each.
 fn serves_two_each<R: Threads + Wait + Sync>(
     rt: &R,
     alloc: Global,
     workers: usize,
     gate: &Meeting,
-) -> Result<bool, Fail>
+) -> Option<bool>
     requires { workers ≤ 64 }
 {
-    let end = meet(rt, alloc, workers, gate)?;
+    let scripts = scripts_of(alloc, METADATA, workers, 2)?;
+    let end = run(rt, Vec::new(alloc), Vec::new(alloc), scripts, gate, alloc)?;
     let told = tells_two_each(&end, workers);
     drop(end);
-    Ok(told)
+    Some(told)
 }
 
 /// Whether so many workers meet, and all are served.
-fn serves_at_once<R: Threads + Wait + Sync>(
-    rt: &R,
-    alloc: Global,
-    workers: usize,
-) -> Result<bool, Fail>
+fn serves_at_once<R: Threads + Wait + Sync>(rt: &R, alloc: Global, workers: usize) -> bool
     requires { workers ≤ 64 }
 {
     let gate = Meeting::of(workers as u64);
-    let served = serves_two_each(rt, alloc, workers, &gate)?;
-    Ok(served && gate.all_came())
+    serves_two_each(rt, alloc, workers, &gate) == Some(true) && gate.all_came()
 }
 
 #[test]
-fn two_workers_at_once(rt: HostRuntime) -> Result<(), Fail> {
-    let holds = serves_at_once(&rt, rt.alloc(), 2)?;
-    assert!(rt; holds);
-    Ok(())
+fn two_workers_at_once(rt: HostRuntime) {
+    assert!(rt; serves_at_once(&rt, rt.alloc(), 2));
 }
 
 #[test]
-fn sixty_four_workers(rt: HostRuntime) -> Result<(), Fail> {
-    let holds = serves_at_once(&rt, rt.alloc(), 64)?;
-    assert!(rt; holds);
-    Ok(())
+fn sixty_four_workers(rt: HostRuntime) {
+    assert!(rt; serves_at_once(&rt, rt.alloc(), 64));
 }
 
 /// Notes that an offset was received, and says whether it was not before.
@@ -171,54 +133,23 @@ fn tells_all_once(end: &FleetEnd) -> bool {
     all_true(&seen)
 }
 
-/// A script of `User:root` of a hundred PRODUCE requests.
-fn hundred_produces(alloc: Global) -> Result<Script, Fail> {
-    script(alloc, "User:root", produce_times(alloc, 100)?)
-}
-
-fn two_scripts(alloc: Global) -> Result<Vec<Script>, Fail> {
-    let mut scripts = Vec::new(alloc);
-    for _ in 0..2 {
-        scripts.push(hundred_produces(alloc)?)?;
-    }
-    Ok(scripts)
-}
-
-/// Two workers who write a hundred records each to one partition.
-fn two_writers<R: Threads + Wait + Sync>(
-    rt: &R,
-    alloc: Global,
-    gate: &Open,
-) -> Result<FleetEnd, Fail> {
-    let first = topic_created(alloc)?;
-    let scripts = two_scripts(alloc)?;
-    run(rt, Vec::new(alloc), first, scripts, gate, alloc)
-}
-
-/// Whether the writers receive each offset once, and nothing else happens.
-fn serves_writers<R: Threads + Wait + Sync>(
-    rt: &R,
-    alloc: Global,
-    gate: &Open,
-) -> Result<bool, Fail> {
-    let end = two_writers(rt, alloc, gate)?;
+/// Whether two workers who write a hundred records each to one partition receive each offset once,
+/// and nothing else happens.
+fn serves_writers<R: Threads + Wait + Sync>(rt: &R, alloc: Global, gate: &Open) -> Option<bool> {
+    let first = events_of(alloc, CREATE)?;
+    let scripts = scripts_of(alloc, WRITE, 2, 100)?;
+    let end = run(rt, Vec::new(alloc), first, scripts, gate, alloc)?;
     let told = end.journal.len() == 201 && tells_all_once(&end);
     drop(end);
-    Ok(told)
+    Some(told)
 }
 
-/// Whether the gate is called before each request and after each worker's last, and all are served.
-fn serves_both<R: Threads + Wait + Sync>(rt: &R, alloc: Global) -> Result<bool, Fail> {
-    let gate = Open::new();
-    let served = serves_writers(rt, alloc, &gate)?;
-    Ok(served && gate.calls() == 202)
-}
-
+/// The gate is called before each request and after each worker's last.
 #[test]
-fn two_hundred_produces(rt: HostRuntime) -> Result<(), Fail> {
-    let holds = serves_both(&rt, rt.alloc())?;
-    assert!(rt; holds);
-    Ok(())
+fn two_hundred_produces(rt: HostRuntime) {
+    let gate = Open::new();
+    assert!(rt; serves_writers(&rt, rt.alloc(), &gate) == Some(true));
+    assert!(rt; gate.calls() == 202);
 }
 
 /// Which count a fleet was refused for.
@@ -243,26 +174,21 @@ fn refusal_to<R: Threads + Wait + Sync>(
     alloc: Global,
     (workers, requests): (usize, usize),
     gate: &Open,
-) -> Result<Refusal, Fail> {
-    let scripts = scripts_of(alloc, workers, requests)?;
+) -> Option<Refusal> {
+    let scripts = scripts_of(alloc, METADATA, workers, requests)?;
     let ended = ended(rt, Vec::new(alloc), Vec::new(alloc), scripts, gate, alloc)?;
     let refusal = refusal_in(&ended);
     drop(ended);
-    Ok(refusal)
+    Some(refusal)
 }
 
-/// Whether 65 workers are refused, and a script longer than a journal, before any gate is called.
-fn refuses_both<R: Threads + Wait + Sync>(rt: &R, alloc: Global) -> Result<bool, Fail> {
-    let gate = Open::new();
-    let many = refusal_to(rt, alloc, (65, 1), &gate)?;
-    let long = refusal_to(rt, alloc, (1, 1_000_001), &gate)?;
-    let refused = matches!(many, Refusal::Workers) && matches!(long, Refusal::Entries);
-    Ok(refused && gate.calls() == 0)
-}
-
+/// 65 workers are refused, and a script longer than a journal, before any gate is called.
 #[test]
-fn too_many_workers_or_entries(rt: HostRuntime) -> Result<(), Fail> {
-    let holds = refuses_both(&rt, rt.alloc())?;
-    assert!(rt; holds);
-    Ok(())
+fn too_many_workers_or_entries(rt: HostRuntime) {
+    let gate = Open::new();
+    let many = refusal_to(&rt, rt.alloc(), (65, 1), &gate);
+    assert!(rt; matches!(many, Some(Refusal::Workers)));
+    let long = refusal_to(&rt, rt.alloc(), (1, 1_000_001), &gate);
+    assert!(rt; matches!(long, Some(Refusal::Entries)));
+    assert!(rt; gate.calls() == 0);
 }

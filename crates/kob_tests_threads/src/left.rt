@@ -2,12 +2,13 @@
 
 ghost use Rattle.kob_pipeline.specs.Pipelines.{IsPipeline};
 
-use crate::plans::{FIRST_EVENTS, ORDERS};
+use crate::making::event_of;
+use crate::plans::FIRST_EVENTS;
 use kob_broker::Broker;
 use kob_inbox::InboxRow;
-use kob_names::{Host, Principal, Record, Text, Verdict};
+use kob_names::{Record, Verdict};
 use kob_pipeline::{PipelineEnd, Plan, consumer_law, pipeline_law, router_law};
-use kob_rights::{Body, Code, Event, Fetch, OffsetFetch, Reply, Request};
+use kob_rights::{Body, Code, Reply};
 use kob_router::event_id;
 use std::alloc::Global;
 use uuid::Uuid;
@@ -68,28 +69,12 @@ fn have_ids(end: &PipelineEnd, ids: &[u128]) -> bool {
     true
 }
 
-/// What `User:root` is answered.
-fn answer(alloc: Global, broker: &mut Broker, request: Request) -> Option<Reply> {
-    let principal = Principal::parse(alloc, "User:root").ok()?;
-    let host = Host::parse(alloc, "h").ok()?;
-    let event = Event {
-        principal,
-        host,
-        request,
-    };
+/// What the event of a script's line is answered.
+fn answer(alloc: Global, broker: &mut Broker, line: &str) -> Option<Reply> {
+    let event = event_of(alloc, line)?;
     let reply = broker.serve(alloc, &event).ok();
     drop(event);
     reply
-}
-
-/// What the group `g` has committed on the topic.
-fn commit(alloc: Global, broker: &mut Broker) -> Option<Reply> {
-    let request = Request::OffsetFetch(OffsetFetch {
-        group: Text::copied(alloc, "g").ok()?,
-        topic: Text::copied(alloc, ORDERS).ok()?,
-        partition: 0,
-    });
-    answer(alloc, broker, request)
 }
 
 fn is_commit(reply: &Option<Reply>, due: Option<u64>) -> bool {
@@ -99,22 +84,13 @@ fn is_commit(reply: &Option<Reply>, due: Option<u64>) -> bool {
     }
 }
 
+/// Whether the group `g` has committed this on the topic.
 fn is_committed(alloc: Global, broker: &mut Broker, due: Option<u64>) -> bool {
-    let reply = commit(alloc, broker);
+    let line = "User:root h committed g outbox.event.orders 0";
+    let reply = answer(alloc, broker, line);
     let is_due = is_commit(&reply, due);
     drop(reply);
     is_due
-}
-
-/// What the topic holds.
-fn records(alloc: Global, broker: &mut Broker) -> Option<Reply> {
-    let request = Request::Fetch(Fetch {
-        topic: Text::copied(alloc, ORDERS).ok()?,
-        partition: 0,
-        offset: 0,
-        max: 100,
-    });
-    answer(alloc, broker, request)
 }
 
 fn are_of(found: &[(u64, Record)], ids: &[u128]) -> bool {
@@ -138,7 +114,8 @@ fn are_told(reply: &Option<Reply>, ids: &[u128]) -> bool {
 
 /// Whether the topic holds records of these ids, in order.
 pub(crate) fn are_records(alloc: Global, broker: &mut Broker, ids: &[u128]) -> bool {
-    let reply = records(alloc, broker);
+    let line = "User:root h fetch outbox.event.orders 0 0 100";
+    let reply = answer(alloc, broker, line);
     let are_told = are_told(&reply, ids);
     drop(reply);
     are_told

@@ -1,17 +1,101 @@
 //! Brokers, requests and scripts that the tests share.
 
-ghost use Rattle.std.specs.Prelude.{IfOk, ◌≤◌};
+ghost use Rattle.std.specs.Prelude.{IfOk, IfSome, ◌≤◌};
 ghost use Rattle.kob_shared.specs.Openings.{IsFresh};
 
 use kob_broker::{Broker, OpenFault, Settings};
 use kob_names::{
-    Batch, Binding, BindingFilter, Bytes, Draft, FilterPattern, Host, Items, Operation, Pattern,
-    PatternKind, Permission, Principal, Record, ResourceKind, Text,
+    Binding, Draft, Host, Items, Operation, Pattern, PatternKind, Permission, PlainValue,
+    Principal, ResourceKind, Text,
 };
-use kob_rights::{Body, CreateTopics, DeleteAcls, Event, Metadata, Produce, Reply, Request};
+use kob_rights::{Body, Event, Reply, Request};
+use kob_script::read_script;
 use kob_shared::{Recorded, Script, SharedBroker};
-use std::alloc::{AllocError, Global};
-use std::test::Fail;
+use std::alloc::Global;
+
+/// The topic `t` with one partition is created.
+pub(crate) const CREATE: &str = "User:root h create-topic t 1";
+
+/// One record is written to it.
+pub(crate) const WRITE: &str = "User:root h produce t 0 - v";
+
+/// The same by `User:svc`.
+pub(crate) const SERVICE_WRITE: &str = "User:svc h produce t 0 - v";
+
+/// What lets `User:svc` write is taken away.
+pub(crate) const REVOKE: &str = "User:root h delete-acls - - any User:svc - Write -";
+
+/// All topics are asked for.
+pub(crate) const METADATA: &str = "User:root h metadata";
+
+/// The events of a script.
+pub(crate) fn events_of(alloc: Global, lines: &str) -> Option<Vec<Event>> {
+    let script = read_script(alloc, lines.as_bytes()).ok()?;
+    drop(script.settings);
+    Some(script.events.into_vec())
+}
+
+/// The one event of a script's line.
+pub(crate) fn event_of(alloc: Global, line: &str) -> Option<Event> {
+    events_of(alloc, line)?.pop()
+}
+
+/// The request of a script's line.
+pub(crate) fn request_of(alloc: Global, line: &str) -> Option<Request> {
+    let event = event_of(alloc, line)?;
+    drop(event.principal);
+    drop(event.host);
+    Some(event.request)
+}
+
+fn put_times(
+    alloc: Global,
+    requests: &mut Vec<Request>,
+    request: &Request,
+    times: usize,
+) -> Option<()> {
+    for _ in 0..times {
+        let copy = request.copy(alloc).ok()?;
+        requests.push(copy).ok()?;
+    }
+    Some(())
+}
+
+/// The request of a line so many times, of whom the line names.
+pub(crate) fn script(alloc: Global, line: &str, times: usize) -> Option<Script> {
+    let Event {
+        principal,
+        host,
+        request,
+    } = event_of(alloc, line)?;
+    let mut script = Script {
+        principal,
+        host,
+        requests: Vec::new(alloc),
+    };
+    let put = put_times(alloc, &mut script.requests, &request, times);
+    drop(request);
+    if put.is_none() {
+        drop(script);
+        return None;
+    }
+    Some(script)
+}
+
+/// So many such scripts.
+pub(crate) fn scripts_of(
+    alloc: Global,
+    line: &str,
+    workers: usize,
+    times: usize,
+) -> Option<Vec<Script>> {
+    let mut scripts = Vec::new(alloc);
+    for _ in 0..workers {
+        let script = script(alloc, line, times)?;
+        scripts.push(script).ok()?;
+    }
+    Some(scripts)
+}
 
 /// A broker that is just opened.
 fn opened(alloc: Global, settings: Settings) -> Result<Broker, OpenFault>
@@ -21,170 +105,70 @@ fn opened(alloc: Global, settings: Settings) -> Result<Broker, OpenFault>
 }
 
 /// A broker whose one super user is `User:root`, with these bindings in force.
-pub(crate) fn broker(alloc: Global, opening: Vec<Binding>) -> Result<Broker, Fail>
-    ensures { IfOk result IsFresh }
+pub(crate) fn broker(alloc: Global, opening: Vec<Binding>) -> Option<Broker>
+    ensures { IfSome result IsFresh }
 {
-    let mut supers = Vec::new(alloc);
-    supers.push(Principal::parse(alloc, "User:root")?)?;
-    let settings = Settings {
-        supers: Items::from_vec(supers),
-        opening: Items::from_vec(opening),
-        everyone: false,
+    let Ok(script) = read_script(alloc, b"super User:root") else {
+        drop(opening);
+        return None;
     };
-    Ok(opened(alloc, settings)?)
+    drop(script.events);
+    let mut settings = script.settings;
+    settings.opening = Items::from_vec(opening);
+    opened(alloc, settings).ok()
 }
 
 /// Such a broker with a journal of at most so many entries.
-pub(crate) fn recorded(alloc: Global, opening: Vec<Binding>, limit: usize) -> Result<Recorded, Fail>
+pub(crate) fn recorded(alloc: Global, opening: Vec<Binding>, limit: usize) -> Option<Recorded>
     requires { limit ≤ 1000000 }
 {
     let broker = broker(alloc, opening)?;
-    Ok(Recorded::open(alloc, broker, limit).ok().ok_or("memory")?)
+    Recorded::open(alloc, broker, limit).ok()
 }
 
 /// Such a broker and journal under a lock.
-pub(crate) fn shared(
-    alloc: Global,
-    opening: Vec<Binding>,
-    limit: usize,
-) -> Result<SharedBroker, Fail>
+pub(crate) fn shared(alloc: Global, opening: Vec<Binding>, limit: usize) -> Option<SharedBroker>
     requires { limit ≤ 1000000 }
 {
     let recorded = recorded(alloc, opening, limit)?;
-    Ok(SharedBroker::open(recorded))
+    Some(SharedBroker::open(recorded))
 }
 
-fn write_draft(alloc: Global) -> Result<Draft, Fail> {
-    Ok(Draft {
+/// A principal and a host.
+pub(crate) fn asker(alloc: Global, who: &str, host: &str) -> Option<(Principal, Host)> {
+    let principal = Principal::parse(alloc, who).ok()?;
+    Some((principal, Host::parse(alloc, host).ok()?))
+}
+
+fn write_draft(alloc: Global) -> Option<Draft> {
+    let name = Text::copied(alloc, "t").ok()?;
+    let (principal, host) = asker(alloc, "User:svc", "*")?;
+    Some(Draft {
         permission: Permission::Allow,
-        principal: Principal::parse(alloc, "User:svc")?,
-        host: Host::parse(alloc, "*")?,
+        principal,
+        host,
         operation: Operation::Write,
         resource: ResourceKind::Topic,
         pattern: Pattern {
             kind: PatternKind::Literal,
-            name: Text::copied(alloc, "t")?,
+            name,
         },
     })
 }
 
-fn write_binding(alloc: Global) -> Result<Binding, Fail> {
+fn write_binding(alloc: Global) -> Option<Binding> {
     let draft = write_draft(alloc)?;
-    Ok(Binding::new(alloc, &draft)?)
+    let binding = Binding::new(alloc, &draft).ok();
+    drop(draft);
+    binding
 }
 
 /// Allows `User:svc` to write to the topic `t`, from every host.
-pub(crate) fn write_allowed(alloc: Global) -> Result<Vec<Binding>, Fail> {
+pub(crate) fn write_allowed(alloc: Global) -> Option<Vec<Binding>> {
+    let binding = write_binding(alloc)?;
     let mut bindings = Vec::new(alloc);
-    bindings.push(write_binding(alloc)?)?;
-    Ok(bindings)
-}
-
-/// DELETE_ACLS of what lets `User:svc` write.
-pub(crate) fn revocation(alloc: Global) -> Result<Request, Fail> {
-    let filter = BindingFilter {
-        resource: None,
-        name: None,
-        pattern: FilterPattern::Any,
-        principal: Some(Principal::parse(alloc, "User:svc")?),
-        host: None,
-        operation: Some(Operation::Write),
-        permission: None,
-    };
-    Ok(Request::DeleteAcls(DeleteAcls { filter }))
-}
-
-/// CREATE_TOPICS of `t` with one partition.
-pub(crate) fn creation(alloc: Global) -> Result<Request, AllocError> {
-    Ok(Request::CreateTopics(CreateTopics {
-        name: Text::copied(alloc, "t")?,
-        partitions: 1,
-    }))
-}
-
-/// A batch of one empty record.
-fn batch(alloc: Global) -> Result<Batch, AllocError> {
-    let mut records = Vec::new(alloc);
-    records.push(Record {
-        key: None,
-        value: Bytes::from_vec(Vec::new(alloc)),
-        headers: Items::from_vec(Vec::new(alloc)),
-    })?;
-    Ok(Batch {
-        idem: None,
-        records: Items::from_vec(records),
-    })
-}
-
-/// PRODUCE of one empty record to `t`.
-pub(crate) fn produce(alloc: Global) -> Result<Request, AllocError> {
-    Ok(Request::Produce(Produce {
-        topic: Text::copied(alloc, "t")?,
-        partition: 0,
-        batch: batch(alloc)?,
-    }))
-}
-
-/// METADATA of all topics.
-pub(crate) fn metadata() -> Request {
-    Request::Metadata(Metadata { topic: None })
-}
-
-/// A principal, and the host `h`.
-pub(crate) fn at_host(alloc: Global, who: &str) -> Result<(Principal, Host), Fail> {
-    let principal = Principal::parse(alloc, who)?;
-    let host = Host::parse(alloc, "h")?;
-    Ok((principal, host))
-}
-
-/// An event of a principal at the host `h`.
-pub(crate) fn event(alloc: Global, who: &str, request: Request) -> Result<Event, Fail> {
-    match at_host(alloc, who) {
-        Ok((principal, host)) => Ok(Event {
-            principal,
-            host,
-            request,
-        }),
-        Err(fail) => {
-            drop(request);
-            Err(fail)
-        }
-    }
-}
-
-/// `User:root` creates the topic `t`.
-pub(crate) fn topic_created(alloc: Global) -> Result<Vec<Event>, Fail> {
-    let mut first = Vec::new(alloc);
-    first.push(event(alloc, "User:root", creation(alloc)?)?)?;
-    Ok(first)
-}
-
-/// The requests of a principal at the host `h`.
-pub(crate) fn script(alloc: Global, who: &str, requests: Vec<Request>) -> Result<Script, Fail> {
-    let (principal, host) = at_host(alloc, who)?;
-    Ok(Script {
-        principal,
-        host,
-        requests,
-    })
-}
-
-/// So many METADATA requests.
-pub(crate) fn metadata_times(alloc: Global, count: usize) -> Result<Vec<Request>, AllocError> {
-    let mut requests = Vec::new(alloc);
-    for _ in 0..count {
-        requests.push(metadata())?;
-    }
-    Ok(requests)
-}
-
-/// So many PRODUCE requests of one record each.
-pub(crate) fn produce_times(alloc: Global, count: usize) -> Result<Vec<Request>, AllocError> {
-    let mut requests = Vec::new(alloc);
-    for _ in 0..count {
-        requests.push(produce(alloc)?)?;
-    }
-    Ok(requests)
+    bindings.push(binding).ok()?;
+    Some(bindings)
 }
 
 /// The offset that was answered.

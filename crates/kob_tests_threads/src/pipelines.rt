@@ -10,7 +10,6 @@ use kob_pipeline::{ConsumerStep, Loss, PipelineEnd, PipelineFault, Plan, pipelin
 use kob_shared::Gate;
 use std::alloc::Global;
 use std::sync::Wait;
-use std::test::Fail;
 use std::thread::Threads;
 
 pub(crate) const TICK: Act = Act::Tick(Loss::None);
@@ -77,12 +76,12 @@ fn is_played<R: Threads + Wait + Sync>(
     cast: Cast<'_>,
     holds: &[Hold],
     due: Due<'_>,
-) -> Result<bool, Fail> {
+) -> Option<bool> {
     let plan = plan(alloc, cast)?;
     let gate = Holding::at(holds);
     let is_left = is_left(rt, alloc, &plan, &gate, due);
     drop(plan);
-    Ok(is_left)
+    Some(is_left)
 }
 
 /// Worker 2 begins once the service has come to this number.
@@ -99,7 +98,7 @@ fn after(comes_to: u64) -> Hold {
 pub(crate) const TWO: [Act; 4] = [Act::Note(0xA), TICK, Act::Note(0xB), TICK];
 
 #[test]
-fn pipeline_two_events(rt: HostRuntime) -> Result<(), Fail> {
+fn pipeline_two_events(rt: HostRuntime) {
     let cast = Cast {
         service: &TWO,
         groups: &["g"],
@@ -114,12 +113,11 @@ fn pipeline_two_events(rt: HostRuntime) -> Result<(), Fail> {
         commit: Some(2),
         denied: false,
     };
-    assert!(rt; is_played(&rt, rt.alloc(), cast, &[after(4)], due)?);
-    Ok(())
+    assert!(rt; is_played(&rt, rt.alloc(), cast, &[after(4)], due) == Some(true));
 }
 
 #[test]
-fn two_consumers(rt: HostRuntime) -> Result<(), Fail> {
+fn two_consumers(rt: HostRuntime) {
     let cast = Cast {
         service: &TWO,
         groups: &["g", "g2"],
@@ -140,8 +138,7 @@ fn two_consumers(rt: HostRuntime) -> Result<(), Fail> {
         commit: Some(2),
         denied: false,
     };
-    assert!(rt; is_played(&rt, rt.alloc(), cast, &[after(4), third], due)?);
-    Ok(())
+    assert!(rt; is_played(&rt, rt.alloc(), cast, &[after(4), third], due) == Some(true));
 }
 
 /// Whether a service that takes these steps before the consumer begins, as its calls come to this
@@ -152,7 +149,7 @@ fn leaves<R: Threads + Wait + Sync>(
     service: &[Act],
     comes_to: u64,
     due: Due<'_>,
-) -> Result<bool, Fail> {
+) -> Option<bool> {
     let cast = Cast {
         service,
         groups: &["g"],
@@ -165,7 +162,7 @@ fn leaves<R: Threads + Wait + Sync>(
 /// The broker has the second batch already. It is sent again under a new producer id, and so gets a
 /// second offset; the consumer passes the repeat over.
 #[test]
-fn reply_lost_then_restart(rt: HostRuntime) -> Result<(), Fail> {
+fn reply_lost_then_restart(rt: HostRuntime) {
     let due = Due {
         calls: 8,
         topic: &[0xA, 0xB, 0xB],
@@ -183,13 +180,12 @@ fn reply_lost_then_restart(rt: HostRuntime) -> Result<(), Fail> {
         TICK,
         TICK,
     ];
-    assert!(rt; leaves(&rt, rt.alloc(), &service, 6, due)?);
-    Ok(())
+    assert!(rt; leaves(&rt, rt.alloc(), &service, 6, due) == Some(true));
 }
 
 /// The broker never got the second batch, and gets it with the next tick.
 #[test]
-fn request_lost(rt: HostRuntime) -> Result<(), Fail> {
+fn request_lost(rt: HostRuntime) {
     let due = Due {
         calls: 6,
         topic: &[0xA, 0xB],
@@ -206,14 +202,13 @@ fn request_lost(rt: HostRuntime) -> Result<(), Fail> {
         TICK,
         TICK,
     ];
-    assert!(rt; leaves(&rt, rt.alloc(), &service, 5, due)?);
-    Ok(())
+    assert!(rt; leaves(&rt, rt.alloc(), &service, 5, due) == Some(true));
 }
 
 /// An id that was recorded before and a text that is too long are not recorded; a row that no topic
 /// is for stops the router at each tick. None of them ends the pipeline.
 #[test]
-fn refused_records_and_bad_topics_are_passed_over(rt: HostRuntime) -> Result<(), Fail> {
+fn refused_records_and_bad_topics_are_passed_over(rt: HostRuntime) {
     let due = Due {
         calls: 6,
         topic: &[0xA, 0xB],
@@ -233,13 +228,12 @@ fn refused_records_and_bad_topics_are_passed_over(rt: HostRuntime) -> Result<(),
         TICK,
         TICK,
     ];
-    assert!(rt; leaves(&rt, rt.alloc(), &service, 4, due)?);
-    Ok(())
+    assert!(rt; leaves(&rt, rt.alloc(), &service, 4, due) == Some(true));
 }
 
 /// The right to the group goes between the FETCH and the OFFSET_COMMIT.
 #[test]
-fn revoked_while_consuming(rt: HostRuntime) -> Result<(), Fail> {
+fn revoked_while_consuming(rt: HostRuntime) {
     let cast = Cast {
         service: &TWO,
         groups: &["g"],
@@ -266,8 +260,9 @@ fn revoked_while_consuming(rt: HostRuntime) -> Result<(), Fail> {
         commit: None,
         denied: true,
     };
-    assert!(rt; is_played(&rt, rt.alloc(), cast, &[after(4), revoker, consumer], due)?);
-    Ok(())
+    assert!(rt;
+        is_played(&rt, rt.alloc(), cast, &[after(4), revoker, consumer], due) == Some(true)
+    );
 }
 
 /// How a plan of 500,000 sweeps and so many consumers is refused: 1 for want of room in the
@@ -277,7 +272,7 @@ fn refusal<R: Threads + Wait + Sync>(
     alloc: Global,
     consumers: usize,
     gate: &Open,
-) -> Result<u8, Fail> {
+) -> Option<u8> {
     let plan = sweeping(alloc, consumers)?;
     let ran = run(rt, alloc, &plan, gate);
     drop(plan);
@@ -287,14 +282,13 @@ fn refusal<R: Threads + Wait + Sync>(
         _ => 0,
     };
     drop(ran);
-    Ok(refusal)
+    Some(refusal)
 }
 
 #[test]
-fn too_many_steps(rt: HostRuntime) -> Result<(), Fail> {
+fn too_many_steps(rt: HostRuntime) {
     let gate = Open::new();
-    assert_eq!(rt; refusal(&rt, rt.alloc(), 0, &gate)?, 1);
-    assert_eq!(rt; refusal(&rt, rt.alloc(), 64, &gate)?, 2);
-    assert_eq!(rt; gate.calls(), 0);
-    Ok(())
+    assert!(rt; refusal(&rt, rt.alloc(), 0, &gate) == Some(1));
+    assert!(rt; refusal(&rt, rt.alloc(), 64, &gate) == Some(2));
+    assert!(rt; gate.calls() == 0);
 }

@@ -1,20 +1,17 @@
 //! Plans of pipelines that the tests share.
 
-use crate::making::{at_host, script};
+use crate::making::{asker, script};
 use kob_inbox::Subscription;
-use kob_names::{BindingFilter, FilterPattern, Items, Operation, Principal, ResourceKind, Text};
+use kob_names::{Items, Text};
 use kob_outbox::{Change, OutboxEvent};
 use kob_pipeline::{ConsumerPlan, ConsumerStep, Loss, Plan, Service, ServiceStep};
-use kob_rights::{DeleteAcls, Request};
 use kob_router::{Place, Route, RouteSettings, Target};
 use kob_script::read_script;
-use kob_shared::Script;
 use std::alloc::{AllocError, Global};
-use std::test::Fail;
 use uuid::Uuid;
 
 /// The topic of a service's events, which are about orders.
-pub(crate) const ORDERS: &str = "outbox.event.orders";
+const ORDERS: &str = "outbox.event.orders";
 
 /// The settings and the first events of a plan: the topic is created, and the service and the
 /// groups `g` and `g2` get their rights.
@@ -30,6 +27,9 @@ User:root h create-acl allow User:con * Read Group literal g2
 /// How many these events are.
 pub(crate) const FIRST_EVENTS: usize = 6;
 
+/// What lets `User:con` read the group `g` is taken away.
+const REVOKE: &str = "User:root h delete-acls Group g any User:con - Read -";
+
 /// What a service is to do.
 #[derive(Clone, Copy)]
 pub(crate) enum Act {
@@ -41,6 +41,7 @@ pub(crate) enum Act {
     TooLong(u128),
     Tick(Loss),
     Restart,
+    Sweep,
 }
 
 /// An event about the thing `42` of a kind.
@@ -70,100 +71,68 @@ fn step(alloc: Global, act: Act) -> Result<ServiceStep, AllocError> {
         Act::TooLong(id) => recording(alloc, "a".repeat(alloc, 256)?.as_str(), id),
         Act::Tick(loss) => Ok(ServiceStep::Tick(loss)),
         Act::Restart => Ok(ServiceStep::Restart),
+        Act::Sweep => Ok(ServiceStep::Sweep),
     }
 }
 
-fn steps(alloc: Global, acts: &[Act]) -> Result<Vec<ServiceStep>, AllocError> {
-    let mut steps = Vec::new(alloc);
+fn push_steps(alloc: Global, steps: &mut Vec<ServiceStep>, acts: &[Act]) -> Option<()> {
     for act in acts {
-        steps.push(step(alloc, *act)?)?;
+        let step = step(alloc, *act).ok()?;
+        steps.push(step).ok()?;
     }
-    Ok(steps)
+    Some(())
 }
 
-fn service(alloc: Global, steps: Vec<ServiceStep>) -> Result<Service, Fail> {
-    let (principal, host) = at_host(alloc, "User:svc")?;
-    let route = Route::new(alloc, &RouteSettings::by_default(alloc)?)?;
-    Ok(Service {
-        principal,
-        host,
-        target: Target {
-            route,
-            partitions: 1,
-        },
-        steps,
+fn target(alloc: Global) -> Option<Target> {
+    let settings = RouteSettings::by_default(alloc).ok()?;
+    let route = Route::new(alloc, &settings);
+    drop(settings);
+    Some(Target {
+        route: route.ok()?,
+        partitions: 1,
     })
 }
 
-fn services(alloc: Global, steps: Vec<ServiceStep>) -> Result<Vec<Service>, Fail> {
-    let mut services = Vec::new(alloc);
-    services.push(service(alloc, steps)?)?;
-    Ok(services)
+fn push_service(alloc: Global, services: &mut Vec<Service>, acts: &[Act]) -> Option<()> {
+    let (principal, host) = asker(alloc, "User:svc", "h")?;
+    let target = target(alloc)?;
+    let mut service = Service {
+        principal,
+        host,
+        target,
+        steps: Vec::new(alloc),
+    };
+    if push_steps(alloc, &mut service.steps, acts).is_none() {
+        drop(service);
+        return None;
+    }
+    services.push(service).ok()
 }
 
 /// How a group reads the topic's one partition.
 fn subscription(alloc: Global, group: &str) -> Result<Subscription, AllocError> {
+    let group = Text::copied(alloc, group)?;
     let mut assignment = Vec::new(alloc);
     assignment.push(Place {
         topic: Text::copied(alloc, ORDERS)?,
         partition: 0,
     })?;
     Ok(Subscription {
-        group: Text::copied(alloc, group)?,
+        group,
         assignment: Items::from_vec(assignment),
         max: 10,
     })
 }
 
-fn consumer(alloc: Global, group: &str, steps: &[ConsumerStep]) -> Result<ConsumerPlan, Fail> {
-    let (principal, host) = at_host(alloc, "User:con")?;
-    Ok(ConsumerPlan {
+fn consumer(alloc: Global, group: &str, steps: &[ConsumerStep]) -> Option<ConsumerPlan> {
+    let steps = Vec::from_slice(alloc, steps).ok()?;
+    let (principal, host) = asker(alloc, "User:con", "h")?;
+    Some(ConsumerPlan {
         principal,
         host,
-        subscription: subscription(alloc, group)?,
-        steps: Vec::from_slice(alloc, steps)?,
+        subscription: subscription(alloc, group).ok()?,
+        steps,
     })
-}
-
-fn consumers(
-    alloc: Global,
-    groups: &[&str],
-    steps: &[ConsumerStep],
-) -> Result<Vec<ConsumerPlan>, Fail> {
-    let mut consumers = Vec::new(alloc);
-    for group in groups {
-        consumers.push(consumer(alloc, group, steps)?)?;
-    }
-    Ok(consumers)
-}
-
-/// An administrator who takes the consumers' right to the group `g` away, if there is to be one.
-fn administrators(alloc: Global, revoked: bool) -> Result<Vec<Script>, Fail> {
-    let mut scripts = Vec::new(alloc);
-    if revoked {
-        scripts.push(revoker(alloc)?)?;
-    }
-    Ok(scripts)
-}
-
-fn revoker(alloc: Global) -> Result<Script, Fail> {
-    let mut requests = Vec::new(alloc);
-    requests.push(revocation(alloc)?)?;
-    script(alloc, "User:root", requests)
-}
-
-/// DELETE_ACLS of what lets `User:con` read the group `g`.
-fn revocation(alloc: Global) -> Result<Request, Fail> {
-    let filter = BindingFilter {
-        resource: Some(ResourceKind::Group),
-        name: Some(Text::copied(alloc, "g")?),
-        pattern: FilterPattern::Any,
-        principal: Some(Principal::parse(alloc, "User:con")?),
-        host: None,
-        operation: Some(Operation::Read),
-        permission: None,
-    };
-    Ok(Request::DeleteAcls(DeleteAcls { filter }))
 }
 
 /// A plan with one service and, for each group, one consumer.
@@ -176,42 +145,45 @@ pub(crate) struct Cast<'t> {
     pub(crate) revoked: bool,
 }
 
-/// The plan of a cast.
-pub(crate) fn plan(alloc: Global, cast: Cast<'_>) -> Result<Plan, Fail> {
-    let administrators = administrators(alloc, cast.revoked)?;
-    let consumers = consumers(alloc, cast.groups, cast.consumer)?;
-    planned(
-        alloc,
-        steps(alloc, cast.service)?,
-        consumers,
-        administrators,
-    )
+fn push_workers(alloc: Global, plan: &mut Plan, cast: Cast<'_>) -> Option<()> {
+    push_service(alloc, &mut plan.services, cast.service)?;
+    for group in cast.groups {
+        let consumer = consumer(alloc, group, cast.consumer)?;
+        plan.consumers.push(consumer).ok()?;
+    }
+    if cast.revoked {
+        let revoker = script(alloc, REVOKE, 1)?;
+        plan.administrators.push(revoker).ok()?;
+    }
+    Some(())
 }
 
-fn planned(
-    alloc: Global,
-    steps: Vec<ServiceStep>,
-    consumers: Vec<ConsumerPlan>,
-    administrators: Vec<Script>,
-) -> Result<Plan, Fail> {
-    let services = services(alloc, steps)?;
-    let first = read_script(alloc, FIRST.as_bytes())?;
-    Ok(Plan {
+/// The plan of a cast.
+pub(crate) fn plan(alloc: Global, cast: Cast<'_>) -> Option<Plan> {
+    let first = read_script(alloc, FIRST.as_bytes()).ok()?;
+    let mut plan = Plan {
         settings: first.settings,
         first: first.events,
-        services,
-        consumers,
-        administrators,
-    })
+        services: Vec::new(alloc),
+        consumers: Vec::new(alloc),
+        administrators: Vec::new(alloc),
+    };
+    if push_workers(alloc, &mut plan, cast).is_none() {
+        drop(plan);
+        return None;
+    }
+    Some(plan)
 }
 
 /// A plan with a service that sweeps 500,000 times, and so many consumers.
-pub(crate) fn sweeping(alloc: Global, count: usize) -> Result<Plan, Fail> {
-    let mut steps = Vec::new(alloc);
-    for _ in 0..500_000 {
-        steps.push(ServiceStep::Sweep)?;
-    }
-    let groups = vec![in alloc; "g"; count]?;
-    let consumers = consumers(alloc, &groups, &[])?;
-    planned(alloc, steps, consumers, Vec::new(alloc))
+pub(crate) fn sweeping(alloc: Global, count: usize) -> Option<Plan> {
+    let sweeps = vec![in alloc; Act::Sweep; 500_000].ok()?;
+    let groups = vec![in alloc; "g"; count].ok()?;
+    let cast = Cast {
+        service: &sweeps,
+        groups: &groups,
+        consumer: &[],
+        revoked: false,
+    };
+    plan(alloc, cast)
 }

@@ -3,13 +3,13 @@
 
 ghost use Rattle.std.specs.Prelude.{◌≤◌};
 
-use crate::fleets::{ended, scripts_of, tells_two_each};
+use crate::fleets::{ended, tells_two_each};
 use crate::gates::Open;
 use crate::left::{are_records, begins, is_marked};
-use crate::making::{offset_of, produce, shared};
+use crate::making::{CREATE, METADATA, WRITE, offset_of, request_of, scripts_of, shared};
 use crate::pipelines::{STEP, TWO, run};
 use crate::plans::{Cast, plan};
-use crate::sessions::{create_topic, session};
+use crate::sessions::{place_of, session};
 use kob_pipeline::{PipelineEnd, PipelineFault};
 use kob_rights::Request;
 use kob_shared::{CallFault, FleetEnd, FleetFault, Receipt, Session, SharedBroker};
@@ -50,32 +50,39 @@ fn writes<R: Wait>(
     session: &mut Session<'_>,
     offset: u64,
     place: usize,
-) -> Result<bool, Fail> {
-    let requests = (produce(alloc)?, produce(alloc)?);
-    let called = called(rt, alloc, session, requests);
+) -> Option<bool> {
+    let request = request_of(alloc, WRITE)?;
+    let again = request_of(alloc, WRITE)?;
+    let called = called(rt, alloc, session, (request, again));
     let is_at = is_at(&called, offset, place);
     drop(called);
-    Ok(is_at)
+    Some(is_at)
 }
 
 /// Whether two writes go in one after another.
-fn writes_two<R: Wait>(rt: &R, alloc: Global, shared: &SharedBroker) -> Result<bool, Fail> {
-    let mut root = session(alloc, shared, 1, "User:root")?;
-    create_topic(rt, alloc, &mut root)?;
-    let wrote = writes(rt, alloc, &mut root, 0, 1)? && writes(rt, alloc, &mut root, 1, 2)?;
-    Ok(wrote && root.seen() == 3)
+fn writes_two<R: Wait>(rt: &R, alloc: Global, root: &mut Session<'_>) -> Option<bool> {
+    place_of(rt, alloc, root, CREATE)?;
+    let wrote = writes(rt, alloc, root, 0, 1)? && writes(rt, alloc, root, 1, 2)?;
+    Some(wrote && root.seen() == 3)
 }
 
-fn session_writes_two<R: Wait>(rt: &R, alloc: Global) -> Result<bool, Fail> {
+fn session_writes_two<R: Wait>(rt: &R, alloc: Global, shared: &SharedBroker) -> Option<bool> {
+    let mut root = session(alloc, shared, 1, "User:root")?;
+    let wrote = writes_two(rt, alloc, &mut root);
+    drop(root);
+    wrote
+}
+
+fn shared_takes_two<R: Wait>(rt: &R, alloc: Global) -> Option<bool> {
     let shared = shared(alloc, Vec::new(alloc), 10)?;
-    let wrote = writes_two(rt, alloc, &shared);
+    let wrote = session_writes_two(rt, alloc, &shared);
     drop(shared);
     wrote
 }
 
 #[test]
 fn calls_of_a_session(rt: HostRuntime) -> Result<(), Fail> {
-    let holds = session_writes_two(&rt, rt.alloc())?;
+    let holds = shared_takes_two(&rt, rt.alloc()).ok_or("memory")?;
     assert!(rt; holds);
     Ok(())
 }
@@ -89,24 +96,23 @@ fn is_told(ended: &Result<FleetEnd, FleetFault>) -> Option<bool> {
     }
 }
 
-/// Whether two scripts are run to the right end.
-fn serves_two<R: Threads + Wait + Sync>(rt: &R, alloc: Global) -> Result<Option<bool>, Fail> {
-    let scripts = scripts_of(alloc, 2, 2)?;
+/// Whether two scripts are run to the right end. None where memory or a thread was wanting.
+fn serves_two<R: Threads + Wait + Sync>(rt: &R, alloc: Global) -> Option<bool> {
+    let scripts = scripts_of(alloc, METADATA, 2, 2)?;
     let gate = Open::new();
     let ended = ended(rt, Vec::new(alloc), Vec::new(alloc), scripts, &gate, alloc)?;
     let told = is_told(&ended);
     drop(ended);
-    Ok(told)
+    told
 }
 
 #[test]
-fn two_scripts(rt: HostRuntime) -> Result<(), Fail> {
-    let served = match serves_two(&rt, rt.alloc())? {
-        None => serves_two(&rt, rt.alloc())?,
+fn two_scripts(rt: HostRuntime) {
+    let served = match serves_two(&rt, rt.alloc()) {
+        None => serves_two(&rt, rt.alloc()),
         served => served,
     };
-    assert_eq!(rt; served, Some(true));
-    Ok(())
+    assert!(rt; served == Some(true));
 }
 
 /// Whether the topic has both events. What memory kept from being read is read again.
@@ -137,8 +143,8 @@ fn is_delivered(
     }
 }
 
-/// Whether a pipeline comes to such an end.
-fn delivers_two<R: Threads + Wait + Sync>(rt: &R, alloc: Global) -> Result<Option<bool>, Fail> {
+/// Whether a pipeline comes to such an end. None where memory or a thread was wanting.
+fn delivers_two<R: Threads + Wait + Sync>(rt: &R, alloc: Global) -> Option<bool> {
     let cast = Cast {
         service: &TWO,
         groups: &["g"],
@@ -151,15 +157,14 @@ fn delivers_two<R: Threads + Wait + Sync>(rt: &R, alloc: Global) -> Result<Optio
     let mut ran = ran;
     let delivered = is_delivered(alloc, &mut ran);
     drop(ran);
-    Ok(delivered)
+    delivered
 }
 
 #[test]
-fn a_pipeline(rt: HostRuntime) -> Result<(), Fail> {
-    let delivered = match delivers_two(&rt, rt.alloc())? {
-        None => delivers_two(&rt, rt.alloc())?,
+fn a_pipeline(rt: HostRuntime) {
+    let delivered = match delivers_two(&rt, rt.alloc()) {
+        None => delivers_two(&rt, rt.alloc()),
         delivered => delivered,
     };
-    assert_eq!(rt; delivered, Some(true));
-    Ok(())
+    assert!(rt; delivered == Some(true));
 }

@@ -2,44 +2,28 @@
 
 use crate::fleets::run;
 use crate::gates::Between;
-use crate::making::{offset_of, produce_times, revocation, script, topic_created, write_allowed};
+use crate::making::{CREATE, REVOKE, SERVICE_WRITE, events_of, offset_of, script, write_allowed};
 use crate::sessions::is_denied;
 use kob_rights::{Reply, Request};
 use kob_shared::{FleetEnd, Journal, Script, Transcript};
 use std::alloc::Global;
 use std::sync::Wait;
-use std::test::Fail;
 use std::thread::Threads;
 
-/// A script of `User:svc` of four PRODUCE requests.
-fn writer(alloc: Global) -> Result<Script, Fail> {
-    script(alloc, "User:svc", produce_times(alloc, 4)?)
+/// Four PRODUCE requests of `User:svc`, and one DELETE_ACLS of `User:root`.
+fn put_both(alloc: Global, scripts: &mut Vec<Script>) -> Option<()> {
+    let writer = script(alloc, SERVICE_WRITE, 4)?;
+    scripts.push(writer).ok()?;
+    let revoker = script(alloc, REVOKE, 1)?;
+    scripts.push(revoker).ok()
 }
 
-/// A script of `User:root` of one DELETE_ACLS.
-fn revoker(alloc: Global) -> Result<Script, Fail> {
-    let mut revocations = Vec::new(alloc);
-    revocations.push(revocation(alloc)?)?;
-    script(alloc, "User:root", revocations)
-}
-
-fn both(alloc: Global) -> Result<Vec<Script>, Fail> {
+/// What these leave, where the gate lets the second in.
+fn revoke_at<R: Threads + Wait + Sync>(rt: &R, alloc: Global, gate: &Between) -> Option<FleetEnd> {
     let mut scripts = Vec::new(alloc);
-    scripts.push(writer(alloc)?)?;
-    scripts.push(revoker(alloc)?)?;
-    Ok(scripts)
-}
-
-/// Four PRODUCE requests of `User:svc`, and one DELETE_ACLS of `User:root` where the gate lets it
-/// in.
-fn revoke_at<R: Threads + Wait + Sync>(
-    rt: &R,
-    alloc: Global,
-    gate: &Between,
-) -> Result<FleetEnd, Fail> {
+    put_both(alloc, &mut scripts)?;
     let opening = write_allowed(alloc)?;
-    let first = topic_created(alloc)?;
-    let scripts = both(alloc)?;
+    let first = events_of(alloc, CREATE)?;
     run(rt, opening, first, scripts, gate, alloc)
 }
 
@@ -81,37 +65,25 @@ fn is_revoked(end: &FleetEnd, number: usize) -> bool {
     }
 }
 
-/// Whether the right is gone from the service's request of this number on, if the gate lets the
-/// revocation in there.
-fn ends_revoked<R: Threads + Wait + Sync>(
-    rt: &R,
-    alloc: Global,
-    number: usize,
-    gate: &Between,
-) -> Result<bool, Fail> {
-    let end = revoke_at(rt, alloc, gate)?;
-    let revoked = is_revoked(&end, number);
-    drop(end);
-    Ok(revoked)
-}
-
-/// Whether a right that is revoked before the service's request of this number, from 1, is gone
-/// from there on.
+/// Whether a right that the gate lets be revoked before the service's request of this number, from
+/// 1, is gone from there on.
 fn is_gone_from<R: Threads + Wait + Sync>(
     rt: &R,
     alloc: Global,
     number: usize,
-) -> Result<bool, Fail> {
-    let gate = Between::before_request(number);
-    let revoked = ends_revoked(rt, alloc, number, &gate)?;
-    Ok(revoked && !gate.gave_up())
+    gate: &Between,
+) -> Option<bool> {
+    let end = revoke_at(rt, alloc, gate)?;
+    let revoked = is_revoked(&end, number);
+    drop(end);
+    Some(revoked && !gate.gave_up())
 }
 
 #[test]
-fn revoked_while_producing(rt: HostRuntime) -> Result<(), Fail> {
+fn revoked_while_producing(rt: HostRuntime) {
     for number in 1..6 {
-        let holds = is_gone_from(&rt, rt.alloc(), number)?;
-        assert!(rt; holds, "before request {number}");
+        let gate = Between::before_request(number);
+        let holds = is_gone_from(&rt, rt.alloc(), number, &gate);
+        assert!(rt; holds == Some(true), "before request {number}");
     }
-    Ok(())
 }

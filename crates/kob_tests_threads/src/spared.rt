@@ -5,7 +5,7 @@ ghost use Rattle.kob_pipeline.specs.Pipelines.{IsPipeline};
 
 use crate::gates::Open;
 use crate::left::{begins, call_laws, is_marked};
-use crate::making::{at_host, creation, event, metadata, recorded, shared};
+use crate::making::{CREATE, METADATA, asker, event_of, recorded, request_of, shared};
 use crate::pipelines::{STEP, TWO, run};
 use crate::plans::{Cast, FIRST_EVENTS, plan};
 use crate::sessions::session;
@@ -14,7 +14,6 @@ use kob_pipeline::{PipelineEnd, Plan};
 use kob_shared::{Desk, Journal, Notes, Receipt, Recorded, SharedBroker};
 use std::alloc::Global;
 use std::sync::Wait;
-use std::test::Fail;
 use std::thread::Threads;
 
 /// The size of the allocation by which `.ci/refuse` knows that all that come after it are to be
@@ -66,38 +65,34 @@ fn goes_round(recorded: Recorded, asker: (Principal, Host)) -> bool {
 }
 
 /// Serves one event for worker 1.
-fn serve_one(alloc: Global, recorded: &mut Recorded) -> Result<(), Fail> {
-    let event = event(alloc, "User:root", creation(alloc)?)?;
-    let served = recorded.serve_as(alloc, 1, &event);
+fn serve_one(alloc: Global, recorded: &mut Recorded) -> Option<()> {
+    let event = event_of(alloc, CREATE)?;
+    let served = recorded.serve_as(alloc, 1, &event).ok();
     drop(event);
     drop(served?);
-    Ok(())
+    Some(())
 }
 
 /// A record of one event.
-fn of_one_event(alloc: Global) -> Result<Recorded, Fail> {
+fn of_one_event(alloc: Global) -> Option<Recorded> {
     let mut recorded = recorded(alloc, Vec::new(alloc), 1)?;
-    match serve_one(alloc, &mut recorded) {
-        Ok(()) => Ok(recorded),
-        Err(fail) => {
-            drop(recorded);
-            Err(fail)
-        }
+    if serve_one(alloc, &mut recorded).is_none() {
+        drop(recorded);
+        return None;
     }
+    Some(recorded)
 }
 
-fn shares(alloc: Global) -> Result<bool, Fail> {
-    let asker = at_host(alloc, "User:root")?;
+fn shares(alloc: Global) -> Option<bool> {
+    let asker = asker(alloc, "User:root", "h")?;
     let recorded = of_one_event(alloc)?;
     spare(alloc);
-    Ok(goes_round(recorded, asker))
+    Some(goes_round(recorded, asker))
 }
 
 #[test]
-fn a_record_goes_round(rt: HostRuntime) -> Result<(), Fail> {
-    let holds = shares(rt.alloc())?;
-    assert!(rt; holds);
-    Ok(())
+fn a_record_goes_round(rt: HostRuntime) {
+    assert!(rt; shares(rt.alloc()) == Some(true));
 }
 
 /// Whether one event was noted, at the place 0.
@@ -129,39 +124,35 @@ fn is_blank(desk: Desk<'_>) -> bool {
     blank
 }
 
+/// Notes one event.
+fn note_one<R: Wait>(rt: &R, alloc: Global, desk: &mut Desk<'_>) -> Option<()> {
+    let request = request_of(alloc, METADATA)?;
+    desk.call(rt, alloc, request).ok()
+}
+
 /// A desk that has noted one event.
-fn of_one_call<'a, R: Wait>(
-    rt: &R,
-    alloc: Global,
-    shared: &'a SharedBroker,
-) -> Result<Desk<'a>, Fail> {
+fn of_one_call<'a, R: Wait>(rt: &R, alloc: Global, shared: &'a SharedBroker) -> Option<Desk<'a>> {
     let mut desk = Desk::open(alloc, session(alloc, shared, 1, "User:root")?);
-    match desk.call(rt, alloc, metadata()) {
-        Ok(()) => Ok(desk),
-        Err(fault) => {
-            drop(desk);
-            Err(fault.into())
-        }
+    if note_one(rt, alloc, &mut desk).is_none() {
+        drop(desk);
+        return None;
     }
+    Some(desk)
 }
 
 /// Whether one desk is closed and another opened.
-fn opens_and_closes<R: Wait>(rt: &R, alloc: Global, shared: &SharedBroker) -> Result<bool, Fail> {
+fn opens_and_closes<R: Wait>(rt: &R, alloc: Global, shared: &SharedBroker) -> Option<bool> {
     let desk = of_one_call(rt, alloc, shared)?;
-    match session(alloc, shared, 2, "User:root") {
-        Ok(other) => {
-            spare(alloc);
-            let blank = is_blank(Desk::open(alloc, other));
-            Ok(closes(desk) && blank)
-        }
-        Err(fail) => {
-            drop(desk);
-            Err(fail)
-        }
-    }
+    let Some(other) = session(alloc, shared, 2, "User:root") else {
+        drop(desk);
+        return None;
+    };
+    spare(alloc);
+    let blank = is_blank(Desk::open(alloc, other));
+    Some(closes(desk) && blank)
 }
 
-fn serves_desks<R: Wait>(rt: &R, alloc: Global) -> Result<bool, Fail> {
+fn serves_desks<R: Wait>(rt: &R, alloc: Global) -> Option<bool> {
     let shared = shared(alloc, Vec::new(alloc), 1)?;
     let closed = opens_and_closes(rt, alloc, &shared);
     drop(shared);
@@ -169,10 +160,8 @@ fn serves_desks<R: Wait>(rt: &R, alloc: Global) -> Result<bool, Fail> {
 }
 
 #[test]
-fn desks_open_and_close(rt: HostRuntime) -> Result<(), Fail> {
-    let holds = serves_desks(&rt, rt.alloc())?;
-    assert!(rt; holds);
-    Ok(())
+fn desks_open_and_close(rt: HostRuntime) {
+    assert!(rt; serves_desks(&rt, rt.alloc()) == Some(true));
 }
 
 /// Whether a pipeline of a service that sends two events and of a consumer left what it is to leave
@@ -210,7 +199,7 @@ fn are_called<R: Threads + Wait + Sync>(rt: &R, alloc: Global, plan: &Plan) -> b
     lawful
 }
 
-fn calls_laws<R: Threads + Wait + Sync>(rt: &R, alloc: Global) -> Result<bool, Fail> {
+fn calls_laws<R: Threads + Wait + Sync>(rt: &R, alloc: Global) -> Option<bool> {
     let cast = Cast {
         service: &TWO,
         groups: &["g"],
@@ -220,12 +209,10 @@ fn calls_laws<R: Threads + Wait + Sync>(rt: &R, alloc: Global) -> Result<bool, F
     let plan = plan(alloc, cast)?;
     let called = are_called(rt, alloc, &plan);
     drop(plan);
-    Ok(called)
+    Some(called)
 }
 
 #[test]
-fn laws_are_called(rt: HostRuntime) -> Result<(), Fail> {
-    let holds = calls_laws(&rt, rt.alloc())?;
-    assert!(rt; holds);
-    Ok(())
+fn laws_are_called(rt: HostRuntime) {
+    assert!(rt; calls_laws(&rt, rt.alloc()) == Some(true));
 }
