@@ -1,6 +1,6 @@
 //! What follows of the definitions.
 
-ghost use Rattle.std.specs.Prelude.{◌≡◌, ◌≤◌, ℕ, List, Option, Some, None, Result, Ok, false};
+ghost use Rattle.std.specs.Prelude.{◌≡◌, ◌≤◌, ℕ, List, Option, Some, None, Result, Ok, Err, false};
 ghost use Rattle.kob_acl_cli.specs.declared.args.CliArgs.{CliArgs};
 ghost use Rattle.kob_script.specs.CommandLines.{asks_by_acl, events_of, line_fault};
 ghost use Rattle.kob_script.specs.Escapes.{LeavesWhole};
@@ -25,8 +25,8 @@ pub fn plain_scripts_have_one_reading()
 }
 
 /// Over a whole line faults come in the order of their kinds: the fault of the words of a row is one
-/// that some word has, and no word has one of a kind that comes before. A line other than of `acl`
-/// whose words have none asks for one thing.
+/// that some word has, and no word has one of a kind that comes before. A line whose words have a
+/// fault is read as that fault; one other than of `acl` whose words have none asks for one thing.
 pub fn faults_come_in_their_order()
     ensures found { (places : List Place) (words : List Word) (kind : FaultKind)
         → row_fault (Some places) words ≡ Some kind → IsAmong kind (faults_in places words) }
@@ -35,6 +35,8 @@ pub fn faults_come_in_their_order()
         → rank kind ≤ rank other }
     ensures none { (places : List Place) (words : List Word) (kind : FaultKind)
         → row_fault (Some places) words ≡ None → IsAmong kind (faults_in places words) → ⊥ }
+    ensures read { (answer : Option CliArgs) (words : List Word) (kind : FaultKind)
+        → line_fault words ≡ Some kind → events_of answer words ≡ Err kind }
     ensures asks { (answer : Option CliArgs) (words : List Word) → line_fault words ≡ None
         → asks_by_acl words ≡ false → counted (events_of answer words) ≡ Ok 1 }
 {

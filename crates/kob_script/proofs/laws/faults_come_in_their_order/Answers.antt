@@ -1,6 +1,8 @@
 use Rattle.std.proofs.Common.{Some, None}
 use Rattle.kob_script.proofs.FirstKinds.{first_is}
-use Rattle.kob_script.proofs.LineFaults.{one_counted}
+use Rattle.kob_script.proofs.LineFaults.{count_fails, one_counted, uncounted}
+use Rattle.kob_script.specs.CommandLines.{events_of}
+use Rattle.kob_script.specs.declared.fault.LineError.TheVariants.{Fault}
 use Rattle.kob_script.specs.Slots.{faults_in}
 use Rattle.kob_script.proofs.laws.faults_come_in_their_order.Goals as goal
 
@@ -12,6 +14,10 @@ returns-clause-first c = λ places words kind other is among. (first_is (faults_
 
 pub returns-clause-none : goal.returns-clause-none
 returns-clause-none c = λ places words kind none among. first_is (faults_in places words) None none kind among
+
+pub returns-clause-read : goal.returns-clause-read
+returns-clause-read c = λ answer words kind is.
+    uncounted (events_of answer words) (Fault kind) (count_fails answer words (Fault kind) is)
 
 pub returns-clause-asks : goal.returns-clause-asks
 returns-clause-asks c = λ answer words none plain. one_counted answer words none plain
