@@ -1,6 +1,7 @@
 //! A desk as a line, which loses the calls that a plan loses.
 
-ghost use Rattle.std.specs.Prelude.{◌≡◌, ◌<◌, [], ◌∷◌, ◌++◌, IfNone, IfOk, IfSome, None, OnOk, Some};
+ghost use Rattle.std.specs.Prelude.{◌≡◌, ◌<◌, ◌⊎◌, [], ◌∷◌, ◌++◌, None, OnOk, Some};
+ghost use Rattle.std.specs.Prelude.{IfErr, IfNone, IfOk, IfSome};
 ghost use Rattle.std.specs.Prelude.{option_map, vec_capacity, vec_len};
 ghost use Rattle.kob_rights.specs.Bodies.{Fits};
 ghost use Rattle.kob_rights.specs.Offsets.{OffsetsWithin};
@@ -66,6 +67,8 @@ impl<'a, R: Wait, G: Gate> DeskLine<'a, R, G> {
     pub(crate) fn goes_on(&self) -> Result<(), CallFault>
         ensures fault { OnOk result (self.now.fault ≡ None) }
         ensures unmade { OnOk result (self.now.unmade ≡ 0) }
+        ensures own { IfErr result (λ fault. (self.now.fault ≡ Some fault)
+            ⊎ ((fault ≡ CallFault.Memory) × (0 < self.now.unmade))) }
     {
         if let Some(fault) = self.fault {
             return Err(fault);
