@@ -126,6 +126,7 @@ impl<'a, R: Wait, G: Gate> DeskLine<'a, R, G> {
         ensures unmade { self.new.unmade ≡ self.old.unmade }
         ensures loss { self.new.loss ≡ self.old.loss }
         ensures fault { self.new.fault ≡ None → self.old.fault ≡ None }
+        ensures unsent { loss ≡ Loss.BeforeServe → self.new ≡ self.old }
         ensures noted { self.new.fault ≡ None → AreNoted (loss ∷ [])
             (record { request = request; heard = option_map (λ r. r.0) result } ∷ [])
             self.old.desk self.new.desk }
