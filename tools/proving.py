@@ -1,4 +1,4 @@
-"""Checks of single functions over the libraries that `rt ci`, run at the top before, left in crates/*/out; tools/gate and tools/mutants use it."""
+"""Checks of single functions over the libraries that `rt ci`, run at the top before, left in crates/*/out; tools/mutants uses it."""
 import pathlib
 import subprocess
 
@@ -21,13 +21,13 @@ def lacking(crate):
     return [it for it in libraries(crate) if (TOP / "crates" / it).is_dir() and not built(it).is_dir()]
 
 
-def command(crate, kept, functions=(), tests=False):
+def command(crate, kept, functions=()):
     """The check of these functions of a crate, each given by the end of its path, or of all; what is proved is kept in a folder. It is run in
     a folder that has the crate's src, specs and proofs."""
     kit = pathlib.Path(subprocess.run(["rt", "doc"], capture_output=True, text=True, check=True).stdout.strip()).parent
     own = {it.name: built(it.name) for it in (TOP / "crates").iterdir() if built(it.name).is_dir()}
     root = "src/main.rt" if (TOP / "crates" / crate / "src/main.rt").exists() else "src/lib.rt"
-    words = ["rattle", "check", "--crate-name", crate, root, *(["--test"] if tests else []), "--progress"]
+    words = ["rattle", "check", "--crate-name", crate, root]
     for name in ("std", *libraries(crate)):
         words += ["--extern", f"{name}={own.get(name, kit / 'rlibs' / f'{name}.rlib')}"]
     for folder in (kit / "rlibs", *(it.parent for it in own.values())):
