@@ -116,7 +116,7 @@ fn read_on(
     Ok(asked)
 }
 
-// What a line without a fault asks for. Where clap was asked about it, the first answer is removed.
+// What a line without a fault asks for. Where clap was asked about it, the answer is removed.
 fn read_again(
     alloc: Global,
     line: &[u8],
