@@ -9,35 +9,29 @@ use Rattle.kob_script.specs.declared.slots.Place.{Place}
 use Rattle.kob_script.specs.declared.slots.Place.TheVariants.{One, OrDash, OrNone, Records, Texts}
 use Rattle.kob_script.specs.declared.slots.Slot.TheVariants as slot
 
-abbrev pub command_word : Command → List ℕ
-command_word CreateTopic = codes "create-topic"
-command_word DeleteTopic = codes "delete-topic"
-command_word Metadata = codes "metadata"
-command_word Produce = codes "produce"
-command_word Fetch = codes "fetch"
-command_word ListOffsets = codes "list-offsets"
-command_word DeleteRecords = codes "delete-records"
-command_word InitProducer = codes "init-producer"
-command_word Commit = codes "commit"
-command_word Committed = codes "committed"
-command_word Groups = codes "groups"
-command_word DeleteGroup = codes "delete-group"
-command_word CreateAcl = codes "create-acl"
-command_word DescribeAcls = codes "describe-acls"
-command_word DeleteAcls = codes "delete-acls"
-
-abbrev pub commands : List Command
+-- the commands by their words, in lower case only
+abbrev pub commands : List (List ℕ × Command)
 commands =
-    CreateTopic ∷ DeleteTopic ∷ Metadata ∷ Produce ∷ Fetch ∷ ListOffsets ∷ DeleteRecords
-    ∷ InitProducer ∷ Commit ∷ Committed ∷ Groups ∷ DeleteGroup ∷ CreateAcl ∷ DescribeAcls ∷ DeleteAcls ∷ []
+    (codes "create-topic", CreateTopic)
+    ∷ (codes "delete-topic", DeleteTopic)
+    ∷ (codes "metadata", Metadata)
+    ∷ (codes "produce", Produce)
+    ∷ (codes "fetch", Fetch)
+    ∷ (codes "list-offsets", ListOffsets)
+    ∷ (codes "delete-records", DeleteRecords)
+    ∷ (codes "init-producer", InitProducer)
+    ∷ (codes "commit", Commit)
+    ∷ (codes "committed", Committed)
+    ∷ (codes "groups", Groups)
+    ∷ (codes "delete-group", DeleteGroup)
+    ∷ (codes "create-acl", CreateAcl)
+    ∷ (codes "describe-acls", DescribeAcls)
+    ∷ (codes "delete-acls", DeleteAcls) ∷ []
 
--- the first of these with a word
-abbrev pub command_among : List Command → List ℕ → Option Command
-command_among among word = find (λ command. bytes_eq word (command_word command)) among
-
--- the command of a word, in lower case only
+-- the command of a word
 abbrev pub command_named : List ℕ → Option Command
-command_named word = command_among commands word
+command_named word =
+    option_map (λ named. named.1) (find (λ named. bytes_eq word named.0) commands)
 
 -- the words of a filter, `-` for ANY
 abbrev pub filter_row : List Place

@@ -10,6 +10,10 @@ use Rattle.kob_names.specs.declared.kinds.ResourceKind.{ResourceKind}
 use Rattle.kob_names.specs.declared.record.Record.{Record}
 use Rattle.kob_rights.specs.declared.on_partitions.Before.{Before}
 use Rattle.kob_rights.specs.declared.on_partitions.Which.{Which}
+use Rattle.kob_words.specs.Operation.{operation_named}
+use Rattle.kob_words.specs.Pattern.{pattern_named}
+use Rattle.kob_words.specs.Permission.{permission_named}
+use Rattle.kob_words.specs.Resource.{resource_named}
 use Rattle.kob_script.specs.Batches.{idem_of, record_of}
 use Rattle.kob_script.specs.declared.fault.FaultKind.{FaultKind}
 use Rattle.kob_script.specs.declared.fault.FaultKind.TheVariants.{BadLine}
@@ -18,7 +22,7 @@ use Rattle.kob_script.specs.declared.slots.Place.TheVariants.{One, OrDash, OrNon
 use Rattle.kob_script.specs.declared.slots.Slot.{Slot}
 use Rattle.kob_script.specs.declared.slots.Slot.TheVariants as slot
 use Rattle.kob_script.specs.Faults.{both, first_kind}
-use Rattle.kob_script.specs.Keywords.{permission_of, operation_of, resource_of, pattern_of, filter_pattern_of}
+use Rattle.kob_script.specs.Keywords.{filter_pattern_of, known}
 use Rattle.kob_script.specs.Numbers.{number_of, which_of, before_of}
 use Rattle.kob_script.specs.Reading.{each, fault_in, some}
 use Rattle.kob_script.specs.Texts.{text_of, named_principal, named_host}
@@ -47,10 +51,10 @@ value_of slot.Number word = number_of word
 value_of slot.StartOrEnd word = which_of word
 value_of slot.OffsetOrEnd word = before_of word
 value_of slot.Producer word = idem_of word
-value_of slot.Permission word = permission_of word
-value_of slot.Operation word = operation_of word
-value_of slot.Resource word = resource_of word
-value_of slot.Pattern word = pattern_of word
+value_of slot.Permission word = known permission_named word
+value_of slot.Operation word = known operation_named word
+value_of slot.Resource word = known resource_named word
+value_of slot.Pattern word = known pattern_named word
 value_of slot.FilterPattern word = filter_pattern_of word
 
 -- what the words stand for that a place takes
@@ -105,10 +109,10 @@ slot_fault slot.Number word = fault_in (number_of word)
 slot_fault slot.StartOrEnd word = fault_in (which_of word)
 slot_fault slot.OffsetOrEnd word = fault_in (before_of word)
 slot_fault slot.Producer word = fault_in (idem_of word)
-slot_fault slot.Permission word = fault_in (permission_of word)
-slot_fault slot.Operation word = fault_in (operation_of word)
-slot_fault slot.Resource word = fault_in (resource_of word)
-slot_fault slot.Pattern word = fault_in (pattern_of word)
+slot_fault slot.Permission word = fault_in (known permission_named word)
+slot_fault slot.Operation word = fault_in (known operation_named word)
+slot_fault slot.Resource word = fault_in (known resource_named word)
+slot_fault slot.Pattern word = fault_in (known pattern_named word)
 slot_fault slot.FilterPattern word = fault_in (filter_pattern_of word)
 
 -- the same where `-` is taken too

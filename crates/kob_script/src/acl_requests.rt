@@ -12,11 +12,12 @@ ghost use Rattle.kob_script.specs.declared.fault.FaultKind as kinds;
 ghost use Rattle.kob_script.specs.declared.command.Command.TheVariants as commands;
 
 use crate::fault::{FaultKind, LineError};
-use crate::keyword::{filter_pattern_of, operation_of, pattern_of, permission_of, resource_of};
+use crate::keyword::{filter_pattern_of, known};
 use crate::text::{named_host, named_principal, text_of};
 use crate::word::Word;
 use kob_names::{BindingFilter, Draft, Items, Pattern};
 use kob_rights::{CreateAcls, DeleteAcls, DescribeAcls, Request};
+use kob_words::{operation_named, pattern_named, permission_named, resource_named};
 use std::alloc::Global;
 
 pub fn create_acl(alloc: Global, words: &[Word<'_>]) -> Result<Request, LineError>
@@ -46,11 +47,11 @@ fn draft_of(alloc: Global, words: &[Word<'_>]) -> Result<Draft, LineError>
         return Err(LineError::Fault(FaultKind::BadLine));
     };
     Ok(Draft {
-        permission: permission_of(permission)?,
-        operation: operation_of(operation)?,
-        resource: resource_of(resource)?,
+        permission: known(permission_named(permission.decoded()))?,
+        operation: known(operation_named(operation.decoded()))?,
+        resource: known(resource_named(resource.decoded()))?,
         pattern: Pattern {
-            kind: pattern_of(pattern)?,
+            kind: known(pattern_named(pattern.decoded()))?,
             name: text_of(alloc, name)?,
         },
         principal: named_principal(alloc, principal)?,
@@ -75,10 +76,10 @@ fn filter_of(alloc: Global, words: &[Word<'_>]) -> Result<BindingFilter, LineErr
         return Err(LineError::Fault(FaultKind::BadLine));
     };
     Ok(BindingFilter {
-        resource: unless_dash(resource, resource_of(resource))?,
+        resource: unless_dash(resource, known(resource_named(resource.decoded())))?,
         pattern: filter_pattern_of(pattern)?,
-        operation: unless_dash(operation, operation_of(operation))?,
-        permission: unless_dash(permission, permission_of(permission))?,
+        operation: unless_dash(operation, known(operation_named(operation.decoded())))?,
+        permission: unless_dash(permission, known(permission_named(permission.decoded())))?,
         name: unless_dash(name, text_of(alloc, name))?,
         principal: unless_dash(principal, named_principal(alloc, principal))?,
         host: unless_dash(host, named_host(alloc, host))?,

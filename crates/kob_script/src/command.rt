@@ -1,9 +1,10 @@
 //! The table of commands: their names, and the words that each takes.
 
-ghost use Rattle.std.specs.Option.{option_copied, option_map};
+ghost use Rattle.std.specs.List.{find};
+ghost use Rattle.std.specs.Option.{option_map};
 ghost use Rattle.std.specs.Prelude.{◌≡◌};
-ghost use Rattle.kob_script.specs.Command.{command_among, command_named, command_word};
-ghost use Rattle.kob_script.specs.Command.{row, row_named};
+ghost use Rattle.std.specs.Str.{bytes_eq};
+ghost use Rattle.kob_script.specs.Command.{command_named, row, row_named};
 
 use crate::slots::{Place, Slot};
 
@@ -28,59 +29,36 @@ pub enum Command {
     DeleteAcls,
 }
 
-/// The word for a command.
-fn command_word(command: Command) -> &'static str
-    ensures { result.now ≡ command_word command }
-{
-    match command {
-        Command::CreateTopic => "create-topic",
-        Command::DeleteTopic => "delete-topic",
-        Command::Metadata => "metadata",
-        Command::Produce => "produce",
-        Command::Fetch => "fetch",
-        Command::ListOffsets => "list-offsets",
-        Command::DeleteRecords => "delete-records",
-        Command::InitProducer => "init-producer",
-        Command::Commit => "commit",
-        Command::Committed => "committed",
-        Command::Groups => "groups",
-        Command::DeleteGroup => "delete-group",
-        Command::CreateAcl => "create-acl",
-        Command::DescribeAcls => "describe-acls",
-        Command::DeleteAcls => "delete-acls",
-    }
-}
-
 /// The command of that word, in lower case only.
 pub fn command_named(word: &[u8]) -> Option<Command>
     ensures { result ≡ command_named word.now }
 {
     let commands = [
-        Command::CreateTopic,
-        Command::DeleteTopic,
-        Command::Metadata,
-        Command::Produce,
-        Command::Fetch,
-        Command::ListOffsets,
-        Command::DeleteRecords,
-        Command::InitProducer,
-        Command::Commit,
-        Command::Committed,
-        Command::Groups,
-        Command::DeleteGroup,
-        Command::CreateAcl,
-        Command::DescribeAcls,
-        Command::DeleteAcls,
+        ("create-topic", Command::CreateTopic),
+        ("delete-topic", Command::DeleteTopic),
+        ("metadata", Command::Metadata),
+        ("produce", Command::Produce),
+        ("fetch", Command::Fetch),
+        ("list-offsets", Command::ListOffsets),
+        ("delete-records", Command::DeleteRecords),
+        ("init-producer", Command::InitProducer),
+        ("commit", Command::Commit),
+        ("committed", Command::Committed),
+        ("groups", Command::Groups),
+        ("delete-group", Command::DeleteGroup),
+        ("create-acl", Command::CreateAcl),
+        ("describe-acls", Command::DescribeAcls),
+        ("delete-acls", Command::DeleteAcls),
     ];
-    command_among(&commands, word).copied()
+    command_among(&commands, word)
 }
 
-fn command_among<'a>(commands: &'a [Command], word: &[u8]) -> Option<&'a Command>
-    ensures { option_copied result ≡ command_among commands.now word.now }
+fn command_among(commands: &[(&str, Command)], word: &[u8]) -> Option<Command>
+    ensures { result ≡ option_map (λ named. named.1)
+        (find (λ named. bytes_eq word.now named.0.now) commands.now) }
 {
-    commands
-        .iter()
-        .find(|command| word == command_word(**command).as_bytes())
+    let named = commands.iter().find(|named| word == named.0.as_bytes())?;
+    Some(named.1)
 }
 
 const FILTER: [Place; 7] = [

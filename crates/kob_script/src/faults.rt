@@ -12,11 +12,12 @@ ghost use Rattle.kob_script.specs.declared.fault.FaultKind as kinds;
 use crate::batch::idem_of;
 use crate::command::row_named;
 use crate::fault::{FaultKind, LineError};
-use crate::keyword::{filter_pattern_of, operation_of, pattern_of, permission_of, resource_of};
+use crate::keyword::{filter_pattern_of, known};
 use crate::number::{before_of, number_of, which_of};
 use crate::slots::{Place, Slot};
 use crate::text::{lent_text_of, named_host, named_principal, texts_of};
 use crate::word::Word;
+use kob_words::{operation_named, pattern_named, permission_named, resource_named};
 use std::alloc::Global;
 
 /// Tests the words of a line, and makes nothing of them.
@@ -155,16 +156,16 @@ fn check_slot(alloc: Global, slot: Slot, word: &Word<'_>) -> Result<(), LineErro
             idem_of(alloc, word)?;
         }
         Slot::Permission => {
-            permission_of(word)?;
+            known(permission_named(word.decoded()))?;
         }
         Slot::Operation => {
-            operation_of(word)?;
+            known(operation_named(word.decoded()))?;
         }
         Slot::Resource => {
-            resource_of(word)?;
+            known(resource_named(word.decoded()))?;
         }
         Slot::Pattern => {
-            pattern_of(word)?;
+            known(pattern_named(word.decoded()))?;
         }
         Slot::FilterPattern => {
             filter_pattern_of(word)?;

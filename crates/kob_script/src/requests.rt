@@ -1,9 +1,9 @@
 //! The requests of a script that was checked, each read when it is its turn.
 
-ghost use Rattle.std.specs.Prelude.{◌≡◌, ◌<◌, ◌++◌, ◌∷◌, drop, length};
-ghost use Rattle.std.specs.Prelude.{IfOk, OnOk, OnErr, if◌then◌else◌};
+ghost use Rattle.std.specs.Prelude.{◌≡◌, ◌<◌, ◌++◌, ◌∷◌, length};
+ghost use Rattle.std.specs.Prelude.{IfOk, OnOk, OnErr};
 ghost use Rattle.kob_script.specs.Blocks.{lines_in_blocks, lines_left, steps_left};
-ghost use Rattle.kob_script.specs.Requests.{asks_clap, first_answer, line_words};
+ghost use Rattle.kob_script.specs.Requests.{answers_after, first_answer, line_words};
 ghost use Rattle.kob_script.specs.Requests.{requests_in, requests_of};
 
 use crate::asked::Asked;
@@ -111,46 +111,44 @@ fn read_on(
         return Ok(Asked::nothing(alloc));
     };
     let size = line.size;
-    let read = read_again(alloc, line.text, answers)?;
-    pass_answer(answers, read.asked_clap);
+    let asked = read_again(alloc, line.text, answers)?;
     blocks.pass(size);
-    Ok(read.asked)
+    Ok(asked)
 }
 
-// Lets go of the first answer, where it was used.
-fn pass_answer(answers: &mut VecDeque<Option<CliArgs>>, is_used: bool)
-    ensures { answers.new.items
-        ≡ (if is_used then drop 1 answers.old.items else answers.old.items) }
-{
-    if is_used {
-        answers.pop_front();
-    }
-}
-
-// What a line without a fault asks for, and whether clap was asked for it.
-#[derive(Drop)]
-struct ReadAgain {
-    asked: Asked,
-    asked_clap: bool,
-}
-
+// What a line without a fault asks for. Where clap was asked about it, the answer is removed.
 fn read_again(
     alloc: Global,
     line: &[u8],
-    answers: &VecDeque<Option<CliArgs>>,
-) -> Result<ReadAgain, AllocError>
-    ensures asked { IfOk result (λ read. read.asked
-        ≡ requests_of (first_answer answers.now.items) (line_words line.now)) }
-    ensures clap { IfOk result (λ read. read.asked_clap ≡ asks_clap (line_words line.now)) }
+    answers: &mut VecDeque<Option<CliArgs>>,
+) -> Result<Asked, AllocError>
+    ensures asked { IfOk result (λ asked. asked
+        ≡ requests_of (first_answer answers.old.items) (line_words line.now)) }
+    ensures used { OnOk result (answers.new.items
+        ≡ answers_after (line_words line.now) answers.old.items) }
+    ensures same { OnErr result (answers.new.items ≡ answers.old.items) }
 {
     let Ok(words) = words_of(alloc, line) else {
         return Err(AllocError);
     };
+    let asked = asked_first(alloc, &words, answers)?;
+    if asks_clap(&words) {
+        answers.pop_front();
+    }
+    Ok(asked)
+}
+
+// What words ask for by the first answer.
+fn asked_first(
+    alloc: Global,
+    words: &[Word<'_>],
+    answers: &VecDeque<Option<CliArgs>>,
+) -> Result<Asked, AllocError>
+    ensures { IfOk result (λ asked. asked
+        ≡ requests_of (first_answer answers.now.items) words.now) }
+{
     let unasked = None;
-    let answer = answers.front().unwrap_or(&unasked);
-    let asked = requests_of(alloc, &words, answer)?;
-    let asked_clap = asks_clap(&words);
-    Ok(ReadAgain { asked, asked_clap })
+    requests_of(alloc, words, answers.front().unwrap_or(&unasked))
 }
 
 fn requests_of(

@@ -8,10 +8,10 @@ returns c = λ wrap.
     c.principal-item.is c.host-item.is c.operation-item.is c.resource-item.is c.pattern-item.is c.name-item.is in
     rw (
       is,
-      c.in_ok-permission_of.ensures,
-      c.in_ok-operation_of.ensures,
-      c.in_ok-resource_of.ensures,
-      c.in_ok-pattern_of.ensures,
+      (rw (c.permission_named.ensures, c.decoded.ensures) at c.in_ok-known.ensures),
+      (rw (c.operation_named.ensures, c.decoded-2.ensures) at c.in_ok-known-2.ensures),
+      (rw (c.resource_named.ensures, c.decoded-3.ensures) at c.in_ok-known-3.ensures),
+      (rw (c.pattern_named.ensures, c.decoded-4.ensures) at c.in_ok-known-4.ensures),
       c.in_ok-text_of.ensures,
       c.in_ok-named_principal.ensures,
       c.in_ok-named_host.ensures,

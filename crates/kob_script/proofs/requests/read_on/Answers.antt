@@ -1,4 +1,4 @@
-use Rattle.std.proofs.Common.{◌∙◌, ◌∷◌, sym, Bool, ap, drop, if◌then◌else◌}
+use Rattle.std.proofs.Common.{◌∙◌, ◌∷◌, sym, ap}
 use Rattle.kob_script.proofs.BlockLines.{no_bytes, rest_behind}
 use Rattle.kob_script.proofs.LeftRequests.{line_read}
 use Rattle.kob_script.specs.Blocks.{lines_in_blocks, rest_of}
@@ -15,11 +15,9 @@ returns-clause-asked c =
     let behind =
     rest_behind blocks.front c.pass.new.self.front blocks.at c.in-Some.line.size _ c.pass.ensures.front
     c.pass.ensures.at in
-    let old = c.args.answers.now.items in
     line_read c.in-Some.line.text.now (lines_in (rest_of blocks)) (lines_in (rest_of c.pass.new.self))
-    (lines_in_blocks blocks.later.items) (lines_in_blocks c.pass.new.self.later.items) old c.pass_answer.new.answers.items
-    c.in_ok-read.read.asked
+    (lines_in_blocks blocks.later.items) (lines_in_blocks c.pass.new.self.later.items) c.args.answers.now.items
+    c.read_again.new.answers.items c.in_ok-asked.asked
     (found.1 ∙ ap (λ bytes. c.in-Some.line.text.now ∷ lines_in bytes) (sym behind))
     (ap (λ later. lines_in_blocks later.items) c.pass.ensures.later)
-    c.in_ok-read.ensures.asked
-    (c.pass_answer.ensures ∙ ap (λ (used : Bool). if used then drop 1 old else old) c.in_ok-read.ensures.clap)
+    c.in_ok-asked.ensures.asked c.in_ok-asked.ensures.used
