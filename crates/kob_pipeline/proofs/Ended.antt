@@ -43,12 +43,12 @@ pub record Gathers (first : Noted) (done : List (Done WorkerEnd)) (notes : List 
   pub unrefused : HasNoRefusal done
 
 -- one worker more
-pub gathers_more : (first : Noted) (done : List (Done WorkerEnd)) (one : Done WorkerEnd) (notes : List Noted)
-    (os ps : List OutboxEnd) (is js : List InboxEnd) → Gathers first done notes os is
+pub gathers_more : {first : Noted} {done : List (Done WorkerEnd)} {notes : List Noted} {os ps : List OutboxEnd}
+    {is js : List InboxEnd} (one : Done WorkerEnd) → Gathers first done notes os is
     → IsAnswered (length one.notes.events) one.notes.told → IsKeptByStore one.end → ps ≡ os ++ outbox_of one.end
     → js ≡ is ++ inbox_of one.end
     → Gathers first (done ++ one ∷ []) (notes ++ one.notes ∷ []) ps js
-gathers_more first done one notes os ps is js was answered kept outbox inbox = record {
+gathers_more {first} {done} {notes} one was answered kept outbox inbox = record {
   transcripts = notes_push first done one notes was.transcripts;
   answered = answered_push notes one.notes was.answered answered;
   outboxes =
