@@ -1,5 +1,5 @@
 -- Lists with each element once, their filters and beginnings, and numbers in order.
-use Rattle.std.proofs.Common.{◌≡◌, ℕ, zero, suc, ◌+◌, ◌<◌, ◌≤◌, List, [], ◌∷◌, ◌++◌, Bool, true, false, ◌||◌, refl, sym, ap, ◌∙◌, inl, inr, length, length-append, get_or, take, arith, append_assoc, true≢false}
+use Rattle.std.proofs.Common.{◌≡◌, ℕ, zero, suc, ◌+◌, ◌<◌, ◌≤◌, List, [], ◌∷◌, ◌++◌, Bool, true, false, refl, sym, ap, ◌∙◌, inl, inr, length, length-append, get_or, take, arith, append_assoc, true≢false}
 use Rattle.std.specs.Prelude.{Option, Some, None, filter, map, nat_eq, slice_get, bytes_eq}
 use Rattle.std.specs.List.{list_any, IsDistinct, filter_map, cons_option}
 use Rattle.std.proofs.lemmas.Bool.{cases_Bool, cases_eq, eq-eqb, ne_eqb, or_cases, or_from, or_left, or_right}
