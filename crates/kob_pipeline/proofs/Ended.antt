@@ -1,9 +1,9 @@
--- What workers left, one worker more at a time, and where the journal is what was noted, or is not.
+-- What workers left, one worker more at a time, and where the journal is what was noted.
 use Rattle.std.proofs.Common.{◌≡◌, List, [], ◌∷◌, ◌++◌, length, sym, ap, ◌∙◌, map, arith, refl}
 use Rattle.std.proofs.lemmas.List.{flat_map_more, map-append}
-use Rattle.kob_shared.specs.Fleets.{EachIsAnswered, IsAnswered, Follows, IsKept, IsTornAt}
+use Rattle.kob_shared.specs.Fleets.{EachIsAnswered, IsAnswered, Follows, IsKept}
 use Rattle.kob_shared.specs.Noted.{Noted}
-use Rattle.kob_shared.specs.Runs.{events_in, notes_of, told_in, IsAsNoted, IsTear}
+use Rattle.kob_shared.specs.Runs.{events_in, notes_of, told_in, IsAsNoted}
 use Rattle.kob_shared.specs.declared.work.Done.{Done}
 use Rattle.kob_pipeline.specs.declared.end.InboxEnd.{InboxEnd}
 use Rattle.kob_pipeline.specs.declared.end.OutboxEnd.{OutboxEnd}
@@ -13,7 +13,6 @@ use Rattle.kob_pipeline.specs.Leavings.{HasNoRefusal, IsKeptByStore, inbox_of, i
 use Rattle.std.specs.List.{AllZip}
 use Rattle.kob_broker.specs.Change.{state_of}
 use Rattle.kob_names.specs.declared.settings.Settings.{Settings}
-use Rattle.kob_shared.specs.declared.compare.Difference.{Difference}
 use Rattle.kob_shared.specs.Journals.{IsLegal, Record}
 use Rattle.kob_shared.specs.Openings.{opened_by}
 use Rattle.kob_shared.proofs.Beginnings.{begins_with}
@@ -44,12 +43,12 @@ pub record Gathers (first : Noted) (done : List (Done WorkerEnd)) (notes : List 
   pub unrefused : HasNoRefusal done
 
 -- one worker more
-pub gathers_more : (first : Noted) (done : List (Done WorkerEnd)) (one : Done WorkerEnd) (notes : List Noted)
-    (os ps : List OutboxEnd) (is js : List InboxEnd) → Gathers first done notes os is
+pub gathers_more : {first : Noted} {done : List (Done WorkerEnd)} {notes : List Noted} {os ps : List OutboxEnd}
+    {is js : List InboxEnd} (one : Done WorkerEnd) → Gathers first done notes os is
     → IsAnswered (length one.notes.events) one.notes.told → IsKeptByStore one.end → ps ≡ os ++ outbox_of one.end
     → js ≡ is ++ inbox_of one.end
     → Gathers first (done ++ one ∷ []) (notes ++ one.notes ∷ []) ps js
-gathers_more first done one notes os ps is js was answered kept outbox inbox = record {
+gathers_more {first} {done} {notes} one was answered kept outbox inbox = record {
   transcripts = notes_push first done one notes was.transcripts;
   answered = answered_push notes one.notes was.answered answered;
   outboxes =
@@ -61,7 +60,7 @@ gathers_more first done one notes os ps is js was answered kept outbox inbox = r
   unrefused = all_last (λ (d : Done WorkerEnd). IsKeptByStore d.end) done one was.unrefused kept;
 }
 
--- ---- what is left where the journal is what was noted, and where it is not
+-- ---- what is left where the journal is what was noted
 
 all_planned : (workers : List Worker) (done : List (Done WorkerEnd))
     → AllZip (λ w d. IsLeft (planned_as w) d.notes d.end) workers done
@@ -101,9 +100,3 @@ ended opening first workers done found end legal kept follows each unrefused ans
       outboxes = outboxes;
       inboxes = inboxes;
     }
-
--- it is not
-pub torn : (opening : Settings) (first : Noted) (done : List (Done WorkerEnd)) (found : Record) (d : Difference)
-    (notes : List Noted) → IsTear opening (notes_of first done) found d → notes ≡ notes_of first done
-    → IsTornAt opening (events_in notes) (told_in notes) found d.worker d.place
-torn opening first done found d notes tear same = rw same tear

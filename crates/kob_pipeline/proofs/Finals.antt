@@ -1,14 +1,13 @@
 -- What all workers left, told of each service, each consumer and each administrator.
 use Rattle.std.proofs.Common.{◌≡◌, ℕ, zero, suc, ◌+◌, List, [], ◌∷◌, ◌++◌, length, length-append, append_assoc, append-nil, map, arith, refl, sym, ap, ◌∙◌, subst}
-use Rattle.std.specs.Prelude.{Some, slice_get, option_map}
-use Rattle.std.specs.List.{AllZip, flat_map}
+use Rattle.std.specs.Prelude.{Some, slice_get}
+use Rattle.std.specs.List.{AllZip}
 use Rattle.std.proofs.lemmas.List.{length-map}
-use Rattle.std.proofs.lemmas.Option.{slice_get-map}
 use Rattle.kob_shared.specs.Fleets.{events_of_script}
 use Rattle.kob_shared.specs.Noted.{Noted}
 use Rattle.kob_shared.specs.Openings.{opened_by}
 use Rattle.kob_shared.specs.Journals.{IsLegal}
-use Rattle.kob_shared.specs.Runs.{events_in, notes_of}
+use Rattle.kob_shared.specs.Runs.{events_in}
 use Rattle.kob_shared.specs.declared.script.Script.{Script}
 use Rattle.kob_shared.specs.declared.work.Done.{Done}
 use Rattle.kob_shared.proofs.Zips.{length_all_zip}
@@ -65,86 +64,104 @@ administrator_end : (s : Script) (noted : Noted) (end : WorkerEnd)
 administrator_end s noted Nothing is kept = (tt, refl, is)
 administrator_end s noted _ is kept = absurd is
 
--- what one worker of a kind noted and left
-abbrev ended : {E : Type 0} → (E → WorkerEnd) → Noted × E → Done WorkerEnd
-ended end x = record { notes = x.0; end = end x.1 }
+-- by the number of a worker among those of its kind, what it noted and left
+record Ran {P E : Type 0} (Run : P → Noted → E → Type 0) (notes : List Noted) (ends : List E) (k : ℕ) (p : P) : Type 0
+  where
+    noted : Noted
+    left : E
+    transcript : slice_get notes k ≡ Some noted
+    own : slice_get ends k ≡ Some left
+    run : Run p noted left
 
--- the first workers are of one kind, of which each leaves one thing: what they left, and what is behind them
-record Front {P E : Type 0} (end : E → WorkerEnd) (Run : P → Noted → E → Type 0) (ps : List P) (rest : List Planned)
-    (done : List (Done WorkerEnd)) : Type 0 where
-  own : List (Noted × E)
+one_ran : {P E : Type 0} (Run : P → Noted → E → Type 0) (notes : List Noted) (ends : List E) (noted : Noted) (left : E)
+    (q : P) (ps : List P) → Run q noted left → ((k : ℕ) (p : P) → slice_get ps k ≡ Some p → Ran Run notes ends k p)
+    → (k : ℕ) (p : P) → slice_get (q ∷ ps) k ≡ Some p → Ran Run (noted ∷ notes) (left ∷ ends) k p
+one_ran Run notes ends noted left q ps run runs zero p there =
+    let same : q ≡ p = cc in
+    record {
+      noted = noted;
+      left = left;
+      transcript = refl;
+      own = refl;
+      run = subst (λ r. Run r noted left) same run;
+    }
+one_ran Run notes ends noted left q ps run runs (suc k) p there =
+    let x = runs k p there in
+    record { noted = x.noted; left = x.left; transcript = x.transcript; own = x.own; run = x.run }
+
+-- the first workers are of one kind: what each noted and left, what that is of all outboxes and inboxes, and who is
+-- behind them
+record Front {P E : Type 0} (os : List E → List OutboxEnd) (is : List E → List InboxEnd)
+    (Run : P → Noted → E → Type 0) (ps : List P) (rest : List Planned) (done : List (Done WorkerEnd)) : Type 0 where
+  notes : List Noted
+  left : List E
   later : List (Done WorkerEnd)
-  whole : done ≡ map (ended end) own ++ later
-  runs : AllZip (λ p x. Run p x.0 x.1) ps own
+  all_notes : map (λ (d : Done WorkerEnd). d.notes) done ≡ notes ++ map (λ (d : Done WorkerEnd). d.notes) later
+  outboxes : outboxes_of done ≡ os left ++ outboxes_of later
+  inboxes : inboxes_of done ≡ is left ++ inboxes_of later
+  noted : length notes ≡ length ps
+  ended : length left ≡ length ps
+  runs : (k : ℕ) (p : P) → slice_get ps k ≡ Some p → Ran Run notes left k p
   all : AllZip Left rest later
   kept : HasNoRefusal later
 
-front : {P E : Type 0} (made : P → Planned) (end : E → WorkerEnd) (Run : P → Noted → E → Type 0)
+one_more : {E F : Type 0} (of : WorkerEnd → List F) (end : E → WorkerEnd) (all : List E → List F)
+    → ((e : E) (es : List E) → of (end e) ++ all es ≡ all (e ∷ es)) → (x : WorkerEnd) (e : E) (es : List E)
+    (rest later : List F) → x ≡ end e → rest ≡ all es ++ later → of x ++ rest ≡ all (e ∷ es) ++ later
+one_more {F = F} of end all one x e es rest later is same =
+    ap (λ (y : WorkerEnd). of y ++ rest) is
+    ∙ ap (λ (zs : List F). of (end e) ++ zs) same
+    ∙ sym (append_assoc (of (end e)) (all es) later)
+    ∙ ap (λ (zs : List F). zs ++ later) (one e es)
+
+front : {P E : Type 0} (made : P → Planned) (end : E → WorkerEnd) (os : List E → List OutboxEnd)
+    (is : List E → List InboxEnd) (Run : P → Noted → E → Type 0)
     → ((p : P) (noted : Noted) (e : WorkerEnd) → IsLeft (made p) noted e → IsKeptByStore e
     → (left : E) × (e ≡ end left) × Run p noted left)
-    → (ps : List P) (rest : List Planned) (done : List (Done WorkerEnd)) → AllZip Left (map made ps ++ rest) done
-    → HasNoRefusal done → Front end Run ps rest done
-front made end Run each [] rest done all kept =
-    record { own = []; later = done; whole = refl; runs = tt; all = all; kept = kept }
-front made end Run each (p ∷ ps) rest [] all kept = absurd all
-front made end Run each (p ∷ ps) rest (d ∷ ds) all kept =
-    let e = each p d.notes d.end all.0 kept.0 in
-    let f = front made end Run each ps rest ds all.1 kept.1 in
+    → os [] ≡ [] → is [] ≡ [] → ((e : E) (es : List E) → outbox_of (end e) ++ os es ≡ os (e ∷ es))
+    → ((e : E) (es : List E) → inbox_of (end e) ++ is es ≡ is (e ∷ es)) → (ps : List P) (rest : List Planned)
+    (done : List (Done WorkerEnd)) → AllZip Left (map made ps ++ rest) done → HasNoRefusal done
+    → Front os is Run ps rest done
+front made end os is Run each no_outbox no_inbox outbox inbox [] rest done all kept =
     record {
-      own = (d.notes, e.0) ∷ f.own;
+      notes = [];
+      left = [];
+      later = done;
+      all_notes = refl;
+      outboxes = ap (λ (xs : List OutboxEnd). xs ++ outboxes_of done) (sym no_outbox);
+      inboxes = ap (λ (xs : List InboxEnd). xs ++ inboxes_of done) (sym no_inbox);
+      noted = refl;
+      ended = refl;
+      runs = λ k p there. absurd (cc);
+      all = all;
+      kept = kept;
+    }
+front made end os is Run each no_outbox no_inbox outbox inbox (p ∷ ps) rest [] all kept = absurd all
+front made end os is Run each no_outbox no_inbox outbox inbox (p ∷ ps) rest (d ∷ ds) all kept =
+    let e = each p d.notes d.end all.0 kept.0 in
+    let f = front made end os is Run each no_outbox no_inbox outbox inbox ps rest ds all.1 kept.1 in
+    record {
+      notes = d.notes ∷ f.notes;
+      left = e.0 ∷ f.left;
       later = f.later;
-      whole =
-          ap (λ (x : WorkerEnd). record { notes = d.notes; end = x } ∷ ds) e.1
-          ∙ ap (λ (ds : List (Done WorkerEnd)). ended end (d.notes, e.0) ∷ ds) f.whole;
-      runs = (e.2, f.runs);
+      all_notes = ap (λ (ns : List Noted). d.notes ∷ ns) f.all_notes;
+      outboxes =
+          one_more outbox_of end os outbox d.end e.0 f.left (outboxes_of ds) (outboxes_of f.later) e.1 f.outboxes;
+      inboxes = one_more inbox_of end is inbox d.end e.0 f.left (inboxes_of ds) (inboxes_of f.later) e.1 f.inboxes;
+      noted = ap suc f.noted;
+      ended = ap suc f.ended;
+      runs = one_ran Run f.notes f.left d.notes e.0 p ps e.2 f.runs;
       all = f.all;
       kept = f.kept;
     }
 
--- what such workers left of one kind: all that they left, or nothing
-all_own : {E : Type 0} (of : WorkerEnd → List E) (end : E → WorkerEnd) (own : List (Noted × E))
-    (later : List (Done WorkerEnd))
-    → ((e : E) → of (end e) ≡ e ∷ [])
-    → flat_map (λ (d : Done WorkerEnd). of d.end) (map (ended end) own ++ later)
-    ≡ map (λ (x : Noted × E). x.1) own ++ flat_map (λ (d : Done WorkerEnd). of d.end) later
-all_own of end [] later is = refl
-all_own {E} of end (x ∷ own) later is =
-    rw (is x.1) (ap (λ (es : List E). x.1 ∷ es) (all_own of end own later is))
-
-no_other : {E F : Type 0} (of : WorkerEnd → List F) (end : E → WorkerEnd) (own : List (Noted × E))
-    (later : List (Done WorkerEnd))
-    → ((e : E) → of (end e) ≡ [])
-    → flat_map (λ (d : Done WorkerEnd). of d.end) (map (ended end) own ++ later)
-    ≡ flat_map (λ (d : Done WorkerEnd). of d.end) later
-no_other of end [] later is = refl
-no_other of end (x ∷ own) later is = rw (is x.1) (no_other of end own later is)
-
--- ---- by numbers
-
-run_at : {P X : Type 0} (R : P → X → Type 0) (ps : List P) (xs : List X) (k : ℕ) (p : P) → AllZip R ps xs
-    → slice_get ps k ≡ Some p → (x : X) × (slice_get xs k ≡ Some x) × R p x
-run_at R [] xs k p all is = absurd (cc)
-run_at R (q ∷ ps) [] k p all is = absurd all
-run_at R (q ∷ ps) (x ∷ xs) zero p all is = let same : q ≡ p = cc in (x, refl, subst (λ r. R r x) same all.0)
-run_at R (q ∷ ps) (x ∷ xs) (suc k) p all is = run_at R ps xs k p all.1 is
-
--- what one of them left stands at its number
-left_at : {E : Type 0} (ends : List E) (own : List (Noted × E)) (k : ℕ) (x : Noted × E)
-    → ends ≡ map (λ (y : Noted × E). y.1) own → slice_get own k ≡ Some x → slice_get ends k ≡ Some x.1
-left_at {E} ends own k x are is =
-    rw are (slice_get-map (λ (y : Noted × E). y.1) own k ∙ ap (option_map (λ (y : Noted × E). y.1)) is)
-
--- its transcript stands behind that of worker 0 and those of the workers before
-transcript_at : {E : Type 0} (notes : List Noted) (first : Noted) (before : List Noted) (own : List (Noted × E))
-    (later : List Noted) (worker k : ℕ) (x : Noted × E)
-    → notes ≡ first ∷ (before ++ (map (λ (y : Noted × E). y.0) own ++ later))
-    → worker ≡ suc (length before + k) → slice_get own k ≡ Some x → slice_get notes worker ≡ Some x.0
-transcript_at {E} notes first before own later worker k x are number is =
-    let own_notes : List Noted = map (λ (y : Noted × E). y.0) own in
+-- a transcript stands behind that of worker 0 and those of the workers before
+transcript_at : (notes : List Noted) (first : Noted) (before own later : List Noted) (worker k : ℕ) (x : Noted)
+    → notes ≡ first ∷ (before ++ (own ++ later)) → worker ≡ suc (length before + k) → slice_get own k ≡ Some x
+    → slice_get notes worker ≡ Some x
+transcript_at notes first before own later worker k x are number is =
     rw (are, number)
-    (get_behind before (own_notes ++ later) (length before + k) k refl
-    ∙ get_front own_notes later k x.0
-    (slice_get-map (λ (y : Noted × E). y.0) own k ∙ ap (option_map (λ (y : Noted × E). y.0)) is))
+    (get_behind before (own ++ later) (length before + k) k refl ∙ get_front own later k x is)
 
 planned_count : (ss : List Service) (cs : List ConsumerPlan) (ads : List Script)
     → length (map Serving ss ++ (map Consuming cs ++ map Administering ads)) ≡ length ss + length cs + length ads
@@ -162,81 +179,52 @@ workers_counted plan workers same =
     sym (length-map workers planned_as) ∙ ap length same
     ∙ planned_count plan.services.items plan.consumers.items plan.administrators.items
 
-notes_of_front : {E : Type 0} (end : E → WorkerEnd) (own : List (Noted × E)) (later : List (Done WorkerEnd))
-    → map (λ (d : Done WorkerEnd). d.notes) (map (ended end) own ++ later)
-    ≡ map (λ (x : Noted × E). x.0) own ++ map (λ (d : Done WorkerEnd). d.notes) later
-notes_of_front end [] later = refl
-notes_of_front end (x ∷ own) later = ap (λ (ns : List Noted). x.0 ∷ ns) (notes_of_front end own later)
-
--- what services, consumers and administrators noted and left, one after another
-module _ (ss : List (Noted × OutboxEnd)) (cs : List (Noted × InboxEnd)) (ads : List (Noted × Unit {0})) where
-  abbrev all_ends : List (Done WorkerEnd)
-  all_ends = map (ended Outbox) ss ++ (map (ended Inbox) cs ++ (map (ended nothing) ads ++ []))
-
-  their_notes : (first : Noted) → notes_of first all_ends
-      ≡ first ∷ (map (λ (x : Noted × OutboxEnd). x.0) ss
-      ++ (map (λ (x : Noted × InboxEnd). x.0) cs ++ (map (λ (x : Noted × Unit {0}). x.0) ads ++ [])))
-  their_notes first =
-      ap (λ (ns : List Noted). first ∷ ns)
-      (rw (
-        notes_of_front Outbox ss (map (ended Inbox) cs ++ (map (ended nothing) ads ++ [])),
-        notes_of_front Inbox cs (map (ended nothing) ads ++ []),
-        notes_of_front nothing ads [],
-      ) refl)
-
-  their_outboxes : outboxes_of all_ends ≡ map (λ (x : Noted × OutboxEnd). x.1) ss
-  their_outboxes =
-      all_own outbox_of Outbox ss (map (ended Inbox) cs ++ (map (ended nothing) ads ++ [])) (λ o. refl)
-      ∙ ap (λ (os : List OutboxEnd). map (λ (x : Noted × OutboxEnd). x.1) ss ++ os)
-      (no_other outbox_of Inbox cs (map (ended nothing) ads ++ []) (λ i. refl)
-      ∙ no_other outbox_of nothing ads [] (λ u. refl))
-      ∙ append-nil (map (λ (x : Noted × OutboxEnd). x.1) ss)
-
-  their_inboxes : inboxes_of all_ends ≡ map (λ (x : Noted × InboxEnd). x.1) cs
-  their_inboxes =
-      no_other inbox_of Outbox ss (map (ended Inbox) cs ++ (map (ended nothing) ads ++ [])) (λ o. refl)
-      ∙ all_own inbox_of Inbox cs (map (ended nothing) ads ++ []) (λ i. refl)
-      ∙ ap (λ (is : List InboxEnd). map (λ (x : Noted × InboxEnd). x.1) cs ++ is)
-      (no_other inbox_of nothing ads [] (λ u. refl))
-      ∙ append-nil (map (λ (x : Noted × InboxEnd). x.1) cs)
-
 none_behind : (done : List (Done WorkerEnd)) → AllZip Left [] done → done ≡ []
 none_behind [] all = refl
 none_behind (d ∷ done) all = absurd all
 
--- what each worker left by its number, from what the workers of each kind left
-by_number : (opening : Settings) (plan : Plan) (end : PipelineEnd) (left : IsEnd opening plan.first
-    (planned_workers plan) end)
-    (f : Front Outbox IsServiceRun plan.services.items
-    (map Consuming plan.consumers.items ++ map Administering plan.administrators.items) left.done)
-    (g : Front Inbox IsConsumption plan.consumers.items (map Administering plan.administrators.items) f.later)
-    (h : Front nothing Administered plan.administrators.items [] g.later)
-    → opened_by opening ≡ opened_by plan.settings → IsPipeline plan end
-by_number opening plan end left f g h same =
+-- what each worker left by its number, from what the parts of the call say
+pub pipeline_ended : (opening : Settings) (plan : Plan) (events : List Event) (planned : List Planned)
+    (end : PipelineEnd) → opening ≡ settings_of (opened_by plan.settings) → events ≡ plan.first
+    → planned ≡ planned_workers plan
+    → IsEnd opening events planned end → IsPipeline plan end
+pipeline_ended opening plan events planned end stored first workers all =
     let ss = plan.services.items in
     let cs = plan.consumers.items in
     let ads = plan.administrators.items in
-    let whole : left.done ≡ all_ends f.own g.own h.own =
-    f.whole
-    ∙ ap (λ (ds : List (Done WorkerEnd)). map (ended Outbox) f.own ++ ds)
-    (g.whole ∙ ap (λ (ds : List (Done WorkerEnd)). map (ended Inbox) g.own ++ ds)
-    (h.whole ∙ ap (λ (ds : List (Done WorkerEnd)). map (ended nothing) h.own ++ ds) (none_behind h.later h.all))) in
-    let serving : List Noted = map (λ (x : Noted × OutboxEnd). x.0) f.own in
-    let consuming : List Noted = map (λ (x : Noted × InboxEnd). x.0) g.own in
-    let others : List Noted = map (λ (x : Noted × Unit {0}). x.0) h.own in
-    let notes : end.transcripts.items ≡ left.worker_0 ∷ (serving ++ (consuming ++ (others ++ []))) =
-    left.transcripts ∙ ap (notes_of left.worker_0) whole ∙ their_notes f.own g.own h.own left.worker_0 in
-    let outboxes : end.outboxes.items ≡ map (λ (x : Noted × OutboxEnd). x.1) f.own =
-    left.outboxes ∙ ap outboxes_of whole ∙ their_outboxes f.own g.own h.own in
-    let inboxes : end.inboxes.items ≡ map (λ (x : Noted × InboxEnd). x.1) g.own =
-    left.inboxes ∙ ap inboxes_of whole ∙ their_inboxes f.own g.own h.own in
-    let served = length_all_zip (λ s (x : Noted × OutboxEnd). IsServiceRun s x.0 x.1) ss f.own f.runs in
-    let consumed = length_all_zip (λ c (x : Noted × InboxEnd). IsConsumption c x.0 x.1) cs g.own g.runs in
-    let in_front = length-map f.own (λ (x : Noted × OutboxEnd). x.0) in
-    let next = length-map g.own (λ (x : Noted × InboxEnd). x.0) in
-    let both = length-append serving consuming in
+    let left : IsEnd opening plan.first (planned_workers plan) end =
+    subst (λ (ws : List Planned). IsEnd opening plan.first ws end) workers
+    (subst (λ (es : List Event). IsEnd opening es planned end) first all) in
+    let f =
+    front Serving Outbox (λ (xs : List OutboxEnd). xs) (λ (xs : List OutboxEnd). []) IsServiceRun service_end refl refl
+    (λ e es. refl) (λ e es. refl) ss (map Consuming cs ++ map Administering ads) left.done left.each left.unrefused in
+    let g =
+    front Consuming Inbox (λ (xs : List InboxEnd). []) (λ (xs : List InboxEnd). xs) IsConsumption consumer_end refl refl
+    (λ e es. refl) (λ e es. refl) cs (map Administering ads) f.later f.all f.kept in
+    let h =
+    front Administering nothing (λ (xs : List (Unit {0})). []) (λ (xs : List (Unit {0})). []) Administered
+    administrator_end refl refl (λ e es. refl) (λ e es. refl) ads [] g.later
+    (subst (λ (ws : List Planned). AllZip Left ws g.later) (sym (append-nil (map Administering ads))) g.all) g.kept in
+    let none = none_behind h.later h.all in
+    let notes : end.transcripts.items ≡ left.worker_0 ∷ (f.notes ++ (g.notes ++ (h.notes ++ []))) =
+    left.transcripts
+    ∙ ap (λ (ns : List Noted). left.worker_0 ∷ ns)
+    (f.all_notes
+    ∙ ap (λ (ns : List Noted). f.notes ++ ns)
+    (g.all_notes
+    ∙ ap (λ (ns : List Noted). g.notes ++ ns)
+    (h.all_notes ∙ ap (λ (ds : List (Done WorkerEnd)). h.notes ++ map (λ (d : Done WorkerEnd). d.notes) ds) none)))
+    in
+    let outboxes : end.outboxes.items ≡ f.left =
+    left.outboxes ∙ f.outboxes
+    ∙ ap (λ (os : List OutboxEnd). f.left ++ os) (g.outboxes ∙ h.outboxes ∙ ap outboxes_of none) ∙ append-nil f.left in
+    let inboxes : end.inboxes.items ≡ g.left =
+    left.inboxes ∙ f.inboxes ∙ g.inboxes
+    ∙ ap (λ (is : List InboxEnd). g.left ++ is) (h.inboxes ∙ ap inboxes_of none) ∙ append-nil g.left in
     record {
-      legal = subst (λ o. IsLegal o end.journal (state_of end.broker)) same left.legal;
+      legal =
+          subst (λ o. IsLegal o end.journal (state_of end.broker))
+          (ap opened_by stored ∙ sym (opened_again plan.settings)) left.legal;
       begins = left.begins;
       first = ap (λ (ns : List Noted). slice_get (events_in ns) 0) left.transcripts ∙ ap Some left.asked;
       answered = left.answered;
@@ -246,61 +234,40 @@ by_number opening plan end left f g h same =
           ∙ (let a = length-map left.done (λ (d : Done WorkerEnd). d.notes) in
           let b = length_all_zip Left (planned_workers plan) left.done left.each in
           let c = planned_count ss cs ads in omega (arith, a, b, c));
-      outboxes = ap length outboxes ∙ length-map f.own (λ (x : Noted × OutboxEnd). x.1) ∙ sym served;
-      inboxes = ap length inboxes ∙ length-map g.own (λ (x : Noted × InboxEnd). x.1) ∙ sym consumed;
-      services = λ k s is.
-          let at = run_at (λ s (x : Noted × OutboxEnd). IsServiceRun s x.0 x.1) ss f.own k s f.runs is in
+      outboxes = ap length outboxes ∙ f.ended;
+      inboxes = ap length inboxes ∙ g.ended;
+      services = λ k s there.
+          let at = f.runs k s there in
           record {
-            noted = at.0.0;
-            left = at.0.1;
+            noted = at.noted;
+            left = at.left;
             transcript =
-                transcript_at end.transcripts.items left.worker_0 [] f.own (consuming ++ (others ++ [])) (k + 1) k at.0
-                notes (omega arith) at.1;
-            outbox = left_at end.outboxes.items f.own k at.0 outboxes at.1;
-            run = at.2;
+                transcript_at end.transcripts.items left.worker_0 [] f.notes (g.notes ++ (h.notes ++ [])) (k + 1) k
+                at.noted notes (omega arith) at.transcript;
+            outbox = ap (λ (os : List OutboxEnd). slice_get os k) outboxes ∙ at.own;
+            run = at.run;
           };
-      consumers = λ k c is.
-          let at = run_at (λ c (x : Noted × InboxEnd). IsConsumption c x.0 x.1) cs g.own k c g.runs is in
+      consumers = λ k c there.
+          let at = g.runs k c there in
           record {
-            noted = at.0.0;
-            left = at.0.1;
+            noted = at.noted;
+            left = at.left;
             transcript =
-                transcript_at end.transcripts.items left.worker_0 serving g.own (others ++ []) (length ss + k + 1) k
-                at.0
-                notes (omega (arith, served, in_front)) at.1;
-            inbox = left_at end.inboxes.items g.own k at.0 inboxes at.1;
-            run = at.2;
+                transcript_at end.transcripts.items left.worker_0 f.notes g.notes (h.notes ++ []) (length ss + k + 1) k
+                at.noted notes (omega (arith, f.noted)) at.transcript;
+            inbox = ap (λ (is : List InboxEnd). slice_get is k) inboxes ∙ at.own;
+            run = at.run;
           };
-      administrators = λ k s is.
-          let at = run_at (λ s (x : Noted × Unit {0}). Administered s x.0 x.1) ads h.own k s h.runs is in
+      administrators = λ k s there.
+          let at = h.runs k s there in
           record {
-            noted = at.0.0;
+            noted = at.noted;
             transcript =
-                transcript_at end.transcripts.items left.worker_0 (serving ++ consuming) h.own []
-                (length ss + length cs + k + 1) k at.0
+                transcript_at end.transcripts.items left.worker_0 (f.notes ++ g.notes) h.notes []
+                (length ss + length cs + k + 1) k at.noted
                 (notes
-                ∙ ap (λ (ns : List Noted). left.worker_0 ∷ ns) (sym (append_assoc serving consuming (others ++ []))))
-                (omega (arith, served, consumed, in_front, next, both)) at.1;
-            events = at.2;
+                ∙ ap (λ (ns : List Noted). left.worker_0 ∷ ns) (sym (append_assoc f.notes g.notes (h.notes ++ []))))
+                (omega (arith, f.noted, g.noted, length-append f.notes g.notes)) at.transcript;
+            events = at.run;
           };
     }
-
--- the same, from what the parts of the call say
-pub pipeline_ended : (opening : Settings) (plan : Plan) (events : List Event) (planned : List Planned)
-    (end : PipelineEnd) → opening ≡ settings_of (opened_by plan.settings) → events ≡ plan.first
-    → planned ≡ planned_workers plan
-    → IsEnd opening events planned end → IsPipeline plan end
-pipeline_ended opening plan events planned end stored first workers all =
-    let cs = plan.consumers.items in
-    let ads = plan.administrators.items in
-    let left : IsEnd opening plan.first (planned_workers plan) end =
-    subst (λ (ws : List Planned). IsEnd opening plan.first ws end) workers
-    (subst (λ (es : List Event). IsEnd opening es planned end) first all) in
-    let f =
-    front Serving Outbox IsServiceRun service_end plan.services.items (map Consuming cs ++ map Administering ads)
-    left.done left.each left.unrefused in
-    let g = front Consuming Inbox IsConsumption consumer_end cs (map Administering ads) f.later f.all f.kept in
-    by_number opening plan end left f g
-    (front Administering nothing Administered administrator_end ads [] g.later
-    (subst (λ (ws : List Planned). AllZip Left ws g.later) (sym (append-nil (map Administering ads))) g.all) g.kept)
-    (ap opened_by stored ∙ sym (opened_again plan.settings))

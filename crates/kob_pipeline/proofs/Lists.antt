@@ -1,11 +1,12 @@
 -- Lemmas on lists and places.
-use Rattle.std.proofs.Common.{◌≡◌, ◌⊎◌, ℕ, zero, suc, ◌+◌, length, List, [], ◌∷◌, ◌++◌, Bool, true, false, ◌||◌, refl, sym, ap, ◌∙◌, inl, inr, subst, arith}
+use Rattle.std.proofs.Common.{◌≡◌, ◌⊎◌, ℕ, zero, suc, ◌+◌, length, List, [], ◌∷◌, ◌++◌, Bool, true, false, ◌||◌, refl, ap, ◌∙◌, inl, inr, subst, arith}
 use Rattle.std.specs.Prelude.{filter, map, Contains, Some, slice_get, bytes_eq}
 use Rattle.std.specs.List.{list_any, AllByRecursion}
 use Rattle.std.proofs.lemmas.Slice.Eq.{bytes_eq-Decides}
 use Rattle.std.proofs.lemmas.Bool.{eqb-true, eq-eqb, and_parts, and_from, cases_Bool, or_left, or_right, or_from, or_parts}
 use Rattle.std.proofs.lemmas.List.{append-nil}
-use Rattle.std.proofs.lemmas.List.Elements.{filter-append}
+use Rattle.std.proofs.lemmas.Cmp.{nat_list_eq_equiv}
+use Rattle.std.proofs.lemmas.List.Elements.{All-contains, All-contains_itself, All-filter, filter-append, filter_passes}
 use Rattle.std.proofs.lemmas.Option.{slice_get_within, get_or_from_slice_get}
 use Rattle.kob_router.specs.Places.{same_place}
 use Rattle.kob_router.specs.declared.place.Place.{Place}
@@ -16,20 +17,9 @@ same_bytes xs = (bytes_eq-Decides xs xs).1 refl
 pub bytes_are : (xs ys : List ℕ) → bytes_eq xs ys ≡ true → xs ≡ ys
 bytes_are xs ys h = (bytes_eq-Decides xs ys).0 h
 
-both_ways : (xs ys : List ℕ) → bytes_eq ys xs ≡ true → bytes_eq xs ys ≡ true
-both_ways xs ys h = (bytes_eq-Decides xs ys).1 (sym (bytes_are ys xs h))
-
 -- the test of equality doesn't tell its two sides apart
 pub bytes_turned : (xs ys : List ℕ) → bytes_eq xs ys ≡ bytes_eq ys xs
-bytes_turned xs ys =
-    elim (cases_Bool (bytes_eq xs ys)) [
-      | inl on ↦ on ∙ sym (both_ways ys xs on)
-      | inr off ↦ elim (cases_Bool (bytes_eq ys xs)) [
-        | inl on ↦ both_ways xs ys on ∙ sym on
-        | inr miss ↦ off
-            ∙ sym miss
-      ]
-    ]
+bytes_turned xs ys = nat_list_eq_equiv.symm xs ys
 
 pub same_here : (q : Place) → same_place q q ≡ true
 same_here q = and_from _ _ (same_bytes q.topic) (eq-eqb q.partition q.partition refl)
@@ -107,15 +97,10 @@ filter_not_last p xs x h = filter-append p xs (x ∷ []) ∙ rw h (append-nil (f
 -- what a filter keeps passes, and stood in the list
 pub kept_by : {A : Type 0} (test : A → Bool) (xs : List A) (x : A) → Contains (filter test xs) x → Contains xs x
     × (test x ≡ true)
-kept_by test [] x (k, l, at) = absurd (omega arith)
-kept_by test (y ∷ xs) x c =
-    elim (cases_Bool (test y)) [
-      | inl on ↦ elim (first_or_behind (filter test xs) y x (rw on at c)) [
-        | inl e ↦ ((0, omega arith, e), ap test (sym e) ∙ on)
-        | inr behind ↦ let k = kept_by test xs x behind in (contains_more xs y x k.0, k.1)
-      ]
-      | inr off ↦ let k = kept_by test xs x (rw off at c) in (contains_more xs y x k.0, k.1)
-    ]
+kept_by test xs x c = (
+  All-contains (Contains xs) (filter test xs) x (All-filter test (Contains xs) xs (All-contains_itself xs)) c,
+  All-contains (λ y. test y ≡ true) (filter test xs) x (filter_passes test xs) c,
+)
 
 -- what passes is kept
 pub keeps : {A : Type 0} (test : A → Bool) (xs : List A) (x : A) → Contains xs x → test x ≡ true

@@ -94,18 +94,6 @@ unserved_is_noted desk request = record {
   own = All-nil (IsEventOf desk.seat.principal desk.seat.host);
 }
 
--- a call is made
-pub one_call_is_made : (fault : Option CallFault) (loss : Loss) (calls then_calls : List Call) (call : Call)
-    (old new : AtDesk) → fault ≡ None → then_calls ≡ calls ++ call ∷ [] → AreNoted (loss ∷ []) (call ∷ []) old new
-    → AreMade fault loss lost.None calls then_calls old new
-one_call_is_made fault loss calls then_calls call old new begun added noted = record {
-  begun = begun;
-  made = call ∷ [];
-  calls_now = added;
-  next = refl;
-  noted = noted;
-}
-
 -- the calls of a tick are those that were noted
 pub calls_of_a_tick : (fault : Option CallFault) (loss then_loss : Loss) (calls then_calls made : List Call)
     (old new : AtDesk) → AreMade fault loss then_loss calls then_calls old new → then_calls ≡ calls ++ made

@@ -1,13 +1,14 @@
 -- Lists with each element once, their filters and beginnings, and numbers in order.
-use Rattle.std.proofs.Common.{◌≡◌, ℕ, zero, suc, ◌+◌, ◌<◌, ◌≤◌, List, [], ◌∷◌, ◌++◌, Bool, true, false, ◌||◌, refl, sym, ap, ◌∙◌, inl, inr, length, length-append, get_or, take, arith, append_assoc, true≢false}
+use Rattle.std.proofs.Common.{◌≡◌, ℕ, zero, suc, ◌+◌, ◌<◌, ◌≤◌, List, [], ◌∷◌, ◌++◌, Bool, true, false, refl, sym, ap, ◌∙◌, inl, inr, length, length-append, get_or, take, arith, append_assoc, true≢false}
 use Rattle.std.specs.Prelude.{Option, Some, None, filter, map, nat_eq, slice_get, bytes_eq}
 use Rattle.std.specs.List.{list_any, IsDistinct, filter_map, cons_option}
-use Rattle.std.proofs.lemmas.Bool.{both_ways, cases_Bool, cases_eq, eq-eqb, ne_eqb, or_cases, or_from, or_left, or_right}
+use Rattle.std.proofs.lemmas.Bool.{cases_Bool, cases_eq, eq-eqb, ne_eqb, or_cases, or_from, or_left, or_right}
 use Rattle.std.proofs.lemmas.Cmp.{nat_list_eq_equiv}
 use Rattle.std.proofs.lemmas.List.{append-nil, get_or_append_left, get_or_at, get_or_push, length_push}
 use Rattle.std.proofs.lemmas.List.Elements.{filter-append}
 use Rattle.std.proofs.lemmas.List.Folds.{list_any-append}
 use Rattle.std.proofs.lemmas.Map.Keys.{IsDistinct-push}
+use Rattle.std.proofs.lemmas.Map.Views.{any-filter_same}
 use Rattle.kob_names.specs.declared.record.Record.{Record}
 use Rattle.kob_pipeline.specs.Firsts.{IsPrefixOf, firsts, numbers_below, with_each_new, with_new}
 use Rattle.kob_pipeline.proofs.Lists.{any_last, bytes_are, filter_last, filter_not_last, same_bytes}
@@ -46,15 +47,7 @@ firsts_distinct xs = distinct_each [] xs tt
 -- an element that passes is found among those that pass
 any_passing : (test : List ℕ → Bool) (y : List ℕ) → test y ≡ true → (xs : List (List ℕ))
     → list_any (bytes_eq y) (filter test xs) ≡ list_any (bytes_eq y) xs
-any_passing test y h [] = refl
-any_passing test y h (x ∷ xs) =
-    elim (cases_Bool (test x)) [
-      | inl on ↦ rw on (ap (λ (b : Bool). bytes_eq y x || b) (any_passing test y h xs))
-      | inr off ↦ elim (cases_Bool (bytes_eq y x)) [
-        | inl e ↦ absurd (both_ways (test x) off (ap test (sym (bytes_are y x e)) ∙ h))
-        | inr e ↦ rw (off, e) (any_passing test y h xs)
-      ]
-    ]
+any_passing test y h xs = any-filter_same (bytes_eq y) test true (λ x e. ap test (sym (bytes_are y x e)) ∙ h) xs
 
 filter_new : (test : List ℕ → Bool) (xs : List (List ℕ)) (y : List ℕ) → test y ≡ true
     → filter test (with_new bytes_eq xs y) ≡ with_new bytes_eq (filter test xs) y

@@ -38,7 +38,11 @@ use Rattle.kob_pipeline.specs.declared.plan.ConsumerPlan.{ConsumerPlan}
 use Rattle.kob_pipeline.specs.declared.plan.Plan.{Plan}
 use Rattle.kob_pipeline.specs.declared.plan.Service.{Service}
 use Rattle.kob_pipeline.proofs.BrokerSteps.{legal_is_history}
-use Rattle.kob_pipeline.proofs.DeliveryLaws.{holds_a_prefix, holds_what_was_routed, takes_in_order, waits_or_was_sent}
+use Rattle.kob_pipeline.proofs.Aggregates.{target_tells}
+use Rattle.kob_pipeline.proofs.ConsumerRun.{is_taken_in_order}
+use Rattle.kob_pipeline.proofs.DeliveryLaws.{holds_a_prefix}
+use Rattle.kob_pipeline.proofs.RouterRun.{is_delivered}
+use Rattle.kob_pipeline.proofs.RowsRun.{all_wait_or_sent}
 use Rattle.kob_pipeline.proofs.Lists.{all_weaker, same_some}
 use Rattle.kob_pipeline.proofs.Rows.{rows_of_steps}
 use Rattle.kob_outbox.specs.Contents as outboxes
@@ -129,14 +133,15 @@ module _ (plan : Plan) (end : PipelineEnd) (of : IsPipeline plan end) where
       rows_of_steps (dispatch_of service.target) routers.start by.run.state service.steps.items by.run.moves
       by.run.losses by.run.steps
 
-  pub is_delivered : (k : ℕ) (service : Service) (place : Place) → slice_get plan.services.items k ≡ Some service
+  pub its_partitions : (k : ℕ) (service : Service) (place : Place) → slice_get plan.services.items k ≡ Some service
       → IsSoleProducer (service_number plan k) place.topic end.journal → IsNeverDeleted place.topic end.journal
       → IsDelivered (dispatch_of service.target) place (rows_of_service service) (records_at plan end place)
-  is_delivered k service place there sole never =
+  its_partitions k service place there sole never =
       let by : IsServedBy end (service_number plan k) k service = of.services k service there in
       rw (← its_rows k service by)
-      (holds_what_was_routed service.target (service_number plan k) end.journal (view_after plan.settings end.journal)
-      by.run.moves by.run.state place history (of_service k service by) sole never)
+      (is_delivered (dispatch_of service.target) place (target_tells service.target) (service_number plan k)
+      (view_after plan.settings end.journal) end.journal by.run.moves by.run.state history by.run.run
+      (of_service k service by).served sole never)
 
   still_waits : (left : OutboxEnd) (outbox : outboxes.Contents) (target : Target) (worker : ℕ) (journal : List Entry)
       (rows : List Event)
@@ -171,8 +176,8 @@ module _ (plan : Plan) (end : PipelineEnd) (of : IsPipeline plan end) where
       (routers.events_of outboxes.empty by.run.moves)
       (sym by.run.mark ∙ ap (λ (l : OutboxEnd). l.mark) same)
       (sym by.run.rows ∙ ap (λ (l : OutboxEnd). (outbox_in l).events) same)
-      (waits_or_was_sent service.target (service_number plan k) end.journal by.run.moves by.run.state
-      (of_service k service by)))
+      (all_wait_or_sent (dispatch_of service.target) (service_number plan k) end.journal by.run.moves by.run.state
+      by.run.run (of_service k service by).served))
 
   -- the inbox that is left is what the run leaves
   its_inbox : (k : ℕ) (consumer : ConsumerPlan) (by : IsConsumedBy end (consumer_number plan k) k consumer)
@@ -192,9 +197,9 @@ module _ (plan : Plan) (end : PipelineEnd) (of : IsPipeline plan end) where
       record {
         by = by;
         order =
-            takes_in_order consumer.subscription (consumer_number plan k) end.journal
-            (view_after plan.settings end.journal)
-            by.run.moves by.run.state place history (of_consumer k consumer by) sole never;
+            is_taken_in_order consumer.subscription place (consumer_number plan k)
+            (view_after plan.settings end.journal) end.journal by.run.moves by.run.state history by.run.run
+            (of_consumer k consumer by).served sole never;
         inbox =
             its_inbox k consumer by
             ∙ run_takes_in consumer.subscription by.run.moves consumers.start by.run.state by.run.run;

@@ -7,8 +7,7 @@ use Rattle.kob_inbox.specs.Run.Move.{Called, Restarted}
 use Rattle.std.proofs.lemmas.List.{take_more}
 use Rattle.kob_pipeline.specs.declared.plan.Loss.{Loss}
 use Rattle.kob_pipeline.specs.Steps.{Doing, Leads, Standing, Steps, standing}
-use Rattle.std.specs.List.{All, enumerate_from}
-use Rattle.kob_inbox.specs.Rows.{placed_intake}
+use Rattle.std.specs.List.{All}
 use Rattle.kob_outbox.specs.Events.{stored_row}
 use Rattle.kob_outbox.specs.Reading.{later_than}
 use Rattle.kob_router.specs.Dispatches.{Dispatching, dispatch_of}
@@ -191,17 +190,19 @@ pub service_run_of : (s : Service) (begun desk : AtDesk) (left : OutboxEnd) → 
     → begun.seat.principal ≡ s.principal → begun.seat.host ≡ s.host → IsOutboxLeft s begun desk left
     → IsServiceRun s desk.noted left
 service_run_of s begun desk left none principal host is =
-    let calls = routers.calls_of is.moves in
-    let lost = all_noted is.losses calls begun desk none is.noted in
+    let calls = routers.calls_of is.leads.moves in
+    let lost = all_noted is.leads.losses calls begun desk none is.leads.noted in
     record {
-      moves = is.moves;
-      losses = is.losses;
+      moves = is.leads.moves;
+      losses = is.leads.losses;
       state = is.state;
-      steps = is.steps;
-      run = service_run (dispatch_of s.target) routers.start is.state s.steps.items is.moves is.losses is.steps;
-      served = served_by_loss is.losses calls (served_by_notes desk.noted.events desk.noted.told) lost;
+      steps = is.leads.done;
+      run =
+          service_run (dispatch_of s.target) routers.start is.state s.steps.items is.leads.moves is.leads.losses
+          is.leads.done;
+      served = served_by_loss is.leads.losses calls (served_by_notes desk.noted.events desk.noted.told) lost;
       lost = lost;
-      own = all_own is.losses calls s.principal s.host begun desk none principal host is.noted;
+      own = all_own is.leads.losses calls s.principal s.host begun desk none principal host is.leads.noted;
       rows = is.rows;
       mark = is.mark;
     }
@@ -210,67 +211,40 @@ pub consumption_of : (c : ConsumerPlan) (begun desk : AtDesk) (left : InboxEnd) 
     → begun.seat.principal ≡ c.principal → begun.seat.host ≡ c.host → IsInboxLeft c begun desk left
     → IsConsumption c desk.noted left
 consumption_of c begun desk left none principal host is =
-    let calls = consumers.calls_of is.moves in
-    let lost = all_noted is.losses calls begun desk none is.noted in
+    let calls = consumers.calls_of is.leads.moves in
+    let lost = all_noted is.leads.losses calls begun desk none is.leads.noted in
     record {
-      moves = is.moves;
-      losses = is.losses;
+      moves = is.leads.moves;
+      losses = is.leads.losses;
       state = is.state;
-      steps = is.steps;
-      run = consumer_run c.subscription consumers.start is.state c.steps.items is.moves is.losses is.steps;
-      served = served_by_loss is.losses calls (served_by_notes desk.noted.events desk.noted.told) lost;
+      steps = is.leads.done;
+      run =
+          consumer_run c.subscription consumers.start is.state c.steps.items is.leads.moves is.leads.losses
+          is.leads.done;
+      served = served_by_loss is.leads.losses calls (served_by_notes desk.noted.events desk.noted.told) lost;
       lost = lost;
-      own = all_own is.losses calls c.principal c.host begun desk none principal host is.noted;
+      own = all_own is.leads.losses calls c.principal c.host begun desk none principal host is.leads.noted;
       rows = is.rows;
     }
 
 -- what the steps of a service leave, from the start on
-pub outbox_left : (s : Service) {begun new : routers.State} {before now : AtDesk} {left : OutboxEnd}
-    → begun ≡ routers.start
-    → Leads (Steps (IsServiceStep (dispatch_of s.target))) routers.calls_of (standing begun before) s.steps.items
-    (standing new now)
+pub outbox_left : (s : Service) {new : routers.State} {before now : AtDesk} {left : OutboxEnd}
+    → Leads (Steps (IsServiceStep (dispatch_of s.target))) routers.calls_of (standing routers.start before)
+    s.steps.items (standing new now)
     → map stored_row left.rows.items ≡ later_than 0 new.outbox.events → left.mark ≡ new.outbox.mark
     → IsOutboxLeft s before now left
-outbox_left s {new = new} start leads rows mark =
+outbox_left s {new = new} leads rows mark =
     let route = dispatch_of s.target in
-    let steps : Steps (IsServiceStep route) routers.start s.steps.items leads.moves leads.losses new =
-    subst (λ (b : routers.State). Steps (IsServiceStep route) b s.steps.items leads.moves leads.losses new) start
-    leads.done in
-    let run = service_run route routers.start new s.steps.items leads.moves leads.losses steps in
+    let run = service_run route routers.start new s.steps.items leads.moves leads.losses leads.done in
     record {
-      moves = leads.moves;
-      losses = leads.losses;
       state = new;
-      steps = steps;
-      noted = leads.noted;
+      leads = leads;
       rows = rows ∙ all_later new.outbox.events (run_numbered route leads.moves routers.start new run tt);
       mark = mark;
     }
-
--- what the steps of a consumer leave, from the start on
-pub inbox_left : (c : ConsumerPlan) {begun new : consumers.State} {before now : AtDesk} {left : InboxEnd}
-    → begun ≡ consumers.start
-    → Leads (Steps (IsConsumerStep c.subscription)) consumers.calls_of (standing begun before) c.steps.items
-    (standing new now)
-    → map placed_intake left.rows.items ≡ enumerate_from 1 new.inbox → IsInboxLeft c before now left
-inbox_left c {new = new} start leads rows = record {
-  moves = leads.moves;
-  losses = leads.losses;
-  state = new;
-  steps =
-      subst (λ (b : consumers.State). Steps (IsConsumerStep c.subscription) b c.steps.items leads.moves leads.losses
-      new) start leads.done;
-  noted = leads.noted;
-  rows = rows;
-}
 
 -- what two facts of a result give together
 pub if_ok_two : {V E : Type 0} (P Q S : V → Type 0) (r : Result V E) → ((v : V) → P v → Q v → S v) → IfOk r P
     → IfOk r Q → IfOk r S
 if_ok_two P Q S (Ok v) all p q = all v p q
 if_ok_two P Q S (Err e) all p q = tt
-
--- the same of one
-pub if_ok_one : {V E : Type 0} (P S : V → Type 0) (r : Result V E) → ((v : V) → P v → S v) → IfOk r P → IfOk r S
-if_ok_one P S (Ok v) all p = all v p
-if_ok_one P S (Err e) all p = tt

@@ -15,35 +15,27 @@ use Rattle.kob_pipeline.specs.declared.end.OutboxEnd.{OutboxEnd}
 use Rattle.kob_pipeline.specs.declared.end.WorkerEnd.{WorkerEnd}
 use Rattle.kob_pipeline.specs.declared.end.WorkerEnd.TheVariants as ends
 use Rattle.kob_pipeline.specs.declared.plan.ConsumerPlan.{ConsumerPlan}
-use Rattle.kob_pipeline.specs.declared.plan.Loss.{Loss}
 use Rattle.kob_pipeline.specs.declared.plan.Plan.{Plan}
 use Rattle.kob_pipeline.specs.declared.plan.Service.{Service}
 use Rattle.kob_pipeline.specs.declared.worker.Worker.{Worker}
 use Rattle.kob_pipeline.specs.declared.worker.Worker.TheVariants as workers
 use Rattle.kob_pipeline.specs.Consumers.{IsConsumerStep, IsConsumption}
 use Rattle.kob_pipeline.specs.Services.{IsServiceRun, IsServiceStep}
-use Rattle.kob_pipeline.specs.Losses.{AreNoted}
-use Rattle.kob_pipeline.specs.Steps.{Steps}
+use Rattle.kob_pipeline.specs.Steps.{Leads, Steps, standing}
 
--- the steps of a service made calls, which are noted at its desk, and this is left of its outbox
+-- the steps of a service lead to a state, and this is left of its outbox
 pub record IsOutboxLeft (service : Service) (old new : AtDesk) (left : OutboxEnd) : Type 0 where
-  pub moves : List routers.Move
-  pub losses : List Loss
   pub state : routers.State
-  pub steps : Steps (IsServiceStep (dispatch_of service.target)) routers.start
-      service.steps.items moves losses state
-  pub noted : AreNoted losses (routers.calls_of moves) old new
+  pub leads : Leads (Steps (IsServiceStep (dispatch_of service.target))) routers.calls_of
+      (standing routers.start old) service.steps.items (standing state new)
   pub rows : map stored_row left.rows.items ≡ state.outbox.events
   pub mark : left.mark ≡ state.outbox.mark
 
--- the steps of a consumer made calls, which are noted at its desk, and this is left of its inbox
+-- the steps of a consumer lead to a state, and this is left of its inbox
 pub record IsInboxLeft (consumer : ConsumerPlan) (old new : AtDesk) (left : InboxEnd) : Type 0 where
-  pub moves : List consumers.Move
-  pub losses : List Loss
   pub state : consumers.State
-  pub steps : Steps (IsConsumerStep consumer.subscription) consumers.start
-      consumer.steps.items moves losses state
-  pub noted : AreNoted losses (consumers.calls_of moves) old new
+  pub leads : Leads (Steps (IsConsumerStep consumer.subscription)) consumers.calls_of
+      (standing consumers.start old) consumer.steps.items (standing state new)
   pub rows : map placed_intake left.rows.items ≡ enumerate_from 1 state.inbox
 
 -- what a service leaves, unless its database refused

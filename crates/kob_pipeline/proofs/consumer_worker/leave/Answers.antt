@@ -1,9 +1,10 @@
 use Rattle.std.proofs.Common.{◌≡◌, map}
 use Rattle.std.specs.List.{enumerate_from}
+use Rattle.std.proofs.lemmas.Result.{IfOk-weaker}
 use Rattle.kob_inbox.specs.Rows.{placed_intake}
+use Rattle.kob_inbox.specs.Tick.{state_of}
 use Rattle.kob_pipeline.specs.declared.end.InboxEnd.{InboxEnd}
 use Rattle.kob_pipeline.specs.Workers.{IsInboxLeft}
-use Rattle.kob_pipeline.proofs.Worked.{if_ok_one, inbox_left}
 use Rattle.kob_pipeline.proofs.consumer_worker.leave.Goals as goal
 
 pub returns : goal.returns
@@ -13,7 +14,8 @@ returns g c =
     let at_last = c.run.new.self in
     let before = c.args.line.now.desk in
     let now = c.run.new.line.desk in
-    let leads = rw (c.deref.ensures.value, opened.subscription) at c.in_ok-run.ensures in
-    if_ok_one (λ (left : InboxEnd). map placed_intake left.rows.items ≡ enumerate_from 1 at_last.inbox)
-    (IsInboxLeft consumer before now) c.close.result (λ left rows. inbox_left consumer opened.state leads rows)
+    let leads = rw (c.deref.ensures.value, opened.subscription, opened.state) at c.in_ok-run.ensures in
+    IfOk-weaker c.close.result (λ (left : InboxEnd). map placed_intake left.rows.items ≡ enumerate_from 1 at_last.inbox)
+    (IsInboxLeft consumer before now)
+    (λ left rows. record { state = state_of at_last.consumer at_last.inbox; leads = leads; rows = rows })
     c.close.ensures

@@ -8,26 +8,12 @@ loop-one-preserved c =
     let was = c.loop-one.invariant in
     let yielded = c.loop-one.yielded in
     let one = c.in-Some.one in
-    let left = c.loop-one.left in
     let kept = c.in_ok-keep.ensures in
-    let told = ap (λ (v : Vec _ _). v.items) kept.transcripts ∙ c.in_ok-push-2.ensures.items in
-    let k = gathers_more c.args.first yielded one left.transcripts.items left.outboxes.items
-    c.keep.new.self.outboxes.items
-    left.inboxes.items c.keep.new.self.inboxes.items
-    (record {
-      transcripts = was.transcripts;
-      answered = was.answered;
-      outboxes = was.outboxes;
-      inboxes = was.inboxes;
-      unrefused = was.unrefused;
-    })
-    c.receipts-answered-in-loop-one.ensures.answered kept.stores kept.outboxes kept.inboxes in
     record {
       whole = was.whole ∙ ap (λ xs. yielded ++ xs) c.in-Some.ensures.steps.0
           ∙ sym (append_assoc yielded (one ∷ []) (into_iter_items c.next.new.self));
-      transcripts = told ∙ k.transcripts;
-      answered = rw told k.answered;
-      outboxes = k.outboxes;
-      inboxes = k.inboxes;
-      unrefused = k.unrefused;
+      gathered =
+          rw (ap (λ (v : Vec _ _). v.items) kept.transcripts ∙ c.in_ok-push-2.ensures.items)
+          (gathers_more one was.gathered c.receipts-answered-in-loop-one.ensures.answered kept.stores kept.outboxes
+          kept.inboxes);
     }

@@ -2,7 +2,7 @@ use Rattle.std.proofs.Common.{List, sym, subst, ◌∙◌}
 use Rattle.kob_shared.specs.Fleets.{EachIsAnswered}
 use Rattle.kob_shared.specs.Noted.{Noted}
 use Rattle.kob_shared.specs.Runs.{events_in, told_in}
-use Rattle.kob_pipeline.proofs.Ended.{ended, torn}
+use Rattle.kob_pipeline.proofs.Ended.{ended}
 use Rattle.kob_pipeline.proofs.pipelines.end_of.Goals as goal
 
 pub returns-in-None-clause-ok : goal.returns-in-None-clause-ok
@@ -18,10 +18,5 @@ returns-in-None-clause-ok c =
 
 pub returns-in-Some-clause-torn : goal.returns-in-Some-clause-torn
 returns-in-Some-clause-torn c =
-    let ran = c.args.ran in
     let left = c.in-Ok.ensures in
-    rw c.torn.ensures (
-      left.answered,
-      torn c.args.opening.now ran.first ran.done.items ran.found c.in-Some.difference
-          c.in-Ok.left.transcripts.items c.in-Some.ensures left.transcripts,
-    )
+    rw c.torn.ensures (left.answered, rw left.transcripts c.in-Some.ensures)
