@@ -6,6 +6,7 @@ use Rattle.kob_inbox.specs.declared.fetcher.Subscription.{Subscription}
 use Rattle.kob_lines.specs.ConsumerCourse.{HasConsumerRun}
 use Rattle.kob_lines.specs.ServiceCourse.{HasServiceRun}
 use Rattle.kob_outbox.specs.Contents.{Contents as Outbox, Event}
+use Rattle.kob_pipeline.specs.Reaching.{ReachesInOrder}
 use Rattle.kob_router.specs.Dispatches.{dispatch_of}
 use Rattle.kob_router.specs.Run as router
 use Rattle.kob_router.specs.declared.dispatch.Target.{Target}
@@ -26,3 +27,9 @@ SendsTwo calls =
 abbrev pub Takes : Subscription → List Call → Inbox → Type 0
 Takes t calls inbox =
     (state : consumer.State) × HasConsumerRun t state calls × (state.inbox ≡ inbox)
+
+-- of two recorded rows, the inbox has of each aggregate the first ones, in their order, each once
+abbrev pub HasArrived : Inbox → Type 0
+HasArrived inbox =
+    (rows : List Event) × (length rows ≡ 2)
+    × ((kind id : List ℕ) → ReachesInOrder rows inbox kind id)

@@ -6,7 +6,7 @@ use Rattle.kob_inbox.specs.declared.fetcher.Subscription.{Subscription}
 use Rattle.kob_lines.specs.ConsumerCourse.{HasConsumerRun}
 use Rattle.kob_router.specs.declared.line.Call.{Call}
 use Rattle.kob_router.specs.declared.place.Place.{Place}
-use Rattle.kob_direct.proofs.consumer.take.Goals as goal
+use Rattle.kob_direct.proofs.workers.take.Goals as goal
 
 abbrev with_inbox : Contents → State
 with_inbox inbox = record { inbox = inbox; cursors = []; turn = 0 }
@@ -31,6 +31,6 @@ returns c =
       after,
       subst (λ (calls : List Call). HasConsumerRun asked after calls) (sym c.close-calls.ensures)
           (subst (λ (t : Subscription). HasConsumerRun t after c.take_all-taken.new.line.calls.made.items) same
-          (c.take_all-taken.ensures ready)),
+          (c.take_all-taken.ensures.run ready)),
       refl,
     )

@@ -5,7 +5,7 @@ use Rattle.kob_outbox.specs.Contents.{Contents}
 use Rattle.kob_outbox.specs.Events.{stored_event}
 use Rattle.kob_outbox.specs.Recording.{next_seq}
 use Rattle.std.specs.Prelude.{List, ◌++◌, ◌∷◌}
-use Rattle.kob_direct.proofs.service.record.Goals as goal
+use Rattle.kob_direct.proofs.workers.record.Goals as goal
 
 pub returns : goal.returns
 returns c = λ route rows was.

@@ -3,7 +3,7 @@ use Rattle.kob_lines.specs.ServiceCourse.{HasServiceRun}
 use Rattle.kob_outbox.specs.Contents.{Event}
 use Rattle.kob_router.specs.Dispatches.{dispatch_of}
 use Rattle.kob_router.specs.Tick.{IsFirst, hand_of, state_of}
-use Rattle.kob_direct.proofs.service.send_all.Given as goal
+use Rattle.kob_embedding.proofs.ticking.send_all.Given as goal
 
 abbrev pub invariant-loop : goal.invariant-loop
 invariant-loop g l =
@@ -12,3 +12,4 @@ invariant-loop g l =
     × ((rows : List Event)
     → HasServiceRun (dispatch_of l.fn.router.target) (state_of l.fn.router l.fn.outbox) (g.L.Line.calls l.fn.line) rows
     → HasServiceRun (dispatch_of l.fn.router.target) (state_of l.router l.outbox) (g.L.Line.calls l.line) rows)
+    × g.L.Line.becomes l.fn.line l.line

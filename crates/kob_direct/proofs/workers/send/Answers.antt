@@ -7,7 +7,7 @@ use Rattle.kob_router.specs.Run.{State}
 use Rattle.kob_router.specs.Tick.{state_of}
 use Rattle.kob_router.specs.declared.line.Call.{Call}
 use Rattle.kob_router.specs.declared.sender.Sender.{Sender}
-use Rattle.kob_direct.proofs.service.send.Goals as goal
+use Rattle.kob_direct.proofs.workers.send.Goals as goal
 
 pub returns : goal.returns
 returns c =
@@ -28,6 +28,6 @@ returns c =
       rows,
       subst (λ (calls : List Call). HasServiceRun route
           (state_of c.send_all-sent.new.router c.send_all-sent.new.outbox) calls rows)
-          (sym c.close-calls.ensures) (c.send_all-sent.ensures rows ready),
+          (sym c.close-calls.ensures) (c.send_all-sent.ensures.run rows ready),
       refl,
     )

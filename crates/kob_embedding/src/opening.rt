@@ -1,0 +1,53 @@
+//! A broker with its journal, that has served what it begins with.
+
+ghost use Rattle.std.specs.Prelude.{◌≡◌, ◌≤◌, ◌++◌, IfOk, OnOk};
+ghost use Rattle.kob_shared.specs.Journals.{events_of};
+ghost use Rattle.kob_shared.specs.Limits.{entry_limit};
+ghost use Rattle.kob_shared.specs.Openings.{IsFresh};
+
+use kob_broker::{Broker, OpenFault, Settings};
+use kob_lines::ProgramFault;
+use kob_rights::Event;
+use kob_shared::Recorded;
+use std::alloc::Global;
+
+/// Opens a broker with these settings and a journal of at most `limit` entries, and serves the
+/// events in order as worker 0, also those that are denied. The error is out of memory, too many
+/// opening bindings, or more events than the journal may have.
+pub fn opened(
+    alloc: Global,
+    settings: Settings,
+    events: &[Event],
+    limit: usize,
+) -> Result<Recorded, ProgramFault>
+    requires { limit ≤ entry_limit }
+    ensures events { IfOk result (λ recorded. events_of recorded.journal ≡ events.now) }
+    ensures limit { IfOk result (λ recorded. recorded.limit ≡ limit) }
+{
+    let broker = fresh(alloc, settings)?;
+    let mut recorded = Recorded::open(alloc, broker, limit)?;
+    match serve_all(alloc, &mut recorded, events) {
+        Ok(()) => Ok(recorded),
+        Err(fault) => {
+            drop(recorded);
+            Err(fault)
+        }
+    }
+}
+
+fn fresh(alloc: Global, settings: Settings) -> Result<Broker, OpenFault>
+    ensures { IfOk result IsFresh }
+{
+    Broker::open(alloc, settings)
+}
+
+fn serve_all(alloc: Global, recorded: &mut Recorded, events: &[Event]) -> Result<(), ProgramFault>
+    ensures served { OnOk result (events_of recorded.new.journal
+        ≡ events_of recorded.old.journal ++ events.now) }
+    ensures limit { recorded.new.limit ≡ recorded.old.limit }
+{
+    for event in events {
+        drop(recorded.serve_as(alloc, 0, event)?);
+    }
+    Ok(())
+}
