@@ -1,21 +1,21 @@
 -- What becomes of the row in hand where others write and sweep the outbox.
-use Rattle.std.proofs.Common.{◌≡◌, ℕ, List, [], ◌∷◌, ◌++◌, take, refl, sym, ap, ◌∙◌, subst}
+use Rattle.std.proofs.Common.{◌≡◌, ℕ, List, [], ◌∷◌, ◌++◌, length, take, refl, sym, ap, ◌∙◌, subst}
 use Rattle.std.specs.Prelude.{None, Some, slice_get, nat_lt, option_map}
 use Rattle.std.proofs.lemmas.List.Elements.{filter-append}
 use Rattle.kob_outbox.specs.declared.change.Change.{Change}
 use Rattle.kob_outbox.specs.declared.event.OutboxEvent.{OutboxEvent}
 use Rattle.kob_outbox.specs.Contents.{Contents, Event}
 use Rattle.kob_outbox.specs.Events.{stored_event}
-use Rattle.kob_outbox.specs.Reading.{later_than, without_sent}
+use Rattle.kob_outbox.specs.Reading.{later_than, up_to, without_sent}
 use Rattle.kob_outbox.specs.Recording.{next_seq, after_record}
 use Rattle.kob_outbox.proofs.Lawful.{swept_waits}
 use Rattle.kob_router.specs.Run.{Hand}
 use Rattle.kob_router.specs.Tick.{IsFirst, hand_of}
 use Rattle.kob_router.specs.declared.sender.Sender.{Sender}
-use Rattle.std.specs.Prelude.{Option, Result, Ok, Err, OnOk, OnErr}
+use Rattle.std.specs.Prelude.{Option, Result, Ok, Err, IfOk, OnOk, OnErr}
 use Rattle.kob_outbox.specs.declared.fault.OutboxFault.{OutboxFault}
 use Rattle.kob_outbox.specs.declared.fault.RecordFault.{RecordFault}
-use Rattle.kob_lines.specs.Relayed.{HoldsFirst, Relayed}
+use Rattle.kob_lines.specs.Relayed.{HoldsFirst, IsSomeSweep, Relayed}
 
 first_stays : (xs ys : List Event) (x : Event) → slice_get xs 0 ≡ Some x → slice_get (xs ++ ys) 0 ≡ Some x
 first_stays [] ys x first = cc
@@ -61,3 +61,8 @@ holds_swept old now (Ok count) holds is stays =
     (first_swept (option_map hand_of old.router.hand) old.outbox holds)
 holds_swept old now (Err fault) holds is stays =
     subst (IsFirst (option_map hand_of old.router.hand)) (sym stays) holds
+
+pub is_some_sweep : (old : Contents) (result : Result ℕ OutboxFault)
+    → IfOk result (λ count. count ≡ length (up_to old.mark old.events)) → IfOk result IsSomeSweep
+is_some_sweep old (Ok count) is = (old, is)
+is_some_sweep old (Err fault) is = tt

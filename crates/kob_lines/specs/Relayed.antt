@@ -1,6 +1,7 @@
 -- An outbox, and the router that sends its rows.
-use Rattle.std.specs.Prelude.{◌≡◌, ℕ, List, option_map}
+use Rattle.std.specs.Prelude.{◌≡◌, ℕ, List, length, option_map}
 use Rattle.kob_outbox.specs.Contents.{Contents}
+use Rattle.kob_outbox.specs.Reading.{up_to}
 use Rattle.kob_router.specs.Dispatches.{dispatch_of}
 use Rattle.kob_router.specs.Tick.{IsFirst, IsOneTick, Ticks, hand_of, scene_of}
 use Rattle.kob_router.specs.declared.line.Call.{Call}
@@ -28,3 +29,7 @@ abbrev pub IsSomeTick : List Call → List Call → ℕ → ℕ → Tick → Typ
 IsSomeTick calls then_calls unmade then_unmade tick =
     (old : Relayed) × (new : Relayed) × HoldsFirst old × HoldsFirst new
     × IsTick old new calls then_calls unmade then_unmade tick
+
+-- so many events of some outbox were sent
+abbrev pub IsSomeSweep : ℕ → Type 0
+IsSomeSweep count = (old : Contents) × (count ≡ length (up_to old.mark old.events))

@@ -1,7 +1,7 @@
 //! A router with its outbox, under one lock.
 
 ghost use Rattle.std.specs.Prelude.{◌≡◌, ◌<◌, ◌≤◌, ◌^◌, ◌↔◌, Some, IfOk, IsErrOf};
-ghost use Rattle.kob_lines.specs.Relayed.{IsSomeTick};
+ghost use Rattle.kob_lines.specs.Relayed.{HoldsFirst, IsSomeSweep, IsSomeTick};
 ghost use Rattle.kob_outbox.specs.Fields.{first_bad};
 
 use crate::relay::Relay;
@@ -52,13 +52,20 @@ impl SharedRelay {
     }
 
     /// Drops the events that were sent, under the lock, and answers how many they were.
-    pub fn sweep<R: Wait>(&self, rt: &R) -> Result<u64, OutboxFault> {
+    pub fn sweep<R: Wait>(&self, rt: &R) -> Result<u64, OutboxFault>
+        ensures { IfOk result IsSomeSweep }
+    {
         let mut relay = self.relay.lock(rt);
         relay.sweep()
     }
 
-    /// Gives back the router and its outbox; it waits for nobody.
-    pub fn finish(self) -> Relay {
-        self.relay.into_inner()
+    /// Gives back the router and its outbox, of which the row in hand is the first after the mark;
+    /// it waits for nobody.
+    pub fn finish(self) -> Relay
+        ensures { HoldsFirst result }
+    {
+        let relay = self.relay.into_inner();
+        let _ = relay.outbox();
+        relay
     }
 }
