@@ -1,3 +1,4 @@
+pub mod Assigned
 pub mod Contents
 pub mod Cursors
 pub mod Database

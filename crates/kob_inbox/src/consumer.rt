@@ -77,6 +77,13 @@ impl Consumer {
         self.fetcher.tick(alloc, inbox, line)
     }
 
+    /// The group, the assigned partitions and the most records of a FETCH. No memory is taken.
+    pub fn subscription(&self) -> &Subscription
+        ensures { result.now ≡ self.now.subscription }
+    {
+        &self.fetcher.subscription
+    }
+
     /// Forgets all positions and which records were passed, as a consumer that starts again does.
     /// The first assigned partition has the next turn. No memory is taken.
     pub fn restart(&mut self)

@@ -23,6 +23,35 @@ pub struct Subscription {
 
 impl Subscription {
     ghost use Rattle.std.specs.Prelude.{IfOk};
+    ghost use Rattle.kob_inbox.specs.Assigned.{first_partitions};
+
+    /// The first partitions of a topic, for this group. The error is out of memory.
+    pub fn of(
+        alloc: Global,
+        group: &str,
+        topic: &str,
+        partitions: u32,
+        max: u64,
+    ) -> Result<Subscription, AllocError>
+        ensures { IfOk result (λ made. made ≡ record {
+          group = group.now;
+          assignment = first_partitions topic.now partitions;
+          max = max;
+        }) }
+    {
+        let group = Text::copied(alloc, group)?;
+        let mut assignment = Vec::new(alloc);
+        for partition in 0..partitions {
+            let topic = Text::copied(alloc, topic)?;
+            let partition = u64::from(partition);
+            assignment.push(Place { topic, partition })?;
+        }
+        Ok(Subscription {
+            group,
+            assignment: Items::from_vec(assignment),
+            max,
+        })
+    }
 
     /// An equal subscription. The error is out of memory.
     pub fn copy(&self, alloc: Global) -> Result<Subscription, AllocError>

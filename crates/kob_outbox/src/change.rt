@@ -15,6 +15,18 @@ pub struct Change {
 }
 
 impl Change {
+    /// A change of these texts. The error is out of memory.
+    pub fn of(alloc: Global, kind: &str, id: &str, state: &str) -> Result<Change, AllocError>
+        ensures kind { IfOk result (λ made. string_bytes made.kind ≡ kind.now) }
+        ensures id { IfOk result (λ made. string_bytes made.id ≡ id.now) }
+        ensures state { IfOk result (λ made. string_bytes made.state ≡ state.now) }
+    {
+        let kind = String::from_str(alloc, kind)?;
+        let id = String::from_str(alloc, id)?;
+        let state = String::from_str(alloc, state)?;
+        Ok(Change { kind, id, state })
+    }
+
     /// A change with the same texts. The error is out of memory.
     pub fn copy(&self, alloc: Global) -> Result<Change, AllocError>
         ensures kind { IfOk result (λ made. string_bytes made.kind ≡ string_bytes self.now.kind) }
@@ -22,9 +34,11 @@ impl Change {
         ensures state { IfOk result
             (λ made. string_bytes made.state ≡ string_bytes self.now.state) }
     {
-        let kind = String::from_str(alloc, self.kind.as_str())?;
-        let id = String::from_str(alloc, self.id.as_str())?;
-        let state = String::from_str(alloc, self.state.as_str())?;
-        Ok(Change { kind, id, state })
+        Change::of(
+            alloc,
+            self.kind.as_str(),
+            self.id.as_str(),
+            self.state.as_str(),
+        )
     }
 }

@@ -1,8 +1,9 @@
 //! Events of aggregates, and the rows that hold them.
 
-ghost use Rattle.std.specs.Prelude.{◌≡◌, IfOk};
-ghost use Rattle.kob_outbox.specs.Events.{stored_event};
+ghost use Rattle.std.specs.Prelude.{◌≡◌, IfOk, string_bytes};
+ghost use Rattle.kob_outbox.specs.Events.{id_text, stored_event};
 
+use crate::change::Change;
 use std::alloc::{AllocError, Global};
 use uuid::Uuid;
 
@@ -28,6 +29,36 @@ pub struct Row {
 }
 
 impl OutboxEvent {
+    /// The event of a change: its aggregate's type and id are the kind and the id of the business
+    /// row, and its type is the row's new state. The error is out of memory.
+    pub fn of(
+        alloc: Global,
+        id: Uuid,
+        change: &Change,
+        payload: &str,
+    ) -> Result<OutboxEvent, AllocError>
+        ensures { IfOk result (λ made. stored_event 0 made ≡ record {
+          seq = 0;
+          id = id_text id;
+          aggregate_type = string_bytes change.now.kind;
+          aggregate_id = string_bytes change.now.id;
+          event_type = string_bytes change.now.state;
+          payload = payload.now;
+        }) }
+    {
+        let aggregate_type = String::from_str(alloc, change.kind.as_str())?;
+        let aggregate_id = String::from_str(alloc, change.id.as_str())?;
+        let event_type = String::from_str(alloc, change.state.as_str())?;
+        let payload = String::from_str(alloc, payload)?;
+        Ok(OutboxEvent {
+            id,
+            aggregate_type,
+            aggregate_id,
+            event_type,
+            payload,
+        })
+    }
+
     /// An event with the same id and texts. The error is out of memory.
     pub fn copy(&self, alloc: Global) -> Result<OutboxEvent, AllocError>
         ensures id { IfOk result (λ made. made.id ≡ self.now.id) }
