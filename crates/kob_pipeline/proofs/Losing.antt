@@ -1,6 +1,6 @@
 -- One call at a desk, and those of a tick.
 use Rattle.std.proofs.Common.{◌≡◌, ℕ, ◌-◌, get_or, length, List, [], ◌∷◌, ◌++◌, Option, None, Some, refl, sym, ap, ◌∙◌, subst, arith}
-use Rattle.std.specs.Prelude.{IfNone, IfSome, option_map}
+use Rattle.std.specs.Prelude.{IfNone, IfSome}
 use Rattle.std.proofs.lemmas.List.{append_cancel_left, append-nil, get_or_push, length-append}
 use Rattle.std.proofs.lemmas.List.Elements.{All-cons, All-nil}
 use Rattle.kob_rights.specs.declared.event.Event.{Event}
@@ -13,8 +13,8 @@ use Rattle.kob_shared.specs.declared.faults.CallFault.{CallFault}
 use Rattle.kob_shared.specs.declared.journal.Receipt.{Receipt}
 use Rattle.kob_pipeline.specs.Losses.{AreMade, AreNoted, AreServedByLoss, IsEventOf, losses_of}
 use Rattle.kob_pipeline.specs.Served.{served_by_notes}
-use Rattle.kob_pipeline.specs.declared.plan.Loss.{Loss}
-use Rattle.kob_pipeline.specs.declared.plan.Loss.TheVariants as lost
+use Rattle.kob_lines.specs.declared.lossy.Loss.{Loss}
+use Rattle.kob_lines.specs.declared.lossy.Loss.TheVariants as lost
 
 -- one more event with its receipt
 notes_push : (es : List Event) (rs : List Receipt) (e : Event) (r : Receipt) → length es ≡ length rs
@@ -104,22 +104,22 @@ calls_of_a_tick fault loss then_loss calls then_calls made old new are is =
 
 -- ---- what a desk heard, and what of it a line notes
 
-pub noted_if_served : (request : Request) (heard : Option (Reply × Reply)) (fault : Option CallFault) (old new : AtDesk)
+pub noted_if_served : (request : Request) (heard : Option Reply) (fault : Option CallFault) (old new : AtDesk)
     → IfNone heard (fault ≡ None → ⊥)
-    → IfSome heard (λ r. AreNoted (lost.None ∷ []) (record { request = request; heard = Some r.0 } ∷ []) old new)
+    → IfSome heard (λ r. AreNoted (lost.None ∷ []) (record { request = request; heard = Some r } ∷ []) old new)
     → fault ≡ None
-    → AreNoted (lost.None ∷ []) (record { request = request; heard = option_map (λ r. r.0) heard } ∷ []) old new
+    → AreNoted (lost.None ∷ []) (record { request = request; heard = heard } ∷ []) old new
 noted_if_served request (Some r) fault old new unserved served none = served
 noted_if_served request None fault old new unserved served none = absurd (unserved none)
 
-pub noted_if_unheard : (request : Request) (heard : Option (Reply × Reply)) (fault : Option CallFault) (old new : AtDesk)
+pub noted_if_unheard : (request : Request) (heard : Option Reply) (fault : Option CallFault) (old new : AtDesk)
     → IfNone heard (fault ≡ None → ⊥)
-    → IfSome heard (λ r. AreNoted (lost.None ∷ []) (record { request = request; heard = Some r.0 } ∷ []) old new)
+    → IfSome heard (λ r. AreNoted (lost.None ∷ []) (record { request = request; heard = Some r } ∷ []) old new)
     → fault ≡ None → AreNoted (lost.AfterServe ∷ []) (record { request = request; heard = None } ∷ []) old new
-noted_if_unheard request (Some r) fault old new unserved served none = unheard_is_noted old new request r.0 served
+noted_if_unheard request (Some r) fault old new unserved served none = unheard_is_noted old new request r served
 noted_if_unheard request None fault old new unserved served none = absurd (unserved none)
 
-pub faultless_before : (heard : Option (Reply × Reply)) (fault before : Option CallFault)
+pub faultless_before : (heard : Option Reply) (fault before : Option CallFault)
     → IfNone heard (fault ≡ None → ⊥) → IfSome heard (λ r. fault ≡ before) → fault ≡ None → before ≡ None
 faultless_before (Some r) fault before unserved same none = sym same ∙ none
 faultless_before None fault before unserved same none = absurd (unserved none)

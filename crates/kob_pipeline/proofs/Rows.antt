@@ -23,7 +23,7 @@ use Rattle.kob_router.specs.Tick.{IsOfTick}
 use Rattle.kob_pipeline.specs.PlanRows.{is_accepted, rows_from}
 use Rattle.kob_pipeline.specs.Services.{IsServiceStep}
 use Rattle.kob_pipeline.specs.Steps.{Steps}
-use Rattle.kob_pipeline.specs.declared.plan.Loss.{Loss}
+use Rattle.kob_lines.specs.declared.lossy.Loss.{Loss}
 use Rattle.kob_pipeline.specs.declared.plan.ServiceStep.{ServiceStep}
 use Rattle.kob_pipeline.specs.declared.plan.ServiceStep.TheVariants as steps
 

@@ -13,7 +13,7 @@ use Rattle.kob_router.specs.declared.tick.Tick.{Tick as RouterAnswer}
 use Rattle.kob_shared.specs.Noted.{AtDesk}
 use Rattle.kob_shared.specs.declared.faults.CallFault.{CallFault}
 use Rattle.kob_pipeline.specs.declared.plan.ConsumerStep.TheVariants as consumer_steps
-use Rattle.kob_pipeline.specs.declared.plan.Loss.{Loss}
+use Rattle.kob_lines.specs.declared.lossy.Loss.{Loss}
 use Rattle.kob_pipeline.specs.declared.plan.ServiceStep.TheVariants as service_steps
 use Rattle.kob_pipeline.specs.Consumers as consuming
 use Rattle.kob_pipeline.specs.Losses.{AreMade, losses_of}

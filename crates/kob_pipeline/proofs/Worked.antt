@@ -5,7 +5,7 @@ use Rattle.kob_inbox.specs.declared.fetcher.Subscription.{Subscription}
 use Rattle.kob_inbox.specs.Run.{IsConsumerRun, Move, State, after, calls_of}
 use Rattle.kob_inbox.specs.Run.Move.{Called, Restarted}
 use Rattle.std.proofs.lemmas.List.{take_more}
-use Rattle.kob_pipeline.specs.declared.plan.Loss.{Loss}
+use Rattle.kob_lines.specs.declared.lossy.Loss.{Loss}
 use Rattle.kob_pipeline.specs.Steps.{Doing, Leads, Standing, Steps, standing}
 use Rattle.std.specs.List.{All}
 use Rattle.kob_outbox.specs.Events.{stored_row}
@@ -30,7 +30,7 @@ use Rattle.kob_pipeline.specs.Workers.{IsInboxLeft, IsOutboxLeft}
 use Rattle.kob_pipeline.proofs.Rows.{all_later, run_numbered}
 use Rattle.kob_inbox.specs.Run as consumers
 use Rattle.kob_router.specs.Run as routers
-use Rattle.kob_pipeline.specs.declared.plan.Loss.TheVariants as lost
+use Rattle.kob_lines.specs.declared.lossy.Loss.TheVariants as lost
 
 pub consumer_run_append : (t : Subscription) (ms ns : List Move) (a b c : State) → IsConsumerRun t a ms b
     → IsConsumerRun t b ns c → IsConsumerRun t a (ms ++ ns) c

@@ -14,7 +14,7 @@ use Rattle.kob_pipeline.specs.declared.end.InboxEnd.{InboxEnd}
 use Rattle.kob_pipeline.specs.declared.plan.ConsumerPlan.{ConsumerPlan}
 use Rattle.kob_pipeline.specs.declared.plan.ConsumerStep.{ConsumerStep}
 use Rattle.kob_pipeline.specs.declared.plan.ConsumerStep.TheVariants as steps
-use Rattle.kob_pipeline.specs.declared.plan.Loss.{Loss}
+use Rattle.kob_lines.specs.declared.lossy.Loss.{Loss}
 use Rattle.kob_pipeline.specs.Losses.{AreServedByLoss, losses_of}
 use Rattle.kob_router.specs.Served.{AreServed}
 use Rattle.kob_pipeline.specs.Served.{served_by_notes}

@@ -5,8 +5,8 @@ use Rattle.kob_rights.specs.declared.event.Event.{Event}
 use Rattle.kob_router.specs.declared.line.Call.{Call}
 use Rattle.kob_shared.specs.Noted.{AtDesk}
 use Rattle.kob_shared.specs.declared.faults.CallFault.{CallFault}
-use Rattle.kob_pipeline.specs.declared.plan.Loss.{Loss}
-use Rattle.kob_pipeline.specs.declared.plan.Loss.TheVariants as losses
+use Rattle.kob_lines.specs.declared.lossy.Loss.{Loss}
+use Rattle.kob_lines.specs.declared.lossy.Loss.TheVariants as losses
 use Rattle.kob_router.specs.Served.{Served}
 use Rattle.kob_pipeline.specs.Served.{served_by_notes}
 

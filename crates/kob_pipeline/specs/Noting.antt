@@ -8,8 +8,8 @@ use Rattle.kob_shared.specs.Noted.{AtDesk}
 use Rattle.kob_shared.specs.declared.faults.CallFault.{CallFault}
 use Rattle.kob_pipeline.specs.Losses.{AreMade, AreNoted, AreServedByLoss, IsEventOf, loss_after, losses_of}
 use Rattle.kob_pipeline.specs.Served.{served_by_notes}
-use Rattle.kob_pipeline.specs.declared.plan.Loss.{Loss}
-use Rattle.kob_pipeline.specs.declared.plan.Loss.TheVariants as lost
+use Rattle.kob_lines.specs.declared.lossy.Loss.{Loss}
+use Rattle.kob_lines.specs.declared.lossy.Loss.TheVariants as lost
 
 -- ---- losses
 

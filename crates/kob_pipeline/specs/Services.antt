@@ -11,7 +11,7 @@ use Rattle.kob_router.specs.declared.tick.Tick.TheVariants.{Stopped}
 use Rattle.kob_router.specs.declared.tick.StopReason.TheVariants as stop
 use Rattle.kob_shared.specs.Noted.{Noted}
 use Rattle.kob_pipeline.specs.declared.end.OutboxEnd.{OutboxEnd}
-use Rattle.kob_pipeline.specs.declared.plan.Loss.{Loss}
+use Rattle.kob_lines.specs.declared.lossy.Loss.{Loss}
 use Rattle.kob_pipeline.specs.declared.plan.Service.{Service}
 use Rattle.kob_pipeline.specs.declared.plan.ServiceStep.{ServiceStep}
 use Rattle.kob_pipeline.specs.declared.plan.ServiceStep.TheVariants as steps

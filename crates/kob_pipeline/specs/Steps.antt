@@ -2,7 +2,7 @@
 use Rattle.std.specs.Prelude.{◌≡◌, List, [], ◌∷◌, ◌++◌}
 use Rattle.kob_router.specs.declared.line.Call.{Call}
 use Rattle.kob_shared.specs.Noted.{AtDesk}
-use Rattle.kob_pipeline.specs.declared.plan.Loss.{Loss}
+use Rattle.kob_lines.specs.declared.lossy.Loss.{Loss}
 use Rattle.kob_pipeline.specs.Losses.{AreNoted}
 
 -- what one kind of step does: it leads from a state to another by these moves, whose calls have

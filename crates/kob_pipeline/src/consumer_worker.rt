@@ -45,7 +45,7 @@ fn leave<R: Wait, G: Gate>(
     alloc: Global,
     line: &mut DeskLine<'_, R, G>,
 ) -> Result<InboxEnd, StepFault>
-    requires { line.old.unmade ≡ 0 }
+    requires { line.old.calls.unmade ≡ 0 }
     ensures { IfOk result (IsInboxLeft consumer.now line.old.desk line.new.desk) }
 {
     let mut at_work = Consuming::open(alloc, consumer)?;

@@ -11,9 +11,10 @@ ghost use Rattle.kob_pipeline.specs.Steps.{Leads, Steps, standing};
 
 use crate::end::InboxEnd;
 use crate::line::DeskLine;
-use crate::plan::{ConsumerPlan, ConsumerStep, Loss};
+use crate::plan::{ConsumerPlan, ConsumerStep};
 use crate::step_fault::StepFault;
 use kob_inbox::{Consumer, Inbox, StopReason, Tick};
+use kob_lines::Loss;
 use kob_names::PlainValue;
 use kob_router::Line;
 use kob_shared::{CallFault, Gate};
@@ -51,7 +52,7 @@ impl Consuming {
         line: &mut DeskLine<'_, R, G>,
         steps: &[ConsumerStep],
     ) -> Result<(), StepFault>
-        requires { line.old.unmade ≡ 0 }
+        requires { line.old.calls.unmade ≡ 0 }
         ensures { OnOk result (Leads (Steps (IsConsumerStep self.old.consumer.subscription))
             calls_of
             (standing (state_of self.old.consumer self.old.inbox) line.old.desk)
@@ -72,8 +73,8 @@ impl Consuming {
         line: &mut DeskLine<'_, R, G>,
         step: &ConsumerStep,
     ) -> Result<(), StepFault>
-        requires { line.old.unmade ≡ 0 }
-        ensures made { OnOk result (line.new.unmade ≡ 0) }
+        requires { line.old.calls.unmade ≡ 0 }
+        ensures made { OnOk result (line.new.calls.unmade ≡ 0) }
         ensures same { OnOk result
             (self.new.consumer.subscription ≡ self.old.consumer.subscription) }
         ensures done { OnOk result (Leads (IsConsumerStep self.old.consumer.subscription)
@@ -98,8 +99,8 @@ impl Consuming {
         line: &mut DeskLine<'_, R, G>,
         loss: Loss,
     ) -> Result<(), StepFault>
-        requires { line.old.unmade ≡ 0 }
-        ensures made { OnOk result (line.new.unmade ≡ 0) }
+        requires { line.old.calls.unmade ≡ 0 }
+        ensures made { OnOk result (line.new.calls.unmade ≡ 0) }
         ensures same { OnOk result
             (self.new.consumer.subscription ≡ self.old.consumer.subscription) }
         ensures done { OnOk result (Leads (IsConsumerStep self.old.consumer.subscription)

@@ -29,7 +29,8 @@ pub use delivery_laws::{
 };
 pub use end::{InboxEnd, OutboxEnd, PipelineEnd};
 pub use fault::PipelineFault;
+pub use kob_lines::Loss;
 pub use laws::{consumer_law, pipeline_law, router_law};
 pub use pipelines::pipeline;
-pub use plan::{ConsumerPlan, ConsumerStep, Loss, Plan, Service, ServiceStep};
+pub use plan::{ConsumerPlan, ConsumerStep, Plan, Service, ServiceStep};
 pub use premises::{Breach, Premise, deletion, first_breach, other_committer, other_producer};

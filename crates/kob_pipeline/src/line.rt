@@ -2,13 +2,14 @@
 
 ghost use Rattle.std.specs.Prelude.{◌≡◌, ◌<◌, ◌⊎◌, [], ◌∷◌, ◌++◌, None, OnOk, Some};
 ghost use Rattle.std.specs.Prelude.{IfErr, IfNone, IfOk, IfSome};
-ghost use Rattle.std.specs.Prelude.{option_map, vec_capacity, vec_len};
+ghost use Rattle.std.specs.Prelude.{vec_capacity, vec_len};
+ghost use Rattle.kob_lines.specs.Heard.{reply_of};
 ghost use Rattle.kob_rights.specs.Bodies.{Fits};
 ghost use Rattle.kob_rights.specs.Offsets.{OffsetsWithin};
 ghost use Rattle.kob_pipeline.specs.Losses.{AreNoted};
-ghost use Rattle.kob_router.specs.Line.{Adds, IsFaithful, one_more};
+ghost use Rattle.kob_router.specs.Line.{Adds, IsFaithful};
 
-use crate::plan::Loss;
+use kob_lines::{Calls, Loss};
 use kob_names::PlainValue;
 use kob_rights::{Reply, Request};
 use kob_router::{Call, Delivery, Line};
@@ -24,11 +25,10 @@ pub(crate) struct DeskLine<'a, R, G> {
     gate: &'a G,
     worker: usize,
     desk: Desk<'a>,
-    calls: Vec<Call>,
-    unmade: u64,
+    calls: Calls,
     /// What becomes of the next call.
     loss: Loss,
-    /// Why a call was not served, or could not be noted.
+    /// Why a call was not served, or could not be noted: it stays until the worker ends.
     fault: Option<CallFault>,
 }
 
@@ -42,15 +42,14 @@ impl<'a, R: Wait, G: Gate> DeskLine<'a, R, G> {
         desk: Desk<'a>,
     ) -> DeskLine<'a, R, G>
         ensures desk { result.desk ≡ desk.entry }
-        ensures unmade { result.unmade ≡ 0 }
+        ensures unmade { result.calls.unmade ≡ 0 }
     {
         DeskLine {
             rt,
             gate,
             worker,
             desk,
-            calls: Vec::new(alloc),
-            unmade: 0,
+            calls: Calls::new(alloc),
             loss: Loss::None,
             fault: None,
         }
@@ -66,14 +65,14 @@ impl<'a, R: Wait, G: Gate> DeskLine<'a, R, G> {
     /// Why a call was not served, or not noted, where that was not to be.
     pub(crate) fn goes_on(&self) -> Result<(), CallFault>
         ensures fault { OnOk result (self.now.fault ≡ None) }
-        ensures unmade { OnOk result (self.now.unmade ≡ 0) }
+        ensures unmade { OnOk result (self.now.calls.unmade ≡ 0) }
         ensures own { IfErr result (λ fault. (self.now.fault ≡ Some fault)
-            ⊎ ((fault ≡ CallFault.Memory) × (0 < self.now.unmade))) }
+            ⊎ ((fault ≡ CallFault.Memory) × (0 < self.now.calls.unmade))) }
     {
         if let Some(fault) = self.fault {
             return Err(fault);
         }
-        if self.unmade > 0 {
+        if self.calls.unmade > 0 {
             return Err(CallFault::Memory);
         }
         Ok(())
@@ -81,7 +80,7 @@ impl<'a, R: Wait, G: Gate> DeskLine<'a, R, G> {
 
     /// Asks the gate before the next call, or after the last.
     fn ask(&self) {
-        self.gate.before(self.worker, self.calls.len() + 1);
+        self.gate.before(self.worker, self.calls.made.len() + 1);
     }
 
     /// What was noted, after the last call.
@@ -102,37 +101,23 @@ impl<'a, R: Wait, G: Gate> DeskLine<'a, R, G> {
             worker: _,
             desk,
             calls: _,
-            unmade: _,
             loss: _,
             fault: _,
         } = self;
         desk.close()
     }
 
-    /// Notes that there was no memory to note a call.
-    fn miss(&mut self)
-        ensures calls { self.new.calls ≡ self.old.calls }
-        ensures unmade { self.new.unmade ≡ one_more self.old.unmade }
-        ensures fault { self.new.fault ≡ Some CallFault.Memory }
-    {
-        self.unmade = self.unmade.saturating_add(1);
-        self.fault = Some(CallFault::Memory);
-    }
-
-    /// Makes a call, unless it is lost before. The reply comes twice: to be noted, and to be given.
+    /// Makes a call, unless it is lost before; the reply, unless it is lost.
     #[tactic(auto, using(crate::proofs::Losing::noted_if_served, crate::proofs::Losing::noted_if_unheard, crate::proofs::Losing::faultless_before, crate::proofs::Losing::unserved_is_noted))]
-    fn make(&mut self, alloc: Global, request: Request, loss: Loss) -> Option<(Reply, Reply)>
+    fn make(&mut self, alloc: Global, request: Request, loss: Loss) -> Option<Reply>
         ensures calls { self.new.calls ≡ self.old.calls }
-        ensures unmade { self.new.unmade ≡ self.old.unmade }
         ensures loss { self.new.loss ≡ self.old.loss }
         ensures fault { self.new.fault ≡ None → self.old.fault ≡ None }
         ensures unsent { loss ≡ Loss.BeforeServe → self.new ≡ self.old }
         ensures noted { self.new.fault ≡ None → AreNoted (loss ∷ [])
-            (record { request = request; heard = option_map (λ r. r.0) result } ∷ [])
-            self.old.desk self.new.desk }
-        ensures same { IfSome result (λ r. r.0 ≡ r.1) }
-        ensures fits { IfSome result (λ r. Fits request r.1) }
-        ensures within { IfSome result (λ r. OffsetsWithin r.1) }
+            (record { request = request; heard = result } ∷ []) self.old.desk self.new.desk }
+        ensures fits { IfSome result (λ reply. Fits request reply) }
+        ensures within { IfSome result (λ reply. OffsetsWithin reply) }
     {
         match loss {
             Loss::None => self.serve(alloc, request),
@@ -149,20 +134,18 @@ impl<'a, R: Wait, G: Gate> DeskLine<'a, R, G> {
 
     /// Makes a call, and keeps why it was not served, or its reply not kept.
     #[tactic(auto, using(crate::proofs::Losing::a_fault_is_one))]
-    fn serve(&mut self, alloc: Global, request: Request) -> Option<(Reply, Reply)>
+    fn serve(&mut self, alloc: Global, request: Request) -> Option<Reply>
         ensures calls { self.new.calls ≡ self.old.calls }
-        ensures unmade { self.new.unmade ≡ self.old.unmade }
         ensures loss { self.new.loss ≡ self.old.loss }
         ensures fault { IfSome result (λ _. self.new.fault ≡ self.old.fault) }
         ensures unserved { IfNone result (self.new.fault ≡ None → ⊥) }
-        ensures noted { IfSome result (λ r. AreNoted (Loss.None ∷ [])
-            (record { request = request; heard = Some r.0 } ∷ []) self.old.desk self.new.desk) }
-        ensures same { IfSome result (λ r. r.0 ≡ r.1) }
-        ensures fits { IfSome result (λ r. Fits request r.1) }
-        ensures within { IfSome result (λ r. OffsetsWithin r.1) }
+        ensures noted { IfSome result (λ reply. AreNoted (Loss.None ∷ [])
+            (record { request = request; heard = Some reply } ∷ []) self.old.desk self.new.desk) }
+        ensures fits { IfSome result (λ reply. Fits request reply) }
+        ensures within { IfSome result (λ reply. OffsetsWithin reply) }
     {
-        match replies_of(self.rt, alloc, &mut self.desk, request) {
-            Ok(replies) => Some(replies),
+        match reply_at(self.rt, alloc, &mut self.desk, request) {
+            Ok(reply) => Some(reply),
             Err(fault) => {
                 self.fault = Some(fault);
                 None
@@ -170,32 +153,30 @@ impl<'a, R: Wait, G: Gate> DeskLine<'a, R, G> {
         }
     }
 
-    /// Notes a call, of which this reply was received, or none.
-    fn note(&mut self, request: Request, replies: Option<(Reply, Reply)>) -> Delivery
-        requires room { vec_len self.old.calls < vec_capacity self.old.calls }
-        requires same { IfSome replies (λ r. r.0 ≡ r.1) }
-        requires fits { IfSome replies (λ r. Fits request r.1) }
-        requires within { IfSome replies (λ r. OffsetsWithin r.1) }
-        ensures added { Adds self.old.calls.items self.new.calls.items
-            self.old.unmade self.new.unmade request result }
+    /// Notes a call, of which this reply was received, or none. A reply of which there is no second
+    /// copy counts as lost, which is a fault.
+    #[tactic(auto, using(crate::proofs::Losing::a_fault_is_one))]
+    fn note(&mut self, alloc: Global, request: Request, heard: Option<Reply>) -> Delivery
+        requires room { vec_len self.old.calls.made < vec_capacity self.old.calls.made }
+        requires fits { IfSome heard (λ reply. Fits request reply) }
+        requires within { IfSome heard (λ reply. OffsetsWithin reply) }
+        ensures added { Adds self.old.calls.made.items self.new.calls.made.items
+            self.old.calls.unmade self.new.calls.unmade request result }
         ensures faithful { IsFaithful request result }
-        ensures calls { self.new.calls.items ≡ self.old.calls.items
-            ++ record { request = request; heard = option_map (λ r. r.0) replies } ∷ [] }
-        ensures rest { self.new ≡ record self.old { calls = self.new.calls } }
+        ensures noted { self.new.calls.made.items ≡ self.old.calls.made.items
+            ++ record { request = request; heard = reply_of result } ∷ [] }
+        ensures desk { self.new.desk ≡ self.old.desk }
+        ensures loss { self.new.loss ≡ self.old.loss }
+        ensures fault { self.new.fault ≡ None → self.old.fault ≡ None }
+        ensures kept { self.new.fault ≡ None → reply_of result ≡ heard }
     {
-        match replies {
-            Some((kept, reply)) => {
-                self.calls.push_reserved(Call {
-                    request,
-                    heard: Some(kept),
-                });
-                Delivery::Delivered(reply)
-            }
-            None => {
-                self.calls.push_reserved(Call {
-                    request,
-                    heard: None,
-                });
+        let is_heard = heard.is_some();
+        match self.calls.note(alloc, request, heard) {
+            Delivery::Delivered(reply) => Delivery::Delivered(reply),
+            Delivery::Lost => {
+                if is_heard {
+                    self.fault = Some(CallFault::Memory);
+                }
                 Delivery::Lost
             }
         }
@@ -206,65 +187,59 @@ impl<'a, R: Wait, G: Gate> Line for DeskLine<'a, R, G> {
     ghost use Rattle.kob_pipeline.specs.Losses.{AreMade};
     ghost use Rattle.kob_pipeline.specs.Noting.{calls_are_made, no_call_is_made};
 
-    ghost calls = { λ line. line.calls.items };
+    ghost calls = { λ line. line.calls.made.items };
 
-    ghost unmade = { λ line. line.unmade };
+    ghost unmade = { λ line. line.calls.unmade };
 
     /// Unless a call was not served, or not noted, that was to be, each call is noted at the desk or
     /// lost on purpose.
     ghost becomes = { λ old new. new.fault ≡ None
-        → AreMade old.fault old.loss new.loss old.calls.items new.calls.items old.desk new.desk };
+        → AreMade old.fault old.loss new.loss old.calls.made.items new.calls.made.items
+        old.desk new.desk };
 
     fn send(&mut self, alloc: Global, request: Request) -> Delivery {
         let loss = self.loss;
         self.loss = Loss::None;
-        let Ok(noted) = request.copy(alloc) else {
-            self.miss();
+        let Some(noted) = self.calls.room_for(alloc, &request) else {
             drop(request);
-            return Delivery::Lost;
-        };
-        let Ok(()) = self.calls.reserve(1) else {
-            self.miss();
-            drop(request);
-            drop(noted);
+            self.fault = Some(CallFault::Memory);
             return Delivery::Lost;
         };
         self.ask();
-        let replies = self.make(alloc, request, loss);
-        self.note(noted, replies)
+        let heard = self.make(alloc, request, loss);
+        self.note(alloc, noted, heard)
     }
 
     fn made_calls(&self) -> &[Call] {
-        &self.calls
+        &self.calls.made
     }
 
     fn unmade_calls(&self) -> u64 {
-        self.unmade
+        self.calls.unmade
     }
 
     ghost stays = { λ line faultless.
-        no_call_is_made line.fault line.loss line.calls.items line.desk faultless };
+        no_call_is_made line.fault line.loss line.calls.made.items line.desk faultless };
 
     ghost goes_on = { λ a b c one two faultless.
         let last = two faultless in
-        calls_are_made a.fault b.fault a.loss b.loss c.loss a.calls.items b.calls.items
-        c.calls.items a.desk b.desk c.desk (one last.begun) last };
+        calls_are_made a.fault b.fault a.loss b.loss c.loss a.calls.made.items b.calls.made.items
+        c.calls.made.items a.desk b.desk c.desk (one last.begun) last };
 }
 
-/// Calls, and gives the reply twice.
-fn replies_of<R: Wait>(
+/// Calls, and gives a copy of the reply that the desk has.
+fn reply_at<R: Wait>(
     rt: &R,
     alloc: Global,
     desk: &mut Desk<'_>,
     request: Request,
-) -> Result<(Reply, Reply), CallFault>
-    ensures noted { IfOk result (λ r. AreNoted (Loss.None ∷ [])
-        (record { request = request; heard = Some r.0 } ∷ []) desk.old desk.new) }
-    ensures same { IfOk result (λ r. r.0 ≡ r.1) }
-    ensures fits { IfOk result (λ r. Fits request r.1) }
-    ensures within { IfOk result (λ r. OffsetsWithin r.1) }
+) -> Result<Reply, CallFault>
+    ensures noted { IfOk result (λ reply. AreNoted (Loss.None ∷ [])
+        (record { request = request; heard = Some reply } ∷ []) desk.old desk.new) }
+    ensures fits { IfOk result (λ reply. Fits request reply) }
+    ensures within { IfOk result (λ reply. OffsetsWithin reply) }
 {
     desk.call(rt, alloc, request)?;
-    let reply = &desk.receipts()[desk.len() - 1].reply;
-    Ok((reply.copy(alloc)?, reply.copy(alloc)?))
+    let receipt = &desk.receipts()[desk.len() - 1];
+    Ok(receipt.reply.copy(alloc)?)
 }

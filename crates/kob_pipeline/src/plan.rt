@@ -5,22 +5,12 @@ ghost use Rattle.kob_pipeline.specs.Plans.{IsRunnable};
 
 use kob_broker::Settings;
 use kob_inbox::Subscription;
+use kob_lines::Loss;
 use kob_names::{Host, Items, Principal};
 use kob_outbox::{Change, OutboxEvent};
 use kob_rights::Event;
 use kob_router::Target;
 use kob_shared::Script;
-
-/// What becomes of the first call that a tick makes.
-#[derive(Clone, Copy, Debug, PartialEq, Eq)]
-pub enum Loss {
-    /// It is served, and its reply is received.
-    None,
-    /// It never reaches the broker.
-    BeforeServe,
-    /// It is served, and its reply is lost.
-    AfterServe,
-}
 
 /// What a service does next.
 #[derive(Drop)]

@@ -15,8 +15,9 @@ ghost use Rattle.kob_pipeline.specs.Steps.{Leads, Steps, standing};
 
 use crate::end::OutboxEnd;
 use crate::line::DeskLine;
-use crate::plan::{Loss, Service, ServiceStep};
+use crate::plan::{Service, ServiceStep};
 use crate::step_fault::StepFault;
+use kob_lines::Loss;
 use kob_outbox::{Change, Outbox, OutboxEvent, RecordFault, Row};
 use kob_router::{Line, Router, StopReason, Tick};
 use kob_shared::{CallFault, Gate};
@@ -60,7 +61,7 @@ impl Posting {
         steps: &[ServiceStep],
     ) -> Result<(), StepFault>
         requires first { IsFirst (option_map hand_of self.old.router.hand) self.old.outbox }
-        requires made { line.old.unmade ≡ 0 }
+        requires made { line.old.calls.unmade ≡ 0 }
         ensures { OnOk result (Leads (Steps (IsServiceStep (dispatch_of self.old.router.target)))
             calls_of
             (standing (state_of self.old.router self.old.outbox) line.old.desk)
@@ -82,10 +83,10 @@ impl Posting {
         step: &ServiceStep,
     ) -> Result<(), StepFault>
         requires first { IsFirst (option_map hand_of self.old.router.hand) self.old.outbox }
-        requires made { line.old.unmade ≡ 0 }
+        requires made { line.old.calls.unmade ≡ 0 }
         ensures first { OnOk result (IsFirst (option_map hand_of self.new.router.hand)
             self.new.outbox) }
-        ensures made { OnOk result (line.new.unmade ≡ 0) }
+        ensures made { OnOk result (line.new.calls.unmade ≡ 0) }
         ensures same { OnOk result (self.new.router.target ≡ self.old.router.target) }
         ensures done { OnOk result (Leads (IsServiceStep (dispatch_of self.old.router.target))
             calls_of
@@ -156,10 +157,10 @@ impl Posting {
         loss: Loss,
     ) -> Result<(), StepFault>
         requires first { IsFirst (option_map hand_of self.old.router.hand) self.old.outbox }
-        requires made { line.old.unmade ≡ 0 }
+        requires made { line.old.calls.unmade ≡ 0 }
         ensures first { OnOk result (IsFirst (option_map hand_of self.new.router.hand)
             self.new.outbox) }
-        ensures made { OnOk result (line.new.unmade ≡ 0) }
+        ensures made { OnOk result (line.new.calls.unmade ≡ 0) }
         ensures same { OnOk result (self.new.router.target ≡ self.old.router.target) }
         ensures done { OnOk result (Leads (IsServiceStep (dispatch_of self.old.router.target))
             calls_of

@@ -74,7 +74,7 @@ impl<'a> ServiceWorker<'a> {
         alloc: Global,
         line: &mut DeskLine<'_, R, G>,
     ) -> Result<OutboxEnd, StepFault>
-        requires { line.old.unmade ≡ 0 }
+        requires { line.old.calls.unmade ≡ 0 }
         ensures { IfOk result (IsOutboxLeft self.now line.old.desk line.new.desk) }
     {
         let mut posting = Posting::open(alloc, self.service)?;

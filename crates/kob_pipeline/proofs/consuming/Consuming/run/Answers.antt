@@ -1,7 +1,7 @@
 use Rattle.std.proofs.Common.{length, get_or, ◌<◌, arith, refl, sym, ◌∙◌}
 use Rattle.std.proofs.lemmas.Option.{get_or_from_slice_get, slice_get-get_or}
 use Rattle.kob_pipeline.specs.declared.plan.ConsumerStep.TheVariants.{Tick}
-use Rattle.kob_pipeline.specs.declared.plan.Loss.TheVariants.{None}
+use Rattle.kob_lines.specs.declared.lossy.Loss.TheVariants.{None}
 use Rattle.kob_pipeline.proofs.Worked.{consumer_calls_append, leads_more, no_step}
 use Rattle.kob_pipeline.proofs.consuming.Consuming.run.Goals as goal
 

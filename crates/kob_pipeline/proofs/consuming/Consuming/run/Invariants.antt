@@ -7,7 +7,7 @@ use Rattle.kob_pipeline.proofs.consuming.Consuming.run.Given as goal
 
 abbrev pub invariant-loop-step : goal.invariant-loop-step
 invariant-loop-step g l =
-    (l.line.unmade ≡ 0)
+    (l.line.calls.unmade ≡ 0)
     × (l.self.consumer.subscription ≡ l.fn.self.consumer.subscription)
     × Leads (Steps (IsConsumerStep l.fn.self.consumer.subscription)) calls_of
     (standing (state_of l.fn.self.consumer l.fn.self.inbox) l.fn.line.desk)

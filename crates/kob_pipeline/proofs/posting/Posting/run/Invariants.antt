@@ -9,7 +9,7 @@ use Rattle.kob_pipeline.proofs.posting.Posting.run.Given as goal
 
 abbrev pub invariant-loop-step : goal.invariant-loop-step
 invariant-loop-step g l =
-    (l.line.unmade ≡ 0)
+    (l.line.calls.unmade ≡ 0)
     × IsFirst (option_map hand_of l.self.router.hand) l.self.outbox
     × (l.self.router.target ≡ l.fn.self.router.target)
     × Leads (Steps (IsServiceStep (dispatch_of l.fn.self.router.target))) calls_of

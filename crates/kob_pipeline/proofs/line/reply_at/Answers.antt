@@ -1,7 +1,6 @@
-use Rattle.std.proofs.Common.{◌-◌, get_or, sym, ap, ◌∙◌}
-use Rattle.kob_shared.specs.declared.journal.Receipt.{Receipt}
+use Rattle.std.proofs.Common.{◌-◌, get_or, ap, ◌∙◌}
 use Rattle.kob_pipeline.proofs.Losing.{heard_is_noted}
-use Rattle.kob_pipeline.proofs.line.replies_of.Goals as goal
+use Rattle.kob_pipeline.proofs.line.reply_at.Goals as goal
 
 pub returns-clause-noted : goal.returns-clause-noted
 returns-clause-noted g c =
@@ -9,4 +8,4 @@ returns-clause-noted g c =
     heard_is_noted c.args.desk.now c.call.new.self c.args.request c.in_ok-copy.field-0 last.result c.len.result
     c.in_ok-call.ensures.ok c.len.ensures.events c.len.ensures.told
     (last.is ∙ ap (λ told. get_or told (c.len.result - 1) last.result) c.receipts.ensures)
-    (c.in_ok-copy.ensures ∙ ap (λ (r : Receipt). r.reply) (sym last.is))
+    c.in_ok-copy.ensures
