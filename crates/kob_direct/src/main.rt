@@ -2,20 +2,19 @@
 //! router sends them, and a consumer takes them in.
 #![tactic(auto)]
 
-mod workers;
-
-ghost use Rattle.std.specs.Prelude.{◌≡◌, [], IfOk, IsTrue};
-ghost use Rattle.kob_direct.specs.Delivered.{HasArrived};
-
-use crate::workers::{send, subscription, take};
-use kob_embedding::{opened, reaches_in_order};
+use kob_embedding::{
+    ConsumerEnd, RunningConsumer, RunningService, ServiceEnd, opened, reaches_in_order,
+};
 use kob_inbox::{Inbox, InboxRow, Subscription};
-use kob_lines::ProgramFault;
-use kob_outbox::Outbox;
+use kob_lines::{Loss, Lossy, ProgramFault, RecordedLine};
+use kob_names::{Host, Principal};
+use kob_outbox::{Change, Outbox, OutboxEvent};
+use kob_router::{Line, Route, RouteSettings};
 use kob_script::{Script, read_script};
 use kob_shared::{ENTRY_LIMIT, Recorded};
 use std::alloc::Global;
 use std::io::Write;
+use uuid::Uuid;
 
 /// A topic, and what the service and the consumer may do.
 const OPENING: &str = "super User:root
@@ -37,32 +36,18 @@ fn main(rt: HostRuntime) -> Result<(), ProgramFault> {
     played
 }
 
-/// Delivers the events, and prints the inbox and whether the law of delivery holds of it.
+/// Delivers the orders, and prints the inbox and whether the law of delivery holds of it.
 fn play<W: Write>(alloc: Global, out: &mut W, recorded: &mut Recorded) -> Result<(), ProgramFault> {
-    let subscription = subscription(alloc)?;
-    let mut inbox = Inbox::open_in_memory(alloc)?;
-    let holds = deliver(alloc, recorded, &mut inbox, &subscription);
-    let rows = inbox.taken();
-    drop(inbox);
-    print(out, &rows?, holds?)
-}
-
-/// Whether the law of delivery holds of what then is in the inbox.
-fn deliver(
-    alloc: Global,
-    recorded: &mut Recorded,
-    inbox: &mut Inbox,
-    subscription: &Subscription,
-) -> Result<bool, ProgramFault>
-    requires { inbox.old ≡ [] }
-    ensures { IfOk result (λ holds. IsTrue holds → HasArrived inbox.new) }
-{
-    let mut outbox = Outbox::open_in_memory(alloc)?;
-    let sent = send(alloc, recorded, &mut outbox);
-    drop(outbox);
-    let sent = sent?;
-    let taken = take(alloc, recorded, inbox, subscription)?;
-    Ok(reaches_in_order(recorded, &sent, &taken, subscription))
+    let sent = send(alloc, recorded)?;
+    let (rows, holds) = match take(alloc, recorded) {
+        Ok(mut taken) => (taken.taken(), reaches_in_order(recorded, &sent, &taken)),
+        Err(fault) => {
+            drop(sent);
+            return Err(fault);
+        }
+    };
+    drop(sent);
+    print(out, &rows?, holds)
 }
 
 fn print<W: Write>(out: &mut W, rows: &[InboxRow], holds: bool) -> Result<(), ProgramFault> {
@@ -70,7 +55,56 @@ fn print<W: Write>(out: &mut W, rows: &[InboxRow], holds: bool) -> Result<(), Pr
         let value = std::str::from_utf8(row.value.as_slice()).unwrap_or("?");
         writeln!(out, "{}: {value}", row.place)?;
     }
-    let law = if holds { "holds" } else { "says nothing" };
-    writeln!(out, "law of delivery: {law}")?;
+    writeln!(out, "delivered in order: {holds}")?;
     Ok(())
+}
+
+/// Sends two orders, as worker 1. The reply to the first call is lost, and the router makes the call
+/// again.
+fn send(alloc: Global, recorded: &mut Recorded) -> Result<ServiceEnd, ProgramFault> {
+    let host = Host::parse(alloc, "10.0.0.1")?;
+    let orders = Principal::parse(alloc, "User:orders")?;
+    let route = Route::new(alloc, &RouteSettings::by_default(alloc)?)?;
+    let outbox = Outbox::open_in_memory(alloc)?;
+    let line = RecordedLine::open(alloc, recorded, 1, orders, host);
+    let mut line = Lossy::over(alloc, line);
+    line.lose(Loss::AfterServe);
+    let mut service = RunningService::new(alloc, outbox, route, 1, line);
+    match place_orders(alloc, &mut service) {
+        Ok(()) => Ok(service.close(1)),
+        Err(fault) => {
+            drop(service);
+            Err(fault)
+        }
+    }
+}
+
+/// Records two orders with their events, and sends these.
+fn place_orders<L: Line>(
+    alloc: Global,
+    service: &mut RunningService<L>,
+) -> Result<(), ProgramFault> {
+    for (id, order) in [(1, "41"), (2, "42")] {
+        let change = Change::of(alloc, "order", order, "placed")?;
+        let event = OutboxEvent::of(alloc, Uuid::from_u128(id), &change, order)?;
+        service.record(&change, &event)?;
+    }
+    service.send_all(alloc, 100)
+}
+
+/// Takes the events into an inbox, as worker 2.
+fn take(alloc: Global, recorded: &mut Recorded) -> Result<ConsumerEnd, ProgramFault> {
+    let host = Host::parse(alloc, "10.0.0.1")?;
+    let mail = Principal::parse(alloc, "User:mail")?;
+    let subscription = Subscription::of(alloc, "mail", "outbox.event.order", 1, 10)?;
+    let inbox = Inbox::open_in_memory(alloc)?;
+    let line = RecordedLine::open(alloc, recorded, 2, mail, host);
+    let mut consumer = RunningConsumer::new(alloc, inbox, subscription, line);
+    match consumer.take_all(alloc, 100) {
+        Ok(()) => Ok(consumer.close(2)),
+        Err(fault) => {
+            drop(consumer);
+            Err(fault)
+        }
+    }
 }

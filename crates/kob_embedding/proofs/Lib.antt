@@ -1,3 +1,4 @@
 pub mod Servings
 pub mod Reachings
 pub mod ReservedExample
+pub mod Runs

@@ -1,15 +1,21 @@
-//! For who runs routers and consumers without a plan: what the journal of a broker, and the calls of
-//! their lines, say of an inbox.
+//! For who runs routers and consumers without a plan: services and consumers whose types keep what
+//! they did, and what the journal of a broker, and the calls of their lines, say of an inbox.
 #![tactic(auto)]
 
+mod consumer_end;
 mod laws;
 mod opening;
 mod part;
 mod reaching;
-mod ticking;
+mod running_consumer;
+mod running_service;
+mod service_end;
 
+pub use consumer_end::ConsumerEnd;
 pub use laws::a_legal_journal_is_a_history;
 pub use opening::opened;
 pub use part::{Part, is_served};
 pub use reaching::reaches_in_order;
-pub use ticking::{send_all, take_all};
+pub use running_consumer::RunningConsumer;
+pub use running_service::RunningService;
+pub use service_end::ServiceEnd;

@@ -1,47 +1,34 @@
-//! The law of delivery of a router and a consumer without a plan.
+//! The law of delivery of a service and a consumer without a plan.
 
-ghost use Rattle.std.specs.Prelude.{ℕ, List, IsTrue};
-ghost use Rattle.kob_inbox.specs.Run.{State as ConsumerState};
-ghost use Rattle.kob_lines.specs.ConsumerCourse.{HasConsumerRun};
-ghost use Rattle.kob_lines.specs.ServiceCourse.{HasServiceRun};
-ghost use Rattle.kob_outbox.specs.Contents.{Event};
-ghost use Rattle.kob_pipeline.specs.Reaching.{ReachesInOrder};
-ghost use Rattle.kob_router.specs.Dispatches.{dispatch_of};
-ghost use Rattle.kob_router.specs.Run.{State as RouterState};
-ghost use Rattle.kob_router.specs.declared.dispatch.Target.{Target};
+ghost use Rattle.std.specs.Prelude.{IsTrue};
+ghost use Rattle.kob_embedding.specs.Running.{IsDelivered};
 
+use crate::consumer_end::ConsumerEnd;
 use crate::laws::a_legal_journal_is_a_history;
-use crate::part::{Part, is_served};
-use kob_inbox::Subscription;
+use crate::part::is_served;
+use crate::service_end::ServiceEnd;
 use kob_pipeline::{an_inbox_holds_a_prefix_of_each_aggregate, first_breach};
 use kob_shared::Recorded;
 
-/// Whether the journal bears out the calls of a service's router and of a consumer, and breaks no
-/// premise of the law of delivery between them. Then the inbox holds of each aggregate a beginning
-/// of the events that the service recorded, in their order, each once, with its row's key and value.
-pub fn reaches_in_order(
-    recorded: &Recorded,
-    sent: &Part,
-    taken: &Part,
-    subscription: &Subscription,
-) -> bool
-    ensures { (target : Target) (service : RouterState) (consumer : ConsumerState)
-        (rows : List Event) (kind id : List ℕ)
-        → IsTrue result
-        → HasServiceRun (dispatch_of target) service sent.now.calls.items rows
-        → HasConsumerRun subscription.now consumer taken.now.calls.items
-        → ReachesInOrder rows consumer.inbox kind id }
+/// Whether the journal bears out the calls of a service and of a consumer, and breaks no premise of
+/// the law of delivery between them. Then the inbox holds of each aggregate a prefix of the events
+/// that the service recorded, in their order, each once, with its row's key and value.
+pub fn reaches_in_order(recorded: &Recorded, sent: &ServiceEnd, taken: &ConsumerEnd) -> bool
+    ensures { IsTrue result → IsDelivered sent.now taken.now }
 {
     let journal = recorded.journal();
-    if !is_served(journal, sent) {
+    let sender = sent.part();
+    if !is_served(journal, sender) {
         return false;
     }
-    if !is_served(journal, taken) {
+    let taker = taken.part();
+    if !is_served(journal, taker) {
         return false;
     }
+    let subscription = taken.consumer().subscription();
     let group = &subscription.group;
     let assignment = subscription.assignment.as_slice();
-    match first_breach(journal, sent.worker, taken.worker, group, assignment) {
+    match first_breach(journal, sender.worker, taker.worker, group, assignment) {
         None => {}
         Some(_) => return false,
     }

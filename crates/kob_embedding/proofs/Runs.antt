@@ -1,0 +1,107 @@
+-- What becomes of the runs of a service and of a consumer.
+use Rattle.std.proofs.Common.{◌≡◌, ℕ, ◌<◌, ◌^◌, List, [], ◌∷◌, ◌++◌, false, sym, ap, ◌∙◌, subst}
+use Rattle.std.specs.Prelude.{None, Result, Ok, Err, OnOk, OnErr}
+use Rattle.kob_outbox.specs.Contents.{Event}
+use Rattle.kob_outbox.specs.Events.{id_text, stored_event}
+use Rattle.kob_outbox.specs.Fields.{first_bad}
+use Rattle.kob_outbox.specs.Recording.{after_record, is_recorded, next_seq}
+use Rattle.kob_outbox.specs.declared.change.Change.{Change}
+use Rattle.kob_outbox.specs.declared.event.OutboxEvent.{OutboxEvent}
+use Rattle.kob_outbox.specs.declared.fault.RecordFault.{RecordFault}
+use Rattle.kob_inbox.specs.Contents.{Contents as Inbox}
+use Rattle.kob_inbox.specs.Run as consumer
+use Rattle.kob_inbox.specs.Run.Move.{Restarted}
+use Rattle.kob_inbox.specs.Tick as taken
+use Rattle.kob_inbox.specs.declared.fetcher.Fetcher.{Fetcher}
+use Rattle.kob_inbox.specs.declared.fetcher.Subscription.{Subscription}
+use Rattle.kob_inbox.specs.declared.tick.Tick as taken_tick
+use Rattle.kob_lines.proofs.ConsumerCourses as consumer_courses
+use Rattle.kob_lines.proofs.ConsumerCourses.{begins}
+use Rattle.kob_lines.proofs.ServiceCourses.{records, ticks}
+use Rattle.kob_lines.specs.ConsumerCourse.{HasConsumerRun}
+use Rattle.kob_lines.specs.Relayed.{IsTick, Relayed}
+use Rattle.kob_lines.specs.ServiceCourse.{HasServiceRun}
+use Rattle.kob_router.specs.Dispatches.{dispatch_of}
+use Rattle.kob_router.specs.Tick.{scene_of, state_of}
+use Rattle.kob_router.specs.declared.dispatch.Target.{Target}
+use Rattle.kob_router.specs.declared.line.Call.{Call}
+use Rattle.kob_router.specs.declared.tick.Tick.{Tick}
+use Rattle.kob_embedding.specs.Running.{HasRun, IsReaderRun, IsServiceRun, RecordsNoRow}
+
+-- an event is recorded
+pub recorded : (old new : Relayed) (calls : List Call) (change : Change) (event : OutboxEvent)
+    → new ≡ record old { outbox = after_record old.outbox change event }
+    → first_bad change event ≡ None → is_recorded old.outbox.ids (id_text event.id) ≡ false
+    → next_seq old.outbox < 2 ^ 63
+    → (rows : List Event) → IsServiceRun old calls rows
+    → IsServiceRun new calls (rows ++ stored_event (next_seq old.outbox) event ∷ [])
+recorded old new calls change event is fits fresh room rows was =
+    subst (λ (r : Relayed). IsServiceRun r calls (rows ++ stored_event (next_seq old.outbox) event ∷ [])) (sym is)
+    (records (dispatch_of old.router.target) (state_of old.router old.outbox) calls rows change event was
+    (record { fits = fits; fresh = fresh; room = room }))
+
+-- an event is recorded, or not
+pub run_of_a_record : (old new : Relayed) (calls : List Call) (change : Change) (event : OutboxEvent)
+    (result : Result ℕ RecordFault) → HasRun old calls
+    → OnOk result (new ≡ record old { outbox = after_record old.outbox change event })
+    → OnErr result (new ≡ old)
+    → OnOk result (first_bad change event ≡ None)
+    → OnOk result (is_recorded old.outbox.ids (id_text event.id) ≡ false)
+    → OnOk result (next_seq old.outbox < 2 ^ 63) → HasRun new calls
+run_of_a_record old new calls change event (Ok seq) was ok err fits fresh room = (
+  was.0 ++ stored_event (next_seq old.outbox) event ∷ [],
+  recorded old new calls change event ok fits fresh room was.0 was.1,
+)
+run_of_a_record old new calls change event (Err fault) was ok err fits fresh room =
+    subst (λ (r : Relayed). HasRun r calls) (sym err) was
+
+pub rows_of_a_record : (old new : Relayed) (calls : List Call) (change : Change) (event : OutboxEvent)
+    (result : Result ℕ RecordFault)
+    → OnOk result (new ≡ record old { outbox = after_record old.outbox change event })
+    → OnOk result (first_bad change event ≡ None)
+    → OnOk result (is_recorded old.outbox.ids (id_text event.id) ≡ false)
+    → OnOk result (next_seq old.outbox < 2 ^ 63)
+    → OnOk result ((rows : List Event) → IsServiceRun old calls rows
+    → IsServiceRun new calls (rows ++ stored_event (next_seq old.outbox) event ∷ []))
+rows_of_a_record old new calls change event (Ok seq) ok fits fresh room =
+    recorded old new calls change event ok fits fresh room
+rows_of_a_record old new calls change event (Err fault) ok fits fresh room = tt
+
+-- the router ticks
+pub ticked : (old new : Relayed) (calls then_calls : List Call) (unmade then_unmade : ℕ) (tick : Tick)
+    → IsTick old new calls then_calls unmade then_unmade tick → RecordsNoRow old calls new then_calls
+ticked old new calls then_calls unmade then_unmade tick is rows was =
+    subst (λ (t : Target). HasServiceRun (dispatch_of t) (state_of new.router new.outbox) then_calls rows) (sym is.0)
+    (ticks (dispatch_of old.router.target) (scene_of old.router old.outbox calls unmade)
+    (scene_of new.router new.outbox then_calls then_unmade) tick rows was is.1)
+
+-- a consumer begins, ticks, and starts again
+
+abbrev pub begun : Inbox → consumer.State
+begun inbox = record { inbox = inbox; cursors = []; turn = 0 }
+
+pub consumer_begins : (f : Fetcher) (inbox : Inbox) (calls : List Call) → taken.state_of f inbox ≡ begun inbox
+    → inbox ≡ [] → calls ≡ [] → IsReaderRun f inbox calls
+consumer_begins f inbox calls is empty none =
+    subst (λ (cs : List Call). IsReaderRun f inbox cs) (sym none)
+    (subst (λ (s : consumer.State). HasConsumerRun f.subscription s []) (sym (is ∙ ap begun empty))
+    (begins f.subscription))
+
+pub consumer_ticked : (old new : Fetcher) (inbox then_inbox : Inbox) (calls then_calls : List Call)
+    (unmade then_unmade : ℕ) (tick : taken_tick.Tick) → new.subscription ≡ old.subscription
+    → taken.Ticks old.subscription (taken.scene_of old inbox calls unmade)
+    (taken.scene_of new then_inbox then_calls then_unmade) tick
+    → IsReaderRun old inbox calls → IsReaderRun new then_inbox then_calls
+consumer_ticked old new inbox then_inbox calls then_calls unmade then_unmade tick same done was =
+    subst (λ (t : Subscription). HasConsumerRun t (taken.state_of new then_inbox) then_calls) (sym same)
+    (consumer_courses.ticks old.subscription (taken.scene_of old inbox calls unmade)
+    (taken.scene_of new then_inbox then_calls then_unmade) tick was done)
+
+pub consumer_restarted : (old new : Fetcher) (inbox : Inbox) (calls : List Call)
+    → new.subscription ≡ old.subscription
+    → taken.state_of new inbox ≡ consumer.after old.subscription (taken.state_of old inbox) Restarted
+    → IsReaderRun old inbox calls → IsReaderRun new inbox calls
+consumer_restarted old new inbox calls same is was =
+    subst (λ (t : Subscription). HasConsumerRun t (taken.state_of new inbox) calls) (sym same)
+    (subst (λ (s : consumer.State). HasConsumerRun old.subscription s calls) (sym is)
+    (consumer_courses.restarts old.subscription (taken.state_of old inbox) calls was))

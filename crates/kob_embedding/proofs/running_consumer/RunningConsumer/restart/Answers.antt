@@ -1,0 +1,7 @@
+use Rattle.kob_embedding.proofs.Runs.{consumer_restarted}
+use Rattle.kob_embedding.proofs.running_consumer.RunningConsumer.restart.Goals as goal
+
+pub invariant_of-self : goal.invariant_of-self
+invariant_of-self g c =
+    consumer_restarted c.self.inside.consumer c.restart.new.self _ _ c.restart.ensures.same
+    (c.restart.ensures.done c.self.inside.inbox) c.self.invariant

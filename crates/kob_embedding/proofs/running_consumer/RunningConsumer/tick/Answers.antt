@@ -1,0 +1,7 @@
+use Rattle.kob_embedding.proofs.Runs.{consumer_ticked}
+use Rattle.kob_embedding.proofs.running_consumer.RunningConsumer.tick.Goals as goal
+
+pub invariant_of-self : goal.invariant_of-self
+invariant_of-self g c =
+    consumer_ticked c.self.inside.consumer c.tick-tick.new.self _ _ _ _ _ _ _ c.tick-tick.ensures.same
+    c.tick-tick.ensures.done c.self.invariant

@@ -1,0 +1,9 @@
+use Rattle.std.proofs.Common.{◌≡◌}
+use Rattle.kob_embedding.specs.Running.{RecordsNoRow}
+use Rattle.kob_embedding.proofs.running_service.RunningService.send_all.Given as goal
+
+abbrev pub invariant-loop : goal.invariant-loop
+invariant-loop g l =
+    (l.self.relayed.router.target ≡ l.fn.self.relayed.router.target)
+    × RecordsNoRow l.fn.self.relayed (g.L.Line.calls l.fn.self.line) l.self.relayed (g.L.Line.calls l.self.line)
+    × g.L.Line.becomes l.fn.self.line l.self.line

@@ -1,0 +1,79 @@
+//! What a consumer leaves.
+
+ghost use Rattle.std.specs.Prelude.{◌≡◌, IfErr, IfOk, map};
+ghost use Rattle.std.specs.List.{enumerate_from};
+ghost use Rattle.kob_embedding.specs.Running.{IsReaderRun};
+ghost use Rattle.kob_inbox.specs.Rows.{placed_intake};
+
+use crate::part::Part;
+use kob_inbox::{Consumer, Inbox, InboxFault, InboxRow};
+use std::marker::Model;
+
+/// What a consumer leaves: the calls of its line as a worker, and its inbox. Its type keeps that a
+/// run of the consumer led there.
+#[derive(Drop)]
+pub struct ConsumerEnd {
+    part: Part,
+    consumer: Consumer,
+    inbox: Inbox,
+}
+
+impl Model for ConsumerEnd {
+    ghost use Rattle.std.specs.Coded.{codes};
+    ghost use Rattle.kob_embedding.specs.Running.{IsReaderRun, ReaderLeft};
+
+    ghost Value = { ReaderLeft };
+
+    ghost coded = { Prim.hlevel (codes) };
+
+    ghost view = { λ e. record {
+      worker = e.part.worker;
+      calls = e.part.calls.items;
+      fetcher = e.consumer;
+      inbox = e.inbox;
+    } };
+
+    ghost invariant = { λ e. IsReaderRun e.consumer e.inbox e.part.calls.items };
+}
+
+impl ConsumerEnd {
+    pub(crate) fn new(part: Part, consumer: Consumer, inbox: Inbox) -> ConsumerEnd
+        requires { IsReaderRun consumer inbox part.calls.items }
+        ensures worker { result.worker ≡ part.worker }
+        ensures calls { result.calls ≡ part.calls.items }
+        ensures fetcher { result.fetcher ≡ consumer }
+        ensures inbox { result.inbox ≡ inbox }
+    {
+        ConsumerEnd {
+            part,
+            consumer,
+            inbox,
+        }
+    }
+
+    /// The worker with its calls, the oldest first; no memory is taken.
+    pub fn part(&self) -> &Part
+        ensures worker { result.now.worker ≡ self.now.worker }
+        ensures calls { result.now.calls.items ≡ self.now.calls }
+        ensures run { IsReaderRun self.now.fetcher self.now.inbox self.now.calls }
+    {
+        &self.part
+    }
+
+    /// The consumer, with its positions; no memory is taken.
+    pub fn consumer(&self) -> &Consumer
+        ensures { result.now ≡ self.now.fetcher }
+    {
+        &self.consumer
+    }
+
+    /// All events that were taken in, in the order of their intake, as [`Inbox::taken`] reads them.
+    pub fn taken(&mut self) -> Result<Vec<InboxRow>, InboxFault>
+        ensures rows { IfOk result (λ rows.
+            map placed_intake rows.items ≡ enumerate_from 1 self.old.inbox) }
+        ensures memory { IfErr result (λ fault. fault ≡ InboxFault.Memory) }
+        ensures same { self.new ≡ self.old }
+    {
+        self.inbox.taken()
+    }
+}

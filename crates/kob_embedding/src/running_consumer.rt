@@ -1,0 +1,139 @@
+//! A consumer that takes records into its inbox over a line.
+
+ghost use Rattle.std.specs.Prelude.{◌≡◌, [], IfErr, IfOk, map};
+ghost use Rattle.std.specs.List.{enumerate_from};
+ghost use Rattle.kob_inbox.specs.Rows.{placed_intake};
+ghost use Rattle.kob_inbox.specs.Tick.{Ticks, scene_of};
+
+use crate::consumer_end::ConsumerEnd;
+use crate::part::Part;
+use kob_inbox::{Consumer, Inbox, InboxFault, InboxRow, Subscription, Tick};
+use kob_lines::{IntoCalls, ProgramFault, a_consumer_run_goes_on};
+use kob_router::Line;
+use std::alloc::Global;
+use std::marker::Model;
+use std::thread;
+
+/// A consumer with its inbox, and the line of its calls. Its type keeps that all it did since it
+/// began is a run of the consumer, so that the law of delivery speaks of it.
+#[derive(Drop)]
+pub struct RunningConsumer<L: Line> {
+    consumer: Consumer,
+    inbox: Inbox,
+    line: L,
+}
+
+impl<L: Line> Model for RunningConsumer<L> {
+    ghost use Rattle.std.specs.Coded.{codes};
+    ghost use Rattle.kob_embedding.specs.Running.{IsReaderRun, Reader};
+
+    ghost Value = { Reader L };
+
+    ghost coded = { Prim.hlevel (codes, L.code) };
+
+    ghost view = { λ r. record {
+      fetcher = r.consumer;
+      inbox = r.inbox;
+      line = r.line;
+    } };
+
+    ghost invariant = { λ r. IsReaderRun r.consumer r.inbox (L.calls r.line) };
+}
+
+impl<L: Line> RunningConsumer<L> {
+    /// Begins with an empty inbox, no position, and a line that made no call. No memory is taken.
+    pub fn new(
+        alloc: Global,
+        inbox: Inbox,
+        subscription: Subscription,
+        line: L,
+    ) -> RunningConsumer<L>
+        requires empty { inbox ≡ [] }
+        requires unused { L.calls line ≡ [] }
+        ensures inbox { result.inbox ≡ inbox }
+        ensures subscription { result.fetcher.subscription ≡ subscription }
+        ensures line { result.line ≡ line }
+    {
+        let Subscription {
+            group,
+            assignment,
+            max,
+        } = subscription;
+        a_consumer_run_goes_on();
+        RunningConsumer {
+            consumer: Consumer::new(alloc, group, assignment, max),
+            inbox,
+            line,
+        }
+    }
+
+    /// One step of the consumer, as [`Consumer::tick`] makes it.
+    pub fn tick(&mut self, alloc: Global) -> Tick
+        ensures same { self.new.fetcher.subscription ≡ self.old.fetcher.subscription }
+        ensures done { Ticks self.old.fetcher.subscription
+            (scene_of self.old.fetcher self.old.inbox
+            (L.calls self.old.line) (L.unmade self.old.line))
+            (scene_of self.new.fetcher self.new.inbox
+            (L.calls self.new.line) (L.unmade self.new.line))
+            result }
+        ensures line { L.becomes self.old.line self.new.line }
+    {
+        let tick = self.consumer.tick(alloc, &mut self.inbox, &mut self.line);
+        a_consumer_run_goes_on();
+        tick
+    }
+
+    /// Ticks until the partition that has the turn has no record, at most so often, also where a
+    /// tick is denied or its call is lost. The error is `Stopped`: no tick answered `Idle`.
+    pub fn take_all(&mut self, alloc: Global, most: u32) -> Result<(), ProgramFault>
+        ensures same { self.new.fetcher.subscription ≡ self.old.fetcher.subscription }
+        ensures stopped { IfErr result (λ fault. fault ≡ ProgramFault.Stopped) }
+        ensures line { L.becomes self.old.line self.new.line }
+    {
+        for _ in 0..most {
+            if let Tick::Idle = self.tick(alloc) {
+                return Ok(());
+            }
+            thread::yield_now();
+        }
+        Err(ProgramFault::Stopped)
+    }
+
+    /// Starts the consumer again, as [`Consumer::restart`] does: it forgets all positions.
+    pub fn restart(&mut self)
+        ensures same { self.new.fetcher.subscription ≡ self.old.fetcher.subscription }
+        ensures inbox { self.new.inbox ≡ self.old.inbox }
+        ensures line { self.new.line ≡ self.old.line }
+    {
+        self.consumer.restart();
+        a_consumer_run_goes_on();
+    }
+
+    /// All events that were taken in, in the order of their intake, as [`Inbox::taken`] reads them.
+    pub fn taken(&mut self) -> Result<Vec<InboxRow>, InboxFault>
+        ensures rows { IfOk result (λ rows.
+            map placed_intake rows.items ≡ enumerate_from 1 self.old.inbox) }
+        ensures memory { IfErr result (λ fault. fault ≡ InboxFault.Memory) }
+        ensures same { self.new ≡ self.old }
+    {
+        self.inbox.taken()
+    }
+}
+
+impl<L: IntoCalls> RunningConsumer<L> {
+    /// Ends the line, whose calls are those of this worker. No memory is taken.
+    pub fn close(self, worker: usize) -> ConsumerEnd
+        ensures worker { result.worker ≡ worker }
+        ensures calls { result.calls ≡ L.calls self.line }
+        ensures fetcher { result.fetcher ≡ self.fetcher }
+        ensures inbox { result.inbox ≡ self.inbox }
+    {
+        let RunningConsumer {
+            consumer,
+            inbox,
+            line,
+        } = self;
+        let calls = line.into_calls();
+        ConsumerEnd::new(Part { worker, calls }, consumer, inbox)
+    }
+}

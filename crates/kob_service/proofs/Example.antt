@@ -1,0 +1,289 @@
+-- A history in which a reply is lost, the router begins anew, and a stranger is denied: two rows, three records,
+-- two events in the inbox. All that the laws ask holds of it.
+use Rattle.std.proofs.Common.{◌≡◌, ℕ, zero, suc, List, [], ◌∷◌, ◌||◌, Bool, true, false, refl, ap, sym, subst, inl, inr, arith}
+use Rattle.std.specs.Prelude.{Option, None, Some, codes}
+use Rattle.std.proofs.lemmas.Bool.{true≢false}
+use Rattle.uuid.specs.Text.{by_index}
+use Rattle.kob_names.specs.declared.record.Record.{Record}
+use Rattle.kob_outbox.specs.Events.{id_text}
+use Rattle.kob_partition.specs.Batches.{records_of}
+use Rattle.kob_rights.specs.declared.code.Code.TheVariants.{TopicAuthorizationFailed}
+use Rattle.kob_rights.specs.declared.on_groups.OffsetCommit.{OffsetCommit as CommitRequest}
+use Rattle.kob_rights.specs.declared.on_groups.OffsetFetch.{OffsetFetch as PositionRequest}
+use Rattle.kob_rights.specs.declared.on_partitions.Fetch.{Fetch as FetchRequest}
+use Rattle.kob_rights.specs.declared.on_partitions.Produce.{Produce as ProduceRequest}
+use Rattle.kob_rights.specs.declared.reply.Body.TheVariants as bodies
+use Rattle.kob_rights.specs.declared.reply.Reply.{Reply}
+use Rattle.kob_rights.specs.declared.reply.Reply.TheVariants.{Denied, Done}
+use Rattle.kob_rights.specs.declared.request.Request.{Request}
+use Rattle.kob_rights.specs.declared.request.Request.TheVariants.{Fetch, InitProducerId, OffsetCommit, OffsetFetch, Produce}
+use Rattle.kob_router.specs.Dispatches.{dispatch_of, place_of}
+use Rattle.kob_router.specs.Run as router
+use Rattle.kob_router.specs.declared.line.Call.{Call}
+use Rattle.kob_router.specs.declared.place.Place.{Place}
+use Rattle.kob_inbox.specs.Run as consumer
+use Rattle.kob_inbox.specs.declared.fetcher.Subscription.{Subscription}
+use Rattle.kob_shared.specs.declared.journal.Entry.{Entry}
+use Rattle.kob_pipeline.specs.Delivery.{rows_of}
+use Rattle.kob_pipeline.specs.Parts.{IsConsumerPart, IsServicePart}
+use Rattle.kob_pipeline.specs.Premises.{ArePrivate, IsPrivate}
+use Rattle.kob_pipeline.specs.Reaching.{ReachesInOrder, rows_of_aggregate, taken_ids}
+use Rattle.kob_pipeline.specs.View.{IsHistory, IsSameView, View, opening_view, with_batch, with_commit, with_producer}
+use Rattle.kob_pipeline.proofs.DeliveryLaws.{holds_a_prefix}
+use Rattle.kob_service.proofs.Samples.{batch, change, event, goes_here, held, here, id_of, message, producer, row, second_is_new, target}
+
+-- what is asked
+
+abbrev sends : ℕ → ℕ → ℕ → ProduceRequest
+sends id base n = record { topic = here.topic; partition = here.partition; batch = batch id base n }
+
+abbrev pub position : PositionRequest
+position = record { group = codes "g"; topic = here.topic; partition = here.partition }
+
+abbrev fetch : FetchRequest
+fetch = record { topic = here.topic; partition = here.partition; offset = 0; max = 10 }
+
+abbrev commit : CommitRequest
+commit = record { group = codes "g"; topic = here.topic; partition = here.partition; offset = 3 }
+
+abbrev found : List (ℕ × Record)
+found = (0, message 1) ∷ (1, message 2) ∷ (2, message 2) ∷ []
+
+-- the journal: the service is worker 1, the consumer worker 2, and a stranger worker 3
+
+abbrev pub entry : ℕ → Request → Reply → Entry
+entry worker request reply = record {
+  worker = worker;
+  event = record { principal = codes "User:a"; host = codes "h"; request = request };
+  reply = reply;
+}
+
+abbrev journal : List Entry
+journal =
+    entry 1 InitProducerId (Done (bodies.Producer 0 0))
+    ∷ entry 1 (Produce (sends 0 0 1)) (Done (bodies.Offset 0))
+    ∷ entry 2 (OffsetFetch position) (Done (bodies.Commit None))
+    ∷ entry 1 (Produce (sends 0 1 2)) (Done (bodies.Offset 1))
+    ∷ entry 1 InitProducerId (Done (bodies.Producer 1 0))
+    ∷ entry 3 (Produce (sends 0 1 2)) (Denied TopicAuthorizationFailed [])
+    ∷ entry 1 (Produce (sends 1 0 2)) (Done (bodies.Offset 2))
+    ∷ entry 2 (Fetch fetch) (Done (bodies.Records found))
+    ∷ entry 2 (OffsetCommit commit) (Done bodies.Committed)
+    ∷ []
+
+-- what the service does: the second reply is lost, and the router begins anew
+
+abbrev pub call : Request → Option Reply → Call
+call request heard = record { request = request; heard = heard }
+
+abbrev moves : List router.Move
+moves =
+    router.Move.Recorded change (event 1)
+    ∷ router.Move.Recorded change (event 2)
+    ∷ router.Move.Called (call InitProducerId (Some (Done (bodies.Producer 0 0)))) false
+    ∷ router.Move.Took (held 1)
+    ∷ router.Move.Called (call (Produce (sends 0 0 1)) (Some (Done (bodies.Offset 0)))) true
+    ∷ router.Move.Took (held 2)
+    ∷ router.Move.Called (call (Produce (sends 0 1 2)) None) false
+    ∷ router.Move.Restarted
+    ∷ router.Move.Called (call InitProducerId (Some (Done (bodies.Producer 1 0)))) false
+    ∷ router.Move.Took (held 2)
+    ∷ router.Move.Called (call (Produce (sends 1 0 2)) (Some (Done (bodies.Offset 2)))) true
+    ∷ []
+
+abbrev after_all : router.State → List router.Move → router.State
+after_all s [] = s
+after_all s (m ∷ ms) = after_all (router.after s m) ms
+
+placed : (n : ℕ) → place_of (dispatch_of target (row n)) ≡ Some here
+placed n = ap place_of (goes_here n)
+
+-- what is in hand is sent
+is_sent : (s : router.State) (id base n : ℕ) → s.producer ≡ Some (producer id) → s.hand ≡ Some (held n)
+    → Rattle.kob_router.specs.Places.sequence_of s.sequences here ≡ base
+    → router.IsSending (dispatch_of target) s (sends id base n)
+is_sent s id base n has_producer has_hand next = record {
+  producer = producer id;
+  hand = held n;
+  message = message n;
+  has_producer = has_producer;
+  has_hand = has_hand;
+  routed = goes_here n;
+  same_topic = refl;
+  same_partition = refl;
+  same_batch = ap (λ (k : ℕ). batch id k n) (sym next);
+}
+
+no_mark : {A : Type 0} → false ≡ true → A
+no_mark e = absurd (true≢false (sym e))
+
+runs : router.IsRouterRun (dispatch_of target) router.start moves (after_all router.start moves)
+runs = (
+  record { fits = refl; fresh = refl; room = omega arith },
+  (
+    record { fits = refl; fresh = ap (λ (b : Bool). b || false) second_is_new; room = omega arith },
+    (
+      (refl, refl),
+      (
+        (refl, refl, placed 1),
+        (
+          (is_sent _ 0 0 1 refl refl refl, λ _. tt),
+          (
+            (refl, refl, placed 2),
+            (
+              (is_sent _ 0 1 2 refl refl refl, no_mark),
+              (tt, ((refl, refl), ((refl, refl, placed 2), ((is_sent _ 1 0 2 refl refl refl, λ _. tt), refl)))),
+            ),
+          ),
+        ),
+      ),
+    ),
+  ),
+)
+
+service_part : IsServicePart target 1 journal moves (after_all router.start moves)
+service_part = record {
+  run = runs;
+  served = inr (
+    refl,
+    inr refl,
+    inr (
+      refl,
+      inr refl,
+      inr
+          (refl, inl refl, inr (refl, inr refl, inr (refl, inr refl, tt))),
+    ),
+  );
+}
+
+-- what the consumer does
+
+abbrev pub subscription : Subscription
+subscription = record { group = codes "g"; assignment = here ∷ []; max = 10 }
+
+abbrev takes : List consumer.Move
+takes =
+    consumer.Move.Called (call (OffsetFetch position) (Some (Done (bodies.Commit None)))) 0
+    ∷ consumer.Move.Called (call (Fetch fetch) (Some (Done (bodies.Records found)))) 3
+    ∷ consumer.Move.Called (call (OffsetCommit commit) (Some (Done bodies.Committed))) 0
+    ∷ []
+
+abbrev pub taken_all : consumer.State → List consumer.Move → consumer.State
+taken_all s [] = s
+taken_all s (m ∷ ms) = taken_all (consumer.after subscription s m) ms
+
+consumer_part : IsConsumerPart subscription 2 journal takes (taken_all consumer.start takes)
+consumer_part = record {
+  run = (
+    (record { place = here; its_turn = refl; is_due = refl }, omega arith),
+    (
+      (record { place = here; its_turn = refl; is_due = refl }, omega arith),
+      ((record { place = here; its_turn = refl; is_due = refl }, omega arith), refl),
+    ),
+  );
+  served = inr (refl, inr refl, inr (refl, inr refl, inr (refl, inr refl, tt)));
+}
+
+-- what the laws see of the broker
+
+pub same : (v : View) → IsSameView v v
+same v = record { log = λ place. refl; committed = λ group place. refl; next_producer = refl }
+
+abbrev view_0 : View
+view_0 = with_producer opening_view
+
+abbrev view_1 : View
+view_1 = with_batch view_0 here (batch 0 0 1)
+
+abbrev view_2 : View
+view_2 = with_batch view_1 here (batch 0 1 2)
+
+abbrev view_3 : View
+view_3 = with_producer view_2
+
+abbrev view_4 : View
+view_4 = with_batch view_3 here (batch 1 0 2)
+
+abbrev at_end : View
+at_end = with_commit view_4 (codes "g") here 3
+
+history : IsHistory opening_view journal at_end
+history = (
+  view_0,
+  (refl, same view_0),
+  (
+    view_1,
+    (omega arith, same view_1),
+    (
+      view_1,
+      (refl, same view_1),
+      (
+        view_2,
+        (omega arith, same view_2),
+        (
+          view_3,
+          (refl, same view_3),
+          (
+            view_3,
+            same view_3,
+            (view_4, (omega arith, same view_4), (view_4, (refl, same view_4), (at_end, same at_end, same at_end))),
+          ),
+        ),
+      ),
+    ),
+  ),
+)
+
+-- nobody else sends, commits or deletes
+
+private_topic : IsPrivate 1 2 (codes "g") (codes "t") journal
+private_topic = record {
+  producer = (
+    λ p. absurd p,
+    (
+      λ p. refl,
+      (
+        λ p. absurd p,
+        (λ p. refl, (λ p. absurd p, (λ p. absurd p, (λ p. refl, (λ p. absurd p, (λ p. absurd p, tt)))))),
+      ),
+    ),
+  );
+  committer = (
+    λ p. absurd p,
+    (
+      λ p. absurd p,
+      (
+        λ p. absurd p,
+        (λ p. absurd p, (λ p. absurd p, (λ p. absurd p, (λ p. absurd p, (λ p. absurd p, (λ p. refl, tt)))))),
+      ),
+    ),
+  );
+  kept = (λ p. p, (λ p. p, (λ p. p, (λ p. p, (λ p. p, (λ p. p, (λ p. p, (λ p. p, (λ p. p, tt)))))))));
+}
+
+all_private : ArePrivate 1 2 (codes "g") (here ∷ []) journal
+all_private place (zero, within, at) =
+    subst (λ (p : Place). IsPrivate 1 2 (codes "g") p.topic journal) at private_topic
+all_private place (suc k, within, at) = absurd (omega arith)
+
+-- so the law says of this history
+
+reached : ReachesInOrder (rows_of moves) (taken_all consumer.start takes).inbox (codes "a") (codes "b")
+reached =
+    holds_a_prefix target subscription 1 2 journal at_end moves (after_all router.start moves) takes
+    (taken_all consumer.start takes) (codes "a") (codes "b") history service_part consumer_part all_private
+
+-- and this is what there is at the end: three records, two events, and the mark at the second row
+
+records_at_end : records_of (at_end.log here) ≡ message 1 ∷ message 2 ∷ message 2 ∷ []
+records_at_end = refl
+
+mark_at_end : (after_all router.start moves).outbox.mark ≡ 2
+mark_at_end = refl
+
+rows_at_end : rows_of_aggregate (rows_of moves) (codes "a") (codes "b") ≡ row 1 ∷ row 2 ∷ []
+rows_at_end = refl
+
+inbox_at_end : taken_ids (taken_all consumer.start takes).inbox ≡ id_text (id_of 1) ∷ id_text (id_of 2) ∷ []
+unfolding by_index
+inbox_at_end = refl
