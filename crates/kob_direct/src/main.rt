@@ -5,7 +5,7 @@
 use kob_embedding::{
     ConsumerEnd, RunningConsumer, RunningService, ServiceEnd, opened, reaches_in_order,
 };
-use kob_inbox::{Inbox, InboxRow, Subscription};
+use kob_inbox::{Inbox, Subscription};
 use kob_lines::{Loss, Lossy, ProgramFault, RecordedLine};
 use kob_names::{Host, Principal};
 use kob_outbox::{Change, Outbox, OutboxEvent};
@@ -39,19 +39,21 @@ fn main(rt: HostRuntime) -> Result<(), ProgramFault> {
 /// Delivers the orders, and prints the inbox and whether the law of delivery holds of it.
 fn play<W: Write>(alloc: Global, out: &mut W, recorded: &mut Recorded) -> Result<(), ProgramFault> {
     let sent = send(alloc, recorded)?;
-    let (rows, holds) = match take(alloc, recorded) {
-        Ok(mut taken) => (taken.taken(), reaches_in_order(recorded, &sent, &taken)),
-        Err(fault) => {
-            drop(sent);
-            return Err(fault);
-        }
-    };
-    drop(sent);
-    print(out, &rows?, holds)
+    let taken = take(alloc, recorded);
+    print(out, recorded, &sent, taken)
 }
 
-fn print<W: Write>(out: &mut W, rows: &[InboxRow], holds: bool) -> Result<(), ProgramFault> {
-    for row in rows {
+fn print<W: Write>(
+    out: &mut W,
+    recorded: &Recorded,
+    sent: &ServiceEnd,
+    taken: Result<ConsumerEnd, ProgramFault>,
+) -> Result<(), ProgramFault> {
+    let mut taken = taken?;
+    let holds = reaches_in_order(recorded, sent, &taken);
+    let rows = taken.taken();
+    drop(taken);
+    for row in &rows? {
         let value = std::str::from_utf8(row.value.as_slice()).unwrap_or("?");
         writeln!(out, "{}: {value}", row.place)?;
     }
@@ -70,13 +72,8 @@ fn send(alloc: Global, recorded: &mut Recorded) -> Result<ServiceEnd, ProgramFau
     let mut line = Lossy::over(alloc, line);
     line.lose(Loss::AfterServe);
     let mut service = RunningService::new(alloc, outbox, route, 1, line);
-    match place_orders(alloc, &mut service) {
-        Ok(()) => Ok(service.close(1)),
-        Err(fault) => {
-            drop(service);
-            Err(fault)
-        }
-    }
+    let placed = place_orders(alloc, &mut service);
+    service.end(1, placed)
 }
 
 /// Records two orders with their events, and sends these.
@@ -100,11 +97,6 @@ fn take(alloc: Global, recorded: &mut Recorded) -> Result<ConsumerEnd, ProgramFa
     let inbox = Inbox::open_in_memory(alloc)?;
     let line = RecordedLine::open(alloc, recorded, 2, mail, host);
     let mut consumer = RunningConsumer::new(alloc, inbox, subscription, line);
-    match consumer.take_all(alloc, 100) {
-        Ok(()) => Ok(consumer.close(2)),
-        Err(fault) => {
-            drop(consumer);
-            Err(fault)
-        }
-    }
+    let taken = consumer.take_all(alloc, 100);
+    consumer.end(2, taken)
 }

@@ -1,7 +1,7 @@
 -- What becomes of the runs of a service and of a consumer.
 use Rattle.std.proofs.Common.{◌≡◌, ℕ, ◌<◌, ◌^◌, List, [], ◌∷◌, ◌++◌, false, sym, ap, ◌∙◌, subst}
 use Rattle.std.specs.Prelude.{None, Result, Ok, Err, OnOk, OnErr}
-use Rattle.kob_outbox.specs.Contents.{Event}
+use Rattle.kob_outbox.specs.Contents.{Event, empty}
 use Rattle.kob_outbox.specs.Events.{id_text, stored_event}
 use Rattle.kob_outbox.specs.Fields.{first_bad}
 use Rattle.kob_outbox.specs.Recording.{after_record, is_recorded, next_seq}
@@ -17,6 +17,7 @@ use Rattle.kob_inbox.specs.declared.fetcher.Subscription.{Subscription}
 use Rattle.kob_inbox.specs.declared.tick.Tick as taken_tick
 use Rattle.kob_lines.proofs.ConsumerCourses as consumer_courses
 use Rattle.kob_lines.proofs.ConsumerCourses.{begins}
+use Rattle.kob_lines.proofs.ServiceCourses as service_courses
 use Rattle.kob_lines.proofs.ServiceCourses.{records, ticks}
 use Rattle.kob_lines.specs.ConsumerCourse.{HasConsumerRun}
 use Rattle.kob_lines.specs.Relayed.{IsTick, Relayed}
@@ -27,6 +28,20 @@ use Rattle.kob_router.specs.declared.dispatch.Target.{Target}
 use Rattle.kob_router.specs.declared.line.Call.{Call}
 use Rattle.kob_router.specs.declared.tick.Tick.{Tick}
 use Rattle.kob_embedding.specs.Running.{HasRun, IsReaderRun, IsServiceRun, RecordsNoRow}
+
+-- a service begins
+
+abbrev pub fresh : Target → Relayed
+fresh target = record {
+  outbox = empty;
+  router = record { target = target; producer = None; sequences = []; hand = None };
+}
+
+pub service_begins : (r : Relayed) (target : Target) (calls : List Call) → r ≡ fresh target → calls ≡ []
+    → HasRun r calls
+service_begins r target calls is none =
+    subst (λ (o : Relayed). HasRun o calls) (sym is)
+    ([], subst (λ (cs : List Call). IsServiceRun (fresh target) cs []) (sym none) (service_courses.begins (dispatch_of target)))
 
 -- an event is recorded
 pub recorded : (old new : Relayed) (calls : List Call) (change : Change) (event : OutboxEvent)

@@ -10,6 +10,7 @@ mod reaching;
 mod running_consumer;
 mod running_service;
 mod service_end;
+mod sessions;
 
 pub use consumer_end::ConsumerEnd;
 pub use laws::a_legal_journal_is_a_history;
@@ -19,3 +20,4 @@ pub use reaching::reaches_in_order;
 pub use running_consumer::RunningConsumer;
 pub use running_service::RunningService;
 pub use service_end::ServiceEnd;
+pub use sessions::session_of;

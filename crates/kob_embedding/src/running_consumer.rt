@@ -1,6 +1,7 @@
 //! A consumer that takes records into its inbox over a line.
 
-ghost use Rattle.std.specs.Prelude.{◌≡◌, [], IfErr, IfOk, map};
+ghost use Rattle.std.specs.Prelude.{◌≡◌, ◌≤◌, [], IfErr, IfOk, IsErrOf, IsTrue, OnErr, OnOk};
+ghost use Rattle.std.specs.Prelude.{length, map};
 ghost use Rattle.std.specs.List.{enumerate_from};
 ghost use Rattle.kob_inbox.specs.Rows.{placed_intake};
 ghost use Rattle.kob_inbox.specs.Tick.{Ticks, scene_of};
@@ -99,6 +100,34 @@ impl<L: Line> RunningConsumer<L> {
         Err(ProgramFault::Stopped)
     }
 
+    /// Ticks until the inbox has so many rows or more, at most so often. The error is out of memory,
+    /// or `Stopped`: after no tick it had as many.
+    pub fn take_rows(&mut self, alloc: Global, count: usize, most: u32) -> Result<(), ProgramFault>
+        ensures taken { OnOk result (count ≤ length self.new.inbox) }
+        ensures same { self.new.fetcher.subscription ≡ self.old.fetcher.subscription }
+        ensures line { L.becomes self.old.line self.new.line }
+    {
+        for _ in 0..most {
+            if self.has_rows(alloc, count)? {
+                return Ok(());
+            }
+            thread::yield_now();
+        }
+        Err(ProgramFault::Stopped)
+    }
+
+    /// Makes one step, and says whether it took records in and the inbox then has so many rows.
+    fn has_rows(&mut self, alloc: Global, count: usize) -> Result<bool, ProgramFault>
+        ensures taken { IfOk result (λ has. IsTrue has → count ≤ length self.new.inbox) }
+        ensures same { self.new.fetcher.subscription ≡ self.old.fetcher.subscription }
+        ensures line { L.becomes self.old.line self.new.line }
+    {
+        if let Tick::Took(_) = self.tick(alloc) {
+            return Ok(self.taken()?.len() >= count);
+        }
+        Ok(false)
+    }
+
     /// Starts the consumer again, as [`Consumer::restart`] does: it forgets all positions.
     pub fn restart(&mut self)
         ensures same { self.new.fetcher.subscription ≡ self.old.fetcher.subscription }
@@ -135,5 +164,29 @@ impl<L: IntoCalls> RunningConsumer<L> {
         } = self;
         let calls = line.into_calls();
         ConsumerEnd::new(Part { worker, calls }, consumer, inbox)
+    }
+}
+
+impl<L: IntoCalls + Drop> RunningConsumer<L> {
+    /// Ends the line, if the work before went well: else the fault is that of the work.
+    pub fn end(
+        self,
+        worker: usize,
+        done: Result<(), ProgramFault>,
+    ) -> Result<ConsumerEnd, ProgramFault>
+        ensures left { IfOk result (λ e. (e.worker ≡ worker)
+            × (e.calls ≡ L.calls self.line)
+            × (e.fetcher ≡ self.fetcher)
+            × (e.inbox ≡ self.inbox)) }
+        ensures ok { OnOk done (OnErr result ⊥) }
+        ensures fault { IfErr done (λ fault. IsErrOf result fault) }
+    {
+        match done {
+            Ok(()) => Ok(self.close(worker)),
+            Err(fault) => {
+                drop(self);
+                Err(fault)
+            }
+        }
     }
 }

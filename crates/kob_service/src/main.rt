@@ -3,16 +3,16 @@
 #![tactic(auto)]
 
 use kob_embedding::{
-    ConsumerEnd, RunningConsumer, RunningService, ServiceEnd, opened, reaches_in_order,
+    ConsumerEnd, RunningConsumer, RunningService, ServiceEnd, opened, reaches_in_order, session_of,
 };
-use kob_inbox::Subscription;
+use kob_inbox::{Inbox, Subscription};
 use kob_lines::{ProgramFault, SessionLine};
-use kob_names::{Host, Principal};
-use kob_outbox::{Change, OutboxEvent};
-use kob_router::{Route, RouteSettings};
+use kob_outbox::{Change, Outbox, OutboxEvent};
+use kob_router::{Line, Route, RouteSettings};
 use kob_script::{Script, read_script};
-use kob_shared::{ENTRY_LIMIT, Session, SharedBroker};
+use kob_shared::{ENTRY_LIMIT, Recorded, SharedBroker};
 use std::alloc::Global;
+use std::io::Write;
 use std::sync::Wait;
 use std::thread::join;
 use uuid::Uuid;
@@ -31,34 +31,50 @@ const CHANGES: &str = "User:root h delete-acls - - any User:orders - Write -
 User:root h create-acl allow User:orders * Write Topic literal outbox.event.order
 ";
 
-/// How often a worker tries before it gives up.
-const TRIES: u32 = 100_000;
+/// How often a worker ticks before it gives up.
+const MOST: u32 = 1_000_000;
 
-fn main(rt: HostRuntime) -> Result<(), ProgramFault> {
-    let Script { settings, events } = script(rt.alloc(), OPENING)?;
-    let recorded = opened(rt.alloc(), settings, events.as_slice(), ENTRY_LIMIT)?;
-    play(&rt, rt.alloc(), &mut rt.stdout(), recorded)
-}
+/// A worker's part: what it leaves, or why it stopped.
+type Worked<T> = Result<T, ProgramFault>;
 
-/// Lets the three work at once, and prints the inbox and whether the law of delivery holds of it.
-fn play<R: Threads + Wait + Sync, W: Write>(
-    rt: &R,
-    alloc: Global,
-    out: &mut W,
-    recorded: Recorded,
-) -> Result<(), ProgramFault> {
-    let shared = SharedBroker::open(recorded);
+fn main(rt: HostRuntime) -> Worked<()> {
+    let alloc = rt.alloc();
+    let Script { settings, events } = script(alloc, OPENING)?;
+    let shared = SharedBroker::open(opened(alloc, settings, events.as_slice(), ENTRY_LIMIT)?);
     let (sent, (taken, changed)) = join(
-        rt,
-        || serve(rt, alloc, &shared),
-        || join(rt, || consume(rt, alloc, &shared), || administer(rt, alloc, &shared)),
+        &rt,
+        || serve(&rt, alloc, &shared),
+        || join(
+            &rt,
+            || consume(&rt, alloc, &shared),
+            || administer(&rt, alloc, &shared),
+        ),
     );
     let recorded = shared.finish();
-    let delivered = delivered(&recorded, sent, taken);
+    let printed = print(&mut rt.stdout(), &recorded, sent, taken);
     drop(recorded);
-    let (rows, holds) = delivered?;
-    changed?;
-    for row in &rows {
+    printed?;
+    changed
+}
+
+fn script(alloc: Global, text: &str) -> Worked<Script> {
+    read_script(alloc, text.as_bytes()).map_err(|_| ProgramFault::BadText)
+}
+
+/// Prints the inbox, and whether the law of delivery holds of it.
+fn print<W: Write>(
+    out: &mut W,
+    recorded: &Recorded,
+    sent: Worked<ServiceEnd>,
+    taken: Worked<ConsumerEnd>,
+) -> Worked<()> {
+    let mut taken = taken?;
+    let sent = sent?;
+    let holds = reaches_in_order(recorded, &sent, &taken);
+    drop(sent);
+    let rows = taken.taken();
+    drop(taken);
+    for row in &rows? {
         let value = std::str::from_utf8(row.value.as_slice()).unwrap_or("?");
         writeln!(out, "{}: {value}", row.place)?;
     }
@@ -66,61 +82,41 @@ fn play<R: Threads + Wait + Sync, W: Write>(
     Ok(())
 }
 
-fn script(alloc: Global, text: &str) -> Result<Script, ProgramFault> {
-    read_script(alloc, text.as_bytes()).map_err(|_| ProgramFault::BadText)
+/// Worker 1 sends two orders, also while its right is revoked.
+fn serve<R: Wait>(rt: &R, alloc: Global, shared: &SharedBroker) -> Worked<ServiceEnd> {
+    let route = Route::new(alloc, &RouteSettings::by_default(alloc)?)?;
+    let outbox = Outbox::open_in_memory(alloc)?;
+    let line = SessionLine::open(rt, alloc, session_of(alloc, shared, 1, "User:orders", "h")?);
+    let mut service = RunningService::new(alloc, outbox, route, 1, line);
+    let sent = send(alloc, &mut service);
+    service.end(1, sent)
 }
 
-/// Worker 1 records two orders and sends their events, also while its right is revoked.
-fn serve<R: Wait>(
-    rt: &R,
-    alloc: Global,
-    shared: &SharedBroker,
-) -> Result<ServiceEnd, ProgramFault> {
-    let route = Route::new(alloc, &RouteSettings::by_default(alloc)?)?;
-    let line = SessionLine::open(rt, alloc, session(alloc, shared, 1, "User:orders")?);
-    let mut service = RunningService::open(alloc, route, 1, line)?;
+/// Records two orders with their events, and sends these.
+fn send<L: Line>(alloc: Global, service: &mut RunningService<L>) -> Worked<()> {
     for (id, order) in [(1, "41"), (2, "42")] {
         let change = Change::of(alloc, "order", order, "placed")?;
         let event = OutboxEvent::of(alloc, Uuid::from_u128(id), &change, order)?;
         service.record(&change, &event)?;
     }
-    service.send_all(alloc, TRIES)?;
-    Ok(service.close(1))
+    service.send_all(alloc, MOST)
 }
 
 /// Worker 2 takes the events in until both are there.
-fn consume<R: Wait>(
-    rt: &R,
-    alloc: Global,
-    shared: &SharedBroker,
-) -> Result<ConsumerEnd, ProgramFault> {
+fn consume<R: Wait>(rt: &R, alloc: Global, shared: &SharedBroker) -> Worked<ConsumerEnd> {
     let subscription = Subscription::of(alloc, "mail", "outbox.event.order", 1, 10)?;
-    let line = SessionLine::open(rt, alloc, session(alloc, shared, 2, "User:mail")?);
-    let mut consumer = RunningConsumer::open(alloc, subscription, line)?;
-    for _ in 0..TRIES {
-        consumer.take_all(alloc, TRIES)?;
-        if consumer.taken()?.len() == 2 {
-            return Ok(consumer.close(2));
-        }
-    }
-    Err(ProgramFault::Stopped)
+    let inbox = Inbox::open_in_memory(alloc)?;
+    let line = SessionLine::open(rt, alloc, session_of(alloc, shared, 2, "User:mail", "h")?);
+    let mut consumer = RunningConsumer::new(alloc, inbox, subscription, line);
+    let taken = consumer.take_rows(alloc, 2, MOST);
+    consumer.end(2, taken)
 }
 
 /// Worker 3 revokes the service's right to write, and grants it again.
-fn administer<R: Wait>(rt: &R, alloc: Global, shared: &SharedBroker) -> Result<(), ProgramFault> {
-    let mut session = session(alloc, shared, 3, "User:root")?;
+fn administer<R: Wait>(rt: &R, alloc: Global, shared: &SharedBroker) -> Worked<()> {
+    let mut session = session_of(alloc, shared, 3, "User:root", "h")?;
     for event in script(alloc, CHANGES)?.events.into_vec() {
         drop(session.call(rt, alloc, event.request)?);
     }
     Ok(())
-}
-
-fn session<'a>(
-    alloc: Global,
-    shared: &'a SharedBroker,
-    worker: usize,
-    principal: &str,
-) -> Result<Session<'a>, ProgramFault> {
-    let host = Host::parse(alloc, "10.0.0.1")?;
-    Ok(shared.session(worker, Principal::parse(alloc, principal)?, host))
 }

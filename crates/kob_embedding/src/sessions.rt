@@ -1,0 +1,29 @@
+//! Sessions of a shared broker, by texts.
+
+ghost use Rattle.std.specs.Prelude.{◌≡◌, IfOk};
+
+use kob_lines::ProgramFault;
+use kob_names::{Host, Principal};
+use kob_shared::{Session, SharedBroker};
+use std::alloc::Global;
+
+/// A session of a worker, for the principal at the host that these texts name. The error is out of
+/// memory, or `BadText` where a text names no principal or no host.
+pub fn session_of<'a>(
+    alloc: Global,
+    shared: &'a SharedBroker,
+    worker: usize,
+    principal: &str,
+    host: &str,
+) -> Result<Session<'a>, ProgramFault>
+    ensures { IfOk result (λ session. session ≡ record {
+      worker = worker;
+      principal = principal.now;
+      host = host.now;
+      seen = 0;
+    }) }
+{
+    let principal = Principal::parse(alloc, principal)?;
+    let host = Host::parse(alloc, host)?;
+    Ok(shared.session(worker, principal, host))
+}
