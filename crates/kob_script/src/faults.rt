@@ -124,6 +124,7 @@ fn earlier_kind(kind: FaultKind, other: FaultKind) -> FaultKind
     }
 }
 
+// Whether something was read, which is dropped.
 fn tested<T: Drop>(read: Result<T, LineError>) -> Result<(), LineError>
     ensures { (told : Result T kinds.FaultKind) → Gives read told → Finds result (fault_in told) }
 {

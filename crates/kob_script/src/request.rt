@@ -61,6 +61,7 @@ pub fn request_of(alloc: Global, command: Command, words: &[Word<'_>]) -> Result
     }
 }
 
+// The requests about starts, ends and committed offsets.
 fn request_on_offsets(
     alloc: Global,
     command: Command,
@@ -100,6 +101,7 @@ fn request_on_offsets(
     }
 }
 
+// The requests of producers, groups and bindings.
 fn other_request(alloc: Global, command: Command, words: &[Word<'_>]) -> Result<Request, LineError>
     ensures { IfOk result (λ made. request_of command words.now ≡ Ok made) }
 {
