@@ -6,12 +6,12 @@ use Rattle.std.specs.Map.{keys_of, lookup}
 use Rattle.std.proofs.lemmas.Map.Keys.{IsDistinct-head, IsDistinct-tail}
 use Rattle.indexmap.specs.IndexMap.{insert_entry}
 use Rattle.kob_names.specs.Same.{same_text}
+use Rattle.kob_ordered.proofs.Entries.{none_of}
 use Rattle.kob_ordered.proofs.Places.{equal_names, same_name}
-use Rattle.kob_groups.specs.Groups.{Commits, Groups, commits_of, offsets_on, with_commit, with_offset, without_group, without_offsets, without_topic}
+use Rattle.kob_groups.specs.Groups.{CommitPlace, Commits, Groups, commits_of, committed_at, offsets_on, place_of, with_commit, with_offset, without_group, without_offsets, without_topic}
 use Rattle.kob_groups.specs.Listed.{AreListed, CanList, HasRoomFor, ListsAlike, has_commits, is_listed, is_pair}
 use Rattle.kob_groups.specs.declared.lists.GroupsByTopic.{GroupsByTopic}
 use Rattle.kob_groups.specs.declared.lists.Listing.{Listing}
-use Rattle.kob_groups.specs.declared.place.CommitPlace.{CommitPlace}
 
 abbrev pub Group : Type 0
 Group = List ℕ × Commits
@@ -235,9 +235,17 @@ each_listed groups lists topic listed distinct place group there some =
 
 -- what can be listed has room
 pub room_to_list : (listing : Option Listing) (topic group : List ℕ) (lists : GroupsByTopic)
-    → CanList listing topic group lists → IfSome listing (λ l. HasRoomFor l topic lists)
+    → CanList listing topic group lists → IfSome listing (λ l. HasRoomFor l lists)
 room_to_list None topic group lists can = tt
 room_to_list (Some listing) topic group lists can = can.room
+
+-- an offset on a topic where a group has none that is listed
+pub none_committed : (groups : Groups) (lists : GroupsByTopic) (topic group : List ℕ) (partition : ℕ)
+    → AreListed groups lists → is_listed topic group lists ≡ false
+    → committed_at (place_of group topic partition) groups ≡ None
+none_committed groups lists topic group partition listed absent =
+    ap (λ o. lookup (nat_eq partition) (unwrap_or o []))
+    (none_of (lookup (same_text topic) (commits_of group groups)) (sym (listed topic group) ∙ absent))
 
 -- where no list is left to leave
 pub none_to_leave : (listed here : Bool) → listed ≡ (listed && not (here && false))
