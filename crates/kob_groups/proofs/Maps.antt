@@ -146,19 +146,6 @@ module _ {K X Y : Type 0} (part : X → Y) where
           ap (λ es. (entry.0, part entry.1) ∷ es)
           (rest (sym (ap (λ b. cond b (Some entry.1) (lookup test (remove_entry test entries))) is) ∙ gone))
 
--- what is found after a write
-pub found_written : {K X : Type 0} (test : K → Bool) (entries : List (K × X)) (old x : X)
-    → lookup test entries ≡ Some old → lookup test (set_value test entries x) ≡ Some x
-found_written test [] old x found = cc
-found_written test (entry ∷ entries) old x found =
-    by (test entry.0) refl found (λ later. found_written test entries old x later)
-  where
-    by : (hit : Bool) → test entry.0 ≡ hit → cond hit (Some entry.1) (lookup test entries) ≡ Some old
-        → (lookup test entries ≡ Some old → lookup test (set_value test entries x) ≡ Some x)
-        → lookup test (cond hit ((entry.0, x) ∷ entries) (entry ∷ set_value test entries x)) ≡ Some x
-    by true is here rest = ap (λ b. cond b (Some x) (lookup test entries)) is
-    by false is later rest = ap (λ b. cond b (Some entry.1) (lookup test (set_value test entries x))) is ∙ rest later
-
 -- what holds after any error
 pub on_err : {T E P : Type 0} (r : Result T E) → P → OnErr r P
 on_err (Ok t) p = tt

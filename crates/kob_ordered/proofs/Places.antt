@@ -123,13 +123,7 @@ module _ {V : Type 0} where
         | inr last ↦ inr (ap suc last.0, last.1)
       ]
 
-  -- the names at the places, and the entries there
-  pub named_at : (slots : List (Slot V)) (place : ℕ) (slot : Slot V) → slice_get slots place ≡ Some slot
-      → slice_get (names_in slots) place ≡ Some (named slot)
-  named_at [] place slot there = cc
-  named_at (head ∷ slots) zero slot there = let same : head ≡ slot = cc in ap (λ s. Some (named s)) same
-  named_at (head ∷ slots) (suc place) slot there = named_at slots place slot there
-
+  -- the entry where a name stands
   pub entry_at : (slots : List (Slot V)) (place : ℕ) (name : List ℕ)
       → slice_get (names_in slots) place ≡ Some (Some name) → Stands slots name place
   entry_at [] place name is = cc

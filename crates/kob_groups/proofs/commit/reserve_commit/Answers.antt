@@ -7,7 +7,8 @@ use Rattle.kob_ordered.proofs.Standing.{name_is, stands_there}
 use Rattle.kob_groups.specs.Groups.{offsets_on, place_of}
 use Rattle.kob_groups.specs.Kept.{CanPut, topic_among}
 use Rattle.kob_groups.specs.Views.{commits_in}
-use Rattle.kob_groups.proofs.Maps.{found_written, on_err, seen_none, seen_some, seen_written}
+use Rattle.kob_groups.proofs.Maps.{on_err, seen_none, seen_some, seen_written}
+use Rattle.kob_groups.proofs.Names.{found_written}
 use Rattle.kob_groups.proofs.commit.reserve_commit.Goals as goal
 
 pub returns-in_err-topic-in-Some-clause-groups : goal.returns-in_err-topic-in-Some-clause-groups
@@ -42,7 +43,7 @@ pub returns-in_ok-topic-in-Some-clause-place : goal.returns-in_ok-topic-in-Some-
 returns-in_ok-topic-in-Some-clause-place c =
     let groups = c.args.groups.now in let name = name_at groups c.in-Some.place in let partition = c.args.partition in
     ap (λ o. place_of name (topic_among c.in_ok-topic-in-Some.topic o) partition)
-    (found_written (same_text name) groups.entries _ _ c.value_at_mut.ensures.value)
+    (found_written name _ _ groups.entries c.value_at_mut.ensures.value)
     ∙ ap (λ topic. place_of name topic partition) c.in_ok-topic-in-Some.ensures.topic
     ∙ ap (λ group. place_of group c.args.topic.now partition)
     (name_is groups c.in-Some.place c.args.group.now c.in-Some.ensures.stands)
@@ -52,7 +53,7 @@ returns-in_ok-topic-in-Some-clause-ready c =
     let groups = c.args.groups.now in (
       stands_there groups c.in-Some.place c.args.group.now c.in-Some.ensures.stands,
       subst (λ o. IfSome o (CanPut c.in_ok-topic-in-Some.topic c.args.partition))
-          (sym (found_written _ groups.entries _ _ c.value_at_mut.ensures.value)) c.in_ok-topic-in-Some.ensures.ready,
+          (sym (found_written _ _ _ groups.entries c.value_at_mut.ensures.value)) c.in_ok-topic-in-Some.ensures.ready,
     )
 
 pub returns-in_ok-reserve-in-None-clause-absent : goal.returns-in_ok-reserve-in-None-clause-absent

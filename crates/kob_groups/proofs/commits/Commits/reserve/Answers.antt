@@ -5,7 +5,8 @@ use Rattle.kob_ordered.proofs.Entries.{none_of}
 use Rattle.kob_ordered.proofs.Standing.{name_is, stands_there}
 use Rattle.kob_groups.specs.Kept.{HasRoom}
 use Rattle.kob_groups.specs.Views.{offsets_in}
-use Rattle.kob_groups.proofs.Maps.{found_written, on_err, seen_none, seen_some, seen_written}
+use Rattle.kob_groups.proofs.Maps.{on_err, seen_none, seen_some, seen_written}
+use Rattle.kob_groups.proofs.Names.{found_written}
 use Rattle.kob_groups.proofs.commits.Commits.reserve.Goals as goal
 
 pub returns-in_err-reserve_offset-in-Some-clause-commits : goal.returns-in_err-reserve_offset-in-Some-clause-commits
@@ -54,6 +55,6 @@ returns-in_ok-reserve_offset-in-Some-clause-ready c =
     let topics = c.args.self.now.by_topic in (
       stands_there topics c.in-Some.place c.args.topic.now c.in-Some.ensures.stands,
       subst (λ o. IfSome o (HasRoom c.args.partition))
-          (sym (found_written _ topics.entries _ c.reserve_offset.new.offsets c.value_at_mut.ensures.value))
+          (sym (found_written _ _ c.reserve_offset.new.offsets topics.entries c.value_at_mut.ensures.value))
           c.in_ok-reserve_offset-in-Some.ensures.room,
     )
