@@ -51,7 +51,11 @@ fn play<R: Threads + Wait + Sync, W: Write>(
     let (sent, (taken, changed)) = join(
         rt,
         || serve(rt, alloc, &shared),
-        || join(rt, || consume(rt, alloc, &shared), || administer(rt, alloc, &shared)),
+        || join(
+            rt,
+            || consume(rt, alloc, &shared),
+            || administer(rt, alloc, &shared),
+        ),
     );
     let recorded = shared.finish();
     let delivered = delivered(&recorded, sent, taken);
