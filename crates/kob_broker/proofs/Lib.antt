@@ -2,7 +2,6 @@ pub mod Runs
 pub mod FirstReasons
 pub mod Decisions
 pub mod Placing
-pub mod CreatedTopics
 pub mod Drafts
 pub mod Clauses
 pub mod Just

@@ -55,7 +55,9 @@ state_after_change (AdvanceStart topic partition offset) broker = record (state_
       (topics_of broker.catalog);
 }
 state_after_change (Commit made) broker = record (state_of broker) {
-  groups = groups.with_commit made.place made.offset (groups_of broker.groups);
+  groups =
+      groups.with_commit (groups_kept.place_in made broker.groups) made.offset
+      (groups_of broker.groups);
 }
 state_after_change (RemoveGroup name) broker =
     record (state_of broker) { groups = groups.without_group name (groups_of broker.groups) }

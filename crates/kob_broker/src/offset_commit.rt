@@ -1,8 +1,10 @@
 //! An offset committed by a group.
 
-ghost use Rattle.std.specs.Prelude.{◌≡◌, IfOk, MatchOption, is_some};
+ghost use Rattle.std.specs.Prelude.{◌≡◌, IfOk, MatchOption, None, OnErr, is_some};
 ghost use Rattle.kob_broker.specs.Change.{MakesFor, state_of};
+ghost use Rattle.kob_broker.specs.Effect.{refusal};
 ghost use Rattle.kob_names.specs.GroupRules.{group_fault};
+ghost use Rattle.kob_partition.specs.Retained.{retained_meaning};
 ghost use Rattle.kob_rights.specs.declared.request.Request.TheVariants as requests;
 
 use crate::broker::Broker;
@@ -22,6 +24,8 @@ impl Broker {
     ) -> Result<Prepared, AllocError>
         ensures state { state_of self.new ≡ state_of self.old }
         ensures ok { IfOk result (MakesFor (requests.OffsetCommit commit.now) self.new) }
+        ensures memory { OnErr result (refusal retained_meaning (state_of self.old)
+            (requests.OffsetCommit commit.now) ≡ None) }
     {
         if is_bad_group_name(&commit.group) {
             return Ok(Prepared::refused(Reason::BadGroupName));

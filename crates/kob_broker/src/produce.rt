@@ -4,6 +4,7 @@ ghost use Rattle.std.specs.Prelude.{◌≡◌, ◌<◌, IfOk, length};
 ghost use Rattle.kob_broker.specs.Change.{MakesFor, state_of};
 ghost use Rattle.kob_broker.specs.Placed.{prepared_for};
 ghost use Rattle.kob_broker.specs.Produce.{batch_reasons, is_bad_sequence, is_unknown_producer};
+ghost use Rattle.kob_broker.specs.Produce.{reason_of};
 ghost use Rattle.kob_broker.specs.Reasons.{first_reason};
 ghost use Rattle.kob_rights.specs.declared.request.Request.TheVariants as requests;
 
@@ -72,11 +73,23 @@ impl Broker {
                 let body = Body::Offset(offset);
                 Ok(Placed::Nowhere(Prepared::done(body, Change::Unchanged)))
             }
-            Err(AppendFault::OldEpoch) => Ok(Placed::refused(Reason::OldEpoch)),
-            Err(AppendFault::OutOfOrder) => Ok(Placed::refused(Reason::OutOfOrder)),
-            Err(AppendFault::OffsetsSpent) => Ok(Placed::refused(Reason::OffsetsSpent)),
-            Err(AppendFault::Memory) => Err(AllocError),
+            Err(fault) => match reason_of(fault) {
+                Some(reason) => Ok(Placed::refused(reason)),
+                None => Err(AllocError),
+            },
         }
+    }
+}
+
+/// As which reason a log's fault is told, and none for want of memory.
+fn reason_of(fault: AppendFault) -> Option<Reason>
+    ensures { result ≡ reason_of fault }
+{
+    match fault {
+        AppendFault::OldEpoch => Some(Reason::OldEpoch),
+        AppendFault::OutOfOrder => Some(Reason::OutOfOrder),
+        AppendFault::OffsetsSpent => Some(Reason::OffsetsSpent),
+        AppendFault::Memory => None,
     }
 }
 

@@ -7,10 +7,12 @@ use Rattle.std.proofs.lemmas.Map.Keys.{IsDistinct-head, IsDistinct-tail}
 use Rattle.kob_names.specs.Same.{same_text}
 use Rattle.kob_ordered.proofs.Places.{equal_names}
 use Rattle.kob_groups.specs.Groups.{Commits, Groups, without_offsets, without_topic}
-use Rattle.kob_groups.specs.Listed.{has_commits}
+use Rattle.kob_groups.specs.Listed.{AreListed, has_commits, is_listed}
 use Rattle.kob_groups.specs.Views.{commits_in, groups_in, without_topic_at}
 use Rattle.kob_groups.specs.declared.commits.Commits.{Commits as CommitsKept}
-use Rattle.kob_groups.proofs.Listings.{Group}
+use Rattle.kob_groups.specs.declared.lists.GroupsByTopic.{GroupsByTopic}
+use Rattle.kob_groups.proofs.Listings.{Group, each_listed}
+use Rattle.kob_groups.proofs.Maps.{seen_keys}
 
 abbrev pub Entries : Type 0
 Entries = List (List ℕ × CommitsKept)
@@ -137,7 +139,7 @@ forgotten_written name topic (e ∷ entries) old final distinct found changed =
     by false is here later = ap (λ gs. (e.0, commits_in e.1) ∷ gs) (later here changed)
 
 -- where all groups with commits on the topic pass
-pub forgotten_all : (passes : List ℕ → Bool) (topic : List ℕ) (groups : Groups)
+forgotten_all : (passes : List ℕ → Bool) (topic : List ℕ) (groups : Groups)
     → ((place : ℕ) (group : Group) → slice_get groups place ≡ Some group → has_commits topic group.1 ≡ true
     → passes group.0 ≡ true)
     → without_topic_at passes topic groups ≡ without_topic topic groups
@@ -151,3 +153,14 @@ forgotten_all passes topic (group ∷ groups) all =
     by true is some has = refl
     by false is false has = sym (absent_stay topic group.1 has)
     by false is true has = let passed = all 0 group refl has in cc
+
+-- where those pass that are listed for the topic
+pub forgotten_listed : (entries : Entries) (lists : GroupsByTopic) (topic : List ℕ) (passes : List ℕ → Bool)
+    → AreListed (groups_in entries) lists → IsDistinct same_text (keys_of entries)
+    → ((group : List ℕ) → passes group ≡ is_listed topic group lists)
+    → without_topic_at passes topic (groups_in entries) ≡ without_topic topic (groups_in entries)
+forgotten_listed entries lists topic passes listed distinct same =
+    forgotten_all passes topic (groups_in entries) (λ place group there has.
+    same group.0
+    ∙ each_listed (groups_in entries) lists topic listed
+    (subst (IsDistinct same_text) (sym (seen_keys commits_in entries)) distinct) place group there has)

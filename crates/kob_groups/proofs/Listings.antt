@@ -1,102 +1,50 @@
 -- How each change of the groups keeps those listed for a topic that have commits on it.
-use Rattle.std.proofs.Common.{◌≡◌, ℕ, zero, suc, Bool, true, false, cond, not, ◌&&◌, ◌||◌, filter, List, [], ◌∷◌, Option, Some, None, IfSome, is_some, map, option_map, nat_eq, slice_get, unwrap_or, refl, sym, ap, subst, ◌∙◌}
+use Rattle.std.proofs.Common.{◌≡◌, ℕ, zero, suc, Bool, true, false, cond, not, ◌&&◌, ◌||◌, filter, List, [], ◌∷◌, Option, Some, None, is_some, option_map, nat_eq, slice_get, unwrap_or, refl, sym, ap, subst, ◌∙◌}
 use Rattle.std.specs.Cmp.Lexicographic.{nat_list_eq_equiv}
 use Rattle.std.specs.List.{AllByRecursion, IsDistinct}
 use Rattle.std.specs.Map.{keys_of, lookup}
+use Rattle.std.proofs.lemmas.Map.Entries.{lookup-filter-keys}
 use Rattle.std.proofs.lemmas.Map.Keys.{IsDistinct-head, IsDistinct-tail}
+use Rattle.std.proofs.lemmas.Map.Made.{lookup-map_values}
 use Rattle.indexmap.specs.IndexMap.{insert_entry}
 use Rattle.kob_names.specs.Same.{same_text}
 use Rattle.kob_ordered.proofs.Places.{equal_names, same_name}
-use Rattle.kob_groups.specs.Groups.{Commits, Groups, commits_of, offsets_on, with_commit, with_offset, without_group, without_offsets, without_topic}
-use Rattle.kob_groups.specs.Listed.{AreListed, CanList, HasRoomFor, ListsAlike, has_commits, is_listed, is_pair}
+use Rattle.kob_groups.specs.Groups.{CommitPlace, Commits, Groups, commits_of, offsets_on, with_commit, with_offset, without_group, without_offsets, without_topic}
+use Rattle.kob_groups.specs.Listed.{AreListed, has_commits, is_listed, is_pair}
 use Rattle.kob_groups.specs.declared.lists.GroupsByTopic.{GroupsByTopic}
-use Rattle.kob_groups.specs.declared.lists.Listing.{Listing}
-use Rattle.kob_groups.specs.declared.place.CommitPlace.{CommitPlace}
+use Rattle.kob_groups.proofs.Maps.{inserted_new, written_inserted}
+use Rattle.kob_groups.proofs.Names.{changes_pushed, changes_written}
 
 abbrev pub Group : Type 0
 Group = List ℕ × Commits
-
--- one name is another, and whether a third one is either
-one_of : (name key q : List ℕ) → same_text name key ≡ true → same_text q key ≡ same_text name q
-one_of name key q is =
-    ap (λ k. same_text q k) (sym (equal_names name key is)) ∙ nat_list_eq_equiv.symm q name
-
-apart : (name key q : List ℕ) → same_text name key ≡ false → same_text q key ≡ true → same_text name q ≡ false
-apart name key q is hit = ap (same_text name) (equal_names q key hit) ∙ is
 
 -- what is found after an entry was put in
 found_inserted : {X : Type 0} (entries : List (List ℕ × X)) (key q : List ℕ) (value : X)
     → lookup (same_text q) (insert_entry same_text entries key value)
     ≡ cond (same_text key q) (Some value) (lookup (same_text q) entries)
-found_inserted [] key q value =
-    ap (λ b. cond b (Some value) None) (nat_list_eq_equiv.symm q key)
-found_inserted {X} (e ∷ entries) key q value =
-    by (same_text key e.0) refl (same_text q e.0) refl (found_inserted entries key q value)
+found_inserted {X} entries key q value = by (lookup (same_text key) entries) refl
   where
-    later : List (List ℕ × X)
-    later = insert_entry same_text entries key value
-
-    by : (hit : Bool) → same_text key e.0 ≡ hit → (here : Bool) → same_text q e.0 ≡ here
-        → lookup (same_text q) later ≡ cond (same_text key q) (Some value) (lookup (same_text q) entries)
-        → lookup (same_text q) (cond hit ((e.0, value) ∷ entries) (e ∷ later))
-        ≡ cond (same_text key q) (Some value) (cond here (Some e.1) (lookup (same_text q) entries))
-    by true is true found rest =
-        ap (λ b. cond b (Some value) (lookup (same_text q) entries)) found
-        ∙ sym (ap (λ b. cond b (Some value) (Some e.1)) (sym (one_of key e.0 q is) ∙ found))
-    by true is false found rest =
-        ap (λ b. cond b (Some value) (lookup (same_text q) entries)) found
-        ∙ sym (ap (λ b. cond b (Some value) (lookup (same_text q) entries)) (sym (one_of key e.0 q is) ∙ found))
-    by false is true found rest =
-        ap (λ b. cond b (Some e.1) (lookup (same_text q) later)) found
-        ∙ sym (ap (λ b. cond b (Some value) (Some e.1)) (apart key e.0 q is found))
-    by false is false found rest =
-        ap (λ b. cond b (Some e.1) (lookup (same_text q) later)) found ∙ rest
+    by : (found : Option X) → lookup (same_text key) entries ≡ found
+        → lookup (same_text q) (insert_entry same_text entries key value)
+        ≡ cond (same_text key q) (Some value) (lookup (same_text q) entries)
+    by None is =
+        ap (lookup (same_text q)) (sym (inserted_new same_text entries key value is)) ∙ changes_pushed key value entries is q
+    by (Some old) is =
+        ap (lookup (same_text q)) (sym (written_inserted same_text entries key old value is))
+        ∙ changes_written key old value entries is q
 
 -- what is found after the entries of a name went
 found_without : {X : Type 0} (entries : List (List ℕ × X)) (name q : List ℕ)
     → lookup (same_text q) (filter (λ e. not (same_text name e.0)) entries)
     ≡ cond (same_text name q) None (lookup (same_text q) entries)
-found_without {X} [] name q = by (same_text name q)
+found_without {X} entries name q =
+    lookup-filter-keys (same_text q) (λ key. not (same_text name key)) (not (same_text name q))
+    (λ key is. ap (λ n. not (same_text name n)) (sym (equal_names q key is))) entries
+    ∙ by (same_text name q)
   where
-    none : Option X
-    none = None
-
-    by : (b : Bool) → None ≡ cond b none none
+    by : (b : Bool) → cond (not b) (lookup (same_text q) entries) None ≡ cond b None (lookup (same_text q) entries)
     by true = refl
     by false = refl
-found_without {X} (e ∷ entries) name q =
-    by (same_text name e.0) refl (same_text q e.0) refl (found_without entries name q)
-  where
-    left : List (List ℕ × X)
-    left = filter (λ x. not (same_text name x.0)) entries
-
-    by : (hit : Bool) → same_text name e.0 ≡ hit → (here : Bool) → same_text q e.0 ≡ here
-        → lookup (same_text q) left ≡ cond (same_text name q) None (lookup (same_text q) entries)
-        → lookup (same_text q) (cond (not hit) (e ∷ left) left)
-        ≡ cond (same_text name q) None (cond here (Some e.1) (lookup (same_text q) entries))
-    by true is true found rest =
-        let gone = sym (one_of name e.0 q is) ∙ found in
-        rest ∙ ap (λ b. cond b None (lookup (same_text q) entries)) gone ∙ sym (ap (λ b. cond b None (Some e.1)) gone)
-    by true is false found rest = rest
-    by false is true found rest =
-        ap (λ b. cond b (Some e.1) (lookup (same_text q) left)) found
-        ∙ sym (ap (λ b. cond b None (Some e.1)) (apart name e.0 q is found))
-    by false is false found rest =
-        ap (λ b. cond b (Some e.1) (lookup (same_text q) left)) found ∙ rest
-
--- what is found after each value was mapped
-found_mapped : {X Y : Type 0} (f : X → Y) (entries : List (List ℕ × X)) (q : List ℕ)
-    → lookup (same_text q) (map (λ (e : List ℕ × X). (e.0, f e.1)) entries) ≡ option_map f (lookup (same_text q) entries)
-found_mapped f [] q = refl
-found_mapped {X} {Y} f (e ∷ entries) q = by (same_text q e.0) (found_mapped f entries q)
-  where
-    by : (b : Bool)
-        → lookup (same_text q) (map (λ (x : List ℕ × X). (x.0, f x.1)) entries)
-        ≡ option_map f (lookup (same_text q) entries)
-        → cond b (Some (f e.1)) (lookup (same_text q) (map (λ (x : List ℕ × X). (x.0, f x.1)) entries))
-        ≡ option_map f (cond b (Some e.1) (lookup (same_text q) entries))
-    by true rest = refl
-    by false rest = rest
 
 -- commits after an offset is put in
 put_commits : (topic t : List ℕ) (partition offset : ℕ) (commits : Commits)
@@ -178,7 +126,7 @@ pub listed_forgotten : (groups : Groups) (old new : GroupsByTopic) (topic : List
     → AreListed (without_topic topic groups) new
 listed_forgotten groups old new topic listed left t g =
     left t g ∙ ap (λ b. not (same_text topic t) && b) (listed t g) ∙ by (lookup (same_text g) groups)
-    ∙ sym (ap (λ found. has_commits t (unwrap_or found [])) (found_mapped (without_offsets topic) groups g))
+    ∙ sym (ap (λ found. has_commits t (unwrap_or found [])) (lookup-map_values (without_offsets topic) (same_text g) groups))
   where
     fewer : (commits : Commits)
         → (not (same_text topic t) && has_commits t commits) ≡ has_commits t (without_offsets topic commits)
@@ -196,10 +144,6 @@ listed_forgotten groups old new topic listed left t g =
         ≡ has_commits t (unwrap_or (option_map (without_offsets topic) found) [])
     by None = nothing (not (same_text topic t))
     by (Some commits) = fewer commits
-
-pub listed_alike : (groups : Groups) (old new : GroupsByTopic) → AreListed groups old → ListsAlike old new
-    → AreListed groups new
-listed_alike groups old new listed alike topic group = alike topic group ∙ listed topic group
 
 names_apart : {X : Type 0} (P : List ℕ → Type 0) (entries : List (List ℕ × X)) (place : ℕ) (e : List ℕ × X)
     → AllByRecursion P (keys_of entries) → slice_get entries place ≡ Some e → P e.0
@@ -232,12 +176,6 @@ pub each_listed : (groups : Groups) (lists : GroupsByTopic) (topic : List ℕ) �
 each_listed groups lists topic listed distinct place group there some =
     listed topic group.0
     ∙ ap (λ found. has_commits topic (unwrap_or found [])) (own_entry groups place group distinct there) ∙ some
-
--- what can be listed has room
-pub room_to_list : (listing : Option Listing) (topic group : List ℕ) (lists : GroupsByTopic)
-    → CanList listing topic group lists → IfSome listing (λ l. HasRoomFor l topic lists)
-room_to_list None topic group lists can = tt
-room_to_list (Some listing) topic group lists can = can.room
 
 -- where no list is left to leave
 pub none_to_leave : (listed here : Bool) → listed ≡ (listed && not (here && false))

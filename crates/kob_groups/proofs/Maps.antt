@@ -1,15 +1,39 @@
 -- What a map shows whose values are seen by a part of them: the same for groups and for topics.
 use Rattle.std.proofs.Common.{◌≡◌, Bool, true, false, cond, not, filter, List, [], ◌∷◌, ◌++◌, Option, Some, None, is_some, length, map, unwrap_or, refl, sym, ap, ◌∙◌}
+use Rattle.std.specs.Prelude.{Err, Ok, OnErr, Result}
 use Rattle.std.specs.Map.{keys_of, lookup, remove_entry, set_value}
 use Rattle.std.specs.Option.{option_map}
 use Rattle.std.proofs.lemmas.List.{length-map}
 use Rattle.std.proofs.lemmas.Map.Made.{lookup-map_values}
 use Rattle.indexmap.specs.IndexMap.{insert_entry}
 
-part_or : {X Y : Type 0} (part : X → Y) (found : Option X) (other : X)
-    → unwrap_or (option_map part found) (part other) ≡ part (unwrap_or found other)
-part_or part None other = refl
-part_or part (Some x) other = refl
+module _ {K X : Type 0} (same : K → K → Bool) where
+  -- a write of a key that is there is an insertion
+  pub written_inserted : (entries : List (K × X)) (key : K) (old x : X) → lookup (same key) entries ≡ Some old
+      → set_value (same key) entries x ≡ insert_entry same entries key x
+  written_inserted [] key old x found = cc
+  written_inserted (entry ∷ entries) key old x found =
+      by (same key entry.0) found (λ later. written_inserted entries key old x later)
+    where
+      by : (hit : Bool) → cond hit (Some entry.1) (lookup (same key) entries) ≡ Some old
+          → (lookup (same key) entries ≡ Some old → set_value (same key) entries x ≡ insert_entry same entries key x)
+          → cond hit ((entry.0, x) ∷ entries) (entry ∷ set_value (same key) entries x)
+          ≡ cond hit ((entry.0, x) ∷ entries) (entry ∷ insert_entry same entries key x)
+      by true here rest = refl
+      by false later rest = ap (λ es. entry ∷ es) (rest later)
+
+  -- a key that is not there is put last
+  pub inserted_new : (entries : List (K × X)) (key : K) (x : X) → lookup (same key) entries ≡ None
+      → entries ++ (key, x) ∷ [] ≡ insert_entry same entries key x
+  inserted_new [] key x none = refl
+  inserted_new (entry ∷ entries) key x none = by (same key entry.0) none (inserted_new entries key x)
+    where
+      by : (hit : Bool) → cond hit (Some entry.1) (lookup (same key) entries) ≡ None
+          → (lookup (same key) entries ≡ None → entries ++ (key, x) ∷ [] ≡ insert_entry same entries key x)
+          → entry ∷ (entries ++ (key, x) ∷ [])
+          ≡ cond hit ((entry.0, x) ∷ entries) (entry ∷ insert_entry same entries key x)
+      by true none rest = cc
+      by false none rest = ap (λ es. entry ∷ es) (rest none)
 
 part_some : {X Y : Type 0} (part : X → Y) (found : Option X) → is_some (option_map part found) ≡ is_some found
 part_some part None = refl
@@ -18,13 +42,6 @@ part_some part (Some x) = refl
 module _ {K X Y : Type 0} (part : X → Y) where
   abbrev pub seen : List (K × X) → List (K × Y)
   seen entries = map (λ entry. (entry.0, part entry.1)) entries
-
-  -- the value of a key, or another where it is absent
-  pub seen_or : (test : K → Bool) (entries : List (K × X)) (other : X)
-      → unwrap_or (lookup test (seen entries)) (part other) ≡ part (unwrap_or (lookup test entries) other)
-  seen_or test entries other =
-      ap (λ found. unwrap_or found (part other)) (lookup-map_values part test entries)
-      ∙ part_or part (lookup test entries) other
 
   pub seen_some : (test : K → Bool) (entries : List (K × X)) (x : X) (none : Y) → lookup test entries ≡ Some x
       → unwrap_or (lookup test (seen entries)) none ≡ part x
@@ -61,17 +78,27 @@ module _ {K X Y : Type 0} (part : X → Y) where
       by true rest = refl
       by false rest = ap (λ es. (entry.0, part entry.1) ∷ es) rest
 
-  -- a value that is changed, or put in for a key that is absent
-  pub seen_changed : (same : K → K → Bool) (entries : List (K × X)) (key : K) (fresh inner final : X)
-      (none : Y) (change : Y → Y)
-      → part final ≡ change (part inner) → inner ≡ unwrap_or (lookup (same key) entries) fresh → part fresh ≡ none
-      → seen (insert_entry same entries key final)
+  -- a value that is changed
+  pub seen_changed : (same : K → K → Bool) (entries : List (K × X)) (key : K) (old final : X) (none : Y)
+      (change : Y → Y) → lookup (same key) entries ≡ Some old → part final ≡ change (part old)
+      → seen (set_value (same key) entries final)
       ≡ insert_entry same (seen entries) key (change (unwrap_or (lookup (same key) (seen entries)) none))
-  seen_changed same entries key fresh inner final none change changed from empty =
-      seen_inserted same entries key final
+  seen_changed same entries key old final none change found changed =
+      ap seen (written_inserted same entries key old final found)
+      ∙ seen_inserted same entries key final
       ∙ ap (insert_entry same (seen entries) key)
-      (changed ∙ ap change (ap part from ∙ sym (seen_or (same key) entries fresh)
-      ∙ ap (λ other. unwrap_or (lookup (same key) (seen entries)) other) empty))
+      (changed ∙ ap change (sym (seen_some (same key) entries old none found)))
+
+  -- a value that is put in for a key that is absent
+  pub seen_put : (same : K → K → Bool) (entries : List (K × X)) (key : K) (final : X) (none : Y) (change : Y → Y)
+      → lookup (same key) entries ≡ None → part final ≡ change none
+      → seen (entries ++ (key, final) ∷ [])
+      ≡ insert_entry same (seen entries) key (change (unwrap_or (lookup (same key) (seen entries)) none))
+  seen_put same entries key final none change absent changed =
+      ap seen (inserted_new same entries key final absent)
+      ∙ seen_inserted same entries key final
+      ∙ ap (insert_entry same (seen entries) key)
+      (changed ∙ ap change (sym (seen_none (same key) entries none absent)))
 
   -- a value that is written and seen as before
   pub seen_written : (test : K → Bool) (entries : List (K × X)) (old x : X) → lookup test entries ≡ Some old
@@ -119,43 +146,7 @@ module _ {K X Y : Type 0} (part : X → Y) where
           ap (λ es. (entry.0, part entry.1) ∷ es)
           (rest (sym (ap (λ b. cond b (Some entry.1) (lookup test (remove_entry test entries))) is) ∙ gone))
 
-module _ {K X : Type 0} (same : K → K → Bool) where
-  -- a write of a key that is there is an insertion
-  pub written_inserted : (entries : List (K × X)) (key : K) (old x : X) → lookup (same key) entries ≡ Some old
-      → set_value (same key) entries x ≡ insert_entry same entries key x
-  written_inserted [] key old x found = cc
-  written_inserted (entry ∷ entries) key old x found =
-      by (same key entry.0) found (λ later. written_inserted entries key old x later)
-    where
-      by : (hit : Bool) → cond hit (Some entry.1) (lookup (same key) entries) ≡ Some old
-          → (lookup (same key) entries ≡ Some old → set_value (same key) entries x ≡ insert_entry same entries key x)
-          → cond hit ((entry.0, x) ∷ entries) (entry ∷ set_value (same key) entries x)
-          ≡ cond hit ((entry.0, x) ∷ entries) (entry ∷ insert_entry same entries key x)
-      by true here rest = refl
-      by false later rest = ap (λ es. entry ∷ es) (rest later)
-
-  -- a key that is not there is put last
-  pub inserted_new : (entries : List (K × X)) (key : K) (x : X) → lookup (same key) entries ≡ None
-      → entries ++ (key, x) ∷ [] ≡ insert_entry same entries key x
-  inserted_new [] key x none = refl
-  inserted_new (entry ∷ entries) key x none = by (same key entry.0) none (inserted_new entries key x)
-    where
-      by : (hit : Bool) → cond hit (Some entry.1) (lookup (same key) entries) ≡ None
-          → (lookup (same key) entries ≡ None → entries ++ (key, x) ∷ [] ≡ insert_entry same entries key x)
-          → entry ∷ (entries ++ (key, x) ∷ [])
-          ≡ cond hit ((entry.0, x) ∷ entries) (entry ∷ insert_entry same entries key x)
-      by true none rest = cc
-      by false none rest = ap (λ es. entry ∷ es) (rest none)
-
--- what is found after a write
-pub found_written : {K X : Type 0} (test : K → Bool) (entries : List (K × X)) (old x : X)
-    → lookup test entries ≡ Some old → lookup test (set_value test entries x) ≡ Some x
-found_written test [] old x found = cc
-found_written test (entry ∷ entries) old x found =
-    by (test entry.0) refl found (λ later. found_written test entries old x later)
-  where
-    by : (hit : Bool) → test entry.0 ≡ hit → cond hit (Some entry.1) (lookup test entries) ≡ Some old
-        → (lookup test entries ≡ Some old → lookup test (set_value test entries x) ≡ Some x)
-        → lookup test (cond hit ((entry.0, x) ∷ entries) (entry ∷ set_value test entries x)) ≡ Some x
-    by true is here rest = ap (λ b. cond b (Some x) (lookup test entries)) is
-    by false is later rest = ap (λ b. cond b (Some entry.1) (lookup test (set_value test entries x))) is ∙ rest later
+-- what holds after any error
+pub on_err : {T E P : Type 0} (r : Result T E) → P → OnErr r P
+on_err (Ok t) p = tt
+on_err (Err e) p = p

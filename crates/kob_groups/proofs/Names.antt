@@ -21,6 +21,12 @@ module _ {X : Type 0} where
   changes_written name old x es found q =
       lookup-set_value nat_list_eq_equiv (same_text name) (one_name name) q x es (ap is_some found)
 
+  pub found_written : (name : List ℕ) (old x : X) (es : List (List ℕ × X)) → lookup (same_text name) es ≡ Some old
+      → lookup (same_text name) (set_value (same_text name) es x) ≡ Some x
+  found_written name old x es found =
+      changes_written name old x es found name
+      ∙ ap (λ b. cond b (Some x) (lookup (same_text name) es)) (nat_list_eq_equiv.refl name)
+
   pub changes_pushed : (name : List ℕ) (x : X) (es : List (List ℕ × X)) → lookup (same_text name) es ≡ None
       → ChangesAt name (Some x) es (es ++ (name, x) ∷ [])
   changes_pushed name x es none q = by (same_text name q) refl
@@ -167,18 +173,27 @@ module _ {V : Type 0} where
           less g ∙ ap (λ n. is_among g (lookup (same_text n) old) && not (same_text group g)) (equal_names topic t is)
       by false is = all (is_among g (lookup (same_text t) old))
 
-  -- the same names on each topic
-  pub alike_changed : (topic : List ℕ) (was names : Ordered V) (old new : NameLists V) → ChangesAt topic (Some names) old new
-      → lookup (same_text topic) old ≡ Some was → names.entries ≡ was.entries
-      → (t g : List ℕ) → is_among g (lookup (same_text t) new) ≡ is_among g (lookup (same_text t) old)
-  alike_changed topic was names old new changes found same t g = ap (is_among g) (changes t) ∙ by (same_text topic t) refl
+  -- a list written with the same names
+  module _ (topic : List ℕ) (was names : Ordered V) (lists : NameLists V)
+      (found : lookup (same_text topic) lists ≡ Some was) (same : names.entries ≡ was.entries)
     where
-      by : (b : Bool) → same_text topic t ≡ b → is_among g (cond b (Some names) (lookup (same_text t) old))
-          ≡ is_among g (lookup (same_text t) old)
-      by true is =
-          ap (λ es. is_some (lookup (same_text g) es)) same
-          ∙ sym (ap (is_among g) (subst (λ n. lookup (same_text n) old ≡ Some was) (equal_names topic t is) found))
-      by false is = refl
+      pub alike_written : (t g : List ℕ) → is_among g (lookup (same_text t) (set_value (same_text topic) lists names))
+          ≡ is_among g (lookup (same_text t) lists)
+      alike_written t g =
+          ap (is_among g) (changes_written topic was names lists found t) ∙ by (same_text topic t) refl
+        where
+          by : (b : Bool) → same_text topic t ≡ b → is_among g (cond b (Some names) (lookup (same_text t) lists))
+              ≡ is_among g (lookup (same_text t) lists)
+          by true is =
+              ap (λ es. is_some (lookup (same_text g) es)) same
+              ∙ sym (ap (is_among g) (subst (λ n. lookup (same_text n) lists ≡ Some was) (equal_names topic t is) found))
+          by false is = refl
+
+      pub filled_written : AreFilled lists → AreFilled (set_value (same_text topic) lists names)
+      filled_written filled =
+          filled_changed topic names lists (set_value (same_text topic) lists names)
+          (changes_written topic was names lists found)
+          (subst (λ ns. 0 < length ns) (sym same) (filled topic was found)) filled
 
   -- no names on one topic
   pub none_left : (topic : List ℕ) (old new : NameLists V) → ChangesAt topic None old new

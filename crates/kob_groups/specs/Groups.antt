@@ -4,7 +4,6 @@ use Rattle.std.specs.Map.{keys_of, lookup}
 use Rattle.indexmap.specs.IndexMap.{insert_entry}
 use Rattle.kob_names.specs.Same.{same_text}
 use Rattle.kob_groups.specs.Limits.{group_limit}
-use Rattle.kob_groups.specs.declared.place.CommitPlace.{CommitPlace}
 
 -- the offsets on a topic, by partition
 abbrev pub Offsets : Type 0
@@ -17,6 +16,12 @@ Commits = List (List ℕ × Offsets)
 -- each group's name, with its commits, in order of the first commit
 abbrev pub Groups : Type 0
 Groups = List (List ℕ × Commits)
+
+-- a partition of a topic, as a group commits an offset on it; Kafka keeps one offset for each
+pub record CommitPlace : Type 0 where
+  pub group : List ℕ
+  pub topic : List ℕ
+  pub partition : ℕ
 
 abbrev pub no_groups : Groups
 no_groups = []

@@ -1,16 +1,21 @@
 -- What the groups hold, and when there is room for a commit.
 pub use Rattle.kob_groups.specs.Views.{commits_in, offsets_in}
-use Rattle.std.specs.Prelude.{◌≡◌, ℕ, ◌<◌, List, [], unwrap_or}
+use Rattle.std.specs.Prelude.{◌≡◌, ℕ, ◌<◌, ◌⊎◌, List, [], IfSome, IsSome, None, Option, Some, nat_eq}
 use Rattle.std.specs.Map.{lookup}
 use Rattle.std.specs.declared.hash.BuildHasherDefault.{BuildHasherDefault}
 use Rattle.std.specs.declared.hash.FoldHasher.{FoldHasher}
-use Rattle.indexmap.specs.IndexMap.{IndexMap, IsEmpty, spare}
+use Rattle.indexmap.specs.IndexMap.{IndexMap, spare}
 use Rattle.kob_names.specs.Same.{same_text}
-use Rattle.kob_groups.specs.Groups.{Groups}
+use Rattle.kob_ordered.specs.Ordered.{Ordered, StandsAt, name_at}
+use Rattle.kob_groups.specs.Groups.{CommitPlace, Groups, place_of}
 use Rattle.kob_groups.specs.Listed.{CanList}
-use Rattle.kob_groups.specs.Views.{groups_in}
+use Rattle.kob_groups.specs.Views.{commits_in, groups_in}
+use Rattle.kob_groups.specs.declared.commit.GroupEntry.{GroupEntry}
+use Rattle.kob_groups.specs.declared.commit.GroupEntry.TheVariants.{GroupAt, NewGroup}
 use Rattle.kob_groups.specs.declared.commit.PreparedCommit.{PreparedCommit}
 use Rattle.kob_groups.specs.declared.commits.Commits.{Commits as CommitsKept}
+use Rattle.kob_groups.specs.declared.commits.TopicEntry.{TopicEntry}
+use Rattle.kob_groups.specs.declared.commits.TopicEntry.TheVariants.{TopicAt, NewTopic}
 use Rattle.kob_groups.specs.declared.groups.Groups.{Groups as GroupsKept}
 
 abbrev pub groups_of : GroupsKept → Groups
@@ -20,21 +25,68 @@ groups_of kept = groups_in kept.by_name.entries
 abbrev pub OffsetsKept : Type 0
 OffsetsKept = IndexMap ℕ ℕ (BuildHasherDefault FoldHasher)
 
--- the commits of the group that a commit is for, which are the empty ones for a new group
-abbrev pub commits_for : PreparedCommit → GroupsKept → CommitsKept
-commits_for made kept =
-    unwrap_or (lookup (same_text made.place.group) kept.by_name.entries) made.commits
+-- the partition has an offset, or there is room for one more
+abbrev pub HasRoom : ℕ → OffsetsKept → Type 0
+HasRoom partition offsets =
+    IsSome (lookup (nat_eq partition) offsets.entries) ⊎ (0 < spare offsets)
 
--- there is room for the topic and for the offset on it; what is put in for a new topic is empty
-pub record CanPut (made : OffsetsKept) (topic : List ℕ) (commits : CommitsKept) : Type 0 where
-  pub topics : 0 < commits.by_topic.room
-  pub offsets : 0 < spare (unwrap_or (lookup (same_text topic) commits.by_topic.entries) made)
-  pub no_offsets : IsEmpty made
+-- the topic of an entry
+abbrev pub topic_in : TopicEntry → CommitsKept → List ℕ
+topic_in (TopicAt place) commits = name_at commits.by_topic place
+topic_in (NewTopic topic offsets) commits = topic
 
--- there is room for the group, for the offset among the group's commits, and for the group in the
--- topic's list; what is put in for a new group is empty
+-- there is room for the offset on the topic at the place; what is put in for a new topic has room
+-- too, and no offsets
+abbrev pub CanPut : TopicEntry → ℕ → CommitsKept → Type 0
+CanPut (TopicAt place) partition commits =
+    StandsAt commits.by_topic place (name_at commits.by_topic place)
+    × IfSome (lookup (same_text (name_at commits.by_topic place)) commits.by_topic.entries)
+    (HasRoom partition)
+CanPut (NewTopic topic offsets) partition commits =
+    (0 < commits.by_topic.room)
+    × (lookup (same_text topic) commits.by_topic.entries ≡ None)
+    × (offsets.entries ≡ [])
+    × (0 < spare offsets)
+
+-- the topic of an entry among the commits of a group that is there
+abbrev pub topic_among : TopicEntry → Option CommitsKept → List ℕ
+topic_among entry None = []
+topic_among entry (Some commits) = topic_in entry commits
+
+-- where the commit of an entry goes
+abbrev pub place_at : GroupEntry → ℕ → Ordered CommitsKept → CommitPlace
+place_at (GroupAt place topic) partition groups =
+    place_of (name_at groups place)
+    (topic_among topic (lookup (same_text (name_at groups place)) groups.entries)) partition
+place_at (NewGroup group commits topic) partition groups =
+    place_of group (topic_in topic commits) partition
+
+-- there is room for the offset among the commits of the group at the place; what is put in for a
+-- new group has room too, and no commits
+abbrev pub CanEnter : GroupEntry → ℕ → Ordered CommitsKept → Type 0
+CanEnter (GroupAt place topic) partition groups =
+    StandsAt groups place (name_at groups place)
+    × IfSome (lookup (same_text (name_at groups place)) groups.entries) (CanPut topic partition)
+CanEnter (NewGroup group commits topic) partition groups =
+    (0 < groups.room)
+    × (lookup (same_text group) groups.entries ≡ None)
+    × (commits_in commits ≡ [])
+    × CanPut topic partition commits
+
+-- a new group with no commits, with room for one on that topic
+abbrev pub IsNewGroup : List ℕ → List ℕ → ℕ → GroupEntry → Type 0
+IsNewGroup group topic partition (GroupAt place entry) = ⊥
+IsNewGroup group topic partition (NewGroup name commits entry) =
+    (name ≡ group)
+    × (topic_in entry commits ≡ topic)
+    × (commits_in commits ≡ [])
+    × CanPut entry partition commits
+
+-- where a prepared commit goes
+abbrev pub place_in : PreparedCommit → GroupsKept → CommitPlace
+place_in made kept = place_at made.entry made.partition kept.by_name
+
+-- there is room for the commit, and for the group in the topic's list
 pub record CanCommit (made : PreparedCommit) (kept : GroupsKept) : Type 0 where
-  pub groups : 0 < kept.by_name.room
-  pub topic : CanPut made.offsets made.place.topic (commits_for made kept)
-  pub no_commits : made.commits.by_topic.entries ≡ []
-  pub listing : CanList made.listing made.place.topic made.place.group kept.lists
+  pub entry : CanEnter made.entry made.partition kept.by_name
+  pub listing : CanList made.listing (place_in made kept).topic (place_in made kept).group kept.lists

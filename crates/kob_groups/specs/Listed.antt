@@ -1,11 +1,13 @@
 -- Which groups are listed for which topics.
-use Rattle.std.specs.Prelude.{◌≡◌, ℕ, ◌<◌, Bool, true, false, ◌&&◌, List, [], Option, Some, None, is_some, unwrap_or}
+use Rattle.std.specs.Prelude.{◌≡◌, ℕ, ◌<◌, Bool, true, false, ◌&&◌, List, [], IfSome, Option, Some, None, is_some}
 use Rattle.std.specs.Map.{lookup}
 use Rattle.kob_names.specs.Same.{same_text}
+use Rattle.kob_ordered.specs.Ordered.{StandsAt, name_at}
 use Rattle.kob_groups.specs.Filled.{is_among}
 use Rattle.kob_groups.specs.Groups.{Commits, Groups, commits_of}
 use Rattle.kob_groups.specs.declared.lists.GroupsByTopic.{GroupsByTopic}
 use Rattle.kob_groups.specs.declared.lists.Listing.{Listing}
+use Rattle.kob_groups.specs.declared.lists.Listing.TheVariants.{InList, NewList}
 
 abbrev pub is_listed : List ℕ → List ℕ → GroupsByTopic → Bool
 is_listed topic group lists = is_among group (lookup (same_text topic) lists.by_topic.entries)
@@ -18,23 +20,44 @@ is_pair topic group t g = same_text topic t && same_text group g
 abbrev pub ListsAlike : GroupsByTopic → GroupsByTopic → Type 0
 ListsAlike old new = (topic group : List ℕ) → is_listed topic group new ≡ is_listed topic group old
 
--- there is room for the group in the topic's list; a new topic has its name and an empty list
-pub record HasRoomFor (listing : Listing) (topic : List ℕ) (lists : GroupsByTopic)
-    : Type 0 where
-  pub topics : 0 < lists.by_topic.room
-  pub groups : 0 < (unwrap_or (lookup (same_text topic) lists.by_topic.entries) listing.names).room
-  pub empty : listing.names.entries ≡ []
-  pub named : lookup (same_text topic) lists.by_topic.entries ≡ None → listing.topic ≡ Some topic
-  pub fresh : is_listed topic listing.group lists ≡ false
+-- the topic and the group of a listing
+abbrev pub topic_of : Listing → GroupsByTopic → List ℕ
+topic_of (InList place group) lists = name_at lists.by_topic place
+topic_of (NewList topic group names) lists = topic
+
+abbrev pub group_of : Listing → List ℕ
+group_of (InList place group) = group
+group_of (NewList topic group names) = group
+
+-- there is room for the group in the list at the place; a new list is empty, has room too, and its
+-- topic has none
+abbrev pub HasRoomFor : Listing → GroupsByTopic → Type 0
+HasRoomFor (InList place group) lists =
+    StandsAt lists.by_topic place (name_at lists.by_topic place)
+    × (is_listed (name_at lists.by_topic place) group lists ≡ false)
+    × IfSome (lookup (same_text (name_at lists.by_topic place)) lists.by_topic.entries)
+    (λ names. 0 < names.room)
+HasRoomFor (NewList topic group names) lists =
+    (0 < lists.by_topic.room)
+    × (lookup (same_text topic) lists.by_topic.entries ≡ None)
+    × (names.entries ≡ [])
+    × (0 < names.room)
 
 pub record Lists (listing : Listing) (topic group : List ℕ) (lists : GroupsByTopic) : Type 0 where
-  pub group_is : listing.group ≡ group
-  pub room : HasRoomFor listing topic lists
+  pub topic_is : topic_of listing lists ≡ topic
+  pub group_is : group_of listing ≡ group
+  pub room : HasRoomFor listing lists
 
 -- the group is listed for the topic, or can be
 abbrev pub CanList : Option Listing → List ℕ → List ℕ → GroupsByTopic → Type 0
 CanList None topic group lists = is_listed topic group lists ≡ true
 CanList (Some listing) topic group lists = Lists listing topic group lists
+
+-- an empty list with room for one group, for the topic and the group of these names
+abbrev pub IsNewList : List ℕ → List ℕ → Listing → Type 0
+IsNewList topic group (InList place name) = ⊥
+IsNewList topic group (NewList topic' group' names) =
+    (topic' ≡ topic) × (group' ≡ group) × (names.entries ≡ []) × (0 < names.room)
 
 abbrev pub has_commits : List ℕ → Commits → Bool
 has_commits topic commits = is_some (lookup (same_text topic) commits)

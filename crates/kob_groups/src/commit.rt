@@ -1,12 +1,14 @@
 //! The two steps of a commit.
 
-ghost use Rattle.std.specs.Prelude.{[], ◌≡◌, IfOk};
-ghost use Rattle.kob_groups.specs.Kept.{CanPut};
+ghost use Rattle.std.specs.Prelude.{◌≡◌, IfOk, None, OnErr};
+ghost use Rattle.kob_groups.specs.Groups.{committed_at, place_of, with_commit};
+ghost use Rattle.kob_groups.specs.Kept.{CanEnter, IsNewGroup, place_at};
+ghost use Rattle.kob_groups.specs.Views.{groups_in};
 
-use crate::commits::{Commits, Offsets};
+use crate::commits::{Commits, TopicEntry};
 use crate::lists::Listing;
-use crate::place::CommitPlace;
-use indexmap::IndexMap;
+use kob_names::{PlainValue, Text};
+use kob_ordered::OrderedMap;
 use std::alloc::{AllocError, Global};
 use thiserror::Error;
 
@@ -19,40 +21,86 @@ pub enum CommitFault {
     Memory,
 }
 
-/// A commit for which all memory is there: the empty maps are put in for a new group or topic under
-/// the names of the place, and the listing is that of a group not yet listed for the topic.
+/// A commit for which all memory is there. It has copies of those names alone that are new.
 #[derive(Drop)]
 pub struct PreparedCommit {
-    pub(crate) place: CommitPlace,
+    pub(crate) entry: GroupEntry,
+    pub(crate) partition: u64,
     pub(crate) offset: u64,
-    pub(crate) commits: Commits,
-    pub(crate) offsets: Offsets,
     pub(crate) listing: Option<Listing>,
 }
 
-impl PreparedCommit {
-    /// A commit of a new group: empty maps with room for one topic and one offset. The error is
-    /// lack of memory.
-    pub(crate) fn of_new_group(
-        alloc: Global,
-        place: CommitPlace,
-        offset: u64,
-        listing: Option<Listing>,
-    ) -> Result<PreparedCommit, AllocError>
-        ensures place { IfOk result (λ made. made.place ≡ place) }
-        ensures offset { IfOk result (λ made. made.offset ≡ offset) }
-        ensures listing { IfOk result (λ made. made.listing ≡ listing) }
-        ensures topic { IfOk result (λ made. CanPut made.offsets place.topic made.commits) }
-        ensures no_commits { IfOk result (λ made. made.commits.by_topic.entries ≡ []) }
-    {
-        let commits = Commits::with_room(alloc)?;
-        let offsets = IndexMap::with_capacity(alloc, 1)?;
-        Ok(PreparedCommit {
-            place,
-            offset,
-            commits,
-            offsets,
-            listing,
-        })
+/// Where a commit goes among the groups.
+#[derive(Drop)]
+pub(crate) enum GroupEntry {
+    /// Among the commits of the group at a place.
+    GroupAt(usize, TopicEntry),
+    /// Among no commits yet, which are put in for a new group.
+    NewGroup(Text, Commits, TopicEntry),
+}
+
+/// Makes room for a commit among those of the groups, and copies the names that are new. The groups
+/// stay, also after an error, which is out of memory.
+pub(crate) fn reserve_commit(
+    groups: &mut OrderedMap<Commits>,
+    alloc: Global,
+    group: &Text,
+    topic: &Text,
+    partition: u64,
+) -> Result<GroupEntry, AllocError>
+    ensures groups { groups_in groups.new.entries ≡ groups_in groups.old.entries }
+    ensures place { IfOk result (λ entry. place_at entry partition groups.new
+        ≡ place_of group.now topic.now partition) }
+    ensures ready { IfOk result (λ entry. CanEnter entry partition groups.new) }
+    ensures absent { OnErr result (committed_at (place_of group.now topic.now partition)
+        (groups_in groups.old.entries) ≡ None) }
+{
+    match groups.place_of(group) {
+        Some(place) => {
+            let topic = groups.value_at_mut(place).reserve(alloc, topic, partition)?;
+            Ok(GroupEntry::GroupAt(place, topic))
+        }
+        None => {
+            groups.reserve()?;
+            new_group(alloc, group, topic, partition)
+        }
+    }
+}
+
+/// A group with no commits, with room for one. The error is out of memory.
+fn new_group(
+    alloc: Global,
+    group: &Text,
+    topic: &Text,
+    partition: u64,
+) -> Result<GroupEntry, AllocError>
+    ensures { IfOk result (IsNewGroup group.now topic.now partition) }
+{
+    let mut commits = Commits::new(alloc);
+    let topic = commits.reserve(alloc, topic, partition)?;
+    let group = group.copy(alloc)?;
+    Ok(GroupEntry::NewGroup(group, commits, topic))
+}
+
+/// Commits an offset in the room that is there; no memory is taken.
+pub(crate) fn put_commit(
+    groups: &mut OrderedMap<Commits>,
+    entry: GroupEntry,
+    partition: u64,
+    offset: u64,
+)
+    requires { CanEnter entry partition groups.old }
+    ensures { groups_in groups.new.entries
+        ≡ with_commit (place_at entry partition groups.old) offset
+        (groups_in groups.old.entries) }
+{
+    match entry {
+        GroupEntry::GroupAt(place, topic) => {
+            groups.value_at_mut(place).put(topic, partition, offset);
+        }
+        GroupEntry::NewGroup(group, mut commits, topic) => {
+            commits.put(topic, partition, offset);
+            groups.insert(group, commits);
+        }
     }
 }

@@ -1,12 +1,11 @@
 //! The commits of one group.
 
-ghost use Rattle.std.specs.Prelude.{[], ◌≡◌, ◌<◌, nat_eq, IfOk};
+ghost use Rattle.std.specs.Prelude.{[], ◌≡◌, nat_eq, IfOk, None, OnErr};
 ghost use Rattle.std.specs.Map.{lookup};
-ghost use Rattle.indexmap.specs.IndexMap.{spare};
 ghost use Rattle.kob_groups.specs.Groups.{offsets_on, with_offset, without_offsets};
 
 use indexmap::IndexMap;
-use kob_names::Text;
+use kob_names::{PlainValue, Text};
 use kob_ordered::OrderedMap;
 use std::alloc::{AllocError, Global};
 
@@ -19,8 +18,17 @@ pub(crate) struct Commits {
     pub(crate) by_topic: OrderedMap<Offsets>,
 }
 
+/// Where an offset goes among a group's commits.
+#[derive(Drop)]
+pub(crate) enum TopicEntry {
+    /// Among the offsets on the topic at a place.
+    TopicAt(usize),
+    /// Among no offsets yet, which are put in for a new topic.
+    NewTopic(Text, Offsets),
+}
+
 impl Commits {
-    ghost use Rattle.kob_groups.specs.Kept.{CanPut};
+    ghost use Rattle.kob_groups.specs.Kept.{CanPut, topic_in};
     ghost use Rattle.kob_groups.specs.Views.{commits_in};
 
     /// No commits; no memory is taken.
@@ -32,16 +40,6 @@ impl Commits {
         }
     }
 
-    /// No commits, with room for one topic. The error is out of memory.
-    pub(crate) fn with_room(alloc: Global) -> Result<Commits, AllocError>
-        ensures empty { IfOk result (λ commits. commits.by_topic.entries ≡ []) }
-        ensures room { IfOk result (λ commits. 0 < commits.by_topic.room) }
-    {
-        let mut by_topic = OrderedMap::new(alloc);
-        by_topic.reserve()?;
-        Ok(Commits { by_topic })
-    }
-
     /// The offset that was committed on a partition.
     pub(crate) fn fetch(&self, topic: &Text, partition: u64) -> Option<u64>
         ensures { result
@@ -50,34 +48,47 @@ impl Commits {
         self.by_topic.get(topic)?.get(&partition).copied()
     }
 
-    /// Makes room for one more topic, and for one more offset on this one. What comes back is for a
-    /// new topic: no offsets, with room for one. The commits stay, also after an error, which is
-    /// lack of memory.
-    pub(crate) fn reserve(&mut self, alloc: Global, topic: &Text) -> Result<Offsets, AllocError>
+    /// Makes room for an offset, unless the partition has one, and copies the name of a topic that
+    /// is new. The commits stay, also after an error, which is out of memory.
+    pub(crate) fn reserve(
+        &mut self,
+        alloc: Global,
+        topic: &Text,
+        partition: u64,
+    ) -> Result<TopicEntry, AllocError>
         ensures commits { commits_in self.new ≡ commits_in self.old }
-        ensures ready { IfOk result (λ made. CanPut made topic.now self.new) }
+        ensures topic { IfOk result (λ entry. topic_in entry self.new ≡ topic.now) }
+        ensures ready { IfOk result (λ entry. CanPut entry partition self.new) }
+        ensures absent { OnErr result (lookup (nat_eq partition)
+            (offsets_on topic.now (commits_in self.old)) ≡ None) }
     {
-        self.by_topic.reserve()?;
-        match self.by_topic.get_mut(topic) {
-            Some(offsets) => {
-                offsets.reserve(1)?;
-                Ok(IndexMap::new(alloc))
+        match self.by_topic.place_of(topic) {
+            Some(place) => {
+                reserve_offset(self.by_topic.value_at_mut(place), partition)?;
+                Ok(TopicEntry::TopicAt(place))
             }
-            None => IndexMap::with_capacity(alloc, 1),
+            None => {
+                self.by_topic.reserve()?;
+                let offsets = IndexMap::with_capacity(alloc, 1)?;
+                let topic = topic.copy(alloc)?;
+                Ok(TopicEntry::NewTopic(topic, offsets))
+            }
         }
     }
 
     /// Writes an offset in the room that is there; no memory is taken.
-    pub(crate) fn put(&mut self, topic: Text, partition: u64, offset: u64, mut made: Offsets)
-        requires { CanPut made topic self.old }
+    pub(crate) fn put(&mut self, entry: TopicEntry, partition: u64, offset: u64)
+        requires { CanPut entry partition self.old }
         ensures { commits_in self.new
-            ≡ with_offset topic partition offset (commits_in self.old) }
+            ≡ with_offset (topic_in entry self.old) partition offset (commits_in self.old) }
     {
-        match self.by_topic.get_mut(&topic) {
-            Some(offsets) => put_offset(offsets, partition, offset),
-            None => {
-                put_offset(&mut made, partition, offset);
-                self.by_topic.insert(topic, made);
+        match entry {
+            TopicEntry::TopicAt(place) => {
+                put_offset(self.by_topic.value_at_mut(place), partition, offset);
+            }
+            TopicEntry::NewTopic(topic, mut offsets) => {
+                put_offset(&mut offsets, partition, offset);
+                self.by_topic.insert(topic, offsets);
             }
         }
     }
@@ -90,11 +101,25 @@ impl Commits {
     }
 }
 
+ghost use Rattle.std.specs.Prelude.{OnOk};
 ghost use Rattle.indexmap.specs.IndexMap.{insert_entry};
+ghost use Rattle.kob_groups.specs.Kept.{HasRoom};
+
+/// Makes room for the offset of a partition, unless it has one. The error is out of memory.
+fn reserve_offset(offsets: &mut Offsets, partition: u64) -> Result<(), AllocError>
+    ensures entries { offsets.new.entries ≡ offsets.old.entries }
+    ensures room { OnOk result (HasRoom partition offsets.new) }
+    ensures absent { OnErr result (lookup (nat_eq partition) offsets.old.entries ≡ None) }
+{
+    if offsets.contains_key(&partition) {
+        return Ok(());
+    }
+    offsets.reserve(1)
+}
 
 /// Writes the offset of a partition.
 fn put_offset(offsets: &mut Offsets, partition: u64, offset: u64)
-    requires { 0 < spare offsets.old }
+    requires { HasRoom partition offsets.old }
     ensures { offsets.new.entries ≡ insert_entry nat_eq offsets.old.entries partition offset }
 {
     let _ = offsets.insert(partition, offset).unwrap();

@@ -1,15 +1,14 @@
 //! Groups in order of their first commit, with their committed offsets.
 
-ghost use Rattle.std.specs.Prelude.{◌≡◌, ◌↔◌, true, false, IsErrOf, IfOk, OnErr, OnOk};
+ghost use Rattle.std.specs.Prelude.{◌≡◌, ◌↔◌, true, false, IsErrOf, IfOk, None, OnErr, OnOk};
 ghost use Rattle.kob_groups.specs.Groups.{committed_at, group_names, has_group, is_full_for};
 ghost use Rattle.kob_groups.specs.Groups.{no_groups, place_of, with_commit, without_group};
 ghost use Rattle.kob_groups.specs.Groups.{without_offsets, without_topic};
 
-use crate::commit::{CommitFault, PreparedCommit};
+use crate::commit::{CommitFault, PreparedCommit, put_commit, reserve_commit};
 use crate::commits::Commits;
 use crate::limits::GROUP_LIMIT;
 use crate::lists::{GroupNames, GroupsByTopic};
-use crate::place::CommitPlace;
 use kob_names::{Items, PlainValue, Text};
 use kob_ordered::OrderedMap;
 use std::alloc::{AllocError, Global};
@@ -32,7 +31,7 @@ pub struct Groups {
 }
 
 impl Groups {
-    ghost use Rattle.kob_groups.specs.Kept.{CanCommit, commits_in, groups_of};
+    ghost use Rattle.kob_groups.specs.Kept.{CanCommit, commits_in, groups_of, place_in};
 
     /// No groups; no memory is taken.
     pub fn new(alloc: Global) -> Groups
@@ -60,7 +59,8 @@ impl Groups {
     }
 
     /// The first step of a commit: all allocations. The groups stay, also after an error. `TooMany`
-    /// comes where the group is a new one and there are 10,000.
+    /// comes where the group is a new one and there are 10,000, before a name is copied. Only names
+    /// that are new are copied; where the group has an offset on the partition, no memory is taken.
     pub fn prepare_commit(
         &mut self,
         alloc: Global,
@@ -71,23 +71,25 @@ impl Groups {
     ) -> Result<PreparedCommit, CommitFault>
         ensures groups { groups_of self.new ≡ groups_of self.old }
         ensures place { IfOk result
-            (λ made. made.place ≡ place_of group.now topic.now partition) }
+            (λ made. place_in made self.new ≡ place_of group.now topic.now partition) }
         ensures offset { IfOk result (λ made. made.offset ≡ offset) }
         ensures ready { IfOk result (λ made. CanCommit made self.new) }
         ensures many { IsErrOf result CommitFault.TooMany
             ↔ (is_full_for group.now (groups_of self.old) ≡ true) }
+        ensures memory { IsErrOf result CommitFault.Memory
+            → committed_at (place_of group.now topic.now partition) (groups_of self.old) ≡ None }
     {
         if self.is_full_for(group) {
             return Err(CommitFault::TooMany);
         }
-        match self.prepare_copied(alloc, group, topic, partition, offset) {
+        match self.prepare_allowed(alloc, group, topic, partition, offset) {
             Ok(made) => Ok(made),
             Err(AllocError) => Err(CommitFault::Memory),
         }
     }
 
-    /// Copies the names, and makes room for a commit.
-    fn prepare_copied(
+    /// Makes room for a commit, and for the group among those listed for the topic.
+    fn prepare_allowed(
         &mut self,
         alloc: Global,
         group: &Text,
@@ -97,73 +99,40 @@ impl Groups {
     ) -> Result<PreparedCommit, AllocError>
         ensures groups { groups_of self.new ≡ groups_of self.old }
         ensures place { IfOk result
-            (λ made. made.place ≡ place_of group.now topic.now partition) }
+            (λ made. place_in made self.new ≡ place_of group.now topic.now partition) }
         ensures offset { IfOk result (λ made. made.offset ≡ offset) }
         ensures ready { IfOk result (λ made. CanCommit made self.new) }
+        ensures absent { OnErr result (committed_at (place_of group.now topic.now partition)
+            (groups_of self.old) ≡ None) }
     {
-        let place = CommitPlace::copied(alloc, group, topic, partition)?;
-        self.prepare_at(alloc, place, offset)
-    }
-
-    /// Makes room for a commit: for one more group, one more topic of the group, one more offset on
-    /// the topic, and the group among those listed for the topic.
-    fn prepare_at(
-        &mut self,
-        alloc: Global,
-        place: CommitPlace,
-        offset: u64,
-    ) -> Result<PreparedCommit, AllocError>
-        ensures groups { groups_of self.new ≡ groups_of self.old }
-        ensures place { IfOk result (λ made. made.place ≡ place) }
-        ensures offset { IfOk result (λ made. made.offset ≡ offset) }
-        ensures ready { IfOk result (λ made. CanCommit made self.new) }
-    {
-        self.by_name.reserve()?;
-        let listing = self.lists.reserve(alloc, &place.topic, &place.group)?;
-        match self.by_name.get_mut(&place.group) {
-            Some(commits) => {
-                let offsets = commits.reserve(alloc, &place.topic)?;
-                let commits = Commits::new(alloc);
-                Ok(PreparedCommit {
-                    place,
-                    offset,
-                    commits,
-                    offsets,
-                    listing,
-                })
-            }
-            None => PreparedCommit::of_new_group(alloc, place, offset, listing),
-        }
+        let listing = self.lists.reserve(alloc, topic, group)?;
+        let entry = reserve_commit(&mut self.by_name, alloc, group, topic, partition)?;
+        Ok(PreparedCommit {
+            entry,
+            partition,
+            offset,
+            listing,
+        })
     }
 
     /// The second step: the offset is committed, in the room that is there; no memory is taken.
     pub fn commit_commit(&mut self, made: PreparedCommit)
         requires { CanCommit made self.old }
-        ensures { groups_of self.new ≡ with_commit made.place made.offset (groups_of self.old) }
+        ensures { groups_of self.new
+            ≡ with_commit (place_in made self.old) made.offset (groups_of self.old) }
     {
         let PreparedCommit {
-            place,
+            entry,
+            partition,
             offset,
-            mut commits,
-            offsets,
             listing,
         } = made;
-        let CommitPlace {
-            group,
-            topic,
-            partition,
-        } = place;
-        self.lists.put(listing, &topic);
-        match self.by_name.get_mut(&group) {
-            Some(commits) => commits.put(topic, partition, offset, offsets),
-            None => {
-                commits.put(topic, partition, offset, offsets);
-                self.by_name.insert(group, commits);
-            }
-        }
+        self.lists.put(listing);
+        put_commit(&mut self.by_name, entry, partition, offset);
     }
 
-    /// Commits an offset. A new group is put last. After an error the groups are as before.
+    /// Commits an offset. A new group is put last. After an error the groups are as before; where
+    /// the group has an offset on the partition, no memory is taken.
     pub fn commit(
         &mut self,
         alloc: Global,
@@ -177,6 +146,8 @@ impl Groups {
         ensures kept { OnErr result (groups_of self.new ≡ groups_of self.old) }
         ensures many { IsErrOf result CommitFault.TooMany
             ↔ (is_full_for group.now (groups_of self.old) ≡ true) }
+        ensures memory { IsErrOf result CommitFault.Memory
+            → committed_at (place_of group.now topic.now partition) (groups_of self.old) ≡ None }
     {
         let made = self.prepare_commit(alloc, group, topic, partition, offset)?;
         self.commit_commit(made);

@@ -6,9 +6,7 @@ mod commits;
 mod groups;
 mod limits;
 mod lists;
-mod place;
 
 pub use commit::{CommitFault, PreparedCommit};
 pub use groups::{GroupNotFound, Groups};
 pub use limits::GROUP_LIMIT;
-pub use place::CommitPlace;

@@ -1,10 +1,11 @@
 //! For each topic with commits the groups that have any.
 
-ghost use Rattle.std.specs.Prelude.{[], ◌≡◌, ◌<◌, ℕ, List, false, not, ◌&&◌, ◌||◌};
-ghost use Rattle.std.specs.Prelude.{IfOk, IfSome, None, OnOk, Some, unwrap_or};
+ghost use Rattle.std.specs.Prelude.{[], ◌≡◌, ◌∷◌, ◌<◌, ℕ, List, false, not, ◌&&◌, ◌||◌};
+ghost use Rattle.std.specs.Prelude.{IfOk, IfSome, None, OnErr};
 ghost use Rattle.std.specs.Map.{lookup};
 ghost use Rattle.kob_groups.specs.Filled.{AreFilled, is_among};
 ghost use Rattle.kob_names.specs.Same.{same_text};
+ghost use Rattle.kob_ordered.specs.Ordered.{StandsAt, name_at};
 
 use kob_names::{PlainValue, Text};
 use kob_ordered::OrderedMap;
@@ -20,17 +21,18 @@ pub(crate) struct GroupsByTopic {
     ghost filled: { AreFilled by_topic.entries },
 }
 
-/// A group that is to be listed for a topic. A topic that has no list yet gets the empty one here
-/// under its name.
+/// A group that is to be listed for a topic.
 #[derive(Drop)]
-pub(crate) struct Listing {
-    pub(crate) group: Text,
-    pub(crate) names: GroupNames,
-    pub(crate) topic: Option<Text>,
+pub(crate) enum Listing {
+    /// The group goes into the list at a place.
+    InList(usize, Text),
+    /// The group goes into the empty list, which is put in for a topic that has none.
+    NewList(Text, Text, GroupNames),
 }
 
 impl GroupsByTopic {
     ghost use Rattle.kob_groups.specs.Listed.{CanList, HasRoomFor, ListsAlike, is_listed, is_pair};
+    ghost use Rattle.kob_groups.specs.Listed.{Lists};
 
     /// No lists; no memory is taken.
     pub(crate) fn new(alloc: Global) -> GroupsByTopic
@@ -38,16 +40,6 @@ impl GroupsByTopic {
     {
         GroupsByTopic {
             by_topic: OrderedMap::new(alloc),
-        }
-    }
-
-    /// Whether the group is listed for the topic.
-    fn contains(&self, topic: &Text, group: &Text) -> bool
-        ensures { result ≡ is_listed topic.now group.now self.now }
-    {
-        match self.by_topic.get(topic) {
-            Some(names) => names.contains_key(group),
-            None => false,
         }
     }
 
@@ -61,79 +53,66 @@ impl GroupsByTopic {
     ) -> Result<Option<Listing>, AllocError>
         ensures kept { ListsAlike self.old self.new }
         ensures ready { IfOk result (λ listing. CanList listing topic.now group.now self.new) }
+        ensures absent { OnErr result (is_listed topic.now group.now self.old ≡ false) }
     {
-        if self.contains(topic, group) {
-            return Ok(None);
-        }
-        let group = group.copy(alloc)?;
-        let names = self.reserve_names(alloc, topic)?;
-        let topic = self.new_name(alloc, topic)?;
-        Ok(Some(Listing {
-            group,
-            names,
-            topic,
-        }))
-    }
-
-    /// Makes room for one more topic, and for one more group of this one. The list of a new topic
-    /// is the empty one that comes back.
-    fn reserve_names(&mut self, alloc: Global, topic: &Text) -> Result<GroupNames, AllocError>
-        ensures kept { ListsAlike self.old self.new }
-        ensures empty { IfOk result (λ fresh. fresh.entries ≡ []) }
-        ensures topics { OnOk result (0 < self.new.by_topic.room) }
-        ensures groups { IfOk result (λ fresh. 0
-            < (unwrap_or (lookup (same_text topic.now) self.new.by_topic.entries) fresh).room) }
-    {
-        self.by_topic.reserve()?;
-        match self.by_topic.get_mut(topic) {
-            Some(names) => {
-                names.reserve()?;
-                Ok(OrderedMap::new(alloc))
+        match self.by_topic.place_of(topic) {
+            Some(place) => self.reserve_name(alloc, place, group),
+            None => {
+                self.by_topic.reserve()?;
+                let listing = Listing::in_new_list(alloc, topic, group)?;
+                Ok(Some(listing))
             }
-            None => no_names_with_room(alloc),
         }
     }
 
-    /// The name of a topic that has no list.
-    fn new_name(&self, alloc: Global, topic: &Text) -> Result<Option<Text>, AllocError>
-        ensures { IfOk result (λ name. lookup (same_text topic.now) self.now.by_topic.entries
-            ≡ None → name ≡ Some topic.now) }
+    /// Makes room for a group in the list at a place, unless it is there.
+    fn reserve_name(
+        &mut self,
+        alloc: Global,
+        place: usize,
+        group: &Text,
+    ) -> Result<Option<Listing>, AllocError>
+        requires { StandsAt self.old.by_topic place (name_at self.old.by_topic place) }
+        ensures kept { ListsAlike self.old self.new }
+        ensures ready { IfOk result (λ listing.
+            CanList listing (name_at self.old.by_topic place) group.now self.new) }
+        ensures absent { OnErr result
+            (is_listed (name_at self.old.by_topic place) group.now self.old ≡ false) }
     {
-        if self.by_topic.contains_key(topic) {
+        let names = self.by_topic.value_at_mut(place);
+        if names.contains_key(group) {
             return Ok(None);
         }
-        Ok(Some(topic.copy(alloc)?))
+        names.reserve()?;
+        let group = group.copy(alloc)?;
+        Ok(Some(Listing::InList(place, group)))
     }
 
     /// Lists a group for a topic, unless it was listed when room was made, in the room that is
     /// there; no memory is taken.
-    pub(crate) fn put(&mut self, listing: Option<Listing>, topic: &Text)
-        requires { IfSome listing (λ listing. HasRoomFor listing topic.now self.old) }
-        ensures { (group : List ℕ) → CanList listing topic.now group self.old
+    pub(crate) fn put(&mut self, listing: Option<Listing>)
+        requires { IfSome listing (λ listing. HasRoomFor listing self.old) }
+        ensures { (topic group : List ℕ) → CanList listing topic group self.old
             → (t g : List ℕ) → is_listed t g self.new
-            ≡ (is_pair topic.now group t g || is_listed t g self.old) }
+            ≡ (is_pair topic group t g || is_listed t g self.old) }
     {
         if let Some(listing) = listing {
-            self.put_new(listing, topic);
+            self.put_new(listing);
         }
     }
 
     /// Lists a group for a topic, in the room that is there.
-    fn put_new(&mut self, listing: Listing, topic: &Text)
-        requires { HasRoomFor listing topic.now self.old }
-        ensures { (t g : List ℕ) → is_listed t g self.new
-            ≡ (is_pair topic.now listing.group t g || is_listed t g self.old) }
+    fn put_new(&mut self, listing: Listing)
+        requires { HasRoomFor listing self.old }
+        ensures { (topic group : List ℕ) → Lists listing topic group self.old
+            → (t g : List ℕ) → is_listed t g self.new
+            ≡ (is_pair topic group t g || is_listed t g self.old) }
     {
-        let Listing {
-            group,
-            mut names,
-            topic: name,
-        } = listing;
-        match self.by_topic.get_mut(topic) {
-            Some(names) => names.insert(group, ()),
-            None => {
+        match listing {
+            Listing::InList(place, group) => self.by_topic.value_at_mut(place).insert(group, ()),
+            Listing::NewList(topic, group, mut names) => {
                 names.insert(group, ());
-                self.by_topic.insert(name.unwrap(), names);
+                self.by_topic.insert(topic, names);
             }
         }
     }
@@ -163,12 +142,17 @@ impl GroupsByTopic {
     }
 }
 
-/// No names, with room for one. The error is out of memory.
-fn no_names_with_room(alloc: Global) -> Result<GroupNames, AllocError>
-    ensures empty { IfOk result (λ fresh. fresh.entries ≡ []) }
-    ensures room { IfOk result (λ fresh. 0 < fresh.room) }
-{
-    let mut names = OrderedMap::new(alloc);
-    names.reserve()?;
-    Ok(names)
+impl Listing {
+    ghost use Rattle.kob_groups.specs.Listed.{IsNewList};
+
+    /// A group in a list with room for it, and copies of both names. The error is out of memory.
+    fn in_new_list(alloc: Global, topic: &Text, group: &Text) -> Result<Listing, AllocError>
+        ensures { IfOk result (IsNewList topic.now group.now) }
+    {
+        let mut names = OrderedMap::new(alloc);
+        names.reserve()?;
+        let topic = topic.copy(alloc)?;
+        let group = group.copy(alloc)?;
+        Ok(Listing::NewList(topic, group, names))
+    }
 }

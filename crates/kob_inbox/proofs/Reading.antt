@@ -1,15 +1,14 @@
 -- What the SELECTs answer.
-use Rattle.std.proofs.Common.{◌≡◌, ℕ, pos, List, [], ◌∷◌, length, map, true, refl, ◌∙◌}
+use Rattle.std.proofs.Common.{◌≡◌, ℕ, pos, List, [], ◌∷◌, map, true, refl, ◌∙◌}
 use Rattle.std.specs.List.{enumerate_from}
 use Rattle.kob_outbox.proofs.statements.Words.{Int, IsAnswer, Output, Row, Trees, map-map, overlay}
-use Rattle.kob_outbox.specs.Layout.{shown_last}
-use Rattle.kob_outbox.proofs.statements.Numbered.{rising, top_row}
-use Rattle.kob_outbox.proofs.statements.Picking.{all_stay, falls, in_order, rises, turned_round}
+use Rattle.kob_outbox.proofs.statements.Numbered.{rising}
+use Rattle.kob_outbox.proofs.statements.Picking.{all_stay, in_order, rises}
 use Rattle.kob_outbox.proofs.statements.Selecting.{query_of}
 use Rattle.kob_outbox.proofs.statements.Values.{number_below}
 use Rattle.kob_inbox.specs.Contents.{Contents, Intake}
 use Rattle.kob_inbox.specs.Layout.{inbox_tree, placed_row, shown_intake}
-use Rattle.kob_inbox.proofs.Texts.{all_taken, last_place}
+use Rattle.kob_inbox.proofs.Texts.{all_taken}
 
 module _ (db : Trees) (rows : List Row) (events : Contents)
     (is : db inbox_tree ≡ map placed_row (enumerate_from 1 events)) where
@@ -23,11 +22,3 @@ module _ (db : Trees) (rows : List Row) (events : Contents)
       (rises (λ (p : ℕ × Intake). p.0) all_taken out (λ p q low. rw (number_below p.0 q.0 low) refl) placed
       (rising 1 events))
       ∙ map-map (λ (o : Output). o.1) out placed
-
-  pub answer_last : IsAnswer (query_of last_place) (overlay db []) [] rows → rows ≡ shown_last (length events)
-  answer_last a =
-      let out : ℕ × Intake → Output = λ p. (Int (pos p.0) ∷ [], Int (pos p.0) ∷ []) in
-      turned_round last_place [] placed_row (λ _. true) (λ _. refl) db placed is placed (all_stay placed) rows a
-      (falls (λ (p : ℕ × Intake). p.0) last_place out (λ p q low. rw (number_below p.0 q.0 low) refl) placed
-      (rising 1 events))
-      ∙ top_row out (λ _. refl) events

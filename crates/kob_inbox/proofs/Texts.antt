@@ -1,12 +1,12 @@
 -- What the fixed texts mean.
-use Rattle.std.proofs.Common.{ℕ, List, [], ◌∷◌, codes, refl, pos, arith}
-use Rattle.kob_outbox.proofs.statements.Words.{Ignore, InsertOr, Int, Null, Term, Values, col, lit}
+use Rattle.std.proofs.Common.{ℕ, List, [], ◌∷◌, codes, refl, arith}
+use Rattle.kob_outbox.proofs.statements.Words.{Ignore, InsertOr, Null, Term, Values, col, lit}
 use Rattle.sqlite_tied.specs.Compute.{everything}
 use Rattle.sqlite.specs.Listing.{understood}
 use Rattle.kob_outbox.specs.Tables.{no_schema}
 use Rattle.kob_outbox.proofs.statements.Creating.{IsCreation}
 use Rattle.kob_outbox.proofs.statements.Failing.{IsWhole}
-use Rattle.kob_outbox.proofs.statements.Selecting.{IsSelect, Scan, by_key, by_key_back, no_limit, over}
+use Rattle.kob_outbox.proofs.statements.Selecting.{IsSelect, Scan, by_key, no_limit, over}
 use Rattle.kob_outbox.proofs.statements.Writing.{IsWriting}
 use Rattle.kob_inbox.specs.Tables.{inbox, inbox_schema, inbox_table}
 
@@ -46,14 +46,4 @@ pub select_taken : IsSelect inbox_schema
     (codes "SELECT place, id, topic, part, off, rkey, rvalue FROM inbox ORDER BY place") [] all_taken
 unfolding understood everything
 select_taken =
-    record { is = (_, refl); unlisted = refl; plain = (refl, refl); whole = (omega arith, refl); accepted = refl }
-
--- ---- the last place
-
-abbrev pub last_place : Scan
-last_place = over 0 [] (col 1 0 ∷ []) by_key_back (lit (Int (pos 1)))
-
-pub select_last : IsSelect inbox_schema (codes "SELECT place FROM inbox ORDER BY place DESC LIMIT 1") [] last_place
-unfolding understood everything
-select_last =
     record { is = (_, refl); unlisted = refl; plain = (refl, refl); whole = (omega arith, refl); accepted = refl }

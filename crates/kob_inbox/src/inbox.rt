@@ -12,7 +12,7 @@ use crate::fault::InboxFault;
 use crate::inbox_row::InboxRow;
 use crate::inbox_table::{create_inbox, insert_intake};
 use crate::origin::Origin;
-use crate::reads::{all_rows, last_place};
+use crate::reads::all_rows;
 use kob_names::Record;
 use kob_outbox::number;
 use kob_router::event_id;
@@ -41,18 +41,20 @@ pub enum TakeIn {
 pub struct Inbox {
     conn: Connection<MemStore>,
     alloc: Global,
+    /// The last place that was taken, or 0, as the table has it.
+    last: u64,
 }
 
 impl Model for Inbox {
     ghost use Rattle.kob_inbox.specs.Contents.{Contents};
-    ghost use Rattle.kob_inbox.specs.Database.{IsInbox, contents};
+    ghost use Rattle.kob_inbox.specs.Database.{HasLast, contents};
     ghost use Rattle.kob_outbox.specs.Service.{database};
 
     ghost Value = { Contents };
 
     ghost view = { λ inbox. contents inbox.conn };
 
-    ghost invariant = { λ inbox. IsInbox (database inbox.conn) };
+    ghost invariant = { λ inbox. HasLast inbox.last (database inbox.conn) };
 }
 
 impl Inbox {
@@ -62,7 +64,11 @@ impl Inbox {
     {
         let mut conn = Connection::open_in_memory(alloc).map_err(|_| InboxFault::Memory)?;
         create_inbox(&mut conn)?;
-        Ok(Inbox { conn, alloc })
+        Ok(Inbox {
+            conn,
+            alloc,
+            last: 0,
+        })
     }
 
     /// Takes in the record at this offset of a partition.
@@ -100,18 +106,19 @@ impl Inbox {
         }
         let mut buffer = Uuid::encode_buffer();
         let id = id.hyphenated().encode_lower(&mut buffer);
-        let last = last_place(&mut self.conn)?;
-        if last >= i64::MAX as u64 {
+        if self.last >= i64::MAX as u64 {
             return Err(InboxFault::Store);
         }
+        let next = self.last + 1;
         let origin = Origin {
             topic,
             partition,
             offset,
         };
-        if insert_intake(&mut self.conn, &number(last + 1), id, &origin, message)? == 0 {
+        if insert_intake(&mut self.conn, &number(next), id, &origin, message)? == 0 {
             return Ok(TakeIn::Seen);
         }
+        self.last = next;
         Ok(TakeIn::Taken)
     }
 

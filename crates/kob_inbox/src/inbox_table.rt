@@ -1,12 +1,11 @@
 //! The one table of an inbox: the texts that make, read and write it.
 
-ghost use Rattle.std.specs.Prelude.{◌≡◌, ◌<◌, ◌^◌, [], pos, length, map, if◌then◌else◌, IsTrue};
+ghost use Rattle.std.specs.Prelude.{◌≡◌, ◌<◌, ◌^◌, [], pos, map, if◌then◌else◌, IsTrue};
 ghost use Rattle.std.specs.Prelude.{IfOk, IfErr, OnOk, OnErr};
 ghost use Rattle.std.specs.List.{enumerate_from};
 ghost use Rattle.sqlite.specs.declared.types.Value.TheVariants.{Int};
 ghost use Rattle.std.specs.Option.{option_copied};
 ghost use Rattle.kob_outbox.specs.Blank.{IsBlank};
-ghost use Rattle.kob_outbox.specs.Layout.{shown_last};
 ghost use Rattle.kob_outbox.specs.Service.{database};
 ghost use Rattle.kob_outbox.specs.Tables.{no_schema};
 ghost use Rattle.kob_inbox.specs.Contents.{next_place};
@@ -30,17 +29,6 @@ pub(crate) fn create_inbox(conn: &mut Connection<MemStore>) -> Result<usize, Err
         "CREATE TABLE inbox (place INTEGER PRIMARY KEY NOT NULL, id TEXT UNIQUE NOT NULL, topic TEXT NOT NULL, part INTEGER NOT NULL, off INTEGER NOT NULL, rkey BLOB, rvalue BLOB NOT NULL)",
         &[],
     )
-}
-
-/// The last place that was taken, if one was. It reads one row, however many there are.
-pub(crate) fn select_last(conn: &mut Connection<MemStore>) -> Result<Vec<Row>, Error>
-    requires { IsInbox (database conn.old) }
-    ensures rows { IfOk result (λ rows. rows.items ≡ shown_last (length (contents conn.old))) }
-    ensures memory { IfErr result (λ e. e ≡ Error.SqliteFailure ErrorCode.OutOfMemory) }
-    ensures inbox { IsInbox (database conn.new) }
-    ensures same { contents conn.new ≡ contents conn.old }
-{
-    conn.query_all("SELECT place FROM inbox ORDER BY place DESC LIMIT 1", &[])
 }
 
 /// Adds an event at the next place. It answers 0 where its id is there.

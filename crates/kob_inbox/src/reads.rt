@@ -1,6 +1,6 @@
 //! What is read of the table. Over memory only lack of memory can stop a read.
 
-ghost use Rattle.std.specs.Prelude.{◌≡◌, ◌<◌, ◌^◌, length, map, IfErr, IfOk};
+ghost use Rattle.std.specs.Prelude.{◌≡◌, map, IfErr, IfOk};
 ghost use Rattle.std.specs.List.{enumerate_from};
 ghost use Rattle.kob_outbox.specs.Service.{database};
 ghost use Rattle.kob_inbox.specs.Database.{IsInbox, contents};
@@ -8,25 +8,10 @@ ghost use Rattle.kob_inbox.specs.Rows.{placed_intake};
 
 use crate::fault::InboxFault;
 use crate::inbox_row::InboxRow;
-use crate::inbox_table::{select_last, select_taken};
+use crate::inbox_table::select_taken;
 use crate::rows::rows_of;
 use sqlite::{Connection, MemStore};
 use std::alloc::Global;
-
-/// The last place that was taken, or 0.
-pub(crate) fn last_place(conn: &mut Connection<MemStore>) -> Result<u64, InboxFault>
-    requires { IsInbox (database conn.old) }
-    ensures value { IfOk result (λ last. last ≡ length (contents conn.old)) }
-    ensures room { length (contents conn.old) < 2 ^ 63 }
-    ensures memory { IfErr result (λ f. f ≡ InboxFault.Memory) }
-    ensures inbox { IsInbox (database conn.new) }
-    ensures same { contents conn.new ≡ contents conn.old }
-{
-    match select_last(conn)?.first() {
-        Some(row) => Ok(row.get(0)?),
-        None => Ok(0),
-    }
-}
 
 /// All events, in the order of their places.
 pub(crate) fn all_rows(

@@ -4,3 +4,4 @@ pub mod NameOrder
 pub mod Places
 pub mod Search
 pub mod Sound
+pub mod Standing

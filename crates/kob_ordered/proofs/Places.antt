@@ -5,7 +5,7 @@ use Rattle.std.proofs.lemmas.Slice.Eq.{bytes_eq-Decides}
 use Rattle.kob_names.specs.Same.{same_text}
 use Rattle.kob_ordered.specs.declared.slot.Slot.{Slot}
 use Rattle.kob_ordered.specs.declared.slot.Slot.TheVariants.{Entry, Hole}
-use Rattle.kob_ordered.specs.Slots.{entries_in, is_entry}
+use Rattle.kob_ordered.specs.Slots.{Stands, entries_in, is_entry, named, names_in}
 
 pub equal_names : (a b : List ℕ) → same_text a b ≡ true → a ≡ b
 equal_names a b = (bytes_eq-Decides a b).0
@@ -122,6 +122,25 @@ module _ {V : Type 0} where
         | inl before ↦ inl before
         | inr last ↦ inr (ap suc last.0, last.1)
       ]
+
+  -- the entry where a name stands
+  pub entry_at : (slots : List (Slot V)) (place : ℕ) (name : List ℕ)
+      → slice_get (names_in slots) place ≡ Some (Some name) → Stands slots name place
+  entry_at [] place name is = cc
+  entry_at (Hole ∷ slots) zero name is = cc
+  entry_at (Entry head value ∷ slots) zero name is =
+      let same : head ≡ name = cc in record { value = value; there = ap (λ n. Some (Entry n value)) same }
+  entry_at (head ∷ slots) (suc place) name is =
+      let later = entry_at slots place name is in record { value = later.value; there = later.there }
+
+  pub names_written : (slots : List (Slot V)) (place : ℕ) (name : List ℕ) (value w : V)
+      → slice_get slots place ≡ Some (Entry name value)
+      → names_in (set slots place (Entry name w)) ≡ names_in slots
+  names_written [] place name value w there = cc
+  names_written (head ∷ slots) zero name value w there =
+      let same : head ≡ Entry name value = cc in ap (λ s. named s ∷ names_in slots) (sym same)
+  names_written (head ∷ slots) (suc place) name value w there =
+      ap (λ ns. named head ∷ ns) (names_written slots place name value w there)
 
   -- the holes taken away
   pub packed : (slots : List (Slot V)) → entries_in (filter is_entry slots) ≡ entries_in slots

@@ -1,6 +1,6 @@
 -- The slots of a map, and the places of its entries in order of their names. No public clause cites
 -- this module.
-use Rattle.std.specs.Prelude.{◌≡◌, ℕ, ◌<◌, ◌≤◌, Bool, true, false, List, [], ◌∷◌, Option, None, Some, filter, length, slice_get, take}
+use Rattle.std.specs.Prelude.{◌≡◌, ℕ, ◌<◌, ◌≤◌, Bool, true, false, List, [], ◌∷◌, Option, None, Some, filter, length, map, slice_get, take}
 use Rattle.std.specs.Cmp.Lexicographic.{slice_cmp}
 use Rattle.std.specs.Ordering.{nat_cmp}
 use Rattle.std.specs.List.{IsDistinct}
@@ -23,6 +23,14 @@ module _ {V : Type 0} where
   abbrev pub name_in : Slot V → List ℕ
   name_in Hole = []
   name_in (Entry name value) = name
+
+  -- the name of the entry in a slot, and of each of the slots
+  abbrev pub named : Slot V → Option (List ℕ)
+  named Hole = None
+  named (Entry name value) = Some name
+
+  abbrev pub names_in : List (Slot V) → List (Option (List ℕ))
+  names_in slots = map named slots
 
   -- the slot with another value
   abbrev pub with_value_in : Slot V → V → Slot V

@@ -1,7 +1,7 @@
 //! The map.
 
 ghost use Rattle.std.specs.Prelude.{[], ◌∷◌, ◌++◌, ◌+◌, ◌≡◌, ◌<◌, ◌≤◌, None, is_some, length};
-ghost use Rattle.std.specs.Prelude.{option_copied, OnOk};
+ghost use Rattle.std.specs.Prelude.{option_copied, IfSome, OnOk, Some};
 ghost use Rattle.std.specs.Borrow.{sem};
 ghost use Rattle.std.specs.Map.{keys_of, lookup, remove_entry};
 ghost use Rattle.std.specs.List.{IsDistinct};
@@ -36,20 +36,22 @@ impl<V> Model for OrderedMap<V> {
     ghost coded = { ordered_code V.code };
 
     ghost use Rattle.std.specs.Prelude.{min, vec_capacity, vec_len, ◌-◌};
-    ghost use Rattle.kob_ordered.specs.Slots.{entries_in, IsSound};
+    ghost use Rattle.kob_ordered.specs.Slots.{entries_in, names_in, IsSound};
 
     ghost view = { λ map. record {
       entries = entries_in map.slots.items;
       room = min (vec_capacity map.by_name - vec_len map.by_name)
           (vec_capacity map.slots - vec_len map.slots);
       holes = vec_len map.slots - vec_len map.by_name;
+      names = names_in map.slots.items;
     } };
 
     ghost invariant = { λ map. IsSound map.slots.items map.by_name.items };
 }
 
 impl<V: Drop> OrderedMap<V> {
-    ghost use Rattle.kob_ordered.specs.OrderedLends.{lends_value};
+    ghost use Rattle.kob_ordered.specs.Ordered.{StandsAt, name_at};
+    ghost use Rattle.kob_ordered.specs.OrderedLends.{lends_at, lends_value};
 
     /// No entries; no memory is taken.
     pub fn new(alloc: Global) -> OrderedMap<V>
@@ -95,6 +97,25 @@ impl<V: Drop> OrderedMap<V> {
     {
         let place = place_of(self.slots.as_slice(), self.by_name.as_slice(), name)?;
         Some(self.slots[place].value_mut())
+    }
+
+    /// The place of the entry of that name, which stays its place until room is made or the entry is
+    /// removed; no memory is taken.
+    pub fn place_of(&self, name: &Text) -> Option<usize>
+        ensures stands { IfSome result (λ place. StandsAt self.now place name.now) }
+        ensures known { is_some result ≡ is_some (lookup (same_text name.now) self.now.entries) }
+    {
+        place_of(self.slots.as_slice(), self.by_name.as_slice(), name)
+    }
+
+    /// The value of the entry at a place, to be written; no memory is taken.
+    pub fn value_at_mut(&mut self, place: usize) -> &mut V
+        requires { StandsAt self.old place (name_at self.old place) }
+        ensures* writes_back { sem 𝓛 (lends_at V.row self.entry place result) }
+        ensures value { lookup (same_text (name_at self.old place)) self.old.entries
+            ≡ Some result.now }
+    {
+        self.slots[place].value_mut()
     }
 
     /// Whether there is an entry of that name; no memory is taken.

@@ -5,7 +5,7 @@ use Rattle.sqlite_tied.specs.Compute.{everything}
 use Rattle.sqlite.specs.Listing.{understood}
 use Rattle.kob_outbox.specs.Tables.{business, business_table, mark, mark_table, no_schema, one_table, outbox, outbox_table, service_schema, spent, spent_table, three_tables, two_tables}
 use Rattle.kob_outbox.proofs.statements.Creating.{IsCreation}
-use Rattle.kob_outbox.proofs.statements.Selecting.{IsSelect, Scan, by_key, by_key_back, no_limit, over, program_of}
+use Rattle.kob_outbox.proofs.statements.Selecting.{IsSelect, Scan, by_key, no_limit, over, program_of}
 use Rattle.kob_outbox.proofs.statements.Writing.{IsWriting}
 
 pub create_business : IsCreation no_schema
@@ -33,14 +33,6 @@ unfolding understood everything
 create_outbox = record { is = refl; whole = refl; defines = refl; plain = (refl, refl); counts_none = refl }
 
 -- ---- the mark
-
-abbrev pub all_marks : Scan
-all_marks = over 4 [] (col 1 2 ∷ []) [] no_limit
-
-pub select_mark : IsSelect service_schema (codes "SELECT upto FROM mark") [] all_marks
-unfolding understood everything
-select_mark =
-    record { is = (_, refl); unlisted = refl; plain = (refl, refl); whole = (omega arith, refl); accepted = refl }
 
 abbrev pub first_mark : List Term
 first_mark = lit (Int (pos 1)) ∷ lit Null ∷ lit (Int (pos 0)) ∷ []
@@ -81,15 +73,6 @@ pub insert_spent : IsWriting service_schema spend_text spending 1 spent_table
 unfolding understood everything
 insert_spent =
     record { is = refl; plain = (refl, refl); found = refl; on = λ l m p d t r it. it; runs = λ o n t p c it. it }
-
--- the last number that was given
-abbrev pub last_spent : Scan
-last_spent = over 2 [] (col 1 2 ∷ []) by_key_back (lit (Int (pos 1)))
-
-pub select_last : IsSelect service_schema (codes "SELECT seq FROM spent ORDER BY rowid DESC LIMIT 1") [] last_spent
-unfolding understood everything
-select_last =
-    record { is = (_, refl); unlisted = refl; plain = (refl, refl); whole = (omega arith, refl); accepted = refl }
 
 -- ---- the business rows
 

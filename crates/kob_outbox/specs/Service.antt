@@ -1,5 +1,5 @@
 -- A database that is a service's.
-use Rattle.std.specs.Prelude.{◌≡◌, ℕ, List, false, true, None, IsTrue}
+use Rattle.std.specs.Prelude.{◌≡◌, ℕ, List, length, false, true, None, IsTrue}
 use Rattle.kob_outbox.specs.Blank.{IsAtRest}
 use Rattle.sqlite.specs.Held.{Held, state}
 use Rattle.sqlite.specs.State.{State}
@@ -25,6 +25,12 @@ contents conn = contents_of (database conn)
 -- the database is the service's, between its statements
 abbrev pub IsService : State → Type 0
 IsService = IsAtRest service_schema (λ trees. Holds (contents_in trees) trees)
+
+-- the database is the service's, and these are the last number that was given and the mark
+pub record HasNumbers (last mark : ℕ) (s : State) : Type 0 where
+  pub service : IsService s
+  pub last_is : last ≡ length (contents_of s).ids
+  pub mark_is : mark ≡ (contents_of s).mark
 
 -- the same in a transaction, in which statements have changed it
 pub record IsChanging (s : State) : Type 0 where

@@ -1,6 +1,6 @@
 //! What is read of the tables. Over memory only lack of memory can stop a read.
 
-ghost use Rattle.std.specs.Prelude.{◌≡◌, option_map, string_bytes, ◌<◌, ◌^◌, length, map, IfErr};
+ghost use Rattle.std.specs.Prelude.{◌≡◌, option_map, string_bytes, map, IfErr};
 ghost use Rattle.std.specs.Prelude.{IfOk};
 ghost use Rattle.kob_outbox.specs.Events.{stored_row};
 ghost use Rattle.kob_outbox.specs.Reading.{first_after, state_at};
@@ -9,40 +9,11 @@ ghost use Rattle.kob_outbox.specs.Service.{IsService, contents, database};
 use crate::business_table::select_business;
 use crate::event::Row;
 use crate::fault::OutboxFault;
-use crate::mark_table::select_mark;
 use crate::numbers::number;
 use crate::outbox_table::select_after;
 use crate::rows::rows_of;
-use crate::spent_table::select_last;
 use sqlite::{Connection, MemStore};
 use std::alloc::Global;
-
-/// The number of the last event that was sent, or 0.
-pub(crate) fn mark_of(conn: &mut Connection<MemStore>) -> Result<u64, OutboxFault>
-    requires { IsService (database conn.old) }
-    ensures value { IfOk result (λ mark. mark ≡ (contents conn.old).mark) }
-    ensures room { (contents conn.old).mark < 2 ^ 63 }
-    ensures memory { IfErr result (λ f. f ≡ OutboxFault.Memory) }
-    ensures service { IsService (database conn.new) }
-    ensures same { contents conn.new ≡ contents conn.old }
-{
-    Ok(select_mark(conn)?[0].get(0)?)
-}
-
-/// The number of the last event that was recorded, or 0.
-pub(crate) fn last_number(conn: &mut Connection<MemStore>) -> Result<u64, OutboxFault>
-    requires { IsService (database conn.old) }
-    ensures value { IfOk result (λ last. last ≡ length (contents conn.old).ids) }
-    ensures room { length (contents conn.old).ids < 2 ^ 63 }
-    ensures memory { IfErr result (λ f. f ≡ OutboxFault.Memory) }
-    ensures service { IsService (database conn.new) }
-    ensures same { contents conn.new ≡ contents conn.old }
-{
-    match select_last(conn)?.first() {
-        Some(row) => Ok(row.get(0)?),
-        None => Ok(0),
-    }
-}
 
 /// The state of the business row with this kind and id.
 pub(crate) fn state_of(

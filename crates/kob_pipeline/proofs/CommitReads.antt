@@ -9,8 +9,7 @@ use Rattle.std.specs.Map.{lookup}
 use Rattle.std.specs.Option.{option_map}
 use Rattle.indexmap.specs.IndexMap.{insert_entry}
 use Rattle.kob_names.specs.Same.{same_text}
-use Rattle.kob_groups.specs.Groups.{Commits, Groups, commits_of, committed_at, offsets_on, with_commit, with_offset, without_group, without_offsets, without_topic}
-use Rattle.kob_groups.specs.declared.place.CommitPlace.{CommitPlace}
+use Rattle.kob_groups.specs.Groups.{CommitPlace, Commits, Groups, commits_of, committed_at, offsets_on, with_commit, with_offset, without_group, without_offsets, without_topic}
 use Rattle.kob_pipeline.proofs.Lists.{bytes_are}
 
 -- one entry more, or one with another value

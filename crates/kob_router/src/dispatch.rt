@@ -10,7 +10,7 @@ use crate::partitioner::partition_of;
 use crate::place::Place;
 use crate::route::Route;
 use crate::routed::topic_for;
-use kob_names::{Record, Text};
+use kob_names::Record;
 use kob_outbox::Row;
 use std::alloc::{AllocError, Global};
 
@@ -47,8 +47,7 @@ pub(crate) fn place_of(alloc: Global, target: &Target, row: &Row) -> Result<Plac
     ensures { OkIfSome (place_of (dispatch_of target.now (stored_row row.now)))
         RecordFault.BadTopic RecordFault.Memory result }
 {
-    let topic = topic_for(alloc, target.route.as_routing(), row)?;
-    let topic = Text::copied(alloc, topic.as_str())?;
+    let topic = topic_for(alloc, target.route.as_routing(), row)?.into_text();
     let partition = partition_of(row.event.aggregate_id.as_bytes(), target.partitions) as u64;
     Ok(Place { topic, partition })
 }

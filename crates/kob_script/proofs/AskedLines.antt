@@ -1,8 +1,9 @@
--- What a line asks for, when it is checked and when it is read again.
-use Rattle.std.proofs.Common.{◌≡◌, ◌∙◌, ◌&&◌, not, Bool, true, false, if◌then◌else◌, ℕ, List, [], ◌∷◌, ◌++◌, drop, length, nat_lt, Option, Some, None, Result, Ok, Err, codes, ap, sym, refl, append_assoc, append-nil}
+-- What a line asks for, when it is checked and when it is read again, and what is left behind it.
+use Rattle.std.proofs.Common.{◌≡◌, ◌∙◌, ◌&&◌, not, Bool, true, false, if◌then◌else◌, ℕ, List, [], ◌∷◌, ◌++◌, drop, length, nat_lt, Option, Some, None, Result, Ok, Err, codes, ap, sym, refl, append_assoc, append-nil, ◌<◌, ◌+◌, ◌-◌, ◌==◌, arith}
 use Rattle.std.specs.List.{slice_index_or}
 use Rattle.std.specs.Option.{is_some}
 use Rattle.std.specs.Str.{bytes_eq}
+use Rattle.std.proofs.lemmas.Bool.{eqb-true}
 use Rattle.kob_acl_cli.specs.declared.args.CliArgs.{CliArgs}
 use Rattle.kob_names.specs.declared.settings.Settings.{Settings}
 use Rattle.kob_rights.specs.declared.event.Event.{Event}
@@ -13,7 +14,7 @@ use Rattle.kob_script.specs.declared.fault.FaultKind.{FaultKind}
 use Rattle.kob_script.specs.declared.fault.FaultKind.TheVariants.{LateSetting}
 use Rattle.kob_script.specs.declared.script.Script.{Script}
 use Rattle.kob_script.specs.Reading.{◌>>=◌}
-use Rattle.kob_script.specs.Requests.{asks_clap, first_answer, items_or_none, line_words, requests_in, requests_of}
+use Rattle.kob_script.specs.Requests.{asks_clap, first_answer, items_or_none, line_words, requests_in, requests_of, answers_after}
 use Rattle.kob_script.specs.Script.{with_line, with_words}
 use Rattle.kob_script.specs.Settings.{is_setting, settings_with}
 use Rattle.kob_script.specs.Word.{Word}
@@ -30,20 +31,17 @@ chosen_alike : {A B C : Type 0} (setting acl : Bool) (arguments : C) (x : B) (ne
     (if setting then x else next (if acl then
     by (slice_index_or (if asks then answer ∷ others else others) 0 None) else other))
     ≡ (if setting then x else next (if acl then by answer else other))
-chosen_alike true acl arguments x next by other answer others = refl
 chosen_alike false true arguments x next by other answer others = refl
-chosen_alike false false arguments x next by other answer others = refl
+chosen_alike _ _ arguments x next by other answer others = refl
 
 answered_alike : (words : List Word) (answer : Option CliArgs) (others : List (Option CliArgs))
     → requests_of (first_answer (answers_from words answer others)) words ≡ requests_of answer words
 unfolding events_of
-answered_alike [] answer others = refl
-answered_alike (first ∷ []) answer others = refl
-answered_alike (first ∷ host ∷ []) answer others = refl
 answered_alike (first ∷ host ∷ command ∷ arguments) answer others =
     chosen_alike (is_setting first) (bytes_eq command.decoded (codes "acl")) arguments [] items_or_none
     (λ given. acl_events given first host arguments)
     (command_events (command_named command.decoded) first host arguments) answer others
+answered_alike _ answer others = refl
 
 -- the answers with one more, and others
 pub answers_split : (answers : List (Option CliArgs)) (words : List Word) (answer : Option CliArgs)
@@ -108,3 +106,36 @@ pub line_asks : (answer : Option CliArgs) (s next : Script) (line : List ℕ) �
     → next.events ≡ s.events ++ requests_of answer (line_words line)
 unfolding with_line
 line_asks answer s next line is = read_asks answer s next (words_of line) is
+
+-- where requests are left and none was read, some lines are left
+pub some_lines : (asked : List Event) (lines : List (List ℕ)) (answers : List (Option CliArgs)) (all : List Event) (n : ℕ)
+    → asked ≡ [] → asked ++ requests_in lines answers ≡ all → 0 < length all → 0 < length lines + n
+unfolding requests_in
+some_lines asked [] answers all n none left some =
+    let nothing : length all ≡ 0 = ap length (sym left ∙ ap (λ front. front ++ []) none) in
+    absurd (omega (arith, nothing, some))
+some_lines asked (line ∷ lines) answers all n none left some = omega arith
+
+pub same_left : (asked : List Event) (lines left : List (List ℕ)) (answers kept : List (Option CliArgs)) → left ≡ lines
+    → kept ≡ answers → asked ++ requests_in left kept ≡ asked ++ requests_in lines answers
+same_left asked lines left answers kept same_lines same_answers = rw (same_lines, same_answers) refl
+
+pub one_fewer : {A : Type 0} (left : ℕ) (x : A) (all more : List A) → left ≡ length all → all ≡ x ∷ more
+    → left - 1 ≡ length more
+one_fewer left x all more count split =
+    let long : length all ≡ length (x ∷ more) = ap length split in omega (arith, count, long)
+
+-- what is counted as nothing is nothing
+pub nothing_at_zero : {A : Type 0} (items : List A) (count : ℕ) → count ≡ length items → (count == 0) ≡ true → items ≡ []
+nothing_at_zero [] count counts zero = refl
+nothing_at_zero (x ∷ more) count counts zero =
+    let none : count ≡ 0 = eqb-true count 0 zero in absurd (omega (arith, none, counts))
+
+-- a line was read that stood at the front
+pub line_read : (text : List ℕ) (lines left later last : List (List ℕ)) (answers kept : List (Option CliArgs))
+    (events : List Event) → lines ≡ text ∷ left → last ≡ later
+    → events ≡ requests_of (first_answer answers) (line_words text)
+    → kept ≡ answers_after (line_words text) answers
+    → requests_in (lines ++ later) answers ≡ events ++ requests_in (left ++ last) kept
+unfolding requests_in
+line_read text lines left later last answers kept events split same is used = rw (split, same, is, used) refl

@@ -1,24 +1,84 @@
--- A script is checked line by line.
-use Rattle.std.proofs.Common.{◌≡◌, ◌∙◌, ◌+◌, ℕ, false, List, [], ◌∷◌, ◌++◌, Option, None, Result, Ok, Err, length, ap, sym, refl, append_assoc, append-nil}
-use Rattle.std.specs.List.{concat}
+-- A script is checked line by line, and without `acl` lines it has one reading.
+use Rattle.std.proofs.Common.{◌≡◌, ◌∙◌, ◌+◌, ◌&&◌, not, ℕ, Bool, true, false, if◌then◌else◌, List, [], ◌∷◌, ◌++◌, Option, Some, None, Result, Ok, Err, codes, sym, subst, refl, length, ap, append_assoc, append-nil}
+use Rattle.std.specs.List.{list_all, concat}
+use Rattle.std.specs.Option.{is_none}
+use Rattle.std.specs.Str.{bytes_eq}
 use Rattle.kob_acl_cli.specs.declared.args.CliArgs.{CliArgs}
+use Rattle.kob_script.specs.Command.{command_named}
+use Rattle.kob_script.specs.CommandLines.{acl_events, command_events, events_of}
+use Rattle.kob_script.specs.declared.fault.FaultKind.{FaultKind}
+use Rattle.kob_script.specs.declared.fault.Fault as fault
+use Rattle.kob_script.specs.declared.fault.ScriptError.{ScriptError}
+use Rattle.kob_script.specs.declared.fault.ScriptError.TheVariants as script_error
+use Rattle.kob_script.specs.declared.script.Script.{Script}
+use Rattle.kob_script.specs.Reading.{◌>>=◌, Fails}
+use Rattle.kob_script.specs.Script.{at_line, empty_script, lines_from, lines_in, script_of, then_lines, with_line, with_words}
+use Rattle.kob_script.specs.ScriptReadings.{HasNoAclLine, is_plain, LinesFrom, MayRead, Reads, ReadsAs, ThenLines}
+use Rattle.kob_script.specs.Settings.{is_setting}
+use Rattle.kob_script.specs.Word.{Word}
+use Rattle.kob_script.specs.Words.{words_of}
 use Rattle.kob_rights.specs.declared.event.Event.{Event}
 use Rattle.kob_script.specs.Blocks.{AreWholeLines, lines_in_blocks}
 use Rattle.kob_script.specs.Checks.{ChecksLine, ChecksNext, fault_at, script_so_far, with_answer}
 use Rattle.kob_script.specs.ClapAnswer.{IsAnswerTo}
 use Rattle.kob_script.specs.declared.checks.Checking.{Checking}
-use Rattle.kob_script.specs.declared.fault.Fault as fault
-use Rattle.kob_script.specs.declared.fault.FaultKind.{FaultKind}
 use Rattle.kob_script.specs.declared.fault.LineError.{LineError}
 use Rattle.kob_script.specs.declared.fault.LineError.TheVariants.{Memory, Fault}
-use Rattle.kob_script.specs.declared.script.Script.{Script}
-use Rattle.kob_script.specs.Reading.{Fails}
 use Rattle.kob_script.specs.Requests.{line_words, requests_in, requests_of}
-use Rattle.kob_script.specs.Script.{empty_script, with_line, with_words}
-use Rattle.kob_script.specs.ScriptReadings.{LinesFrom, MayRead, ReadsAs}
-use Rattle.kob_script.specs.Word.{Word}
-use Rattle.kob_script.specs.Words.{words_of}
 use Rattle.kob_script.proofs.AskedLines.{answers_from, answers_split, line_again, line_asks}
+
+both : (a b : Bool) → (a && b) ≡ true → (a ≡ true) × (b ≡ true)
+both true b e = (refl, e)
+both false b e = absurd cc
+
+-- a choice that is no other where it isn't `acl`
+others_alike : {A B C : Type 0} (setting acl : Bool) (x : B) (one two other : A) (next : A → B) (arguments : C)
+    → is_none (if not setting && acl then Some arguments else None) ≡ true
+    → (if setting then x else next (if acl then one else other))
+    ≡ (if setting then x else next (if acl then two else other))
+others_alike true acl x one two other next arguments plain = refl
+others_alike false true x one two other next arguments plain = absurd cc
+others_alike false false x one two other next arguments plain = refl
+
+-- a line that is no `acl` line is read in one way, whatever clap answered
+line_alike : (answer : Option CliArgs) (s : Script) (line : Result (List Word) FaultKind) → is_plain line ≡ true
+    → (line >>= with_words answer s) ≡ (line >>= with_words None s)
+unfolding events_of
+line_alike answer s (Ok (first ∷ host ∷ command ∷ arguments)) plain =
+    others_alike (is_setting first) (bytes_eq command.decoded (codes "acl")) _ (acl_events answer first host arguments)
+    (acl_events None first host arguments) (command_events (command_named command.decoded) first host arguments)
+    (λ read. read >>= λ events. Ok (record { settings = s.settings; events = s.events ++ events })) arguments plain
+line_alike answer s _ plain = refl
+
+then_alike : (number : ℕ) (lines : List (List ℕ)) (first : Result Script FaultKind) (read : Result Script fault.Fault)
+    → ((next : Script) → LinesFrom next (number + 1) lines read → read ≡ lines_from next (number + 1) lines)
+    → ThenLines number first (λ next. LinesFrom next (number + 1) lines read) read
+    → read ≡ then_lines (at_line number first) (λ next. lines_from next (number + 1) lines)
+then_alike number lines (Ok next) read others may = others next may
+then_alike number lines (Err kind) read others may = may
+
+lines_alike : (s : Script) (number : ℕ) (lines : List (List ℕ)) (read : Result Script fault.Fault)
+    → list_all (λ line. is_plain (words_of line)) lines ≡ true → LinesFrom s number lines read
+    → read ≡ lines_from s number lines
+unfolding LinesFrom lines_from with_line
+lines_alike s number [] read plain may = may
+lines_alike s number (line ∷ lines) read plain (first, (answer, is, gives), others) =
+    let here = both (is_plain (words_of line)) (list_all (λ l. is_plain (words_of l)) lines) plain in
+    then_alike number lines (with_line None s line) read
+    (λ next may. lines_alike next (number + 1) lines read here.1 may)
+    (subst (λ (r : Result Script FaultKind). ThenLines number r (λ next. LinesFrom next (number + 1) lines read) read)
+    (sym gives ∙ line_alike answer s (words_of line) here.0) others)
+
+pub one_reading : (text : List ℕ) (read : Result Script fault.Fault) → HasNoAclLine text → ReadsAs text read
+    → read ≡ script_of text
+unfolding script_of
+one_reading text read plain may = lines_alike empty_script 1 (lines_in text) read plain may
+
+pub reads_plain : (text : List ℕ) (result : Result Script ScriptError) → MayRead text result → HasNoAclLine text
+    → Reads result (script_of text)
+reads_plain text (Ok script) may plain = sym (one_reading text (Ok script) plain may)
+reads_plain text (Err script_error.Memory) may plain = tt
+reads_plain text (Err (script_error.Fault fault)) may plain = sym (one_reading text (Err fault) plain may)
 
 module _ (s : Script) (line : List ℕ) (new : Checking) (old kept : List (Option CliArgs)) where
   -- a line that was checked by clap's answer to its words

@@ -13,8 +13,7 @@ parts_there (Some byte) (Some bytes) e = (refl, refl)
 digits_there : (one two : Bool) (byte : ℕ) → is_some (if one && two then Some byte else None) ≡ true
     → (one ≡ true) × (two ≡ true)
 digits_there true true byte e = (refl, refl)
-digits_there true false byte e = absurd cc
-digits_there false two byte e = absurd cc
+digits_there _ _ byte e = absurd cc
 
 -- the byte at the front, where an escape and the bytes behind it are cut alike
 front_cut : {P : Type 0} (percent : Bool) (byte : ℕ) (digits_all digits : Option ℕ)

@@ -1,4 +1,3 @@
-pub mod AclFaults
 pub mod AskedLines
 pub mod BlockLines
 pub mod CheckedLines
@@ -6,10 +5,7 @@ pub mod Choices
 pub mod Cuts
 pub mod Each
 pub mod Escapes
-pub mod FirstKinds
-pub mod LeftRequests
 pub mod LineFaults
 pub mod LineWords
 pub mod Numbers
-pub mod PlainScripts
 pub mod RowWords

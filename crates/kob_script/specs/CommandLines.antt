@@ -1,28 +1,63 @@
 -- What a line asks for.
-use Rattle.std.specs.Prelude.{ℕ, Bool, false, List, [], ◌∷◌, Option, Some, None, Result, Ok, Err, codes, map, if◌then◌else◌}
 use Rattle.std.specs.Option.{option_map}
+use Rattle.std.specs.Prelude.{List, [], ◌∷◌, Option, Result, Ok, Err, ℕ, Bool, false, Some, None, codes, map, if◌then◌else◌}
 use Rattle.std.specs.Str.{bytes_eq}
+use Rattle.kob_acl_cli.specs.Commands.{commands, faults}
 use Rattle.kob_acl_cli.specs.declared.args.CliArgs.{CliArgs}
+use Rattle.kob_acl_cli.specs.declared.commands.AclCommand.TheVariants.{Create, Delete, Describe}
 use Rattle.kob_acl_cli.specs.declared.commands.AclCommand.{AclCommand}
+use Rattle.kob_acl_cli.specs.declared.fault.CommandFault.TheVariants as options
+use Rattle.kob_acl_cli.specs.declared.fault.CommandFault.{CommandFault}
 use Rattle.kob_names.specs.declared.draft.Draft.{Draft}
 use Rattle.kob_names.specs.declared.filter.BindingFilter.{BindingFilter}
 use Rattle.kob_rights.specs.declared.event.Event.{Event}
-use Rattle.kob_rights.specs.declared.request.Request.{Request}
 use Rattle.kob_rights.specs.declared.request.Request.TheVariants as ask
-use Rattle.kob_script.specs.Acl.{acl_commands, acl_request}
-use Rattle.kob_script.specs.Command.{acl_row, command_named, filter_row, row, row_named}
-use Rattle.kob_script.specs.declared.command.Command.{Command}
-use Rattle.kob_script.specs.declared.command.Command.TheVariants.{CreateTopic, DeleteTopic, Metadata, Produce, Fetch, ListOffsets, DeleteRecords, InitProducer, Commit, Committed, Groups, DeleteGroup, CreateAcl, DescribeAcls, DeleteAcls}
-use Rattle.kob_script.specs.declared.fault.FaultKind.{FaultKind}
-use Rattle.kob_script.specs.declared.fault.FaultKind.TheVariants.{BadLine}
-use Rattle.kob_script.specs.declared.slots.Place.{Place}
-use Rattle.kob_script.specs.declared.slots.Place.TheVariants.{One}
-use Rattle.kob_script.specs.declared.slots.Slot.TheVariants.{Principal, Host}
-use Rattle.kob_script.specs.Faults.{both}
-use Rattle.kob_script.specs.Reading.{◌>>=◌}
-use Rattle.kob_script.specs.Slots.{Values, row_fault, values_of}
+use Rattle.kob_rights.specs.declared.request.Request.{Request}
+use Rattle.kob_script.specs.Command.{acl_row, command_named, filter_row, row, row_named, Values, row_fault, values_of}
+use Rattle.kob_script.specs.Reading.{◌>>=◌, found_or, both}
 use Rattle.kob_script.specs.Texts.{named_principal, named_host}
 use Rattle.kob_script.specs.Word.{Word}
+use Rattle.kob_script.specs.declared.command.Command.TheVariants.{CreateTopic, DeleteTopic, Metadata, Produce, Fetch, ListOffsets, DeleteRecords, InitProducer, Commit, Committed, Groups, DeleteGroup, CreateAcl, DescribeAcls, DeleteAcls}
+use Rattle.kob_script.specs.declared.command.Command.{Command}
+use Rattle.kob_script.specs.declared.command.Place.TheVariants.{One}
+use Rattle.kob_script.specs.declared.command.Place.{Place}
+use Rattle.kob_script.specs.declared.command.Slot.TheVariants.{Principal, Host}
+use Rattle.kob_script.specs.declared.fault.FaultKind.TheVariants.{Usage, NoAction, BadName, BadMix, NoResource, NoPrincipal, BadLine}
+use Rattle.kob_script.specs.declared.fault.FaultKind.{FaultKind}
+use Rattle.kob_script.specs.declared.fault.LineError.TheVariants as line_error
+use Rattle.kob_script.specs.declared.fault.LineError.{LineError}
+
+-- the kind of a fault of options; lack of memory is never one of theirs
+abbrev pub kind_of : CommandFault → FaultKind
+kind_of options.NoAction = NoAction
+kind_of (options.BadName word) = BadName
+kind_of options.BadMix = BadMix
+kind_of options.NoResource = NoResource
+kind_of options.NoPrincipal = NoPrincipal
+kind_of options.Memory = Usage
+
+-- why options are no commands
+abbrev pub error_of : CommandFault → LineError
+error_of options.Memory = line_error.Memory
+error_of fault = line_error.Fault (kind_of fault)
+
+-- the commands, unless there are faults, of which the first counts
+abbrev pub unless_faults : List CommandFault → List AclCommand → Result (List AclCommand) FaultKind
+unless_faults [] commands = Ok commands
+unless_faults (fault ∷ others) commands = Err (kind_of fault)
+
+-- the commands of options
+abbrev pub commands_in : CliArgs → Result (List AclCommand) FaultKind
+commands_in args = unless_faults (faults args) (commands args)
+
+-- the commands of clap's answer: options, or nothing where it refuses the words
+abbrev pub acl_commands : Option CliArgs → Result (List AclCommand) FaultKind
+acl_commands answer = found_or Usage answer >>= commands_in
+
+abbrev pub acl_request : AclCommand → Request
+acl_request (Create drafts) = ask.CreateAcls (record { drafts = drafts })
+acl_request (Delete filter) = ask.DeleteAcls (record { filter = filter })
+acl_request (Describe filter) = ask.DescribeAcls (record { filter = filter })
 
 -- the filter that the words of its row stand for
 abbrev pub filter_by : Values filter_row → BindingFilter
@@ -79,14 +114,12 @@ request_by CreateAcl values = ask.CreateAcls (record { drafts = draft_by values 
 request_by DescribeAcls values = ask.DescribeAcls (record { filter = filter_by values })
 request_by DeleteAcls values = ask.DeleteAcls (record { filter = filter_by values })
 
--- what a command asks for by the words after it
+-- what a command asks for by the words after it; by cases, as their values are of its own type
 unfoldable pub request_of : Command → List Word → Result Request FaultKind
+request_of InitProducer words = values_of [] words >>= λ values. Ok (request_by InitProducer values)
 request_of command words = values_of (row command) words >>= λ values. Ok (request_by command values)
 
--- what the words of a binding, and those of a filter, ask for
-abbrev pub draft_with : (Draft → Request) → List Word → Result Request FaultKind
-draft_with ask words = values_of (row CreateAcl) words >>= λ values. Ok (ask (draft_by values))
-
+-- what the words of a filter ask for
 abbrev pub filter_with : (BindingFilter → Request) → List Word → Result Request FaultKind
 filter_with ask words = values_of filter_row words >>= λ values. Ok (ask (filter_by values))
 

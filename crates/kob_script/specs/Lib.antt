@@ -1,4 +1,3 @@
-pub mod Acl
 pub mod Batches
 pub mod Blocks
 pub mod Checks
@@ -6,8 +5,6 @@ pub mod ClapAnswer
 pub mod Command
 pub mod CommandLines
 pub mod Escapes
-pub mod Faults
-pub mod Keywords
 pub mod Numbers
 pub mod PrintedBody
 pub mod PrintedFault
@@ -17,7 +14,6 @@ pub mod Requests
 pub mod Script
 pub mod ScriptReadings
 pub mod Settings
-pub mod Slots
 pub mod Texts
 pub mod Word
 pub mod Words

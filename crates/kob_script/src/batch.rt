@@ -10,8 +10,8 @@ ghost use Rattle.kob_script.specs.Reading.{Gives};
 
 use crate::escape::{bytes_of, may_have_escapes};
 use crate::fault::{FaultKind, LineError};
-use crate::number::number_in;
-use crate::word::Word;
+use crate::values::number_in;
+use crate::words::Word;
 use bstr::ByteSlice;
 use kob_names::{Bytes, Idem, Items, Record};
 use std::alloc::{AllocError, Global};

@@ -6,7 +6,42 @@ ghost use Rattle.std.specs.Prelude.{◌≡◌};
 ghost use Rattle.std.specs.Str.{bytes_eq};
 ghost use Rattle.kob_script.specs.Command.{command_named, row, row_named};
 
-use crate::slots::{Place, Slot};
+/// What a word writes.
+#[derive(Clone, Copy, Debug, PartialEq, Eq)]
+pub enum Slot {
+    /// A name in UTF-8.
+    Text,
+    Principal,
+    Host,
+    /// Decimal digits of a number of 64 bits.
+    Number,
+    /// `-2` or `-1`.
+    StartOrEnd,
+    /// A number or `-1`.
+    OffsetOrEnd,
+    /// `-` or `ID:EPOCH:BASE`.
+    Producer,
+    Permission,
+    Operation,
+    Resource,
+    Pattern,
+    /// A pattern, `match`, `any`, or `-` for `any`.
+    FilterPattern,
+}
+
+/// The words that are at a place of a row.
+#[derive(Clone, Copy, Debug, PartialEq, Eq)]
+pub enum Place {
+    One(Slot),
+    /// One word, or `-` for ANY.
+    OrDash(Slot),
+    /// One word, or none.
+    OrNone(Slot),
+    /// All words that are left, each a record.
+    Records,
+    /// All words that are left, each a text.
+    Texts,
+}
 
 /// What a line asks for. `acl` is not among these, since it may ask for more than one request, or
 /// none.

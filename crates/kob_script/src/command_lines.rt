@@ -2,25 +2,70 @@
 
 ghost use Rattle.std.specs.Prelude.{◌≡◌, ◌∷◌, [], IfOk, Ok};
 ghost use Rattle.kob_script.specs.Command.{command_named};
-ghost use Rattle.kob_script.specs.CommandLines.{acl_events, asks_by_acl, command_events};
-ghost use Rattle.kob_script.specs.CommandLines.{events_of, request_of};
+ghost use Rattle.kob_script.specs.CommandLines.{acl_events, asks_by_acl, command_events, events_of};
 ghost use Rattle.kob_script.specs.Reading.{Gives, counted};
 
 use crate::acl::{acl_commands, events_by};
-use crate::acl_requests::{create_acl, delete_acls, describe_acls};
-use crate::asked::Asked;
-use crate::command::{Command, command_named};
+use crate::command::command_named;
 use crate::fault::{FaultKind, LineError};
-use crate::faults::{check_line, check_texts};
-use crate::group_requests::{commit, committed, delete_group, groups, init_producer};
-use crate::text::{named_host, named_principal};
-use crate::topic_requests::{
-    create_topic, delete_records, delete_topic, fetch, list_offsets, metadata, produce,
-};
-use crate::word::Word;
+use crate::faults::check_line;
+use crate::request::request_of;
+use crate::values::{named_host, named_principal, texts_of};
+use crate::words::Word;
 use kob_acl_cli::CliArgs;
-use kob_rights::{Event, Request};
+use kob_rights::Event;
 use std::alloc::Global;
+use std::collections::VecDeque;
+use std::marker::Model;
+
+/// The events that a line asks for, in order. One event takes no list, and so no memory.
+#[derive(Debug, Drop)]
+pub struct Asked {
+    pub first: Option<Event>,
+    pub others: VecDeque<Event>,
+}
+
+impl Model for Asked {
+    ghost use Rattle.std.specs.List.{cons_option};
+    ghost use Rattle.std.specs.Prelude.{List};
+    ghost use Rattle.kob_rights.specs.declared.event.Event.{Event};
+
+    ghost Value = { List Event };
+
+    ghost view = { λ asked. cons_option asked.first asked.others.items };
+}
+
+impl Asked {
+    /// No event; no memory is taken.
+    pub fn nothing(alloc: Global) -> Asked
+        ensures { result ≡ [] }
+    {
+        Asked {
+            first: None,
+            others: VecDeque::new(alloc),
+        }
+    }
+
+    /// One event; no memory is taken.
+    pub fn one(alloc: Global, event: Event) -> Asked
+        ensures { result ≡ event ∷ [] }
+    {
+        Asked {
+            first: Some(event),
+            others: VecDeque::new(alloc),
+        }
+    }
+
+    /// The events of a list; no memory is taken.
+    pub fn several(events: Vec<Event>) -> Asked
+        ensures { result ≡ events.items }
+    {
+        Asked {
+            first: None,
+            others: VecDeque::from(events),
+        }
+    }
+}
 
 /// How many events a line's words ask for, by `clap`'s answer to those of `acl`. The fault is that
 /// of the words, or of `acl`'s options; no event is made.
@@ -95,7 +140,7 @@ fn acl_events(
     ensures { IfOk result (λ events.
         acl_events answer.now principal.now host.now arguments.now ≡ Ok events.items) }
 {
-    check_texts(alloc, arguments)?;
+    texts_of(alloc, arguments)?;
     let commands = acl_commands(alloc, answer)?;
     let principal = named_principal(alloc, principal)?;
     let host = named_host(alloc, host)?;
@@ -124,26 +169,4 @@ fn command_event(
         host,
         request,
     })
-}
-
-fn request_of(alloc: Global, command: Command, words: &[Word<'_>]) -> Result<Request, LineError>
-    ensures { IfOk result (λ made. request_of command words.now ≡ Ok made) }
-{
-    match command {
-        Command::CreateTopic => create_topic(alloc, words),
-        Command::DeleteTopic => delete_topic(alloc, words),
-        Command::Metadata => metadata(alloc, words),
-        Command::Produce => produce(alloc, words),
-        Command::Fetch => fetch(alloc, words),
-        Command::ListOffsets => list_offsets(alloc, words),
-        Command::DeleteRecords => delete_records(alloc, words),
-        Command::InitProducer => init_producer(words),
-        Command::Commit => commit(alloc, words),
-        Command::Committed => committed(alloc, words),
-        Command::Groups => groups(words),
-        Command::DeleteGroup => delete_group(alloc, words),
-        Command::CreateAcl => create_acl(alloc, words),
-        Command::DescribeAcls => describe_acls(alloc, words),
-        Command::DeleteAcls => delete_acls(alloc, words),
-    }
 }

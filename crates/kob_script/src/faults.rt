@@ -1,22 +1,21 @@
 //! The fault of a line's words: the first kind, in the order of the kinds, that some word has.
 
-ghost use Rattle.std.specs.Prelude.{◌≡◌, ◌∷◌, [], Some, Option};
+ghost use Rattle.std.specs.Prelude.{◌≡◌, ◌∷◌, [], Some, Option, Result};
 ghost use Rattle.kob_script.specs.CommandLines.{asked_row, line_fault};
-ghost use Rattle.kob_script.specs.Faults.{Finds, earlier, earlier_kind, first_kind};
-ghost use Rattle.kob_script.specs.Reading.{each, fault_in};
-ghost use Rattle.kob_script.specs.Slots.{faults_in, place_fault, row_fault, slot_fault};
-ghost use Rattle.kob_script.specs.Slots.{words_behind};
-ghost use Rattle.kob_script.specs.Texts.{text_of};
+ghost use Rattle.kob_script.specs.Reading.{Finds, Gives, earlier, earlier_kind, fault_in};
+ghost use Rattle.kob_script.specs.Reading.{first_kind};
+ghost use Rattle.kob_script.specs.Command.{faults_in, place_fault, row_fault, slot_fault};
+ghost use Rattle.kob_script.specs.Command.{words_behind};
 ghost use Rattle.kob_script.specs.declared.fault.FaultKind as kinds;
 
 use crate::batch::idem_of;
-use crate::command::row_named;
+use crate::command::{Place, Slot, row_named};
 use crate::fault::{FaultKind, LineError};
-use crate::keyword::{filter_pattern_of, known};
-use crate::number::{before_of, number_of, which_of};
-use crate::slots::{Place, Slot};
-use crate::text::{lent_text_of, named_host, named_principal, texts_of};
-use crate::word::Word;
+use crate::values::{
+    before_of, filter_pattern_of, known, lent_text_of, named_host, named_principal, number_of,
+    texts_of, which_of,
+};
+use crate::words::Word;
 use kob_words::{operation_named, pattern_named, permission_named, resource_named};
 use std::alloc::Global;
 
@@ -80,7 +79,10 @@ fn check_place(alloc: Global, place: Place, words: &[Word<'_>]) -> Result<(), Li
 {
     match place {
         Place::Records => Ok(()),
-        Place::Texts => check_texts(alloc, words),
+        Place::Texts => {
+            texts_of(alloc, words)?;
+            Ok(())
+        }
         Place::One(slot) => match words.split_first() {
             Some((word, _)) => check_slot(alloc, slot, word),
             None => Err(LineError::Fault(FaultKind::BadLine)),
@@ -122,11 +124,11 @@ fn earlier_kind(kind: FaultKind, other: FaultKind) -> FaultKind
     }
 }
 
-/// The fault is `BadText`.
-pub fn check_texts(alloc: Global, words: &[Word<'_>]) -> Result<(), LineError>
-    ensures { Finds result (fault_in (each text_of words.now)) }
+// Whether something was read, which is dropped.
+fn tested<T: Drop>(read: Result<T, LineError>) -> Result<(), LineError>
+    ensures { (told : Result T kinds.FaultKind) → Gives read told → Finds result (fault_in told) }
 {
-    texts_of(alloc, words)?;
+    read?;
     Ok(())
 }
 
@@ -136,40 +138,18 @@ fn check_slot(alloc: Global, slot: Slot, word: &Word<'_>) -> Result<(), LineErro
     match slot {
         Slot::Text => {
             lent_text_of(word)?;
+            Ok(())
         }
-        Slot::Principal => {
-            named_principal(alloc, word)?;
-        }
-        Slot::Host => {
-            named_host(alloc, word)?;
-        }
-        Slot::Number => {
-            number_of(word)?;
-        }
-        Slot::StartOrEnd => {
-            which_of(word)?;
-        }
-        Slot::OffsetOrEnd => {
-            before_of(word)?;
-        }
-        Slot::Producer => {
-            idem_of(alloc, word)?;
-        }
-        Slot::Permission => {
-            known(permission_named(word.decoded()))?;
-        }
-        Slot::Operation => {
-            known(operation_named(word.decoded()))?;
-        }
-        Slot::Resource => {
-            known(resource_named(word.decoded()))?;
-        }
-        Slot::Pattern => {
-            known(pattern_named(word.decoded()))?;
-        }
-        Slot::FilterPattern => {
-            filter_pattern_of(word)?;
-        }
+        Slot::Principal => tested(named_principal(alloc, word)),
+        Slot::Host => tested(named_host(alloc, word)),
+        Slot::Number => tested(number_of(word)),
+        Slot::StartOrEnd => tested(which_of(word)),
+        Slot::OffsetOrEnd => tested(before_of(word)),
+        Slot::Producer => tested(idem_of(alloc, word)),
+        Slot::Permission => tested(known(permission_named(word.decoded()))),
+        Slot::Operation => tested(known(operation_named(word.decoded()))),
+        Slot::Resource => tested(known(resource_named(word.decoded()))),
+        Slot::Pattern => tested(known(pattern_named(word.decoded()))),
+        Slot::FilterPattern => tested(filter_pattern_of(word)),
     }
-    Ok(())
 }

@@ -4,19 +4,18 @@ ghost use Rattle.std.specs.Prelude.{◌≡◌, ◌≤◌, ℕ, List, Option, Som
 ghost use Rattle.kob_acl_cli.specs.declared.args.CliArgs.{CliArgs};
 ghost use Rattle.kob_script.specs.CommandLines.{asks_by_acl, events_of, line_fault};
 ghost use Rattle.kob_script.specs.Escapes.{LeavesWhole};
-ghost use Rattle.kob_script.specs.Faults.{IsAmong, rank};
-ghost use Rattle.kob_script.specs.Reading.{counted};
+ghost use Rattle.kob_script.specs.Reading.{IsAmong, rank, counted};
 ghost use Rattle.kob_script.specs.Script.{script_of};
 ghost use Rattle.kob_script.specs.ScriptReadings.{HasNoAclLine, ReadsAs};
-ghost use Rattle.kob_script.specs.Slots.{faults_in, row_fault};
+ghost use Rattle.kob_script.specs.Command.{faults_in, row_fault};
 ghost use Rattle.kob_script.specs.Word.{Word};
 ghost use Rattle.kob_script.specs.declared.fault.Fault.{Fault};
 ghost use Rattle.kob_script.specs.declared.fault.FaultKind.{FaultKind};
 ghost use Rattle.kob_script.specs.declared.script.Script.{Script};
-ghost use Rattle.kob_script.specs.declared.slots.Place.{Place};
+ghost use Rattle.kob_script.specs.declared.command.Place.{Place};
 
 /// A script without `acl` lines may be read in one way alone.
-#[tactic(auto, using(crate::proofs::PlainScripts::one_reading))]
+#[tactic(auto, using(crate::proofs::CheckedLines::one_reading))]
 pub fn plain_scripts_have_one_reading()
     ensures { (text : List ℕ) (read : Result Script Fault)
         → HasNoAclLine text → ReadsAs text read → read ≡ script_of text }

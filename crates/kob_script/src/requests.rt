@@ -1,18 +1,15 @@
 //! The requests of a script that was checked, each read when it is its turn.
 
-ghost use Rattle.std.specs.Prelude.{◌≡◌, ◌<◌, ◌++◌, ◌∷◌, length};
-ghost use Rattle.std.specs.Prelude.{IfOk, OnOk, OnErr};
+ghost use Rattle.std.specs.Prelude.{◌≡◌, ◌<◌, ◌++◌, ◌∷◌, length, IfOk, OnOk, OnErr};
 ghost use Rattle.kob_script.specs.Blocks.{lines_in_blocks, lines_left, steps_left};
-ghost use Rattle.kob_script.specs.Requests.{answers_after, first_answer, line_words};
-ghost use Rattle.kob_script.specs.Requests.{requests_in, requests_of};
+ghost use Rattle.kob_script.specs.Requests.{answers_after, first_answer, line_words, requests_in};
+ghost use Rattle.kob_script.specs.Requests.{requests_of};
 
-use crate::asked::Asked;
+use crate::acl::asks_clap;
 use crate::blocks::{Blocks, first_line};
-use crate::clap_answer::asks_clap;
-use crate::command_lines::events_in;
+use crate::command_lines::{Asked, events_in};
 use crate::setting::is_setting;
-use crate::word::Word;
-use crate::words::words_of;
+use crate::words::{Word, words_of};
 use kob_acl_cli::CliArgs;
 use kob_names::Bytes;
 use kob_rights::Event;

@@ -5,8 +5,8 @@ ghost use Rattle.kob_script.specs.Reading.{Gives};
 ghost use Rattle.kob_script.specs.Settings.{everyone_of, is_setting, is_super, super_of};
 
 use crate::fault::{FaultKind, LineError};
-use crate::text::{lent_text_of, principal_of};
-use crate::word::Word;
+use crate::values::{lent_text_of, principal_of};
+use crate::words::Word;
 use kob_names::Principal;
 use std::alloc::Global;
 

@@ -14,6 +14,8 @@ mod outbox;
 #[cfg(test)]
 mod refused;
 #[cfg(test)]
+mod relays;
+#[cfg(test)]
 mod rotations;
 #[cfg(test)]
 mod routes;

@@ -8,7 +8,7 @@ use uuid::Uuid;
 
 /// A business row and its event, of which the text at this place is another: from 0 for the kind of
 /// the business row to 6 for the payload.
-fn record_of(
+pub(crate) fn record_of(
     alloc: Global,
     event_id: u128,
     at: usize,
@@ -210,7 +210,7 @@ fn a_row_is_copied(rt: HostRuntime) -> Result<(), Fail> {
 }
 
 /// The mark, and the number of rows.
-fn left(outbox: &mut Outbox) -> Result<(u64, usize), OutboxFault> {
+pub(crate) fn left(outbox: &mut Outbox) -> Result<(u64, usize), OutboxFault> {
     let mark = outbox.mark()?;
     Ok((mark, outbox.after(0, 10)?.len()))
 }

@@ -18,7 +18,7 @@ fn create_two(alloc: Global, catalog: &mut Catalog) -> Result<(), CreateFault> {
 fn third_comes(alloc: Global, catalog: &mut Catalog) -> Option<bool> {
     create_two(alloc, catalog).ok()?;
     let name = TopicName::parse(alloc, "c").ok()?;
-    let prepared = catalog.prepare_create(alloc, &name, 5).ok()?;
+    let prepared = catalog.prepare_create(alloc, name.as_text(), 5).ok()?;
     spare(alloc);
     catalog.commit_create(prepared);
     Some(catalog.len() == 3 && catalog.partitions(name.as_text()) == Some(5))
@@ -40,7 +40,9 @@ fn refuses(
     partitions: u64,
     fault: CreateFault,
 ) -> bool {
-    let prepared = catalog.prepare_create(alloc, &name, partitions).err();
+    let prepared = catalog
+        .prepare_create(alloc, name.as_text(), partitions)
+        .err();
     let created = catalog.create(alloc, name, partitions);
     prepared == Some(fault) && created == Err(fault)
 }

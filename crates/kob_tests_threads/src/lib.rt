@@ -22,6 +22,8 @@ mod plans;
 #[cfg(test)]
 mod refused;
 #[cfg(test)]
+mod relays;
+#[cfg(test)]
 mod revoked;
 #[cfg(test)]
 mod sessions;

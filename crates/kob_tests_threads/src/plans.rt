@@ -46,15 +46,21 @@ pub(crate) enum Act {
 
 /// An event about the thing `42` of a kind.
 fn recording(alloc: Global, kind: &str, id: u128) -> Result<ServiceStep, AllocError> {
-    let change = Change {
-        kind: String::from_str(alloc, "order")?,
-        id: String::from_str(alloc, "42")?,
-        state: String::from_str(alloc, "paid")?,
-    };
+    let change = change(alloc)?;
     Ok(ServiceStep::Record(change, outbox_event(alloc, kind, id)?))
 }
 
-fn outbox_event(alloc: Global, kind: &str, id: u128) -> Result<OutboxEvent, AllocError> {
+/// An order is paid.
+pub(crate) fn change(alloc: Global) -> Result<Change, AllocError> {
+    Ok(Change {
+        kind: String::from_str(alloc, "order")?,
+        id: String::from_str(alloc, "42")?,
+        state: String::from_str(alloc, "paid")?,
+    })
+}
+
+/// The event with this id about the thing `42` of a kind.
+pub(crate) fn outbox_event(alloc: Global, kind: &str, id: u128) -> Result<OutboxEvent, AllocError> {
     Ok(OutboxEvent {
         id: Uuid::from_u128(id),
         aggregate_type: String::from_str(alloc, kind)?,
@@ -83,12 +89,17 @@ fn push_steps(alloc: Global, steps: &mut Vec<ServiceStep>, acts: &[Act]) -> Opti
     Some(())
 }
 
-fn target(alloc: Global) -> Option<Target> {
+/// The default route.
+pub(crate) fn route(alloc: Global) -> Option<Route> {
     let settings = RouteSettings::by_default(alloc).ok()?;
     let route = Route::new(alloc, &settings);
     drop(settings);
+    route.ok()
+}
+
+fn target(alloc: Global) -> Option<Target> {
     Some(Target {
-        route: route.ok()?,
+        route: route(alloc)?,
         partitions: 1,
     })
 }

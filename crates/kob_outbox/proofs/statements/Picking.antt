@@ -1,10 +1,10 @@
 -- The rows that a query over one table picks.
-use Rattle.std.proofs.Common.{◌≡◌, ◌≤◌, ℕ, Ordering, List, [], ◌∷◌, length, map, reverse, sym, filter, flat_map, Bool, true, inl, inr, ◌<◌, refl, if◌then◌else◌, Less, ap, subst, ◌∙◌, arith, IsPermutation}
+use Rattle.std.proofs.Common.{◌≡◌, ◌≤◌, ℕ, Ordering, List, [], ◌∷◌, length, map, filter, flat_map, Bool, true, inl, inr, ◌<◌, refl, if◌then◌else◌, Less, ap, subst, ◌∙◌, arith, IsPermutation}
 use Rattle.std.proofs.lemmas.Bool.{cases_Bool}
-use Rattle.std.proofs.lemmas.List.{length-map, reverse-append}
-use Rattle.std.proofs.lemmas.List.Sorted.{length_permutation, IsPermutation-reverse, IsPermutation-trans, IsPermutation-sym}
+use Rattle.std.proofs.lemmas.List.{length-map}
+use Rattle.std.proofs.lemmas.List.Sorted.{length_permutation}
 use Rattle.std.specs.List.{list_all}
-use Rattle.kob_outbox.proofs.statements.Words.{Env, IsAnswer, IsAscending, Output, Query, Row, Trees, all-permutation, all_weaker, ascending-append, ascending-map, ascending_weaker, holds, map-map, one_permutation, output, output_cmp, output_cmp_total, overlay, page, sorted_unique}
+use Rattle.kob_outbox.proofs.statements.Words.{Env, IsAnswer, IsAscending, Output, Query, Row, Trees, ascending-map, ascending_weaker, holds, map-map, one_permutation, output, output_cmp, output_cmp_total, overlay, page, sorted_unique}
 use Rattle.kob_outbox.proofs.statements.Selecting.{Scan, query_of}
 
 -- the permutations of a list of one element at most
@@ -13,16 +13,6 @@ alone_order [] [] short same = refl
 alone_order [] (y ∷ ys) short same = absurd (omega (arith, length_permutation _ _ same))
 alone_order (x ∷ []) ys short same = one_permutation x ys same
 alone_order (x ∷ y ∷ xs) ys short same = absurd (omega (arith, short))
-
--- a list that falls rises when it is reversed
-ascending_back : {A : Type 0} (R : A → A → Type 0) (xs : List A) → IsAscending (λ a b. R b a) xs
-    → IsAscending R (reverse xs)
-ascending_back R [] up = tt
-ascending_back R (x ∷ xs) up =
-    subst (IsAscending R) (sym (reverse-append (x ∷ []) xs))
-    (ascending-append R (reverse xs) (x ∷ []) (ascending_back R xs up.1) (tt, tt)
-    (all-permutation _ xs (reverse xs) (IsPermutation-reverse xs)
-    (all_weaker (λ y. R y x) (λ y. R y x × Unit {0}) (λ y h. (h, tt)) xs up.0)))
 
 pub all_stay : {X : Type 0} (xs : List X) → filter (λ x. true) xs ≡ xs
 all_stay [] = refl
@@ -71,14 +61,6 @@ module _ {X : Type 0} (s : Scan) (params : Row) (row : X → Row) (test : X → 
         a.shown ∙ ap paged
         (sorted_unique (output_cmp q) (output_cmp_total q) outs a.ordered rising same_rows a.sorted)
 
-    -- and those that fall the other way round
-    pub turned_round : IsAscending (λ a b. output_cmp q b a ≡ Less) outs → rows ≡ paged (reverse outs)
-    turned_round down =
-        let back : IsPermutation (reverse outs) a.ordered =
-        IsPermutation-trans _ outs _ (IsPermutation-sym _ _ (IsPermutation-reverse outs)) same_rows in
-        a.shown ∙ ap paged (sorted_unique (output_cmp q) (output_cmp_total q) (reverse outs) a.ordered
-        (ascending_back _ outs down) back a.sorted)
-
     -- one row has no order
     pub one_at_most : length found ≤ 1 → rows ≡ paged outs
     one_at_most short =
@@ -95,9 +77,3 @@ module _ {X : Type 0} (number : X → ℕ) (s : Scan) (out : X → Output) where
   rises below xs rising =
       ascending-map (λ a b. cmp a b ≡ Less) out xs
       (ascending_weaker {A = X} (λ x y. number x < number y) (λ x y. cmp (out x) (out y) ≡ Less) below xs rising)
-
-  pub falls : ((x y : X) → number x < number y → cmp (out y) (out x) ≡ Less) → (xs : List X)
-      → IsAscending (λ x y. number x < number y) xs → IsAscending (λ a b. cmp b a ≡ Less) (map out xs)
-  falls below xs rising =
-      ascending-map (λ a b. cmp b a ≡ Less) out xs
-      (ascending_weaker {A = X} (λ x y. number x < number y) (λ x y. cmp (out y) (out x) ≡ Less) below xs rising)

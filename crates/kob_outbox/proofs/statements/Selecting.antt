@@ -44,10 +44,6 @@ no_limit = lit (Int (negsuc 0))
 abbrev pub by_key : List (Term × Key)
 by_key = (col 1 0, record { collation = Binary; descending = false }) ∷ []
 
--- by the table's key, the greatest first
-abbrev pub by_key_back : List (Term × Key)
-by_key_back = (col 1 0, record { collation = Binary; descending = true }) ∷ []
-
 -- the text is this query over one table, and takes these parameters
 pub record IsSelect (schema : Schema) (text : List ℕ) (params : Row) (s : Scan) : Type 0 where
   pub is : (names : List (List ℕ)) × (command_of (understood schema text) ≡ Select (program_of s) names)

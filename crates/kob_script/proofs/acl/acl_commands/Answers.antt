@@ -1,5 +1,5 @@
 use Rattle.kob_acl_cli.specs.Commands.{commands, faults}
-use Rattle.kob_script.proofs.AclFaults.{fails_first_of}
+use Rattle.kob_script.proofs.LineFaults.{fails_first_of}
 use Rattle.kob_script.proofs.acl.acl_commands.Goals as goal
 
 pub returns-in-Err : goal.returns-in-Err

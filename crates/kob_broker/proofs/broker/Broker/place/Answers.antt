@@ -1,15 +1,14 @@
-use Rattle.std.proofs.Common.{ap, refl, subst, sym, ◌∙◌}
+use Rattle.std.proofs.Common.{refl, subst, sym, ◌∙◌}
 use Rattle.std.specs.Prelude.{Err, Ok}
 use Rattle.kob_catalog.proofs.Lent.{written_is_read}
 use Rattle.kob_partition.specs.Append.{IsPlacement}
 use Rattle.kob_partition.specs.Retained.{retained_meaning}
 use Rattle.kob_partition.specs.declared.placement.Placement.TheVariants.{New, Repeated}
 use Rattle.kob_partition.specs.Log.{CanCommit}
-use Rattle.kob_rights.specs.declared.reason.Reason.TheVariants as reasons
 use Rattle.kob_rights.specs.declared.request.Request.TheVariants as requests
 use Rattle.kob_broker.specs.Change.{MakesFor}
 use Rattle.kob_broker.specs.Placed.{prepared_for}
-use Rattle.kob_broker.proofs.Placing.{bad_batch_makes, next_makes, reason_of, refused_batch_makes, repeat_makes, state_stays, written}
+use Rattle.kob_broker.proofs.Placing.{bad_batch_makes, next_makes, refused_batch_makes, repeat_makes, state_stays, written}
 use Rattle.kob_broker.proofs.broker.Broker.place.Goals as goal
 
 pub returns-in-Some-clause-state : goal.returns-in-Some-clause-state
@@ -26,26 +25,6 @@ returns-in-Ok-Repeated-clause-state c =
     state_stays c.args.self.now c.args.produce.now c.in-Ok.log.now c.prepare_append.new.self c.in-Ok.ensures.log
     c.prepare_append.ensures.kept
 
-pub returns-in-Err-OldEpoch-clause-state : goal.returns-in-Err-OldEpoch-clause-state
-returns-in-Err-OldEpoch-clause-state c =
-    state_stays c.args.self.now c.args.produce.now c.in-Ok.log.now c.prepare_append.new.self c.in-Ok.ensures.log
-    c.prepare_append.ensures.kept
-
-pub returns-in-Err-OutOfOrder-clause-state : goal.returns-in-Err-OutOfOrder-clause-state
-returns-in-Err-OutOfOrder-clause-state c =
-    state_stays c.args.self.now c.args.produce.now c.in-Ok.log.now c.prepare_append.new.self c.in-Ok.ensures.log
-    c.prepare_append.ensures.kept
-
-pub returns-in-Err-OffsetsSpent-clause-state : goal.returns-in-Err-OffsetsSpent-clause-state
-returns-in-Err-OffsetsSpent-clause-state c =
-    state_stays c.args.self.now c.args.produce.now c.in-Ok.log.now c.prepare_append.new.self c.in-Ok.ensures.log
-    c.prepare_append.ensures.kept
-
-pub returns-in-Err-Memory-clause-state : goal.returns-in-Err-Memory-clause-state
-returns-in-Err-Memory-clause-state c =
-    state_stays c.args.self.now c.args.produce.now c.in-Ok.log.now c.prepare_append.new.self c.in-Ok.ensures.log
-    c.prepare_append.ensures.kept
-
 pub returns-in-Some-clause-ok : goal.returns-in-Some-clause-ok
 returns-in-Some-clause-ok c =
     let produce = c.args.produce.now in let log = c.in-Ok.log.now in
@@ -55,54 +34,6 @@ returns-in-Some-clause-ok c =
     subst (λ placed. MakesFor (requests.Produce produce) broker (prepared_for produce placed))
     (sym c.refused-in-Some.ensures)
     (bad_batch_makes broker produce log there c.in-Some.reason (sym c.against_batch.ensures ∙ c.in-Some.is))
-
-pub returns-in-Err-OldEpoch-clause-ok : goal.returns-in-Err-OldEpoch-clause-ok
-returns-in-Err-OldEpoch-clause-ok c =
-    let produce = c.args.produce.now in let log = c.prepare_append.new.self in
-    let broker = written c.args.self.now produce log in
-    let there =
-    written_is_read produce.topic produce.partition log c.in-Ok.log.now c.args.self.now.catalog.logs
-    c.in-Ok.ensures.log in
-    let good = sym c.against_batch.ensures ∙ c.in_default.is in
-    let placement =
-    subst (λ kept. IsPlacement retained_meaning kept produce.batch (Err c.in-Err-OldEpoch.field-0))
-    (sym c.prepare_append.ensures.kept) c.in-Err-OldEpoch.ensures.placement in
-    subst (λ placed. MakesFor (requests.Produce produce) broker (prepared_for produce placed))
-    (sym c.refused-in-Err-OldEpoch.ensures)
-    (refused_batch_makes broker produce log there good c.in-Err-OldEpoch.field-0 reasons.OldEpoch
-    (ap reason_of c.in-Err-OldEpoch.field-0-is) placement)
-
-pub returns-in-Err-OutOfOrder-clause-ok : goal.returns-in-Err-OutOfOrder-clause-ok
-returns-in-Err-OutOfOrder-clause-ok c =
-    let produce = c.args.produce.now in let log = c.prepare_append.new.self in
-    let broker = written c.args.self.now produce log in
-    let there =
-    written_is_read produce.topic produce.partition log c.in-Ok.log.now c.args.self.now.catalog.logs
-    c.in-Ok.ensures.log in
-    let good = sym c.against_batch.ensures ∙ c.in_default.is in
-    let placement =
-    subst (λ kept. IsPlacement retained_meaning kept produce.batch (Err c.in-Err-OutOfOrder.field-0))
-    (sym c.prepare_append.ensures.kept) c.in-Err-OutOfOrder.ensures.placement in
-    subst (λ placed. MakesFor (requests.Produce produce) broker (prepared_for produce placed))
-    (sym c.refused-in-Err-OutOfOrder.ensures)
-    (refused_batch_makes broker produce log there good c.in-Err-OutOfOrder.field-0 reasons.OutOfOrder
-    (ap reason_of c.in-Err-OutOfOrder.field-0-is) placement)
-
-pub returns-in-Err-OffsetsSpent-clause-ok : goal.returns-in-Err-OffsetsSpent-clause-ok
-returns-in-Err-OffsetsSpent-clause-ok c =
-    let produce = c.args.produce.now in let log = c.prepare_append.new.self in
-    let broker = written c.args.self.now produce log in
-    let there =
-    written_is_read produce.topic produce.partition log c.in-Ok.log.now c.args.self.now.catalog.logs
-    c.in-Ok.ensures.log in
-    let good = sym c.against_batch.ensures ∙ c.in_default.is in
-    let placement =
-    subst (λ kept. IsPlacement retained_meaning kept produce.batch (Err c.in-Err-OffsetsSpent.field-0))
-    (sym c.prepare_append.ensures.kept) c.in-Err-OffsetsSpent.ensures.placement in
-    subst (λ placed. MakesFor (requests.Produce produce) broker (prepared_for produce placed))
-    (sym c.refused-in-Err-OffsetsSpent.ensures)
-    (refused_batch_makes broker produce log there good c.in-Err-OffsetsSpent.field-0 reasons.OffsetsSpent
-    (ap reason_of c.in-Err-OffsetsSpent.field-0-is) placement)
 
 pub returns-in-Ok-Repeated-clause-ok : goal.returns-in-Ok-Repeated-clause-ok
 returns-in-Ok-Repeated-clause-ok c =
@@ -136,3 +67,29 @@ returns-in-Ok-New-clause-ok c =
     c.in-Ok-New.field-0-is c.in-Ok-New.ensures.placement) in
     next_makes broker produce log there good c.in-Ok-New.offset placement
     (subst (CanCommit log produce.batch) c.in-Ok-New.field-0-is c.in-Ok-New.ensures.room)
+
+pub returns-in-Some-reason_of-clause-state : goal.returns-in-Some-reason_of-clause-state
+returns-in-Some-reason_of-clause-state c =
+    state_stays c.args.self.now c.args.produce.now c.in-Ok.log.now c.prepare_append.new.self c.in-Ok.ensures.log
+    c.prepare_append.ensures.kept
+
+pub returns-in-None-clause-state : goal.returns-in-None-clause-state
+returns-in-None-clause-state c =
+    state_stays c.args.self.now c.args.produce.now c.in-Ok.log.now c.prepare_append.new.self c.in-Ok.ensures.log
+    c.prepare_append.ensures.kept
+
+pub returns-in-Some-reason_of-clause-ok : goal.returns-in-Some-reason_of-clause-ok
+returns-in-Some-reason_of-clause-ok c =
+    let produce = c.args.produce.now in let log = c.prepare_append.new.self in
+    let broker = written c.args.self.now produce log in
+    let there =
+    written_is_read produce.topic produce.partition log c.in-Ok.log.now c.args.self.now.catalog.logs
+    c.in-Ok.ensures.log in
+    let good = sym c.against_batch.ensures ∙ c.in_default.is in
+    let placement =
+    subst (λ kept. IsPlacement retained_meaning kept produce.batch (Err c.in-Err.fault))
+    (sym c.prepare_append.ensures.kept) c.in-Err.ensures.placement in
+    subst (λ placed. MakesFor (requests.Produce produce) broker (prepared_for produce placed))
+    (sym c.refused-in-Some-reason_of.ensures)
+    (refused_batch_makes broker produce log there good c.in-Err.fault c.in-Some-reason_of.reason
+    (sym c.reason_of.ensures ∙ c.in-Some-reason_of.is) placement)

@@ -2,17 +2,18 @@ use Rattle.std.proofs.Common.{◌≡◌, inl, sym, ap, ◌∙◌}
 use Rattle.kob_router.specs.HeaderId.{event_id}
 use Rattle.kob_inbox.specs.Contents.{Contents}
 use Rattle.kob_inbox.specs.Database.{contents}
-use Rattle.kob_inbox.specs.Intake.{answer_to}
+use Rattle.kob_inbox.specs.Intake.{answer_to, intake_of}
 use Rattle.kob_outbox.specs.Events.{id_text}
-use Rattle.kob_inbox.proofs.Answering.{seen, stored, taken}
+use Rattle.kob_outbox.specs.Service.{database}
+use Rattle.kob_inbox.proofs.Answering.{moves, seen, stays, stays_seen, stored, taken}
 use Rattle.kob_inbox.proofs.inbox.Inbox.take_in.Goals as goal
 
 pub returns-then-branch-eq0-clause-answer : goal.returns-then-branch-eq0-clause-answer
 returns-then-branch-eq0-clause-answer c =
     let found = event_id c.args.message.now in
     let text = c.encode_lower-id.ensures.text ∙ ap id_text c.hyphenated.ensures in
-    let same : contents c.last_place.new.conn ≡ c.args.self.now = c.in_ok-last.ensures.same ∙ c.self.view_is in
-    seen (contents c.last_place.new.conn) found c.in-Some.id c.encode_lower-id.result.now c.in-Some.ensures text
+    let same : contents c.self.inside.conn ≡ c.args.self.now = c.self.view_is in
+    seen (contents c.self.inside.conn) found c.in-Some.id c.encode_lower-id.result.now c.in-Some.ensures text
     c.in_ok-insert_intake.field-0 c.in_ok-insert_intake.ensures.count c.if-branch-eq0.true
     ∙ ap (λ (events : Contents). answer_to events found) same
 
@@ -20,8 +21,8 @@ pub returns-clause-answer : goal.returns-clause-answer
 returns-clause-answer c =
     let found = event_id c.args.message.now in
     let text = c.encode_lower-id.ensures.text ∙ ap id_text c.hyphenated.ensures in
-    let same : contents c.last_place.new.conn ≡ c.args.self.now = c.in_ok-last.ensures.same ∙ c.self.view_is in
-    taken (contents c.last_place.new.conn) found c.in-Some.id c.encode_lower-id.result.now c.in-Some.ensures text
+    let same : contents c.self.inside.conn ≡ c.args.self.now = c.self.view_is in
+    taken (contents c.self.inside.conn) found c.in-Some.id c.encode_lower-id.result.now c.in-Some.ensures text
     c.in_ok-insert_intake.field-0 c.in_ok-insert_intake.ensures.count c.if-branch-eq0.false
     ∙ ap (λ (events : Contents). answer_to events found) same
 
@@ -29,10 +30,35 @@ pub returns-in_err-insert_intake-clause-store : goal.returns-in_err-insert_intak
 returns-in_err-insert_intake-clause-store c = λ h.
     let found = event_id c.args.message.now in
     let text = c.encode_lower-id.ensures.text ∙ ap id_text c.hyphenated.ensures in
-    let same : contents c.last_place.new.conn ≡ c.args.self.now = c.in_ok-last.ensures.same ∙ c.self.view_is in
+    let same : contents c.self.inside.conn ≡ c.args.self.now = c.self.view_is in
     inl (
     ap (λ (events : Contents). answer_to events found) (sym same)
-    ∙ stored (contents c.last_place.new.conn) found c.in-Some.id c.encode_lower-id.result.now c.in-Some.ensures text
-    c.from_residual-in_err-insert_intake.result c.in_err-insert_intake.field-0.0
-    c.from_residual-in_err-insert_intake.ensures.1 c.in_err-insert_intake.ensures.again h
+    ∙ stored (contents c.self.inside.conn) found c.in-Some.id c.encode_lower-id.result.now c.in-Some.ensures text
+    c.from_residual.result c.in_err-insert_intake.field-0.0
+    c.from_residual.ensures.1 c.in_err-insert_intake.ensures.again h
     )
+
+pub invariant_of-self : goal.invariant_of-self
+invariant_of-self c =
+    stays c.self.inside.last (database c.self.inside.conn) (database c.insert_intake.new.conn) c.self.invariant
+    c.insert_intake.ensures.inbox c.in_err-insert_intake.ensures.err
+
+pub invariant_of-self-then-branch-eq0 : goal.invariant_of-self-then-branch-eq0
+invariant_of-self-then-branch-eq0 c =
+    stays_seen c.self.inside.last (database c.self.inside.conn) (database c.insert_intake.new.conn) c.self.invariant
+    c.insert_intake.ensures.inbox (intake_of c.encode_lower-id.result.now (record {
+      place = record { topic = c.args.topic.now; partition = c.args.partition };
+      offset = c.args.offset;
+      message = c.args.message.now;
+    })) c.in_ok-insert_intake.ensures.ok c.in_ok-insert_intake.field-0 c.in_ok-insert_intake.ensures.count
+    c.if-branch-eq0.true
+
+pub invariant_of-self-2 : goal.invariant_of-self-2
+invariant_of-self-2 c =
+    moves c.self.inside.last (database c.self.inside.conn) (database c.insert_intake.new.conn) c.self.invariant
+    c.insert_intake.ensures.inbox (intake_of c.encode_lower-id.result.now (record {
+      place = record { topic = c.args.topic.now; partition = c.args.partition };
+      offset = c.args.offset;
+      message = c.args.message.now;
+    })) c.in_ok-insert_intake.ensures.ok c.in_ok-insert_intake.field-0 c.in_ok-insert_intake.ensures.count
+    c.if-branch-eq0.false

@@ -3,7 +3,8 @@ use Rattle.std.specs.List.{IsDistinct}
 use Rattle.std.specs.Map.{keys_of, lookup, set_value}
 use Rattle.std.proofs.lemmas.Option.{get_or_from_slice_get}
 use Rattle.kob_names.specs.Same.{same_text}
-use Rattle.kob_ordered.specs.Slots.{IsSound, Stands, entries_in, with_value_in}
+use Rattle.kob_ordered.specs.Slots.{IsSound, Stands, entries_in, names_in, with_value_in}
+use Rattle.kob_ordered.proofs.Places.{names_written}
 use Rattle.kob_ordered.proofs.Sound.{sound_written, value_at, written}
 use Rattle.kob_ordered.proofs.ordered_map.OrderedMap.get_mut.Goals as goal
 
@@ -33,6 +34,8 @@ returns g c =
               ∙ ap (λ m. set_value (same_text name) m.entries w) c.self.view_is) t;
           room = ap (λ m. m.room) c.self.view_is t;
           holes = ap (λ m. m.holes) c.self.view_is t;
+          names = (ap (λ slot. names_in (set slots place (with_value_in slot w))) entry
+              ∙ names_written slots place name at.value w at.there ∙ ap (λ m. m.names) c.self.view_is) t;
         },
       ),
       record {

@@ -1,7 +1,7 @@
 use Rattle.std.proofs.Common.{◌∙◌, List, ◌++◌, ap, arith, length, sym}
 use Rattle.std.proofs.lemmas.Result.{err_from_is_err_and}
 use Rattle.kob_rights.specs.declared.event.Event.{Event}
-use Rattle.kob_script.proofs.LeftRequests.{nothing_at_zero, one_fewer, same_left, some_lines}
+use Rattle.kob_script.proofs.AskedLines.{nothing_at_zero, one_fewer, same_left, some_lines}
 use Rattle.kob_script.specs.Blocks.{lines_left}
 use Rattle.kob_script.specs.Requests.{requests_in}
 use Rattle.kob_script.proofs.requests.Requests.next_event.Goals as goal

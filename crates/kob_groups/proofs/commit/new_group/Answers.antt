@@ -1,0 +1,12 @@
+use Rattle.std.proofs.Common.{ap, ◌∙◌}
+use Rattle.kob_groups.specs.Views.{offsets_in}
+use Rattle.kob_groups.proofs.Maps.{seen}
+use Rattle.kob_groups.proofs.commit.new_group.Goals as goal
+
+pub returns : goal.returns
+returns c = (
+  c.in_ok-group.ensures,
+  c.in_ok-topic.ensures.topic,
+  c.in_ok-topic.ensures.commits ∙ ap (seen offsets_in) c.new-commits.ensures,
+  c.in_ok-topic.ensures.ready,
+)

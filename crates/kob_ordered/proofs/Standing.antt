@@ -1,0 +1,10 @@
+-- Names of entries at places.
+use Rattle.std.proofs.Common.{◌≡◌, ℕ, List, [], None, unwrap_or, sym, ap, subst}
+use Rattle.kob_ordered.specs.Ordered.{Ordered, StandsAt, name_at}
+
+module _ {V : Type 0} (m : Ordered V) (place : ℕ) (name : List ℕ) (stands : StandsAt m place name) where
+  pub name_is : name_at m place ≡ name
+  name_is = ap (λ o. unwrap_or (unwrap_or o None) []) stands
+
+  pub stands_there : StandsAt m place (name_at m place)
+  stands_there = subst (StandsAt m place) (sym name_is) stands

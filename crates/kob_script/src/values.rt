@@ -1,0 +1,154 @@
+//! What words stand for: texts, principals, hosts, numbers, and the words of the tables.
+
+ghost use Rattle.std.specs.Prelude.{map};
+ghost use Rattle.kob_script.specs.Command.{filter_pattern_of};
+ghost use Rattle.kob_script.specs.Numbers.{before_of, number_in, number_of, which_of};
+ghost use Rattle.kob_script.specs.Reading.{Gives, GivesSeen, each, found_or};
+ghost use Rattle.kob_script.specs.Texts.{host_of, named_host, named_principal, principal_of};
+ghost use Rattle.kob_script.specs.Texts.{text_of};
+ghost use Rattle.kob_script.specs.declared.fault.FaultKind.TheVariants.{BadWord};
+
+use crate::fault::{FaultKind, LineError};
+use crate::words::Word;
+use bstr::ByteSlice;
+use kob_names::{FilterPattern, Host, HostFault, Principal, PrincipalFault, Text};
+use kob_rights::{Before, Which};
+use kob_words::filter_pattern_named;
+use std::alloc::Global;
+
+/// The text of a word, as it is there; no memory is taken.
+pub fn lent_text_of<'w>(word: &'w Word<'_>) -> Result<&'w str, LineError>
+    ensures { GivesSeen (λ text. text.now) result (text_of word.entry.now) }
+{
+    match word.decoded().to_str() {
+        Ok(text) => Ok(text),
+        Err(_) => Err(LineError::Fault(FaultKind::BadText)),
+    }
+}
+
+/// A copy of the text of a word.
+pub fn text_of(alloc: Global, word: &Word<'_>) -> Result<Text, LineError>
+    ensures { Gives result (text_of word.now) }
+{
+    let text = lent_text_of(word)?;
+    Ok(Text::copied(alloc, text)?)
+}
+
+/// The texts of the words, in order, as they are there.
+pub fn texts_of<'w>(alloc: Global, words: &'w [Word<'_>]) -> Result<Vec<&'w str>, LineError>
+    ensures { GivesSeen (λ texts. map (λ text. text.now) texts.items) result
+        (each text_of words.entry.now) }
+{
+    let mut texts = Vec::with_capacity(alloc, words.len())?;
+    for word in words {
+        let text = lent_text_of(word)?;
+        texts.push(text)?;
+    }
+    Ok(texts)
+}
+
+/// The principal that a text is.
+#[tactic(auto, unfolding(crate::specs::Texts::principal_of))]
+pub fn principal_of(alloc: Global, text: &str) -> Result<Principal, LineError>
+    ensures { Gives result (principal_of text.now) }
+{
+    match Principal::parse(alloc, text) {
+        Ok(principal) => Ok(principal),
+        Err(PrincipalFault::Memory) => Err(LineError::Memory),
+        Err(_) => Err(LineError::Fault(FaultKind::BadPrincipal)),
+    }
+}
+
+/// The host that a text is.
+#[tactic(auto, unfolding(crate::specs::Texts::host_of))]
+pub fn host_of(alloc: Global, text: &str) -> Result<Host, LineError>
+    ensures { Gives result (host_of text.now) }
+{
+    match Host::parse(alloc, text) {
+        Ok(host) => Ok(host),
+        Err(HostFault::Memory) => Err(LineError::Memory),
+        Err(_) => Err(LineError::Fault(FaultKind::BadHost)),
+    }
+}
+
+/// The principal that a word names.
+pub fn named_principal(alloc: Global, word: &Word<'_>) -> Result<Principal, LineError>
+    ensures { Gives result (named_principal word.now) }
+{
+    principal_of(alloc, lent_text_of(word)?)
+}
+
+/// The host that a word names.
+pub fn named_host(alloc: Global, word: &Word<'_>) -> Result<Host, LineError>
+    ensures { Gives result (named_host word.now) }
+{
+    host_of(alloc, lent_text_of(word)?)
+}
+
+/// The number that a word writes: decimal digits without a sign, of at most 64 bits.
+pub fn number_of(word: &Word<'_>) -> Result<u64, LineError>
+    ensures { Gives result (number_of word.now) }
+{
+    number_in(word.decoded())
+}
+
+/// The number that bytes write.
+pub fn number_in(digits: &[u8]) -> Result<u64, LineError>
+    ensures { Gives result (number_in digits.now) }
+{
+    if digits.starts_with(b"+") {
+        return Err(LineError::Fault(FaultKind::BadNumber));
+    }
+    match digits.to_str() {
+        Ok(text) => match text.parse::<u64>() {
+            Ok(number) => Ok(number),
+            Err(_) => Err(LineError::Fault(FaultKind::BadNumber)),
+        },
+        Err(_) => Err(LineError::Fault(FaultKind::BadNumber)),
+    }
+}
+
+/// The start for `-2`, the end for `-1`. The fault is `BadLine`.
+pub fn which_of(word: &Word<'_>) -> Result<Which, LineError>
+    ensures { Gives result (which_of word.now) }
+{
+    let name = word.decoded();
+    if name == b"-2".as_slice() {
+        return Ok(Which::Start);
+    }
+    if name == b"-1".as_slice() {
+        return Ok(Which::End);
+    }
+    Err(LineError::Fault(FaultKind::BadLine))
+}
+
+/// The offset to delete up to, the end for `-1`.
+pub fn before_of(word: &Word<'_>) -> Result<Before, LineError>
+    ensures { Gives result (before_of word.now) }
+{
+    if word.decoded() == b"-1".as_slice() {
+        return Ok(Before::End);
+    }
+    let offset = number_of(word)?;
+    Ok(Before::Offset(offset))
+}
+
+/// What a table has for a word. The fault is `BadWord`.
+pub fn known<T: Copy>(found: Option<T>) -> Result<T, LineError>
+    ensures { Gives result (found_or BadWord found) }
+{
+    match found {
+        Some(value) => Ok(value),
+        None => Err(LineError::Fault(FaultKind::BadWord)),
+    }
+}
+
+/// What a filter's pattern takes; `-` is as `any`.
+pub fn filter_pattern_of(word: &Word<'_>) -> Result<FilterPattern, LineError>
+    ensures { Gives result (filter_pattern_of word.now) }
+{
+    if word.is_dash() {
+        return Ok(FilterPattern::Any);
+    }
+    known(filter_pattern_named(word.decoded()))
+}
