@@ -31,9 +31,6 @@ const CHANGES: &str = "User:root h delete-acls - - any User:orders - Write -
 User:root h create-acl allow User:orders * Write Topic literal outbox.event.order
 ";
 
-/// How often a worker ticks before it gives up.
-const MOST: u32 = 1_000_000;
-
 /// A worker's part: what it leaves, or why it stopped.
 type Worked<T> = Result<T, ProgramFault>;
 
@@ -99,7 +96,7 @@ fn send<L: Line>(alloc: Global, service: &mut RunningService<L>) -> Worked<()> {
         let event = OutboxEvent::of(alloc, Uuid::from_u128(id), &change, order)?;
         service.record(&change, &event)?;
     }
-    service.send_all(alloc, MOST)
+    service.send_all(alloc, u32::MAX)
 }
 
 /// Worker 2 takes the events in until both are there.
@@ -108,7 +105,7 @@ fn consume<R: Wait>(rt: &R, alloc: Global, shared: &SharedBroker) -> Worked<Cons
     let inbox = Inbox::open_in_memory(alloc)?;
     let line = SessionLine::open(rt, alloc, session_of(alloc, shared, 2, "User:mail", "h")?);
     let mut consumer = RunningConsumer::new(alloc, inbox, subscription, line);
-    let taken = consumer.take_rows(alloc, 2, MOST);
+    let taken = consumer.take_rows(alloc, 2, u32::MAX);
     consumer.end(2, taken)
 }
 
