@@ -19,7 +19,7 @@ use Rattle.kob_script.specs.Word.{Word}
 use Rattle.kob_script.specs.Words.{words_of}
 use Rattle.kob_rights.specs.declared.event.Event.{Event}
 use Rattle.kob_script.specs.Blocks.{AreWholeLines, lines_in_blocks}
-use Rattle.kob_script.specs.Checks.{ChecksLine, ChecksNext, fault_at, script_so_far, with_answer}
+use Rattle.kob_script.specs.Checks.{ChecksLine, ChecksNext, script_so_far, with_answer}
 use Rattle.kob_script.specs.ClapAnswer.{IsAnswerTo}
 use Rattle.kob_script.specs.declared.checks.Checking.{Checking}
 use Rattle.kob_script.specs.declared.fault.LineError.{LineError}
@@ -178,11 +178,10 @@ module _ (lines : List (List ℕ)) (checking : Checking) (answers : List (Option
 module _ (blocks : List (List ℕ)) (whole : AreWholeLines blocks) (checking : Checking) (answers : List (Option CliArgs))
     (number : ℕ) (rest : List (List ℕ)) (stands : Stands (lines_in_blocks blocks) checking answers number rest) where
   pub stops : (new : Checking) (kept : List (Option CliArgs)) (line : List ℕ) (others : List (List ℕ))
-      → rest ≡ line ∷ others → (e : LineError) → ((events : List Event) → checking.requests ≡ length events
-      → ChecksLine (script_so_far checking events) line new answers kept (Err e))
-      → MayRead (concat blocks) (Err (fault_at number e))
-  stops new kept line others split Memory checks = tt
-  stops new kept line others split (Fault kind) checks =
+      → rest ≡ line ∷ others → (kind : FaultKind) → ((events : List Event) → checking.requests ≡ length events
+      → ChecksLine (script_so_far checking events) line new answers kept (Err (Fault kind)))
+      → ReadsAs (concat blocks) (Err (record { line = number; kind = kind }))
+  stops new kept line others split kind checks =
       rw (← whole) (stops_at (lines_in_blocks blocks) checking new answers kept number rest line others stands split kind checks)
 
   pub blocks_read : rest ≡ [] → (read : Script)

@@ -50,11 +50,6 @@ ChecksLine s line checking old new (Ok done) =
 ChecksLine s line checking old new (Err line_error.Memory) = Unit {0}
 ChecksLine s line checking old new (Err (line_error.Fault kind)) = LineReadsAs s line (Err kind)
 
--- what was wrong, with the number of its line
-abbrev pub fault_at : ℕ → LineError → ScriptError
-fault_at line line_error.Memory = script_error.Memory
-fault_at line (line_error.Fault kind) = script_error.Fault (record { line = line; kind = kind })
-
 -- the script that was checked, with all that it asks for
 abbrev pub checked : CheckedScript → Script
 checked script = record { settings = script.settings; events = script.requests }

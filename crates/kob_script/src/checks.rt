@@ -4,7 +4,7 @@ ghost use Rattle.std.specs.List.{concat};
 ghost use Rattle.std.specs.Prelude.{◌≡◌, ◌<◌, ◌^◌, ◌+◌, List, length, OnOk};
 ghost use Rattle.kob_rights.specs.declared.event.Event as event;
 ghost use Rattle.kob_script.specs.Blocks.{AreWholeLines, lines_in_blocks};
-ghost use Rattle.kob_script.specs.Checks.{ChecksLine, ChecksNext, as_read, checked, fault_at};
+ghost use Rattle.kob_script.specs.Checks.{ChecksLine, ChecksNext, as_read, checked};
 ghost use Rattle.kob_script.specs.Checks.{script_so_far, with_answer};
 ghost use Rattle.kob_script.specs.Requests.{requests_in};
 ghost use Rattle.kob_script.specs.Script.{script_of, with_events, with_setting, with_words};
@@ -60,7 +60,10 @@ pub fn check_script(alloc: Global, blocks: Vec<Bytes>) -> Result<CheckedScript, 
             number += 1;
             match check_line(alloc, &mut checking, &mut answers, line) {
                 Ok(()) => {}
-                Err(error) => return Err(fault_at(error, number)),
+                Err(LineError::Memory) => return Err(ScriptError::Memory),
+                Err(LineError::Fault(kind)) => {
+                    return Err(ScriptError::Fault(Fault { line: number, kind }));
+                }
             }
         }
     }
@@ -90,15 +93,6 @@ fn finished(
             everyone,
         },
         requests: Requests::new(alloc, blocks, answers, requests),
-    }
-}
-
-fn fault_at(error: LineError, line: u64) -> ScriptError
-    ensures { result ≡ fault_at line error }
-{
-    match error {
-        LineError::Memory => ScriptError::Memory,
-        LineError::Fault(kind) => ScriptError::Fault(Fault { line, kind }),
     }
 }
 

@@ -1,9 +1,7 @@
 //! The table of commands: their names, and the words that each takes.
 
-ghost use Rattle.std.specs.List.{find};
 ghost use Rattle.std.specs.Option.{option_map};
 ghost use Rattle.std.specs.Prelude.{◌≡◌};
-ghost use Rattle.std.specs.Str.{bytes_eq};
 ghost use Rattle.kob_script.specs.Command.{command_named, row, row_named};
 
 /// What a word writes.
@@ -85,13 +83,6 @@ pub fn command_named(word: &[u8]) -> Option<Command>
         ("describe-acls", Command::DescribeAcls),
         ("delete-acls", Command::DeleteAcls),
     ];
-    command_among(&commands, word)
-}
-
-fn command_among(commands: &[(&str, Command)], word: &[u8]) -> Option<Command>
-    ensures { result ≡ option_map (λ named. named.1)
-        (find (λ named. bytes_eq word.now named.0.now) commands.now) }
-{
     let named = commands.iter().find(|named| word == named.0.as_bytes())?;
     Some(named.1)
 }

@@ -8,12 +8,11 @@ ghost use Rattle.kob_script.specs.Command.{faults_in, place_fault, row_fault, sl
 ghost use Rattle.kob_script.specs.Command.{words_behind};
 ghost use Rattle.kob_script.specs.declared.fault.FaultKind as kinds;
 
-use crate::batch::idem_of;
 use crate::command::{Place, Slot, row_named};
 use crate::fault::{FaultKind, LineError};
 use crate::values::{
-    before_of, filter_pattern_of, known, lent_text_of, named_host, named_principal, number_of,
-    texts_of, which_of,
+    before_of, filter_pattern_of, idem_of, known, lent_text_of, named_host, named_principal,
+    number_of, texts_of, which_of,
 };
 use crate::words::Word;
 use kob_words::{operation_named, pattern_named, permission_named, resource_named};

@@ -2,7 +2,6 @@
 #![tactic(auto)]
 
 mod acl;
-mod batch;
 mod blocks;
 mod checks;
 mod command;

@@ -10,11 +10,11 @@ ghost use Rattle.kob_script.specs.Reading.{Gives, some};
 ghost use Rattle.kob_script.specs.declared.command.Command.TheVariants as commands;
 ghost use Rattle.kob_script.specs.declared.fault.FaultKind as kinds;
 
-use crate::batch::{idem_of, records_of};
 use crate::command::Command;
 use crate::fault::{FaultKind, LineError};
 use crate::values::{
-    before_of, filter_pattern_of, known, named_host, named_principal, number_of, text_of, which_of,
+    before_of, filter_pattern_of, idem_of, known, named_host, named_principal, number_of, records_of,
+    text_of, which_of,
 };
 use crate::words::Word;
 use kob_names::{Batch, BindingFilter, Draft, Items, Pattern};
@@ -61,6 +61,7 @@ pub fn request_of(alloc: Global, command: Command, words: &[Word<'_>]) -> Result
     }
 }
 
+// The requests about starts, ends and committed offsets.
 fn request_on_offsets(
     alloc: Global,
     command: Command,
@@ -100,6 +101,7 @@ fn request_on_offsets(
     }
 }
 
+// The requests of producers, groups and bindings.
 fn other_request(alloc: Global, command: Command, words: &[Word<'_>]) -> Result<Request, LineError>
     ensures { IfOk result (λ made. request_of command words.now ≡ Ok made) }
 {

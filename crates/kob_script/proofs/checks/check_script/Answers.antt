@@ -4,6 +4,7 @@ use Rattle.kob_script.proofs.CheckedLines.{Stands, all_counted, blocks_read, sta
 use Rattle.kob_script.specs.Blocks.{lines_in_blocks}
 use Rattle.kob_script.specs.Checks.{checked}
 use Rattle.kob_script.specs.Script.{lines_in}
+use Rattle.kob_script.specs.declared.fault.ScriptError.TheVariants.{Fault}
 use Rattle.kob_script.proofs.checks.check_script.Goals as goal
 
 pub loop-block-init : goal.loop-block-init
@@ -50,16 +51,18 @@ loop-line-preserved c =
           c.loop-line.invariant.stands split c.in-Ok.ensures;
     }
 
-pub returns-in-Err-clause-any : goal.returns-in-Err-clause-any
-returns-in-Err-clause-any c =
+pub returns-in-Err-Fault-clause-any : goal.returns-in-Err-Fault-clause-any
+returns-in-Err-Fault-clause-any c =
     let later = lines_in_blocks (drop (c.loop-block.block-index + 1) c.args.blocks.items) in
-    rw c.fault_at.ensures
-    (stops c.args.blocks.items c.requires.whole c.loop-line.checking c.loop-line.answers.items (c.loop-line.number + 1) _
+    stops c.args.blocks.items c.requires.whole c.loop-line.checking c.loop-line.answers.items (c.loop-line.number + 1) _
     c.loop-line.invariant.stands c.check_line.new.checking c.check_line.new.answers.items c.in-Some.line.now
-    (c.next.new.self ++ later) (ap (λ (lines : List (List ℕ)). lines ++ later) c.in-Some.ensures.steps) _ c.in-Err.ensures)
+    (c.next.new.self ++ later) (ap (λ (lines : List (List ℕ)). lines ++ later) c.in-Some.ensures.steps)
+    c.in-Err-Fault.kind (rw c.in-Err-Fault.field-0-is at c.in-Err-Fault.ensures)
 
-pub returns-in-Err-clause-plain : goal.returns-in-Err-clause-plain
-returns-in-Err-clause-plain c = reads_plain _ (Err c.fault_at.result) (returns-in-Err-clause-any c)
+pub returns-in-Err-Fault-clause-plain : goal.returns-in-Err-Fault-clause-plain
+returns-in-Err-Fault-clause-plain c =
+    reads_plain _ (Err (Fault (record { line = c.loop-line.number + 1; kind = c.in-Err-Fault.kind })))
+    (returns-in-Err-Fault-clause-any c)
 
 pub loop-block-preserved : goal.loop-block-preserved
 loop-block-preserved c =
