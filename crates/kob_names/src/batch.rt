@@ -5,7 +5,7 @@ use crate::plain_value::PlainValue;
 use crate::record::Record;
 use std::alloc::{AllocError, Global};
 
-/// What an idempotent producer puts on a batch: its id, its epoch, and the sequence of the batch's
+/// What an idempotent producer adds to a batch: its id, its epoch, and the sequence of the batch's
 /// first record. Kafka's protocol calls them producer id, producer epoch and base sequence.
 #[derive(Clone, Copy, Debug, PartialEq, Eq)]
 pub struct Idem {
@@ -14,7 +14,7 @@ pub struct Idem {
     pub base: u64,
 }
 
-/// Records that a producer sends together, with or without a producer's sequence.
+/// Records that a producer sends together, with the producer's sequence if it is idempotent.
 #[derive(Debug, Drop)]
 pub struct Batch {
     pub idem: Option<Idem>,

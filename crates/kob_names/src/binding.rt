@@ -1,4 +1,4 @@
-//! Bindings: drafts in which no fault was found.
+//! Bindings: drafts that break no rule.
 
 ghost use Rattle.std.specs.Prelude.{◌≡◌, ◌↔◌, IsTrue, None};
 ghost use Rattle.kob_names.specs.Access.{covers};
@@ -13,8 +13,8 @@ use crate::principal::Principal;
 use std::alloc::{AllocError, Global};
 use std::marker::Model;
 
-/// A principal is allowed or denied an operation from a host on what a pattern matches. Contracts
-/// see a binding as its parts, which are those of a draft that breaks no rule.
+/// Allows or denies a principal an operation from a host on what a pattern matches. In contracts a
+/// binding is its parts, which are those of a draft that breaks no rule.
 #[derive(Debug, Drop)]
 pub struct Binding {
     draft: Draft,
@@ -33,9 +33,9 @@ impl Model for Binding {
 }
 
 impl Binding {
-    /// The binding with the parts of `draft`, whose pattern's name is checked: not empty,
-    /// `kafka-cluster` on the cluster, and at most 255 bytes. `EmptyName`, `BadCluster`, `TooLong`
-    /// and `Memory` come in this order.
+    /// Makes the binding of `draft`. The pattern's name must have 1 to 255 bytes, and be
+    /// `kafka-cluster` on the cluster. The first fault is returned, in the order `EmptyName`,
+    /// `BadCluster`, `TooLong`, `Memory`.
     pub fn new(alloc: Global, draft: &Draft) -> Result<Binding, BindingFault>
         ensures { OkUnlessFault (draft_fault draft.now) BindingFault.Memory draft.now result }
     {
@@ -48,7 +48,7 @@ impl Binding {
         }
     }
 
-    /// The parts of the binding, in which there is no fault; no memory is taken.
+    /// The parts of the binding, which break no rule. Does not allocate.
     pub fn parts(&self) -> &Draft
         ensures parts { result.now ≡ self.now }
         ensures valid { draft_fault self.now ≡ None }
@@ -56,9 +56,8 @@ impl Binding {
         &self.draft
     }
 
-    /// Whether the binding speaks to this principal on this host: a binding for `User:*` covers
-    /// every principal, and one for `*` every host (Kafka's documentation, "Authorization and
-    /// ACLs").
+    /// Whether the binding covers this principal on this host: a binding for `User:*` covers every
+    /// principal, and one for `*` every host (Kafka's documentation, "Authorization and ACLs").
     pub fn covers(&self, principal: &Principal, host: &Host) -> bool
         ensures { result ≡ covers self.now principal.now host.now }
     {

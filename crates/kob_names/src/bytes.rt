@@ -32,14 +32,14 @@ impl Bytes {
         Ok(Bytes { content })
     }
 
-    /// Takes the bytes over; no memory is taken.
+    /// Takes ownership of the bytes. Does not allocate.
     pub fn from_vec(content: Vec<u8>) -> Bytes
         ensures { result ≡ content.items }
     {
         Bytes { content }
     }
 
-    /// Gives the bytes back; no memory is taken.
+    /// Returns the bytes, by value. Does not allocate.
     pub fn into_vec(self) -> Vec<u8>
         ensures { result.items ≡ self }
     {
@@ -47,7 +47,7 @@ impl Bytes {
         content
     }
 
-    /// The bytes; no memory is taken.
+    /// The bytes. Does not allocate.
     pub fn as_slice(&self) -> &[u8]
         ensures { result.now ≡ self.now }
     {

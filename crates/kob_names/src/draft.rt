@@ -1,4 +1,4 @@
-//! Drafts of bindings, and which of them are bindings.
+//! Drafts of bindings, and which of them are valid.
 
 ghost use Rattle.std.specs.Prelude.{◌≡◌, ◌↔◌, IsTrue};
 ghost use Rattle.kob_names.specs.BindingRules.{draft_fault};
@@ -13,8 +13,7 @@ use crate::principal::Principal;
 use std::alloc::{AllocError, Global};
 use thiserror::Error;
 
-/// A principal is to be allowed or denied an operation from a host on what a pattern matches. The
-/// pattern's name was not checked.
+/// The parts of a binding. The pattern's name is not checked yet.
 #[derive(Debug, PartialEq, Eq, Drop)]
 pub struct Draft {
     pub permission: Permission,
@@ -25,7 +24,7 @@ pub struct Draft {
     pub pattern: Pattern,
 }
 
-/// Why a draft is no binding.
+/// Why a draft is not a valid binding.
 #[derive(Clone, Copy, Debug, PartialEq, Eq, Error)]
 pub enum BindingFault {
     #[error("the pattern has no name")]

@@ -12,7 +12,7 @@ use crate::principal::Principal;
 use crate::text::Text;
 use std::alloc::{AllocError, Global};
 
-/// Which patterns a filter takes.
+/// Which patterns a filter selects.
 #[derive(Clone, Copy, Debug, PartialEq, Eq)]
 pub enum FilterPattern {
     Any,
@@ -21,7 +21,7 @@ pub enum FilterPattern {
     Prefixed,
 }
 
-/// A filter of bindings; a part that is not set takes everything.
+/// A filter of bindings. A part that is not set selects all.
 #[derive(Debug, PartialEq, Eq, Drop)]
 pub struct BindingFilter {
     pub resource: Option<ResourceKind>,
@@ -34,7 +34,7 @@ pub struct BindingFilter {
 }
 
 impl BindingFilter {
-    /// Whether every part takes the binding.
+    /// Whether every part selects the binding.
     pub fn takes(&self, binding: &Binding) -> bool
         ensures { result ≡ takes self.now binding.now }
     {
@@ -93,7 +93,7 @@ impl PlainValue for BindingFilter {
     }
 }
 
-/// Whether a part of a filter takes `value`.
+/// Whether a part of a filter selects `value`.
 fn takes_part<T: PartialEq>(wanted: &Option<T>, value: &T) -> bool
     ensures { result ≡ takes_part T.eq wanted.now value.now }
 {

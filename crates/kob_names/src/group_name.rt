@@ -31,7 +31,7 @@ impl Model for GroupName {
     ghost inverse = { λ text. record { text = text } };
 }
 
-/// Why a text is no group name.
+/// Why a text is not a valid group name.
 #[derive(Clone, Copy, Debug, PartialEq, Eq, Error)]
 pub enum GroupNameFault {
     #[error("the group name is empty")]
@@ -43,8 +43,8 @@ pub enum GroupNameFault {
 }
 
 impl GroupName {
-    /// Reads a group's name: 1 to 255 bytes of any text. `Empty`, `TooLong` and `Memory` come in
-    /// this order.
+    /// Reads a group's name: 1 to 255 bytes of any text. The first fault is returned, in the order
+    /// `Empty`, `TooLong`, `Memory`.
     pub fn parse(alloc: Global, text: &str) -> Result<GroupName, GroupNameFault>
         ensures { OkUnlessFault (group_fault text.now) GroupNameFault.Memory text.now result }
     {
@@ -52,7 +52,7 @@ impl GroupName {
         Ok(GroupName { text })
     }
 
-    /// The name as text; no memory is taken.
+    /// The name as text. Does not allocate.
     pub fn as_str(&self) -> &str
         ensures text { result.now ≡ self.now }
         ensures valid { group_fault self.now ≡ None }

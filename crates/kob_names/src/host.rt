@@ -31,7 +31,7 @@ impl Model for Host {
     ghost inverse = { λ text. record { text = text } };
 }
 
-/// Why a text is no host.
+/// Why a text is not a valid host.
 #[derive(Clone, Copy, Debug, PartialEq, Eq, Error)]
 pub enum HostFault {
     #[error("the host is empty")]
@@ -43,8 +43,8 @@ pub enum HostFault {
 }
 
 impl Host {
-    /// Reads a host: 1 to 255 bytes of any text. `Empty`, `TooLong` and `Memory` come in this
-    /// order.
+    /// Reads a host: 1 to 255 bytes of any text. The first fault is returned, in the order `Empty`,
+    /// `TooLong`, `Memory`.
     pub fn parse(alloc: Global, text: &str) -> Result<Host, HostFault>
         ensures { OkUnlessFault (host_fault text.now) HostFault.Memory text.now result }
     {
@@ -52,7 +52,7 @@ impl Host {
         Ok(Host { text })
     }
 
-    /// The host as text; no memory is taken.
+    /// The host as text. Does not allocate.
     pub fn as_str(&self) -> &str
         ensures text { result.now ≡ self.now }
         ensures valid { host_fault self.now ≡ None }

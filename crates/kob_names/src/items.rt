@@ -6,8 +6,7 @@ use crate::plain_value::PlainValue;
 use std::alloc::{AllocError, Global};
 use std::marker::Model;
 
-/// A list of plain values in order, seen by contracts as their list. It grows by the `Vec` that it
-/// is made of.
+/// A list of plain values in order; contracts see it as a list. It grows as a `Vec` does.
 #[derive(Debug, Drop)]
 pub struct Items<T> {
     items: Vec<T>,
@@ -22,14 +21,14 @@ impl<T> Model for Items<T> {
 }
 
 impl<T> Items<T> {
-    /// Takes the items over; no memory is taken.
+    /// Takes ownership of the items. Does not allocate.
     pub fn from_vec(items: Vec<T>) -> Items<T>
         ensures { result ≡ items.items }
     {
         Items { items }
     }
 
-    /// Gives the items back; no memory is taken.
+    /// Returns the items, by value. Does not allocate.
     pub fn into_vec(self) -> Vec<T>
         ensures { result.items ≡ self }
     {

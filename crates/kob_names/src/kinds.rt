@@ -1,4 +1,4 @@
-//! What a binding can speak of: kinds of resources, operations, patterns and permissions.
+//! The parts of a binding: kinds of resources, operations, kinds of patterns and permissions.
 
 ghost use Rattle.std.specs.Prelude.{◌≡◌};
 ghost use Rattle.kob_names.specs.Access.{reaches, is_implied};
@@ -46,7 +46,7 @@ pub enum Permission {
 }
 
 impl Permission {
-    /// Whether a binding of `bound` with this permission speaks of the operation `asked`.
+    /// Whether a binding of `bound` with this permission reaches the operation `asked`.
     pub fn reaches(self, bound: Operation, asked: Operation) -> bool
         ensures { result ≡ reaches self bound asked }
     {
@@ -57,7 +57,7 @@ impl Permission {
 }
 
 impl Operation {
-    /// Whether an allow of this operation is an allow of `asked` as well.
+    /// Whether an allow of this operation also allows `asked`.
     fn implies(self, asked: Operation) -> bool
         ensures { result ≡ is_implied self asked }
     {

@@ -1,4 +1,4 @@
-//! Patterns: which names of a resource kind a binding speaks of.
+//! Patterns: which names of a kind of resource a binding matches.
 
 ghost use Rattle.std.specs.Prelude.{◌≡◌, IfOk};
 ghost use Rattle.kob_names.specs.Access.{matches};
@@ -16,8 +16,8 @@ pub struct Pattern {
 }
 
 impl Pattern {
-    /// Whether the pattern matches `name` (KIP-290): a literal one the equal name, and `*` every
-    /// name; a prefixed one each name that starts with its own.
+    /// Whether the pattern matches `name` (KIP-290). A literal pattern matches the equal name, and
+    /// a literal `*` every name. A prefixed pattern matches each name that starts with its own.
     pub fn matches(&self, name: &str) -> bool
         ensures { result ≡ matches self.now name.now }
     {

@@ -1,16 +1,16 @@
-//! Plain values: copied where memory allows, compared by their contents.
+//! Plain values, which are copied and compared by their contents.
 
 ghost use Rattle.std.specs.Prelude.{◌≡◌, ◌↔◌, IfOk, IsTrue};
 
 use std::alloc::{AllocError, Global};
 
-/// A value that is plain data: whoever keeps it may copy it and compare it by its contents.
+/// A value that is plain data: it can be copied, and compared by its contents.
 pub trait PlainValue: Sized + Drop {
     /// An equal value. The error is out of memory.
     fn copy(&self, alloc: Global) -> Result<Self, AllocError>
         ensures { IfOk result (λ made. made ≡ self.now) };
 
-    /// Whether the two are equal in every part. No memory is taken.
+    /// Whether the two are equal in every part. Does not allocate.
     fn same(&self, other: &Self) -> bool
         ensures { IsTrue result ↔ (self.now ≡ other.now) };
 }

@@ -1,4 +1,4 @@
-//! Principals: who asks, and to whom a binding speaks.
+//! Principals: who sends a request, and whom a binding covers.
 
 ghost use Rattle.std.specs.Prelude.{◌≡◌, IfOk, None};
 ghost use Rattle.kob_names.specs.Checked.{OkUnlessFault};
@@ -31,7 +31,7 @@ impl Model for Principal {
     ghost inverse = { λ text. record { text = text } };
 }
 
-/// Why a text is no principal.
+/// Why a text is not a valid principal.
 #[derive(Clone, Copy, Debug, PartialEq, Eq, Error)]
 pub enum PrincipalFault {
     #[error("no colon after the principal's kind")]
@@ -48,7 +48,8 @@ pub enum PrincipalFault {
 
 impl Principal {
     /// Reads a principal: `User:` and a name of 1 to 255 bytes. The kind is the text before the
-    /// first colon. `NoColon`, `NotUser`, `Empty`, `TooLong` and `Memory` come in this order.
+    /// first colon. The first fault is returned, in the order `NoColon`, `NotUser`, `Empty`,
+    /// `TooLong`, `Memory`.
     pub fn parse(alloc: Global, text: &str) -> Result<Principal, PrincipalFault>
         ensures { OkUnlessFault (principal_fault text.now) PrincipalFault.Memory text.now result }
     {
@@ -56,7 +57,7 @@ impl Principal {
         Ok(Principal { text })
     }
 
-    /// The principal as text; no memory is taken.
+    /// The principal as text. Does not allocate.
     pub fn as_str(&self) -> &str
         ensures text { result.now ≡ self.now }
         ensures valid { principal_fault self.now ≡ None }

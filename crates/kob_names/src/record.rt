@@ -15,7 +15,7 @@ pub struct Header {
     pub value: Bytes,
 }
 
-/// A record: a key or none, a value, and headers in order. A header's name may come more than once.
+/// A record: an optional key, a value, and headers in order. Names of headers may repeat.
 #[derive(Debug, Drop)]
 pub struct Record {
     pub key: Option<Bytes>,

@@ -1,4 +1,4 @@
-//! What a broker is opened with.
+//! The settings that a broker is opened with.
 
 use crate::binding::Binding;
 use crate::items::Items;
@@ -6,7 +6,7 @@ use crate::plain_value::PlainValue;
 use crate::principal::Principal;
 use std::alloc::{AllocError, Global};
 
-/// The super users, the bindings that are in force from the beginning, and whether what no binding
+/// The super users, the bindings that are in force at first, and whether a resource that no binding
 /// matches is open to everyone (Kafka's `allow.everyone.if.no.acl.found`).
 #[derive(Debug, Drop)]
 pub struct Settings {

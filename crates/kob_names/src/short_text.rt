@@ -1,4 +1,4 @@
-//! Texts of a few bytes, held in place.
+//! Texts of a few bytes, stored inline.
 
 ghost use Rattle.std.specs.Prelude.{◌≡◌, ◌≤◌, SomeIff, length};
 ghost use Rattle.kob_names.specs.Limits.{short_text_limit};
@@ -7,7 +7,7 @@ use crate::limits::SHORT_TEXT_LIMIT;
 use std::marker::Model;
 use std::str::from_utf8_unchecked;
 
-/// A text of at most 30 bytes, which takes no memory besides its own 31 bytes.
+/// A text of at most 30 bytes, stored inline in 31 bytes.
 #[derive(Drop)]
 pub(crate) struct ShortText {
     bytes: [u8; SHORT_TEXT_LIMIT],
@@ -27,7 +27,7 @@ impl Model for ShortText {
 }
 
 impl ShortText {
-    /// A copy of `text`, where it has at most 30 bytes; no memory is taken.
+    /// A copy of `text`, if it has at most 30 bytes. Does not allocate.
     pub(crate) fn new(text: &str) -> Option<ShortText>
         ensures { SomeIff result (length text.now ≤ short_text_limit) text.now }
     {
@@ -43,7 +43,7 @@ impl ShortText {
         })
     }
 
-    /// The text; no memory is taken.
+    /// The text. Does not allocate.
     pub(crate) fn as_str(&self) -> &str
         ensures { result.now ≡ self.now }
     {

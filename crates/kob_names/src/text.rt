@@ -16,14 +16,14 @@ use std::hash::{Hash, Hasher};
 use std::marker::Model;
 use std::mem::size_of;
 
-/// An owned text. It takes 32 bytes: one of at most 30 bytes is in them, a longer one in a
-/// block of its own.
+/// An owned text, in 32 bytes. A text of at most 30 bytes is stored inline, a longer one in an
+/// allocation of its own.
 #[derive(Drop)]
 pub struct Text {
     content: Content,
 }
 
-/// Where the bytes of a text are.
+/// Where the bytes of a text are stored.
 #[derive(Drop)]
 enum Content {
     Short(ShortText),
@@ -42,7 +42,7 @@ impl Model for Text {
 }
 
 impl Text {
-    /// A copy of `text`. Memory is taken, and can be refused, only past 30 bytes.
+    /// A copy of `text`. Allocates, and can fail, only for more than 30 bytes.
     pub fn copied(alloc: Global, text: &str) -> Result<Text, AllocError>
         ensures value { IfOk result (λ made. made ≡ text.now) }
         ensures short { OnErr result (short_text_limit < length text.now) }
@@ -54,7 +54,7 @@ impl Text {
         Ok(Text { content })
     }
 
-    /// Takes the string over; no memory is taken.
+    /// Takes ownership of the string. Does not allocate.
     pub fn from_string(content: String) -> Text
         ensures { result ≡ string_bytes content }
     {
@@ -63,7 +63,7 @@ impl Text {
         }
     }
 
-    /// The text; no memory is taken.
+    /// The text. Does not allocate.
     pub fn as_str(&self) -> &str
         ensures { result.now ≡ self.now }
     {

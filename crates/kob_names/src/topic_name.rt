@@ -32,7 +32,7 @@ impl Model for TopicName {
     ghost inverse = { λ text. record { text = text } };
 }
 
-/// Why a text is no topic name.
+/// Why a text is not a valid topic name.
 #[derive(Clone, Copy, Debug, PartialEq, Eq, Error)]
 pub enum TopicNameFault {
     #[error("the topic name is empty")]
@@ -49,8 +49,8 @@ pub enum TopicNameFault {
 
 impl TopicName {
     /// Reads a topic's name by Kafka's rules: 1 to 249 bytes of ASCII letters, digits, `.`, `_` and
-    /// `-`, and not `.` or `..`. `Empty`, `Dots`, `TooLong`, `BadByte` with the place of the first
-    /// bad byte (from 0), and `Memory` come in this order.
+    /// `-`, and not `.` or `..`. The first fault is returned, in the order `Empty`, `Dots`,
+    /// `TooLong`, `BadByte` with the place of the first bad byte (from 0), `Memory`.
     pub fn parse(alloc: Global, text: &str) -> Result<TopicName, TopicNameFault>
         ensures { OkUnlessFault (topic_fault text.now) TopicNameFault.Memory text.now result }
     {
@@ -58,7 +58,7 @@ impl TopicName {
         Ok(TopicName { text })
     }
 
-    /// The name as text; no memory is taken.
+    /// The name as text. Does not allocate.
     pub fn as_str(&self) -> &str
         ensures text { result.now ≡ self.now }
         ensures valid { topic_fault self.now ≡ None }
@@ -66,14 +66,14 @@ impl TopicName {
         self.text.as_str()
     }
 
-    /// The name's text; no memory is taken.
+    /// The name's text. Does not allocate.
     pub fn as_text(&self) -> &Text
         ensures { result.now ≡ self.now }
     {
         &self.text
     }
 
-    /// Gives the name's text away; no memory is taken.
+    /// Returns the name's text, by value. Does not allocate.
     pub fn into_text(self) -> Text
         ensures { result ≡ self }
     {
@@ -106,7 +106,7 @@ fn fault_of(text: &str) -> Option<TopicNameFault>
     }
 }
 
-/// The place of the first byte that no topic name has.
+/// The place of the first byte that no topic name may have.
 fn bad_byte(text: &str) -> Option<usize>
     ensures { result ≡ position (λ byte. not (is_topic_byte byte)) text.now }
 {

@@ -1,4 +1,4 @@
-//! The answer of the authorizer.
+//! The authorizer's verdicts.
 
 ghost use Rattle.std.specs.Prelude.{◌≡◌};
 ghost use Rattle.kob_names.specs.Granted.{is_granted};
@@ -22,8 +22,8 @@ pub enum Verdict {
 }
 
 impl Verdict {
-    /// Whether the right is granted: to a super user, by an allow, and where no binding matches what
-    /// is open to everyone.
+    /// Whether the right is granted: to a super user, by an allow, or because no binding matches
+    /// what is then open to everyone.
     pub fn is_granted(self) -> bool
         ensures { result ≡ is_granted self }
     {

@@ -1,5 +1,5 @@
-//! What hangs at one place of the tree: the bytes that alone lead on from there, the serials of the
-//! key that ends behind them, and the nodes that follow.
+//! The subtree at one place of the tree: the bytes up to its first key or fork, the serials of the
+//! key that ends after them, and the child nodes.
 ghost use Rattle.std.specs.Prelude.{◌≡◌, ◌++◌, [], ◌≤◌, ◌↔◌, drop, length, take};
 ghost use Rattle.std.specs.Prelude.{IsTrue, OnErr, OnOk};
 ghost use Rattle.kob_prefix_tree.specs.Held.{with_serial, without_serials, has_serials};
@@ -21,8 +21,8 @@ use std::alloc::{AllocError, Global};
 use std::mem::replace;
 use std_alloc::room::Vacant;
 
-/// What follows a byte: the other bytes of its node, the serials of the key that ends with the last
-/// of them, and the nodes below.
+/// The subtree after one byte: the other bytes of its node, the serials of the key that ends with
+/// the last of them, and the child nodes.
 #[derive(Drop)]
 pub(crate) struct Branch {
     pub(crate) tail: Tail,
@@ -44,7 +44,7 @@ impl Branch {
         }
     }
 
-    /// The branch, to be read.
+    /// A view of the branch, for reading.
     pub(crate) fn place(&self) -> Place<'_>
         ensures { seen result ≡ contents self.now }
     {
@@ -65,7 +65,7 @@ impl Branch {
         self.literal.is_empty() && self.prefixed.is_empty() && self.below.is_null()
     }
 
-    /// Moves the bytes behind so many, if there are any, into a node of its own in this block.
+    /// Moves the bytes after the first `count`, if there are any, into a child node in this block.
     fn cut(&mut self, count: usize, room: Room, alloc: Global)
         requires { count ≤ length self.old.tail }
         ensures tail { self.new.tail ≡ take count self.old.tail }
@@ -85,8 +85,8 @@ impl Branch {
         self.below.put_front(room, alloc, byte, branch);
     }
 
-    /// Puts the serial last at the key of the branch's own bytes and those of the path, by linking
-    /// in its nodes: the first of them doesn't lead on yet.
+    /// Appends the serial at the key of the branch's own bytes and those of the path, by linking in
+    /// the path's nodes. The branch must not have a child for the first of them yet.
     fn link(&mut self, path: Link<Item>, kind: PatternKind, serial: NewSerial)
         requires nowhere { LeadsNowhere (key_of path.nodes) (end_of self.old) }
         requires neat { IsNeat (contents self.old).1 }
@@ -107,7 +107,7 @@ impl Branch {
         self.below.put_front(room, alloc, byte, branch);
     }
 
-    /// Puts the serial last among those of the branch itself.
+    /// Appends the serial to those of the branch itself.
     pub(crate) fn put(&mut self, kind: PatternKind, serial: NewSerial)
         ensures held { (self.new.literal, self.new.prefixed)
             ≡ with_serial kind serial (self.old.literal, self.old.prefixed) }
@@ -120,7 +120,7 @@ impl Branch {
         }
     }
 
-    /// As `link`, behind the first bytes of the branch, which is cut in two where it has more.
+    /// As `link`, after the first bytes of the branch, which is split if it has more.
     pub(crate) fn graft(
         &mut self,
         count: usize,
@@ -138,8 +138,8 @@ impl Branch {
         self.link(path, kind, serial);
     }
 
-    /// Puts the serial last at the key that goes on behind the first bytes of the branch. It makes
-    /// the nodes for the key, and one more if a node has to be cut in two.
+    /// Appends the serial at the key that continues after the first bytes of the branch. It makes
+    /// the nodes for the key, and one more if a node has to be split.
     pub(crate) fn add_here(
         &mut self,
         alloc: Global,
@@ -165,8 +165,8 @@ impl Branch {
         Ok(())
     }
 
-    /// Takes these serials out at the key that goes on behind the first bytes of the branch, in one
-    /// pass, and says whether any was there.
+    /// Removes these serials at the key that continues after the first bytes of the branch, in one
+    /// pass, and returns whether any was there.
     pub(crate) fn remove_here(
         &mut self,
         count: usize,
@@ -192,7 +192,7 @@ impl Branch {
         found
     }
 
-    /// Takes these serials out of those of the branch itself.
+    /// Removes these serials from those of the branch itself.
     fn take_out(&mut self, kind: PatternKind, serials: &[u64]) -> bool
         ensures found { result
             ≡ has_serials kind serials.now (self.old.literal, self.old.prefixed) }

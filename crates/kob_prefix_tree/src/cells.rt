@@ -1,4 +1,4 @@
-//! A list of serials in blocks, which takes another list at its end in one step, however long it is.
+//! A linked list of serials, to which another list is appended in one step, however long it is.
 ghost use Rattle.std.specs.Prelude.{◌≡◌, ◌≢◌, [], ◌∷◌, ◌++◌, ◌↔◌, IfOk, IsTrue, MatchOption};
 ghost use Rattle.kob_prefix_tree.specs.Lists.{has_in_turn, without_in_turn};
 
@@ -10,21 +10,20 @@ use std::mem::replace;
 use std::ptr;
 use std_alloc::room::Vacant;
 
-/// One serial of a list. In the first one `last` leads to the list's last node; in the others it
-/// says nothing.
+/// One serial of a list. In the first one `last` points to the list's last node; in the others it
+/// has no meaning.
 #[derive(Drop)]
 pub(crate) struct Serial {
     pub(crate) value: u64,
     last: *mut Node<Serial, Link<Serial>, Link<Serial>>,
 }
 
-// What `last` leads to belongs to the list that the serial is in, and goes where it goes.
+// The node that `last` points to belongs to the same list, and moves to another thread with it.
 unsafe impl Send for Serial {}
 
 unsafe impl Sync for Serial {}
 
-/// Serials in the order in which they were put in. The list is one pointer, and each serial one
-/// block.
+/// Serials in the order of insertion. The list is one pointer, and each serial one block.
 #[derive(Drop)]
 pub(crate) struct Cells {
     pub(crate) link: Link<Serial>,
@@ -96,7 +95,7 @@ impl Cells {
         Cells::in_room(room, alloc, value)
     }
 
-    /// Puts the serials of another list behind these.
+    /// Appends the serials of another list.
     pub(crate) fn append(&mut self, other: Cells)
         ensures { self.new ≡ self.old ++ other }
     {
@@ -115,7 +114,7 @@ impl Cells {
         self.link.get_mut().item.last = end;
     }
 
-    /// Takes the first serial off, as a list of its own.
+    /// Removes the first serial, and returns it as a list of its own.
     fn take_first(&mut self) -> Option<(u64, Cells)>
         ensures { MatchOption result
             ((self.old ≡ []) × (self.new ≡ self.old))
@@ -139,8 +138,8 @@ impl Cells {
         ))
     }
 
-    /// Takes these serials out in one pass, each behind the one before it, and says whether any was
-    /// there.
+    /// Removes these serials in one pass, each searched for after the one before it, and returns
+    /// whether any was there.
     pub(crate) fn remove_all(&mut self, serials: &[u64]) -> bool
         ensures found { result ≡ has_in_turn serials.now self.old }
         ensures left { self.new ≡ without_in_turn serials.now self.old }

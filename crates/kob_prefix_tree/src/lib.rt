@@ -1,5 +1,4 @@
-//! A map from byte strings to lists of serials, kept as a tree whose nodes hold up to 23 bytes
-//! each.
+//! A map from byte strings to lists of serials: a radix tree whose nodes hold up to 23 bytes each.
 #![tactic(auto)]
 
 mod branch;

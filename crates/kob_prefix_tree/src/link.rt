@@ -1,5 +1,5 @@
-//! The way to a list of siblings: a pointer that is null, or leads to the first of them. No other
-//! module follows a raw pointer.
+//! The link to a list of siblings: a pointer that is null, or points to the first of them. No other
+//! module dereferences a raw pointer.
 ghost use Rattle.std.specs.Prelude.{◌≡◌, ◌↔◌, IsTrue};
 ghost use types.Logic.{sem};
 ghost use Rattle.kob_prefix_tree.specs.Tree.{Tree, leaf, tree_coded};
@@ -11,7 +11,7 @@ use std::marker::{Model, Send, Sync};
 use std::ptr;
 use std_alloc::room::Vacant;
 
-/// One pointer. It owns the siblings that it leads to, and through them all that is below.
+/// One pointer. It owns the siblings that it points to, and all nodes below them.
 pub struct Link<T> {
     first: *mut Node<T, Link<T>, Link<T>>,
     pub ghost nodes: { Tree T } by { tree_coded T.code },
@@ -27,7 +27,7 @@ impl<T> Link<T> {
     ghost use Rattle.kob_prefix_tree.specs.Nodes.{Leads, tree_of, last_of, with_others};
     ghost use Rattle.kob_prefix_tree.specs.Nodes.{keeps_what_is_left};
 
-    /// The way to no node.
+    /// The null link.
     pub fn null() -> Link<T>
         ensures { result.nodes ≡ leaf }
     {
@@ -36,14 +36,14 @@ impl<T> Link<T> {
         }
     }
 
-    /// Whether there is no node.
+    /// Whether the link is null.
     pub fn is_null(&self) -> bool
         ensures { IsTrue result ↔ (self.now.nodes ≡ leaf) }
     {
         self.first == ptr::null_mut()
     }
 
-    /// Where the first node lies.
+    /// The address of the first node.
     pub fn start(&self) -> *mut Node<T, Link<T>, Link<T>>
         ensures { result ≡ self.now.first }
     {
@@ -58,7 +58,7 @@ impl<T> Link<T> {
         unsafe { &*self.first }
     }
 
-    /// Lends the first node, to be changed.
+    /// Borrows the first node mutably.
     pub fn get_mut(&mut self) -> &mut Node<T, Link<T>, Link<T>>
         requires { Leads self.old.nodes }
         ensures* writes_back { sem 𝓛 (keeps_what_is_left T.row self.entry result) }
@@ -81,7 +81,7 @@ impl<T> Link<T> {
         Link { first: ptr }
     }
 
-    /// Reads the first node out of its block. What is below and beside it goes with it.
+    /// Moves the first node out of its block, with its children and the siblings after it.
     pub fn take(
         self,
         alloc: Global,
@@ -99,7 +99,7 @@ impl<T> Link<T> {
         }
     }
 
-    /// Links other siblings behind the last of these, which lies at `last`.
+    /// Links other siblings after the last of these, which is at `last`.
     pub fn join(self, last: *mut Node<T, Link<T>, Link<T>>, others: Link<T>) -> Link<T>
         requires leads { Leads self.nodes }
         requires last { last ≡ last_of self.nodes self.first }
@@ -113,7 +113,7 @@ impl<T> Link<T> {
         self
     }
 
-    /// Lets go of a link to no node.
+    /// Drops a null link.
     pub fn give_up(self)
         requires { self.nodes ≡ leaf }
     {
@@ -147,7 +147,7 @@ impl<T> Link<T> {
     ghost use Rattle.std.specs.Prelude.{◌+◌};
     ghost use Rattle.kob_prefix_tree.specs.Nodes.{size};
 
-    /// The siblings of `first`, turned round, and then those of `rest`.
+    /// The siblings of `first` in reverse order, and then those of `rest`.
     fn before(first: Link<T>, rest: Link<T>) -> Link<T>
         ensures { size result.nodes ≡ size first.nodes + size rest.nodes }
     {
@@ -178,7 +178,7 @@ impl<T> Link<T> {
     }
 }
 
-// A link is the only way to its nodes, so it goes where what they keep may go.
+// A link is the only pointer to its nodes, so it may move to another thread if their contents may.
 unsafe impl<T: Send> Send for Link<T> {}
 
 unsafe impl<T: Sync> Sync for Link<T> {}

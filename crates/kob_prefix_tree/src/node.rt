@@ -1,10 +1,9 @@
-//! A node as it lies in memory.
+//! A node as it is in memory.
 use std::alloc::Global;
 
-/// What is kept at a place of the tree, the way to the nodes below it and the way to those beside
-/// it.
+/// The contents of one place of the tree, the link to the child nodes and the link to the siblings.
 ///
-/// It is written for any two ways `C` and `N`, so that what a node owns is known before what a link
+/// The links are of any two types `C` and `N`, so that what a node owns is known before what a link
 /// owns is defined.
 #[derive(Drop)]
 pub struct Node<T, C, N> {

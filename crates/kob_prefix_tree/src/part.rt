@@ -1,4 +1,4 @@
-//! The part of a tree whose keys begin in one way.
+//! The part of a tree whose keys have a common prefix.
 ghost use Rattle.std.specs.Prelude.{◌≡◌, ◌∷◌, ◌++◌, List, ℕ};
 ghost use Rattle.kob_prefix_tree.specs.Held.{serials_of};
 ghost use Rattle.kob_prefix_tree.specs.Part.{held_from, part_of};
@@ -10,8 +10,8 @@ use crate::place::Place;
 use crate::serials::Unread;
 use crate::walk::Walk;
 
-/// What a tree holds behind the beginning that some of its keys have in common, to be read: it
-/// takes no memory. A key of the part is what follows that beginning.
+/// A view of the keys of a tree that have a common prefix. It does not allocate. A key of the part
+/// is what follows that prefix.
 #[derive(Clone, Copy, Drop)]
 pub struct Part<'a> {
     place: Option<Place<'a>>,
@@ -24,7 +24,7 @@ impl<'a> Part<'a> {
         Part { place: Some(place) }
     }
 
-    /// The part of the keys that begin with a text and the byte behind it.
+    /// The part of the keys that begin with a text and the byte after it.
     #[tactic(auto, using(crate::proofs::PartLemmas::from_match))]
     pub fn behind(self, text: &[u8], byte: u8) -> Part<'a>
         ensures { part_of result ≡ (λ key. part_of self.entry (text.now ++ byte ∷ key)) }
@@ -37,8 +37,8 @@ impl<'a> Part<'a> {
         }
     }
 
-    /// The prefixed serials of the keys with which the name begins, the shortest key first, and
-    /// then the literal ones of the name.
+    /// The prefixed serials of the keys that are prefixes of the name, the shortest key first, and
+    /// then the literal serials of the name.
     pub fn walk(self, name: &'a [u8]) -> Walk<'a>
         ensures { left_of result ≡ serials_along (part_of self.entry) name.now }
     {
@@ -58,7 +58,7 @@ impl<'a> Part<'a> {
         }
     }
 
-    /// The place of a key, from which longer keys go on.
+    /// The place of a key, from which longer keys continue.
     fn at(self, key: &[u8]) -> Option<Place<'a>>
         ensures { (more : List ℕ)
             → held_from result more ≡ part_of self.entry (key.now ++ more) }

@@ -1,4 +1,4 @@
-//! The nodes of a key that are made ahead: linked beside one another, each with some of its bytes.
+//! The nodes of a key, allocated ahead: linked as siblings, each with some of its bytes.
 ghost use Rattle.std.specs.Prelude.{◌≡◌, ◌≤◌, [], ◌∷◌, ◌+◌, ◌*◌, drop, length};
 ghost use Rattle.std.specs.Prelude.{IfOk, MatchOption, OnOk};
 ghost use Rattle.kob_prefix_tree.specs.Nodes.{Leads};
@@ -27,7 +27,7 @@ impl Link<Item> {
         Some(self.get().item.byte)
     }
 
-    /// Takes the first byte off, and frees a node that has no other.
+    /// Removes the first byte, and frees a node that has no other.
     pub(crate) fn drop_byte(&mut self)
         ensures { key_of self.new.nodes ≡ drop 1 (key_of self.old.nodes) }
     {
@@ -47,8 +47,8 @@ impl Link<Item> {
         emptied.give_up();
     }
 
-    /// Takes off the bytes with which a tail begins too, and says how many. It calls itself once a
-    /// byte, and so at most 22 times.
+    /// Removes the common prefix of the key and a tail, and returns its length. It recurses once
+    /// per byte, and so at most 22 times.
     #[cycle(drop_common)]
     pub(crate) fn drop_common(&mut self, tail: &[u8]) -> usize
         ensures { Parts tail.now (key_of self.old.nodes) result (key_of self.new.nodes) }
@@ -66,7 +66,7 @@ impl Link<Item> {
         self.drop_common(others) + 1
     }
 
-    /// Puts one byte more in front: into the first node, where that has room, or into one more.
+    /// Adds one byte in front: to the first node if it has room, otherwise in one more node.
     fn push_byte(&mut self, alloc: Global, byte: u8) -> Result<(), AllocError>
         requires { ArePacked self.old.nodes }
         ensures key { IfOk result (λ _. key_of self.new.nodes ≡ byte ∷ key_of self.old.nodes) }
@@ -102,8 +102,8 @@ impl Link<Item> {
     }
 }
 
-/// How many bytes a tail and a key have in common at their beginning, and the rest of the key. It
-/// calls itself once a byte, and so at most 22 times.
+/// The length of the common prefix of a tail and a key, and the rest of the key. It recurses once
+/// per byte, and so at most 22 times.
 #[cycle(parted)]
 pub(crate) fn parted<'a>(tail: &[u8], key: &'a [u8]) -> (usize, &'a [u8])
     ensures { Parts tail.now key.now result.0 result.1.now }
@@ -121,7 +121,7 @@ pub(crate) fn parted<'a>(tail: &[u8], key: &'a [u8]) -> (usize, &'a [u8])
     (count + 1, rest)
 }
 
-/// Nodes for a key, one for every 23 bytes. One that can't be made frees the others.
+/// Nodes for a key, one for every 23 bytes. If one cannot be allocated, the others are freed.
 pub(crate) fn path_of(alloc: Global, key: &[u8]) -> Result<Link<Item>, AllocError>
     ensures key { IfOk result (λ path. key_of path.nodes ≡ key.now) }
     ensures count { IfOk result (λ path. 23 * count path.nodes ≤ length key.now + 22) }
@@ -135,7 +135,7 @@ pub(crate) fn path_of(alloc: Global, key: &[u8]) -> Result<Link<Item>, AllocErro
     Ok(path)
 }
 
-/// One node for no key, of which only the block is wanted.
+/// One node for no key, of which only the block is used.
 pub(crate) fn spare_node(alloc: Global) -> Result<Link<Item>, AllocError>
     ensures { IfOk result (λ spare. Leads spare.nodes) }
 {

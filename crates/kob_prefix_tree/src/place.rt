@@ -1,4 +1,4 @@
-//! A place of the tree, to be read.
+//! A place of the tree, for reading.
 ghost use Rattle.std.specs.Prelude.{◌≡◌, ◌≢◌, ◌∷◌, ◌++◌, ◌≤◌, ℕ, List, length};
 ghost use Rattle.std.specs.Prelude.{IfSome, MatchOption};
 ghost use Rattle.kob_prefix_tree.specs.Held.{nothing, serials_of};
@@ -13,8 +13,8 @@ use crate::link::Link;
 use crate::serials::{Serials, Unread};
 use crate::siblings::{ByteNode, Item};
 
-/// A place that is read: the root, or one behind a byte of a node, where the others of its bytes
-/// are still to come.
+/// A place for reading: the root, or the place after a byte of a node, with the rest of the node's
+/// bytes.
 #[derive(Clone, Copy, Drop)]
 pub(crate) struct Place<'a> {
     pub(crate) tail: &'a [u8],
@@ -35,7 +35,7 @@ impl<'a> Place<'a> {
         }
     }
 
-    /// The serials of one kind that are here.
+    /// The serials of one kind at this place.
     pub(crate) fn serials(self, kind: PatternKind) -> Unread<'a>
         ensures { unread_of result ≡ serials_of kind (seen self.entry).0 }
     {
@@ -48,7 +48,7 @@ impl<'a> Place<'a> {
         }
     }
 
-    /// What follows one byte.
+    /// The place after one byte.
     pub(crate) fn child(self, byte: u8) -> Option<Place<'a>>
         ensures held { MatchOption result
             ((key : List ℕ) → held_in (byte ∷ key) (seen self.entry) ≡ nothing)
@@ -73,7 +73,7 @@ impl<'a> Place<'a> {
         })
     }
 
-    /// The place of a key, from which longer keys go on.
+    /// The place of a key, from which longer keys continue.
     pub(crate) fn at(self, key: &[u8]) -> Option<Place<'a>>
         ensures { MatchOption result
             ((more : List ℕ) → held_in (key.now ++ more) (seen self.entry) ≡ nothing)
@@ -89,7 +89,7 @@ impl<'a> Place<'a> {
         Some(place)
     }
 
-    /// How many bytes of a name lead on.
+    /// How many bytes of a name can be followed from here.
     pub(crate) fn depth_of(self, name: &[u8]) -> usize
         requires { IsNeat (seen self).1 }
         ensures longest { IsLongestInUse (λ key. held_in key (seen self.entry)) name.now result }

@@ -1,4 +1,4 @@
-//! The serials that one key holds of one kind.
+//! The serials of one key of one kind.
 ghost use Rattle.std.specs.Prelude.{◌≡◌, [], ◌∷◌, ◌++◌, ◌↔◌, IfOk, IsTrue, MatchOption};
 ghost use Rattle.kob_prefix_tree.specs.Lists.{has_in_turn, without_in_turn};
 ghost use Rattle.kob_prefix_tree.specs.SerialsLeft.{unread_of};
@@ -8,13 +8,13 @@ use crate::link::Link;
 use std::alloc::{AllocError, Global};
 use std::marker::Model;
 
-/// The serials that one key holds of one kind, in the order in which they were put in.
+/// The serials of one key of one kind, in the order of insertion.
 #[derive(Drop)]
 pub(crate) struct Serials {
     store: Store,
 }
 
-/// Where they are. Most keys hold one, which needs no block.
+/// Where they are stored. Most keys hold one, which needs no block.
 #[derive(Drop)]
 enum Store {
     One(u64),
@@ -30,7 +30,7 @@ impl Model for Serials {
     ghost view = { λ a. serials_in a.store };
 }
 
-/// A serial that is to be put in, with a block for it and one for a serial that has none yet.
+/// A serial to insert, with a block for it and one for a serial that has none yet.
 #[derive(Drop)]
 pub(crate) struct NewSerial {
     value: u64,
@@ -76,7 +76,7 @@ impl Serials {
         }
     }
 
-    /// All of them, to be read one by one.
+    /// All of them, for reading one by one.
     pub(crate) fn unread(&self) -> Unread<'_>
         ensures { unread_of result ≡ self.now }
     {
@@ -92,7 +92,7 @@ impl Serials {
         }
     }
 
-    /// Puts a serial last. It takes no memory, and frees the blocks that aren't needed.
+    /// Appends a serial. Does not allocate, and frees the blocks that are not needed.
     pub(crate) fn put(&mut self, serial: NewSerial)
         ensures { self.new ≡ self.old ++ serial ∷ [] }
     {
@@ -113,8 +113,8 @@ impl Serials {
         }
     }
 
-    /// Takes these serials out in one pass, each behind the one before it, and says whether any was
-    /// there.
+    /// Removes these serials in one pass, each searched for after the one before it, and returns
+    /// whether any was there.
     pub(crate) fn remove_all(&mut self, serials: &[u64]) -> bool
         ensures found { result ≡ has_in_turn serials.now self.old }
         ensures left { self.new ≡ without_in_turn serials.now self.old }
@@ -132,8 +132,7 @@ impl Serials {
     }
 }
 
-/// What is still to be read of a key's serials: one that is without a block, and those from a
-/// link on.
+/// The serials of a key that are not read yet: one that has no block, and those from a link on.
 #[derive(Clone, Copy, Drop)]
 pub(crate) struct Unread<'a> {
     one: Option<u64>,

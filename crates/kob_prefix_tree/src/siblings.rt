@@ -1,5 +1,5 @@
-//! The nodes that follow one place of the tree: siblings, each of another byte. The one that came
-//! last stands first.
+//! The child nodes of one place of the tree: siblings, each with another first byte. The one that
+//! was added last is the first.
 ghost use Rattle.std.specs.Prelude.{◌≡◌, Some, None, MatchOption};
 ghost use Rattle.kob_prefix_tree.specs.Trie.{sibling};
 ghost use Rattle.kob_prefix_tree.specs.Siblings.{value_at, without, siblings};
@@ -14,8 +14,8 @@ use std::alloc::Global;
 use std::mem::{replace, size_of};
 use std_alloc::room::Vacant;
 
-/// What a node keeps: its bytes, by the first of which its siblings differ, and the serials
-/// of the key that ends there.
+/// The contents of a node: its bytes, of which the first one differs from those of its siblings,
+/// and the serials of the key that ends there.
 #[derive(Drop)]
 pub(crate) struct Item {
     pub(crate) byte: u8,
@@ -24,7 +24,7 @@ pub(crate) struct Item {
     pub(crate) prefixed: Serials,
 }
 
-/// A node of the tree. It takes 72 bytes.
+/// A node of the tree, in 72 bytes.
 pub(crate) type ByteNode = Node<Item, Link<Item>, Link<Item>>;
 
 const _: () = prove!(size_of::<ByteNode>() == 72);
@@ -78,8 +78,9 @@ impl Link<Item> {
         emptied.give_up();
     }
 
-    /// Takes the node that begins with this byte out, with all that is below, and its block. The one
-    /// behind it takes its place. It calls itself once a sibling, and so at most 256 times.
+    /// Removes the node that begins with this byte, with all nodes below, and returns it with its
+    /// block. The next sibling takes its place. It recurses once per sibling, and so at most 256
+    /// times.
     #[cycle(take_out)]
     pub(crate) fn take_out(&mut self, byte: u8) -> Option<(Branch, Room, Global)>
         ensures { MatchOption result

@@ -1,10 +1,10 @@
-//! The bytes of a node behind its first one.
+//! The bytes of a node after its first one.
 ghost use Rattle.std.specs.Prelude.{◌≡◌, ◌↔◌, [], ◌∷◌, ◌≤◌, length, drop, IsTrue, MatchOption};
 
 use std::marker::Model;
 
-/// Up to 22 bytes, in order, at the end of the array: where a byte is taken off or put in front, no
-/// other moves. It takes 23, so that it fills three words with a node's first byte.
+/// Up to 22 bytes, in order, at the end of the array: no other byte moves when one is removed or
+/// added in front. The 23 bytes fill three words together with a node's first byte.
 #[derive(Drop)]
 pub(crate) struct Tail {
     bytes: [u8; 22],
@@ -45,7 +45,7 @@ impl Tail {
         tail
     }
 
-    /// The bytes, to be read.
+    /// The bytes, for reading.
     pub(crate) fn as_slice(&self) -> &[u8]
         ensures bytes { result.now ≡ self.now }
         ensures limit { length result.now ≤ 22 }
@@ -74,7 +74,7 @@ impl Tail {
         self.as_slice().first().copied()
     }
 
-    /// Takes the first byte off.
+    /// Removes the first byte.
     pub(crate) fn pop_front(&mut self) -> Option<u8>
         ensures { MatchOption result
             ((self.old ≡ []) × (self.new ≡ []))
@@ -85,7 +85,7 @@ impl Tail {
         Some(first)
     }
 
-    /// Puts one byte more in front.
+    /// Adds one byte in front.
     pub(crate) fn push_front(&mut self, byte: u8)
         requires { length self.old ≤ 21 }
         ensures { self.new ≡ byte ∷ self.old }

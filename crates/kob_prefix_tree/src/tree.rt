@@ -21,12 +21,14 @@ use std::marker::Model;
 /// A map from keys, which are byte strings, to two lists of serials: the literal and the prefixed
 /// ones.
 ///
-/// A node has one to 23 bytes of a key, the serials of the key that ends with them, its first child
-/// and its next sibling, and takes 72 bytes. No two siblings begin with one byte, and no node stays
-/// that holds nothing and leads nowhere. Where a key ends or parts within its bytes a node is cut
-/// in two, which no removal joins again. A key may be of any length: what adds or removes calls
-/// itself at each node at most once a byte and once a sibling, from which it comes back before it
-/// goes on. All else is loops, freeing the tree too. A tree may be moved to another thread.
+/// A node takes 72 bytes. It has 1 to 23 bytes of a key, the serials of the key that ends with
+/// them, its first child and its next sibling. No two siblings begin with the same byte. A node
+/// without serials and children is freed. A node is split if a key ends or branches off within its
+/// bytes, and no removal joins the parts again.
+///
+/// A key may be of any length. An addition or a removal recurses at each node at most once per byte
+/// and once per sibling. It returns from there before it goes to the next node. All else is loops,
+/// also the freeing of a tree. A tree may be moved to another thread.
 #[derive(Drop)]
 pub struct PrefixTree {
     root: Branch,
@@ -50,8 +52,8 @@ impl Model for PrefixTree {
     ghost invariant = { λ a. IsNeat (contents a.root).1 };
 }
 
-/// The nodes of one key, one more for a node that is cut in two, and the place of the key's serial,
-/// made ahead. One that is let go frees them.
+/// The nodes of one key, one more for a node that is split, and the blocks for the key's serial,
+/// allocated ahead. They are freed when it is dropped.
 #[derive(Drop)]
 pub struct Prepared {
     path: Link<Item>,
@@ -77,7 +79,7 @@ impl Model for Prepared {
 }
 
 impl PrefixTree {
-    /// The empty map. It takes no memory.
+    /// The empty map. Does not allocate.
     pub fn new() -> PrefixTree
         ensures { result ≡ map.empty }
     {
@@ -86,8 +88,8 @@ impl PrefixTree {
         }
     }
 
-    /// Puts the serial last in the key's list of its kind. `AllocError` says that memory was short,
-    /// and nothing else. No node is made that is there already.
+    /// Appends the serial to the key's list of its kind. The only error is out of memory. No node
+    /// is made that is there already.
     pub fn add(
         &mut self,
         alloc: Global,
@@ -102,10 +104,10 @@ impl PrefixTree {
         self.root.add(alloc, key, kind, serial)
     }
 
-    /// The first step of an addition: makes the nodes and the serial's place as a piece of its own.
-    /// It makes a node for every 23 bytes of the key, since those that stand now may be removed
-    /// before the second step, and one more, since one may have to be cut in two. The serial has two
-    /// blocks, for the same reason.
+    /// The first step of an addition: allocates the nodes and the serial's blocks, and leaves the
+    /// tree as it is. It makes a node for every 23 bytes of the key, since those that are there now
+    /// may be removed before the second step. It makes one more, since a node may have to be split.
+    /// The serial has two blocks, for the same reason.
     pub fn prepare_add(
         &self,
         alloc: Global,
@@ -127,7 +129,7 @@ impl PrefixTree {
     }
 
     /// The second step: links in what was made, whatever was added and removed since, and frees the
-    /// nodes whose bytes stand already. It takes no memory.
+    /// nodes whose bytes are there already. Does not allocate.
     pub fn commit_add(&mut self, prepared: Prepared)
         ensures { self.new ≡ added self.old prepared.key prepared.kind prepared.serial }
     {
@@ -142,9 +144,9 @@ impl PrefixTree {
         self.root.grow(path, room, heap, kind, serial);
     }
 
-    /// Takes the serial out of the key's list of its kind, once if it is there more often, and says
-    /// whether it was there. Nodes that then hold nothing and lead nowhere are freed. It takes no
-    /// memory.
+    /// Removes the serial from the key's list of its kind, once if it is there more often, and
+    /// returns whether it was there. Nodes that then have no serials and no children are freed.
+    /// Does not allocate.
     pub fn remove(&mut self, key: &[u8], kind: PatternKind, serial: u64) -> bool
         ensures found { result ≡ has_serial kind serial (held self.old key.now) }
         ensures removed { self.new ≡ removed self.old key.now kind serial }
@@ -152,9 +154,9 @@ impl PrefixTree {
         self.root.remove_all(key, kind, &[serial])
     }
 
-    /// Takes these serials out of the key's list of their kind in one pass, so they have to come in
-    /// the order of that list: each is looked for behind the one before it. It says whether any was
-    /// there. Nodes that then hold nothing and lead nowhere are freed. It takes no memory.
+    /// Removes these serials from the key's list of their kind in one pass, and returns whether any
+    /// was there. They must be in the order of that list: each is searched for after the one before
+    /// it. Nodes that then have no serials and no children are freed. Does not allocate.
     pub fn remove_all(&mut self, key: &[u8], kind: PatternKind, serials: &[u64]) -> bool
         ensures found { result ≡ has_serials kind serials.now (held self.old key.now) }
         ensures removed { self.new ≡ removed_all self.old key.now kind serials.now }
@@ -162,30 +164,30 @@ impl PrefixTree {
         self.root.remove_all(key, kind, serials)
     }
 
-    /// The prefixed serials of the keys with which the name begins, the shortest key first, and
-    /// then the literal ones of the name. It takes no memory, and enters no more places than
-    /// `levels` tells.
+    /// The prefixed serials of the keys that are prefixes of the name, the shortest key first, and
+    /// then the literal serials of the name. Does not allocate, and enters no more places than
+    /// `levels` returns.
     pub fn walk<'a>(&'a self, name: &'a [u8]) -> Walk<'a>
         ensures { left_of result ≡ walk_of self.now name.now }
     {
         self.whole().walk(name)
     }
 
-    /// The literal serials of the name alone. It takes no memory.
+    /// The literal serials of the name alone. Does not allocate.
     pub fn literal(&self, name: &[u8]) -> Walk<'_>
         ensures { left_of result ≡ serials_of PatternKind.Literal (held self.now name.now) }
     {
         self.listed(name, PatternKind::Literal)
     }
 
-    /// The serials of the key's list of one kind, in order. It takes no memory.
+    /// The serials of the key's list of one kind, in order. Does not allocate.
     pub fn listed(&self, key: &[u8], kind: PatternKind) -> Walk<'_>
         ensures { left_of result ≡ serials_of kind (held self.now key.now) }
     {
         self.whole().listed(key, kind)
     }
 
-    /// The part of the keys that begin with a text and the byte behind it. It takes no memory.
+    /// The part of the keys that begin with a text and the byte after it. Does not allocate.
     pub fn behind(&self, text: &[u8], byte: u8) -> Part<'_>
         ensures { part_of result ≡ (λ key. held self.now (text.now ++ byte ∷ key)) }
     {
@@ -199,7 +201,7 @@ impl PrefixTree {
         Part::of(self.root.place())
     }
 
-    /// The places that a walk of the name enters, the start counted as one. It takes no memory.
+    /// The number of places that a walk of the name enters, including the start. Does not allocate.
     pub fn levels(&self, name: &[u8]) -> usize
         ensures levels { IsLevels self.now name.now result }
         ensures bounded { result ≤ length name.now + 1 }

@@ -10,14 +10,14 @@ use crate::kind::PatternKind;
 use crate::place::Place;
 use crate::serials::Unread;
 
-/// A place of the tree, and the bytes of the name that are still to follow from there.
+/// A place of the tree, and the rest of the name from there.
 #[derive(Clone, Copy, Drop)]
 pub(crate) struct Ahead<'a> {
     place: Place<'a>,
     name: &'a [u8],
 }
 
-/// The serials along a name, as `PrefixTree::walk` and `PrefixTree::literal` give them.
+/// The serials along a name, as `PrefixTree::walk` and `PrefixTree::literal` return them.
 #[derive(Drop)]
 pub struct Walk<'a> {
     serials: Unread<'a>,

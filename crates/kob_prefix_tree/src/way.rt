@@ -1,5 +1,5 @@
-//! The way from the root down to one place and up again, kept in the blocks of its own nodes, so
-//! that it needs no memory and no stack, however long the key is.
+//! The way from the root down to one place and up again, kept in the blocks of its own nodes. It
+//! needs no allocation and no stack, however long the key is.
 ghost use Rattle.std.specs.Prelude.{◌≡◌, [], ◌∷◌, ◌++◌, ◌+◌, ℕ, List, false, length, take};
 ghost use Rattle.std.specs.Prelude.{IsTrue, None, OnErr, OnOk};
 ghost use Rattle.kob_prefix_tree.specs.Nodes.{Leads};
@@ -23,7 +23,7 @@ use std::alloc::{AllocError, Global};
 use std::mem::{replace, swap};
 
 impl Branch {
-    /// Goes on from here to another branch. What is here becomes the way's last node, in the
+    /// Goes on from here to another branch. The branch here becomes the way's last node, in the
     /// block.
     fn go_on(&mut self, above: &mut Link<Item>, room: Room, alloc: Global, byte: u8, branch: Branch)
         ensures here { self.new ≡ branch }
@@ -56,8 +56,8 @@ impl Branch {
         emptied.give_up();
     }
 
-    /// Goes back to the place that the way's last node keeps. What is here is put below it, or
-    /// freed if it is bare.
+    /// Goes back to the place that the way's last node keeps. The branch here is linked below it,
+    /// or freed if it has no bytes, serials or children.
     fn go_back(&mut self, above: &mut Link<Item>)
         requires { Leads above.old.nodes }
         ensures shorter { count above.old.nodes ≡ 1 + count above.new.nodes }
@@ -91,7 +91,8 @@ impl Branch {
         *self = place;
     }
 
-    /// Puts these bytes before what is here, unless it is bare.
+    /// Adds these bytes before those of the branch here, unless it has no bytes, serials or
+    /// children.
     pub(crate) fn put_behind(&mut self, tail: Tail)
         requires { self.old.tail ≡ [] }
         ensures { contents self.new ≡ kept_behind tail (contents self.old) }
@@ -102,7 +103,8 @@ impl Branch {
         self.tail = tail;
     }
 
-    /// Puts a branch below, behind the byte and in the block, which is freed if the branch is bare.
+    /// Links a branch below, after the byte and in the block. The block is freed if the branch has
+    /// no bytes, serials or children.
     fn take_in(&mut self, room: Room, alloc: Global, byte: u8, branch: Branch)
         requires { self.old.tail ≡ [] }
         ensures no_tail { self.new.tail ≡ [] }
@@ -118,8 +120,8 @@ impl Branch {
         self.below.put_front(room, alloc, byte, branch);
     }
 
-    /// Goes on to the node that begins with the byte, if the branch has no more bytes than these, and
-    /// there is one.
+    /// Goes on to the node that begins with the byte, if there is one and the branch has no more
+    /// bytes than these.
     fn enter(&mut self, above: &mut Link<Item>, count: usize, byte: u8) -> bool
         ensures way { (rest key : List ℕ) (root : Contents) → IsTrue result
             → IsWay above.old.nodes (take count self.old.tail ++ byte ∷ rest) key root
@@ -140,8 +142,8 @@ impl Branch {
         true
     }
 
-    /// Goes down along the key as long as nodes lead on. It gives the way, how many bytes of the
-    /// branch lead on behind it, and the rest of the key.
+    /// Goes down along the key as far as there are nodes. Returns the way, how many bytes of the
+    /// branch match after it, and the rest of the key.
     fn descend<'a>(&mut self, key: &'a [u8]) -> (Link<Item>, usize, &'a [u8])
         requires { IsNeat (contents self.old).1 }
         ensures way { IsWay result.0.nodes (take result.1 self.new.tail ++ result.2.now) key.now
@@ -162,8 +164,8 @@ impl Branch {
         }
     }
 
-    /// As `descend`, along the key that the nodes of a path spell. Those of its bytes that stand
-    /// already are dropped.
+    /// As `descend`, along the key that the nodes of a path hold. Its bytes that are in the tree
+    /// already are removed from the path.
     fn descend_path(&mut self, path: &mut Link<Item>) -> (Link<Item>, usize)
         requires { IsNeat (contents self.old).1 }
         ensures way { IsWay result.0.nodes (take result.1 self.new.tail ++ key_of path.new.nodes)
@@ -183,7 +185,7 @@ impl Branch {
         }
     }
 
-    /// Goes the way up to the root.
+    /// Goes back up to the root.
     fn ascend(&mut self, above: Link<Item>)
         ensures { contents self.new ≡ unwound above.nodes (contents self.old) }
     {
@@ -194,7 +196,7 @@ impl Branch {
         above.give_up();
     }
 
-    /// The branch that holds the serial alone, at the key of a tail and of a path behind it. It is
+    /// The branch that holds the serial alone, at the key of a tail and of a path after it. It is
     /// made in the blocks of the path.
     pub(crate) fn along(
         tail: Tail,
@@ -223,8 +225,8 @@ impl Branch {
         here
     }
 
-    /// Puts the serial last at the key. It makes the nodes that are missing, and no others, and
-    /// links them in when all are made.
+    /// Appends the serial at the key. It makes the nodes that are missing, and no others, and links
+    /// them in when all are made.
     pub(crate) fn add(
         &mut self,
         alloc: Global,
@@ -244,9 +246,9 @@ impl Branch {
         added
     }
 
-    /// Puts the serial last at the key that the nodes of the path spell. Those whose bytes stand
-    /// already are freed, the others linked in, and a node within whose bytes the key ends or parts
-    /// is cut in two, with the block.
+    /// Appends the serial at the key that the nodes of the path hold. Nodes whose bytes are in the
+    /// tree already are freed, the others linked in. A node within whose bytes the key ends or
+    /// branches off is split, with the block.
     pub(crate) fn grow(
         &mut self,
         path: Link<Item>,
@@ -265,8 +267,8 @@ impl Branch {
         self.ascend(above);
     }
 
-    /// Takes these serials out at the key in one pass, says whether any was there, and frees the
-    /// nodes that then keep nothing and lead nowhere.
+    /// Removes these serials at the key in one pass, and returns whether any was there. Frees the
+    /// nodes that then have no serials and no children.
     pub(crate) fn remove_all(&mut self, key: &[u8], kind: PatternKind, serials: &[u64]) -> bool
         requires neat { IsNeat (contents self.old).1 }
         ensures found { result

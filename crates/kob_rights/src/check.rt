@@ -24,7 +24,7 @@ pub enum Clause<'a> {
 /// Clauses, tried in order; each of them has to be granted.
 #[derive(Clone, Copy)]
 pub enum Rights<'a> {
-    /// Nothing has to be granted.
+    /// No right is needed.
     Free,
     One(Clause<'a>),
     Both(Clause<'a>, Clause<'a>),

@@ -1,10 +1,10 @@
-//! Events: who asks for what.
+//! Events: requests with the principal and the host that ask.
 
 use crate::request::Request;
 use kob_names::{Host, PlainValue, Principal};
 use std::alloc::{AllocError, Global};
 
-/// One request of a principal at a host.
+/// One request, with the principal and the host that ask.
 #[derive(Debug, Drop)]
 pub struct Event {
     pub principal: Principal,

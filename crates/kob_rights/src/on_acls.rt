@@ -3,7 +3,7 @@
 use kob_names::{BindingFilter, Draft, Items, PlainValue};
 use std::alloc::{AllocError, Global};
 
-/// DESCRIBE_ACLS: the bindings that a filter takes.
+/// DESCRIBE_ACLS: the bindings that a filter selects.
 #[derive(Debug, Drop)]
 pub struct DescribeAcls {
     pub filter: BindingFilter,
@@ -15,7 +15,7 @@ pub struct CreateAcls {
     pub drafts: Items<Draft>,
 }
 
-/// DELETE_ACLS: the bindings that a filter takes go.
+/// DELETE_ACLS: deletes the bindings that a filter selects.
 #[derive(Debug, Drop)]
 pub struct DeleteAcls {
     pub filter: BindingFilter,

@@ -3,7 +3,7 @@
 use kob_names::{Batch, PlainValue, Text};
 use std::alloc::{AllocError, Global};
 
-/// Which offset of a partition is asked for. Kafka's protocol writes -2 for the start and -1 for
+/// Which offset of a partition is requested. Kafka's protocol writes -2 for the start and -1 for
 /// the end.
 #[derive(Clone, Copy, Debug, PartialEq, Eq)]
 pub enum Which {
@@ -11,8 +11,8 @@ pub enum Which {
     End,
 }
 
-/// Before which offset a partition's records go. Kafka's DeleteRecords API writes -1 for the end,
-/// its high watermark.
+/// The offset before which a partition's records are deleted. Kafka's DeleteRecords API writes -1
+/// for the end, its high watermark.
 #[derive(Clone, Copy, Debug, PartialEq, Eq)]
 pub enum Before {
     Offset(u64),
@@ -44,8 +44,8 @@ pub struct ListOffsets {
     pub which: Which,
 }
 
-/// DELETE_RECORDS of one partition: its records before an offset go, and it starts there. An offset
-/// at or below its start changes nothing.
+/// DELETE_RECORDS of one partition: deletes its records before an offset, which becomes its start.
+/// An offset at or below its start changes nothing.
 #[derive(Debug, Drop)]
 pub struct DeleteRecords {
     pub topic: Text,

@@ -14,7 +14,7 @@ pub enum Reason {
     UnknownTopic,
     /// The topic has no partition of the number.
     UnknownPartition,
-    /// The batch is empty.
+    /// The batch has no records.
     NoRecords,
     /// The batch has more than 1,000 records.
     TooManyRecords,
@@ -25,19 +25,19 @@ pub enum Reason {
     OffsetsSpent,
     /// The offset is below the partition's start or above its end.
     OutOfRange,
-    /// The name is no topic name.
+    /// The name is not a valid topic name.
     BadTopicName,
-    /// A topic has the name.
+    /// There is a topic of that name already.
     TopicExists,
-    /// A topic has from 1 to 1,000 partitions.
+    /// The number of partitions is not from 1 to 1,000.
     BadPartitions,
-    /// There are 10,000 topics.
+    /// There are 10,000 topics already.
     TooManyTopics,
-    /// A binding's pattern has no name.
+    /// The name of a binding's pattern is empty.
     EmptyName,
     /// A binding on the cluster has another name than `kafka-cluster`.
     BadCluster,
-    /// A binding's pattern has a name of more than 255 bytes.
+    /// The name of a binding's pattern has more than 255 bytes.
     NameTooLong,
     /// There would be more than 100,000 bindings.
     TooManyBindings,
@@ -45,17 +45,17 @@ pub enum Reason {
     SerialsSpent,
     /// The epoch is above 32,767 or the base above 2,147,483,647.
     BadSequence,
-    /// The producer id was never given.
+    /// INIT_PRODUCER_ID never returned the producer id.
     UnknownProducer,
-    /// A batch of a later epoch was accepted.
+    /// A batch of a higher epoch was accepted.
     OldEpoch,
-    /// The base is not the sequence that comes next.
+    /// The base is not the next sequence.
     OutOfOrder,
-    /// A group's name has from 1 to 255 bytes.
+    /// The group's name does not have 1 to 255 bytes.
     BadGroupName,
     /// The offset is above 9,223,372,036,854,775,807.
     BadOffset,
-    /// There are 10,000 groups.
+    /// There are 10,000 groups already.
     TooManyGroups,
     /// No group has the name.
     GroupNotFound,
@@ -64,7 +64,7 @@ pub enum Reason {
 }
 
 impl Reason {
-    /// The code that is answered with the reason.
+    /// The error code of the reason.
     pub fn code(self) -> Code
         ensures { result ≡ code_of self }
     {

@@ -5,22 +5,22 @@ use crate::reason::Reason;
 use kob_names::{Binding, Items, PlainValue, Record, Text, Verdict};
 use std::alloc::{AllocError, Global};
 
-/// What a request is answered that is done.
+/// The content of a reply to a request that is done.
 #[derive(Debug, Drop)]
 pub enum Body {
     /// The topic is created.
     Created,
-    /// The topic, or the group, is gone.
+    /// The topic or the group is deleted.
     Deleted,
     /// The offset is committed.
     Committed,
     /// The serials of the bindings of a CREATE_ACLS, in the order of its drafts.
     Serials(Items<u64>),
-    /// Bindings with their serials, in rising serials.
+    /// Bindings with their serials, by ascending serial.
     Bindings(Items<(u64, Binding)>),
-    /// The first offset of a batch, or the offset that was asked for.
+    /// The first offset of a batch, or the offset that was requested.
     Offset(u64),
-    /// Where a partition starts after a DELETE_RECORDS.
+    /// The start of a partition after a DELETE_RECORDS.
     Start(u64),
     /// The committed offset, or none.
     Commit(Option<u64>),
@@ -34,16 +34,16 @@ pub enum Body {
     Producer { id: u64, epoch: u64 },
 }
 
-/// The answer to a request.
+/// The reply to a request.
 #[derive(Debug, Drop)]
 pub enum Reply {
     /// A right is not granted. The verdicts are those of the alternatives of the first clause that
-    /// is not met.
+    /// fails.
     Denied {
         code: Code,
         verdicts: Items<Verdict>,
     },
-    /// All rights are granted, and the request can't be done.
+    /// All rights are granted, but the request cannot be done.
     Refused {
         code: Code,
         reason: Reason,

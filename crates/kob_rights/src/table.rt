@@ -13,9 +13,9 @@ use crate::request::Request;
 use kob_names::Operation;
 
 impl Request {
-    /// What has to be granted before the request is looked at, on the names as they were sent
-    /// (Kafka's documentation, "Authorization and ACLs", the table of operations and resources).
-    /// No memory is taken.
+    /// The rights that are needed, on the names as they were sent, before the request is examined.
+    /// The source is Kafka's documentation, "Authorization and ACLs", the table of operations and
+    /// resources. Does not allocate.
     pub fn rights(&self) -> Rights<'_>
         ensures { rights_view result ≡ rights self.now }
     {

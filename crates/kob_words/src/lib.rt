@@ -1,4 +1,4 @@
-//! The words for what bindings are made of, and how bindings, bytes and numbers are printed.
+//! The words for the parts of bindings, and how bindings, bytes and numbers are printed.
 #![tactic(auto)]
 
 mod operation;

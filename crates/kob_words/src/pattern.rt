@@ -1,4 +1,4 @@
-//! The words for kinds of pattern, and for what a filter takes of them.
+//! The words for kinds of pattern, and for what a filter selects.
 
 ghost use Rattle.std.specs.Prelude.{◌≡◌};
 ghost use Rattle.kob_words.specs.Pattern.{pattern_name, pattern_named, filter_pattern_named};
@@ -26,7 +26,7 @@ pub fn pattern_named(name: &[u8]) -> Option<PatternKind>
         .copied()
 }
 
-/// What a filter of that name takes, in any ASCII case: `any`, `match`, or a kind of pattern.
+/// What a filter of that name selects, in any ASCII case: `any`, `match`, or a kind of pattern.
 pub fn filter_pattern_named(name: &[u8]) -> Option<FilterPattern>
     ensures { result ≡ filter_pattern_named name.now }
 {

@@ -13,8 +13,8 @@ use kob_names::{Binding, Draft};
 use std::alloc::AllocError;
 
 /// Prints a binding with its serial, as `binding SERIAL PERMISSION PRINCIPAL HOST OPERATION
-/// RESOURCE PATTERN NAME`, with no line feed after it. The error is out of memory; `out` has then
-/// grown by a part of it.
+/// RESOURCE PATTERN NAME`, without a line feed. The error is out of memory; `out` then ends with a
+/// part of the text.
 #[tactic(auto, using(crate::proofs::Appending::appending))]
 pub fn print_binding(out: &mut Vec<u8>, serial: u64, binding: &Binding) -> Result<(), AllocError>
     ensures text { OnOk result (out.new.items ≡ out.old.items ++ binding_text serial binding.now) }

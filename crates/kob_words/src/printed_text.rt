@@ -9,8 +9,8 @@ ghost use Rattle.kob_words.specs.PrintedText.{is_plain, byte_text, bytes_text, p
 use itoa::Buffer;
 use std::alloc::AllocError;
 
-/// Prints bytes: each outside 0x21 to 0x7e, and each `%` and `=`, is `%` and two lower-case
-/// hexadecimal digits.
+/// Prints bytes. Each byte outside 0x21 to 0x7e, and each `%` and `=`, is printed as `%` and two
+/// lower-case hexadecimal digits.
 #[tactic(auto, using(crate::proofs::Appending::appending))]
 pub fn push_bytes(out: &mut Vec<u8>, bytes: &[u8]) -> Result<(), AllocError>
     ensures text { OnOk result (out.new.items ≡ out.old.items ++ bytes_text bytes.now) }
@@ -28,7 +28,7 @@ pub fn push_bytes(out: &mut Vec<u8>, bytes: &[u8]) -> Result<(), AllocError>
     }
 }
 
-/// How many bytes at the front stand for themselves.
+/// How many bytes at the front are printed as they are.
 fn plain_length(bytes: &[u8]) -> usize
     ensures length { result ≡ plain_length bytes.now }
     ensures within { result ≤ length bytes.now }
