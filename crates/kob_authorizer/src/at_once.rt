@@ -82,8 +82,8 @@ pub fn serials_in(
         .collect(alloc)
 }
 
-/// The serial of the first entry with an equal binding: of one in force, or else of a new one,
-/// which get the serials from `next` on.
+/// The serial of the first entry with an equal binding: one in force, or otherwise a new one. The
+/// new ones get the serials from `next` on.
 fn serial_in_either(
     entries: &[(u64, Binding)],
     keys: &PrefixTree,
@@ -102,7 +102,7 @@ fn serial_in_either(
     }
 }
 
-/// The serial of the first new binding that is equal, when they get the serials from `next` on.
+/// The serial of the first new binding that is equal. The new ones get the serials from `next` on.
 #[tactic(auto, using(crate::proofs::Serials::moved_some, crate::proofs::Serials::moved_none))]
 fn serial_among(next: u64, fresh: &Fresh, binding: &Binding) -> Option<u64>
     requires { next + length fresh.now ≤ serial_limit }

@@ -1,4 +1,4 @@
-//! The authorizer: a list of bindings, and the trees that lead into it.
+//! The authorizer: a list of bindings, and the trees that index it.
 
 ghost use Rattle.std.specs.Prelude.{◌≡◌, ◌≢◌, ◌≤◌, IfErr, IfOk, None, OnErr, OnOk, Some, length};
 ghost use Rattle.kob_authorizer.specs.Contents.{IsRising, fresh_contents};
@@ -23,13 +23,13 @@ use kob_names::{Binding, BindingFilter, Host, Operation, Principal, ResourceKind
 use std::alloc::{AllocError, Global};
 use std::marker::Model;
 
-/// The bindings in force, each with its serial, the super users, and whether what no binding
-/// matches is open to everyone.
+/// The bindings in force, each with its serial, the super users, and whether a resource that no
+/// binding matches is open to everyone.
 ///
-/// Contracts see the contents (the bindings in rising serials, the super users, the switch, and the
-/// serial that the next new binding gets) and, beside them, for how many more bindings there is room
-/// already.
-/// The rules are those of Kafka's documentation, "Authorization and ACLs", and of KIP-290.
+/// Contracts see the contents: the bindings by ascending serial, the super users, the setting
+/// `everyone`, and the serial that the next new binding gets. They also see for how many more
+/// bindings capacity is reserved. The rules are those of Kafka's documentation, "Authorization and
+/// ACLs", and of KIP-290.
 #[derive(Drop)]
 pub struct Authorizer {
     entries: Vec<(u64, Binding)>,
@@ -65,7 +65,7 @@ impl Model for Authorizer {
 impl Authorizer {
     /// An authorizer without bindings, whose first new binding gets the serial 1. With `everyone` a
     /// resource that no binding matches is open to everyone (Kafka's
-    /// `allow.everyone.if.no.acl.found`). No memory is taken: a super user is looked up in the list
+    /// `allow.everyone.if.no.acl.found`). Does not allocate: super users are looked up in the list
     /// until the first creation makes a tree of them.
     pub fn open(alloc: Global, supers: Vec<Principal>, everyone: bool) -> Authorizer
         ensures { result.contents ≡ fresh_contents supers.items everyone }
@@ -79,21 +79,21 @@ impl Authorizer {
         }
     }
 
-    /// The super users, in the order in which they were given; no memory is taken.
+    /// The super users, in the order in which they were given. Does not allocate.
     pub fn supers(&self) -> &[Principal]
         ensures { result.now ≡ self.now.contents.supers }
     {
         self.supers.as_slice()
     }
 
-    /// Whether what no binding matches is open to everyone; no memory is taken.
+    /// Whether a resource that no binding matches is open to everyone. Does not allocate.
     pub fn everyone(&self) -> bool
         ensures { result ≡ self.now.contents.everyone }
     {
         self.everyone
     }
 
-    /// The bindings in force with their serials, in rising serials; no memory is taken.
+    /// The bindings in force with their serials, by ascending serial. Does not allocate.
     pub fn entries(&self) -> &[(u64, Binding)]
         ensures entries { result.now ≡ self.now.contents.entries }
         ensures rising { IsRising 1 result.now self.now.contents.next }
@@ -102,19 +102,19 @@ impl Authorizer {
         self.entries.as_slice()
     }
 
-    /// The serial that the next new binding gets; no memory is taken.
+    /// The serial that the next new binding gets. Does not allocate.
     pub fn next_serial(&self) -> u64
         ensures { result ≡ self.now.contents.next }
     {
         self.next
     }
 
-    /// Whether `who` may do `operation` from `host` on what is called `name`, and by which binding;
-    /// no memory is taken.
+    /// Whether `who` may do `operation` from `host` on the resource called `name`, and by which
+    /// binding. Does not allocate.
     ///
-    /// The principal and the host that ask are plain texts: `User:*` and `*` stand for all in
-    /// bindings alone, and a super user is found by equality. The name is not checked: any text
-    /// can be asked for. Bindings are compared with it as KIP-290 says.
+    /// The principal and the host that ask are plain texts: `User:*` and `*` mean all only in
+    /// bindings. A super user is found by equality. The name is not checked and may be any text.
+    /// Patterns are compared with it as KIP-290 says.
     pub fn authorize(
         &self,
         who: &Principal,
@@ -147,10 +147,11 @@ impl Authorizer {
         }
     }
 
-    /// Puts bindings in force, all or none, and answers their serials in the order of the bindings.
+    /// Puts bindings in force, all or none, and returns their serials in the order of the bindings.
     ///
     /// A binding equal to one in force, or to an earlier one of the same call, gets that one's
-    /// serial. `TooMany` comes before `SerialsSpent`, and counts each different new binding once.
+    /// serial. `TooMany` is returned before `SerialsSpent`, and counts each different new binding
+    /// once.
     pub fn create(&mut self, alloc: Global, bindings: &[Binding]) -> Result<Vec<u64>, CreateFault>
         ensures added { IfOk result (λ serials.
             addition self.old.contents.entries self.old.contents.next bindings.now ≡ record {
@@ -171,8 +172,8 @@ impl Authorizer {
         Ok(self.commit_create(prepared))
     }
 
-    /// The first step of [`create`](Authorizer::create): allocates, and shows the answer.
-    /// The contents stay, also where it is refused.
+    /// The first step of [`create`](Authorizer::create): makes all allocations, and returns the
+    /// serials with the prepared bindings. The contents are unchanged, also after an error.
     pub fn prepare_create(
         &mut self,
         alloc: Global,
@@ -201,7 +202,7 @@ impl Authorizer {
     }
 
     /// The second step of [`create`](Authorizer::create): puts the prepared bindings in force and
-    /// answers the serials; no memory is taken.
+    /// returns the serials. Does not allocate.
     #[tactic(auto, using(crate::proofs::Rising::put_rises))]
     pub fn commit_create(&mut self, prepared: PreparedCreate) -> Vec<u64>
         requires { CanCreate prepared self.old }
@@ -215,7 +216,7 @@ impl Authorizer {
         serials
     }
 
-    /// Copies of the bindings that the filter takes, with their serials, in rising serials.
+    /// Copies of the bindings that the filter selects, with their serials, by ascending serial.
     #[tactic(auto, using(crate::proofs::Rising::rising_filter))]
     pub fn describe(
         &self,
@@ -229,8 +230,8 @@ impl Authorizer {
         copies_taken(alloc, self.entries.as_slice(), filter)
     }
 
-    /// Takes away what the filter takes, and answers it in rising serials. A serial that was taken
-    /// away is never given again.
+    /// Deletes the bindings that the filter selects, and returns them by ascending serial. The
+    /// serial of a deleted binding is never used again.
     pub fn delete(
         &mut self,
         alloc: Global,
@@ -247,7 +248,8 @@ impl Authorizer {
         Ok(self.commit_delete(prepared))
     }
 
-    /// The first step of [`delete`](Authorizer::delete): allocates, and shows the answer.
+    /// The first step of [`delete`](Authorizer::delete): makes all allocations, and returns the
+    /// bindings that will be deleted.
     #[tactic(auto, using(crate::proofs::Rising::rising_filter))]
     pub fn prepare_delete(
         &self,
@@ -263,8 +265,8 @@ impl Authorizer {
         PreparedDelete::make(alloc, self.entries.as_slice(), filter)
     }
 
-    /// The second step of [`delete`](Authorizer::delete): takes the prepared entries away and
-    /// answers them; no memory is taken.
+    /// The second step of [`delete`](Authorizer::delete): deletes the prepared entries and returns
+    /// them. Does not allocate.
     #[tactic(auto, using(crate::proofs::Rising::rising_filter))]
     pub fn commit_delete(&mut self, prepared: PreparedDelete) -> Vec<(u64, Binding)>
         requires { CanDelete prepared self.old }

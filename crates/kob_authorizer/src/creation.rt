@@ -1,4 +1,4 @@
-//! A creation of bindings: what its first step has made, for its second step.
+//! A creation of bindings between its first and its second step.
 
 ghost use Rattle.std.specs.Prelude.{◌≡◌, ◌≢◌, ◌+◌, ◌≤◌, ◌++◌, IfErr, IfOk, None, OnOk, Some};
 ghost use Rattle.std.specs.Prelude.{length, map, vec_capacity, vec_len};
@@ -17,8 +17,8 @@ use kob_names::Binding;
 use std::alloc::Global;
 use std::marker::Model;
 
-/// A creation that needs no more memory: the entries that it puts in force, and the serials that it
-/// answers, one for each binding of the call.
+/// A creation that needs no more allocations: the entries that it puts in force, and the serials
+/// that it returns, one for each binding of the call.
 #[derive(Drop)]
 pub struct PreparedCreate {
     fresh: Vec<(u64, Binding)>,
@@ -42,7 +42,7 @@ impl Model for PreparedCreate {
 }
 
 impl PreparedCreate {
-    /// The creation of `bindings` beside the entries in force, if no limit is passed.
+    /// The creation of `bindings` with these entries in force, if no limit is exceeded.
     #[tactic(auto, using(crate::proofs::InTurn::creation_creates, crate::proofs::InTurn::fault_by_count, crate::proofs::Serials::length_enumerate_from, crate::proofs::Rising::rising_enumerate_from))]
     pub(crate) fn make(
         alloc: Global,
@@ -78,8 +78,8 @@ impl PreparedCreate {
         })
     }
 
-    /// The serials that the creation answers, in the order of the call's bindings; no memory is
-    /// taken.
+    /// The serials that the creation returns, in the order of the call's bindings. Does not
+    /// allocate.
     pub fn serials(&self) -> &[u64]
         ensures { result.now ≡ self.now.serials }
     {
@@ -93,7 +93,7 @@ impl PreparedCreate {
         self.fresh.as_slice().len()
     }
 
-    /// The entries, what they put into the trees, and the serials.
+    /// The entries, what they add to the trees, and the serials.
     pub(crate) fn into_parts(self) -> (Vec<(u64, Binding)>, Vec<Leaf>, Vec<u64>)
         ensures fresh { result.0.items ≡ self.fresh }
         ensures leaves { result.1.items ≡ map leaf_of self.fresh }
@@ -108,7 +108,7 @@ impl PreparedCreate {
     }
 }
 
-/// Puts the fresh entries last, in the room that is there for them.
+/// Appends the fresh entries, in reserved capacity.
 pub fn put_last(entries: &mut Vec<(u64, Binding)>, mut fresh: Vec<(u64, Binding)>)
     requires { vec_len entries.old + vec_len fresh ≤ vec_capacity entries.old }
     ensures items { entries.new.items ≡ entries.old.items ++ fresh.items }

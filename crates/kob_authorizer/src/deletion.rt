@@ -1,4 +1,4 @@
-//! A deletion of bindings: what its first step has made, for its second step.
+//! A deletion of bindings between its first and its second step.
 
 ghost use Rattle.std.specs.Prelude.{◌≡◌, ◌≤◌, IfOk, length, map};
 ghost use Rattle.kob_authorizer.specs.Deletion.{bindings_taken, bindings_left};
@@ -10,8 +10,8 @@ use kob_names::{Binding, BindingFilter, PlainValue};
 use std::alloc::{AllocError, Global};
 use std::marker::Model;
 
-/// A deletion that needs no more memory: its filter, the entries that it takes away, and
-/// their serials by place.
+/// A deletion that needs no more allocations: its filter, the entries that it deletes, and their
+/// serials by place.
 #[derive(Drop)]
 pub struct PreparedDelete {
     filter: BindingFilter,
@@ -36,7 +36,7 @@ impl Model for PreparedDelete {
 }
 
 impl PreparedDelete {
-    /// The deletion of what the filter takes of the entries in force.
+    /// The deletion of the entries in force that the filter selects.
     pub(crate) fn make(
         alloc: Global,
         entries: &[(u64, Binding)],
@@ -57,14 +57,14 @@ impl PreparedDelete {
         })
     }
 
-    /// What the deletion takes away, in rising serials; no memory is taken.
+    /// The entries that are deleted, by ascending serial. Does not allocate.
     pub fn taken(&self) -> &[(u64, Binding)]
         ensures { result.now ≡ self.now.taken }
     {
         self.taken.as_slice()
     }
 
-    /// The filter, the entries, and what goes from the trees with them.
+    /// The filter, the entries, and what is removed from the trees with them.
     pub(crate) fn into_parts(self) -> DeletionParts
         ensures filter { result.0 ≡ self.filter }
         ensures taken { result.1.items ≡ self.taken }
@@ -81,7 +81,8 @@ impl PreparedDelete {
     }
 }
 
-/// A deletion's filter, its entries, and what goes from the trees of keys and patterns with them.
+/// A deletion's filter, its entries, and what is removed from the trees of keys and patterns with
+/// them.
 type DeletionParts = (
     BindingFilter,
     Vec<(u64, Binding)>,
@@ -89,7 +90,7 @@ type DeletionParts = (
     Vec<Removal>,
 );
 
-/// Copies of the entries that the filter takes.
+/// Copies of the entries that the filter selects.
 #[tactic(auto, using(std::proofs::lemmas::List::Elements::filter_more))]
 pub fn copies_taken(
     alloc: Global,
@@ -107,7 +108,7 @@ pub fn copies_taken(
     Ok(copies)
 }
 
-/// Takes away the entries that the filter takes.
+/// Removes the entries that the filter selects.
 pub fn remove_taken(entries: &mut Vec<(u64, Binding)>, filter: &BindingFilter)
     ensures items { entries.new.items ≡ bindings_left filter.now entries.old.items }
     ensures bound { length entries.new.items ≤ length entries.old.items }

@@ -1,4 +1,4 @@
-//! The search for an equal binding, by its key; no other binding is looked at.
+//! The search for an equal binding, by its key; no other binding is examined.
 
 ghost use Rattle.std.specs.Prelude.{◌≡◌};
 ghost use Rattle.kob_prefix_tree.specs.Held.{serials_of};
@@ -21,7 +21,7 @@ pub fn serial_of(entries: &[(u64, Binding)], keys: &PrefixTree, binding: &Bindin
     least_equal(entries, keys, binding)
 }
 
-/// The least serial that the tree gives for the binding's key, whose binding is equal.
+/// The least serial in the tree at the binding's key, of those whose binding is equal.
 #[tactic(auto, unfolding(crate::specs::Key::binding_key))]
 fn least_equal(entries: &[(u64, Binding)], keys: &PrefixTree, binding: &Binding) -> Option<u64>
     requires { AreRising entries.now }

@@ -3,7 +3,7 @@
 use std::alloc::{AllocError, AllocFailed};
 use thiserror::Error;
 
-/// Why bindings were not created; the contents of the authorizer are then as before.
+/// Why bindings were not created. The contents of the authorizer are then as before.
 #[derive(Clone, Copy, Debug, PartialEq, Eq, Error)]
 pub enum CreateFault {
     /// More bindings would be in force than [`BINDING_LIMIT`](crate::BINDING_LIMIT).
@@ -13,8 +13,8 @@ pub enum CreateFault {
     /// would not be too many bindings.
     #[error("the serials are spent")]
     SerialsSpent,
-    /// Memory was refused. The limits may have been passed as well: the new bindings are copied
-    /// before they are counted.
+    /// Out of memory. The limits may be exceeded as well: the new bindings are copied before they
+    /// are counted.
     #[error("out of memory")]
     Memory,
 }

@@ -16,7 +16,8 @@ use std::marker::Model;
 
 /// New bindings in order, among which an equal one is found by its key.
 ///
-/// Contracts see the list of the bindings. Inside, each has its place in the list for a serial.
+/// Contracts see the list of the bindings. In the tree of keys, each has its place in the list
+/// instead of a serial.
 #[derive(Drop)]
 pub struct Fresh {
     entries: Vec<(u64, Binding)>,
@@ -40,7 +41,7 @@ impl Model for Fresh {
 }
 
 impl Fresh {
-    /// No bindings; no memory is taken.
+    /// No bindings. Does not allocate.
     pub fn new(alloc: Global) -> Fresh
         ensures { result ≡ [] }
     {
@@ -65,7 +66,7 @@ impl Fresh {
         serial_of(self.entries.as_slice(), &self.keys, binding)
     }
 
-    /// Puts a copy of the binding last.
+    /// Appends a copy of the binding.
     pub fn push(&mut self, alloc: Global, binding: &Binding) -> Result<(), AllocError>
         ensures { OnOk result (self.new ≡ self.old ++ binding.now ∷ []) }
     {

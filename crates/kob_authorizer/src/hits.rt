@@ -1,9 +1,9 @@
-//! What a search finds: the first deny and the first allow that speak of what is asked.
+//! What a search finds: the first deny and the first allow that hit the question.
 
 ghost use Rattle.std.specs.Prelude.{◌≡◌};
 ghost use Rattle.kob_authorizer.specs.Hits.{lesser, lesser_hits, no_hits};
 
-/// The serials of a deny and of an allow, where there are any.
+/// The serials of a deny and of an allow, if there are any.
 #[derive(Clone, Copy)]
 pub struct Hits {
     pub deny: Option<u64>,
@@ -31,7 +31,7 @@ impl Hits {
     }
 }
 
-/// The lesser serial, where there are two.
+/// The lesser serial, if there are two.
 fn lesser(one: Option<u64>, other: Option<u64>) -> Option<u64>
     ensures { result ≡ lesser one other }
 {

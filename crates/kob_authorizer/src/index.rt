@@ -1,4 +1,4 @@
-//! The trees that lead from names and keys to the serials of bindings.
+//! The trees that map names and keys to the serials of bindings.
 
 ghost use Rattle.std.specs.Prelude.{◌≡◌, IfOk, map};
 ghost use Rattle.std.specs.List.{fold};
@@ -19,7 +19,7 @@ pub struct Index {
     pub keys: PrefixTree,
 }
 
-/// What an entry puts into the trees, made ahead.
+/// What an entry adds to the trees, allocated ahead.
 #[derive(Drop)]
 pub struct Leaf {
     resource: ResourceKind,
@@ -28,7 +28,7 @@ pub struct Leaf {
 }
 
 impl Index {
-    /// The index of no entries; no memory is taken.
+    /// The index of no entries. Does not allocate.
     pub fn new() -> Index
         ensures { result ≡ empty_index }
     {
@@ -38,7 +38,7 @@ impl Index {
         }
     }
 
-    /// The first step of putting an entry in: all that needs memory.
+    /// The first step of an insertion: all allocations.
     fn prepare(&self, alloc: Global, entry: &(u64, Binding)) -> Result<Leaf, AllocError>
         ensures { IfOk result (λ leaf. leaf ≡ leaf_of entry.now) }
     {
@@ -56,7 +56,7 @@ impl Index {
         })
     }
 
-    /// The first step of putting entries in, one after another.
+    /// The first step of insertions, one after another.
     #[tactic(auto, using(std::proofs::lemmas::List::map_more))]
     pub fn prepare_all(
         &self,
@@ -72,7 +72,7 @@ impl Index {
         Ok(leaves)
     }
 
-    /// The second step of putting an entry in; no memory is taken.
+    /// The second step of an insertion. Does not allocate.
     fn put(&mut self, leaf: Leaf)
         ensures { self.new ≡ with_leaf self.old leaf }
     {
@@ -86,7 +86,7 @@ impl Index {
     }
 }
 
-/// Puts entries in, one after another; no memory is taken.
+/// The second step of insertions, one after another. Does not allocate.
 #[tactic(auto, using(std::proofs::lemmas::List::Sums::fold_push))]
 pub fn put_all(index: &mut Index, leaves: Vec<Leaf>)
     ensures { index.new ≡ fold with_leaf index.old leaves.items }
@@ -96,7 +96,7 @@ pub fn put_all(index: &mut Index, leaves: Vec<Leaf>)
     }
 }
 
-/// Takes the serials of keys out, one after another; no memory is taken.
+/// Removes the serials of keys, one after another. Does not allocate.
 #[tactic(auto, using(std::proofs::lemmas::List::Sums::fold_push))]
 pub fn remove_keys(keys: &mut PrefixTree, removals: Vec<KeyRemoval>)
     ensures { keys.new ≡ fold without_addition keys.old removals.items }

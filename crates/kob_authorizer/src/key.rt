@@ -1,4 +1,4 @@
-//! The key of a binding, by which an equal one is looked up, and those of who asks.
+//! The keys of bindings, by which an equal one, and those of a principal at a host, are looked up.
 
 ghost use Rattle.std.specs.Prelude.{◌≡◌, IfOk};
 ghost use Rattle.kob_prefix_tree.specs.Part.{part_of};
@@ -11,14 +11,14 @@ use kob_names::{Binding, PatternKind, ResourceKind};
 use kob_prefix_tree::{Part, PrefixTree};
 use std::alloc::{AllocError, Global};
 
-/// The separator between the texts of a key: no byte of UTF-8.
+/// The separator between the texts of a key, a byte that UTF-8 never has.
 pub const SEPARATOR: u8 = 255;
 
 /// The byte of the kind of resource, and principal, host and name, with the separator between them.
 ///
 /// No other kind, principal, host and name make the same key. A binding is in the list of its
-/// pattern's kind, so that no more bindings are in one list than there are permissions and
-/// operations to distinguish them: 22.
+/// pattern's kind. So the bindings of one list differ in permission or operation, and there are at
+/// most 22.
 #[tactic(auto, unfolding(crate::specs::Key::binding_key), using(crate::proofs::Keys::in_turn))]
 pub fn binding_key(alloc: Global, binding: &Binding) -> Result<Vec<u8>, AllocError>
     ensures { IfOk result (λ key. key.items ≡ binding_key binding.now) }
@@ -56,7 +56,7 @@ pub fn keys_on(keys: &PrefixTree, resource: ResourceKind) -> Part<'_>
     keys.behind("".as_bytes(), kind_byte(resource))
 }
 
-/// The list of a tree that is for this kind of pattern.
+/// The list of a tree for this kind of pattern.
 pub fn kind_in_tree(kind: PatternKind) -> kob_prefix_tree::PatternKind
     ensures { result ≡ kind_in_tree kind }
 {

@@ -13,10 +13,11 @@ ghost use Rattle.kob_names.specs.declared.filter.BindingFilter.{BindingFilter};
 ghost use Rattle.kob_names.specs.declared.kinds.Permission.TheVariants.{Allow, Deny};
 ghost use Rattle.kob_names.specs.declared.verdict.Verdict.{Verdict};
 
-/// Each verdict says what is so of the whole list: a deny that is named is the one with the least
-/// serial of all that hit, an allow is named only where no deny hits, and no allow is said to be
-/// there only where neither hits, and where a binding matches the resource if what none matches is
-/// open to everyone. It is said to be open only where none does.
+/// Each verdict is true of the whole list. Super comes only for a super user. DeniedBy has the
+/// least serial of all denies that hit. AllowedBy has the least serial of all allows that hit, and
+/// comes only if no deny hits. NoAllow comes only if neither hits and, with `everyone`, only if a
+/// binding matches the resource. NoAclFound comes only with `everyone`, and only if no binding
+/// matches the resource.
 #[tactic(auto, using(crate::proofs::Verdicts::true_verdict))]
 pub fn verdicts_are_true()
     ensures { (contents : Contents) (question : Question)
@@ -26,7 +27,7 @@ pub fn verdicts_are_true()
     // The contract is the law.
 }
 
-/// What a verdict says is so for no other: of two that are true each is the other.
+/// At most one verdict is true: two that are true are equal.
 #[tactic(auto, using(crate::proofs::OneVerdict::only_one))]
 pub fn a_true_verdict_is_the_only_one()
     ensures { (contents : Contents) (question : Question) (one other : Verdict)
@@ -36,7 +37,7 @@ pub fn a_true_verdict_is_the_only_one()
     // The contract is the law.
 }
 
-/// Where nothing is open to everyone, super users and bindings alone decide.
+/// If nothing is open to everyone, super users and bindings alone decide.
 #[tactic(auto, using(crate::proofs::Verdicts::by_bindings))]
 pub fn bindings_decide_where_nothing_is_open()
     ensures { (contents : Contents) (question : Question) → contents.everyone ≡ false
@@ -46,8 +47,8 @@ pub fn bindings_decide_where_nothing_is_open()
     // The contract is the law.
 }
 
-/// Where what no binding matches is open to everyone, one who is no super user and of whom no
-/// binding speaks is granted exactly what no binding matches, whomever it speaks of.
+/// With `everyone`, take a question that no binding hits, of a principal that is not a super user.
+/// It is granted exactly if no binding matches the resource, whomever it covers.
 #[tactic(auto, using(crate::proofs::Verdicts::granted_unmatched))]
 pub fn everyone_is_granted_what_no_binding_matches()
     ensures { (contents : Contents) (question : Question) → IsTrue contents.everyone
@@ -59,7 +60,7 @@ pub fn everyone_is_granted_what_no_binding_matches()
     // The contract is the law.
 }
 
-/// After a creation each binding of the call is in force, under the serial that was answered for
+/// After a creation each binding of the call is in force, under the serial that was returned for
 /// it.
 #[tactic(auto, using(crate::proofs::InForce::created_in_force))]
 pub fn created_bindings_are_in_force()
@@ -70,7 +71,7 @@ pub fn created_bindings_are_in_force()
     // The contract is the law.
 }
 
-/// A creation leaves what was in force, and gives no serial that was given before.
+/// A creation keeps what was in force, and uses no serial that was used before.
 #[tactic(auto, using(crate::proofs::InTurn::only_adds))]
 pub fn creations_only_add()
     ensures { (entries : List (ℕ × Binding)) (next : ℕ) (bindings : List Binding)
@@ -79,7 +80,7 @@ pub fn creations_only_add()
     // The contract is the law.
 }
 
-/// Creations and deletions keep the serials rising and below the next one.
+/// Creations and deletions keep the serials ascending and below the next one.
 #[tactic(auto, using(crate::proofs::InTurn::added_rises, crate::proofs::Rising::removed_rises))]
 pub fn serials_keep_rising()
     ensures created { (entries : List (ℕ × Binding)) (next : ℕ) (bindings : List Binding)
@@ -93,7 +94,7 @@ pub fn serials_keep_rising()
     // The contract is the law.
 }
 
-/// Where no two bindings in force are equal, none are after a creation or a deletion.
+/// If no two bindings in force are equal, no two are equal after a creation or a deletion.
 #[tactic(auto, using(crate::proofs::Distinct::added_distinct, crate::proofs::Distinct::removed_distinct))]
 pub fn bindings_stay_distinct()
     ensures created { (entries : List (ℕ × Binding)) (next : ℕ) (bindings : List Binding)

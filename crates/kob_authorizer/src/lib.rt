@@ -1,4 +1,4 @@
-//! The bindings in force, the super users, and the verdicts that they give on questions of access.
+//! The bindings in force, the super users, and the verdicts on questions of access.
 #![tactic(auto)]
 
 mod at_once;

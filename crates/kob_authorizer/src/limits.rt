@@ -1,4 +1,4 @@
-//! The limits on bindings and serials, and which of them a creation would pass.
+//! The limits on bindings and serials, and which of them a creation would exceed.
 
 ghost use Rattle.std.specs.Prelude.{◌≡◌, ◌+◌, ◌≤◌, IfNone};
 ghost use Rattle.kob_authorizer.specs.Limits.{binding_limit, serial_limit};
@@ -6,7 +6,7 @@ ghost use Rattle.kob_authorizer.specs.Passing.{limit_fault};
 
 use crate::fault::CreateFault;
 
-/// The most bindings that are in force at once.
+/// The maximum number of bindings in force at once.
 pub const BINDING_LIMIT: usize = 100_000;
 
 /// Every serial is below this number.
@@ -16,7 +16,7 @@ const _: () = prove!(BINDING_LIMIT == 100_000);
 
 const _: () = prove!(SERIAL_LIMIT == 18_446_744_073_709_551_615);
 
-/// The limit that `count` new bindings would pass, if any: the one on bindings is tried first.
+/// The limit that `count` new bindings would exceed, if any. The one on bindings is tried first.
 pub fn limit_fault(in_force: usize, next: u64, count: usize) -> Option<CreateFault>
     requires { in_force ≤ binding_limit }
     ensures fault { result ≡ limit_fault (in_force + count) (next + count) }

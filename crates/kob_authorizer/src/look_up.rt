@@ -1,6 +1,6 @@
-//! The search for bindings by the serials that the trees give; no other binding is looked at. Those
-//! for a decision are of who asks and of `User:*`, from the host and from every host, on the kind of
-//! resource that is asked for.
+//! The search for bindings by the serials in the trees; no other binding is examined. A decision
+//! examines bindings of the principal that asks and of `User:*`, for its host and for every host.
+//! They are on the kind of resource in question.
 
 ghost use Rattle.std.specs.Prelude.{◌≡◌, ◌∷◌, [], ◌&&◌, ◌==◌, false, length};
 ghost use Rattle.std.specs.Option.{option_copied};
@@ -20,8 +20,8 @@ use crate::question::Question;
 use kob_names::{Binding, Permission, Verdict};
 use kob_prefix_tree::{Part, PatternKind};
 
-/// The verdict for one who is no super user: a deny wins over every allow, and without either the
-/// answer is no, unless no binding matches what is then open to `everyone`.
+/// The verdict for a principal that is not a super user. A deny wins over every allow. Without
+/// either, the right is not granted, unless `everyone` is on and no binding matches the resource.
 pub fn verdict(
     entries: &[(u64, Binding)],
     index: &Index,
@@ -47,8 +47,8 @@ pub fn verdict(
     }
 }
 
-/// Whether no binding matches the resource, whatever else it says: the trees give no serial for the
-/// name. No binding is looked at.
+/// Whether no binding matches the resource, whatever its other parts: the trees have no serial for
+/// the name. No binding is examined.
 fn is_unmatched(index: &Index, question: &Question) -> bool
     ensures { result ≡ (length (matching_serials
         (held (tree_of index.now.patterns question.now.resource)) question.now.name.now) == 0) }
@@ -58,7 +58,7 @@ fn is_unmatched(index: &Index, question: &Question) -> bool
         && tree.literal("*".as_bytes()).next().is_none()
 }
 
-/// The least serials of those bindings that speak of what is asked, a deny and an allow.
+/// The least serials of a deny and of an allow that hit the question.
 fn first_hits(entries: &[(u64, Binding)], index: &Index, question: &Question) -> Hits
     requires rising { AreRising entries.now }
     requires indexed { Indexes index.now entries.now }
@@ -73,8 +73,8 @@ fn first_hits(entries: &[(u64, Binding)], index: &Index, question: &Question) ->
     hits_of(entries, of_who, question).or_lesser(hits_of(entries, of_everyone, question))
 }
 
-/// The least serials of the hits among the keys of one principal, from the host that is asked from
-/// and from every host.
+/// The least serials of the hits among the keys of one principal, for the host that asks and for
+/// every host.
 fn hits_of(entries: &[(u64, Binding)], keys: Part<'_>, question: &Question) -> Hits
     requires { AreRising entries.now }
     ensures { result ≡ least_hits entries.now (question_view question.now)
@@ -85,7 +85,7 @@ fn hits_of(entries: &[(u64, Binding)], keys: Part<'_>, question: &Question) -> H
     hits_at(entries, from_host, question).or_lesser(hits_at(entries, from_everywhere, question))
 }
 
-/// The least serials of the hits that some patterns' names give for the name.
+/// The least serials of the hits among the patterns that match the name.
 fn hits_at(entries: &[(u64, Binding)], names: Part<'_>, question: &Question) -> Hits
     requires { AreRising entries.now }
     ensures { result ≡ least_hits entries.now (question_view question.now)
@@ -100,7 +100,7 @@ fn hits_at(entries: &[(u64, Binding)], names: Part<'_>, question: &Question) -> 
         )
 }
 
-/// The serial, where its binding is a hit.
+/// The serial, if its binding is a hit.
 fn hit_with(entries: &[(u64, Binding)], serial: u64, question: &Question) -> Hits
     requires { AreRising entries.now }
     ensures { result ≡ least_hits entries.now (question_view question.now) (serial ∷ []) }
@@ -114,7 +114,7 @@ fn hit_with(entries: &[(u64, Binding)], serial: u64, question: &Question) -> Hit
     }
 }
 
-/// The entry with this serial, by halving.
+/// The entry with this serial, by binary search.
 pub fn entry_of(entries: &[(u64, Binding)], serial: u64) -> Option<&(u64, Binding)>
     requires { AreRising entries.now }
     ensures { option_copied result ≡ entry_at entries.now serial }

@@ -1,4 +1,4 @@
-//! The trees that lead from the names of patterns to the serials of bindings.
+//! The trees that map the names of patterns to the serials of bindings.
 
 ghost use Rattle.std.specs.Prelude.{◌≡◌, IfOk, OnOk};
 ghost use Rattle.std.specs.List.{fold};
@@ -23,7 +23,7 @@ pub struct Patterns {
 }
 
 impl Patterns {
-    /// The patterns of no entries; no memory is taken.
+    /// The patterns of no entries. Does not allocate.
     pub fn new() -> Patterns
         ensures { result ≡ no_patterns }
     {
@@ -62,7 +62,7 @@ impl Patterns {
         }
     }
 
-    /// Puts an entry in.
+    /// Inserts an entry.
     fn add(&mut self, alloc: Global, entry: &(u64, Binding)) -> Result<(), AllocError>
         ensures { OnOk result (self.new ≡ with_entry self.old entry.now) }
     {
@@ -79,7 +79,7 @@ impl Patterns {
         }
     }
 
-    /// The second step of putting an entry in; no memory is taken.
+    /// The second step of an insertion. Does not allocate.
     pub fn put(&mut self, resource: ResourceKind, pattern: Prepared)
         ensures { self.new ≡ with_pattern self.old resource pattern }
     {
@@ -101,7 +101,7 @@ impl Patterns {
         self.tree(binding.resource).listed(name, kind)
     }
 
-    /// Takes the serials of one place out, in one pass; no memory is taken.
+    /// Removes the serials of one place, in one pass. Does not allocate.
     fn remove(&mut self, removal: Removal)
         ensures { self.new ≡ without_removal self.old removal }
     {
@@ -118,7 +118,7 @@ impl Patterns {
     }
 }
 
-/// Takes serials out, one place after another; no memory is taken.
+/// Removes serials, one place after another. Does not allocate.
 #[tactic(auto, using(std::proofs::lemmas::List::Sums::fold_push))]
 pub fn remove_all(patterns: &mut Patterns, removals: Vec<Removal>)
     ensures { patterns.new ≡ fold without_removal patterns.old removals.items }

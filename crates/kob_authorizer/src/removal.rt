@@ -1,5 +1,6 @@
-//! What a deletion takes out of the trees: of those of the patterns all serials of a place at once,
-//! of that of the keys one serial at a time, since few bindings are at one key.
+//! What a deletion removes from the trees. From those of the patterns it removes all serials of a
+//! place at once. From that of the keys it removes one serial at a time, since few bindings have
+//! the same key.
 
 ghost use Rattle.std.specs.Prelude.{◌≡◌, IfOk, OnOk, [], map};
 ghost use Rattle.std.specs.List.{fold};
@@ -14,7 +15,7 @@ use kob_prefix_tree::PatternKind;
 use std::alloc::{AllocError, Global};
 use std::marker::Model;
 
-/// A pattern on a kind of resource, and the serials that go from its place. Contracts see its
+/// A pattern on a kind of resource, and the serials to remove from its place. Contracts see its
 /// parts.
 #[derive(Drop)]
 pub struct Removal {
@@ -65,9 +66,9 @@ impl Removal {
     }
 }
 
-/// All that goes from the trees of the patterns with these entries, each place once.
+/// All that is removed from the trees of the patterns with these entries, each place once.
 ///
-/// Their patterns are put into trees of their own, so that each place gives its serials at once.
+/// Their patterns are put into trees of their own, which have the serials of each place together.
 pub fn removals_of(alloc: Global, taken: &[(u64, Binding)]) -> Result<Vec<Removal>, AllocError>
     ensures { IfOk result (λ made. made.items ≡ removals_of taken.now) }
 {
@@ -97,7 +98,7 @@ fn removals_among(
     Ok(removals)
 }
 
-/// Appends all entries at this entry's place, if its place is met first.
+/// Appends all entries at this entry's place, if no other entry is before it there.
 fn put_removal(
     alloc: Global,
     removals: &mut Vec<Removal>,
@@ -125,7 +126,7 @@ fn is_first_there(patterns: &Patterns, entry: &(u64, Binding)) -> bool
     }
 }
 
-/// A key, and the serial that goes from its list of one kind. Contracts see what was added for it.
+/// A key, and the serial to remove from its list of one kind. Contracts see what was added for it.
 #[derive(Drop)]
 pub struct KeyRemoval {
     key: Vec<u8>,
@@ -169,7 +170,7 @@ impl KeyRemoval {
     }
 }
 
-/// What goes from the tree of the keys with these entries.
+/// What is removed from the tree of the keys with these entries.
 #[tactic(auto, using(std::proofs::lemmas::List::map_more))]
 pub fn key_removals(alloc: Global, taken: &[(u64, Binding)]) -> Result<Vec<KeyRemoval>, AllocError>
     ensures { IfOk result (λ made. made.items ≡ map (addition key_place) taken.now) }

@@ -1,4 +1,4 @@
-//! The super users, and a tree of their texts by which one is found.
+//! The super users, and a tree of their texts, in which one is looked up.
 
 ghost use Rattle.std.specs.Prelude.{◌≡◌, ◌==◌, not, IfOk, length};
 ghost use Rattle.kob_prefix_tree.specs.Held.{serials_of};
@@ -13,8 +13,8 @@ use std::marker::Model;
 
 /// The super users in the order in which they were given. Contracts see the list.
 ///
-/// Until the tree of their texts is made, one is looked up in the list; from then on that costs as
-/// much as a text is long, however many there are.
+/// They are looked up in the list until the tree of their texts is made. From then on the cost
+/// depends on the length of the text, and not on their number.
 #[derive(Drop)]
 pub struct SuperUsers {
     listed: Vec<Principal>,
@@ -34,7 +34,7 @@ impl Model for SuperUsers {
 }
 
 impl SuperUsers {
-    /// These super users, without a tree; no memory is taken.
+    /// These super users, without a tree. Does not allocate.
     pub fn new(listed: Vec<Principal>) -> SuperUsers
         ensures { result ≡ listed.items }
     {
@@ -56,14 +56,14 @@ impl SuperUsers {
         Ok(())
     }
 
-    /// The super users; no memory is taken.
+    /// The super users. Does not allocate.
     pub fn as_slice(&self) -> &[Principal]
         ensures { result.now ≡ self.now }
     {
         self.listed.as_slice()
     }
 
-    /// Whether the principal is equal to a super user; no memory is taken.
+    /// Whether the principal is equal to a super user. Does not allocate.
     pub fn contains(&self, who: &Principal) -> bool
         ensures { result ≡ is_super self.now who.now }
     {

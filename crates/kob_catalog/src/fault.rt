@@ -1,17 +1,17 @@
-//! What a catalog refuses.
+//! Faults of a catalog.
 
 use thiserror::Error;
 
-/// Why a topic is not created.
+/// Why a topic was not created.
 #[derive(Clone, Copy, Debug, PartialEq, Eq, Error)]
 pub enum CreateFault {
-    /// A topic has the name.
+    /// There is a topic of that name already.
     #[error("the topic exists")]
     Exists,
-    /// A topic has from 1 to 1,000 partitions.
+    /// The number of partitions is not from 1 to 1,000.
     #[error("a topic has from 1 to 1,000 partitions")]
     BadPartitions,
-    /// There are 10,000 topics.
+    /// There are 10,000 topics already.
     #[error("too many topics")]
     TooMany,
     #[error("out of memory")]
@@ -23,7 +23,7 @@ pub enum CreateFault {
 #[error("no topic has the name")]
 pub struct UnknownTopic;
 
-/// Why there is no such partition.
+/// Why a partition was not found.
 #[derive(Clone, Copy, Debug, PartialEq, Eq, Error)]
 pub enum PartitionFault {
     /// No topic has the name.

@@ -1,9 +1,9 @@
 //! Limits on topics.
 
-/// The most topics at once.
+/// The maximum number of topics.
 pub const TOPIC_LIMIT: usize = 10_000;
 
-/// The most partitions of a topic.
+/// The maximum number of partitions of a topic.
 pub const PARTITION_LIMIT: u64 = 1_000;
 
 const _: () = prove!(TOPIC_LIMIT == 10_000);

@@ -1,4 +1,4 @@
-//! The first step of a creation.
+//! The creation of a topic between its first and its second step.
 
 ghost use Rattle.std.specs.Prelude.{◌≡◌};
 
@@ -6,7 +6,7 @@ use crate::topic::Topic;
 use kob_names::Text;
 use std::marker::Model;
 
-/// A topic for which all memory is there.
+/// A topic that needs no more allocations.
 #[derive(Drop)]
 pub struct PreparedTopic {
     name: Text,

@@ -21,7 +21,7 @@ pub enum CommitFault {
     Memory,
 }
 
-/// A commit for which all memory is there. It has copies of those names alone that are new.
+/// A commit that needs no more allocations. It has copies only of the names that are new.
 #[derive(Drop)]
 pub struct PreparedCommit {
     pub(crate) entry: GroupEntry,
@@ -35,12 +35,12 @@ pub struct PreparedCommit {
 pub(crate) enum GroupEntry {
     /// Among the commits of the group at a place.
     GroupAt(usize, TopicEntry),
-    /// Among no commits yet, which are put in for a new group.
+    /// Among the empty commits that are inserted for a new group.
     NewGroup(Text, Commits, TopicEntry),
 }
 
-/// Makes room for a commit among those of the groups, and copies the names that are new. The groups
-/// stay, also after an error, which is out of memory.
+/// Reserves capacity for a commit among those of the groups, and copies the names that are new. The
+/// groups are unchanged, also after an error, which is out of memory.
 pub(crate) fn reserve_commit(
     groups: &mut OrderedMap<Commits>,
     alloc: Global,
@@ -67,7 +67,7 @@ pub(crate) fn reserve_commit(
     }
 }
 
-/// A group with no commits, with room for one. The error is out of memory.
+/// A group with no commits, with capacity for one. The error is out of memory.
 fn new_group(
     alloc: Global,
     group: &Text,
@@ -82,7 +82,7 @@ fn new_group(
     Ok(GroupEntry::NewGroup(group, commits, topic))
 }
 
-/// Commits an offset in the room that is there; no memory is taken.
+/// Commits an offset in reserved capacity. Does not allocate.
 pub(crate) fn put_commit(
     groups: &mut OrderedMap<Commits>,
     entry: GroupEntry,

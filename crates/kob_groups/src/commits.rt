@@ -23,7 +23,7 @@ pub(crate) struct Commits {
 pub(crate) enum TopicEntry {
     /// Among the offsets on the topic at a place.
     TopicAt(usize),
-    /// Among no offsets yet, which are put in for a new topic.
+    /// Among the empty offsets that are inserted for a new topic.
     NewTopic(Text, Offsets),
 }
 
@@ -31,7 +31,7 @@ impl Commits {
     ghost use Rattle.kob_groups.specs.Kept.{CanPut, topic_in};
     ghost use Rattle.kob_groups.specs.Views.{commits_in};
 
-    /// No commits; no memory is taken.
+    /// No commits. Does not allocate.
     pub(crate) fn new(alloc: Global) -> Commits
         ensures { result.by_topic.entries ≡ [] }
     {
@@ -48,8 +48,8 @@ impl Commits {
         self.by_topic.get(topic)?.get(&partition).copied()
     }
 
-    /// Makes room for an offset, unless the partition has one, and copies the name of a topic that
-    /// is new. The commits stay, also after an error, which is out of memory.
+    /// Reserves capacity for an offset, unless the partition has one, and copies the name of a
+    /// topic that is new. The commits are unchanged, also after an error, which is out of memory.
     pub(crate) fn reserve(
         &mut self,
         alloc: Global,
@@ -76,7 +76,7 @@ impl Commits {
         }
     }
 
-    /// Writes an offset in the room that is there; no memory is taken.
+    /// Writes an offset in reserved capacity. Does not allocate.
     pub(crate) fn put(&mut self, entry: TopicEntry, partition: u64, offset: u64)
         requires { CanPut entry partition self.old }
         ensures { commits_in self.new
@@ -93,7 +93,7 @@ impl Commits {
         }
     }
 
-    /// Takes away the offsets on a topic; no memory is taken.
+    /// Deletes the offsets on a topic. Does not allocate.
     pub(crate) fn forget(&mut self, topic: &Text)
         ensures { commits_in self.new ≡ without_offsets topic.now (commits_in self.old) }
     {
@@ -105,7 +105,7 @@ ghost use Rattle.std.specs.Prelude.{OnOk};
 ghost use Rattle.indexmap.specs.IndexMap.{insert_entry};
 ghost use Rattle.kob_groups.specs.Kept.{HasRoom};
 
-/// Makes room for the offset of a partition, unless it has one. The error is out of memory.
+/// Reserves capacity for the offset of a partition, unless it has one. The error is out of memory.
 fn reserve_offset(offsets: &mut Offsets, partition: u64) -> Result<(), AllocError>
     ensures entries { offsets.new.entries ≡ offsets.old.entries }
     ensures room { OnOk result (HasRoom partition offsets.new) }

@@ -19,10 +19,10 @@ use thiserror::Error;
 #[error("no group has the name")]
 pub struct GroupNotFound;
 
-/// The groups in order of their first commit, and the offsets that they committed. A group stays
-/// when its last commit goes with a topic. Beside them are the groups with commits on each topic,
-/// so that a topic's deletion visits those alone. Contracts see what is held (`groups_of`), and
-/// beside it the room that is there for a commit.
+/// The groups in order of their first commit, and the offsets that they committed. A group remains
+/// when its last commit is deleted with a topic. There is also a list of the groups with commits on
+/// each topic, so that a topic's deletion visits those alone. Contracts see the groups and offsets
+/// (`groups_of`), and the capacity reserved for a commit.
 #[derive(Drop)]
 pub struct Groups {
     by_name: OrderedMap<Commits>,
@@ -33,7 +33,7 @@ pub struct Groups {
 impl Groups {
     ghost use Rattle.kob_groups.specs.Kept.{CanCommit, commits_in, groups_of, place_in};
 
-    /// No groups; no memory is taken.
+    /// No groups. Does not allocate.
     pub fn new(alloc: Global) -> Groups
         ensures { groups_of result ≡ no_groups }
     {
@@ -43,7 +43,7 @@ impl Groups {
         }
     }
 
-    /// The offset that a group committed on a partition of a topic; no memory is taken.
+    /// The offset that a group committed on a partition of a topic. Does not allocate.
     pub fn fetch(&self, group: &Text, topic: &Text, partition: u64) -> Option<u64>
         ensures { result
             ≡ committed_at (place_of group.now topic.now partition) (groups_of self.now) }
@@ -51,16 +51,17 @@ impl Groups {
         self.by_name.get(group)?.fetch(topic, partition)
     }
 
-    /// Whether there is no room for one more group, and the group is a new one.
+    /// Whether the group is a new one, and there is no room for one more.
     fn is_full_for(&self, group: &Text) -> bool
         ensures { result ≡ is_full_for group.now (groups_of self.now) }
     {
         !self.by_name.contains_key(group) && self.by_name.len() >= GROUP_LIMIT
     }
 
-    /// The first step of a commit: all allocations. The groups stay, also after an error. `TooMany`
-    /// comes where the group is a new one and there are 10,000, before a name is copied. Only names
-    /// that are new are copied; where the group has an offset on the partition, no memory is taken.
+    /// The first step of a commit: all allocations. The groups are unchanged, also after an error.
+    /// `TooMany` is returned if the group is a new one and there are 10,000, before a name is
+    /// copied. Only names that are new are copied. Does not allocate if the group has an offset on
+    /// the partition.
     pub fn prepare_commit(
         &mut self,
         alloc: Global,
@@ -88,7 +89,7 @@ impl Groups {
         }
     }
 
-    /// Makes room for a commit, and for the group among those listed for the topic.
+    /// Reserves capacity for a commit, and for the group among those listed for the topic.
     fn prepare_allowed(
         &mut self,
         alloc: Global,
@@ -115,7 +116,7 @@ impl Groups {
         })
     }
 
-    /// The second step: the offset is committed, in the room that is there; no memory is taken.
+    /// The second step: commits the offset in reserved capacity. Does not allocate.
     pub fn commit_commit(&mut self, made: PreparedCommit)
         requires { CanCommit made self.old }
         ensures { groups_of self.new
@@ -131,8 +132,8 @@ impl Groups {
         put_commit(&mut self.by_name, entry, partition, offset);
     }
 
-    /// Commits an offset. A new group is put last. After an error the groups are as before; where
-    /// the group has an offset on the partition, no memory is taken.
+    /// Commits an offset. A new group is appended. After an error the groups are as before. Does
+    /// not allocate if the group has an offset on the partition.
     pub fn commit(
         &mut self,
         alloc: Global,
@@ -165,14 +166,14 @@ impl Groups {
         Ok(Items::from_vec(names))
     }
 
-    /// Whether there is a group of that name; no memory is taken.
+    /// Whether there is a group of that name. Does not allocate.
     pub fn contains(&self, name: &Text) -> bool
         ensures { result ≡ has_group name.now (groups_of self.now) }
     {
         self.by_name.contains_key(name)
     }
 
-    /// Takes a group away, with its commits; no memory is taken.
+    /// Removes a group, with its commits. Does not allocate.
     pub fn remove(&mut self, name: &Text) -> Result<(), GroupNotFound>
         ensures found { OnOk result (has_group name.now (groups_of self.old) ≡ true) }
         ensures removed { OnOk result
@@ -187,7 +188,7 @@ impl Groups {
         Ok(())
     }
 
-    /// Takes away the commits on a topic; the groups stay. No memory is taken.
+    /// Deletes the commits on a topic; the groups remain. Does not allocate.
     pub fn forget_topic(&mut self, topic: &Text)
         ensures { groups_of self.new ≡ without_topic topic.now (groups_of self.old) }
     {
@@ -205,7 +206,7 @@ ghost use Rattle.kob_groups.specs.Listed.{AreListed, has_commits, is_listed};
 ghost use Rattle.kob_groups.specs.Views.{commits_in, groups_in, without_topic_at};
 ghost use Rattle.kob_names.specs.Same.{same_text};
 
-/// Takes away the commits on a topic of the groups of these names.
+/// Deletes the commits on a topic of the groups of these names.
 fn forget_at(groups: &mut OrderedMap<Commits>, names: &GroupNames, topic: &Text)
     ensures { groups_in groups.new.entries
         ≡ without_topic_at (λ name. is_among name (Some names.now)) topic.now
@@ -218,7 +219,7 @@ fn forget_at(groups: &mut OrderedMap<Commits>, names: &GroupNames, topic: &Text)
     }
 }
 
-/// Takes a group that went from the lists of the topics on which it has commits.
+/// Removes a deleted group from the lists of the topics on which it has commits.
 fn leave_lists(lists: &mut GroupsByTopic, commits: &Commits, group: &Text)
     ensures { (t g : List ℕ) → is_listed t g lists.new ≡ (is_listed t g lists.old
         && not (same_text group.now g && has_commits t (commits_in commits.now))) }

@@ -1,4 +1,4 @@
-//! For each topic with commits the groups that have any.
+//! The groups with commits on each topic.
 
 ghost use Rattle.std.specs.Prelude.{[], ◌≡◌, ◌∷◌, ◌<◌, ℕ, List, false, not, ◌&&◌, ◌||◌};
 ghost use Rattle.std.specs.Prelude.{IfOk, IfSome, None, OnErr};
@@ -11,7 +11,7 @@ use kob_names::{PlainValue, Text};
 use kob_ordered::OrderedMap;
 use std::alloc::{AllocError, Global};
 
-/// The names of groups; their order says nothing.
+/// The names of groups; their order has no meaning.
 pub(crate) type GroupNames = OrderedMap<()>;
 
 /// The groups with commits on each topic. No list is empty.
@@ -21,12 +21,12 @@ pub(crate) struct GroupsByTopic {
     ghost filled: { AreFilled by_topic.entries },
 }
 
-/// A group that is to be listed for a topic.
+/// A group that will be listed for a topic.
 #[derive(Drop)]
 pub(crate) enum Listing {
-    /// The group goes into the list at a place.
+    /// The group is added to the list at a place.
     InList(usize, Text),
-    /// The group goes into the empty list, which is put in for a topic that has none.
+    /// The group is added to the empty list that is inserted for a topic without one.
     NewList(Text, Text, GroupNames),
 }
 
@@ -34,7 +34,7 @@ impl GroupsByTopic {
     ghost use Rattle.kob_groups.specs.Listed.{CanList, HasRoomFor, ListsAlike, is_listed, is_pair};
     ghost use Rattle.kob_groups.specs.Listed.{Lists};
 
-    /// No lists; no memory is taken.
+    /// No lists. Does not allocate.
     pub(crate) fn new(alloc: Global) -> GroupsByTopic
         ensures { (topic group : List ℕ) → is_listed topic group result ≡ false }
     {
@@ -43,8 +43,9 @@ impl GroupsByTopic {
         }
     }
 
-    /// Makes room for a group among those of a topic, unless it is listed already, and copies the
-    /// names that are new. The lists stay, also after an error, which is out of memory.
+    /// Reserves capacity for a group among those of a topic, unless it is listed already, and
+    /// copies the names that are new. The lists are unchanged, also after an error, which is out of
+    /// memory.
     pub(crate) fn reserve(
         &mut self,
         alloc: Global,
@@ -65,7 +66,7 @@ impl GroupsByTopic {
         }
     }
 
-    /// Makes room for a group in the list at a place, unless it is there.
+    /// Reserves capacity for a group in the list at a place, unless it is there.
     fn reserve_name(
         &mut self,
         alloc: Global,
@@ -88,8 +89,8 @@ impl GroupsByTopic {
         Ok(Some(Listing::InList(place, group)))
     }
 
-    /// Lists a group for a topic, unless it was listed when room was made, in the room that is
-    /// there; no memory is taken.
+    /// Lists a group for a topic in reserved capacity, unless it was listed when that was reserved.
+    /// Does not allocate.
     pub(crate) fn put(&mut self, listing: Option<Listing>)
         requires { IfSome listing (λ listing. HasRoomFor listing self.old) }
         ensures { (topic group : List ℕ) → CanList listing topic group self.old
@@ -101,7 +102,7 @@ impl GroupsByTopic {
         }
     }
 
-    /// Lists a group for a topic, in the room that is there.
+    /// Lists a group for a topic, in reserved capacity.
     fn put_new(&mut self, listing: Listing)
         requires { HasRoomFor listing self.old }
         ensures { (topic group : List ℕ) → Lists listing topic group self.old
@@ -117,7 +118,7 @@ impl GroupsByTopic {
         }
     }
 
-    /// Takes a group from the list of a topic; no memory is taken.
+    /// Removes a group from the list of a topic. Does not allocate.
     pub(crate) fn remove(&mut self, topic: &Text, group: &Text)
         ensures { (t g : List ℕ) → is_listed t g self.new
             ≡ (is_listed t g self.old && not (is_pair topic.now group.now t g)) }
@@ -131,7 +132,7 @@ impl GroupsByTopic {
         }
     }
 
-    /// Takes the list of a topic away; no memory is taken.
+    /// Removes the list of a topic, and returns it. Does not allocate.
     pub(crate) fn take(&mut self, topic: &Text) -> Option<GroupNames>
         ensures names { (group : List ℕ)
             → is_among group result ≡ is_listed topic.now group self.old }
@@ -145,7 +146,8 @@ impl GroupsByTopic {
 impl Listing {
     ghost use Rattle.kob_groups.specs.Listed.{IsNewList};
 
-    /// A group in a list with room for it, and copies of both names. The error is out of memory.
+    /// A group in a list with capacity for it, and copies of both names. The error is out of
+    /// memory.
     fn in_new_list(alloc: Global, topic: &Text, group: &Text) -> Result<Listing, AllocError>
         ensures { IfOk result (IsNewList topic.now group.now) }
     {

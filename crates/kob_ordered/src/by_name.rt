@@ -9,7 +9,7 @@ use crate::slot::Slot;
 use kob_names::Text;
 use std::cmp::Ordering;
 
-/// Where the place of that name is among those listed in order, or where it would.
+/// Where the place of that name is in the sorted list of places, or where it would be.
 pub(crate) fn find<V>(slots: &[Slot<V>], by_name: &[usize], name: &Text) -> Result<usize, usize>
     requires { IsSound slots.now by_name.now }
     ensures found { IfOk result (IsAt slots.now by_name.now name.now) }

@@ -6,7 +6,7 @@ use crate::slot::Slot;
 use kob_names::Text;
 use std::marker::Model;
 
-/// The entries of a map in order of insertion, seen as the list of those that are left.
+/// The entries of a map in order of insertion. Contracts see those that are left.
 #[derive(Drop)]
 pub struct Iter<'a, V> {
     pub(crate) slots: &'a [Slot<V>],

@@ -1,4 +1,4 @@
-//! A map from names to values in order of insertion, whose removals move nothing.
+//! A map from names to values in order of insertion, whose removals move no other entry.
 #![tactic(auto)]
 
 mod by_name;

@@ -18,10 +18,10 @@ use std::marker::Model;
 use std::mem;
 
 /// A map from names to values in order of insertion. Names are found by binary search in a list of
-/// places that is sorted by name, so no choice of names makes a look-up slow; an insertion and a
-/// removal shift that list. A removal leaves a hole among the entries, which an iteration passes.
-/// The holes go when room is made, once there are more of them than entries. Contracts see the
-/// entries in order, and the room that is there for more.
+/// places that is sorted by name. So no choice of names makes a look-up slow; an insertion and a
+/// removal shift that list. A removal leaves a hole among the entries, which iterations skip.
+/// `reserve` removes the holes once there are more of them than entries. Contracts see the entries
+/// in order, and the capacity reserved for more.
 #[derive(Drop)]
 pub struct OrderedMap<V> {
     slots: Vec<Slot<V>>,
@@ -53,7 +53,7 @@ impl<V: Drop> OrderedMap<V> {
     ghost use Rattle.kob_ordered.specs.Ordered.{StandsAt, name_at};
     ghost use Rattle.kob_ordered.specs.OrderedLends.{lends_at, lends_value};
 
-    /// No entries; no memory is taken.
+    /// No entries. Does not allocate.
     pub fn new(alloc: Global) -> OrderedMap<V>
         ensures { result.entries ≡ [] }
     {
@@ -78,7 +78,7 @@ impl<V: Drop> OrderedMap<V> {
         let _ = &self.slots;
     }
 
-    /// The value of that name; no memory is taken.
+    /// The value of that name. Does not allocate.
     pub fn get(&self, name: &Text) -> Option<&V>
         ensures { option_copied result ≡ lookup (same_text name.now) self.now.entries }
     {
@@ -89,7 +89,7 @@ impl<V: Drop> OrderedMap<V> {
         }
     }
 
-    /// The value of that name, to be written; no two names are the same. No memory is taken.
+    /// The value of that name, for writing; no two names are the same. Does not allocate.
     pub fn get_mut(&mut self, name: &Text) -> Option<&mut V>
         ensures* writes_back { sem 𝓛 (lends_value V.row self.entry name.now result) }
         ensures value { option_copied_mut result ≡ lookup (same_text name.now) self.old.entries }
@@ -99,8 +99,8 @@ impl<V: Drop> OrderedMap<V> {
         Some(self.slots[place].value_mut())
     }
 
-    /// The place of the entry of that name, which stays its place until room is made or the entry is
-    /// removed; no memory is taken.
+    /// The place of the entry of that name. It stays the same until capacity is reserved or the
+    /// entry is removed. Does not allocate.
     pub fn place_of(&self, name: &Text) -> Option<usize>
         ensures stands { IfSome result (λ place. StandsAt self.now place name.now) }
         ensures known { is_some result ≡ is_some (lookup (same_text name.now) self.now.entries) }
@@ -108,7 +108,7 @@ impl<V: Drop> OrderedMap<V> {
         place_of(self.slots.as_slice(), self.by_name.as_slice(), name)
     }
 
-    /// The value of the entry at a place, to be written; no memory is taken.
+    /// The value of the entry at a place, for writing. Does not allocate.
     pub fn value_at_mut(&mut self, place: usize) -> &mut V
         requires { StandsAt self.old place (name_at self.old place) }
         ensures* writes_back { sem 𝓛 (lends_at V.row self.entry place result) }
@@ -118,15 +118,15 @@ impl<V: Drop> OrderedMap<V> {
         self.slots[place].value_mut()
     }
 
-    /// Whether there is an entry of that name; no memory is taken.
+    /// Whether there is an entry of that name. Does not allocate.
     pub fn contains_key(&self, name: &Text) -> bool
         ensures { result ≡ is_some (lookup (same_text name.now) self.now.entries) }
     {
         place_of(self.slots.as_slice(), self.by_name.as_slice(), name).is_some()
     }
 
-    /// Makes room for one more entry, and fills the holes if there are more of them than entries.
-    /// The entries stay, also after an error, which is out of memory.
+    /// Reserves capacity for one more entry, and removes the holes if there are more of them than
+    /// entries. The entries are unchanged, also after an error, which is out of memory.
     pub fn reserve(&mut self) -> Result<(), AllocError>
         ensures entries { self.new.entries ≡ self.old.entries }
         ensures room { OnOk result (0 < self.new.room) }
@@ -139,7 +139,7 @@ impl<V: Drop> OrderedMap<V> {
         self.slots.reserve(1)
     }
 
-    /// Puts an entry last, whose name is not there, in the room that is there; no memory is taken.
+    /// Appends an entry, whose name is not there, in reserved capacity. Does not allocate.
     pub fn insert(&mut self, name: Text, value: V)
         requires room { 0 < self.old.room }
         requires absent { lookup (same_text name) self.old.entries ≡ None }
@@ -153,8 +153,8 @@ impl<V: Drop> OrderedMap<V> {
         self.slots.push(Slot::Entry(name, value)).unwrap();
     }
 
-    /// Takes the entry of that name away, and gives its value. The others keep their order; no
-    /// memory is taken.
+    /// Removes the entry of that name, and returns its value. The others keep their order. Does not
+    /// allocate.
     pub fn remove(&mut self, name: &Text) -> Option<V>
         ensures value { result ≡ lookup (same_text name.now) self.old.entries }
         ensures entries { self.new.entries
@@ -173,7 +173,7 @@ impl<V: Drop> OrderedMap<V> {
         }
     }
 
-    /// The names and values, in order of insertion; no memory is taken.
+    /// The names and values, in order of insertion. Does not allocate.
     pub fn iter(&self) -> Iter<'_, V>
         ensures { result ≡ self.now.entries }
     {

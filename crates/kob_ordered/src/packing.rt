@@ -1,4 +1,4 @@
-//! The holes among the slots taken away.
+//! The removal of the holes among the slots.
 
 ghost use Rattle.std.specs.Prelude.{◌≡◌, ◌<◌, length, slice_index_or, vec_capacity, ℕ, IfOk, OnOk};
 ghost use Rattle.kob_ordered.specs.Slots.{entries_in, rank, IsSound};
@@ -6,7 +6,7 @@ ghost use Rattle.kob_ordered.specs.Slots.{entries_in, rank, IsSound};
 use crate::slot::Slot;
 use std::alloc::{AllocError, Global};
 
-/// Takes the holes away. After an error, which is out of memory, all stays.
+/// Removes the holes. After an error, which is out of memory, nothing has changed.
 pub(crate) fn pack<V: Drop>(
     alloc: Global,
     slots: &mut Vec<Slot<V>>,

@@ -7,7 +7,7 @@ ghost use Rattle.kob_ordered.specs.Slots.{is_entry, name_in, with_value_in};
 
 use kob_names::Text;
 
-/// What is at one place of the order: an entry, or a hole where one went.
+/// What is at one place of the order: an entry, or a hole where one was removed.
 #[derive(Drop)]
 pub(crate) enum Slot<V> {
     Hole,

@@ -12,11 +12,11 @@ use kob_names::Idem;
 /// producer).
 #[derive(Clone, Copy, Debug, PartialEq, Eq)]
 pub enum Judgement {
-    /// It is the next one.
+    /// It is the next batch.
     Next,
     /// It is one of the last five, which was accepted at this offset.
     Repeat(u64),
-    /// Batches between are missing, or it is older than the last five.
+    /// Batches before it are missing, or it is older than the last five.
     OutOfOrder,
     /// Its producer has begun a higher epoch since.
     OldEpoch,
@@ -54,7 +54,7 @@ pub(crate) fn judge_first(base: u64) -> Judgement
     }
 }
 
-/// How a batch that repeats none relates to the last one of its epoch.
+/// How a batch that is not a repeat relates to the last one of its epoch.
 fn judge_base(base: u64, last: &Sent) -> Judgement
     ensures { result ≡ judge_base base last.now }
 {

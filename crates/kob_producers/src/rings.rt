@@ -13,12 +13,12 @@ use std::alloc::{AllocError, Global};
 use std::collections::HashMap;
 use std::marker::Model;
 
-/// How many batches of a producer are kept.
+/// The number of batches that are kept of a producer.
 const REMEMBERED: usize = 5;
 
 type Ring = HeapCircularBuffer<Sent>;
 
-/// A ring of the last five accepted batches of each producer, and one put aside for a producer that
+/// A ring of the last five accepted batches of each producer, and a spare ring for a producer that
 /// has none.
 #[derive(Drop)]
 pub(crate) struct Rings {
@@ -50,7 +50,7 @@ impl Rings {
     ghost use Rattle.kob_producers.specs.Recent.{sent_by, recent_after};
     ghost use Rattle.kob_producers.specs.Table.{CanAccept};
 
-    /// No rings. It takes no memory.
+    /// No rings. Does not allocate.
     pub(crate) fn new(alloc: Global) -> Self
         ensures { result.recent ≡ map.empty }
     {
@@ -61,7 +61,7 @@ impl Rings {
         }
     }
 
-    /// How a batch of so many records relates to those that its producer sent before.
+    /// How a batch of `count` records relates to those that its producer sent before.
     pub(crate) fn judge(&self, idem: &Idem, count: u64) -> Judgement
         ensures { result ≡ judge (sent_by self.now.recent idem.now.id) idem.now count }
     {
@@ -71,7 +71,7 @@ impl Rings {
         }
     }
 
-    /// Makes room for one batch of the producer.
+    /// Reserves capacity for one batch of the producer.
     pub(crate) fn reserve(&mut self, idem: &Idem) -> Result<(), AllocError>
         ensures recent { self.new.recent ≡ self.old.recent }
         ensures room { OnOk result (CanAccept self.new idem.now.id) }
@@ -83,8 +83,8 @@ impl Rings {
         self.kept.reserve(1)
     }
 
-    /// Puts a batch of so many records, whose first one has the offset, last among those of its
-    /// producer. It takes no memory.
+    /// Appends a batch of `count` records, whose first one has the offset, to those of its
+    /// producer. Does not allocate.
     pub(crate) fn accept(&mut self, idem: &Idem, count: u64, offset: u64)
         requires { CanAccept self.old idem.now.id }
         ensures { self.new.recent ≡ recent_after self.old.recent idem.now count offset }
@@ -101,7 +101,7 @@ impl Rings {
     }
 }
 
-/// Puts an empty ring aside, where none is kept.
+/// Makes the spare ring, if there is none.
 fn fill(fresh: &mut Option<Ring>, alloc: Global) -> Result<(), AllocError>
     requires { IfSome fresh.old IsFresh }
     ensures fresh { IfSome fresh.new IsFresh }
@@ -113,7 +113,7 @@ fn fill(fresh: &mut Option<Ring>, alloc: Global) -> Result<(), AllocError>
     Ok(())
 }
 
-/// Puts in a ring where there is room for it.
+/// Inserts a ring, for which capacity is reserved.
 fn insert_reserved(rings: &mut HashMap<u64, Ring>, producer: u64, ring: Ring)
     requires { 0 < spare rings.old }
     ensures { Updates nat_eq rings.old rings.new producer (Some ring) }

@@ -17,7 +17,7 @@ pub struct Sent {
 impl Sent {
     ghost use Rattle.kob_producers.specs.Recent.{sent_batch};
 
-    /// What is kept of a batch of so many records that was accepted at an offset.
+    /// What is kept of a batch of `count` records that was accepted at an offset.
     pub(crate) fn new(idem: &Idem, count: u64, offset: u64) -> Self
         ensures { result ≡ sent_batch idem.now count offset }
     {

@@ -4,7 +4,7 @@
 ghost use Rattle.std.specs.Prelude.{◌≡◌, ◌<◌};
 ghost use Rattle.kob_producers.specs.Sequence.{sequences, next_sequence, last_of};
 
-/// How many sequences there are.
+/// The number of sequences.
 const SEQUENCES: u64 = 2_147_483_648;
 
 /// The sequence after this one.
@@ -15,8 +15,8 @@ pub fn next_sequence(sequence: u64) -> u64
     (sequence % SEQUENCES + 1) % SEQUENCES
 }
 
-/// The sequence of the last of so many records, of which the first has the sequence `base`. Of no
-/// record it is `base`.
+/// The sequence of the last of `count` records, of which the first has the sequence `base`. It is
+/// `base` for no records.
 pub fn last_of(base: u64, count: u64) -> u64
     ensures last { result ≡ last_of base count }
     ensures within { result < sequences }

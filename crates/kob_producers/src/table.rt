@@ -11,9 +11,9 @@ use std::marker::Model;
 
 /// The last five accepted batches of each producer on one partition.
 ///
-/// It takes no memory before room is made in it, so that partitions with no idempotent batch are
-/// small. Contracts see the batches by producer, and whether a batch of a producer that has none
-/// can be accepted.
+/// It does not allocate before capacity is reserved, so that partitions without idempotent batches
+/// are small. Contracts see the batches by producer, and whether a batch of a producer that has
+/// none can be accepted.
 #[derive(Drop)]
 pub struct ProducerTable {
     alloc: Global,
@@ -37,7 +37,7 @@ impl ProducerTable {
     ghost use Rattle.kob_producers.specs.Recent.{sent_by, recent_after, Keeps, with_sent};
     ghost use Rattle.kob_producers.specs.Table.{CanAccept};
 
-    /// A table with no batches. It takes no memory.
+    /// A table with no batches. Does not allocate.
     pub fn new(alloc: Global) -> Self
         ensures recent { result.recent ≡ map.empty }
         ensures plain { Keeps (λ _. []) result.recent }
@@ -45,7 +45,7 @@ impl ProducerTable {
         ProducerTable { alloc, rings: None }
     }
 
-    /// How a batch of so many records relates to those that its producer sent before.
+    /// How a batch of `count` records relates to those that its producer sent before.
     pub fn judge(&self, idem: &Idem, count: u64) -> Judgement
         ensures kept { result ≡ judge (sent_by self.now.recent idem.now.id) idem.now count }
         // It is the judgement by all batches ever accepted, whatever they were.
@@ -58,7 +58,7 @@ impl ProducerTable {
         }
     }
 
-    /// Makes room for one batch of the producer.
+    /// Reserves capacity for one batch of the producer.
     pub fn reserve(&mut self, idem: &Idem) -> Result<(), AllocError>
         ensures recent { self.new.recent ≡ self.old.recent }
         ensures room { OnOk result (CanAccept self.new idem.now.id) }
@@ -72,8 +72,8 @@ impl ProducerTable {
         Ok(())
     }
 
-    /// Puts a batch of so many records, whose first one has the offset, last among those of its
-    /// producer. It takes no memory.
+    /// Appends a batch of `count` records, whose first one has the offset, to those of its
+    /// producer. Does not allocate.
     pub fn accept(&mut self, idem: &Idem, count: u64, offset: u64)
         requires { CanAccept self.old idem.now.id }
         ensures recent { self.new.recent ≡ recent_after self.old.recent idem.now count offset }
