@@ -11,9 +11,9 @@ use kob_names::{Binding, Items, PlainValue, Settings, Text};
 use kob_rights::{Event, Produce, Reply, Request};
 use std::alloc::{AllocError, Global};
 
-/// The broker: topics, groups, bindings in force and super users, behind rights that are decided at
-/// each event's place. Contracts see its state (`state_of`), and beside it the room that is there
-/// for changes.
+/// The broker: topics, groups, bindings in force and super users. The rights of each event are
+/// decided by the bindings in force at its place. Contracts see its state (`state_of`), and the
+/// capacity reserved for changes.
 #[derive(Drop)]
 pub struct Broker {
     pub(crate) catalog: Catalog,
@@ -35,7 +35,7 @@ impl Broker {
     ghost use Rattle.kob_partition.specs.Retained.{retained_meaning};
 
     /// A broker with no topics and no groups, with the opening bindings in force under serials from
-    /// 1 on. `TooMany` comes where the opening list holds more than 100,000 different bindings.
+    /// 1 on. `TooMany` is returned if the opening list holds more than 100,000 different bindings.
     pub fn open(alloc: Global, settings: Settings) -> Result<Broker, OpenFault>
         ensures ok { IfOk result (λ broker. state_of broker ≡ open_state settings) }
         ensures few { OnOk result (create_fault [] 1 settings.opening ≡ None) }
@@ -51,9 +51,9 @@ impl Broker {
         })
     }
 
-    /// The super users and the switch, and the bindings in force now as the opening list, in rising
-    /// serials.
-    /// Opened with these, a broker has new serials from 1 on. The error is out of memory.
+    /// The super users, the setting `everyone`, and the bindings in force now as the opening list,
+    /// by ascending serial. A broker that is opened with these has new serials from 1 on. The error
+    /// is out of memory.
     pub fn opening(&self, alloc: Global) -> Result<Settings, AllocError>
         ensures { IfOk result (λ settings. settings ≡ settings_of (state_of self.now)) }
     {
@@ -95,8 +95,8 @@ impl Broker {
         }
     }
 
-    /// The first step of serving an event: all allocations and the reply. The contents stay, also
-    /// when out of memory, which is the error.
+    /// The first step of serving an event: all allocations and the reply. The contents are
+    /// unchanged, also after an error, which is out of memory.
     pub fn prepare(&mut self, alloc: Global, event: &Event) -> Result<Prepared, AllocError>
         ensures state { state_of self.new ≡ state_of self.old }
         ensures ok { IfOk result
@@ -108,8 +108,8 @@ impl Broker {
         }
     }
 
-    /// The first step for an event that is moved: the same as [`prepare`](Broker::prepare), but
-    /// a batch is moved and not copied.
+    /// The first step for an event by value: as [`prepare`](Broker::prepare), but a batch is moved
+    /// and not copied.
     pub fn prepare_owned(&mut self, alloc: Global, event: Event) -> Result<Prepared, AllocError>
         ensures state { state_of self.new ≡ state_of self.old }
         ensures ok { IfOk result (Makes (step retained_meaning (state_of self.new) event) self.new) }
@@ -127,7 +127,7 @@ impl Broker {
         }
     }
 
-    /// Decides on the request of an event that is moved, whose rights are granted.
+    /// Decides on the request of an event by value, whose rights are granted.
     #[tactic(auto, using(crate::proofs::Decisions::made_for_ok))]
     fn prepare_effect_owned(&mut self, alloc: Global, event: Event) -> Result<Prepared, AllocError>
         ensures state { state_of self.new ≡ state_of self.old }
@@ -152,8 +152,8 @@ impl Broker {
         }
     }
 
-    /// The second step, where nothing has changed since the first: the change is made, and the
-    /// reply given. No memory is taken.
+    /// The second step, if nothing has changed since the first: makes the change, and returns the
+    /// reply. Does not allocate.
     pub fn commit(&mut self, prepared: Prepared) -> Reply
         requires { IsReady prepared self.old }
         ensures reply { result ≡ reply_of prepared }
@@ -204,8 +204,8 @@ impl Broker {
         Ok(self.commit(prepared))
     }
 
-    /// Serves one event that is moved: the same as [`serve`](Broker::serve), but the batch of a
-    /// PRODUCE is moved into the log and not copied.
+    /// Serves one event by value: as [`serve`](Broker::serve), but the batch of a PRODUCE is moved
+    /// into the log and not copied.
     pub fn serve_owned(&mut self, alloc: Global, event: Event) -> Result<Reply, AllocError>
         ensures reply { IfOk result (λ reply. reply
             ≡ (step retained_meaning (state_of self.old) event).reply) }
@@ -217,7 +217,7 @@ impl Broker {
         Ok(self.commit(prepared))
     }
 
-    /// Serves events in order, until memory stops the run; the broker is then as it is after the
+    /// Serves events in order, until one runs out of memory. The broker is then as it is after the
     /// events that are done.
     pub fn run(&mut self, alloc: Global, events: &[Event]) -> Result<Vec<Reply>, Stopped>
         ensures replies { IfOk result (λ replies. replies.items
@@ -244,7 +244,7 @@ impl Broker {
         Ok(replies)
     }
 
-    /// Takes a topic away, and the commits on it.
+    /// Removes a topic, and the commits on it.
     fn remove_topic(&mut self, name: &Text)
         ensures { state_of self.new ≡ delete_topics_after (state_of self.old) name.now }
     {
@@ -319,7 +319,7 @@ fn bindings_of(alloc: Global, entries: &[(u64, Binding)]) -> Result<Items<Bindin
     Ok(Items::from_vec(bindings))
 }
 
-/// Puts a copy of a binding last.
+/// Appends a copy of a binding.
 fn put_copy(alloc: Global, bindings: &mut Vec<Binding>, binding: &Binding) -> Result<(), AllocError>
     ensures { OnOk result (bindings.new.items ≡ bindings.old.items ++ binding.now ∷ []) }
 {

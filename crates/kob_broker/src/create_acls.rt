@@ -15,7 +15,7 @@ use kob_names::{Binding, BindingFault, Draft, Items};
 use kob_rights::{Body, CreateAcls, Reason};
 use std::alloc::{AllocError, Global};
 
-/// Why drafts don't become bindings.
+/// Why drafts are not valid bindings.
 enum DraftFault {
     Refused(Reason),
     Memory,
@@ -57,7 +57,7 @@ fn bindings_of(alloc: Global, drafts: &[Draft]) -> Result<Vec<Binding>, DraftFau
     Ok(bindings)
 }
 
-/// Puts the binding of a draft last, if it breaks no rule.
+/// Appends the binding of a draft, if it breaks no rule.
 fn put_binding(alloc: Global, bindings: &mut Vec<Binding>, draft: &Draft) -> Result<(), DraftFault>
     ensures ok { OnOk result (bindings.new.items ≡ bindings.old.items ++ draft.now ∷ []) }
     ensures allowed { OnOk result (first_reason (draft_reasons draft.now) ≡ None) }

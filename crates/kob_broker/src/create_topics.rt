@@ -42,7 +42,7 @@ impl Broker {
     }
 }
 
-/// Whether the text is no name of a topic; no memory is taken.
+/// Whether the text is not a valid topic name. Does not allocate.
 fn is_bad_topic_name(name: &str) -> bool
     ensures { result ≡ is_some (topic_fault name.now) }
 {
@@ -52,7 +52,7 @@ fn is_bad_topic_name(name: &str) -> bool
     bad_byte(name).is_some()
 }
 
-/// The place of the first byte that no topic name has.
+/// The place of the first byte that no topic name may have.
 fn bad_byte(name: &str) -> Option<usize>
     ensures { result ≡ position (λ byte. not (is_topic_byte byte)) name.now }
 {

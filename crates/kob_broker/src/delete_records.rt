@@ -1,4 +1,4 @@
-//! Records deleted from the front of a partition.
+//! The deletion of records at the front of a partition.
 
 ghost use Rattle.std.specs.Prelude.{◌≡◌, IfOk};
 ghost use Rattle.kob_broker.specs.Change.{MakesFor};

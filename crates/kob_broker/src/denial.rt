@@ -72,7 +72,7 @@ fn first_blamed(authorizer: &Authorizer, event: &Event) -> Option<(Code, Verdict
     }
 }
 
-/// The denial of the event, where it is denied; memory is taken for a denial alone.
+/// The denial of the event, if it is denied. Allocates only for a denial.
 pub(crate) fn denial_of(
     alloc: Global,
     authorizer: &Authorizer,

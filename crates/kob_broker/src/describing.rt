@@ -12,7 +12,7 @@ use kob_catalog::Decider;
 use kob_names::{Operation, ResourceKind, Text};
 use kob_rights::Event;
 
-/// The bindings in force, as an event asks them for names of topics.
+/// Decides by the bindings in force which topics the event's principal may describe.
 #[derive(Drop)]
 pub(crate) struct TopicDescriber<'a> {
     pub(crate) authorizer: &'a Authorizer,
@@ -46,7 +46,7 @@ pub(crate) fn describes_cluster(authorizer: &Authorizer, event: &Event) -> bool
     describes(authorizer, event, ResourceKind::Cluster, "kafka-cluster")
 }
 
-/// Whether the event's principal may describe what has that name.
+/// Whether the event's principal may describe the resource of that name.
 fn describes(authorizer: &Authorizer, event: &Event, resource: ResourceKind, name: &str) -> bool
     ensures { result ≡ is_granted (decide authorizer.now.contents
         (question_of event.now.principal event.now.host Operation.Describe resource name.now)) }

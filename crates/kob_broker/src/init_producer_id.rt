@@ -1,4 +1,4 @@
-//! A producer id given.
+//! The next producer id.
 
 ghost use Rattle.kob_broker.specs.Change.{MakesFor};
 ghost use Rattle.kob_rights.specs.declared.request.Request.TheVariants as requests;

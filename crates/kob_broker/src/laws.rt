@@ -1,7 +1,7 @@
 //! Laws of the definitions. These functions do nothing: their contracts are the laws.
 //!
-//! Each is said of a broker over all accepted batches of each partition (`plain`), and of one over
-//! what a log keeps of them (`retained`), which is what `Broker::run` speaks of.
+//! Each law is stated for a broker over all accepted batches of each partition (`plain`), and for
+//! one over what a log keeps of them (`retained`). `Broker::run` is the second.
 
 ghost use Rattle.std.specs.List.{All};
 ghost use Rattle.std.specs.Prelude.{◌≡◌, ◌≤◌, ◌+◌, List, false, length};
@@ -23,9 +23,9 @@ ghost use Rattle.kob_broker.specs.Spending.{SaysNothingSpent, asked_in};
 ghost use Rattle.kob_broker.specs.State.{State, open_state};
 ghost use Rattle.kob_broker.specs.Step.{replies_of, step};
 
-/// Whatever events come after the opening, each is served exactly where the bindings in force at
-/// its place grant every right of the operation table, and each denial names the earliest deny that
-/// matches, or that no allow does.
+/// Whatever events come after the opening, each is served exactly if the bindings in force at its
+/// place grant every right of the operation table. Each denial names the earliest deny that hits,
+/// or says that no allow does.
 pub fn each_reply_is_just()
     ensures plain { (settings : Settings) (events : List Event)
         → EachJust plain_meaning events (open_state settings) }
@@ -44,7 +44,7 @@ pub fn only_done_requests_change_the_state()
     // The contract is the law.
 }
 
-/// The bindings in force at any place of a run are read off the events before it and their replies:
+/// The bindings in force at any place of a run follow from the events before it and their replies:
 /// after the first events of a run, the broker holds what `in_force` makes of them.
 pub fn replies_tell_the_bindings_in_force()
     ensures plain { (s : State Plain) (events : List Event)
@@ -55,8 +55,8 @@ pub fn replies_tell_the_bindings_in_force()
     // The contract is the law.
 }
 
-/// Whether an event is denied, and how, depends on the event, the settings and the bindings in
-/// force alone: two brokers that agree there give equal denials, whatever serial comes next, what
+/// Whether an event is denied, and how, depends only on the event, the settings and the bindings in
+/// force. Two brokers that agree on these give equal denials, whatever serial comes next, what
 /// topics and groups they hold, and however their partitions are kept.
 pub fn denials_depend_on_bindings_alone()
     ensures plain { (s t : State Plain) (event : Event) → AgreeOnAccess s.access t.access
@@ -71,8 +71,8 @@ pub fn denials_depend_on_bindings_alone()
     // The contract is the law.
 }
 
-/// Where nothing is open to everyone, each verdict on a right is by super users and bindings alone;
-/// and whether anything is stays as it was, whatever a broker serves.
+/// If nothing is open to everyone, each verdict on a right is by super users and bindings alone.
+/// Whether anything is open to everyone never changes, whatever a broker serves.
 pub fn verdicts_are_by_bindings_where_nothing_is_open()
     ensures verdicts { (access : Contents) (event : Event) (check : Check)
         → access.everyone ≡ false
@@ -86,9 +86,10 @@ pub fn verdicts_are_by_bindings_where_nothing_is_open()
     // The contract is the law.
 }
 
-/// What a log keeps of its batches is enough: whatever broker and events, a broker over what is
-/// kept answers as one over all accepted batches, and is after them where that one's batches
-/// are kept. Both open alike, so that what is proved of the one's replies holds of the other's.
+/// What a log keeps of its batches is enough. Whatever broker and events, a broker over what is
+/// kept gives the same replies as one over all accepted batches. Its state after them is what is
+/// kept of the other's state. Both open alike, so that what is proved of the replies of one holds
+/// of the other's.
 pub fn what_is_kept_is_enough()
     ensures opening { (settings : Settings) → OpensAlike settings }
     ensures steps { (s : State Plain) (event : Event) → StepsAlike s event }
@@ -97,10 +98,10 @@ pub fn what_is_kept_is_enough()
     // The contract is the law.
 }
 
-/// At each place of a run, who asks for all topics is answered with exactly those that the bindings
-/// in force there let the principal describe, in order of creation; and who asks for the groups
-/// with those that they let it describe, or with all for one who may describe the cluster, in order
-/// of their first commit.
+/// At each place of a run, the reply to METADATA of all topics has exactly those that the bindings
+/// in force there let the principal describe. They are in order of creation. The reply to
+/// LIST_GROUPS has the groups that they let it describe, or all for a principal that may describe
+/// the cluster. They are in order of their first commit.
 pub fn listings_hold_what_is_described()
     ensures plain { (s : State Plain) (events : List Event) → EachLists plain_meaning events s }
     ensures retained { (s : State Retained) (events : List Event)
@@ -109,9 +110,9 @@ pub fn listings_hold_what_is_described()
     // The contract is the law.
 }
 
-/// Whatever events come after the opening, each offset that is answered is at most
-/// 9,223,372,036,854,775,807, the greatest at which a log may end, and each record that is fetched
-/// has an offset below that.
+/// Whatever events come after the opening, each offset in a reply is at most
+/// 9,223,372,036,854,775,807, the greatest at which a log may end. Each fetched record has an
+/// offset below that.
 pub fn offsets_stay_within_the_limit()
     ensures plain { (settings : Settings) (events : List Event)
         → All OffsetsWithin (replies_of plain_meaning events (open_state settings)) }
@@ -121,9 +122,9 @@ pub fn offsets_stay_within_the_limit()
     // The contract is the law.
 }
 
-/// OffsetsSpent, ProducerIdsSpent and SerialsSpent are out of reach: no reply says one of them
-/// while the opening bindings and the records, drafts and producer ids that the events ask for are
-/// at most 9,223,372,036,854,775,807 in all.
+/// OffsetsSpent, ProducerIdsSpent and SerialsSpent are out of reach. No reply has one of them while
+/// these are at most 9,223,372,036,854,775,807 in all: the opening bindings, and the records,
+/// drafts and producer ids that the events ask for.
 pub fn nothing_is_spent_unasked()
     ensures plain { (settings : Settings) (events : List Event)
         → length settings.opening + asked_in events ≤ offset_limit

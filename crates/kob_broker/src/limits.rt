@@ -1,15 +1,16 @@
 //! Limits of batches and producers.
 
-/// The most records of a batch.
+/// The maximum number of records of a batch.
 pub const RECORD_LIMIT: usize = 1_000;
 
-/// The most bytes of a batch: those of its keys, values, header names and header values.
+/// The maximum number of bytes of a batch: those of its keys, values, header names and header
+/// values.
 pub const BATCH_BYTE_LIMIT: u64 = 2_097_152;
 
-/// The greatest epoch of a producer.
+/// The maximum epoch of a producer.
 pub const EPOCH_LIMIT: u64 = 32_767;
 
-/// The greatest sequence of a producer.
+/// The maximum sequence of a producer.
 pub const SEQUENCE_LIMIT: u64 = 2_147_483_647;
 
 /// Every producer id is below this.

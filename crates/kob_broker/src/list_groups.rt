@@ -1,4 +1,4 @@
-//! The groups that are shown.
+//! The groups that a reply lists.
 
 ghost use Rattle.std.specs.Prelude.{◌≡◌, IfOk};
 ghost use Rattle.std.specs.List.{filter};
@@ -32,7 +32,7 @@ impl Broker {
     }
 }
 
-/// Those of the names that are shown.
+/// Those of the names that a reply lists.
 fn shown_of(authorizer: &Authorizer, event: &Event, mut names: Vec<Text>) -> Vec<Text>
     ensures { result.items ≡ groups_shown authorizer.now.contents event.now names.items }
 {

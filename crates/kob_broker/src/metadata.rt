@@ -1,4 +1,4 @@
-//! The topics that are shown.
+//! The topics that a reply lists.
 
 ghost use Rattle.std.specs.Prelude.{◌≡◌, IfOk, None, Some};
 ghost use Rattle.kob_broker.specs.Change.{Makes, MakesFor, state_of};

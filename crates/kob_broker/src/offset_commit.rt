@@ -59,7 +59,7 @@ impl Broker {
     }
 }
 
-/// Whether the text is no name of a group.
+/// Whether the text is not a valid group name.
 pub(crate) fn is_bad_group_name(group: &Text) -> bool
     ensures { result ≡ is_some (group_fault group.now) }
 {

@@ -1,8 +1,8 @@
-//! Why a broker can't be opened.
+//! Why a broker cannot be opened.
 
 use thiserror::Error;
 
-/// Why a broker can't be opened.
+/// Why a broker cannot be opened.
 #[derive(Clone, Copy, Debug, PartialEq, Eq, Error)]
 pub enum OpenFault {
     #[error("too many bindings")]

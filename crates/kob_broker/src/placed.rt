@@ -13,7 +13,7 @@ use std::alloc::{AllocError, Global};
 pub(crate) enum Placed {
     /// Nowhere: it is refused, or a repeat.
     Nowhere(Prepared),
-    /// Last into the partition that the request names, at an offset; the room is there.
+    /// At the end of the partition that the request names, at an offset; capacity is reserved.
     Last(u64),
 }
 
@@ -25,7 +25,7 @@ impl Placed {
         Placed::Nowhere(Prepared::refused(reason))
     }
 
-    /// What is prepared once the request is at hand.
+    /// What is prepared, with the request itself.
     pub(crate) fn with_request(self, produce: Produce) -> Prepared
         ensures { result ≡ prepared_for produce self }
     {
@@ -38,7 +38,7 @@ impl Placed {
         }
     }
 
-    /// The same for a request that is copied if its batch goes last.
+    /// The same with a copy of the request, which is made only if its batch is appended.
     pub(crate) fn with_copy(self, alloc: Global, produce: &Produce) -> Result<Prepared, AllocError>
         ensures { IfOk result (λ prepared. prepared ≡ prepared_for produce.now self) }
     {

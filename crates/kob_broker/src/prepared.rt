@@ -10,31 +10,31 @@ use kob_groups::PreparedCommit;
 use kob_names::Text;
 use kob_rights::{Body, Produce, Reason, Reply};
 
-/// A change of the contents for which all memory is there.
+/// A change of the contents that needs no more allocations.
 #[derive(Drop)]
 pub(crate) enum Change {
     Unchanged,
-    /// A topic to put last.
+    /// A topic to append.
     AddTopic(PreparedTopic),
-    /// The topic of that name goes, and the commits on it.
+    /// The topic of that name is removed, and the commits on it.
     RemoveTopic(Text),
     /// Bindings to put in force.
     AddBindings(PreparedCreate),
-    /// Bindings to take away.
+    /// Bindings to delete.
     RemoveBindings(PreparedDelete),
-    /// A batch to put last in the partition that its request names.
+    /// A batch to append to the partition that its request names.
     Append(Produce),
     /// The start of the partition of that number of the topic of that name moves up to an offset.
     AdvanceStart(Text, usize, u64),
     /// An offset to commit.
     Commit(PreparedCommit),
-    /// The group of that name goes, and its commits.
+    /// The group of that name is removed, and its commits.
     RemoveGroup(Text),
-    /// The next producer id is given.
+    /// The next producer id is used.
     GiveProducer,
 }
 
-/// A reply, and the change that goes with it: the answer of a broker's first step.
+/// A reply, and the change that goes with it: what a broker's first step returns.
 #[derive(Drop)]
 pub struct Prepared {
     pub(crate) reply: Reply,
@@ -66,7 +66,7 @@ impl Prepared {
         Prepared::new(Reply::Refused { code, reason }, Change::Unchanged)
     }
 
-    /// The reply that the second step will give; no memory is taken.
+    /// The reply that the second step will return. Does not allocate.
     pub fn reply(&self) -> &Reply
         ensures { result.now ≡ reply_of self.now }
     {

@@ -1,4 +1,4 @@
-//! A batch put into a partition.
+//! A batch appended to a partition.
 
 ghost use Rattle.std.specs.Prelude.{◌≡◌, ◌<◌, IfOk, length};
 ghost use Rattle.kob_broker.specs.Change.{MakesFor, state_of};
@@ -32,7 +32,7 @@ impl Broker {
         placed.with_copy(alloc, produce)
     }
 
-    /// The same of a request that is moved.
+    /// The same for a request by value.
     pub(crate) fn prepare_produce_owned(&mut self, produce: Produce) -> Result<Prepared, AllocError>
         ensures state { state_of self.new ≡ state_of self.old }
         ensures ok { IfOk result (MakesFor (requests.Produce produce) self.new) }
@@ -46,8 +46,8 @@ impl Broker {
         }
     }
 
-    /// Where the batch goes, with room for it there; nothing is copied, and the topic is looked up
-    /// once.
+    /// Where the batch goes, with capacity reserved for it there. Nothing is copied, and the topic
+    /// is looked up once.
     fn place(&mut self, produce: &Produce) -> Result<Placed, AllocError>
         ensures state { state_of self.new ≡ state_of self.old }
         ensures ok { IfOk result (λ placed. MakesFor (requests.Produce produce.now) self.new
@@ -81,7 +81,7 @@ impl Broker {
     }
 }
 
-/// As which reason a log's fault is told, and none for want of memory.
+/// The reason that a log's fault is reported as, and None for out of memory.
 fn reason_of(fault: AppendFault) -> Option<Reason>
     ensures { result ≡ reason_of fault }
 {
@@ -93,7 +93,7 @@ fn reason_of(fault: AppendFault) -> Option<Reason>
     }
 }
 
-/// The first reason against a batch, wherever it goes.
+/// The first reason to refuse a batch, whatever its partition.
 fn against_batch(batch: &Batch, next_producer: u64) -> Option<Reason>
     ensures { result ≡ first_reason (batch_reasons next_producer batch.now) }
 {
@@ -126,7 +126,7 @@ fn is_bad_sequence(idem: &Option<Idem>) -> bool
     }
 }
 
-/// Whether the producer's id was never given.
+/// Whether the producer's id was never returned.
 fn is_unknown_producer(next_producer: u64, idem: &Option<Idem>) -> bool
     ensures { result ≡ is_unknown_producer next_producer idem.now }
 {

@@ -1,8 +1,8 @@
-//! Runs that lack of memory stopped.
+//! Runs that ran out of memory.
 
 use kob_rights::Reply;
 
-/// A run that lack of memory stopped after so many events, with their replies.
+/// A run that ran out of memory after `done` events, with their replies.
 #[derive(Debug, Drop)]
 pub struct Stopped {
     pub done: usize,

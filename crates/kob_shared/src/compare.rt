@@ -93,7 +93,7 @@ pub(crate) fn compare<E>(journal: &Journal, first: &Notes, done: &[Done<E>]) -> 
     find_stranger(journal, done.len() + 1)
 }
 
-/// The first entry of a worker that is not among so many.
+/// The first entry of a worker whose number is not below `workers`.
 fn find_stranger(journal: &Journal, workers: usize) -> Option<Difference>
     ensures { MatchOption result (All (λ x. x.worker < workers) journal.now)
         (λ d. (workers ≤ d.worker)

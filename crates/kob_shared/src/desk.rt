@@ -1,4 +1,4 @@
-//! Sessions that note their receipts.
+//! Desks: sessions that note their events and receipts.
 
 ghost use Rattle.std.specs.Prelude.{◌≡◌, ◌<◌, ◌^◌, length, vec_len, vec_capacity, IfErr, OnOk};
 ghost use Rattle.std.specs.Prelude.{OnErr};
@@ -15,7 +15,8 @@ use std::alloc::{AllocError, Global};
 use std::marker::Model;
 use std::sync::Wait;
 
-/// A session that notes each event that was served, and its receipt.
+/// Makes the calls of one worker through its session, and notes each event that was served and its
+/// receipt.
 #[derive(Drop)]
 pub struct Desk<'a> {
     session: Session<'a>,
@@ -40,7 +41,7 @@ impl<'a> Model for Desk<'a> {
 }
 
 impl<'a> Desk<'a> {
-    /// A desk for the session that has noted nothing yet; no memory is taken.
+    /// A desk for the session, without notes. Does not allocate.
     pub fn open(alloc: Global, session: Session<'a>) -> Desk<'a>
         ensures { result ≡ record { seat = session.entry; noted = nothing } }
     {
@@ -67,8 +68,8 @@ impl<'a> Desk<'a> {
         self.receipts.as_slice()
     }
 
-    /// Calls as a session does, and notes the event and the receipt. Room for the note is made
-    /// before the call, so that what is served is noted.
+    /// Makes a call as the session does, and notes the event and the receipt. Capacity for the note
+    /// is reserved before the call, so that what is served is noted.
     pub fn call<R: Wait>(
         &mut self,
         rt: &R,
@@ -100,7 +101,7 @@ impl<'a> Desk<'a> {
         Ok(())
     }
 
-    /// What was noted; no memory is taken.
+    /// The notes. Does not allocate.
     pub fn close(self) -> Notes
         ensures { result ≡ self.entry.noted }
     {
@@ -113,7 +114,7 @@ impl<'a> Desk<'a> {
     }
 }
 
-/// Makes room for one more event and its receipt. The error is out of memory.
+/// Reserves capacity for one more event and its receipt. The error is out of memory.
 fn make_room(events: &mut Vec<Event>, receipts: &mut Vec<Receipt>) -> Result<(), AllocError>
     ensures events { events.new.items ≡ events.old.items }
     ensures receipts { receipts.new.items ≡ receipts.old.items }

@@ -31,7 +31,7 @@ use std::sync::Wait;
 use std::thread;
 use std::thread::{Promise, Threads};
 
-/// The promise that a worker leaves what its kind of work says.
+/// The postcondition of a worker's thread: what it leaves is as its kind of work says.
 #[derive(Drop)]
 struct Keeps<W: Work>(Snapshot<W>);
 
@@ -84,8 +84,8 @@ where
     )
 }
 
-/// Serves the first events, as worker 0, into an empty journal. `Full` comes only where there are
-/// more of them than the journal takes.
+/// Serves the first events, as worker 0, into an empty journal. `Full` is returned only if there
+/// are more of them than the journal may have entries.
 fn serve_first(
     alloc: Global,
     recorded: &mut Recorded,
@@ -174,7 +174,7 @@ fn begin(alloc: Global, broker: Broker, first: Vec<Event>) -> Result<(Recorded, 
     }
 }
 
-/// What a worker's fault is for the fleet.
+/// The fault of the fleet for a worker's fault.
 fn stop_of(worker: usize, fault: CallFault) -> FleetStop
     ensures { result ≡ as_of_worker worker fault }
 {
@@ -185,8 +185,8 @@ fn stop_of(worker: usize, fault: CallFault) -> FleetStop
     }
 }
 
-/// What all workers left, from worker 1 on, or the first fault. It goes into room that was made
-/// before, so `Memory` is the fault of a worker.
+/// What all workers left, from worker 1 on, or the first fault. It is put into reserved capacity,
+/// so that `Memory` is the fault of a worker.
 fn gather<T: Drop>(room: Vec<T>, results: Vec<Result<T, CallFault>>) -> Result<Vec<T>, FleetStop>
     requires empty { room.items ≡ [] }
     requires room { vec_len results ≤ vec_capacity room }
@@ -204,8 +204,8 @@ fn gather<T: Drop>(room: Vec<T>, results: Vec<Result<T, CallFault>>) -> Result<V
     Ok(done)
 }
 
-/// What a fleet leaves: the broker with its journal, what worker 0 noted, and what the others left,
-/// from worker 1 on.
+/// The result of a fleet: the broker with its journal, the notes of worker 0, and what the others
+/// left, from worker 1 on.
 #[derive(Drop)]
 pub struct Ran<E> {
     pub found: Recorded,
@@ -214,9 +214,9 @@ pub struct Ran<E> {
 }
 
 /// Serves the first events as worker 0, and then runs each worker in a thread of its own, numbered
-/// from 1. The journal is not compared yet with what was noted: that is for `find_tear`. `Full`
-/// names worker 0 only where there are more first events than a journal takes. Room for what the
-/// workers leave is made before they run.
+/// from 1. The journal is not yet compared with the notes: `find_tear` does that. `Full` names
+/// worker 0 only if there are more first events than a journal may have entries. Capacity for what
+/// the workers leave is reserved before they run.
 pub fn run_fleet<R: Threads + Wait + Sync, G: Gate + Sync, W: Work<Shared = SharedBroker> + Sync>(
     rt: &R,
     alloc: Global,
@@ -289,8 +289,8 @@ where
     }
 }
 
-/// Runs the workers, and puts what they left into the room. A worker that is named is one of them,
-/// from 1 on.
+/// Runs the workers, and puts what they left into `room`. A worker that a fault names is one of
+/// them, from 1 on.
 fn run_and_gather<R: Threads + Wait + Sync, G: Gate + Sync, W: Work + Sync>(
     rt: &R,
     alloc: Global,
@@ -319,8 +319,9 @@ where
     }
 }
 
-/// The first place where the journal differs from what the workers noted; place 0 of worker 0 also
-/// where another opening was stored. With None the journal is what was noted, from this opening on.
+/// The first place where the journal differs from the workers' notes; place 0 of worker 0 also if
+/// another opening was stored. None means that the journal agrees with the notes, from this opening
+/// on.
 pub fn find_tear<E>(opening: &Settings, ran: &Ran<E>) -> Option<Difference>
     ensures { let notes = notes_of ran.now.first ran.now.done.items in
         MatchOption result

@@ -2,7 +2,7 @@
 
 use std::alloc::{AllocError, AllocFailed};
 
-/// Why a fleet did not come to the comparison of its journal.
+/// Why a fleet stopped before its journal was compared.
 #[derive(Clone, Copy, Debug, PartialEq, Eq)]
 pub enum FleetStop {
     /// A thread could not be started.

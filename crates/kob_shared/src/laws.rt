@@ -9,9 +9,9 @@ ghost use Rattle.kob_shared.specs.Journals.{IsLegal};
 ghost use Rattle.kob_shared.specs.Openings.{opened_by};
 ghost use Rattle.kob_shared.specs.declared.journal.Entry.{Entry};
 
-/// Each entry of a legal journal is served exactly where the bindings in force after the entries
-/// before it grant every right, whoever made those: so once a change of bindings was answered,
-/// every later entry is decided with it.
+/// Each entry of a legal journal is served exactly if the bindings in force after the entries
+/// before it grant every right. Any workers may have made those. So once a change of bindings is
+/// done, every later entry is decided with it.
 pub fn each_entry_is_just()
     ensures { (opening : Settings) (journal : List Entry) (now : State Retained)
         → IsLegal (opened_by opening) journal now → EachEntryIsJust opening journal }
@@ -19,8 +19,8 @@ pub fn each_entry_is_just()
     // The contract is the law.
 }
 
-/// Each entry of a legal journal is answered as one step from the state after the entries before
-/// it, whoever made those: so a worker reads its own writes.
+/// Each entry of a legal journal has the reply of one step from the state after the entries before
+/// it, whichever workers made those. So a worker reads its own writes.
 pub fn each_entry_is_one_step()
     ensures { (opening : Settings) (journal : List Entry) (now : State Retained)
         → IsLegal (opened_by opening) journal now → EachEntryIsOneStep opening journal }
@@ -28,7 +28,7 @@ pub fn each_entry_is_one_step()
     // The contract is the law.
 }
 
-/// A journal that begins where a legal one ends goes on with it: the two together are legal, from
+/// A journal that begins where a legal one ends continues it: the two together are legal, from
 /// where the first begins.
 pub fn journals_in_turn_are_legal()
     ensures { (begins : State Retained) (first : List Entry) (between : State Retained)

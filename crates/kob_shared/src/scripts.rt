@@ -27,12 +27,12 @@ use std::alloc::{AllocError, Global};
 use std::sync::Wait;
 use std::thread::Threads;
 
-/// More workers are refused.
+/// The maximum number of workers of a fleet, worker 0 not counted.
 pub const WORKER_LIMIT: usize = 64;
 
 const _: () = prove!(WORKER_LIMIT == 64);
 
-/// What a fleet leaves: the broker, the journal, and the receipts of each worker, worker 0 first.
+/// The result of a fleet: the broker, the journal, and the receipts of each worker, worker 0 first.
 #[derive(Drop)]
 pub struct FleetEnd {
     pub broker: Broker,
@@ -112,7 +112,7 @@ fn end_of(
     })
 }
 
-/// The fault of a fleet whose journal is torn there; no memory is taken.
+/// The fault of a fleet whose journal and receipts differ there. Does not allocate.
 fn torn(difference: Difference, found: Recorded, transcripts: Vec<Transcript>) -> FleetFault
     ensures { result ≡ FleetFault.Torn difference.worker difference.place found transcripts }
 {
@@ -183,7 +183,7 @@ fn run_few<R: Threads + Wait + Sync, G: Gate + Sync>(
     run_fitting(rt, alloc, broker, first, scripts, gate)
 }
 
-/// Runs scripts whose counts fit; what the broker was opened with is stored first.
+/// Runs scripts whose counts fit. A copy of the broker's settings is kept first.
 fn run_fitting<R: Threads + Wait + Sync, G: Gate + Sync>(
     rt: &R,
     alloc: Global,
@@ -214,8 +214,8 @@ fn run_fitting<R: Threads + Wait + Sync, G: Gate + Sync>(
     end
 }
 
-/// Runs scripts over a broker that was opened with these settings, and holds the journal to what
-/// the workers were told.
+/// Runs scripts over a broker that was opened with these settings, and compares the journal with
+/// the workers' receipts.
 #[tactic(auto, using(crate::proofs::FaultCases::later_stopped))]
 fn run_from<R: Threads + Wait + Sync, G: Gate + Sync>(
     rt: &R,

@@ -25,15 +25,15 @@ pub struct SharedBroker {
 }
 
 impl SharedBroker {
-    /// Puts the broker and its journal under the lock; no memory is taken.
+    /// Puts the broker and its journal under the lock. Does not allocate.
     pub fn open(recorded: Recorded) -> SharedBroker {
         SharedBroker {
             recorded: Mutex::new(recorded),
         }
     }
 
-    /// A session of a worker, for one principal at one host, that has seen nothing yet; no memory
-    /// is taken.
+    /// A session of a worker, for one principal at one host, that has seen no entries yet. Does not
+    /// allocate.
     pub fn session(&self, worker: usize, principal: Principal, host: Host) -> Session<'_>
         ensures { result
             ≡ record { worker = worker; principal = principal; host = host; seen = 0 } }
@@ -47,7 +47,7 @@ impl SharedBroker {
         }
     }
 
-    /// Serves an event under the lock, for a worker who has seen so many entries.
+    /// Serves an event under the lock, for a worker who has seen `seen` entries.
     fn serve<R: Wait>(
         &self,
         rt: &R,
@@ -66,8 +66,7 @@ impl SharedBroker {
         recorded.serve_after(alloc, worker, event, seen)
     }
 
-    /// Gives back the broker and its journal, which replays to the broker's state; it waits for
-    /// nobody.
+    /// Returns the broker and its journal, which replays to the broker's state. Does not wait.
     pub fn finish(self) -> Recorded
         ensures { IsSound result }
     {
@@ -77,23 +76,23 @@ impl SharedBroker {
     }
 }
 
-/// A broker whose journal is handed out from time to time, under one lock, so that it may serve for
-/// as long as it is used. No other state is shared.
+/// A broker under one lock, whose journal is handed out from time to time. It is for a process that
+/// runs for long. No other state is shared.
 #[derive(Drop)]
 pub struct RotatingBroker {
     continued: Mutex<Continued>,
 }
 
 impl RotatingBroker {
-    /// Puts the broker and its journal under the lock; no memory is taken.
+    /// Puts the broker and its journal under the lock. Does not allocate.
     pub fn open(continued: Continued) -> RotatingBroker {
         RotatingBroker {
             continued: Mutex::new(continued),
         }
     }
 
-    /// A session of a worker, for one principal at one host, that has seen nothing yet. It goes on
-    /// when the journal is handed out. No memory is taken.
+    /// A session of a worker, for one principal at one host, that has seen no entries yet. It goes
+    /// on when the journal is handed out. Does not allocate.
     pub fn session(&self, worker: usize, principal: Principal, host: Host) -> Session<'_>
         ensures { result
             ≡ record { worker = worker; principal = principal; host = host; seen = 0 } }
@@ -107,7 +106,7 @@ impl RotatingBroker {
         }
     }
 
-    /// Serves an event under the lock, for a worker who has seen so many entries.
+    /// Serves an event under the lock, for a worker who has seen `seen` entries.
     fn serve<R: Wait>(
         &self,
         rt: &R,
@@ -126,8 +125,8 @@ impl RotatingBroker {
         continued.serve_after(alloc, worker, event, seen)
     }
 
-    /// Hands out the journal under the lock, whole, and goes on with an empty one, as
-    /// `Continued::rotate` does. Sessions go on, and places count on. No memory is taken.
+    /// Hands out the whole journal under the lock, and continues with an empty one, as
+    /// `Continued::rotate` does. Sessions go on, and places count on. Does not allocate.
     pub fn rotate<R: Wait>(&self, rt: &R, alloc: Global) -> Result<PastJournal, PlacesUsedUp>
         ensures { IfOk result IsPast }
     {
@@ -135,7 +134,7 @@ impl RotatingBroker {
         continued.rotate(alloc)
     }
 
-    /// Gives back the broker and the journal that was not handed out; it waits for nobody.
+    /// Returns the broker and the journal that was not handed out. Does not wait.
     pub fn finish(self) -> Continued
         ensures { IsContinued result }
     {
@@ -153,7 +152,7 @@ enum Shared<'a> {
 }
 
 impl<'a> Shared<'a> {
-    /// Serves an event under the broker's lock, for a worker who has seen so many entries.
+    /// Serves an event under the broker's lock, for a worker who has seen `seen` entries.
     fn serve<R: Wait>(
         &self,
         rt: &R,
@@ -175,7 +174,8 @@ impl<'a> Shared<'a> {
     }
 }
 
-/// What one worker knows of the journals of a shared broker.
+/// A worker's access to a shared broker. It knows how many entries of the journals the worker has
+/// seen.
 #[derive(Drop)]
 pub struct Session<'a> {
     shared: Shared<'a>,
@@ -206,9 +206,9 @@ impl<'a> Session<'a> {
         self.seen
     }
 
-    /// Serves a request under the lock. The event is put together before the lock (`Memory`); under
-    /// it `Stale` comes first, then `JournalFull`, then `Memory`. After a fault there is no entry,
-    /// and the session has seen no more.
+    /// Serves a request under the lock. The event is made before the lock is taken (`Memory`).
+    /// Under the lock the faults are `Stale`, `JournalFull` and `Memory`, in this order. After a
+    /// fault there is no entry, and the session has seen no more.
     pub fn call<R: Wait>(
         &mut self,
         rt: &R,
@@ -248,7 +248,7 @@ impl<'a> Session<'a> {
         Ok(receipt)
     }
 
-    /// The event that the session's principal and host make with the request.
+    /// The event of the session's principal and host with the request.
     pub(crate) fn event(&self, alloc: Global, request: Request) -> Result<Event, AllocError>
         ensures { IfOk result
             (λ event. event ≡ event_by self.now.principal self.now.host request) }
@@ -264,7 +264,7 @@ impl<'a> Session<'a> {
         })
     }
 
-    /// The principal and the host that ask.
+    /// Copies of the principal and the host that ask.
     fn asker(&self, alloc: Global) -> Result<(Principal, Host), AllocError>
         ensures { IfOk result (λ asker. (asker.0 ≡ self.now.principal) × (asker.1 ≡ self.now.host)) }
     {

@@ -7,13 +7,13 @@ use crate::notes::Notes;
 use std::alloc::Global;
 use std::sync::Wait;
 
-/// What workers ask before they go on.
+/// What workers ask before each request. A test can hold a worker there.
 pub trait Gate {
     /// A worker calls it before its k-th request, from 1, and once more after its last.
     fn before(&self, worker: usize, k: usize);
 }
 
-/// What a worker leaves: what it noted, and what else its kind leaves.
+/// The result of a worker: its notes, and what else its kind of work leaves.
 #[derive(Drop)]
 pub struct Done<E> {
     pub notes: Notes,
@@ -27,13 +27,14 @@ pub trait Work {
     /// What all workers share.
     type Shared;
 
-    /// What it leaves besides its notes, a fault of its own among it.
+    /// What it leaves besides its notes, including a fault of its own.
     type End;
 
-    // what it noted and what it leaves are as it says
+    // its notes and what it leaves are as it says
     ghost keeps: { Self → Noted → Self.End → Type 0 };
 
-    /// Does it as this worker, over what all workers share. It asks the gate before each request.
+    /// Does the work as this worker, over what all workers share. It asks the gate before each
+    /// request.
     fn work<R: Wait, G: Gate>(
         &self,
         rt: &R,
