@@ -1,4 +1,4 @@
-//! A consumer of partitions that it assigned itself.
+//! A consumer of partitions that it assigned to itself.
 
 use crate::fetcher::{Fetcher, Subscription};
 use crate::inbox::Inbox;
@@ -11,7 +11,7 @@ use std::marker::Model;
 /// Takes the records of its partitions into an inbox, and commits its positions for its group after
 /// that.
 ///
-/// Each record is taken in at least once and each event id once, as Kafka's consumers have it that
+/// Each record is taken in at least once and each event id once, as by Kafka's consumers that
 /// commit what they have processed.
 #[derive(Debug, Drop)]
 pub struct Consumer {
@@ -38,7 +38,7 @@ impl Consumer {
 
     /// A consumer that knows no position. The first assigned partition has the first turn; one that
     /// is assigned twice has two turns and one position. A FETCH asks for at most `max` records, of
-    /// which the broker gives at most 1,000. No memory is taken.
+    /// which the broker returns at most 1,000. Does not allocate.
     pub fn new(alloc: Global, group: Text, assignment: Items<Place>, max: u64) -> Consumer
         ensures settings { result.subscription
             ≡ record { group = group; assignment = assignment; max = max } }
@@ -60,12 +60,12 @@ impl Consumer {
 
     /// One step: one request on the assigned partition that has the turn.
     ///
-    /// Where its position is not known, the group's commit is asked for (`Placed`). Where records
-    /// were passed and no commit of them was acknowledged, the position is committed, and the next
-    /// partition has the turn (`Committed`). Else records are fetched at the position and taken in
-    /// one after another (`Took`), or there are none, and the next partition has the turn (`Idle`).
-    /// After `Repeat` and `Stopped` the partition keeps the turn. Where the inbox keeps a record
-    /// out, the position stays before it.
+    /// If its position is not known, the step asks for the group's commit (`Placed`). If records
+    /// were processed and no commit of them was acknowledged, it commits the position, and the next
+    /// partition has the turn (`Committed`). Otherwise it fetches records at the position and takes
+    /// them in one after another (`Took`). If there are none, the next partition has the turn
+    /// (`Idle`). After `Repeat` and `Stopped` the partition keeps the turn. If the inbox fails on a
+    /// record, the position stays before it.
     pub fn tick<L: Line>(&mut self, alloc: Global, inbox: &mut Inbox, line: &mut L) -> Tick
         ensures same { self.new.subscription ≡ self.old.subscription }
         ensures done { Ticks self.old.subscription
@@ -77,15 +77,15 @@ impl Consumer {
         self.fetcher.tick(alloc, inbox, line)
     }
 
-    /// The group, the assigned partitions and the most records of a FETCH. No memory is taken.
+    /// The group, the assigned partitions and the most records of a FETCH. Does not allocate.
     pub fn subscription(&self) -> &Subscription
         ensures { result.now ≡ self.now.subscription }
     {
         &self.fetcher.subscription
     }
 
-    /// Forgets all positions and which records were passed, as a consumer that starts again does.
-    /// The first assigned partition has the next turn. No memory is taken.
+    /// Forgets all positions and which records were processed, as a consumer that restarts does.
+    /// The first assigned partition has the next turn. Does not allocate.
     pub fn restart(&mut self)
         ensures same { self.new.subscription ≡ self.old.subscription }
         ensures done { (inbox : Contents)

@@ -1,17 +1,17 @@
-//! How far a consumer has come on each partition.
+//! The progress of a consumer on each partition.
 
 ghost use Rattle.std.specs.Prelude.{◌≡◌, ◌<◌, None, false, vec_len, vec_capacity};
 ghost use Rattle.kob_inbox.specs.Cursors.{IsKnown, cursor_of, with_cursor, standing};
 
 use kob_router::{Place, is_same_place};
 
-/// How far a consumer has come on a partition.
+/// The progress of a consumer on a partition.
 #[derive(Debug, Drop)]
 pub struct Cursor {
     pub place: Place,
     /// The offset of the next record.
     pub position: u64,
-    /// Whether records were passed and no commit of them was acknowledged.
+    /// Whether records were processed and no commit of them was acknowledged.
     pub uncommitted: bool,
 }
 
@@ -37,7 +37,7 @@ pub(crate) fn standing_of(cursors: &[Cursor], place: &Place) -> Option<Standing>
     None
 }
 
-/// Adds the cursor of a partition that has none, in the room that is there.
+/// Adds the cursor of a partition that has none, in reserved capacity.
 pub(crate) fn put(cursors: &mut Vec<Cursor>, place: Place, position: u64)
     requires room { vec_len cursors.old < vec_capacity cursors.old }
     requires unknown { standing (cursor_of cursors.old.items place) ≡ None }

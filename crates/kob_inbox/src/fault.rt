@@ -1,14 +1,14 @@
-//! Why a call on the inbox did not do what it was asked.
+//! Faults of calls on an inbox.
 
 use sqlite::{Error, ErrorCode};
 use thiserror::Error as Fault;
 
-/// Why a call that only the database can refuse was refused.
+/// Why a call failed that can fail only in the database.
 #[derive(Clone, Copy, Debug, PartialEq, Eq, Fault)]
 pub enum InboxFault {
     #[error("out of memory")]
     Memory,
-    /// The database refused for another cause than lack of memory, or every place was taken.
+    /// The database failed for another cause than out of memory, or all places are used.
     #[error("the database refused")]
     Store,
 }

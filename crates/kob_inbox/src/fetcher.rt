@@ -12,8 +12,7 @@ use kob_rights::{Body, Fetch, OffsetCommit, OffsetFetch, Reply, Request};
 use kob_router::{Delivery, Line, Place};
 use std::alloc::{AllocError, Global};
 
-/// What a consumer is to do: for which group it reads which partitions, and how many records at
-/// most at once.
+/// What a consumer reads: for which group, which partitions, and how many records at most at once.
 #[derive(Debug, Drop)]
 pub struct Subscription {
     pub group: Text,
@@ -67,7 +66,7 @@ impl Subscription {
     }
 }
 
-/// What a consumer holds: how far it has come, and which of its assigned partitions has the turn.
+/// The state of a consumer: its progress, and which of its assigned partitions has the turn.
 #[derive(Debug, Drop)]
 pub struct Fetcher {
     pub subscription: Subscription,
@@ -87,8 +86,8 @@ impl Fetcher {
     ghost use Rattle.kob_inbox.specs.Run.{after_answer, due};
     ghost use Rattle.kob_inbox.specs.Tick.{Hears, IsOnTurn, Ticks, scene_of, state_of};
 
-    /// One step: one request on the partition that has the turn. Room for its cursor is made before
-    /// the request, so that only the inbox can fail once a reply is received.
+    /// One step: one request on the partition that has the turn. Capacity for its cursor is
+    /// reserved before the request, so that only the inbox can fail once a reply is received.
     pub(crate) fn tick<L: Line>(&mut self, alloc: Global, inbox: &mut Inbox, line: &mut L) -> Tick
         requires { IsOnTurn self.old }
         ensures same { self.new.subscription ≡ self.old.subscription }
@@ -161,7 +160,7 @@ impl Fetcher {
         }))
     }
 
-    /// What the body of the reply says is done.
+    /// Handles the body of a reply that is done.
     fn hear(&mut self, inbox: &mut Inbox, place: Place, stood: Option<Standing>, body: Body) -> Tick
         requires turn { self.old.turn < length self.old.subscription.assignment }
         requires room { vec_len self.old.cursors < vec_capacity self.old.cursors }
@@ -201,7 +200,7 @@ impl Fetcher {
         }
     }
 
-    /// A commit of the position was acknowledged.
+    /// Handles an acknowledged commit of the position.
     fn committed(&mut self, place: &Place, position: u64)
         requires turn { self.old.turn < length self.old.subscription.assignment }
         requires known { IsKnown (cursor_of self.old.cursors.items place.now) }
@@ -221,7 +220,7 @@ impl Fetcher {
         self.pass_turn();
     }
 
-    /// Records were received.
+    /// Handles the records of a reply.
     fn take(
         &mut self,
         inbox: &mut Inbox,
@@ -257,7 +256,7 @@ impl Fetcher {
         }
     }
 
-    /// The position moves behind the records that were passed.
+    /// Moves the position after the records that were processed.
     fn advance(&mut self, place: &Place, passed: Passed)
         requires { IsKnown (cursor_of self.old.cursors.items place.now) }
         ensures same { self.new.subscription ≡ self.old.subscription }
@@ -271,7 +270,7 @@ impl Fetcher {
         set(&mut self.cursors, place, passed.position, true);
     }
 
-    /// The next assigned partition has the turn.
+    /// Gives the turn to the next assigned partition.
     fn pass_turn(&mut self)
         requires { self.old.turn < length self.old.subscription.assignment }
         ensures { self.new ≡ record self.old {

@@ -21,27 +21,27 @@ use std::alloc::Global;
 use std::marker::Model;
 use uuid::Uuid;
 
-/// What became of a record.
+/// The result of taking in a record.
 #[derive(Clone, Copy, Debug, PartialEq, Eq)]
 pub enum TakeIn {
     /// Its event id is new, and its event is the last in the inbox.
     Taken,
-    /// Its event id is there, in whatever form it was written. Nothing is written.
+    /// Its event id is there already, in whatever form it was written. Nothing is written.
     Seen,
-    /// Its first header named `id` is no UUID, or it has none. Nothing is written.
+    /// Its first header named `id` is not a UUID, or it has none. Nothing is written.
     NoEventId,
 }
 
 /// A consumer's database in memory, which takes each event in once.
 ///
-/// It is seen as the events in the order of their intake; the first is at place 1. Each call
-/// changes all that it says or nothing. Calls that only read take `&mut self`, since the database
-/// reads through a cache.
+/// Contracts see the events in the order of their intake; the first is at place 1. Each call makes
+/// all its changes or none. Calls that only read take `&mut self`, since the database reads through
+/// a cache.
 #[derive(Drop)]
 pub struct Inbox {
     conn: Connection<MemStore>,
     alloc: Global,
-    /// The last place that was taken, or 0, as the table has it.
+    /// The last place that was used, or 0, as the table has it.
     last: u64,
 }
 
@@ -58,7 +58,7 @@ impl Model for Inbox {
 }
 
 impl Inbox {
-    /// Makes the table, with no row.
+    /// Makes the table, without rows.
     pub fn open_in_memory(alloc: Global) -> Result<Inbox, InboxFault>
         ensures { IfOk result (λ inbox. inbox ≡ []) }
     {
@@ -74,9 +74,9 @@ impl Inbox {
     /// Takes in the record at this offset of a partition.
     ///
     /// The event id is the value of the first header named `id`, in any form of a UUID. The table's
-    /// unique id decides whether it is there, so that the cost does not grow with the number of
-    /// rows. Where all 9,223,372,036,854,775,807 places are taken, or the number of the partition
-    /// is greater than that, the answer is `Store`.
+    /// unique id decides whether it is there already, so that the cost does not grow with the
+    /// number of rows. If all 9,223,372,036,854,775,807 places are used, or the number of the
+    /// partition is greater than that, the fault is `Store`.
     pub fn take_in(
         &mut self,
         topic: &str,
@@ -132,7 +132,7 @@ impl Inbox {
         all_rows(&mut self.conn, self.alloc)
     }
 
-    /// What holds of every inbox; it does nothing. No event id comes twice.
+    /// A law, which holds of every inbox: no event id comes twice.
     pub fn is_in_order(&self)
         ensures { IsOnce self.now }
     {

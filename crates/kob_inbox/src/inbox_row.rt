@@ -1,4 +1,4 @@
-//! What is handed out of an inbox.
+//! The rows that an inbox returns.
 
 ghost use Rattle.std.specs.Prelude.{◌≡◌, IfOk};
 
@@ -12,7 +12,7 @@ pub struct InboxRow {
     /// From 1 to 9,223,372,036,854,775,807, in the order of intake.
     pub place: u64,
     pub id: Uuid,
-    /// The topic, the partition and the offset at which its record stood.
+    /// The topic, the partition and the offset of its record.
     pub topic: Text,
     pub partition: u64,
     pub offset: u64,

@@ -1,4 +1,4 @@
-//! The one table of an inbox: the texts that make, read and write it.
+//! The one table of an inbox: the SQL that makes, reads and writes it.
 
 ghost use Rattle.std.specs.Prelude.{◌≡◌, ◌<◌, ◌^◌, [], pos, map, if◌then◌else◌, IsTrue};
 ghost use Rattle.std.specs.Prelude.{IfOk, IfErr, OnOk, OnErr};
@@ -31,7 +31,7 @@ pub(crate) fn create_inbox(conn: &mut Connection<MemStore>) -> Result<usize, Err
     )
 }
 
-/// Adds an event at the next place. It answers 0 where its id is there.
+/// Adds an event at the next place. Returns 0 if its id is there already.
 pub(crate) fn insert_intake<'a>(
     conn: &mut Connection<MemStore>,
     place: &'a Value,

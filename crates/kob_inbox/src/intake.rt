@@ -12,7 +12,7 @@ use crate::inbox::Inbox;
 use kob_names::Record;
 use kob_router::Place;
 
-/// How many records were passed, where the next one is, and what kept it out, if something did.
+/// How many records were processed, where the next one is, and the fault on it, if there was one.
 #[derive(Clone, Copy, Debug, PartialEq, Eq)]
 pub(crate) struct Passed {
     pub count: u64,
@@ -20,7 +20,7 @@ pub(crate) struct Passed {
     pub fault: Option<InboxFault>,
 }
 
-/// Takes records in, in order, until the inbox keeps one out.
+/// Takes records in, in order, until the inbox fails on one.
 pub(crate) fn take_all(
     inbox: &mut Inbox,
     place: &Place,

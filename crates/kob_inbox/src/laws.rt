@@ -1,4 +1,4 @@
-//! What follows of the definitions.
+//! What follows from the definitions.
 
 ghost use Rattle.std.specs.Prelude.{◌≡◌, List};
 ghost use Rattle.kob_inbox.specs.Intake.{taken_in};

@@ -1,4 +1,4 @@
-//! What is read of the table. Over memory only lack of memory can stop a read.
+//! Reads of the table. As it is in memory, a read fails only if out of memory.
 
 ghost use Rattle.std.specs.Prelude.{◌≡◌, map, IfErr, IfOk};
 ghost use Rattle.std.specs.List.{enumerate_from};

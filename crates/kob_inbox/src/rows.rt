@@ -50,7 +50,7 @@ fn row_of(row: &sqlite::Row) -> Result<InboxRow, InboxFault>
     })
 }
 
-/// The events that the rows show, in their order.
+/// The events in the rows, in their order.
 pub(crate) fn rows_of(alloc: Global, rows: &[sqlite::Row]) -> Result<Vec<InboxRow>, InboxFault>
     requires { AllByRecursion IsShown rows.now }
     ensures rows { IfOk result (λ out.

@@ -1,4 +1,4 @@
-//! What one step of a consumer answers.
+//! What one step of a consumer returns.
 
 use kob_names::{Items, Verdict};
 use kob_rights::{Code, Reason};
@@ -11,26 +11,27 @@ pub enum StopReason {
         code: Code,
         verdicts: Items<Verdict>,
     },
-    /// The broker refused the request. Code 1 (`OFFSET_OUT_OF_RANGE`) says that the position is no
-    /// offset of the partition; it is never skipped.
+    /// The broker refused the request. Code 1 (`OFFSET_OUT_OF_RANGE`) means that the position is
+    /// not an offset of the partition; no record is skipped.
     Refused {
         code: Code,
         reason: Reason,
     },
-    /// Memory was refused: nothing was sent, or the inbox took in only the first of the records
-    /// that were received.
+    /// Out of memory: nothing was sent, or the inbox took in only a prefix of the records that were
+    /// received.
     Memory,
-    /// The database refused, and took in only the first of the records that were received.
+    /// The database failed, and the inbox took in only a prefix of the records that were received.
     Store,
 }
 
 /// What one step of a consumer did.
 #[derive(Debug, Drop)]
 pub enum Tick {
-    /// The partition's position is known: the offset that the group committed, or 0 where there is
+    /// The partition's position is known: the offset that the group committed, or 0 if there is
     /// none.
     Placed(u64),
-    /// So many records were passed, those among them that are seen already or have no event id.
+    /// This number of records was processed, including those that are seen already or have no event
+    /// id.
     Took(u64),
     /// The position was committed, and the next partition has the turn.
     Committed,

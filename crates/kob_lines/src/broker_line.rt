@@ -29,8 +29,8 @@ pub struct BrokerLine<'a> {
 }
 
 impl<'a> BrokerLine<'a> {
-    /// A line that has made no call. No memory is taken. Once it is closed, or dropped, the broker
-    /// is free again.
+    /// A line that has made no call. Does not allocate. Once it is closed or dropped, the broker is
+    /// no longer borrowed.
     pub fn open(
         alloc: Global,
         broker: &'a mut Broker,
@@ -74,7 +74,8 @@ impl<'a> BrokerLine<'a> {
         Ok(reply)
     }
 
-    /// The calls that were made, the oldest first. The broker is free again; no memory is taken.
+    /// The calls that were made, the oldest first. The broker is no longer borrowed. Does not
+    /// allocate.
     pub fn close(self) -> Vec<Call>
         ensures { result.items ≡ self.entry.calls.made.items }
     {
@@ -96,14 +97,14 @@ impl<'a> Line for BrokerLine<'a> {
 
     ghost unmade = { λ line. line.calls.unmade };
 
-    /// It stays with its broker, its principal and its host.
+    /// It keeps its broker, its principal and its host.
     ghost becomes = { λ old new.
         (new.broker.ghost_name ≡ old.broker.ghost_name)
         × (new.principal ≡ old.principal)
         × (new.host ≡ old.host) };
 
-    /// Makes a call: the broker serves it at once. A reply with an offset past the limit of a log,
-    /// which no broker gives that began with [`Broker::open`], is not received.
+    /// Makes a call: the broker serves it at once. A reply with an offset past the limit of a log
+    /// is not received; a broker that began with [`Broker::open`] returns none.
     fn send(&mut self, alloc: Global, request: Request) -> Delivery
         ensures added { Adds self.old.calls.made.items self.new.calls.made.items
             self.old.calls.unmade self.new.calls.unmade request result }

@@ -13,21 +13,21 @@ use kob_router::{Call, Delivery};
 use kob_shared::CallFault;
 use std::alloc::Global;
 
-/// The calls of a line, the oldest first. A line makes room for a call before it makes it, and
-/// notes it after, so that each call that was made is noted.
+/// The calls of a line, the oldest first. A line reserves capacity for a call before it makes it,
+/// and notes it after, so that each call that was made is noted.
 #[derive(Drop)]
 pub struct Calls {
     pub made: Vec<Call>,
-    /// How often there was no memory to note a call, which was then not made, counted up to
+    /// How many calls were not made, since there was no memory to note them, counted up to
     /// 18,446,744,073,709,551,615.
     pub unmade: u64,
     /// Why the last call has no reply: it was not made or not served, or its reply could not be
-    /// kept. `None` where a reply was received, or lost on purpose.
+    /// kept. `None` if a reply was received, or lost on purpose.
     pub fault: Option<CallFault>,
 }
 
 impl Calls {
-    /// No calls. No memory is taken.
+    /// No calls. Does not allocate.
     pub fn new(alloc: Global) -> Calls
         ensures made { result.made.items ≡ [] }
         ensures unmade { result.unmade ≡ 0 }
@@ -40,8 +40,8 @@ impl Calls {
         }
     }
 
-    /// Makes room for one more call, and gives an equal request to note it by. `None` where memory
-    /// is refused: the call is not to be made, and is counted.
+    /// Reserves capacity for one more call, and returns an equal request for the note. `None` if
+    /// out of memory: the call must not be made, and is counted.
     pub fn room_for(&mut self, alloc: Global, request: &Request) -> Option<Request>
         ensures made { self.new.made.items ≡ self.old.made.items }
         ensures room { OnSome result (vec_len self.new.made < vec_capacity self.new.made) }
@@ -60,8 +60,8 @@ impl Calls {
         None
     }
 
-    /// Notes a call, for which there is room, with its reply, if one was received. Where there is
-    /// no memory for a second copy of the reply, it counts as not received.
+    /// Notes a call, for which capacity is reserved, with its reply, if one was received. If there
+    /// is no memory for a second copy of the reply, it counts as not received.
     pub fn note(&mut self, alloc: Global, request: Request, heard: Option<Reply>) -> Delivery
         requires room { vec_len self.old.made < vec_capacity self.old.made }
         requires fits { IfSome heard (λ reply. Fits request reply) }

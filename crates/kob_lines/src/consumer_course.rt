@@ -1,4 +1,4 @@
-//! How a consumer's run goes on. This function does nothing: its contract is the law.
+//! How a consumer's run continues. This function does nothing: its contract is the law.
 
 ghost use Rattle.std.specs.Prelude.{◌++◌, [], List};
 ghost use Rattle.kob_lines.specs.ConsumerCourse.{HasConsumerRun};
@@ -9,8 +9,8 @@ ghost use Rattle.kob_inbox.specs.declared.fetcher.Subscription.{Subscription};
 ghost use Rattle.kob_inbox.specs.declared.tick.Tick.{Tick};
 ghost use Rattle.kob_router.specs.declared.line.Call.{Call};
 
-/// A run goes on with each tick and with a restart; its calls are all that the line tells. Two runs
-/// of which one begins where the other ends are one.
+/// Each tick and each restart continues a run, whose calls are all those that the line reports. Two
+/// runs of which one begins where the other ends are one.
 pub fn a_consumer_run_goes_on()
     ensures begins { (t : Subscription) → HasConsumerRun t start [] }
     ensures ticks { (t : Subscription) (old new : Scene) (tick : Tick)

@@ -1,4 +1,4 @@
-//! Lines that give the calls that they made.
+//! Lines that return the calls that they made.
 
 ghost use Rattle.std.specs.Prelude.{◌≡◌};
 
@@ -9,9 +9,9 @@ use crate::session_line::SessionLine;
 use kob_router::{Call, Line};
 use std::sync::Wait;
 
-/// A line that gives the calls that it made when it ends.
+/// A line that returns the calls that it made when it ends.
 pub trait IntoCalls: Line {
-    /// The calls that were made, the oldest first. The line ends; no memory is taken.
+    /// The calls that were made, the oldest first. The line ends. Does not allocate.
     fn into_calls(self) -> Vec<Call>
         ensures { result.items ≡ Self.calls self };
 }

@@ -1,5 +1,5 @@
-//! Lines to a broker: over a borrowed one, over one with a journal, over a session, and a line that
-//! loses calls on purpose. A router with its outbox under one lock, laws of runs that go on, and one
+//! Lines to a broker: over a borrowed broker, over one with a journal, over a session, and a line
+//! that loses calls on purpose. A router with its outbox under one lock, laws of runs, and one
 //! fault for programs that use all these.
 #![tactic(auto)]
 

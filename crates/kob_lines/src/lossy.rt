@@ -12,7 +12,7 @@ use kob_rights::{Reply, Request};
 use kob_router::{Call, Delivery, Line};
 use std::alloc::Global;
 
-/// What becomes of a call.
+/// What happens to a call.
 #[derive(Clone, Copy, Debug, PartialEq, Eq)]
 pub enum Loss {
     /// It is served, and its reply is received.
@@ -23,18 +23,19 @@ pub enum Loss {
     AfterServe,
 }
 
-/// A line over another one, which loses the calls that were named before. Its calls are those that
-/// were made of it; the line below has those that reached it, with the replies that it gave.
+/// A line over another one, which loses the calls that `lose` was called for. Its calls are those
+/// that were made on it. The line below has those that reached it, with the replies that it
+/// received.
 #[derive(Drop)]
 pub struct Lossy<L> {
     pub line: L,
-    /// What becomes of the next call. All replies after it are received.
+    /// What happens to the next call. All replies after it are received.
     pub loss: Loss,
     pub calls: Calls,
 }
 
 impl<L: Line> Lossy<L> {
-    /// A line that has made no call, and loses none. No memory is taken.
+    /// A line that has made no call, and loses none. Does not allocate.
     pub fn over(alloc: Global, line: L) -> Lossy<L>
         ensures line { result.line ≡ line }
         ensures loss { result.loss ≡ Loss.None }
@@ -49,14 +50,14 @@ impl<L: Line> Lossy<L> {
         }
     }
 
-    /// Says what becomes of the next call. All replies after it are received.
+    /// Sets what happens to the next call. All replies after it are received.
     pub fn lose(&mut self, loss: Loss)
         ensures { self.new ≡ record self.old { loss = loss } }
     {
         self.loss = loss;
     }
 
-    /// The line below, and the calls that were made, the oldest first. No memory is taken.
+    /// The line below, and the calls that were made, the oldest first. Does not allocate.
     pub fn close(self) -> (L, Vec<Call>)
         ensures line { result.0 ≡ self.line }
         ensures calls { result.1.items ≡ self.calls.made.items }
@@ -78,8 +79,8 @@ impl<L: Line> Line for Lossy<L> {
 
     ghost unmade = { λ line. line.calls.unmade };
 
-    /// The line below is what calls make of it, and these are calls of this line, of which those
-    /// that were heard all reached the line below.
+    /// The line below becomes what its calls make of it. They are calls of this line, and all calls
+    /// of this line with a received reply are among them.
     ghost becomes = { λ old new. L.becomes old.line new.line
         × PassesCallsOn old.calls.made.items new.calls.made.items (L.calls old.line)
         (L.calls new.line) };
@@ -127,7 +128,7 @@ impl<L: Line> Line for Lossy<L> {
     ) };
 }
 
-/// Makes a call of the line, unless it is lost before; the reply, unless it is lost.
+/// Makes a call on the line, unless it is lost before. Returns the reply, unless it is lost.
 fn pass_on<L: Line>(line: &mut L, alloc: Global, request: Request, loss: Loss) -> Option<Reply>
     ensures passed { PassesOn loss (L.calls line.old) (L.calls line.new) request result }
     ensures line { L.becomes line.old line.new }

@@ -16,10 +16,10 @@ use thiserror::Error;
 pub enum ProgramFault {
     #[error("out of memory")]
     Memory,
-    /// A principal, a host, a route or another text that was to be read.
+    /// A text is not a valid principal, host, route or other value.
     #[error("a text is not as it has to be")]
     BadText,
-    /// Too many opening bindings, or what a program finds before it begins.
+    /// There are too many opening bindings, or the program found a fault before it began.
     #[error("the work cannot begin")]
     NotBegun,
     /// A text of the event is too long or has a zero byte, or its id was recorded before.
@@ -30,7 +30,7 @@ pub enum ProgramFault {
     /// The journal is full.
     #[error("a request was not served")]
     NotServed,
-    /// What a program finds after it began: no fault converts to it.
+    /// The program found a fault after it began: no fault converts to it.
     #[error("the work did not come to its end")]
     Stopped,
     #[error("the output could not be written")]

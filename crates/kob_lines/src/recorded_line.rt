@@ -21,7 +21,7 @@ use std::alloc::Global;
 #[derive(Drop)]
 pub struct RecordedLine<'a> {
     pub recorded: &'a mut Recorded,
-    /// The number of the calls' worker in the journal.
+    /// The worker's number in the journal.
     pub worker: usize,
     pub principal: Principal,
     pub host: Host,
@@ -29,8 +29,8 @@ pub struct RecordedLine<'a> {
 }
 
 impl<'a> RecordedLine<'a> {
-    /// A line that has made no call. No memory is taken. Once it is closed, or dropped, the broker
-    /// is free again.
+    /// A line that has made no call. Does not allocate. Once it is closed or dropped, the broker is
+    /// no longer borrowed.
     pub fn open(
         alloc: Global,
         recorded: &'a mut Recorded,
@@ -55,8 +55,8 @@ impl<'a> RecordedLine<'a> {
         }
     }
 
-    /// Serves one request of the line's principal, which is not noted as a call. The journal gains
-    /// one entry, of this worker with this event and its reply; after a fault it is as before.
+    /// Serves one request of the line's principal, which is not noted as a call. The journal gets
+    /// one entry, of this worker with this event and its reply. After a fault it is as before.
     #[tactic(auto, using(kob_shared::proofs::Bodies::reply_fits, kob_shared::proofs::OffsetBounds::offsets_bounded))]
     pub fn call(&mut self, alloc: Global, request: Request) -> Result<Reply, ServeFault>
         ensures same_broker { self.new.recorded.ghost_name ≡ self.old.recorded.ghost_name }
@@ -85,7 +85,7 @@ impl<'a> RecordedLine<'a> {
         }
     }
 
-    /// Calls, and keeps why no reply was received.
+    /// Makes a call, and keeps why no reply was received.
     fn hear(&mut self, alloc: Global, request: Request) -> Option<Reply>
         ensures same_broker { self.new.recorded.ghost_name ≡ self.old.recorded.ghost_name }
         ensures worker { self.new.worker ≡ self.old.worker }
@@ -109,7 +109,8 @@ impl<'a> RecordedLine<'a> {
         }
     }
 
-    /// The calls that were made, the oldest first. The broker is free again; no memory is taken.
+    /// The calls that were made, the oldest first. The broker is no longer borrowed. Does not
+    /// allocate.
     pub fn close(self) -> Vec<Call>
         ensures { result.items ≡ self.entry.calls.made.items }
     {
@@ -134,8 +135,8 @@ impl<'a> Line for RecordedLine<'a> {
 
     ghost unmade = { λ line. line.calls.unmade };
 
-    /// It stays with its broker, its worker, its principal and its host, and the calls put entries
-    /// at the end of the journal.
+    /// It keeps its broker, its worker, its principal and its host, and the calls append entries to
+    /// the journal.
     ghost becomes = { λ old new.
         (new.recorded.ghost_name ≡ old.recorded.ghost_name)
         × (new.worker ≡ old.worker)
@@ -144,7 +145,7 @@ impl<'a> Line for RecordedLine<'a> {
         × Journals old.worker old.principal old.host old.calls.made.items new.calls.made.items
         old.recorded.now new.recorded.now };
 
-    /// Makes a call: the broker serves it at once, as the line's worker's.
+    /// Makes a call: the broker serves it at once, as a call of the line's worker.
     #[tactic(auto, using(crate::proofs::Adding::one_call_is_journaled, crate::proofs::Adding::served_if_told))]
     fn send(&mut self, alloc: Global, request: Request) -> Delivery
         ensures added { Adds self.old.calls.made.items self.new.calls.made.items

@@ -1,4 +1,4 @@
-//! How a service's run goes on. This function does nothing: its contract is the law.
+//! How a service's run continues. This function does nothing: its contract is the law.
 
 ghost use Rattle.std.specs.Prelude.{◌++◌, ◌∷◌, [], List};
 ghost use Rattle.kob_outbox.specs.Contents.{Event};
@@ -14,9 +14,9 @@ ghost use Rattle.kob_router.specs.Tick.{IsOneTick, Scene, Ticks};
 ghost use Rattle.kob_router.specs.declared.line.Call.{Call};
 ghost use Rattle.kob_router.specs.declared.tick.Tick.{Tick};
 
-/// A run goes on with each tick, with each event that is recorded, with a sweep and with a restart;
-/// its calls are all that the line tells, and its rows all that were recorded. Two runs of which one
-/// begins where the other ends are one.
+/// Each tick, each recorded event, each sweep and each restart continues a run. Its calls are all
+/// those that the line reports, and its rows all that were recorded. Two runs of which one begins
+/// where the other ends are one.
 pub fn a_service_run_goes_on()
     ensures begins { (route : Dispatching) → HasServiceRun route start [] [] }
     ensures ticks { (route : Dispatching) (old new : Scene) (tick : Tick) (rows : List Event)

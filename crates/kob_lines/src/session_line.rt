@@ -23,7 +23,7 @@ pub struct SessionLine<'a, R> {
 }
 
 impl<'a, R: Wait> SessionLine<'a, R> {
-    /// A line that has made no call. No memory is taken.
+    /// A line that has made no call. Does not allocate.
     pub fn open(rt: &'a R, alloc: Global, session: Session<'a>) -> SessionLine<'a, R>
         ensures session { result.session ≡ session.entry }
         ensures made { result.calls.made.items ≡ [] }
@@ -37,7 +37,7 @@ impl<'a, R: Wait> SessionLine<'a, R> {
         }
     }
 
-    /// Calls through the session, and keeps why no reply was received.
+    /// Makes a call through the session, and keeps why no reply was received.
     fn hear(&mut self, alloc: Global, request: Request) -> Option<Reply>
         ensures made { self.new.calls.made ≡ self.old.calls.made }
         ensures unmade { self.new.calls.unmade ≡ self.old.calls.unmade }
@@ -54,7 +54,7 @@ impl<'a, R: Wait> SessionLine<'a, R> {
         }
     }
 
-    /// The session, and the calls that were made, the oldest first. No memory is taken.
+    /// The session, and the calls that were made, the oldest first. Does not allocate.
     pub fn close(self) -> (Session<'a>, Vec<Call>)
         ensures session { result.0 ≡ self.entry.session }
         ensures calls { result.1.items ≡ self.entry.calls.made.items }
@@ -76,7 +76,7 @@ impl<'a, R: Wait> Line for SessionLine<'a, R> {
 
     ghost unmade = { λ line. line.calls.unmade };
 
-    /// It stays with its session's worker, principal and host.
+    /// It keeps its session's worker, principal and host.
     ghost becomes = { λ old new. KeepsSeat old.session new.session };
 
     /// Makes a call through the session, as [`Session::call`] does.

@@ -10,23 +10,23 @@ use kob_router::{Line, Tick};
 use std::alloc::Global;
 use std::sync::{Mutex, Wait};
 
-/// A router with its outbox, which threads share: some record events, and one or more let the
-/// router send them. Each call waits for the lock, and has it until it returns: who records waits
-/// until a step that is being made has its reply.
+/// A router with its outbox, which threads share: some record events, and one or more tick the
+/// router. Each call waits for the lock, and holds it until it returns. So a thread that records
+/// waits until a step of the router has its reply.
 #[derive(Drop)]
 pub struct SharedRelay {
     relay: Mutex<Relay>,
 }
 
 impl SharedRelay {
-    /// Puts the router and its outbox under the lock; no memory is taken.
+    /// Puts the router and its outbox under the lock. Does not allocate.
     pub fn open(relay: Relay) -> SharedRelay {
         SharedRelay {
             relay: Mutex::new(relay),
         }
     }
 
-    /// Records an event under the lock, as [`Relay::record`] does, and answers its number.
+    /// Records an event under the lock, as [`Relay::record`] does, and returns its number.
     pub fn record<R: Wait>(
         &self,
         rt: &R,
@@ -51,7 +51,7 @@ impl SharedRelay {
         relay.tick(alloc, line)
     }
 
-    /// Drops the events that were sent, under the lock, and answers how many they were.
+    /// Deletes the events that were sent, under the lock, and returns how many they were.
     pub fn sweep<R: Wait>(&self, rt: &R) -> Result<u64, OutboxFault>
         ensures { IfOk result IsSomeSweep }
     {
@@ -59,8 +59,8 @@ impl SharedRelay {
         relay.sweep()
     }
 
-    /// Gives back the router and its outbox, of which the row in hand is the first after the mark;
-    /// it waits for nobody.
+    /// Returns the router and its outbox, whose first row after the mark is the row in flight. Does
+    /// not wait.
     pub fn finish(self) -> Relay
         ensures { HoldsFirst result }
     {

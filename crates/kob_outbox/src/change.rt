@@ -15,7 +15,7 @@ pub struct Change {
 }
 
 impl Change {
-    /// A change of these texts. The error is out of memory.
+    /// A change with these texts. The error is out of memory.
     pub fn of(alloc: Global, kind: &str, id: &str, state: &str) -> Result<Change, AllocError>
         ensures kind { IfOk result (λ made. string_bytes made.kind ≡ kind.now) }
         ensures id { IfOk result (λ made. string_bytes made.id ≡ id.now) }

@@ -20,7 +20,7 @@ pub struct OutboxEvent {
     pub payload: String,
 }
 
-/// A row of the outbox: an event with the number that it was given.
+/// A row of the outbox: an event with its number.
 #[derive(Debug, Drop)]
 pub struct Row {
     /// From 1 to 9,223,372,036,854,775,807.

@@ -1,15 +1,15 @@
-//! Why a call did not do what it was asked.
+//! Faults of calls on an outbox.
 
 use crate::fields::Column;
 use sqlite::{Error, ErrorCode};
 use thiserror::Error as Fault;
 
-/// Why a call that only the database can refuse was refused.
+/// Why a call failed that can fail only in the database.
 #[derive(Clone, Copy, Debug, PartialEq, Eq, Fault)]
 pub enum OutboxFault {
     #[error("out of memory")]
     Memory,
-    /// The database refused for another cause than lack of memory.
+    /// The database failed for another cause than out of memory.
     #[error("the database refused")]
     Store,
 }
@@ -25,7 +25,7 @@ pub enum RecordFault {
     DuplicateId,
     #[error("out of memory")]
     Memory,
-    /// The database refused for another cause than lack of memory, or every number was given.
+    /// The database failed for another cause than out of memory, or all numbers are used.
     #[error("the database refused")]
     Store,
 }
@@ -36,12 +36,12 @@ pub enum MarkFault {
     /// The number is less than the mark.
     #[error("the mark does not move backwards")]
     Backwards,
-    /// The number is more than the last that was given.
+    /// The number is greater than the last one that was used.
     #[error("no event has this number yet")]
     Ahead,
     #[error("out of memory")]
     Memory,
-    /// The database refused for another cause than lack of memory.
+    /// The database failed for another cause than out of memory.
     #[error("the database refused")]
     Store,
 }

@@ -19,10 +19,10 @@ pub enum Column {
     Payload,
 }
 
-/// The most bytes of a text that is neither a state nor a payload.
+/// The maximum length of a text that is neither a state nor a payload, in bytes.
 pub const NAME_BYTES_LIMIT: usize = 255;
 
-/// The most bytes of a business row's state and of an event's payload.
+/// The maximum length of a business row's state and of an event's payload, in bytes.
 pub const TEXT_BYTES_LIMIT: usize = 1_048_576;
 
 fn fits(most: usize, text: &str) -> bool

@@ -1,4 +1,4 @@
-//! What follows of the definitions.
+//! What follows from the definitions.
 
 ghost use Rattle.std.specs.Prelude.{◌≡◌, ◌≢◌, ℕ, List, string_bytes, Some};
 ghost use Rattle.kob_outbox.specs.Contents.{Contents};
@@ -8,7 +8,7 @@ ghost use Rattle.kob_outbox.specs.Recording.{after_record};
 ghost use Rattle.kob_outbox.specs.declared.change.Change.{Change};
 ghost use Rattle.kob_outbox.specs.declared.event.OutboxEvent.{OutboxEvent};
 
-/// A sweep does not change what is still to be sent.
+/// A sweep does not change which rows are still to be sent.
 #[tactic(auto, using(crate::proofs::Lawful::swept_waits))]
 pub fn a_sweep_keeps_what_waits()
     ensures { (c : Contents) (limit : ℕ)
@@ -18,8 +18,8 @@ pub fn a_sweep_keeps_what_waits()
     // By the definitions.
 }
 
-/// After a record the business row has the state that was written, and the rows of other keys have
-/// theirs.
+/// After a record the business row has the state that was written, and the rows with other keys are
+/// unchanged.
 #[tactic(auto, using(crate::proofs::Lawful::recorded_here, crate::proofs::Lawful::recorded_elsewhere))]
 pub fn a_record_writes_one_business_row()
     ensures here { (c : Contents) (change : Change) (event : OutboxEvent)

@@ -1,5 +1,5 @@
-//! A service's tables in memory: its business rows, its outbox, the ids that it spent and the mark
-//! of what was sent.
+//! A service's tables in memory: its business rows, its outbox, the ids that were ever recorded,
+//! and the mark up to which rows were sent.
 #![tactic(auto)]
 
 mod business_table;

@@ -1,4 +1,4 @@
-//! What is read of the tables. Over memory only lack of memory can stop a read.
+//! Reads of the tables. As these are in memory, a read fails only if out of memory.
 
 ghost use Rattle.std.specs.Prelude.{◌≡◌, option_map, string_bytes, map, IfErr};
 ghost use Rattle.std.specs.Prelude.{IfOk};

@@ -29,7 +29,7 @@ fn row_of(row: &sqlite::Row) -> Result<Row, OutboxFault>
     })
 }
 
-/// The events that the rows show, in their order.
+/// The events in the rows, in their order.
 pub(crate) fn rows_of(alloc: Global, rows: &[sqlite::Row]) -> Result<Vec<Row>, OutboxFault>
     requires { AllByRecursion IsShown rows.now }
     ensures rows { IfOk result (λ out. map (λ r. shown_event (stored_row r)) out.items ≡ rows.now) }

@@ -1,4 +1,4 @@
-//! Where a row goes, and as what.
+//! Where a row is sent, and as which record.
 
 ghost use Rattle.std.specs.Prelude.{◌≡◌, ◌<◌, IfOk};
 ghost use Rattle.kob_outbox.specs.Events.{stored_row};

@@ -4,7 +4,7 @@ use kob_names::TopicNameFault;
 use std::alloc::{AllocError, AllocFailed};
 use thiserror::Error;
 
-/// Why settings are no route.
+/// Why settings are not a valid route.
 #[derive(Clone, Copy, Debug, PartialEq, Eq, Error)]
 pub enum RouteFault {
     #[error("the replacement is empty, or has a `$` that does not begin `${{routedByValue}}`")]
@@ -15,7 +15,7 @@ pub enum RouteFault {
     Memory,
 }
 
-/// Why a row has no record.
+/// Why no record can be made of a row.
 #[derive(Clone, Copy, Debug, PartialEq, Eq, Error)]
 pub enum RecordFault {
     #[error("the name that the route makes is not a topic name")]

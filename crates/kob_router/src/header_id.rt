@@ -10,9 +10,9 @@ use kob_names::{Header, Record};
 use uuid::Uuid;
 
 /// The event id of a record: the value of its first header named `id`, read as the text of a UUID
-/// in any of its forms, in either case. None where no header has the name, or the first that has it
-/// is no such text. No memory is taken. Debezium's outbox event router writes this header, so that
-/// consumers know an event that they have seen.
+/// in any of its forms, in either case. None if no header has the name, or if the first that has it
+/// is not such a text. Does not allocate. Debezium's outbox event router writes this header, so
+/// that consumers recognise an event that they have seen.
 pub fn event_id(sent: &Record) -> Option<Uuid>
     ensures { result ≡ event_id sent.now }
 {
@@ -27,7 +27,7 @@ fn id_header(headers: &[Header]) -> Option<&Header>
     headers.iter().find(|header| header.name.as_str() == "id")
 }
 
-/// The UUID that a text spells, if it spells one.
+/// The UUID of a text, if it is one.
 fn read_id(text: &[u8]) -> Option<Uuid>
     ensures { result ≡ parsed text.now }
 {

@@ -1,4 +1,4 @@
-//! What follows of the definitions.
+//! What follows from the definitions.
 
 ghost use Rattle.std.specs.Prelude.{◌≡◌, ◌<◌, ℕ, Bool, List, Option, Some, length};
 ghost use Rattle.std.specs.List.{All, AllByRecursion};
@@ -18,9 +18,9 @@ ghost use Rattle.kob_router.specs.declared.dispatch.Dispatch.{Dispatch};
 ghost use Rattle.kob_router.specs.declared.dispatch.Target.{Target};
 ghost use Rattle.kob_router.specs.declared.settings.Routing.{Routing};
 
-/// The record of a row has the row's event id, whatever columns are placed in further headers:
-/// the id that reads back from the header `id` is the id under which the event was recorded, which
-/// has 16 bytes.
+/// The record of a row has the row's event id, whatever columns are placed in further headers. The
+/// id that is read from the header `id` is the id under which the event was recorded, which has 16
+/// bytes.
 pub fn a_record_tells_its_event_id()
     ensures text { (routing : Routing) (event : Event)
         → event_id (message_of routing event) ≡ parsed event.id }
@@ -31,8 +31,8 @@ pub fn a_record_tells_its_event_id()
     // By the definitions.
 }
 
-/// Until a row is acknowledged or the router starts again, no call may be made but for the same
-/// request: the same batch, with the same producer id and sequence, to the same partition.
+/// Until a row is acknowledged or the router restarts, each call makes the same request: the same
+/// batch, with the same producer id and sequence, to the same partition.
 pub fn a_batch_is_repeated_as_it_was()
     ensures { (route : Dispatching) (old new : State) (moves : List Move)
         (sent : ProduceRequest) (request : Request) (heard : Option Reply) (marks : Bool)

@@ -1,4 +1,4 @@
-//! The router from a service's outbox to the topics of a broker, in the manner of Debezium's outbox
+//! The router from a service's outbox to the topics of a broker, modelled on Debezium's outbox
 //! event router.
 #![tactic(auto)]
 

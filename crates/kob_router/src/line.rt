@@ -7,7 +7,7 @@ use kob_names::PlainValue;
 use kob_rights::{Reply, Request};
 use std::alloc::{AllocError, Global};
 
-/// A request that was made, and the reply that was received, or none where the call was lost.
+/// A request that was made, and the reply that was received, or none if the call was lost.
 #[derive(Debug, Drop)]
 pub struct Call {
     pub request: Request,
@@ -28,7 +28,7 @@ impl Call {
     }
 }
 
-/// What came of a call.
+/// The result of a call.
 #[derive(Debug, Drop)]
 pub enum Delivery {
     /// The broker served the request, and this is its reply.
@@ -37,22 +37,22 @@ pub enum Delivery {
     Lost,
 }
 
-/// A way to a broker, by which requests are made one after another. It keeps what was asked and
-/// what was received.
+/// A connection to a broker, which makes requests one after another. It keeps each request with the
+/// reply that was received.
 pub trait Line {
     ghost use Rattle.kob_router.specs.declared.line.Call.{Call};
 
     /// The calls that were made, the oldest first.
     ghost calls: { Self → List Call };
 
-    /// How often there was no memory to note a call, which was then not made.
+    /// How many calls were not made, since there was no memory to note them.
     ghost unmade: { Self → ℕ };
 
-    /// Whether the first line may be the second one after any number of calls: what stays of it,
-    /// and what the calls added.
+    /// Whether the first line may become the second one by any number of calls: what stays the
+    /// same, and what the calls added.
     ghost becomes: { Self → Self → Type 0 };
 
-    /// Makes a call. Where there is no memory to note it, it is not made, and the answer is `Lost`;
+    /// Makes a call. If there is no memory to note it, it is not made, and the result is `Lost`;
     /// this is counted.
     fn send(&mut self, alloc: Global, request: Request) -> Delivery
         ensures added { Adds (calls self.old) (calls self.new) (unmade self.old) (unmade self.new)
@@ -60,15 +60,16 @@ pub trait Line {
         ensures faithful { IsFaithful request result }
         ensures line { becomes self.old self.new };
 
-    /// The calls that were made, the oldest first. No memory is taken.
+    /// The calls that were made, the oldest first. Does not allocate.
     fn made_calls(&self) -> &[Call]
         ensures { result.now ≡ calls self.now };
 
-    /// How often a call was not made for lack of memory, counted up to 18,446,744,073,709,551,615.
+    /// How many calls were not made, since there was no memory to note them, counted up to
+    /// 18,446,744,073,709,551,615.
     fn unmade_calls(&self) -> u64
         ensures { result ≡ unmade self.now };
 
-    /// A line of which no call was made is as it was.
+    /// A line on which no call was made is unchanged.
     ghost stays: { (line : Self) → becomes line line };
 
     /// Calls after calls are calls.

@@ -8,9 +8,9 @@ const FACTOR: u32 = 0x5bd1e995;
 
 const SEED: u32 = 0x9747b28c;
 
-/// The partition of a key, of so many: murmur2 of the key without its sign bit, modulo their
-/// number, as Kafka's default partitioner has it. Equal keys have equal partitions. No memory is
-/// taken.
+/// The partition of a key, out of `partitions`: murmur2 of the key without its sign bit, modulo
+/// their number, as in Kafka's default partitioner. Equal keys have equal partitions. Does not
+/// allocate.
 pub fn partition_of(key: &[u8], partitions: u32) -> u32
     requires { 0 < partitions }
     ensures value { result ≡ partition_of key.now partitions }

@@ -13,7 +13,7 @@ pub struct Place {
     pub partition: u64,
 }
 
-/// Whether the two are one partition of one topic. No memory is taken.
+/// Whether the two are one partition of one topic. Does not allocate.
 pub fn is_same_place(one: &Place, two: &Place) -> bool
     ensures { result ≡ same_place one.now two.now }
 {

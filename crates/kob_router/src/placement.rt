@@ -10,10 +10,10 @@ use crate::fault::RouteFault;
 use kob_names::{Items, PlainValue, Text};
 use std::alloc::{AllocError, Global};
 
-/// The most entries that a placement may have.
+/// The maximum number of entries of a placement.
 const ENTRY_LIMIT: usize = 16;
 
-/// The most bytes that a header's name may have.
+/// The maximum length of a header's name, in bytes.
 const ALIAS_LIMIT: usize = 255;
 
 /// A column that can be sent as a header.

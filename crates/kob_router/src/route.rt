@@ -12,7 +12,7 @@ use kob_names::PlainValue;
 use std::alloc::{AllocError, Global};
 use std::marker::Model;
 
-/// Where a row goes, and as what: by which column, under which name of a topic, and with which
+/// How a row is sent: by which column it is routed, to a topic of which name, and with which
 /// headers.
 #[derive(Debug, Drop)]
 pub struct Route {
@@ -28,9 +28,9 @@ impl Model for Route {
 }
 
 impl Route {
-    /// Reads the settings. `BadTemplate` comes where the replacement is empty or has a `$` that
-    /// does not begin `${routedByValue}`, and `BadPlacement` where the placement is neither empty
-    /// nor made of up to 16 entries.
+    /// Reads the settings. `BadTemplate` is returned if the replacement is empty or has a `$` that
+    /// does not begin `${routedByValue}`. `BadPlacement` is returned if the placement is neither
+    /// empty nor made of up to 16 entries.
     pub fn new(alloc: Global, settings: &RouteSettings) -> Result<Route, RouteFault>
         ensures by { IfOk result (λ route. route.by ≡ settings.now.by) }
         ensures template { IfOk result (λ route. route.template ≡ settings.now.replacement) }

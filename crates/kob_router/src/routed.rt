@@ -25,10 +25,10 @@ pub struct Routed {
     pub message: Record,
 }
 
-/// The record of a row and its topic, as the route has it: the aggregate's id is the key, the
-/// payload's bytes are the value, and the headers are `id`, in lower-case hyphenated form, and the
-/// placed columns in their order. `BadTopic` comes where the template, filled with the row's value,
-/// is no name of a topic.
+/// The record of a row and its topic, by the route. The aggregate's id is the key, and the
+/// payload's bytes are the value. The headers are `id`, in lower-case hyphenated form, and the
+/// placed columns in their order. `BadTopic` is returned if the template, filled with the row's
+/// value, is not a valid topic name.
 pub fn record_of(alloc: Global, route: &Route, row: &Row) -> Result<Routed, RecordFault>
     ensures { OkIfSome (routed_row route.now (stored_row row.now))
         RecordFault.BadTopic RecordFault.Memory result }

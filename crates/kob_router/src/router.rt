@@ -13,8 +13,8 @@ use std::alloc::Global;
 use std::marker::Model;
 
 /// Sends the rows of one outbox to the topics that a route names, in the order of their numbers,
-/// each until the broker has it. The rows go with the router's own producer id and, on each
-/// partition, with rising sequences, so that the broker knows a batch that is sent again.
+/// each until it is acknowledged. The batches have the router's own producer id and, on each
+/// partition, ascending sequences, so that the broker recognises a batch that is sent again.
 #[derive(Debug, Drop)]
 pub struct Router {
     sender: Sender,
@@ -39,8 +39,8 @@ impl Router {
     ghost use Rattle.kob_router.specs.Run.{after};
     ghost use Rattle.kob_router.specs.Tick.{IsFirst, IsOneTick, Ticks, hand_of, scene_of, state_of};
 
-    /// A router for topics that have so many partitions each, 1 to 1,000. It has no producer id,
-    /// and nothing in hand. No memory is taken.
+    /// A router for topics with this number of partitions each, 1 to 1,000. It has no producer id,
+    /// and no row in flight. Does not allocate.
     pub fn new(alloc: Global, route: Route, partitions: u32) -> Router
         requires some { 1 ≤ partitions }
         requires most { partitions ≤ 1000 }
@@ -62,11 +62,11 @@ impl Router {
     }
 
     /// One step. Without a producer id it first asks for one. Then it sends the first row after the
-    /// mark, as a batch of one record with the next sequence of its partition, and moves the mark
-    /// once the broker acknowledged it: `Moved`. Where a call was lost, the answer is
-    /// `Repeat`, and the next step makes the same call again. `Idle` says that no row waits.
+    /// mark, as a batch of one record with the next sequence of its partition. Once the broker
+    /// acknowledged it, the mark moves: `Moved`. If a call was lost, it returns `Repeat`, and the
+    /// next step makes the same call again. `Idle` means that no row waits.
     ///
-    /// The condition is that the row in hand is the first one after this outbox's mark: a router
+    /// The condition is that the row in flight is the first one after this outbox's mark: a router
     /// serves one outbox, whose mark nobody else moves.
     pub fn tick<L: Line>(&mut self, alloc: Global, outbox: &mut Outbox, line: &mut L) -> Tick
         requires { IsFirst (option_map hand_of self.old.hand) outbox.old }
@@ -81,9 +81,9 @@ impl Router {
         self.sender.tick(alloc, outbox, line)
     }
 
-    /// Forgets what was in hand, the producer id and all sequences, as a service that starts again
-    /// does. Then the next step asks for a producer id, and the broker cannot know the row that was
-    /// in hand: it may get it twice. No memory is taken.
+    /// Forgets the row in flight, the producer id and all sequences, as a service that restarts
+    /// does. Then the next step asks for a producer id, and the broker cannot recognise the row
+    /// that was in flight: it may get it twice. Does not allocate.
     pub fn restart(&mut self)
         ensures same { self.new.target ≡ self.old.target }
         ensures done { (outbox : Contents)

@@ -1,4 +1,4 @@
-//! What a router holds, and the parts of its step.
+//! The state of a router, and the parts of its step.
 
 ghost use Rattle.std.specs.Prelude.{◌≡◌, ◌<◌, IfErr, IfOk, option_map};
 ghost use Rattle.kob_outbox.specs.Events.{stored_row};
@@ -30,7 +30,7 @@ pub struct Producer {
     pub epoch: u64,
 }
 
-/// What a router holds: how it routes, its producer id, its sequences, and the row in hand.
+/// The state of a router: its target, its producer id, its sequences, and the row in flight.
 #[derive(Debug, Drop)]
 pub struct Sender {
     pub target: Target,
@@ -69,7 +69,7 @@ impl Sender {
         }
     }
 
-    /// Forgets what was in hand, the producer id and all sequences.
+    /// Forgets the row in flight, the producer id and all sequences.
     pub(crate) fn restart(&mut self)
         ensures { self.new ≡ record self.old { producer = None; sequences = []; hand = None } }
     {
@@ -105,7 +105,7 @@ impl Sender {
         }
     }
 
-    /// Takes the first row after the mark in hand, where nothing is. False where no row waits.
+    /// Puts the first row after the mark in flight, if no row is. False if no row waits.
     fn take_in_hand(&mut self, alloc: Global, outbox: &mut Outbox) -> Result<bool, StopReason>
         requires { 0 < self.old.target.partitions }
         ensures same { outbox.new ≡ outbox.old }
@@ -131,7 +131,7 @@ impl Sender {
         Ok(true)
     }
 
-    /// Sends what is in hand.
+    /// Sends the row in flight.
     fn deliver<L: Line>(
         &mut self,
         alloc: Global,
@@ -168,7 +168,7 @@ impl Sender {
         }
     }
 
-    /// The request that sends what is in hand.
+    /// The request that sends the row in flight.
     fn request(&self, alloc: Global, producer: Producer) -> Result<Request, AllocError>
         requires known { self.now.producer ≡ Some producer }
         requires full { HasHand self.now }
@@ -190,7 +190,7 @@ impl Sender {
         }))
     }
 
-    /// Moves the mark to the row in hand, of which nothing is left in hand then.
+    /// Moves the mark to the row in flight, which is then no longer in flight.
     fn acknowledge(&mut self, outbox: &mut Outbox) -> Result<u64, StopReason>
         requires full { HasHand self.old }
         requires placed { IsPlaced (dispatch_of self.old.target) (option_map hand_of self.old.hand)

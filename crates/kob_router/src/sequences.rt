@@ -32,7 +32,7 @@ impl Model for Sequences {
 }
 
 impl Sequences {
-    /// No partition has a sequence yet; no memory is taken.
+    /// No partition has a sequence yet. Does not allocate.
     pub fn new(alloc: Global) -> Sequences
         ensures { result ≡ [] }
     {
@@ -41,14 +41,14 @@ impl Sequences {
         }
     }
 
-    /// The next sequence on a place, 0 where none was used.
+    /// The next sequence of a place, 0 if none was used.
     pub fn next(&self, place: &Place) -> u64
         ensures { result ≡ sequence_of self.now place.now }
     {
         sequence_of(&self.items, place)
     }
 
-    /// One sequence of a place that has one is used; no memory is taken.
+    /// Uses one sequence of a place that has one. Does not allocate.
     pub fn use_one(&mut self, place: &Place)
         requires { has_place self.old place.now ≡ true }
         ensures { self.new ≡ after_use self.old place.now }
@@ -56,7 +56,7 @@ impl Sequences {
         use_one(&mut self.items, place)
     }
 
-    /// Makes room for a place, where it has none. The error is out of memory.
+    /// Reserves capacity for a place, if it has none. The error is out of memory.
     pub fn prepare(&mut self, alloc: Global, place: &Place) -> Result<(), AllocError>
         ensures ok { OnOk result (self.new ≡ with_sequence_for self.old place.now) }
         ensures err { OnErr result (self.new ≡ self.old) }
@@ -69,7 +69,7 @@ impl Sequences {
         Ok(())
     }
 
-    /// Forgets all; no memory is taken.
+    /// Forgets all. Does not allocate.
     pub fn clear(&mut self)
         ensures { self.new ≡ [] }
     {

@@ -1,4 +1,4 @@
-//! How rows are routed, as it is set and as it is kept.
+//! How rows are routed: the settings, and what is read from them.
 
 ghost use Rattle.std.specs.Prelude.{◌≡◌, [], codes, IfOk};
 ghost use Rattle.kob_router.specs.declared.settings.RouteBy.TheVariants.{AggregateType};
@@ -16,13 +16,13 @@ pub enum RouteBy {
     AggregateId,
 }
 
-/// How rows are routed, as it is set.
+/// The settings of a route.
 #[derive(Debug, Drop)]
 pub struct RouteSettings {
     /// Debezium's `route.by.field`.
     pub by: RouteBy,
-    /// Debezium's `route.topic.replacement`: the topic's name, in which each `${routedByValue}`
-    /// stands for the value of the column `by`.
+    /// Debezium's `route.topic.replacement`: the topic's name, in which each `${routedByValue}` is
+    /// replaced by the value of the column `by`.
     pub replacement: Text,
     /// Debezium's `table.fields.additional.placement`: nothing, or up to 16 entries with commas
     /// between them, each `column:header` or `column:header:alias`. A column is `aggregatetype`,
@@ -31,8 +31,8 @@ pub struct RouteSettings {
 }
 
 impl RouteSettings {
-    /// Debezium's defaults: rows go by their aggregate's type to the topic
-    /// `outbox.event.${routedByValue}`, and no column is placed in a header. The error is want of
+    /// Debezium's defaults: rows are sent by their aggregate's type to the topic
+    /// `outbox.event.${routedByValue}`, and no column is placed in a header. The error is out of
     /// memory.
     pub fn by_default(alloc: Global) -> Result<RouteSettings, AllocError>
         ensures by { IfOk result (λ settings. settings.by ≡ AggregateType) }
@@ -61,7 +61,7 @@ impl RouteSettings {
     }
 }
 
-/// How rows are routed, once it is read.
+/// How rows are routed, as read from the settings.
 #[derive(Debug, Drop)]
 pub struct Routing {
     pub by: RouteBy,

@@ -1,4 +1,4 @@
-//! The text that a topic's name is made of, with places for the value by which a row is routed.
+//! The template of a topic's name, with variables for the value by which a row is routed.
 
 ghost use Rattle.std.specs.Prelude.{◌≡◌, IfOk};
 ghost use Rattle.kob_router.specs.Template.{with_routed_value, is_template, routed_by_value};
@@ -6,7 +6,7 @@ ghost use Rattle.kob_router.specs.Template.{with_routed_value, is_template, rout
 use bstr::ByteSlice;
 use std::alloc::{AllocError, Global};
 
-/// The words that stand for the value, as in Debezium's `route.topic.replacement`.
+/// The variable for the value, as in Debezium's `route.topic.replacement`.
 const ROUTED_BY_VALUE: &str = "${routedByValue}";
 
 /// Whether a text can be a template: it is not empty, and each `$` begins `${routedByValue}`.
@@ -24,7 +24,7 @@ pub(crate) fn is_template(text: &[u8]) -> bool
     true
 }
 
-/// The template with the value in each of its places.
+/// The template with the value in place of each variable.
 pub(crate) fn filled(alloc: Global, template: &[u8], value: &[u8]) -> Result<Vec<u8>, AllocError>
     ensures { IfOk result (λ text. text.items ≡ with_routed_value template.now value.now) }
 {

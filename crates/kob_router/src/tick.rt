@@ -1,9 +1,9 @@
-//! What one step of a router answers.
+//! What one step of a router returns.
 
 use kob_names::{Items, Verdict};
 use kob_rights::{Code, Reason};
 
-/// Why a step stopped. The row in hand, if there is one, stays in hand, and the mark stays.
+/// Why a step stopped. A row in flight stays in flight, and the mark stays.
 #[derive(Debug, Drop)]
 pub enum StopReason {
     /// The broker denied a right, with these verdicts.
@@ -16,20 +16,20 @@ pub enum StopReason {
         code: Code,
         reason: Reason,
     },
-    /// The route makes no topic's name of the first row after the mark. No call was made but for a
-    /// producer id.
+    /// The route makes no valid topic name of the first row after the mark. No call was made except
+    /// for a producer id.
     BadTopic,
-    /// Memory was refused: no call was made but for a producer id, or what was sent is done and the
+    /// Out of memory: no call was made except for a producer id, or what was sent is done and the
     /// mark could not be moved.
     Memory,
-    /// What was sent is done, and the database refused to move the mark.
+    /// What was sent is done, and the database failed to move the mark.
     Store,
 }
 
 /// What one step of a router did.
 #[derive(Debug, Drop)]
 pub enum Tick {
-    /// The broker has the row, and the mark moved to this number.
+    /// The row is acknowledged, and the mark moved to this number.
     Moved(u64),
     /// No row waits.
     Idle,

@@ -11,11 +11,11 @@ use kob_names::{Draft, Operation, Pattern, PatternKind, Permission, ResourceKind
 use kob_words::{operation_name, push_bytes};
 use std::alloc::AllocError;
 
-/// Adds the line `kafka-acls.sh --add ..` of a binding. Behind the first word its words are those of
-/// the command `acl` of a script, which creates the same binding by them. A line is a comment where
-/// a word of it needs quotes, and for a prefixed pattern of the cluster, which `kafka-acls.sh` can't
-/// write. Above a line for IdempotentWrite a comment says what Kafka does otherwise. The error is
-/// out of memory; `out` has then grown by a part of it.
+/// Appends the line `kafka-acls.sh --add ..` of a binding. The words after the first are those of
+/// the command `acl` of a script that creates the same binding. The line is a comment if a word of
+/// it needs quotes, and for a prefixed pattern of the cluster, which `kafka-acls.sh` cannot write.
+/// A comment above a line for IdempotentWrite says what differs in Kafka. The error is out of
+/// memory; `out` then ends with a part of the text.
 #[tactic(auto, using(kob_words::proofs::Appending::appending))]
 pub fn export_binding(out: &mut Vec<u8>, binding: &Draft) -> Result<(), AllocError>
     ensures { OnOk result (out.new.items ≡ out.old.items ++ binding_line binding.now) }

@@ -1,4 +1,4 @@
-//! The router of a service, as Debezium's outbox event router takes it.
+//! The router of a service, as properties of Debezium's outbox event router.
 
 ghost use Rattle.std.specs.Prelude.{◌≡◌, ◌++◌, OnOk};
 ghost use Rattle.kob_scene_export.specs.Connector.{table_text};
@@ -12,9 +12,9 @@ use kob_router::{RouteBy, RouteSettings};
 use kob_words::push_bytes;
 use std::alloc::AllocError;
 
-/// Adds a service: comments with its name and with what its producer does otherwise in Kafka, the
-/// properties of Debezium's outbox event router, and as comments the columns of its outbox table.
-/// The error is out of memory; `out` has then grown by a part of it.
+/// Appends a service: comments with its name and with what differs in Kafka for its producer, and
+/// the properties of Debezium's outbox event router. Then, as comments, the columns of its outbox
+/// table. The error is out of memory; `out` then ends with a part of the text.
 #[tactic(auto, using(kob_words::proofs::Appending::appending))]
 pub fn export_connector(
     out: &mut Vec<u8>,
@@ -108,7 +108,7 @@ fn by_text(by: RouteBy) -> &'static str
     }
 }
 
-/// A property is a comment where its value is empty or has to be escaped.
+/// Appends a property, as a comment if its value is empty or has to be escaped.
 #[tactic(auto, using(kob_words::proofs::Appending::appending), unfolding(crate::specs::Connector::property_text))]
 fn push_property(out: &mut Vec<u8>, name: &[u8], value: &Text) -> Result<(), AllocError>
     ensures { OnOk result (out.new.items ≡ out.old.items ++ property_text name.now value.now) }

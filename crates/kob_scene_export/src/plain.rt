@@ -1,4 +1,4 @@
-//! Which words can be in a shell's line, or behind a property, without quotes.
+//! Which words can be in a shell's line, or be the value of a property, without quotes.
 
 ghost use Rattle.std.specs.List.{list_all};
 ghost use Rattle.std.specs.Prelude.{◌≡◌, ◌++◌, OnOk};
@@ -26,7 +26,7 @@ fn is_plain_byte(byte: u8) -> bool
     byte.is_ascii_alphanumeric() || is_sign(byte)
 }
 
-/// Whether a text has letters, digits and `.`, `_`, `-`, `:`, `/`, `@`, `*` alone.
+/// Whether a text has only letters, digits and `.`, `_`, `-`, `:`, `/`, `@`, `*`.
 pub fn is_plain(text: &[u8]) -> bool
     ensures { result ≡ is_plain text.now }
 {

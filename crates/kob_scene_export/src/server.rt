@@ -9,8 +9,8 @@ use kob_names::{Principal, Settings};
 use kob_words::push_bytes;
 use std::alloc::AllocError;
 
-/// Adds the comments above an export: how its lines are used. The error is out of memory; `out` has
-/// then grown by a part of it.
+/// Appends the comments above an export: how its lines are used. The error is out of memory; `out`
+/// then ends with a part of the text.
 #[tactic(auto, using(kob_words::proofs::Appending::appending))]
 pub fn export_head(out: &mut Vec<u8>) -> Result<(), AllocError>
     ensures { OnOk result (out.new.items ≡ out.old.items ++ head_text) }
@@ -21,8 +21,9 @@ pub fn export_head(out: &mut Vec<u8>) -> Result<(), AllocError>
     )
 }
 
-/// Adds `super.users` and `allow.everyone.if.no.acl.found`. The line of super users is a comment
-/// where one of them needs quotes. The error is out of memory; `out` has then grown by a part of it.
+/// Appends `super.users` and `allow.everyone.if.no.acl.found`. The line of super users is a comment
+/// if one of them needs quotes. The error is out of memory; `out` then ends with a part of the
+/// text.
 #[tactic(auto, using(kob_words::proofs::Appending::appending))]
 pub fn export_settings(out: &mut Vec<u8>, settings: &Settings) -> Result<(), AllocError>
     ensures { OnOk result (out.new.items ≡ out.old.items ++ settings_text settings.now) }

@@ -7,8 +7,8 @@ ghost use Rattle.kob_words.specs.PrintedText.{bytes_text};
 use kob_words::{push_bytes, push_number};
 use std::alloc::AllocError;
 
-/// Adds the line `kafka-topics.sh --create --topic=NAME --partitions=COUNT`. A topic's name needs no
-/// quotes. The error is out of memory; `out` has then grown by a part of it.
+/// Appends the line `kafka-topics.sh --create --topic=NAME --partitions=COUNT`. A topic's name
+/// needs no quotes. The error is out of memory; `out` then ends with a part of the text.
 #[tactic(auto, using(kob_words::proofs::Appending::appending))]
 pub fn export_topic(out: &mut Vec<u8>, name: &str, partitions: u64) -> Result<(), AllocError>
     ensures { OnOk result (out.new.items ≡ out.old.items ++ topic_text name.now partitions) }
