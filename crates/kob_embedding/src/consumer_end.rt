@@ -1,4 +1,4 @@
-//! What a consumer leaves.
+//! The final state of a consumer.
 
 ghost use Rattle.std.specs.Prelude.{◌≡◌, IfErr, IfOk, map};
 ghost use Rattle.std.specs.List.{enumerate_from};
@@ -9,8 +9,8 @@ use crate::part::Part;
 use kob_inbox::{Consumer, Inbox, InboxFault, InboxRow};
 use std::marker::Model;
 
-/// What a consumer leaves: the calls of its line as a worker, and its inbox. Its type keeps that a
-/// run of the consumer led there.
+/// The final state of a consumer: the calls of its line as a worker, and its inbox. Its invariant:
+/// a run of the consumer leads to this state.
 #[derive(Drop)]
 pub struct ConsumerEnd {
     part: Part,
@@ -51,7 +51,7 @@ impl ConsumerEnd {
         }
     }
 
-    /// The worker with its calls, the oldest first; no memory is taken.
+    /// The worker with its calls, the oldest first. Does not allocate.
     pub fn part(&self) -> &Part
         ensures worker { result.now.worker ≡ self.now.worker }
         ensures calls { result.now.calls.items ≡ self.now.calls }
@@ -60,7 +60,7 @@ impl ConsumerEnd {
         &self.part
     }
 
-    /// The consumer, with its positions; no memory is taken.
+    /// The consumer, with its positions. Does not allocate.
     pub fn consumer(&self) -> &Consumer
         ensures { result.now ≡ self.now.fetcher }
     {

@@ -10,8 +10,8 @@ ghost use Rattle.kob_shared.specs.Journals.{IsLegal};
 ghost use Rattle.kob_shared.specs.Openings.{opened_by};
 ghost use Rattle.kob_shared.specs.declared.journal.Entry.{Entry};
 
-/// A legal journal is a history of what the laws of delivery see: of each partition all batches that
-/// it ever accepted, of each group its commits, and the producer id that is given next.
+/// A legal journal is a history of what the laws of delivery see: of each partition all batches
+/// that it ever accepted, of each group its commits, and the next producer id.
 pub fn a_legal_journal_is_a_history()
     ensures { (opening : Settings) (journal : List Entry) (now : State Retained)
         → IsLegal (opened_by opening) journal now

@@ -1,5 +1,6 @@
-//! For who runs routers and consumers without a plan: services and consumers whose types keep what
-//! they did, and what the journal of a broker, and the calls of their lines, say of an inbox.
+//! For programs that run routers and consumers without a plan. The types of services and consumers
+//! keep what they did. The laws say what the journal of a broker, and the calls of their lines,
+//! mean for an inbox.
 #![tactic(auto)]
 
 mod consumer_end;

@@ -1,4 +1,4 @@
-//! A broker with its journal, that has served what it begins with.
+//! A broker with its journal that has served its first events.
 
 ghost use Rattle.std.specs.Prelude.{◌≡◌, ◌≤◌, ◌++◌, IfOk, OnOk};
 ghost use Rattle.kob_shared.specs.Journals.{events_of};
@@ -11,9 +11,9 @@ use kob_rights::Event;
 use kob_shared::Recorded;
 use std::alloc::Global;
 
-/// Opens a broker with these settings and a journal of at most `limit` entries, and serves the
-/// events in order as worker 0, also those that are denied. The error is out of memory, too many
-/// opening bindings, or more events than the journal may have.
+/// Opens a broker with these settings and a journal of at most `limit` entries. Serves the events
+/// in order as worker 0, also those that are denied. The error is out of memory, too many opening
+/// bindings, or more events than the journal may have entries.
 pub fn opened(
     alloc: Global,
     settings: Settings,

@@ -10,9 +10,10 @@ use crate::service_end::ServiceEnd;
 use kob_pipeline::{an_inbox_holds_a_prefix_of_each_aggregate, first_breach};
 use kob_shared::Recorded;
 
-/// Whether the journal bears out the calls of a service and of a consumer, and breaks no premise of
-/// the law of delivery between them. Then the inbox holds of each aggregate a prefix of the events
-/// that the service recorded, in their order, each once, with its row's key and value.
+/// Whether the journal agrees with the calls of a service and of a consumer, and breaks no premise
+/// of the law of delivery between them. If so, the inbox holds of each aggregate a prefix of the
+/// events that the service recorded. They are in their order, each once, with its row's key and
+/// value.
 pub fn reaches_in_order(recorded: &Recorded, sent: &ServiceEnd, taken: &ConsumerEnd) -> bool
     ensures { IsTrue result → IsDelivered sent.now taken.now }
 {

@@ -15,8 +15,8 @@ use std::alloc::Global;
 use std::marker::Model;
 use std::thread;
 
-/// A consumer with its inbox, and the line of its calls. Its type keeps that all it did since it
-/// began is a run of the consumer, so that the law of delivery speaks of it.
+/// A consumer with its inbox, and the line of its calls. Its invariant: all it did since it began
+/// is a run of the consumer, so that the law of delivery applies to it.
 #[derive(Drop)]
 pub struct RunningConsumer<L: Line> {
     consumer: Consumer,
@@ -42,7 +42,7 @@ impl<L: Line> Model for RunningConsumer<L> {
 }
 
 impl<L: Line> RunningConsumer<L> {
-    /// Begins with an empty inbox, no position, and a line that made no call. No memory is taken.
+    /// Begins with an empty inbox, no position, and a line that made no call. Does not allocate.
     pub fn new(
         alloc: Global,
         inbox: Inbox,
@@ -84,8 +84,8 @@ impl<L: Line> RunningConsumer<L> {
         tick
     }
 
-    /// Ticks until the partition that has the turn has no record, at most so often, also where a
-    /// tick is denied or its call is lost. The error is `Stopped`: no tick answered `Idle`.
+    /// Ticks until the partition that has the turn has no record, at most `most` times. It goes on
+    /// if a tick is denied or its call is lost. The error is `Stopped`: no tick returned `Idle`.
     pub fn take_all(&mut self, alloc: Global, most: u32) -> Result<(), ProgramFault>
         ensures same { self.new.fetcher.subscription ≡ self.old.fetcher.subscription }
         ensures stopped { IfErr result (λ fault. fault ≡ ProgramFault.Stopped) }
@@ -100,8 +100,8 @@ impl<L: Line> RunningConsumer<L> {
         Err(ProgramFault::Stopped)
     }
 
-    /// Ticks until the inbox has so many rows or more, at most so often. The error is out of memory,
-    /// or `Stopped`: after no tick it had as many.
+    /// Ticks until the inbox has `count` rows or more, at most `most` times. The error is out of
+    /// memory, or `Stopped`: after no tick it had as many.
     pub fn take_rows(&mut self, alloc: Global, count: usize, most: u32) -> Result<(), ProgramFault>
         ensures taken { OnOk result (count ≤ length self.new.inbox) }
         ensures same { self.new.fetcher.subscription ≡ self.old.fetcher.subscription }
@@ -116,7 +116,7 @@ impl<L: Line> RunningConsumer<L> {
         Err(ProgramFault::Stopped)
     }
 
-    /// Makes one step, and says whether it took records in and the inbox then has so many rows.
+    /// Makes one step, and returns whether it took records in and the inbox then has `count` rows.
     fn has_rows(&mut self, alloc: Global, count: usize) -> Result<bool, ProgramFault>
         ensures taken { IfOk result (λ has. IsTrue has → count ≤ length self.new.inbox) }
         ensures same { self.new.fetcher.subscription ≡ self.old.fetcher.subscription }
@@ -128,7 +128,7 @@ impl<L: Line> RunningConsumer<L> {
         Ok(false)
     }
 
-    /// Starts the consumer again, as [`Consumer::restart`] does: it forgets all positions.
+    /// Restarts the consumer, as [`Consumer::restart`] does: it forgets all positions.
     pub fn restart(&mut self)
         ensures same { self.new.fetcher.subscription ≡ self.old.fetcher.subscription }
         ensures inbox { self.new.inbox ≡ self.old.inbox }
@@ -150,7 +150,7 @@ impl<L: Line> RunningConsumer<L> {
 }
 
 impl<L: IntoCalls> RunningConsumer<L> {
-    /// Ends the line, whose calls are those of this worker. No memory is taken.
+    /// Ends the line, whose calls are those of this worker. Does not allocate.
     pub fn close(self, worker: usize) -> ConsumerEnd
         ensures worker { result.worker ≡ worker }
         ensures calls { result.calls ≡ L.calls self.line }
@@ -168,7 +168,7 @@ impl<L: IntoCalls> RunningConsumer<L> {
 }
 
 impl<L: IntoCalls + Drop> RunningConsumer<L> {
-    /// Ends the line, if the work before went well: else the fault is that of the work.
+    /// Ends the line, if the work before went well. Otherwise the fault is that of the work.
     pub fn end(
         self,
         worker: usize,

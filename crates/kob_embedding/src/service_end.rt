@@ -1,4 +1,4 @@
-//! What a service leaves.
+//! The final state of a service.
 
 ghost use Rattle.std.specs.Prelude.{◌≡◌};
 ghost use Rattle.kob_embedding.specs.Running.{HasRun};
@@ -7,8 +7,8 @@ use crate::part::Part;
 use kob_lines::Relay;
 use std::marker::Model;
 
-/// What a service leaves: the calls of its line as a worker, and its outbox with its router. Its
-/// type keeps that a run of the router led there.
+/// The final state of a service: the calls of its line as a worker, and its outbox with its router.
+/// Its invariant: a run of the router leads to this state.
 #[derive(Drop)]
 pub struct ServiceEnd {
     part: Part,
@@ -43,7 +43,7 @@ impl ServiceEnd {
         ServiceEnd { part, relay }
     }
 
-    /// The worker with its calls, the oldest first; no memory is taken.
+    /// The worker with its calls, the oldest first. Does not allocate.
     pub fn part(&self) -> &Part
         ensures worker { result.now.worker ≡ self.now.worker }
         ensures calls { result.now.calls.items ≡ self.now.calls }
@@ -52,7 +52,7 @@ impl ServiceEnd {
         &self.part
     }
 
-    /// The outbox with its router; no memory is taken.
+    /// The outbox with its router. Does not allocate.
     pub fn relay(&self) -> &Relay
         ensures { result.now ≡ self.now.relayed }
     {

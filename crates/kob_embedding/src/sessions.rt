@@ -8,7 +8,7 @@ use kob_shared::{Session, SharedBroker};
 use std::alloc::Global;
 
 /// A session of a worker, for the principal at the host that these texts name. The error is out of
-/// memory, or `BadText` where a text names no principal or no host.
+/// memory, or `BadText` if a text is not a valid principal or host.
 pub fn session_of<'a>(
     alloc: Global,
     shared: &'a SharedBroker,

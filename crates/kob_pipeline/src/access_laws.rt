@@ -1,4 +1,4 @@
-//! What access rules give the laws of delivery.
+//! Access rules from which premises of the laws of delivery follow.
 
 ghost use Rattle.std.specs.Prelude.{List, ℕ};
 ghost use Rattle.kob_names.specs.declared.kinds.Operation.TheVariants.{Read, Write};
@@ -12,9 +12,9 @@ ghost use Rattle.kob_shared.specs.declared.journal.Entry.{Entry};
 ghost use Rattle.kob_pipeline.specs.Premises.{Commits, IsSoleCommitter, IsSoleProducer, Produces};
 ghost use Rattle.kob_pipeline.specs.Reserved.{ActsAlone, IsReserved, NoSuperUser};
 
-/// Where the bindings in force let one principal alone write to a topic, at each place of a legal
-/// journal, one worker alone acts as this principal, and no super user writes to the topic, this
-/// worker is the topic's only producer.
+/// A worker is the only producer of a topic under three conditions. At each place of a legal
+/// journal the bindings in force let only one principal write to the topic. Only this worker acts
+/// as that principal. No super user writes to the topic.
 pub fn bindings_leave_one_producer()
     ensures { (opening : Settings) (journal : List Entry) (now : State Retained) (worker : ℕ)
         (principal topic : List ℕ)
@@ -27,9 +27,9 @@ pub fn bindings_leave_one_producer()
     // The contract is the law.
 }
 
-/// Where the bindings in force let one principal alone read a group, at each place of a legal
-/// journal, one worker alone acts as this principal, and no super user commits for the group on a
-/// topic, this worker is the only one that does.
+/// A worker is the only one that commits for a group on a topic under three conditions. At each
+/// place of a legal journal the bindings in force let only one principal read the group. Only this
+/// worker acts as that principal. No super user commits for the group on the topic.
 pub fn bindings_leave_one_committer()
     ensures { (opening : Settings) (journal : List Entry) (now : State Retained) (worker : ℕ)
         (principal group topic : List ℕ)

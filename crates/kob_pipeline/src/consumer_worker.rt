@@ -39,7 +39,7 @@ pub(crate) fn consume<R: Wait, G: Gate>(
     }
 }
 
-/// What the steps leave of the database.
+/// What the database holds after the steps.
 fn leave<R: Wait, G: Gate>(
     consumer: &ConsumerPlan,
     alloc: Global,

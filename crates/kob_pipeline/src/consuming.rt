@@ -1,4 +1,4 @@
-//! A consumer at work: its inbox and how far it has come, step by step.
+//! A consumer with its inbox, and its steps.
 
 ghost use Rattle.std.specs.Prelude.{◌≡◌, map, IfOk, OnErr, OnOk};
 ghost use Rattle.std.specs.List.{enumerate_from};
@@ -65,8 +65,8 @@ impl Consuming {
         Ok(())
     }
 
-    /// Makes one step. Out of memory and a refusal of the database end it, and so does a call that
-    /// was not served though it was not to be lost.
+    /// Makes one step. It fails if out of memory, if the database fails, or if a call was not
+    /// served that was not lost on purpose.
     fn step<R: Wait, G: Gate>(
         &mut self,
         alloc: Global,
@@ -92,7 +92,7 @@ impl Consuming {
         }
     }
 
-    /// One step of the consumer, whose first call is lost so.
+    /// One step of the consumer. `loss` says what happens to its first call.
     fn tick<R: Wait, G: Gate>(
         &mut self,
         alloc: Global,
@@ -116,7 +116,7 @@ impl Consuming {
         Ok(())
     }
 
-    /// What is left.
+    /// What the inbox holds.
     pub(crate) fn close(self) -> Result<InboxEnd, StepFault>
         ensures { IfOk result (λ left.
             map placed_intake left.rows.items ≡ enumerate_from 1 self.inbox) }
@@ -130,7 +130,7 @@ impl Consuming {
     }
 }
 
-/// Whether neither memory nor the database stopped a tick.
+/// The fault, if out of memory or the database stopped a tick.
 fn goes_on(tick: Tick) -> Result<(), StepFault>
     ensures ok { OnOk result (GoesOn tick) }
     ensures err { OnErr result (¬ (GoesOn tick)) }

@@ -19,10 +19,10 @@ ghost use Rattle.kob_pipeline.specs.Reaching.{ReachesInOrder};
 ghost use Rattle.kob_pipeline.specs.View.{IsHistory, View, opening_view};
 ghost use Rattle.kob_pipeline.specs.Waiting.{IsWaitingOrSent};
 
-/// On each partition of a topic to which the service alone sends, and that nobody deletes, the
-/// event ids, each at its first offset, begin those of the recorded rows that are routed there, and
-/// each record is what the route makes of a row. So replies that are lost, repeats and restarts put
-/// no row before an earlier one, and leave none out.
+/// Take a partition of a topic to which only the service sends, and that nobody deletes. Its event
+/// ids, each at its first offset, are a prefix of those of the recorded rows that are routed there.
+/// Each record is what the route makes of a row. So lost replies, repeats and restarts put no row
+/// before an earlier one, and leave none out.
 pub fn a_partition_holds_what_was_routed()
     ensures { (target : Target) (worker : ℕ) (journal : List Entry) (view : View)
         (moves : List RouterMove) (now : RouterState) (place : Place)
@@ -35,9 +35,9 @@ pub fn a_partition_holds_what_was_routed()
     // By the definitions.
 }
 
-/// Of each partition of a topic on which the consumer alone commits for its group, and that nobody
-/// deletes, it takes in the offsets up to some bound, each for the first time after all lower ones,
-/// with the records that are there.
+/// Take a partition of a topic on which only the consumer commits for its group, and that nobody
+/// deletes. The consumer takes in the offsets there up to some bound, each for the first time after
+/// all lower ones, with their records.
 pub fn a_consumer_takes_each_offset_in_order()
     ensures { (t : Subscription) (worker : ℕ) (journal : List Entry) (view : View)
         (moves : List ConsumerMove) (now : ConsumerState) (place : Place)
@@ -50,9 +50,10 @@ pub fn a_consumer_takes_each_offset_in_order()
     // By the definitions.
 }
 
-/// Where only the service sends to the topics of the consumer's assignment, only the consumer
-/// commits for its group on them, and nobody deletes them, the inbox holds of each aggregate a
-/// beginning of its recorded events, in their order, each once, with its row's key and value.
+/// The premises: only the service sends to the topics of the consumer's assignment, only the
+/// consumer commits for its group on them, and nobody deletes them. Then the inbox holds of each
+/// aggregate a prefix of its recorded events. They are in their order, each once, with its row's
+/// key and value.
 pub fn an_inbox_holds_a_prefix_of_each_aggregate()
     ensures { (target : Target) (t : Subscription) (sender taker : ℕ) (journal : List Entry)
         (view : View) (sends : List RouterMove) (service : RouterState)
@@ -66,9 +67,9 @@ pub fn an_inbox_holds_a_prefix_of_each_aggregate()
     // By the definitions.
 }
 
-/// Each recorded row is in the outbox past the mark, or the journal has a PRODUCE of the
-/// service that is done, of this row's record to the place where the row is routed. Whatever others
-/// do: nothing is asked of the journal.
+/// Each recorded row is in the outbox past the mark, or the journal has a PRODUCE of this row's
+/// record that is done. It is from the service, to the place where the row is routed. There is no
+/// premise on the journal, whatever others do.
 pub fn a_row_waits_or_was_sent()
     ensures { (target : Target) (worker : ℕ) (journal : List Entry)
         (moves : List RouterMove) (now : RouterState)

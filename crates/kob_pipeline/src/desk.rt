@@ -1,4 +1,4 @@
-//! Desks for the workers of a plan.
+//! Desks, which are sessions with notes, for the workers of a plan.
 
 ghost use Rattle.std.specs.Prelude.{◌≡◌, IfOk};
 ghost use Rattle.kob_shared.specs.Noted.{nothing};

@@ -1,4 +1,4 @@
-//! What a pipeline leaves.
+//! The result of a pipeline.
 
 use kob_broker::Broker;
 use kob_inbox::InboxRow;
@@ -8,9 +8,9 @@ use kob_shared::{Journal, Notes};
 /// What a service's outbox holds at its end.
 #[derive(Drop)]
 pub struct OutboxEnd {
-    /// The rows that were not swept, by rising numbers.
+    /// The rows that were not swept, by ascending number.
     pub rows: Vec<Row>,
-    /// The number up to which the broker has the rows, or 0.
+    /// The number up to which the rows are acknowledged, or 0.
     pub mark: u64,
 }
 
@@ -21,8 +21,8 @@ pub struct InboxEnd {
     pub rows: Vec<InboxRow>,
 }
 
-/// What a pipeline leaves: the broker, the journal, and what each worker noted, worker 0 first;
-/// and what each service's outbox and each consumer's inbox holds, in the plan's order.
+/// The result of a pipeline: the broker, the journal, and the notes of each worker, worker 0 first.
+/// Also what each service's outbox and each consumer's inbox holds, in the plan's order.
 #[derive(Drop)]
 pub struct PipelineEnd {
     pub broker: Broker,
@@ -32,12 +32,12 @@ pub struct PipelineEnd {
     pub inboxes: Vec<InboxEnd>,
 }
 
-/// What a worker leaves beside its notes.
+/// The result of a worker besides its notes.
 #[derive(Drop)]
 pub(crate) enum WorkerEnd {
     Outbox(OutboxEnd),
     Inbox(InboxEnd),
     Nothing,
-    /// Its database refused for another cause than lack of memory.
+    /// Its database failed for another cause than out of memory.
     StoreRefused,
 }

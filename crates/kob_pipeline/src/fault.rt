@@ -13,10 +13,9 @@ pub enum PipelineFault {
     JournalFull,
     /// A thread could not be started.
     NotBegun,
-    /// Memory was refused, also where that kept a row from a worker's database or a call from its
-    /// notes.
+    /// Out of memory, also if that kept a row from a worker's database or a call from its notes.
     Memory,
-    /// A session met a journal with fewer entries than it had seen.
+    /// A session found a journal with fewer entries than it had seen.
     Stale {
         worker: usize,
         length: usize,
@@ -25,7 +24,7 @@ pub enum PipelineFault {
     Full {
         worker: usize,
     },
-    /// A worker's database refused for another cause than lack of memory.
+    /// A worker's database failed for another cause than out of memory.
     Store,
     /// The journal and the worker's receipts differ at the place.
     Torn {

@@ -17,15 +17,15 @@ ghost use Rattle.kob_pipeline.specs.declared.plan.Service.{Service as ServicePla
 use crate::end::PipelineEnd;
 use crate::plan::Plan;
 
-/// What each service's router leaves. On each partition of a topic to which this service alone
-/// sends, and that nobody deletes, the event ids of the records, each at its first offset, begin
-/// those of the rows that the service recorded and that are routed there; and each record is what
-/// the route makes of a row.
+/// The law of each service's router. Take a partition of a topic to which only this service sends,
+/// and that nobody deletes. Its event ids, each at its first offset, are a prefix of those of the
+/// rows that the service recorded and that are routed there. Each record is what the route makes of
+/// a row.
 ///
-/// No recorded row is lost, whatever others do: it is in the outbox past the mark, or the
-/// broker said of its record that it is done.
+/// No recorded row is lost, whatever others do: it is in the outbox past the mark, or the PRODUCE
+/// of its record was done.
 ///
-/// It makes no call and takes no memory. The condition is what `pipeline` answers.
+/// It makes no call and does not allocate. The condition is what `pipeline` returns.
 pub fn router_law(plan: &Plan, end: &PipelineEnd)
     requires { IsPipeline plan.now end.now }
     ensures delivered { (k : ℕ) (service : ServicePlan) (place : PlaceValue)
@@ -39,11 +39,11 @@ pub fn router_law(plan: &Plan, end: &PipelineEnd)
     // By the definitions.
 }
 
-/// What each consumer takes in. Of each partition of a topic on which this consumer alone commits
-/// for its group, and that nobody deletes, it takes in the offsets below some bound, each for the
-/// first time after all lower ones, with the records that are there.
+/// The law of each consumer. Take a partition of a topic on which only this consumer commits for
+/// its group, and that nobody deletes. The consumer takes in the offsets there below some bound,
+/// each for the first time after all lower ones, with their records.
 ///
-/// It makes no call and takes no memory. The condition is what `pipeline` answers.
+/// It makes no call and does not allocate. The condition is what `pipeline` returns.
 pub fn consumer_law(plan: &Plan, end: &PipelineEnd)
     requires { IsPipeline plan.now end.now }
     ensures { (k : ℕ) (consumer : Consumer) (place : PlaceValue)
@@ -56,14 +56,14 @@ pub fn consumer_law(plan: &Plan, end: &PipelineEnd)
     // By the definitions.
 }
 
-/// What reaches an inbox. Where only this service sends to the topics of the consumer's assignment,
-/// only this consumer commits for its group on them, and nobody deletes them, the inbox holds of
-/// each aggregate the events that the service recorded, from the first on and none left out, in
-/// their order, each once, with its row's key and value.
+/// The law of a pipeline. The premises: only this service sends to the topics of the consumer's
+/// assignment, only this consumer commits for its group on them, and nobody deletes them. Then the
+/// inbox holds of each aggregate a prefix of the events that the service recorded, without gaps.
+/// They are in their order, each once, with its row's key and value.
 ///
 /// No recorded row is lost, as `router_law` says.
 ///
-/// It makes no call and takes no memory. The condition is what `pipeline` answers.
+/// It makes no call and does not allocate. The condition is what `pipeline` returns.
 pub fn pipeline_law(plan: &Plan, end: &PipelineEnd)
     requires { IsPipeline plan.now end.now }
     ensures reached { (i k : ℕ) (service : ServicePlan) (consumer : Consumer) (left : InboxLeft)

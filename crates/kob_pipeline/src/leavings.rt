@@ -1,4 +1,4 @@
-//! What the workers left, taken apart by kinds.
+//! What the workers left, separated by kind.
 
 ghost use Rattle.std.specs.Prelude.{◌≡◌, IfErr, IfOk};
 ghost use Rattle.std.specs.List.{All};
@@ -12,7 +12,7 @@ use crate::fault::PipelineFault;
 use kob_shared::{Done, Notes};
 use std::alloc::Global;
 
-/// What the workers noted, worker 0 first, and what they left of their databases.
+/// The notes of the workers, worker 0 first, and what they left of their databases.
 #[derive(Drop)]
 pub(crate) struct Leavings {
     pub(crate) transcripts: Vec<Notes>,
@@ -24,8 +24,8 @@ impl Leavings {
     ghost use Rattle.std.specs.Prelude.{◌++◌, OnOk};
     ghost use Rattle.kob_pipeline.specs.Leavings.{IsKeptByStore, inbox_of, outbox_of};
 
-    /// Keeps what a worker left of its database. The error is out of memory, or `Store` where the
-    /// database refused.
+    /// Keeps what a worker left of its database. The error is out of memory, or `Store` if the
+    /// database failed.
     fn keep(&mut self, end: WorkerEnd) -> Result<(), PipelineFault>
         ensures transcripts { self.new.transcripts ≡ self.old.transcripts }
         ensures outboxes { OnOk result
@@ -45,8 +45,8 @@ impl Leavings {
     }
 }
 
-/// Takes apart what the workers left. The error is out of memory, or `Store` where a worker's
-/// database refused.
+/// Separates by kind what the workers left. The error is out of memory, or `Store` if a worker's
+/// database failed.
 pub(crate) fn leavings_of(
     alloc: Global,
     first: Notes,

@@ -1,4 +1,4 @@
-//! A desk as a line, which loses the calls that a plan loses.
+//! A line over a desk, which loses the calls that a plan loses.
 
 ghost use Rattle.std.specs.Prelude.{◌≡◌, ◌<◌, ◌⊎◌, [], ◌∷◌, ◌++◌, None, OnOk, Some};
 ghost use Rattle.std.specs.Prelude.{IfErr, IfNone, IfOk, IfSome};
@@ -17,8 +17,8 @@ use kob_shared::{CallFault, Desk, Gate, Notes};
 use std::alloc::Global;
 use std::sync::Wait;
 
-/// A desk as a line. Each call is made once the gate lets it pass, and noted with the reply that
-/// was received; what the plan loses is not received, or not even made.
+/// A line over a desk. Each call is made once the gate lets it pass, and noted with the reply that
+/// was received. A call that the plan loses has no reply, or is not made.
 #[derive(Drop)]
 pub(crate) struct DeskLine<'a, R, G> {
     rt: &'a R,
@@ -26,14 +26,14 @@ pub(crate) struct DeskLine<'a, R, G> {
     worker: usize,
     desk: Desk<'a>,
     calls: Calls,
-    /// What becomes of the next call.
+    /// What happens to the next call.
     loss: Loss,
-    /// Why a call was not served, or could not be noted: it stays until the worker ends.
+    /// Why a call was not served, or could not be noted. It stays set until the worker ends.
     fault: Option<CallFault>,
 }
 
 impl<'a, R: Wait, G: Gate> DeskLine<'a, R, G> {
-    /// A line over a desk at which no call was made. No memory is taken.
+    /// A line over a desk that has made no call. Does not allocate.
     pub(crate) fn open(
         rt: &'a R,
         alloc: Global,
@@ -55,14 +55,14 @@ impl<'a, R: Wait, G: Gate> DeskLine<'a, R, G> {
         }
     }
 
-    /// Says what becomes of the next call. All replies after it are received.
+    /// Sets what happens to the next call. All replies after it are received.
     pub(crate) fn lose(&mut self, loss: Loss)
         ensures { self.new ≡ record self.old { loss = loss } }
     {
         self.loss = loss;
     }
 
-    /// Why a call was not served, or not noted, where that was not to be.
+    /// Why a call was not served or not noted, unless it was lost on purpose.
     pub(crate) fn goes_on(&self) -> Result<(), CallFault>
         ensures fault { OnOk result (self.now.fault ≡ None) }
         ensures unmade { OnOk result (self.now.calls.unmade ≡ 0) }
@@ -83,7 +83,7 @@ impl<'a, R: Wait, G: Gate> DeskLine<'a, R, G> {
         self.gate.before(self.worker, self.calls.made.len() + 1);
     }
 
-    /// What was noted, after the last call.
+    /// The notes, after the last call.
     pub(crate) fn settle(self) -> Notes
         ensures { result ≡ self.entry.desk.noted }
     {
@@ -91,7 +91,7 @@ impl<'a, R: Wait, G: Gate> DeskLine<'a, R, G> {
         self.close()
     }
 
-    /// What was noted. No memory is taken.
+    /// The notes. Does not allocate.
     pub(crate) fn close(self) -> Notes
         ensures { result ≡ self.entry.desk.noted }
     {
@@ -107,7 +107,7 @@ impl<'a, R: Wait, G: Gate> DeskLine<'a, R, G> {
         desk.close()
     }
 
-    /// Makes a call, unless it is lost before; the reply, unless it is lost.
+    /// Makes a call, unless it is lost before. Returns the reply, unless it is lost.
     #[tactic(auto, using(crate::proofs::Losing::noted_if_served, crate::proofs::Losing::noted_if_unheard, crate::proofs::Losing::faultless_before, crate::proofs::Losing::unserved_is_noted))]
     fn make(&mut self, alloc: Global, request: Request, loss: Loss) -> Option<Reply>
         ensures calls { self.new.calls ≡ self.old.calls }
@@ -153,8 +153,8 @@ impl<'a, R: Wait, G: Gate> DeskLine<'a, R, G> {
         }
     }
 
-    /// Notes a call, of which this reply was received, or none. A reply of which there is no second
-    /// copy counts as lost, which is a fault.
+    /// Notes a call with the reply that was received, if one was. A reply without a second copy
+    /// counts as lost, which is a fault.
     #[tactic(auto, using(crate::proofs::Losing::a_fault_is_one))]
     fn note(&mut self, alloc: Global, request: Request, heard: Option<Reply>) -> Delivery
         requires room { vec_len self.old.calls.made < vec_capacity self.old.calls.made }
@@ -191,8 +191,7 @@ impl<'a, R: Wait, G: Gate> Line for DeskLine<'a, R, G> {
 
     ghost unmade = { λ line. line.calls.unmade };
 
-    /// Unless a call was not served, or not noted, that was to be, each call is noted at the desk or
-    /// lost on purpose.
+    /// If there is no fault, each call is noted at the desk or lost on purpose.
     ghost becomes = { λ old new. new.fault ≡ None
         → AreMade old.fault old.loss new.loss old.calls.made.items new.calls.made.items
         old.desk new.desk };
@@ -227,7 +226,7 @@ impl<'a, R: Wait, G: Gate> Line for DeskLine<'a, R, G> {
         c.calls.made.items a.desk b.desk c.desk (one last.begun) last };
 }
 
-/// Calls, and gives a copy of the reply that the desk has.
+/// Makes a call, and returns a copy of the reply that the desk has.
 fn reply_at<R: Wait>(
     rt: &R,
     alloc: Global,

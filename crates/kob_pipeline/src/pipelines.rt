@@ -31,13 +31,13 @@ use std::alloc::{AllocError, Global};
 use std::sync::Wait;
 use std::thread::Threads;
 
-/// Opens a broker with the plan's settings, serves the first events as worker 0, and then lets each
-/// service, consumer and administrator make its steps in a thread of its own, with a database of
+/// Opens a broker with the plan's settings, and serves the first events as worker 0. Then each
+/// service, consumer and administrator makes its steps in a thread of its own, with a database of
 /// its own. The gate is asked before each request, also one that is lost, and once after the last.
 /// `Plan::is_runnable` returns whether a plan may be run.
 ///
-/// `TooManyWorkers` comes first, then `JournalFull`, both before anything begins. After any fault
-/// nothing is given back but what `Torn` holds.
+/// `TooManyWorkers` is returned first, then `JournalFull`, both before anything begins. After any
+/// fault nothing is returned except what `Torn` holds.
 pub fn pipeline<R: Threads + Wait + Sync, G: Gate + Sync>(
     rt: &R,
     alloc: Global,
@@ -84,8 +84,8 @@ fn run_plan<R: Threads + Wait + Sync, G: Gate + Sync>(
     end_of(alloc, &opening, ran, &workers)
 }
 
-/// A broker as the plan opens it, what it stores of its opening, and the first events. The error is
-/// lack of memory.
+/// A broker as the plan opens it, a copy of its settings, and the first events. The error is out of
+/// memory.
 fn opened(alloc: Global, plan: &Plan) -> Result<(Broker, Settings, Vec<Event>), AllocError>
     requires { length plan.now.settings.opening ≤ 100000 }
     ensures broker { IfOk result (λ o. state_of o.0 ≡ opened_by plan.now.settings) }
@@ -115,7 +115,7 @@ fn broker_of(alloc: Global, settings: &Settings) -> Result<Broker, AllocError>
     }
 }
 
-/// Holds the journal to what the workers noted, and gives what they left.
+/// Compares the journal with the workers' notes, and returns what they left.
 fn end_of(
     alloc: Global,
     opening: &Settings,
@@ -145,7 +145,7 @@ fn end_of(
     }
 }
 
-/// The fault of a pipeline whose journal is torn there; no memory is taken.
+/// The fault of a pipeline whose journal and notes differ there. Does not allocate.
 fn torn(difference: Difference, found: Recorded, left: Leavings) -> PipelineFault
     ensures { result
         ≡ PipelineFault.Torn difference.worker difference.place found left.transcripts }
@@ -165,7 +165,7 @@ fn torn(difference: Difference, found: Recorded, left: Leavings) -> PipelineFaul
     }
 }
 
-/// What a pipeline leaves whose journal is what the workers noted; no memory is taken.
+/// The result of a pipeline whose journal is what the workers noted. Does not allocate.
 fn end_with(found: Recorded, left: Leavings) -> PipelineEnd
     ensures broker { state_of result.broker ≡ found.broker }
     ensures journal { result.journal ≡ found.journal }

@@ -19,9 +19,9 @@ pub enum ServiceStep {
     Record(Change, OutboxEvent),
     /// Its router makes one step.
     Tick(Loss),
-    /// Its router starts again; the database stays.
+    /// Its router restarts; the database stays.
     Restart,
-    /// Drops the rows up to the mark.
+    /// Deletes the rows up to the mark.
     Sweep,
 }
 
@@ -40,7 +40,7 @@ pub struct Service {
 pub enum ConsumerStep {
     /// Makes one step.
     Tick(Loss),
-    /// Starts again; the inbox stays.
+    /// Restarts; the inbox stays.
     Restart,
 }
 
@@ -58,9 +58,9 @@ pub struct ConsumerPlan {
 /// administrators, each in the order of its list.
 #[derive(Drop)]
 pub struct Plan {
-    /// What the broker is opened with, at most 100,000 opening bindings among it.
+    /// The settings of the broker, with at most 100,000 opening bindings.
     pub settings: Settings,
-    /// What is served before any worker begins, as worker 0's.
+    /// The events that are served before any worker begins, as worker 0.
     pub first: Items<Event>,
     pub services: Vec<Service>,
     pub consumers: Vec<ConsumerPlan>,

@@ -1,4 +1,4 @@
-//! A service at work: its router and its outbox, step by step.
+//! A service with its router and its outbox, and its steps.
 
 ghost use Rattle.std.specs.Prelude.{◌≡◌, ◌≤◌, ◌⊎◌, ◌^◌, map, IfErr, IfOk, IsErrOf, None};
 ghost use Rattle.std.specs.Prelude.{OnErr, OnOk, false, option_map};
@@ -24,7 +24,7 @@ use kob_shared::{CallFault, Gate};
 use std::alloc::Global;
 use std::sync::Wait;
 
-/// How many rows one read of the outbox gives at most.
+/// The most rows that one read of the outbox returns.
 const PAGE: u32 = 1_000;
 
 /// A service's router and outbox.
@@ -74,8 +74,8 @@ impl Posting {
         Ok(())
     }
 
-    /// Makes one step. Out of memory and a refusal of the database end it, and so does a call that
-    /// was not served though it was not to be lost.
+    /// Makes one step. It fails if out of memory, if the database fails, or if a call was not
+    /// served that was not lost on purpose.
     fn step<R: Wait, G: Gate>(
         &mut self,
         alloc: Global,
@@ -105,7 +105,7 @@ impl Posting {
         }
     }
 
-    /// Records an event. A text that does not fit and an id that is spent leave all as it is, and the
+    /// Records an event. A text that does not fit and an id that is spent change nothing, and the
     /// service goes on.
     fn note(&mut self, change: &Change, event: &OutboxEvent) -> Result<(), StepFault>
         requires { IsFirst (option_map hand_of self.old.router.hand) self.old.outbox }
@@ -133,7 +133,7 @@ impl Posting {
         }
     }
 
-    /// Drops the rows up to the mark.
+    /// Deletes the rows up to the mark.
     fn sweep(&mut self) -> Result<(), StepFault>
         requires { IsFirst (option_map hand_of self.old.router.hand) self.old.outbox }
         ensures first { OnOk result (IsFirst (option_map hand_of self.new.router.hand)
@@ -149,7 +149,7 @@ impl Posting {
         Ok(())
     }
 
-    /// One step of the router, whose first call is lost so.
+    /// One step of the router. `loss` says what happens to its first call.
     fn tick<R: Wait, G: Gate>(
         &mut self,
         alloc: Global,
@@ -175,7 +175,7 @@ impl Posting {
         Ok(())
     }
 
-    /// What is left.
+    /// What the outbox holds.
     pub(crate) fn close(self) -> Result<OutboxEnd, StepFault>
         ensures rows { IfOk result (λ left.
             map stored_row left.rows.items ≡ later_than 0 self.outbox.events) }
@@ -191,7 +191,7 @@ impl Posting {
     }
 }
 
-/// Whether neither memory nor the database stopped a tick.
+/// The fault, if out of memory or the database stopped a tick.
 fn goes_on(tick: Tick) -> Result<(), StepFault>
     ensures ok { OnOk result (GoesOn tick) }
     ensures err { OnErr result (¬ (GoesOn tick)) }
@@ -203,8 +203,8 @@ fn goes_on(tick: Tick) -> Result<(), StepFault>
     }
 }
 
-/// All rows that were not swept, by rising numbers, read a page at a time. The error is out of
-/// memory, where an allocation failed.
+/// All rows that were not swept, by ascending number, read a page at a time. The error is out of
+/// memory, if an allocation failed.
 fn rows_of(outbox: &mut Outbox) -> Result<Vec<Row>, StepFault>
     ensures rows { IfOk result (λ rows.
         map stored_row rows.items ≡ later_than 0 outbox.old.events) }

@@ -1,4 +1,4 @@
-//! Whether a plan fits.
+//! Whether a plan is within the limits.
 
 ghost use Rattle.std.specs.Prelude.{◌≡◌, ◌+◌, ◌*◌, ◌<◌, ◌≤◌, ◌↔◌, IsTrue, MatchOption, vec_len};
 ghost use Rattle.std.specs.List.{sum_by};

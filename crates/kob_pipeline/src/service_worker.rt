@@ -14,7 +14,7 @@ use std::alloc::Global;
 use std::marker::Model;
 use std::sync::Wait;
 
-/// A service whose count of partitions is within the limits.
+/// A service whose number of partitions is within the limits.
 #[derive(Drop)]
 pub(crate) struct ServiceWorker<'a> {
     service: &'a Service,
@@ -68,7 +68,7 @@ impl<'a> ServiceWorker<'a> {
         }
     }
 
-    /// What the steps leave of the database.
+    /// What the database holds after the steps.
     fn leave<R: Wait, G: Gate>(
         &self,
         alloc: Global,

@@ -1,4 +1,4 @@
-//! Why a step of a worker ends it.
+//! Why a step ends its worker.
 
 use kob_inbox::InboxFault;
 use kob_outbox::{OutboxFault, RecordFault};
@@ -8,9 +8,9 @@ use std::alloc::AllocError;
 /// Why a worker ends before its last step.
 #[derive(Clone, Copy)]
 pub(crate) enum StepFault {
-    /// A call was not served, or memory was refused.
+    /// A call was not served, or an allocation failed.
     Call(CallFault),
-    /// The database refused for another cause than lack of memory.
+    /// The database failed for another cause than out of memory.
     Store,
 }
 

@@ -25,7 +25,7 @@ impl<'a> Work for Worker<'a> {
 
     ghost keeps = { λ worker noted end. IsLeft (planned_as worker) noted end };
 
-    /// Does what its kind of worker does.
+    /// Does the work of its kind of worker.
     fn work<R: Wait, G: Gate>(
         &self,
         rt: &R,

@@ -9,7 +9,7 @@ use crate::service_worker::ServiceWorker;
 use crate::worker::Worker;
 use std::alloc::{AllocError, Global};
 
-/// The workers of a plan: services, then consumers, then administrators. The error is want of
+/// The workers of a plan: services, then consumers, then administrators. The error is out of
 /// memory.
 pub(crate) fn workers_of(alloc: Global, plan: &Plan) -> Result<Vec<Worker<'_>>, AllocError>
     requires { All (λ s. (1 ≤ s.target.partitions) × (s.target.partitions ≤ 1000))
