@@ -1,4 +1,4 @@
-//! The operations that a line means on each resource.
+//! The operations on each resource that the options of a command line mean.
 
 ghost use Rattle.std.specs.Prelude.{◌≡◌, ◌++◌, map, OnOk, IfOk};
 ghost use Rattle.kob_acl_cli.specs.Accesses.{accesses_to, topic_operations, plain_accesses};
@@ -17,8 +17,8 @@ pub struct Access {
     pub operations: Items<Operation>,
 }
 
-/// The operations on each resource that the line names: those given, or those that `--producer` and
-/// `--consumer` stand for.
+/// The operations on each resource that the line names: those given, or those of `--producer` and
+/// `--consumer`.
 pub fn accesses(
     alloc: Global,
     args: &CliArgs,

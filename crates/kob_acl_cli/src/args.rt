@@ -1,4 +1,4 @@
-//! The options of a line.
+//! The options of a command line.
 
 use kob_names::{Items, Text};
 

@@ -1,4 +1,4 @@
-//! What a line asks for.
+//! The requests that a command line means.
 
 ghost use Rattle.std.specs.Prelude.{◌≡◌, ◌++◌, [], map, false, IfOk, IfErr, IsErrOf, OnOk};
 ghost use Rattle.kob_acl_cli.specs.Commands as commands;
@@ -18,17 +18,18 @@ use std::alloc::{AllocError, Global};
 /// A request on bindings.
 #[derive(Debug, Drop)]
 pub enum AclCommand {
-    /// Bindings that are created at once; their names aren't checked.
+    /// Bindings that are created together; their names are not checked yet.
     Create(Items<Draft>),
     Delete(BindingFilter),
     Describe(BindingFilter),
 }
 
-/// What the options ask for, as `kafka-acls` has it (Kafka's documentation, "Authorization and
-/// ACLs"): one `Create` with all bindings, a `Delete` for each binding or resource, or a `Describe`
-/// for each resource and principal. The first fault that applies is returned, in the order
-/// `NoAction`, `BadName` (the first principal, host, operation or pattern type that isn't read),
-/// `BadMix`, `NoResource`, `NoPrincipal`. `Memory` may come in place of any answer but `NoAction`.
+/// The commands that the options mean, as in `kafka-acls` (Kafka's documentation, "Authorization
+/// and ACLs"): one `Create` with all bindings, a `Delete` for each binding or resource, or a
+/// `Describe` for each resource and principal. The first fault that applies is returned, in the
+/// order `NoAction`, `BadName`, `BadMix`, `NoResource`, `NoPrincipal`. `BadName` is for the first
+/// principal, host, operation or pattern type that is not valid. `Memory` may come in place of any
+/// result but `NoAction`.
 pub fn commands_of(alloc: Global, args: &CliArgs) -> Result<Vec<AclCommand>, CommandFault>
     ensures refused { IfErr result (λ fault. IsFirstFault (commands.faults args.now) fault) }
     ensures no_action { mixes.has_one_action args.now ≡ false

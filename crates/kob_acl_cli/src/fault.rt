@@ -1,4 +1,4 @@
-//! Why a line is refused.
+//! Why a command line is refused.
 
 ghost use Rattle.std.specs.Prelude.{◌≡◌};
 ghost use Rattle.kob_acl_cli.specs.declared.fault.CommandFault.TheVariants as command;
@@ -8,7 +8,7 @@ use kob_names::Text;
 use std::alloc::{AllocError, AllocFailed};
 use thiserror::Error;
 
-/// Why words are no options.
+/// Why words are not valid options.
 #[derive(Clone, Copy, Debug, PartialEq, Eq, Error)]
 pub enum LineFault {
     #[error("these words aren't options of the command")]
@@ -17,8 +17,8 @@ pub enum LineFault {
     Memory,
 }
 
-/// Why options are no command. The first fault that applies is returned, in the order of the
-/// variants.
+/// Why options are not a valid command. The first fault that applies is returned, in the order of
+/// the variants.
 #[derive(Debug, PartialEq, Eq, Error, Drop)]
 pub enum CommandFault {
     #[error("exactly one of --add, --remove and --list is required")]

@@ -1,4 +1,4 @@
-//! To whom bindings speak.
+//! Whom bindings cover.
 
 ghost use Rattle.std.specs.Prelude.{◌≡◌, codes, IfOk};
 ghost use Rattle.kob_acl_cli.specs.Parts.{or_default};
@@ -14,7 +14,7 @@ pub struct Holders {
     pub hosts: Items<Host>,
 }
 
-/// The hosts, or every host where there are none.
+/// The hosts, or every host if there are none.
 pub fn hosts_or_every(alloc: Global, hosts: Items<Host>) -> Result<Items<Host>, AllocError>
     ensures { IfOk result (λ made. made ≡ or_default (codes "*") hosts) }
 {

@@ -1,4 +1,4 @@
-//! Reading the words of a line by `clap`.
+//! Reading the words of a command line by `clap`.
 
 ghost use Rattle.std.specs.Prelude.{◌≡◌, ◌++◌, ◌∷◌, [], true, IfOk, IfErr, OnOk};
 ghost use Rattle.clap.specs.Words.{app_of, first_of, found_of, kind_of, rows_of};
@@ -45,9 +45,9 @@ static FLAGS: [&str; 8] = [
 /// or is the next word, which must not begin with `-` unless it is `-` alone. Options that name
 /// something may be repeated; `--resource-pattern-type`, `--bootstrap-server`, `--command-config`
 /// and flags occur at most once. `--force`, `--bootstrap-server` and `--command-config` have no
-/// effect. `Usage` is whatever `clap` refuses for another cause than memory, bare words and
-/// `--help` too. The contract speaks by `clap`'s own account of what it takes and gives; what that
-/// is for a line is shown by tests.
+/// effect. `Usage` is whatever `clap` refuses for another cause than out of memory, also bare words
+/// and `--help`. The contract is in terms of what `clap` accepts and returns; tests show what that
+/// is for a line.
 pub fn read_line<'a>(alloc: Global, words: &'a [&'a str]) -> Result<CliArgs, LineFault>
     ensures read { IfOk result (λ args. IsReadOf (rows_of_line (texts words.entry.now)) args) }
     ensures taken { IfOk result (λ args. refusals (texts words.entry.now) ≡ []) }
@@ -168,7 +168,7 @@ fn copies_of(alloc: Global, values: &[&str]) -> Result<Items<Text>, AllocError>
     Ok(Items::from_vec(made))
 }
 
-/// Puts a copy of a text last.
+/// Appends a copy of a text.
 fn put_copy(alloc: Global, made: &mut Vec<Text>, value: &str) -> Result<(), AllocError>
     ensures { OnOk result (made.new.items ≡ made.old.items ++ value.now ∷ []) }
 {

@@ -1,4 +1,4 @@
-//! Reading the words of options, up to the first that isn't read.
+//! Reading the words of options, up to the first that is not valid.
 
 ghost use Rattle.std.specs.Prelude.{◌≡◌, [], ◌∷◌, filter, IfOk, IfErr};
 ghost use Rattle.std.specs.Option.{option_to_list};
@@ -13,7 +13,7 @@ use kob_names::{
 use kob_words::{filter_pattern_named, operation_named};
 use std::alloc::Global;
 
-/// The principals that the words write.
+/// The principals that the words name.
 pub fn read_principals(alloc: Global, words: &Items<Text>) -> Result<Items<Principal>, CommandFault>
     ensures { Reads (filter is_no_principal words.now) words.now result }
 {
@@ -34,7 +34,7 @@ fn read_principal(alloc: Global, word: &Text) -> Result<Principal, CommandFault>
     }
 }
 
-/// The hosts that the words write.
+/// The hosts that the words name.
 pub fn read_hosts(alloc: Global, words: &Items<Text>) -> Result<Items<Host>, CommandFault>
     ensures { Reads (filter is_no_host words.now) words.now result }
 {

@@ -1,4 +1,4 @@
-//! Which options may be used together, and what has to be beside them.
+//! Which options may be used together, and which others they need.
 
 ghost use Rattle.std.specs.Prelude.{◌≡◌};
 ghost use Rattle.kob_acl_cli.specs.Mixes as mixes;
@@ -6,21 +6,21 @@ ghost use Rattle.kob_acl_cli.specs.Mixes as mixes;
 use crate::args::CliArgs;
 use kob_names::{Items, Text};
 
-/// Exactly one of `--add`, `--remove` and `--list`.
+/// Whether exactly one of `--add`, `--remove` and `--list` is given.
 pub fn has_one_action(args: &CliArgs) -> bool
     ensures { result ≡ mixes.has_one_action args.now }
 {
     u8::from(args.add) + u8::from(args.remove) + u8::from(args.list) == 1
 }
 
-/// Options are used together that may not be.
+/// Whether options are used together that may not be.
 pub fn is_bad_mix(args: &CliArgs) -> bool
     ensures { result ≡ mixes.is_bad_mix args.now }
 {
     is_bad_mix_of_holders(args) || is_bad_mix_of_action(args) || is_bad_mix_of_convenience(args)
 }
 
-/// The options want a resource that isn't given.
+/// Whether the options need a resource that is not given.
 pub fn lacks_resource(args: &CliArgs) -> bool
     ensures { result ≡ mixes.lacks_resource args.now }
 {
@@ -29,21 +29,21 @@ pub fn lacks_resource(args: &CliArgs) -> bool
         || args.consumer && !(is_given(&args.topics) && is_given(&args.groups))
 }
 
-/// The options want a principal that isn't given.
+/// Whether the options need a principal that is not given.
 pub fn lacks_principal(args: &CliArgs) -> bool
     ensures { result ≡ mixes.lacks_principal args.now }
 {
     (args.add || has_convenience(args)) && !has_holder(args)
 }
 
-/// `--allow-principal` or `--deny-principal`.
+/// Whether `--allow-principal` or `--deny-principal` is given.
 pub fn has_holder(args: &CliArgs) -> bool
     ensures { result ≡ mixes.has_holder args.now }
 {
     is_given(&args.allow_principals) || is_given(&args.deny_principals)
 }
 
-/// `--producer` or `--consumer`.
+/// Whether `--producer` or `--consumer` is given.
 pub fn has_convenience(args: &CliArgs) -> bool
     ensures { result ≡ mixes.has_convenience args.now }
 {

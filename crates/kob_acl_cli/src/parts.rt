@@ -14,7 +14,7 @@ use crate::misread::{read_hosts, read_operations, read_pattern_type, read_princi
 use kob_names::{FilterPattern, Host, Items, Operation, Permission, Principal, Text};
 use std::alloc::Global;
 
-/// The words of a line, read, with defaults for those that aren't given.
+/// The words of a line, read, with defaults for those that are not given.
 #[derive(Debug, Drop)]
 pub struct Parts {
     pub allowed: Holders,
@@ -24,7 +24,7 @@ pub struct Parts {
     pub pattern: FilterPattern,
 }
 
-/// Reads the words of a line, up to the first that isn't read.
+/// Reads the words of a line, up to the first that is not valid.
 pub fn read_parts(alloc: Global, args: &CliArgs) -> Result<Parts, CommandFault>
     ensures { Reads (misread_words args.now) (parts args.now) result }
 {
@@ -52,7 +52,7 @@ pub fn read_parts(alloc: Global, args: &CliArgs) -> Result<Parts, CommandFault>
     }
 }
 
-/// Reads the words of a line into its parts, whose permissions stand already.
+/// Reads the words of a line into its parts, whose permissions are set already.
 fn fill_parts(alloc: Global, args: &CliArgs, made: &mut Parts) -> Result<(), CommandFault>
     requires allowed { made.old.allowed.permission ≡ Allow }
     requires denied { made.old.denied.permission ≡ Deny }
@@ -70,7 +70,7 @@ fn fill_parts(alloc: Global, args: &CliArgs, made: &mut Parts) -> Result<(), Com
     Ok(())
 }
 
-/// The hosts that the words write, or every host where there are none.
+/// The hosts that the words name, or every host if there are none.
 fn read_hosts_or_every(alloc: Global, words: &Items<Text>) -> Result<Items<Host>, CommandFault>
     ensures { Reads (filter is_no_host words.now) (or_default (codes "*") words.now) result }
 {
@@ -78,7 +78,7 @@ fn read_hosts_or_every(alloc: Global, words: &Items<Text>) -> Result<Items<Host>
     Ok(hosts_or_every(alloc, hosts)?)
 }
 
-/// The operations that the words name, or all where there are none.
+/// The operations that the words name, or all if there are none.
 fn read_operations_or_all(
     alloc: Global,
     words: &Items<Text>,

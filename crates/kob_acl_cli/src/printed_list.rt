@@ -8,9 +8,9 @@ use kob_names::Binding;
 use kob_words::print_binding;
 use std::alloc::{AllocError, Global};
 
-/// One line a binding, each with a line feed: `binding SERIAL PERMISSION PRINCIPAL HOST OPERATION
-/// RESOURCE PATTERN NAME`. Bytes of names outside 0x21 to 0x7e, and each `%` and `=`, are `%` and
-/// two lower-case hexadecimal digits. The error is out of memory.
+/// One line per binding, each with a line feed: `binding SERIAL PERMISSION PRINCIPAL HOST OPERATION
+/// RESOURCE PATTERN NAME`. Bytes of names outside 0x21 to 0x7e, and each `%` and `=`, are printed
+/// as `%` and two lower-case hexadecimal digits. The error is out of memory.
 pub fn print_list(alloc: Global, bindings: &[(u64, Binding)]) -> Result<String, AllocError>
     ensures { IfOk result (λ text. string_bytes text ≡ list_text bindings.now) }
 {

@@ -12,7 +12,7 @@ use kob_names::{
 };
 use std::alloc::{AllocError, Global};
 
-/// A principal, on a host, is allowed or denied an operation on what an option names.
+/// A principal on a host that is allowed or denied an operation on what an option names.
 #[derive(Debug, Drop)]
 pub struct Rule {
     pub permission: Permission,
@@ -23,7 +23,7 @@ pub struct Rule {
 }
 
 impl Rule {
-    /// The rule as a binding whose name isn't checked.
+    /// The rule as a binding whose name is not checked.
     pub fn into_draft(self) -> Draft
         ensures { result ≡ rules.draft_of self }
     {
@@ -56,7 +56,7 @@ impl Rule {
     }
 }
 
-/// For each resource the rules of who is allowed, and then of who is denied.
+/// For each resource the rules that allow, and then the rules that deny.
 pub fn product(
     alloc: Global,
     allowed: &Holders,

@@ -7,7 +7,7 @@ use std::fs;
 use std::io::{self, Read};
 use std::rt::Files;
 
-/// The length of the longest text that is read, in bytes.
+/// The maximum length of a text that is read, in bytes.
 static LIMIT: usize = 67_108_864;
 
 /// The bytes of a file.
@@ -31,7 +31,7 @@ fn read_into<R: Files + Input>(rt: &R, file: &str, bytes: &mut Vec<u8>) -> io::R
     }
 }
 
-/// Reads a text, and of one past the limit a byte more than the limit.
+/// Reads a text, and at most one byte more than the limit.
 fn read_all<T: Read + Drop>(text: T, bytes: &mut Vec<u8>) -> io::Result<()> {
     let mut text = text.take(67_108_865);
     text.read_to_end(bytes)?;

@@ -1,5 +1,5 @@
-//! Answers about a cluster's own access rules: who may do what, by which binding, and what changes
-//! from one list of bindings to another.
+//! Answers questions about a cluster's own access rules: who may do what, by which binding, and
+//! what changes from one list of bindings to another.
 #![tactic(auto)]
 
 mod files;
@@ -50,7 +50,7 @@ fn answer<R: AllocGlobal + Files + Env + Input + Print + Eprint>(
     }
 }
 
-/// The words of the command line behind the program's name.
+/// The words of the command line after the program's name.
 fn words_of<R: AllocGlobal + Env + Eprint>(rt: &R) -> Result<Vec<String>, Stop> {
     let mut words: Vec<String> = Vec::new(rt.alloc());
     match std::env::args(rt) {
@@ -64,7 +64,8 @@ fn words_of<R: AllocGlobal + Env + Eprint>(rt: &R) -> Result<Vec<String>, Stop> 
     }
 }
 
-/// Answers one part after another; of several, each behind its heading. A fault ends its own part.
+/// Answers one part after another, each after its heading if there are several. A fault ends its
+/// own part.
 fn answer_parts<R: AllocGlobal + Files + Input + Eprint>(
     rt: &R,
     out: &mut Vec<u8>,

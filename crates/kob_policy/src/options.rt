@@ -83,7 +83,7 @@ fn command<'a>(alloc: Global) -> Result<Command<'a>, AllocError> {
     )
 }
 
-/// The command with an option that is given only beside another.
+/// The command with an option that may be given only together with another.
 fn with_option_beside<'a>(
     alloc: Global,
     made: Command<'a>,

@@ -1,4 +1,4 @@
-//! One policy with its questions, or two policies between which something changes.
+//! One policy with its questions, or two policies and what changes between them.
 
 use crate::files::{policy_of, text_of};
 use crate::options::Options;
@@ -84,7 +84,8 @@ fn push_questions<R: AllocGlobal + Files + Input + Eprint>(
     Ok(())
 }
 
-/// The policy of the files, in force. What is left out is printed; without `--skip` nothing else is.
+/// The policy of the files, in force. Prints what is left out of it, which is a fault without
+/// `--skip`.
 fn judge_of<R: AllocGlobal + Files + Input + Eprint>(
     rt: &R,
     out: &mut Vec<u8>,

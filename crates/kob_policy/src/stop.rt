@@ -1,11 +1,11 @@
-//! Why the program stops early. What is no fault of a line is reported on standard error.
+//! Why the program stops early. A fault that is not one of a line is reported on standard error.
 
 use kob_authorizer::CreateFault;
 use kob_script::{ScriptError, print_fault};
 use std::alloc::{AllocError, AllocFailed};
 use std::io::{self, ErrorKind};
 
-/// Why nothing more is answered.
+/// Why no more questions are answered.
 #[derive(Debug, Drop)]
 pub enum Stop {
     /// A fault, which was reported.

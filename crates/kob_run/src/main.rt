@@ -13,7 +13,7 @@ fn main(rt: HostRuntime) -> ExitCode {
     ExitCode::from(status_of(ended))
 }
 
-/// 0 for a script that was served to its end, 2 for lack of memory, and 1 for every other end.
+/// 0 for a script that was served to its end, 2 for out of memory, and 1 for every other end.
 fn status_of(ended: Result<Ended, RunFault>) -> u8
     ensures { result ≡ status_of ended }
 {

@@ -1,11 +1,11 @@
-//! Why a run gave no whole output.
+//! Why a run has no whole output.
 
 use crate::source::ReadFailed;
 use crate::writing::WriteFailed;
 use std::alloc::{AllocError, AllocFailed};
 use thiserror::Error;
 
-/// What kept a run from its output.
+/// Why a run did not write its whole output.
 #[derive(Clone, Copy, Debug, PartialEq, Eq, Error)]
 pub enum RunFault {
     #[error("the script could not be read")]
@@ -18,7 +18,7 @@ pub enum RunFault {
     Memory,
 }
 
-/// What kept a script from being read.
+/// Why a script was not read.
 #[derive(Clone, Copy, Debug, PartialEq, Eq)]
 pub enum InputFault {
     ReadFailed(ReadFailed),
@@ -26,7 +26,7 @@ pub enum InputFault {
     Memory,
 }
 
-/// What kept the output of a script that was read from being written.
+/// Why the output of a script that was read was not written.
 #[derive(Clone, Copy, Debug, PartialEq, Eq)]
 pub enum OutputFault {
     WriteFailed(WriteFailed),

@@ -20,7 +20,7 @@ pub struct Input {
 }
 
 impl Input {
-    /// No bytes, and room for 65,536 of them.
+    /// No bytes, and capacity for 65,536.
     pub fn new(alloc: Global) -> Result<Input, AllocError>
         ensures bytes { IfOk result (λ input. bytes_in input ≡ []) }
         ensures room { IfOk result (λ input. block_size ≤ vec_capacity input.last) }
@@ -33,9 +33,9 @@ impl Input {
         })
     }
 
-    /// Puts bytes behind the others. Where the last block has no room for them, its whole lines
-    /// stay a block, and its cut line goes over to a new one; a line that is longer than a block
-    /// makes its block larger.
+    /// Appends bytes. If the last block has no room for them, its whole lines remain a block, and
+    /// its cut line is moved to a new one. A line that is longer than a block makes its block
+    /// larger.
     pub fn push(&mut self, alloc: Global, piece: &[u8]) -> Result<(), AllocError>
         ensures bytes { OnOk result (bytes_in self.new ≡ bytes_in self.old ++ piece.now) }
         ensures lines { OnOk result (EndLines self.old.blocks.items
@@ -78,7 +78,7 @@ impl Input {
     }
 }
 
-// How many bytes the whole lines at the front take.
+// How many bytes the whole lines at the front have.
 fn size_of_lines(bytes: &[u8]) -> usize
     ensures within { result ≤ length bytes.now }
     ensures line { (result ≡ 0) ⊎ (slice_index bytes.now (result - 1) ≡ 10) }

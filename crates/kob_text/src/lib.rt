@@ -1,4 +1,4 @@
-//! Scripts run over text: bytes of any reader in, the output into any writer.
+//! Scripts run on text: bytes from any reader, the output to any writer.
 #![tactic(auto)]
 
 mod fault;

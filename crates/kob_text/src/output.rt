@@ -21,12 +21,12 @@ pub enum Ended {
     Clean,
     /// The script has a fault, and nothing was served.
     Fault,
-    /// Lack of memory stopped the run after some of the requests.
+    /// Out of memory stopped the run after some of the requests.
     Stopped,
 }
 
-/// Runs a script in blocks of whole lines and writes its output. `Memory` comes before the first
-/// request.
+/// Runs a script in blocks of whole lines and writes its output. `Memory` is returned only before
+/// the first request.
 pub fn write_output<W: Write>(
     alloc: Global,
     writer: &mut W,

@@ -13,8 +13,8 @@ use crate::writing::WriteFailed;
 use itoa::Buffer;
 use std::io::Write;
 
-/// Puts a text behind what is held. Where there would be more than 65,536 bytes, what is held is
-/// written first, and the text too where it alone is longer. No memory is taken.
+/// Appends a text to what is held. If there would be more than 65,536 bytes, what is held is
+/// written first, and the text too if it alone is longer. Does not allocate.
 pub fn put<W: Write>(writer: &mut W, held: &mut Vec<u8>, text: &[u8]) -> Result<(), WriteFailed>
     requires piece { vec_len held.old ≤ piece_limit }
     requires room { piece_limit ≤ vec_capacity held.old }

@@ -26,7 +26,7 @@ use kob_script::{CheckedScript, Requests, print_reply};
 use std::alloc::{AllocError, Global};
 use std::io::Write;
 
-// A script opens no bindings, so that lack of memory is the only error.
+// A script opens no bindings, so that out of memory is the only error.
 fn broker_by(alloc: Global, settings: Settings) -> Result<Broker, AllocError>
     ensures { IfOk result (λ broker. (events : List event.Event)
         → replies_of retained_meaning events (state_of broker) ≡ replies_to settings events) }
@@ -37,8 +37,7 @@ fn broker_by(alloc: Global, settings: Settings) -> Result<Broker, AllocError>
     }
 }
 
-// Serves an event that is moved, and prints its reply behind its number in place of what
-// `out` held.
+// Serves an event by value, and prints its reply after its number in place of what `out` held.
 fn print_reply_to(
     alloc: Global,
     broker: &mut Broker,
@@ -56,7 +55,7 @@ fn print_reply_to(
     print_reply(out, number, &reply)
 }
 
-// Serves the next request, and prints its reply behind its number in place of what `out` held.
+// Serves the next request, and prints its reply after its number in place of what `out` held.
 fn print_next(
     alloc: Global,
     broker: &mut Broker,
@@ -76,8 +75,8 @@ fn print_next(
 }
 
 /// Serves requests and writes the replies as they are made, at most 65,536 bytes or one reply at a
-/// time. Each event is read when it is its turn and moved to the broker, and what the broker
-/// doesn't keep of it is freed before the next. Lack of memory ends the run as `Stopped`.
+/// time. Each event is read when it is its turn and moved to the broker. What the broker does not
+/// keep of it is freed before the next. Out of memory ends the run as `Stopped`.
 fn write_replies<W: Write>(
     alloc: Global,
     writer: &mut W,
@@ -105,7 +104,7 @@ fn write_replies<W: Write>(
     Ok(Ended::Clean)
 }
 
-// What is dear to drop goes by a `drop` of its own: a proof takes it apart anew at each return.
+// What is costly to drop has a `drop` of its own: otherwise a proof goes through it at each return.
 fn write_served<W: Write>(
     alloc: Global,
     writer: &mut W,
@@ -130,7 +129,7 @@ fn write_served<W: Write>(
     }
 }
 
-/// Serves a script and writes its output. `Memory` comes before the first request alone.
+/// Serves a script and writes its output. `Memory` is returned only before the first request.
 pub fn write_run<W: Write>(
     alloc: Global,
     writer: &mut W,

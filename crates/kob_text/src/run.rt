@@ -10,7 +10,7 @@ use std::alloc::Global;
 use std::io::{Read, Write};
 
 /// Reads a script to its end, runs it, and writes its output and nothing else. A script has at most
-/// 16,777,216 bytes (`TooLong` else), and a reader that has not come to its end after 20,000,000
+/// 16,777,216 bytes (otherwise `TooLong`). A reader that has not reached its end after 20,000,000
 /// calls is `ReadFailed`.
 #[tactic(auto, using(crate::proofs::Ends::not_read, crate::proofs::Ends::written, crate::proofs::Ends::not_written))]
 pub fn run_text<R: Read, W: Write>(

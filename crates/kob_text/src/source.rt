@@ -1,4 +1,4 @@
-//! A reader that is asked only so often.
+//! A reader with a limit on its calls.
 
 ghost use Rattle.std.specs.Prelude.{◌≡◌, ◌-◌, ◌<◌, ◌≤◌, length, take, OnOk, IfOk};
 ghost use Rattle.std.specs.Io.KnownBytes.{Consumes, IsAtEnd};
@@ -30,8 +30,8 @@ impl<'a, R: Read> Source<'a, R> {
         }
     }
 
-    /// The next bytes, put at the front of the piece; their number is 0 at the end of the reader. An
-    /// interrupted call is made again, while one is left.
+    /// The next bytes, put at the front of the piece; their number is 0 at the end of the reader.
+    /// An interrupted call is made again, while calls are left.
     pub fn read(&mut self, piece: &mut [u8]) -> Result<usize, ReadFailed>
         ensures calls { self.new.calls_left ≤ self.old.calls_left - 1 }
         ensures left { OnOk result (0 < self.old.calls_left) }

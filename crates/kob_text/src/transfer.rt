@@ -44,7 +44,7 @@ pub fn read_all<R: Read>(
     }
 }
 
-/// Writes all of the text. After a failure the writer has taken a prefix of it, and not all.
+/// Writes all of the text. After a failure the writer has accepted a prefix of it, and not all.
 pub fn write_all<W: Write>(writer: &mut W, text: &[u8]) -> Result<(), WriteFailed>
     ensures whole { OnOk result (Appends (W.contents writer.old) (W.contents writer.new) text.now) }
     ensures part { OnErr result

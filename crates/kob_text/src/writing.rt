@@ -5,7 +5,7 @@ ghost use Rattle.std.specs.Io.KnownBytes.{Appends, Keeps};
 
 use std::io::{ErrorKind, Write};
 
-/// A call of the writer failed, or took nothing. Only this module makes one.
+/// A call of the writer failed, or wrote nothing. Only this module makes one.
 #[derive(Clone, Copy, Debug, PartialEq, Eq)]
 pub struct WriteFailed(());
 
