@@ -1,9 +1,9 @@
-//! A chunk list at length.
+//! A long chunk list.
 
 use kob_chunks::ChunkList;
 use std::alloc::{AllocError, Global};
 
-/// Puts the numbers below a count last, in order.
+/// Appends the numbers below a count, in order.
 pub(crate) fn put_below(list: &mut ChunkList<u64>, count: u64) -> Result<(), AllocError> {
     for number in 0..count {
         list.reserve_one()?;

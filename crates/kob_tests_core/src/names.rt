@@ -1,4 +1,5 @@
-//! Names: the first rule that a text breaks, and texts in place and in blocks of their own.
+//! Names: the first rule that a text breaks, and texts that are stored inline and in allocations of
+//! their own.
 
 use kob_names::{PlainValue, Principal, PrincipalFault, Text, TopicName, TopicNameFault};
 use std::alloc::Global;
@@ -80,7 +81,7 @@ fn is_held(alloc: Global, content: &str) -> Option<bool> {
     Some(are_alike(&copied, &taken_over, content))
 }
 
-/// Whether the character so many times is held.
+/// Whether the character repeated this number of times is held.
 fn length_is_held(alloc: Global, character: &str, times: usize) -> Option<bool> {
     let content = character.repeat(alloc, times).ok()?;
     is_held(alloc, content.as_str())

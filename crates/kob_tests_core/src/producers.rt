@@ -32,8 +32,8 @@ fn accept(
     Ok(())
 }
 
-/// Whether the table, once it has accepted as many records as there are sequences below the
-/// greatest, takes the three that follow, and judges so then.
+/// Whether the table accepts as many records as there are sequences below the greatest, and then
+/// the three that follow. After them it judges as in `JUDGED`.
 fn wraps(table: &mut ProducerTable) -> Result<bool, AllocError> {
     accept(table, &batch(0, 0), LAST, 0)?;
     let follows = table.judge(&batch(0, LAST), 3) == Judgement::Next;

@@ -1,4 +1,4 @@
-//! Calls that lack of memory stops: what they leave, and that they are served when they are made
+//! Calls that run out of memory: what they leave, and that they are served when they are made
 //! again. `.ci/refuse` runs them with each allocation refused in turn.
 
 use kob_authorizer::{Authorizer, CreateFault};
@@ -10,7 +10,7 @@ use kob_partition::{AppendFault, PartitionLog};
 use kob_producers::Judgement;
 use std::alloc::{AllocError, Global};
 
-/// What `User:svc` may write to. The last is the first again.
+/// What `User:svc` may write to. The last equals the first.
 const PATTERNS: [(PatternKind, &str); 10] = [
     (PatternKind::Literal, "orders"),
     (PatternKind::Prefixed, "orders"),
@@ -32,7 +32,7 @@ pub(crate) const ALL: [Verdict; 2] = [Verdict::AllowedBy(1), Verdict::AllowedBy(
 /// Those without the two that name `orders`.
 pub(crate) const WITHOUT_TWO: [Verdict; 2] = [Verdict::AllowedBy(3), Verdict::AllowedBy(4)];
 
-/// Whoever asks, and from where.
+/// The principal and the host that ask.
 pub(crate) fn asker(alloc: Global) -> Option<(Principal, Host)> {
     let who = Principal::parse(alloc, "User:svc").ok()?;
     Some((who, Host::parse(alloc, "h").ok()?))
@@ -67,7 +67,7 @@ pub(crate) fn of_orders(alloc: Global) -> Option<BindingFilter> {
     })
 }
 
-/// Puts ten bindings, of which nine differ.
+/// Appends ten bindings, of which nine differ.
 pub(crate) fn put_bindings(alloc: Global, bindings: &mut Vec<Binding>) -> Option<()> {
     for (kind, name) in &PATTERNS {
         let binding = binding(alloc, *kind, name)?;
@@ -81,7 +81,7 @@ fn may_write(authorizer: &Authorizer, asker: &(Principal, Host), topic: &str) ->
     authorizer.authorize(who, host, Operation::Write, ResourceKind::Topic, topic)
 }
 
-/// Whether so many bindings are in force, with these verdicts.
+/// Whether `count` bindings are in force, with these verdicts.
 pub(crate) fn stands(
     authorizer: &Authorizer,
     asker: &(Principal, Host),
@@ -93,7 +93,7 @@ pub(crate) fn stands(
         && may_write(authorizer, asker, "payments") == verdicts[1]
 }
 
-/// Whether the ten get their serials. Lack of memory leaves none in force.
+/// Whether the ten get their serials. If out of memory, none is in force.
 fn gets_serials(
     alloc: Global,
     authorizer: &mut Authorizer,
@@ -114,7 +114,7 @@ fn gets_serials(
     Ok(serials.as_slice() == SERIALS)
 }
 
-/// Whether two bindings are taken away. Lack of memory leaves all in force.
+/// Whether two bindings are deleted. If out of memory, all stay in force.
 fn takes_two(
     alloc: Global,
     authorizer: &mut Authorizer,
@@ -133,7 +133,7 @@ fn takes_two(
     Ok(taken.len() == 2)
 }
 
-/// Whether the bindings come into force, and the two that name `orders` go.
+/// Whether the bindings come into force, and the two that name `orders` are deleted.
 fn come_and_go(
     alloc: Global,
     authorizer: &mut Authorizer,
@@ -159,7 +159,7 @@ fn ten_come_and_go(alloc: Global) -> Option<bool> {
     done
 }
 
-/// Where one allocation is refused outside of the calls that are looked at, all is done once more.
+/// If an allocation is refused outside of the calls that are tested, all is done once more.
 #[test]
 fn ten_bindings_come_and_go(rt: HostRuntime) {
     let done = match ten_come_and_go(rt.alloc()) {
@@ -175,7 +175,7 @@ pub(crate) const NEW: Idem = Idem {
     base: 0,
 };
 
-/// A batch of so many empty records.
+/// A batch of `count` empty records.
 pub(crate) fn batch(alloc: Global, idem: Option<Idem>, count: usize) -> Result<Batch, AllocError> {
     let mut records = Vec::new(alloc);
     for _ in 0..count {
@@ -191,8 +191,8 @@ pub(crate) fn batch(alloc: Global, idem: Option<Idem>, count: usize) -> Result<B
     })
 }
 
-/// What a log of 200 records answers to 100 records of a new producer. Lack of memory leaves the
-/// log, and the producer unknown.
+/// What a log of 200 records returns for 100 records of a new producer. If out of memory, the log
+/// is as before, and the producer unknown.
 fn appended(alloc: Global, log: &mut PartitionLog) -> Result<u64, AppendFault> {
     let appended = log.append(batch(alloc, Some(NEW), 100)?);
     if appended != Err(AppendFault::Memory) {
@@ -204,7 +204,7 @@ fn appended(alloc: Global, log: &mut PartitionLog) -> Result<u64, AppendFault> {
     log.append(batch(alloc, Some(NEW), 100)?)
 }
 
-/// Puts 200 records of no producer into a log.
+/// Appends 200 records without a producer to a log.
 pub(crate) fn put_two_hundred(alloc: Global, log: &mut PartitionLog) -> Option<()> {
     let batch = batch(alloc, None, 200).ok()?;
     log.append(batch).ok()?;

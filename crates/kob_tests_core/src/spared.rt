@@ -1,5 +1,5 @@
-//! Second steps, which take no memory: it was all taken by the first. `.ci/refuse` runs them with
-//! every allocation refused from `spare` on.
+//! Second steps, which do not allocate: the first steps made all allocations. `.ci/refuse` runs
+//! them with every allocation refused from `spare` on.
 
 use crate::chunks::put_below;
 use crate::names::copied_twice;
@@ -14,11 +14,11 @@ use kob_prefix_tree::{PatternKind, PrefixTree};
 use kob_producers::Judgement;
 use std::alloc::{AllocError, Global};
 
-/// The size of the allocation by which `.ci/refuse` knows that all that come after it are to be
-/// refused.
+/// The size of an allocation after which `.ci/refuse` refuses all others.
 const CUE: usize = 7_654_321;
 
-/// No memory is taken from here on, and where `.ci/refuse` runs the test, none is given.
+/// From here on nothing is allocated, and if `.ci/refuse` runs the test, every allocation is
+/// refused.
 pub(crate) fn spare(alloc: Global) -> bool {
     Vec::<u8>::with_capacity(alloc, CUE).is_ok()
 }
@@ -62,7 +62,7 @@ fn bindings_are_committed(rt: HostRuntime) {
     assert!(rt; creates(rt.alloc()) == Some(true));
 }
 
-/// Whether the two bindings that the filter takes are taken away.
+/// Whether the two bindings that the filter selects are deleted.
 fn commits_deletion(
     alloc: Global,
     authorizer: &mut Authorizer,
@@ -77,7 +77,7 @@ fn commits_deletion(
     Some(is_prepared && (shown, taken) == (2, 2) && stands(authorizer, asker, 7, WITHOUT_TWO))
 }
 
-/// Whether ten bindings are created, and the two that name `orders` are taken away.
+/// Whether ten bindings are created, and the two that name `orders` are deleted.
 fn creates_and_deletes(
     alloc: Global,
     authorizer: &mut Authorizer,
@@ -135,7 +135,8 @@ fn an_authorizer_is_opened(rt: HostRuntime) {
     assert!(rt; opens_with_super_user(rt.alloc()) == Some(true));
 }
 
-/// Whether a prepared batch of a new producer is put behind 200 records, and the start moved up.
+/// Whether a prepared batch of a new producer is appended after 200 records, and the start moved
+/// up.
 fn commits_batch(alloc: Global, log: &mut PartitionLog, batch: Batch) -> bool {
     let Ok(Placement::New(offset)) = log.prepare_append(&batch) else {
         return false;
@@ -165,7 +166,7 @@ fn a_batch_is_committed(rt: HostRuntime) {
     assert!(rt; done == Some(true));
 }
 
-/// Adds a serial, and puts in two that are prepared, in another order, which cuts a node in two.
+/// Adds a serial, and inserts two that are prepared, in another order, which splits a node.
 fn put_three(alloc: Global, tree: &mut PrefixTree) -> Result<(), AllocError> {
     tree.add(alloc, b"abcd", PatternKind::Prefixed, 1)?;
     let second = tree.prepare_add(alloc, b"ab", PatternKind::Prefixed, 2)?;
@@ -176,7 +177,7 @@ fn put_three(alloc: Global, tree: &mut PrefixTree) -> Result<(), AllocError> {
     Ok(())
 }
 
-/// Whether the tree has the three, and lets them go.
+/// Whether the tree has the three, and removes them.
 fn lets_three_go(tree: &mut PrefixTree) -> bool {
     let found = tree.walk(b"abcd").eq([3, 2, 1])
         && tree.listed(b"abcd", PatternKind::Prefixed).eq([1]);
@@ -195,7 +196,7 @@ fn a_tree_is_changed(rt: HostRuntime) {
     assert!(rt; is_put && is_gone);
 }
 
-/// Whether a list of 255 items takes two more and gives its first chunk back.
+/// Whether a list of 255 items takes two more and frees its first chunk.
 fn changes_list(alloc: Global, list: &mut ChunkList<u64>) -> Result<bool, AllocError> {
     put_below(list, 255)?;
     list.reserve(2)?;
@@ -217,7 +218,7 @@ fn a_list_is_changed(rt: HostRuntime) {
     assert!(rt; done == Ok(true));
 }
 
-/// Whether copies of copies of texts of at most 30 bytes hold them, without memory.
+/// Whether copies of copies of texts of at most 30 bytes hold them, without an allocation.
 fn short_copies_hold(alloc: Global) -> bool {
     spare(alloc);
     for content in ["abcdefghijklmnopqrstuvwxyz0123", "ééééééééééééééé", ""] {

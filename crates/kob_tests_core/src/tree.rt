@@ -1,5 +1,5 @@
-//! The prefix tree: nodes that are cut at each byte, many serials, a key that is longer than any
-//! stack of calls is deep, and lack of memory.
+//! The prefix tree: nodes that are split at each byte, many serials, a key that is longer than any
+//! stack of calls is deep, and out of memory.
 
 use kob_prefix_tree::{PatternKind, PrefixTree};
 use std::alloc::{AllocError, Global};
@@ -7,7 +7,7 @@ use std::alloc::{AllocError, Global};
 /// More bytes than two nodes hold.
 const LONG: &[u8] = b"abcdefghijklmnopqrstuvwxyzABCDEFGHIJKLMNOPQRSTUVWXYZ";
 
-/// Puts a serial on each beginning of the long key, the longest first, so that each cuts a node.
+/// Puts a serial on each prefix of the long key, the longest first, so that each splits a node.
 fn put_beginnings(alloc: Global, tree: &mut PrefixTree) -> Result<(), AllocError> {
     for length in (0..=LONG.len()).rev() {
         let key = &LONG[..length];
@@ -17,7 +17,7 @@ fn put_beginnings(alloc: Global, tree: &mut PrefixTree) -> Result<(), AllocError
     Ok(())
 }
 
-/// Whether each beginning comes out once, the shortest one first, and the longer ones stay.
+/// Whether each prefix is removed once, the shortest one first, and the longer ones stay.
 fn lets_beginnings_go(tree: &mut PrefixTree) -> bool {
     for length in 0..=LONG.len() {
         let key = &LONG[..length];
@@ -31,7 +31,7 @@ fn lets_beginnings_go(tree: &mut PrefixTree) -> bool {
     tree.levels(LONG) == 1
 }
 
-/// Whether a serial on each beginning of the long key is put and comes out again.
+/// Whether a serial on each prefix of the long key is added and removed again.
 fn begins_and_ends(alloc: Global, tree: &mut PrefixTree) -> bool {
     put_beginnings(alloc, tree).is_ok()
         && tree.walk(LONG).eq(0..53)
@@ -47,7 +47,7 @@ fn keys_end_at_each_byte_of_a_node(rt: HostRuntime) {
     assert!(rt; done);
 }
 
-/// Whether a hundred thousand serials on one key, put last one by one, are there.
+/// Whether a hundred thousand serials on one key, appended one by one, are there.
 fn puts_many(alloc: Global, tree: &mut PrefixTree) -> bool {
     for serial in 0..100_000u64 {
         if tree
@@ -77,7 +77,7 @@ fn put_three(alloc: Global, tree: &mut PrefixTree, key: &[u8]) -> Result<(), All
     Ok(())
 }
 
-/// Whether the tree has the three and lets them go.
+/// Whether the tree has the three and removes them.
 fn lets_three_go(tree: &mut PrefixTree, key: &[u8]) -> bool {
     tree.literal(key).eq(1..4)
         && tree.levels(key) == 1_000_001
@@ -101,7 +101,7 @@ fn a_key_of_a_million_bytes_comes_and_goes(rt: HostRuntime) {
     assert!(rt; comes_and_goes(rt.alloc()) == Some(true));
 }
 
-/// Three additions, of which the last cuts a node in two, and which of them were made.
+/// Three additions, of which the last splits a node, and which of them were made.
 fn adds(alloc: Global, tree: &mut PrefixTree) -> [bool; 3] {
     let first = tree.add(alloc, b"ab", PatternKind::Prefixed, 1).is_ok();
     let second = tree.add(alloc, b"abcd", PatternKind::Prefixed, 2).is_ok();
@@ -123,8 +123,8 @@ fn holds(tree: &PrefixTree, [first, second, third]: [bool; 3]) -> bool {
     walked == expected && has_third == third && (tree.levels(b"abcd") == 5) == second
 }
 
-/// Wherever memory was refused, the tree is as it was before that addition; run with each allocation
-/// refused in turn.
+/// Wherever an allocation was refused, the tree is as it was before that addition; run with each
+/// allocation refused in turn.
 #[test]
 fn refused_addition_leaves_the_tree(rt: HostRuntime) {
     let mut tree = PrefixTree::new();

@@ -6,7 +6,7 @@ use kob_rights::{Body, Event, Reply};
 use kob_script::{Script, read_script};
 use std::alloc::Global;
 
-/// Lines of which some words are not read, in another order than that of their options, and the
+/// Lines of which some words are not valid, in another order than that of their options, and the
 /// first of these.
 const MISREAD: [(&str, &str); 7] = [
     (
@@ -58,7 +58,7 @@ fn last_reply(alloc: Global, script: &str) -> Option<Reply> {
     reply_to_last(alloc, settings, events.as_slice())
 }
 
-/// Whether the bindings of a reply print so.
+/// Whether the bindings of a reply are printed as these lines.
 fn prints(alloc: Global, reply: &Reply, lines: &str) -> Option<bool> {
     let Reply::Done(Body::Bindings(found)) = reply else {
         return None;

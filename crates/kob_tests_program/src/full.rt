@@ -1,10 +1,10 @@
-//! Scripts that fill a broker to its limits: each asks for one thing more than there may be, and
-//! then for one that is possible.
+//! Scripts that fill a broker to its limits: each asks for one thing more than the limit, and then
+//! for one that is possible.
 
 use kob_text::run_text;
 use std::alloc::{AllocError, Global};
 
-/// Puts down a line for each number up to the limit, the number between two pieces, and the last
+/// Appends a line for each number up to the limit, the number between two pieces, and the last
 /// lines.
 fn put_lines(
     alloc: Global,
@@ -23,7 +23,7 @@ fn put_lines(
     script.push_str(last)
 }
 
-/// Whether what is written for these lines ends so.
+/// Whether the output for these lines ends with this text.
 fn ends_with(alloc: Global, limit: u32, line: (&str, &str), last: &str, end: &str) -> bool {
     let (mut script, mut written) = (String::new(alloc), Vec::new(alloc));
     let is_put = put_lines(alloc, &mut script, limit, line, last).is_ok();

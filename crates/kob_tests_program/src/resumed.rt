@@ -1,4 +1,4 @@
-//! A script on a broker that goes on where lack of memory stopped it. `.ci/refuse` runs it with each
+//! A script on a broker that goes on after it ran out of memory. `.ci/refuse` runs it with each
 //! allocation refused in turn.
 
 use kob_broker::{Broker, Settings, Stopped};
@@ -14,7 +14,7 @@ fn print(text: &mut Vec<u8>, first: u64, replies: &[Reply]) -> Option<()> {
     Some(())
 }
 
-/// Prints the replies to all events: where memory stops the run, a second one goes on from there.
+/// Prints the replies to all events: if a run is out of memory, a second one goes on from there.
 fn plays(alloc: Global, broker: &mut Broker, events: &[Event], text: &mut Vec<u8>) -> Option<()> {
     let Stopped { done, replies } = match broker.run(alloc, events) {
         Ok(replies) => return print(text, 1, &replies),
@@ -44,7 +44,7 @@ fn plays_script(alloc: Global, script: &str, text: &mut Vec<u8>) -> Option<()> {
     plays_all(alloc, settings, events.as_slice(), text)
 }
 
-/// Whether that is printed for the replies to a script's events.
+/// Whether this is printed for the replies to a script's events.
 fn prints(alloc: Global, script: &str, expected: &str) -> Option<bool> {
     let mut text = Vec::new(alloc);
     let played = plays_script(alloc, script, &mut text);
@@ -54,8 +54,8 @@ fn prints(alloc: Global, script: &str, expected: &str) -> Option<bool> {
     Some(is_expected)
 }
 
-// One creation of ten bindings, a batch of a new producer across the edge of a chunk, changes of
-// every kind, and requests that show what is there.
+// One creation of ten bindings, a batch of a new producer across the edge of a chunk, and changes
+// of every kind. Then requests that show what is there.
 const CHANGES: &str = "super User:root
 User:root h create-topic t 1
 User:root h acl --add --allow-principal User:a --topic t --topic u --operation Read \
@@ -106,7 +106,7 @@ binding 6 ALLOW User:a * Read Topic LITERAL u
 18 ok topics
 ";
 
-/// Where lack of memory stops more than a run, all is done once more.
+/// If anything but a run is out of memory, all is done once more.
 #[test]
 fn changes_go_on(rt: HostRuntime) {
     let done = match prints(rt.alloc(), CHANGES, CHANGED) {

@@ -1,12 +1,13 @@
-//! Whole runs by readers and writers that give or take little, interrupt, and fail once.
+//! Whole runs by readers and writers that read or write little, interrupt, and fail once.
 
 use kob_text::{Ended, RunFault, SCRIPT_LIMIT, run_text};
 use std::alloc::{AllocError, Global};
 use std::io;
 use std::io::{Error, ErrorKind, Read, Write};
 
-/// Reads or writes at most so many bytes a call, and interrupts every other call. The call after so
-/// many that were not interrupted fails, and no other. It keeps the most bytes that it was given.
+/// Reads or writes at most `width` bytes a call, and interrupts every other call. After `calls`
+/// calls that were not interrupted the next one fails, and no other. `widest` is the most bytes
+/// that a call was passed.
 #[derive(Drop)]
 struct Shaken<T> {
     inner: T,
@@ -82,7 +83,7 @@ const OUTPUT: &str = "1 ok created
 6 denied 29 TOPIC_AUTHORIZATION_FAILED no-allow
 ";
 
-/// How a script ends, and whether that is written.
+/// How a script ends, and whether this is written.
 fn play<R: Read + Drop>(
     alloc: Global,
     reader: R,
@@ -104,8 +105,8 @@ fn each_prefix_ends(rt: HostRuntime) {
     }
 }
 
-/// Whether a reader whose call after so many fails leaves nothing written, and one that is asked
-/// for each byte and the end before that plays the script.
+/// Whether a reader that fails after this number of calls leaves nothing written, and one that
+/// reaches the end before that plays the script.
 fn reads(alloc: Global, calls: usize) -> bool {
     let (ended, output) = if calls <= SCRIPT.len() {
         (Err(RunFault::ReadFailed), "")
@@ -135,7 +136,7 @@ fn calls_of_a_reader_have_a_limit(rt: HostRuntime) {
     assert!(rt; (ended, left) == (Err(RunFault::ReadFailed), (10_000_000, 0)));
 }
 
-/// Whether a comment of so many bytes ends so, and nothing is written.
+/// Whether a comment of this number of bytes ends so, and nothing is written.
 fn comment_ends(alloc: Global, bytes: usize, ended: Result<Ended, RunFault>) -> bool {
     play(alloc, io::repeat(b'#').take(bytes as u64), b"") == (ended, true)
 }
@@ -152,7 +153,7 @@ fn put_producing(script: &mut Vec<u8>, value: &[u8]) -> Result<(), AllocError> {
     script.extend_from_slice(value)
 }
 
-/// Whether that is written for a record of so many bytes.
+/// Whether this is written for a record of this number of bytes.
 fn batch_writes(alloc: Global, bytes: usize, output: &str) -> Option<bool> {
     let value = vec![in alloc; b'v'; bytes].ok()?;
     let mut script = Vec::new(alloc);
@@ -170,7 +171,7 @@ fn batches_have_a_limit(rt: HostRuntime) {
     assert!(rt; batch_writes(rt.alloc(), 2_097_153, output) == Some(true));
 }
 
-/// A writer that takes so many calls of so many bytes has their bytes of the output, and the run
+/// A writer that accepts `calls` calls of `width` bytes has their bytes of the output, and the run
 /// fails unless they are all.
 fn leaves_a_front(alloc: Global, width: usize, calls: usize) -> bool {
     let output = OUTPUT.as_bytes();
@@ -194,7 +195,7 @@ fn failed_writes_leave_a_front(rt: HostRuntime) {
     }
 }
 
-/// Puts down a reply, which ends with a value.
+/// Appends a reply, which ends with a value.
 fn put_reply(
     alloc: Global,
     output: &mut Vec<u8>,
@@ -210,7 +211,8 @@ fn put_reply(
     output.extend_from_slice(b"\n")
 }
 
-/// Asks for a short reply, or twice for one that is longer than a piece, and puts down the reply.
+/// Appends a request and its reply. Two of the numbers request a reply that is longer than a piece,
+/// all others a short one.
 fn ask(
     alloc: Global,
     (script, output): (&mut Vec<u8>, &mut Vec<u8>),
@@ -226,7 +228,7 @@ fn ask(
     }
 }
 
-/// Puts down a script of 10,000 short requests, between which a record of this value is fetched
+/// Appends a script of 10,000 short requests, between which a record of this value is fetched
 /// twice, and its output.
 fn put_requests(
     alloc: Global,
@@ -241,12 +243,12 @@ fn put_requests(
     Ok(())
 }
 
-// 65,536 bytes of short replies; those before the first long reply; that one; the second one; 65,536
-// bytes of short replies; the rest.
+// The pieces: 65,536 bytes of short replies; those before the first long reply; that one; the
+// second one; 65,536 bytes of short replies; the rest.
 const PIECES: usize = 6;
 
-/// A writer that takes so many calls has a front of the output, and the run fails unless it takes
-/// each piece; at once it is given no more than a piece or one reply.
+/// A writer that accepts `calls` calls has a prefix of the output, and the run fails unless it
+/// accepts each piece. It is passed at most one piece or one reply at once.
 fn takes_pieces(alloc: Global, script: &[u8], output: &[u8], calls: usize) -> bool {
     let mut writer = Shaken::new(Vec::new(alloc), output.len(), calls);
     let ended = run_text(alloc, &mut &*script, &mut writer);

@@ -1,16 +1,16 @@
-//! Changes that are committed without memory. `.ci/refuse` runs them with every allocation refused
-//! from `spare` on.
+//! Changes that are committed without allocations. `.ci/refuse` runs them with every allocation
+//! refused from `spare` on.
 
 use kob_broker::{Broker, Settings};
 use kob_rights::{Event, Reply};
 use kob_script::{Script, read_script};
 use std::alloc::Global;
 
-/// The size of the allocation by which `.ci/refuse` knows that all that come after it are to be
-/// refused.
+/// The size of an allocation after which `.ci/refuse` refuses all others.
 const CUE: usize = 7_654_321;
 
-/// No memory is taken from here on, and where `.ci/refuse` runs the test, none is given.
+/// From here on nothing is allocated, and if `.ci/refuse` runs the test, every allocation is
+/// refused.
 fn spare(alloc: Global) -> bool {
     Vec::<u8>::with_capacity(alloc, CUE).is_ok()
 }

@@ -1,12 +1,12 @@
-//! Topics that are created and refused, and out of memory. `.ci/refuse` runs it with each allocation
-//! refused in turn.
+//! Topics that are created and refused, and out of memory. `.ci/refuse` runs it with each
+//! allocation refused in turn.
 
 use kob_catalog::{Catalog, CreateFault};
 use kob_names::{Text, TopicName};
 use std::alloc::Global;
 use std::test::Fail;
 
-/// A topic, the number of its partitions, and what its creation is answered.
+/// A topic, the number of its partitions, and the result of its creation.
 type Row = (&'static str, u64, Result<(), CreateFault>);
 
 const ROWS: [Row; 8] = [
@@ -33,7 +33,7 @@ pub(crate) fn create(
     catalog.create(alloc, name, partitions)
 }
 
-/// Whether a creation is answered so. Lack of memory leaves the topics.
+/// Whether a creation has this result. If out of memory, the topics are unchanged.
 fn creates(alloc: Global, catalog: &mut Catalog, text: &Text, row: &Row) -> bool {
     let (name, partitions, expected) = row;
     let before = (catalog.len(), catalog.partitions(text));

@@ -1,5 +1,5 @@
-//! Commits of groups that lack of memory stops, which `.ci/refuse` runs with each allocation refused
-//! in turn, and groups that come and go.
+//! Commits of groups that run out of memory, which `.ci/refuse` runs with each allocation refused
+//! in turn, and groups that are created and deleted.
 
 use kob_groups::{CommitFault, Groups};
 use kob_names::Text;
@@ -69,7 +69,7 @@ pub(crate) fn holds(alloc: Global, groups: &Groups, offsets: &Offsets) -> bool {
     true
 }
 
-/// Whether an offset is committed. Lack of memory leaves what was committed before.
+/// Whether an offset is committed. If out of memory, the commits are as before.
 fn commits(
     alloc: Global,
     groups: &mut Groups,
@@ -116,7 +116,7 @@ pub(crate) fn numbered(alloc: Global, number: usize) -> Option<Text> {
     Some(Text::from_string(name))
 }
 
-/// A group that commits on a topic and goes again.
+/// A group that commits on a topic and is deleted again.
 fn comes_and_goes(alloc: Global, groups: &mut Groups, group: &Text, topic: &Text) -> bool {
     groups.commit(alloc, group, topic, 0, 1) == Ok(())
         && groups.fetch(group, topic, 0) == Some(1)
@@ -136,7 +136,7 @@ fn many_come_and_go(alloc: Global, groups: &mut Groups) -> Option<bool> {
     Some(count_of(alloc, groups) == Ok(0))
 }
 
-/// However many groups come and go on a topic, none is left behind.
+/// However many groups are created and deleted on a topic, none remains.
 #[test]
 fn a_hundred_thousand_groups_come_and_go(rt: HostRuntime) {
     let mut groups = Groups::new(rt.alloc());

@@ -1,4 +1,4 @@
-//! Calls on groups that take no memory. `.ci/refuse` runs them with every allocation refused from
+//! Calls on groups that do not allocate. `.ci/refuse` runs them with every allocation refused from
 //! `spare` on.
 
 use crate::groups::{STEPS, commit, holds, numbered, texts};
@@ -6,16 +6,16 @@ use kob_groups::{CommitFault, GROUP_LIMIT, Groups};
 use kob_names::Text;
 use std::alloc::Global;
 
-/// The size of the allocation by which `.ci/refuse` knows that all that come after it are to be
-/// refused.
+/// The size of an allocation after which `.ci/refuse` refuses all others.
 const CUE: usize = 7_654_321;
 
-/// No memory is taken from here on, and where `.ci/refuse` runs the test, none is given.
+/// From here on nothing is allocated, and if `.ci/refuse` runs the test, every allocation is
+/// refused.
 pub(crate) fn spare(alloc: Global) -> bool {
     Vec::<u8>::with_capacity(alloc, CUE).is_ok()
 }
 
-/// Commits what so many steps commit.
+/// Commits what the first `count` steps commit.
 fn commit_steps(alloc: Global, groups: &mut Groups, count: usize) -> Option<()> {
     for step in 0..count {
         let (place, offset, _) = STEPS.get(step)?;
@@ -75,7 +75,7 @@ fn a_commit_takes_the_place_of_another(rt: HostRuntime) {
     assert!(rt; commits_step(rt.alloc(), 4));
 }
 
-/// A text whose copies take memory.
+/// A text whose copies allocate.
 pub(crate) const LONG: &str = "longer-than-the-texts-that-stand-in-place";
 
 /// Commits for as many groups as there may be.
@@ -90,7 +90,7 @@ fn fill(alloc: Global, groups: &mut Groups) -> Option<()> {
     Some(())
 }
 
-/// Whether a group more than there may be is refused by the rule.
+/// Whether one group more than the limit is refused by the rule.
 fn refuses_one_more(alloc: Global, groups: &mut Groups) -> Option<bool> {
     fill(alloc, groups)?;
     let name = Text::copied(alloc, LONG).ok()?;

@@ -1,4 +1,4 @@
-//! Calls on topics and their partitions that take no memory. `.ci/refuse` runs them with every
+//! Calls on topics and their partitions that do not allocate. `.ci/refuse` runs them with every
 //! allocation refused from `spare` on.
 
 use crate::catalog::create;
@@ -14,7 +14,7 @@ fn create_two(alloc: Global, catalog: &mut Catalog) -> Result<(), CreateFault> {
     create(alloc, catalog, "b", 300)
 }
 
-/// Whether a third topic is put last.
+/// Whether a third topic is appended.
 fn third_comes(alloc: Global, catalog: &mut Catalog) -> Option<bool> {
     create_two(alloc, catalog).ok()?;
     let name = TopicName::parse(alloc, "c").ok()?;
@@ -79,7 +79,7 @@ fn batch(alloc: Global) -> Result<Batch, AllocError> {
     })
 }
 
-/// Puts a prepared batch last in the last partition of the topic `b`, and answers where.
+/// Appends a prepared batch to the last partition of the topic `b`, and returns where.
 fn appends(alloc: Global, catalog: &mut Catalog, name: &Text, batch: Batch) -> Option<Placement> {
     let Ok(log) = catalog.partition_mut(name, 299) else {
         drop(batch);
@@ -94,7 +94,7 @@ fn appends(alloc: Global, catalog: &mut Catalog, name: &Text, batch: Batch) -> O
     Some(Placement::New(offset))
 }
 
-/// Moves the start of a partition up to an offset, where it has come so far.
+/// Moves the start of a partition up to an offset, unless that is above its end.
 fn advance_to(catalog: &mut Catalog, name: &Text, offset: u64) -> Option<(u64, u64)> {
     let Ok(log) = catalog.partition(name, 299) else {
         return None;
@@ -109,7 +109,8 @@ fn advance_to(catalog: &mut Catalog, name: &Text, offset: u64) -> Option<(u64, u
     Some((log.start(), log.end()))
 }
 
-/// Whether a batch of one record is put into a partition alone, and its start moved up behind it.
+/// Whether a batch of one record is appended to one partition alone, and its start moved up after
+/// it.
 fn writes_and_advances(alloc: Global, catalog: &mut Catalog) -> Option<bool> {
     create_two(alloc, catalog).ok()?;
     let name = Text::copied(alloc, "b").ok()?;
