@@ -11,7 +11,7 @@ use thiserror::Error;
 /// Why words are not valid options.
 #[derive(Clone, Copy, Debug, PartialEq, Eq, Error)]
 pub enum LineFault {
-    #[error("these words aren't options of the command")]
+    #[error("unknown or malformed options")]
     Usage,
     #[error("out of memory")]
     Memory,
@@ -23,7 +23,7 @@ pub enum LineFault {
 pub enum CommandFault {
     #[error("exactly one of --add, --remove and --list is required")]
     NoAction,
-    #[error("this word is not a principal, host, operation or pattern type")]
+    #[error("invalid principal, host, operation or pattern type")]
     BadName(Text),
     #[error("these options may not be used together")]
     BadMix,

@@ -11,7 +11,7 @@ pub enum CreateFault {
     TooMany,
     /// A new binding's serial would not be below [`SERIAL_LIMIT`](crate::SERIAL_LIMIT), and there
     /// would not be too many bindings.
-    #[error("the serials are spent")]
+    #[error("no serials are left")]
     SerialsSpent,
     /// Out of memory. The limits may be exceeded as well: the new bindings are copied before they
     /// are counted.

@@ -16,7 +16,7 @@ use thiserror::Error;
 
 /// No group has the name.
 #[derive(Clone, Copy, Debug, PartialEq, Eq, Error)]
-#[error("no group has the name")]
+#[error("unknown group")]
 pub struct GroupNotFound;
 
 /// The groups in order of their first commit, and the offsets that they committed. A group remains

@@ -9,7 +9,7 @@ pub enum InboxFault {
     #[error("out of memory")]
     Memory,
     /// The database failed for another cause than out of memory, or all places are used.
-    #[error("the database refused")]
+    #[error("the database failed")]
     Store,
 }
 

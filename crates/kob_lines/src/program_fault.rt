@@ -17,21 +17,21 @@ pub enum ProgramFault {
     #[error("out of memory")]
     Memory,
     /// A text is not a valid principal, host, route or other value.
-    #[error("a text is not as it has to be")]
+    #[error("invalid text")]
     BadText,
     /// There are too many opening bindings, or the program found a fault before it began.
-    #[error("the work cannot begin")]
+    #[error("the work could not be started")]
     NotBegun,
     /// A text of the event is too long or has a zero byte, or its id was recorded before.
     #[error("an event cannot be recorded")]
     NotRecorded,
-    #[error("a database refused")]
+    #[error("a database failed")]
     Store,
     /// The journal is full.
     #[error("a request was not served")]
     NotServed,
     /// The program found a fault after it began: no fault converts to it.
-    #[error("the work did not come to its end")]
+    #[error("the work was not finished")]
     Stopped,
     #[error("the output could not be written")]
     WriteFailed,

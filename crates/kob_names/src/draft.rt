@@ -27,9 +27,9 @@ pub struct Draft {
 /// Why a draft is not a valid binding.
 #[derive(Clone, Copy, Debug, PartialEq, Eq, Error)]
 pub enum BindingFault {
-    #[error("the pattern has no name")]
+    #[error("the pattern's name is empty")]
     EmptyName,
-    #[error("the cluster is named kafka-cluster")]
+    #[error("a binding on the cluster must be named kafka-cluster")]
     BadCluster,
     #[error("the pattern's name is too long")]
     TooLong,

@@ -38,7 +38,7 @@ pub enum PrincipalFault {
     NoColon,
     #[error("the principal's kind is not User")]
     NotUser,
-    #[error("the principal has no name")]
+    #[error("the principal's name is empty")]
     Empty,
     #[error("the principal's name is too long")]
     TooLong,

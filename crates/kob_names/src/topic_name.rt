@@ -41,7 +41,7 @@ pub enum TopicNameFault {
     Dots,
     #[error("the topic name is too long")]
     TooLong,
-    #[error("the topic name has a bad byte at {0}")]
+    #[error("the topic name has an invalid byte at {0}")]
     BadByte(usize),
     #[error("out of memory")]
     Memory,
@@ -54,7 +54,12 @@ impl TopicName {
     pub fn parse(alloc: Global, text: &str) -> Result<TopicName, TopicNameFault>
         ensures { OkUnlessFault (topic_fault text.now) TopicNameFault.Memory text.now result }
     {
-        let text = checked_copy(alloc, text, fault_of(text), TopicNameFault::Memory)?;
+        let text = checked_copy(
+            alloc,
+            text,
+            TopicNameFault::of(text),
+            TopicNameFault::Memory,
+        )?;
         Ok(TopicName { text })
     }
 
@@ -81,6 +86,23 @@ impl TopicName {
     }
 }
 
+impl TopicNameFault {
+    /// The first rule of topic names that the text breaks, if it breaks one. Does not allocate.
+    pub fn of(text: &str) -> Option<TopicNameFault>
+        ensures { result ≡ topic_fault text.now }
+    {
+        if text.is_empty() {
+            Some(TopicNameFault::Empty)
+        } else if text == "." || text == ".." {
+            Some(TopicNameFault::Dots)
+        } else if text.len() > TOPIC_NAME_LIMIT {
+            Some(TopicNameFault::TooLong)
+        } else {
+            bad_byte(text).map(TopicNameFault::BadByte)
+        }
+    }
+}
+
 impl PlainValue for TopicName {
     fn copy(&self, alloc: Global) -> Result<Self, AllocError> {
         let text = self.text.copy(alloc)?;
@@ -89,20 +111,6 @@ impl PlainValue for TopicName {
 
     fn same(&self, other: &Self) -> bool {
         self.text.same(&other.text)
-    }
-}
-
-fn fault_of(text: &str) -> Option<TopicNameFault>
-    ensures { result ≡ topic_fault text.now }
-{
-    if text.is_empty() {
-        Some(TopicNameFault::Empty)
-    } else if text == "." || text == ".." {
-        Some(TopicNameFault::Dots)
-    } else if text.len() > TOPIC_NAME_LIMIT {
-        Some(TopicNameFault::TooLong)
-    } else {
-        bad_byte(text).map(TopicNameFault::BadByte)
     }
 }
 

@@ -10,7 +10,7 @@ pub enum OutboxFault {
     #[error("out of memory")]
     Memory,
     /// The database failed for another cause than out of memory.
-    #[error("the database refused")]
+    #[error("the database failed")]
     Store,
 }
 
@@ -26,7 +26,7 @@ pub enum RecordFault {
     #[error("out of memory")]
     Memory,
     /// The database failed for another cause than out of memory, or all numbers are used.
-    #[error("the database refused")]
+    #[error("the database failed")]
     Store,
 }
 
@@ -34,7 +34,7 @@ pub enum RecordFault {
 #[derive(Clone, Copy, Debug, PartialEq, Eq, Fault)]
 pub enum MarkFault {
     /// The number is less than the mark.
-    #[error("the mark does not move backwards")]
+    #[error("the mark cannot move backwards")]
     Backwards,
     /// The number is greater than the last one that was used.
     #[error("no event has this number yet")]
@@ -42,7 +42,7 @@ pub enum MarkFault {
     #[error("out of memory")]
     Memory,
     /// The database failed for another cause than out of memory.
-    #[error("the database refused")]
+    #[error("the database failed")]
     Store,
 }
 

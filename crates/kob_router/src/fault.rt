@@ -9,7 +9,7 @@ use thiserror::Error;
 pub enum RouteFault {
     #[error("the replacement is empty, or has a `$` that does not begin `${{routedByValue}}`")]
     BadTemplate,
-    #[error("the placement is not made of up to 16 entries `column:header:alias`")]
+    #[error("invalid placement: at most 16 entries `column:header:alias` are allowed")]
     BadPlacement,
     #[error("out of memory")]
     Memory,
@@ -18,7 +18,7 @@ pub enum RouteFault {
 /// Why no record can be made of a row.
 #[derive(Clone, Copy, Debug, PartialEq, Eq, Error)]
 pub enum RecordFault {
-    #[error("the name that the route makes is not a topic name")]
+    #[error("the route makes an invalid topic name")]
     BadTopic,
     #[error("out of memory")]
     Memory,

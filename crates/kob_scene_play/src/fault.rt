@@ -20,7 +20,7 @@ pub enum PlayFault {
     #[error("the journal is full")]
     JournalFull,
     /// A database refused for another cause than lack of memory.
-    #[error("a database refused")]
+    #[error("a database failed")]
     Store,
     /// The scene has no worker at the place that a step names.
     #[error("a step names no worker of the scene")]
