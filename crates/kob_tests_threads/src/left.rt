@@ -7,7 +7,7 @@ use crate::plans::FIRST_EVENTS;
 use kob_broker::Broker;
 use kob_inbox::InboxRow;
 use kob_names::{Record, Verdict};
-use kob_pipeline::{PipelineEnd, Plan, consumer_law, pipeline_law, router_law};
+use kob_pipeline::{PipelineEnd, Plan, consumer_law, first_breach, pipeline_law, router_law};
 use kob_rights::{Body, Code, Reply};
 use kob_router::event_id;
 use std::alloc::Global;
@@ -28,6 +28,18 @@ pub(crate) struct Due<'t> {
     pub(crate) commit: Option<u64>,
     /// Whether the last reply to worker 2 denies its right to the group.
     pub(crate) denied: bool,
+}
+
+/// Whether the journal breaks no premise of the law of delivery, for the service and each consumer.
+pub(crate) fn breaks_no_premise(plan: &Plan, end: &PipelineEnd) -> bool {
+    for (k, consumer) in plan.consumers.iter().enumerate() {
+        let reads = &consumer.subscription;
+        let assignment = reads.assignment.as_slice();
+        if first_breach(&end.journal, 1, k + 2, &reads.group, assignment).is_some() {
+            return false;
+        }
+    }
+    true
 }
 
 /// Calls the laws. What they say is proved; the call shows that a pipeline's end is one of which

@@ -4,7 +4,7 @@ ghost use Rattle.std.specs.Prelude.{IfOk, IfSome};
 ghost use Rattle.kob_pipeline.specs.Pipelines.{IsPipeline};
 
 use crate::gates::{Hold, Holding, Open};
-use crate::left::{Due, call_laws, is_due};
+use crate::left::{Due, breaks_no_premise, call_laws, is_due};
 use crate::plans::{Act, Cast, plan, sweeping};
 use kob_pipeline::{ConsumerStep, Loss, PipelineEnd, PipelineFault, Plan, pipeline};
 use kob_shared::Gate;
@@ -31,8 +31,8 @@ pub(crate) fn run<R: Threads + Wait + Sync, G: Gate + Sync>(
     Some(pipeline(rt, alloc, plan, gate))
 }
 
-/// What a plan leaves, of which the laws speak. None where there is a fault, or a hold was given
-/// up.
+/// What a plan leaves, to which the laws apply. None if there is a fault or a breach, or a hold was
+/// given up.
 fn play<R: Threads + Wait + Sync>(
     rt: &R,
     alloc: Global,
@@ -44,8 +44,9 @@ fn play<R: Threads + Wait + Sync>(
         drop(ran);
         return None;
     };
+    let applies = breaks_no_premise(plan, &end);
     call_laws(plan, &end);
-    if gate.gave_up() {
+    if gate.gave_up() || !applies {
         drop(end);
         return None;
     }
