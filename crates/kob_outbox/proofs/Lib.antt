@@ -13,4 +13,5 @@ pub mod States
 pub mod Sweeping
 pub mod Texts
 pub mod Upserting
+mod ZeroBytes
 pub mod statements

@@ -5,6 +5,7 @@ ghost use Rattle.kob_outbox.specs.Fields.{first_bad, fits as fits_in};
 
 use crate::change::Change;
 use crate::event::OutboxEvent;
+use memchr::memchr;
 
 /// A column whose text a service chooses: the first three are of the business row, the others of
 /// the outbox.
@@ -28,7 +29,7 @@ pub const TEXT_BYTES_LIMIT: usize = 1_048_576;
 fn fits(most: usize, text: &str) -> bool
     ensures { result ≡ fits_in most text.now }
 {
-    text.len() <= most && !text.as_bytes().contains(&0)
+    text.len() <= most && memchr(0, text.as_bytes()).is_none()
 }
 
 /// The first column whose text is too long or has a zero byte.

@@ -1,0 +1,24 @@
+-- A search for a zero byte says whether a text has one.
+use Rattle.std.proofs.Common.{◌≡◌, ◌==◌, ◌||◌, ℕ, suc, arith, length, List, [], ◌∷◌, Option, Some, None, Bool, true, false, not, refl, ap, sym}
+use Rattle.std.specs.List.{list_any}
+use Rattle.std.specs.Option.{is_none}
+use Rattle.std.proofs.lemmas.List.Folds.{list_any_at}
+use Rattle.memchr.specs.Find.{is_byte, IsFirstByte, Nowhere, Passes}
+
+abbrev is_zero : ℕ → Bool
+is_zero byte = byte == 0
+
+none_is_zero : (text : List ℕ) → Nowhere (Passes (is_byte 0) text) 0 (length text) → list_any is_zero text ≡ false
+none_is_zero [] nowhere = refl
+none_is_zero (byte ∷ rest) nowhere =
+    by (byte == 0) (nowhere 0 (omega arith) (omega arith))
+    (none_is_zero rest (λ k low below. nowhere (suc k) (omega arith) (omega (arith, below))))
+  where
+    by : (first : Bool) → (first ≡ true → ⊥) → list_any is_zero rest ≡ false → (first || list_any is_zero rest) ≡ false
+    by true never after = absurd (never refl)
+    by false never after = after
+
+pub zero_byte_found : (text : List ℕ) (found : Option ℕ) → IsFirstByte (is_byte 0) text found
+    → is_none found ≡ not (list_any is_zero text)
+zero_byte_found text None nowhere = sym (ap not (none_is_zero text nowhere))
+zero_byte_found text (Some k) first = sym (ap not (list_any_at is_zero text k 0 first.0.high first.1))
