@@ -45,16 +45,16 @@ SOURCES = {
 NEEDS = "kob_names kob_rights kob_broker kob_outbox kob_router kob_inbox"
 STAGES = ("record", "tick", "intake", "sweep")
 SERVICES, CONSUMERS, SESSIONS, RUNS = 4, 2, (1, 2, 4, 8, 16), 5
-# Where a pipeline keeps an event, by the function that allocated it: the first that fits.
+# Where a pipeline keeps an event, by the functions on the way to an allocation, the innermost first: the first that fits.
 PLACES = {
-    "plan": "threads::(put_event|service|plan|main)",
-    "notes": "kob_shared::desk::",
-    "journal": "kob_shared::(kept|journal|recorded)::|RecordedX",
-    "calls": "kob_lines::calls::",
-    "reply": "kob_pipeline::line::",
-    "log": "kob_broker::|kob_partition::",
-    "inbox": "kob_inbox::",
-    "outbox, spent ids": "kob_outbox::",
+    "plan": "threads::plan",
+    "inbox": "sqlite.*consumer_worker",
+    "outbox and spent ids": "sqlite.*ServiceWorker",
+    "log": "(Produce|Chunk).*kob_broker.*Kept::serve",
+    "journal": "Reply.*Kept::serve|Sender::tick|kob_chunks.*Kept::serve",
+    "notes": "Kept::serve|Desk::call",
+    "calls": "DeskLine",
+    "rows read at the end": "kob_outbox::reads|kob_inbox::reads|leave",
 }
 
 
@@ -199,8 +199,8 @@ def places(program, n, size):
         depth, below, held, name = re.match(r"( *)n(\d+): (\d+) (.*)", line).groups()
         way[len(depth):] = [name]
         if below == "0":
-            fits = [place for frame in way for place, form in PLACES.items() if re.search(form, frame)]
-            found[fits[0] if fits else "else"] += int(held)
+            fits = (place for place, form in PLACES.items() if re.search(form, " ".join(way)))
+            found[next(fits, "else")] += int(held)
     print("bytes an event at its end: " + ", ".join(f"{place} {held / n / SERVICES:.0f}" for place, held in found.items()))
 
 
