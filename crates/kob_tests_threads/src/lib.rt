@@ -26,8 +26,6 @@ mod relays;
 #[cfg(test)]
 mod revoked;
 #[cfg(test)]
-mod rotations;
-#[cfg(test)]
 mod sessions;
 #[cfg(test)]
 mod spared;
