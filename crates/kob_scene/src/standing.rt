@@ -1,6 +1,7 @@
 //! The broker after the requests of a scene, and the topics that exist then.
 
 ghost use Rattle.std.specs.Prelude.{◌≡◌, filter, IfOk, OnOk};
+ghost use Rattle.std.specs.List.{fold};
 ghost use Rattle.kob_broker.specs.Change.{state_of};
 ghost use Rattle.kob_broker.specs.State.{open_state};
 ghost use Rattle.kob_scene.specs.Standing.{after_event, after_step, end_of, is_other, seen};
@@ -28,7 +29,6 @@ pub struct End {
 }
 
 /// Serves the requests of a scene, on a broker as it opens it.
-#[tactic(auto, using(std::proofs::lemmas::List::Sums::fold_more))]
 pub fn end_of(alloc: Global, scene: &Scene) -> Result<End, AllocError>
     ensures { IfOk result (λ end. seen end ≡ end_of scene.now) }
 {
@@ -36,10 +36,23 @@ pub fn end_of(alloc: Global, scene: &Scene) -> Result<End, AllocError>
         broker: broker_of(alloc, &scene.settings)?,
         topics: Vec::new(alloc),
     };
-    for step in &scene.steps {
-        take_step(alloc, &mut end, step)?;
+    match take_steps(alloc, &mut end, &scene.steps) {
+        Ok(()) => Ok(end),
+        Err(error) => {
+            drop(end);
+            Err(error)
+        }
     }
-    Ok(end)
+}
+
+#[tactic(auto, using(std::proofs::lemmas::List::Sums::fold_more))]
+fn take_steps(alloc: Global, end: &mut End, steps: &[Step]) -> Result<(), AllocError>
+    ensures { OnOk result (seen end.new ≡ fold after_step (seen end.old) steps.now) }
+{
+    for step in steps {
+        take_step(alloc, end, step)?;
+    }
+    Ok(())
 }
 
 fn broker_of(alloc: Global, settings: &Settings) -> Result<Broker, AllocError>

@@ -28,11 +28,11 @@ use Rattle.kob_words.specs.Pattern.{pattern_name}
 use Rattle.kob_words.specs.Permission.{permission_name}
 use Rattle.kob_words.specs.PrintedText.{bytes_text}
 use Rattle.kob_words.specs.Resource.{resource_name}
-use Rattle.kob_scene_text.specs.PrintedRows.{spaced}
+use Rattle.kob_scene_text.specs.PrintedRows.{counted, spaced}
 
--- a number after a space
-abbrev pub counted : ℕ → List ℕ
-counted number = codes " " ++ decimal number
+-- a word that needs no escape, after a space
+abbrev pub worded : List ℕ → List ℕ
+worded word = codes " " ++ word
 
 -- the producer's word of a batch
 abbrev pub idem_text : Option Idem → List ℕ
@@ -68,13 +68,13 @@ topic_text (Some name) = spaced name
 -- PERMISSION PRINCIPAL HOST OPERATION
 abbrev pub grant_text : Draft → List ℕ
 grant_text d =
-    codes " " ++ permission_name d.permission ++ spaced d.principal ++ spaced d.host ++ codes " "
-    ++ operation_name d.operation
+    worded (permission_name d.permission) ++ spaced d.principal ++ spaced d.host
+    ++ worded (operation_name d.operation)
 
 -- RESOURCE PATTERN NAME
 abbrev pub target_text : Draft → List ℕ
 target_text d =
-    codes " " ++ resource_name d.resource ++ codes " " ++ pattern_name d.pattern.kind
+    worded (resource_name d.resource) ++ worded (pattern_name d.pattern.kind)
     ++ spaced d.pattern.name
 
 -- a binding of a creation
@@ -95,22 +95,28 @@ text_or_dash (Some text) = spaced text
 -- the words of a filter's kinds, `-` where any is meant
 abbrev pub resource_text : Option ResourceKind → List ℕ
 resource_text None = codes " -"
-resource_text (Some resource) = codes " " ++ resource_name resource
+resource_text (Some resource) = worded (resource_name resource)
 
 abbrev pub operation_text : Option Operation → List ℕ
 operation_text None = codes " -"
-operation_text (Some operation) = codes " " ++ operation_name operation
+operation_text (Some operation) = worded (operation_name operation)
 
 abbrev pub permission_text : Option Permission → List ℕ
 permission_text None = codes " -"
-permission_text (Some permission) = codes " " ++ permission_name permission
+permission_text (Some permission) = worded (permission_name permission)
 
--- RESOURCE NAME PATTERN PRINCIPAL HOST OPERATION PERMISSION
-abbrev pub filter_text : BindingFilter → List ℕ
-filter_text f =
-    resource_text f.resource ++ text_or_dash f.name ++ pattern_text f.pattern
-    ++ text_or_dash f.principal ++ text_or_dash f.host ++ operation_text f.operation
+-- RESOURCE NAME PATTERN
+abbrev pub asked_target : BindingFilter → List ℕ
+asked_target f = resource_text f.resource ++ text_or_dash f.name ++ pattern_text f.pattern
+
+-- PRINCIPAL HOST OPERATION PERMISSION
+abbrev pub asked_grant : BindingFilter → List ℕ
+asked_grant f =
+    text_or_dash f.principal ++ text_or_dash f.host ++ operation_text f.operation
     ++ permission_text f.permission
+
+abbrev pub filter_text : BindingFilter → List ℕ
+filter_text f = asked_target f ++ asked_grant f
 
 -- a request as a line of a script writes it, from its command on
 abbrev pub request_text : Request → List ℕ
@@ -137,8 +143,12 @@ request_text (DescribeAcls d) = codes " describe-acls" ++ filter_text d.filter
 request_text (CreateAcls c) = codes " create-acl" ++ flat_map draft_text c.drafts
 request_text (DeleteAcls d) = codes " delete-acls" ++ filter_text d.filter
 
--- entry PLACE WORKER PRINCIPAL HOST REQUEST and the outcome, on a line of its own
+-- PRINCIPAL HOST REQUEST
+abbrev pub event_text : Event → List ℕ
+event_text event = spaced event.principal ++ spaced event.host ++ request_text event.request
+
+-- entry PLACE WORKER, the event and the outcome, on a line of its own
 abbrev pub entry_text : ℕ → List ℕ → Event → Reply → List ℕ
 entry_text place worker event reply =
-    codes "entry" ++ counted place ++ spaced worker ++ spaced event.principal ++ spaced event.host
-    ++ request_text event.request ++ outcome_text reply ++ codes "\n"
+    codes "entry" ++ counted place ++ spaced worker ++ event_text event ++ outcome_text reply
+    ++ codes "\n"

@@ -7,7 +7,7 @@ use thiserror::Error;
 /// What is wrong with a line. BadEscape is looked for first, over the whole line. A line of a script
 /// has the kinds of scripts in their order. In a line of a worker the words are looked at from left
 /// to right: the name, then each part behind it.
-#[derive(Clone, Copy, Debug, PartialEq, Eq, Error)]
+#[derive(Clone, Copy, Debug, Error)]
 pub enum SceneFaultKind {
     /// One of the faults of scripts.
     #[error("{0}")]
@@ -27,7 +27,7 @@ pub enum SceneFaultKind {
 }
 
 /// The first line of a scene with a fault, counted from 1, and the fault's kind.
-#[derive(Clone, Copy, Debug, PartialEq, Eq, Error)]
+#[derive(Clone, Copy, Debug, Error)]
 #[error("line {line}: {kind}")]
 pub struct SceneFault {
     pub line: u64,
@@ -35,7 +35,7 @@ pub struct SceneFault {
 }
 
 /// Why a scene was not read: its first fault, or out of memory.
-#[derive(Clone, Copy, Debug, PartialEq, Eq, Error)]
+#[derive(Clone, Copy, Debug, Error)]
 pub enum SceneError {
     #[error("out of memory")]
     Memory,
@@ -44,11 +44,9 @@ pub enum SceneError {
 }
 
 /// Why a line of a scene was not read.
-#[derive(Clone, Copy, Debug, PartialEq, Eq, Error)]
+#[derive(Clone, Copy)]
 pub(crate) enum StepError {
-    #[error("out of memory")]
     Memory,
-    #[error("{0}")]
     Fault(SceneFaultKind),
 }
 

@@ -27,7 +27,7 @@ use std::alloc::{AllocError, Global};
 use std::collections::VecDeque;
 
 /// What a line begins with.
-#[derive(Clone, Copy, Debug, PartialEq, Eq)]
+#[derive(Clone, Copy)]
 pub(crate) enum Head {
     Setting,
     Service,
@@ -45,7 +45,9 @@ pub(crate) fn read_line(alloc: Global, reading: &mut Reading, line: &[u8]) -> Re
 {
     let words = words_of(alloc, line)?;
     let answer = answer_to(alloc, &words)?;
-    reading.add(alloc, &words, &answer)
+    let added = reading.add(alloc, &words, &answer);
+    drop(answer);
+    added
 }
 
 /// Whether the word after the first begins a step.

@@ -14,7 +14,7 @@ use kob_script::{LineError, Word, host_of, lent_text_of, principal_of, text_of};
 use std::alloc::Global;
 
 /// A worker by the place of its service or consumer in the list, from 0.
-#[derive(Clone, Copy, Debug, PartialEq, Eq)]
+#[derive(Clone, Copy)]
 pub(crate) enum Worker {
     Service(usize),
     Consumer(usize),

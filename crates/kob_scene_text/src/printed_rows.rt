@@ -2,14 +2,14 @@
 
 ghost use Rattle.std.specs.Prelude.{◌≡◌, ◌++◌, OnOk, codes, option_map, string_bytes};
 ghost use Rattle.kob_script.specs.PrintedBody.{key_text};
-ghost use Rattle.kob_scene_text.specs.PrintedRows.{inbox_item, inbox_text, intake_text};
-ghost use Rattle.kob_scene_text.specs.PrintedRows.{outbox_item};
-ghost use Rattle.kob_scene_text.specs.PrintedRows.{outbox_text, spaced, state_text};
+ghost use Rattle.kob_scene_text.specs.PrintedRows.{counted, event_text, inbox_item, inbox_text};
+ghost use Rattle.kob_scene_text.specs.PrintedRows.{intake_text, outbox_item, outbox_text, spaced};
+ghost use Rattle.kob_scene_text.specs.PrintedRows.{state_text, waiting_text};
 ghost use Rattle.kob_outbox.specs.Events.{id_text};
 
 use kob_inbox::InboxRow;
 use kob_names::Bytes;
-use kob_outbox::Row;
+use kob_outbox::{OutboxEvent, Row};
 use kob_words::{push_bytes, push_number};
 use std::alloc::AllocError;
 use uuid::Uuid;
@@ -21,6 +21,15 @@ pub(crate) fn push_spaced(out: &mut Vec<u8>, text: &[u8]) -> Result<(), AllocErr
 {
     out.extend_from_slice(b" ")?;
     push_bytes(out, text)
+}
+
+/// A number after a space.
+#[tactic(auto, using(kob_words::proofs::Appending::appending))]
+pub(crate) fn push_counted(out: &mut Vec<u8>, number: u64) -> Result<(), AllocError>
+    ensures { OnOk result (out.new.items ≡ out.old.items ++ counted number) }
+{
+    out.extend_from_slice(b" ")?;
+    push_number(out, number)
 }
 
 /// An event's id after a space, in lower case with hyphens.
@@ -37,13 +46,32 @@ fn push_id(out: &mut Vec<u8>, id: Uuid) -> Result<(), AllocError>
 fn push_outbox_row(out: &mut Vec<u8>, row: &Row) -> Result<(), AllocError>
     ensures { OnOk result (out.new.items ≡ out.old.items ++ outbox_item row.now) }
 {
-    out.extend_from_slice(b"row ")?;
-    push_number(out, row.seq)?;
+    out.extend_from_slice(b"row")?;
+    push_counted(out, row.seq)?;
     push_id(out, row.event.id)?;
-    push_spaced(out, row.event.aggregate_type.as_bytes())?;
-    push_spaced(out, row.event.aggregate_id.as_bytes())?;
-    push_spaced(out, row.event.event_type.as_bytes())?;
-    push_spaced(out, row.event.payload.as_bytes())?;
+    push_event(out, &row.event)?;
+    out.extend_from_slice(b"\n")
+}
+
+#[tactic(auto, using(kob_words::proofs::Appending::appending))]
+fn push_event(out: &mut Vec<u8>, event: &OutboxEvent) -> Result<(), AllocError>
+    ensures { OnOk result (out.new.items ≡ out.old.items ++ event_text event.now) }
+{
+    push_spaced(out, event.aggregate_type.as_bytes())?;
+    push_spaced(out, event.aggregate_id.as_bytes())?;
+    push_spaced(out, event.event_type.as_bytes())?;
+    push_spaced(out, event.payload.as_bytes())
+}
+
+#[tactic(auto, using(kob_words::proofs::Appending::appending))]
+fn push_waiting(out: &mut Vec<u8>, number: u64, mark: u64, count: u64) -> Result<(), AllocError>
+    ensures { OnOk result (out.new.items ≡ out.old.items ++ waiting_text number mark count) }
+{
+    push_number(out, number)?;
+    out.extend_from_slice(b" ok mark")?;
+    push_counted(out, mark)?;
+    out.extend_from_slice(b" waiting")?;
+    push_counted(out, count)?;
     out.extend_from_slice(b"\n")
 }
 
@@ -58,12 +86,7 @@ pub fn print_outbox(
 ) -> Result<(), AllocError>
     ensures { OnOk result (out.new.items ≡ out.old.items ++ outbox_text number mark rows.now) }
 {
-    push_number(out, number)?;
-    out.extend_from_slice(b" ok mark ")?;
-    push_number(out, mark)?;
-    out.extend_from_slice(b" waiting ")?;
-    push_number(out, rows.len() as u64)?;
-    out.extend_from_slice(b"\n")?;
+    push_waiting(out, number, mark, rows.len() as u64)?;
     for row in rows {
         push_outbox_row(out, row)?;
     }
@@ -99,14 +122,12 @@ fn push_inbox_row(out: &mut Vec<u8>, row: &InboxRow) -> Result<(), AllocError>
 fn push_intake(out: &mut Vec<u8>, row: &InboxRow) -> Result<(), AllocError>
     ensures { OnOk result (out.new.items ≡ out.old.items ++ intake_text row.now) }
 {
-    out.extend_from_slice(b"row ")?;
-    push_number(out, row.place)?;
+    out.extend_from_slice(b"row")?;
+    push_counted(out, row.place)?;
     push_id(out, row.id)?;
     push_spaced(out, row.topic.as_str().as_bytes())?;
-    out.extend_from_slice(b" ")?;
-    push_number(out, row.partition)?;
-    out.extend_from_slice(b" ")?;
-    push_number(out, row.offset)
+    push_counted(out, row.partition)?;
+    push_counted(out, row.offset)
 }
 
 /// Prints `N ok inbox COUNT`, and a line for each row. The error is out of memory; `out` has then

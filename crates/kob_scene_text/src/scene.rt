@@ -13,7 +13,7 @@ use std::marker::Model;
 ///
 /// Workers have numbers from 1 on in the order of their declaration, services and consumers counted
 /// together; requests of a principal are worker 0's.
-#[derive(Debug, Drop)]
+#[derive(Drop)]
 pub struct Scene {
     pub settings: Settings,
     pub services: Vec<Service>,
@@ -22,7 +22,7 @@ pub struct Scene {
 }
 
 /// How a service's rows are routed: 1 to 1,000 partitions for every topic.
-#[derive(Debug, Drop)]
+#[derive(Drop)]
 pub struct Routed {
     target: Target,
 }
@@ -70,7 +70,7 @@ impl Routed {
 
 /// A service: its name in the text, its worker number, who it is, and how its rows are routed, as it
 /// is set and as it is read.
-#[derive(Debug, Drop)]
+#[derive(Drop)]
 pub struct Service {
     pub name: Text,
     pub worker: usize,
@@ -81,7 +81,7 @@ pub struct Service {
 }
 
 /// A consumer: its name in the text, its worker number, who it is, and what it reads.
-#[derive(Debug, Drop)]
+#[derive(Drop)]
 pub struct Consumer {
     pub name: Text,
     pub worker: usize,
@@ -91,7 +91,7 @@ pub struct Consumer {
 }
 
 /// A step, by the place of its service or consumer in the scene's list, from 0.
-#[derive(Debug, Drop)]
+#[derive(Drop)]
 pub enum Step {
     /// A request of a principal, which is worker 0's.
     Request(Event),
@@ -104,7 +104,7 @@ pub enum Step {
 }
 
 /// Which message of a tick's first call is lost.
-#[derive(Clone, Copy, Debug, PartialEq, Eq)]
+#[derive(Clone, Copy)]
 pub enum Lost {
     /// The request never reaches the broker.
     Request,
@@ -113,7 +113,7 @@ pub enum Lost {
 }
 
 /// A step of a service.
-#[derive(Debug, Drop)]
+#[derive(Drop)]
 pub enum ServiceStep {
     /// Records a business row together with an outbox row.
     Record(Change, OutboxEvent),
@@ -130,7 +130,7 @@ pub enum ServiceStep {
 }
 
 /// A step of a consumer.
-#[derive(Debug, Drop)]
+#[derive(Drop)]
 pub enum ConsumerStep {
     /// One step of the consumer, whose first call loses a message or not.
     Tick(Option<Lost>),

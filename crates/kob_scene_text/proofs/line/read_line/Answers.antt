@@ -10,6 +10,6 @@ returns-in_err-words c =
 
 pub returns : goal.returns
 returns c =
-    line_read (so_far c.args.reading.now) c.args.line.now c.add.new.self c.in_ok-words.words.items c.in_ok-answer.answer
-    c.add.result c.in_ok-words.ensures (rw c.deref.ensures.value at c.in_ok-answer.ensures)
-    (rw c.deref-2.ensures.value at c.add.ensures)
+    line_read (so_far c.args.reading.now) c.args.line.now c.add-added.new.self c.in_ok-words.words.items c.in_ok-answer.answer
+    c.add-added.result c.in_ok-words.ensures (rw c.deref.ensures.value at c.in_ok-answer.ensures)
+    (rw c.deref-2.ensures.value at c.add-added.ensures)
