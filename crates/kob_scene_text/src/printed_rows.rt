@@ -1,7 +1,7 @@
 //! How the rows of an outbox and of an inbox are printed.
 
 ghost use Rattle.std.specs.Prelude.{◌≡◌, ◌++◌, OnOk, codes, option_map, string_bytes};
-ghost use Rattle.kob_script.specs.PrintedBody.{key_text};
+ghost use Rattle.kob_script.specs.Printed.{key_text};
 ghost use Rattle.kob_scene_text.specs.PrintedRows.{inbox_item, inbox_text, intake_text};
 ghost use Rattle.kob_scene_text.specs.PrintedRows.{outbox_item};
 ghost use Rattle.kob_scene_text.specs.PrintedRows.{outbox_text, spaced, state_text};
