@@ -5,7 +5,7 @@ use Rattle.kob_script.specs.declared.fault.FaultKind.{FaultKind}
 use Rattle.kob_script.specs.declared.fault.LineError.{LineError}
 use Rattle.kob_script.specs.declared.fault.LineError.TheVariants.{Memory, Fault}
 use Rattle.kob_script.specs.Reading.{◌>>=◌, Fails, GivesSeen}
-use Rattle.kob_script.specs.ScriptReadings.{IsAnswerToLine}
+use Rattle.kob_script.specs.Script.{IsAnswerToLine}
 use Rattle.kob_script.specs.Words.{words_of}
 use Rattle.kob_policy_text.specs.declared.item.Item.{Item}
 use Rattle.kob_policy_text.specs.Lines.{Says, SaysBy, SaysByWords, is_listed, items_of, listed_items, script_line, words_items}

@@ -16,7 +16,7 @@ use Rattle.kob_names.specs.Same.{same_permission}
 use Rattle.kob_rights.specs.Check.{Check}
 use Rattle.kob_rights.specs.Table.{rights}
 use Rattle.kob_rights.specs.declared.event.Event.{Event}
-use Rattle.kob_script.specs.PrintedReply.{verdict_text}
+use Rattle.kob_script.specs.Printed.{verdict_text}
 use Rattle.kob_words.specs.Operation.{operation_name}
 use Rattle.kob_words.specs.PrintedBinding.{binding_text}
 use Rattle.kob_words.specs.PrintedText.{bytes_text}

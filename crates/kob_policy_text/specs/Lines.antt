@@ -11,10 +11,8 @@ use Rattle.kob_script.specs.CommandLines.{events_of}
 use Rattle.kob_script.specs.declared.fault.FaultKind.{FaultKind}
 use Rattle.kob_script.specs.declared.fault.FaultKind.TheVariants.{BadLine, BadWord, Usage}
 use Rattle.kob_script.specs.Reading.{◌>>=◌, each}
-use Rattle.kob_script.specs.ScriptReadings.{IsAnswerToLine}
-use Rattle.kob_script.specs.Settings.{everyone_of, is_setting, is_super, super_of}
-use Rattle.kob_script.specs.Word.{Word}
-use Rattle.kob_script.specs.Words.{words_of}
+use Rattle.kob_script.specs.Script.{IsAnswerToLine, everyone_of, is_setting, is_super, super_of}
+use Rattle.kob_script.specs.Words.{Word, words_of}
 use Rattle.kob_policy_text.specs.declared.item.Item.{Item}
 use Rattle.kob_policy_text.specs.declared.item.Item.TheVariants.{Super, Everyone, Rule, LeftOut}
 use Rattle.kob_policy_text.specs.declared.item.LeftOut as kinds

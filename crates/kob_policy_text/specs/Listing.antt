@@ -20,7 +20,7 @@ use Rattle.kob_words.specs.Resource.{resource_named}
 use Rattle.kob_script.specs.declared.fault.FaultKind.{FaultKind}
 use Rattle.kob_script.specs.declared.fault.FaultKind.TheVariants.{BadLine, BadWord}
 use Rattle.kob_script.specs.Reading.{◌>>=◌, found_or}
-use Rattle.kob_script.specs.Texts.{text_in, host_of}
+use Rattle.kob_script.specs.Values.{text_in, host_of}
 use Rattle.kob_policy_text.specs.declared.item.Grant.{Grant}
 use Rattle.kob_policy_text.specs.declared.item.Item.{Item}
 use Rattle.kob_policy_text.specs.declared.item.Item.TheVariants as item

@@ -11,9 +11,8 @@ use Rattle.kob_script.specs.declared.fault.FaultKind.TheVariants.{BadLine, BadWo
 use Rattle.kob_script.specs.declared.fault.Fault.{Fault}
 use Rattle.kob_script.specs.Reading.{◌>>=◌, found_or}
 use Rattle.kob_script.specs.Script.{lines_in}
-use Rattle.kob_script.specs.Texts.{text_of, principal_of, host_of}
-use Rattle.kob_script.specs.Word.{Word}
-use Rattle.kob_script.specs.Words.{words_of}
+use Rattle.kob_script.specs.Values.{text_of, principal_of, host_of}
+use Rattle.kob_script.specs.Words.{Word, words_of}
 use Rattle.kob_words.specs.Operation.{operation_named}
 use Rattle.kob_words.specs.Resource.{resource_named}
 use Rattle.kob_policy_text.specs.declared.question.Asker.{Asker}

@@ -13,7 +13,7 @@ ghost use Rattle.kob_policy_text.specs.Outcomes.{MayGive};
 ghost use Rattle.kob_policy_text.specs.Pieces.{trimmed};
 ghost use Rattle.kob_script.specs.Reading.{Gives, GivesSeen, each};
 ghost use Rattle.kob_script.specs.Words.{words_of};
-ghost use Rattle.kob_script.specs.ScriptReadings.{IsAnswerToLine};
+ghost use Rattle.kob_script.specs.Script.{IsAnswerToLine};
 
 use crate::item::{Item, LeftOut};
 use crate::listing::{heading_item, newer_grant, older_grant};

@@ -6,7 +6,7 @@ ghost use Rattle.kob_policy_text.specs.Answers.{left_out_word, line_at, line_by,
 ghost use Rattle.kob_policy_text.specs.Answers.{omission_line, origin_behind, origin_by};
 ghost use Rattle.kob_policy_text.specs.Answers.{origin_text, reason_text, right_text, yes_or_no};
 ghost use Rattle.std.specs.Option.{option_copied};
-ghost use Rattle.kob_script.specs.PrintedReply.{verdict_text};
+ghost use Rattle.kob_script.specs.Printed.{verdict_text};
 
 use crate::asked::Asked;
 use crate::item::LeftOut;

@@ -15,7 +15,7 @@ use Rattle.kob_scene_text.specs.declared.scene.ServiceStep.{ServiceStep}
 use Rattle.kob_scene_text.specs.declared.scene.ServiceStep.TheVariants as service_steps
 use Rattle.kob_scene_text.specs.declared.scene.Step.{Step}
 use Rattle.kob_scene_text.specs.declared.scene.Step.TheVariants as steps
-use Rattle.kob_script.specs.PrintedReply.{reply_text}
+use Rattle.kob_script.specs.Printed.{reply_text}
 use Rattle.kob_shared.specs.Journals.{after_event, outcome_of}
 
 -- at every other place is what was there

@@ -6,7 +6,7 @@ ghost use Rattle.kob_scene_play.specs.Printing.{Tells};
 ghost use Rattle.kob_scene_play.specs.Scenes.{ConsumerKeeps, IsRead, IsServed, IsStep};
 ghost use Rattle.kob_scene_play.specs.Scenes.{OthersStay, ServiceKeeps};
 ghost use Rattle.kob_scene_play.specs.Texts.{EndsAs, WritesAll, WritesSteps};
-ghost use Rattle.kob_script.specs.PrintedReply.{reply_text};
+ghost use Rattle.kob_script.specs.Printed.{reply_text};
 ghost use Rattle.kob_shared.specs.Journals.{after_event, outcome_of};
 
 use crate::consumer_steps::play_consumer;

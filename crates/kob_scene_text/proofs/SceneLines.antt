@@ -1,15 +1,12 @@
 -- A scene is read line by line.
 use Rattle.std.proofs.Common.{◌≡◌, ◌+◌, ℕ, false, List, [], ◌∷◌, Option, None, Result, Ok, Err, map, sym, subst, refl}
 use Rattle.kob_acl_cli.specs.declared.args.CliArgs.{CliArgs}
-use Rattle.kob_script.specs.ClapAnswer.{IsAnswerTo}
+use Rattle.kob_script.specs.Script.{IsAnswerTo, lines_in, IsAnswerToLine}
 use Rattle.kob_script.specs.declared.fault.FaultKind as script_kind
 use Rattle.kob_script.specs.declared.fault.LineError.{LineError}
 use Rattle.kob_script.specs.declared.fault.LineError.TheVariants as line_error
 use Rattle.kob_script.specs.Reading.{Fails as ScriptFails}
-use Rattle.kob_script.specs.Script.{lines_in}
-use Rattle.kob_script.specs.ScriptReadings.{IsAnswerToLine}
-use Rattle.kob_script.specs.Word.{Word}
-use Rattle.kob_script.specs.Words.{words_of}
+use Rattle.kob_script.specs.Words.{Word, words_of}
 use Rattle.kob_scene_text.specs.declared.fault.SceneFault as fault
 use Rattle.kob_scene_text.specs.declared.fault.StepError.{StepError}
 use Rattle.kob_scene_text.specs.declared.fault.StepError.TheVariants.{Memory, Fault}

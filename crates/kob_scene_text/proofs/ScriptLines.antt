@@ -12,10 +12,8 @@ use Rattle.kob_script.specs.declared.fault.FaultKind.TheVariants.{LateSetting}
 use Rattle.kob_script.specs.declared.script.Script.{Script}
 use Rattle.kob_script.specs.Reading.{◌>>=◌}
 use Rattle.kob_script.specs.Script as script
-use Rattle.kob_script.specs.ScriptReadings as script_readings
-use Rattle.kob_script.specs.Settings.{is_setting, settings_with}
-use Rattle.kob_script.specs.Word.{Word}
-use Rattle.kob_script.specs.Words.{words_of}
+use Rattle.kob_script.specs.Script.{is_setting, settings_with}
+use Rattle.kob_script.specs.Words.{Word, words_of}
 use Rattle.kob_scene_text.specs.declared.fault.SceneFaultKind.{SceneFaultKind}
 use Rattle.kob_scene_text.specs.declared.fault.SceneFaultKind.TheVariants as kinds
 use Rattle.kob_scene_text.specs.declared.line.Head.{Head}
@@ -88,17 +86,17 @@ words_alike answer s (Ok (first ∷ rest)) plain =
 
 then_alike : (number : ℕ) (lines : List (List ℕ)) (first : Result Script script_kind.FaultKind)
     (read : Result Script script_fault.Fault)
-    → ((next : Script) → script_readings.LinesFrom next (number + 1) lines read
+    → ((next : Script) → script.LinesFrom next (number + 1) lines read
     → LinesFrom (scene_of next) (number + 1) lines (as_scene read))
-    → script_readings.ThenLines number first (λ next. script_readings.LinesFrom next (number + 1) lines read) read
+    → script.ThenLines number first (λ next. script.LinesFrom next (number + 1) lines read) read
     → ThenLines number (as_line first) (λ next. LinesFrom next (number + 1) lines (as_scene read)) (as_scene read)
 then_alike number lines (Ok next) read others may = others next may
 then_alike number lines (Err kind) read others may = ap as_scene may
 
 lines_alike : (s : Script) (number : ℕ) (lines : List (List ℕ)) (read : Result Script script_fault.Fault)
-    → list_all (λ line. is_script_line (words_of line)) lines ≡ true → script_readings.LinesFrom s number lines read
+    → list_all (λ line. is_script_line (words_of line)) lines ≡ true → script.LinesFrom s number lines read
     → LinesFrom (scene_of s) number lines (as_scene read)
-unfolding LinesFrom script_readings.LinesFrom with_line script.with_line
+unfolding LinesFrom script.LinesFrom with_line script.with_line
 lines_alike s number [] read plain may = ap as_scene may
 lines_alike s number (line ∷ lines) read plain (first, (answer, is, gives), others) =
     let here = both (is_script_line (words_of line)) (list_all (λ l. is_script_line (words_of l)) lines) plain in (
@@ -108,5 +106,5 @@ lines_alike s number (line ∷ lines) read plain (first, (answer, is, gives), ot
     )
 
 pub script_is_scene : (text : List ℕ) (read : Result Script script_fault.Fault) → HasNoWorkerLine text
-    → script_readings.ReadsAs text read → ReadsAs text (as_scene read)
+    → script.ReadsAs text read → ReadsAs text (as_scene read)
 script_is_scene text read plain may = lines_alike script.empty_script 1 (script.lines_in text) read plain may

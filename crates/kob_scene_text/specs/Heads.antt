@@ -2,8 +2,8 @@
 use Rattle.std.specs.Prelude.{ℕ, Bool, false, ◌==◌, List, [], ◌∷◌, Option, Some, None, codes, if◌then◌else◌}
 use Rattle.std.specs.List.{list_any}
 use Rattle.std.specs.Str.{bytes_eq}
-use Rattle.kob_script.specs.Settings.{is_setting}
-use Rattle.kob_script.specs.Word.{Word}
+use Rattle.kob_script.specs.Script.{is_setting}
+use Rattle.kob_script.specs.Words.{Word}
 use Rattle.kob_scene_text.specs.declared.name.Worker.{Worker}
 use Rattle.kob_scene_text.specs.declared.line.Head.{Head}
 use Rattle.kob_scene_text.specs.declared.line.Head.TheVariants.{Setting, Service, Consumer, Journal, Law, Of, Unknown, Request}

@@ -4,7 +4,7 @@ use Rattle.std.specs.Fmt.{decimal}
 use Rattle.kob_scene_text.specs.declared.fault.SceneFaultKind.{SceneFaultKind}
 use Rattle.kob_scene_text.specs.declared.fault.SceneFaultKind.TheVariants.{Script, UnknownWorker, BadWorkerName, NameTaken, BadPartitions, BadRoute, BadId}
 use Rattle.kob_scene_text.specs.declared.fault.SceneFault.{SceneFault}
-use Rattle.kob_script.specs.PrintedFault.{fault_text as line_of_script}
+use Rattle.kob_script.specs.Printed.{fault_text as line_of_script}
 
 -- the name of a kind that is none of scripts
 abbrev pub kind_text : SceneFaultKind → List ℕ

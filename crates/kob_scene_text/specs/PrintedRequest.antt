@@ -21,8 +21,7 @@ use Rattle.kob_rights.specs.declared.reply.Reply.{Reply}
 use Rattle.kob_rights.specs.declared.request.Request.{Request}
 use Rattle.kob_rights.specs.declared.request.Request.TheVariants.{Produce, Fetch, Metadata, OffsetCommit, OffsetFetch, ListGroups, DeleteGroups, CreateTopics, DeleteTopics, InitProducerId, DescribeAcls, CreateAcls, DeleteAcls}
 use Rattle.kob_rights.specs.declared.request.Request.TheVariants as requests
-use Rattle.kob_script.specs.PrintedBody.{key_text}
-use Rattle.kob_script.specs.PrintedReply.{outcome_text}
+use Rattle.kob_script.specs.Printed.{key_text, outcome_text}
 use Rattle.kob_words.specs.Operation.{operation_name}
 use Rattle.kob_words.specs.Pattern.{pattern_name}
 use Rattle.kob_words.specs.Permission.{permission_name}

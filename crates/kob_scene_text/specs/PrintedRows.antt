@@ -5,7 +5,7 @@ use Rattle.kob_inbox.specs.declared.inbox_row.InboxRow.{InboxRow}
 use Rattle.kob_outbox.specs.declared.event.OutboxEvent.{OutboxEvent}
 use Rattle.kob_outbox.specs.declared.event.Row.{Row}
 use Rattle.kob_outbox.specs.Events.{id_text}
-use Rattle.kob_script.specs.PrintedBody.{key_text}
+use Rattle.kob_script.specs.Printed.{key_text}
 use Rattle.kob_words.specs.PrintedText.{bytes_text}
 
 -- a text after a space

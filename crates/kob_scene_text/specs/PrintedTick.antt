@@ -12,7 +12,7 @@ use Rattle.kob_rights.specs.declared.reply.Reply.TheVariants.{Denied, Refused}
 use Rattle.kob_router.specs.declared.tick.StopReason.TheVariants as service_stop
 use Rattle.kob_router.specs.declared.tick.Tick.{Tick as ServiceTick}
 use Rattle.kob_router.specs.declared.tick.Tick.TheVariants as service_tick
-use Rattle.kob_script.specs.PrintedReply.{outcome_text}
+use Rattle.kob_script.specs.Printed.{outcome_text}
 
 -- a text that no column takes, by the column's name in the tables
 abbrev pub bad_field_text : Column → List ℕ

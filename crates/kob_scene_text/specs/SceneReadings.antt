@@ -1,8 +1,7 @@
 -- What bytes may be read as, by what clap may answer to their `acl` lines.
 use Rattle.std.specs.Prelude.{◌≡◌, ◌+◌, ℕ, List, [], ◌∷◌, Option, Result, Ok, Err}
 use Rattle.kob_acl_cli.specs.declared.args.CliArgs.{CliArgs}
-use Rattle.kob_script.specs.Script.{lines_in}
-use Rattle.kob_script.specs.ScriptReadings.{IsAnswerToLine}
+use Rattle.kob_script.specs.Script.{lines_in, IsAnswerToLine}
 use Rattle.kob_script.specs.Words.{words_of}
 use Rattle.kob_scene_text.specs.declared.fault.SceneError.{SceneError}
 use Rattle.kob_scene_text.specs.declared.fault.SceneError.TheVariants as scene_error

@@ -5,9 +5,8 @@ use Rattle.kob_names.specs.declared.settings.Settings.{Settings}
 use Rattle.kob_rights.specs.declared.event.Event.{Event}
 use Rattle.kob_script.specs.CommandLines.{events_of}
 use Rattle.kob_script.specs.declared.fault.FaultKind.TheVariants.{LateSetting}
-use Rattle.kob_script.specs.Settings.{no_settings, settings_with}
-use Rattle.kob_script.specs.Word.{Word}
-use Rattle.kob_script.specs.Words.{words_of}
+use Rattle.kob_script.specs.Script.{no_settings, settings_with}
+use Rattle.kob_script.specs.Words.{Word, words_of}
 use Rattle.kob_scene_text.specs.declared.consumer_lines.DeclaredConsumer.{DeclaredConsumer}
 use Rattle.kob_scene_text.specs.declared.fault.SceneFaultKind.{SceneFaultKind}
 use Rattle.kob_scene_text.specs.declared.fault.SceneFaultKind.TheVariants.{Script, UnknownWorker}

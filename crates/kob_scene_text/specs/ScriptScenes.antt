@@ -4,10 +4,8 @@ use Rattle.std.specs.List.{list_all}
 use Rattle.kob_script.specs.declared.fault.Fault.{Fault}
 use Rattle.kob_script.specs.declared.fault.FaultKind.{FaultKind}
 use Rattle.kob_script.specs.declared.script.Script.{Script}
-use Rattle.kob_script.specs.Script.{lines_in}
-use Rattle.kob_script.specs.Settings.{is_setting}
-use Rattle.kob_script.specs.Word.{Word}
-use Rattle.kob_script.specs.Words.{words_of}
+use Rattle.kob_script.specs.Script.{lines_in, is_setting}
+use Rattle.kob_script.specs.Words.{Word, words_of}
 use Rattle.kob_scene_text.specs.declared.fault.SceneFault.{SceneFault}
 use Rattle.kob_scene_text.specs.declared.fault.SceneFaultKind.{SceneFaultKind}
 use Rattle.kob_scene_text.specs.declared.fault.SceneFaultKind.TheVariants as kinds

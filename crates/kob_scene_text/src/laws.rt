@@ -3,7 +3,7 @@
 ghost use Rattle.std.specs.Prelude.{ℕ, List, Result};
 ghost use Rattle.kob_script.specs.declared.fault.Fault.{Fault};
 ghost use Rattle.kob_script.specs.declared.script.Script.{Script};
-ghost use Rattle.kob_script.specs.ScriptReadings.{ReadsAs as ReadsAsScript};
+ghost use Rattle.kob_script.specs.Script.{ReadsAs as ReadsAsScript};
 ghost use Rattle.kob_scene_text.specs.SceneReadings.{ReadsAs};
 ghost use Rattle.kob_scene_text.specs.ScriptScenes.{HasNoWorkerLine, as_scene};
 

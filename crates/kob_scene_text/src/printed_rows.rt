@@ -1,7 +1,7 @@
 //! How the rows of an outbox and of an inbox are printed.
 
 ghost use Rattle.std.specs.Prelude.{◌≡◌, ◌++◌, OnOk, codes, option_map, string_bytes};
-ghost use Rattle.kob_script.specs.PrintedBody.{key_text};
+ghost use Rattle.kob_script.specs.Printed.{key_text};
 ghost use Rattle.kob_scene_text.specs.PrintedRows.{counted, event_text, inbox_item, inbox_text};
 ghost use Rattle.kob_scene_text.specs.PrintedRows.{intake_text, outbox_item, outbox_text, spaced};
 ghost use Rattle.kob_scene_text.specs.PrintedRows.{state_text, waiting_text};

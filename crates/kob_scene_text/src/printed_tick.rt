@@ -52,7 +52,7 @@ fn print_service_stop(
     }
 }
 
-ghost use Rattle.kob_script.specs.PrintedReply.{outcome_text};
+ghost use Rattle.kob_script.specs.Printed.{outcome_text};
 
 #[tactic(auto, using(kob_words::proofs::Appending::appending))]
 fn print_stopped(out: &mut Vec<u8>, number: u64, reply: &Reply) -> Result<(), AllocError>

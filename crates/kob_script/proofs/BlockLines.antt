@@ -5,7 +5,7 @@ use Rattle.bstr.specs.Text.{line_len, lines_of, without_terminator}
 use Rattle.std.specs.List.{concat}
 use Rattle.std.proofs.lemmas.List.{drop_more}
 use Rattle.bstr.proofs.lemmas.LengthLemmas.{length-lines}
-use Rattle.kob_script.specs.Blocks.{AreWholeLines, lines_in_blocks}
+use Rattle.kob_script.specs.Requests.{AreWholeLines, lines_in_blocks}
 use Rattle.kob_script.specs.Script.{lines_in}
 
 pub no_lines : lines_in [] ≡ []

@@ -1,8 +1,10 @@
--- A word is read byte by byte, and one without a percent sign stands for itself.
-use Rattle.std.proofs.Common.{◌≡◌, ◌∙◌, ◌==◌, ℕ, suc, arith, length, List, [], ◌∷◌, ◌++◌, drop, Option, Some, None, Bool, true, false, refl, ap, sym, append_assoc, append-nil, if◌then◌else◌}
-use Rattle.std.specs.Option.{option_map}
+-- A word is read byte by byte, one without a percent sign stands for itself, and a cut at a byte that is
+-- neither a percent sign nor a hexadecimal digit leaves each escape whole.
+use Rattle.std.proofs.Common.{◌≡◌, ◌∙◌, ◌==◌, ℕ, suc, arith, length, List, [], ◌∷◌, ◌++◌, drop, Option, Some, None, Bool, true, false, refl, ap, sym, append_assoc, append-nil, if◌then◌else◌, option_map, ◌&&◌, is_some, nat_lt}
+use Rattle.std.specs.Char.{digit_value}
+use Rattle.kob_script.proofs.Choices.{chosen_false}
+use Rattle.kob_script.specs.Words.{before, byte_at, escaped, unescaped, unescaped_from, has_whole_escapes, hexadecimal, LeavesWhole}
 use Rattle.memchr.specs.Find.{is_byte, Nowhere, Passes}
-use Rattle.kob_script.specs.Escapes.{before, byte_at, escaped, unescaped, unescaped_from}
 
 -- the byte at the front, and then what the rest stands for
 abbrev then_rest : Option (ℕ × List ℕ) → Option (List ℕ)
@@ -71,3 +73,72 @@ pub all_read : (bytes rest : List ℕ) (all : Option (List ℕ)) → with_rest b
     → Some bytes ≡ all
 unfolding unescaped_from
 all_read bytes rest all kept none = ap Some (sym (append-nil bytes)) ∙ (rw none at kept)
+
+parts_there : (found : Option ℕ) (others : Option (List ℕ)) → is_some (before found others) ≡ true
+    → (is_some found ≡ true) × (is_some others ≡ true)
+parts_there None others e = absurd cc
+parts_there (Some byte) None e = absurd cc
+parts_there (Some byte) (Some bytes) e = (refl, refl)
+
+digits_there : (one two : Bool) (byte : ℕ) → is_some (if one && two then Some byte else None) ≡ true
+    → (one ≡ true) × (two ≡ true)
+digits_there true true byte e = (refl, refl)
+digits_there _ _ byte e = absurd cc
+
+-- the byte at the front, where an escape and the bytes behind it are cut alike
+front_cut : {P : Type 0} (percent : Bool) (byte : ℕ) (digits_all digits : Option ℕ)
+    (behind_all behind rest_all rest : Option (List ℕ))
+    → (is_some (before digits_all behind_all) ≡ true → (is_some (before digits behind) ≡ true) × P)
+    → (is_some rest_all ≡ true → (is_some rest ≡ true) × P)
+    → is_some (if percent then before digits_all behind_all else before (Some byte) rest_all) ≡ true
+    → (is_some (if percent then before digits behind else before (Some byte) rest) ≡ true) × P
+front_cut true byte digits_all digits behind_all behind rest_all rest escape other whole = escape whole
+front_cut false byte digits_all digits behind_all behind None rest escape other whole = absurd cc
+front_cut false byte digits_all digits behind_all behind (Some bytes) None escape other whole =
+    let (none, p) = other refl in absurd cc
+front_cut false byte digits_all digits behind_all behind (Some bytes) (Some front) escape other whole =
+    (refl, (other refl).1)
+
+escape_cut : {P : Type 0} (digits : Option ℕ) (behind_all behind : Option (List ℕ))
+    → (is_some behind_all ≡ true → (is_some behind ≡ true) × P)
+    → is_some (before digits behind_all) ≡ true → (is_some (before digits behind) ≡ true) × P
+escape_cut None behind_all behind cut whole = absurd cc
+escape_cut (Some byte) None behind cut whole = absurd cc
+escape_cut (Some byte) (Some bytes) None cut whole = let (none, p) = cut refl in absurd cc
+escape_cut (Some byte) (Some bytes) (Some front) cut whole = (refl, (cut refl).1)
+
+module _ (byte : ℕ) (back : List ℕ) (other : (byte == 37) ≡ false) (none : nat_lt (digit_value byte) 16 ≡ false) where
+  not_first : (bytes : List ℕ) → is_some (escaped (byte ∷ bytes)) ≡ true → ⊥
+  not_first [] e = cc
+  not_first (low ∷ bytes) e =
+      let (first, second) = digits_there (nat_lt (digit_value byte) 16) (nat_lt (digit_value low) 16) (hexadecimal byte low) e in
+      cc (first, none)
+
+  not_second : (high : ℕ) → is_some (escaped (high ∷ byte ∷ back)) ≡ true → ⊥
+  not_second high e =
+      let (first, second) = digits_there (nat_lt (digit_value high) 16) (nat_lt (digit_value byte) 16) (hexadecimal high byte) e in
+      cc (second, none)
+
+  cut : (front : List ℕ) → has_whole_escapes (front ++ byte ∷ back) ≡ true
+      → (has_whole_escapes front ≡ true) × (has_whole_escapes back ≡ true)
+  unfolding unescaped_from
+  cut [] whole =
+      let plain = chosen_false (byte == 37) (before (escaped back) (unescaped_from 2 back)) (before (Some byte) (unescaped back)) other in
+      (refl, (parts_there (Some byte) (unescaped back) (sym (ap is_some plain) ∙ whole)).1)
+  cut (a ∷ []) whole =
+      front_cut (a == 37) a (escaped (byte ∷ back)) None _ (Some []) (unescaped (byte ∷ back)) (Some [])
+      (λ e. absurd (not_first back (parts_there _ _ e).0)) (cut []) whole
+  cut (a ∷ high ∷ []) whole =
+      front_cut (a == 37) a (escaped (high ∷ byte ∷ back)) None _ (Some []) (unescaped (high ∷ byte ∷ back))
+      (unescaped (high ∷ [])) (λ e. absurd (not_second high (parts_there _ _ e).0)) (cut (high ∷ [])) whole
+  cut (a ∷ high ∷ low ∷ rest) whole =
+      front_cut (a == 37) a (escaped (high ∷ low ∷ rest)) (escaped (high ∷ low ∷ rest)) (unescaped (rest ++ byte ∷ back))
+      (unescaped rest) (unescaped (high ∷ low ∷ rest ++ byte ∷ back)) (unescaped (high ∷ low ∷ rest))
+      (escape_cut (escaped (high ∷ low ∷ rest)) (unescaped (rest ++ byte ∷ back)) (unescaped rest) (cut rest))
+      (cut (high ∷ low ∷ rest)) whole
+
+pub at_equals : LeavesWhole 61
+at_equals = λ front back. cut 61 back refl refl front
+
+pub at_colon : LeavesWhole 58
+at_colon = λ front back. cut 58 back refl refl front

@@ -1,8 +1,6 @@
-pub mod AskedLines
 pub mod BlockLines
 pub mod CheckedLines
 pub mod Choices
-pub mod Cuts
 pub mod Each
 pub mod Escapes
 pub mod LineFaults

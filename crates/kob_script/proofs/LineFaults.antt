@@ -1,30 +1,26 @@
 -- The fault of a line is the first kind among those of its words, and how much words without one ask
 -- for; the faults of options, and what they stand for in a script.
-use Rattle.std.proofs.Common.{inl, inr, List, [], ◌∷◌, refl, ◌≡◌, ◌≤◌, Bool, true, false, if◌then◌else◌, nat_lt, arith, Option, Some, None, ap, ℕ, ◌∙◌, length, map, Result, Ok, Err, codes}
-use Rattle.std.proofs.lemmas.Bool.{ltb-false, ltb-true}
+use Rattle.std.proofs.Common.{inl, inr, List, [], ◌∷◌, refl, ◌≡◌, ◌≤◌, Bool, true, false, if◌then◌else◌, nat_lt, arith, Option, Some, None, ap, ℕ, ◌∙◌, length, map, Result, Ok, Err, codes, ltb-false, ltb-true, option_map, bytes_eq}
 use Rattle.std.proofs.lemmas.List.{length-map}
-use Rattle.std.specs.Option.{option_map}
-use Rattle.std.specs.Str.{bytes_eq}
 use Rattle.kob_acl_cli.specs.declared.commands.AclCommand.{AclCommand}
 use Rattle.kob_acl_cli.specs.declared.fault.CommandFault.{CommandFault}
 use Rattle.kob_acl_cli.specs.declared.fault.CommandFault.TheVariants as options
 use Rattle.kob_acl_cli.specs.Misread.{IsFirstFault}
-use Rattle.kob_script.specs.CommandLines.{error_of, unless_faults, acl_commands, acl_request, acl_events, asked_row, asking, asks_by_acl, command_events, event_by, events_by, events_of, line_fault, request_by, request_of}
+use Rattle.kob_script.specs.CommandLines.{place_fault, error_of, unless_faults, acl_commands, acl_request, acl_events, asked_row, asking, asks_by_acl, command_events, event_by, events_by, events_of, line_fault, request_by, request_of, acl_row, command_named, row, faults_in, place_value, row_fault, slot_fault, value_of, values_of, words_behind}
 use Rattle.kob_script.specs.Reading.{Fails, IsAmong, earlier, first_kind, rank, Finds, both, ◌>>=◌, counted, fault_in, some, unless_found}
 use Rattle.kob_script.specs.declared.fault.FaultKind.{FaultKind}
 use Rattle.kob_acl_cli.specs.declared.args.CliArgs.{CliArgs}
 use Rattle.kob_rights.specs.declared.request.Request.{Request}
-use Rattle.kob_script.specs.Command.{acl_row, command_named, row, faults_in, place_fault, place_value, row_fault, slot_fault, value_of, values_of, words_behind}
 use Rattle.kob_script.specs.declared.command.Command.{Command}
 use Rattle.kob_script.specs.declared.command.Command.TheVariants.{InitProducer}
 use Rattle.kob_script.specs.declared.fault.LineError.{LineError}
 use Rattle.kob_script.specs.declared.fault.LineError.TheVariants.{Memory, Fault}
-use Rattle.kob_script.specs.declared.command.Place.{Place}
 use Rattle.kob_script.specs.declared.command.Place.TheVariants.{One, OrDash, OrNone, Records, Texts}
+use Rattle.kob_script.specs.declared.command.Place.{Place}
 use Rattle.kob_script.specs.declared.command.Slot.{Slot}
 use Rattle.kob_script.specs.declared.command.Slot.TheVariants.{Text}
-use Rattle.kob_script.specs.Texts.{named_principal, named_host}
-use Rattle.kob_script.specs.Word.{Word}
+use Rattle.kob_script.specs.Values.{named_principal, named_host}
+use Rattle.kob_script.specs.Words.{Word}
 use Rattle.kob_script.proofs.Choices.{chosen_false}
 
 fails_first : (fault : CommandFault) (others : List CommandFault) (commands : List AclCommand)

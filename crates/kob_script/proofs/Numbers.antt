@@ -1,15 +1,15 @@
 -- Which words write numbers.
-use Rattle.std.proofs.Common.{◌≡◌, ◌≢◌, ◌∙◌, ◌^◌, ◌<◌, ℕ, List, [], ◌∷◌, length, true, false, Result, Ok, Err, sym, ap, subst, nat_eq, arith, get_or}
+use Rattle.std.proofs.Common.{◌≡◌, ◌≢◌, ◌∙◌, ◌^◌, ◌<◌, ℕ, List, [], ◌∷◌, length, true, false, Result, Ok, Err, sym, ap, subst, nat_eq, arith, get_or, MatchResult, IsUtf8}
 use Rattle.std.specs.List.{starts_with}
-use Rattle.std.specs.Result.{OkIff, MatchResult}
-use Rattle.std.specs.Str.{IsUtf8, all_ascii_digits}
+use Rattle.std.specs.Result.{OkIff}
+use Rattle.std.specs.Str.{all_ascii_digits}
 use Rattle.std.specs.Str.Parse.{digits_value, ParsesUnsigned}
 use Rattle.std.proofs.lemmas.Bool.Decides.{Decides-and, Decides-ltb}
 use Rattle.std.proofs.lemmas.Fmt.{IsAscii-from_digits}
 use Rattle.std.proofs.lemmas.Str.{IsUtf8-from_ascii}
 use Rattle.std.proofs.lemmas.Str.Parse.{IsNumeralModel, numerals_by_value, tells_all_ascii_digits, parse_plain}
 use Rattle.kob_script.specs.declared.fault.FaultKind.TheVariants.{BadNumber}
-use Rattle.kob_script.specs.Numbers.{is_number, number_in}
+use Rattle.kob_script.specs.Values.{is_number, number_in}
 use Rattle.kob_script.proofs.Choices.{chosen_true, chosen_false, false_from}
 
 pub own : IsNumeralModel (λ ds. all_ascii_digits ds ≡ true) (digits_value 10)

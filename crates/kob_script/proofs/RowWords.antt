@@ -1,6 +1,6 @@
 -- The words of a row.
 use Rattle.std.proofs.Common.{◌≡◌, ◌≤◌, ◌<◌, List, [], ◌∷◌, length, get_or, refl, arith}
-use Rattle.kob_script.specs.Word.{Word}
+use Rattle.kob_script.specs.Words.{Word}
 
 -- seven words, each known by its index
 pub seven : (words : List Word) (a b c d e f g : Word) → 7 ≤ length words → length words < 8 → a ≡ get_or words 0 a

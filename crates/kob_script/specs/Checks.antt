@@ -12,10 +12,8 @@ use Rattle.kob_script.specs.declared.fault.ScriptError.TheVariants as script_err
 use Rattle.kob_script.specs.declared.script.Script.{Script}
 use Rattle.kob_script.specs.Reading.{Fails}
 use Rattle.kob_script.specs.Requests.{asks_clap, line_words}
-use Rattle.kob_script.specs.Script.{with_line}
-use Rattle.kob_script.specs.ScriptReadings.{IsAnswerToLine, LineReadsAs}
-use Rattle.kob_script.specs.Word.{Word}
-use Rattle.kob_script.specs.Words.{words_of}
+use Rattle.kob_script.specs.Script.{with_line, IsAnswerToLine, LineReadsAs}
+use Rattle.kob_script.specs.Words.{Word, words_of}
 
 -- the script so far, in which no binding is opened and which asks for these events
 abbrev pub script_so_far : Checking → List Event → Script

@@ -1,33 +1,47 @@
--- What lines ask for, by what clap answered to those of `acl`.
-use Rattle.std.specs.List.{slice_index_or}
-use Rattle.std.specs.Option.{is_some}
-use Rattle.std.specs.Prelude.{◌≡◌, ℕ, Bool, List, [], ◌∷◌, ◌++◌, Option, None, Result, Ok, Err, drop, length, if◌then◌else◌}
+-- Bytes in blocks of whole lines, and what their lines ask for, by what clap answered to those of
+-- `acl`.
+use Rattle.std.specs.List.{concat}
+use Rattle.std.specs.Result.{result_unwrap_or}
+use Rattle.std.specs.Prelude.{◌≡◌, ◌+◌, ℕ, List, [], ◌∷◌, ◌++◌, drop, length, Bool, Option, None, if◌then◌else◌, slice_index_or, is_some}
 use Rattle.kob_acl_cli.specs.declared.args.CliArgs.{CliArgs}
 use Rattle.kob_rights.specs.declared.event.Event.{Event}
-use Rattle.kob_script.specs.Blocks.{lines_left}
-use Rattle.kob_script.specs.ClapAnswer.{after_acl}
+use Rattle.kob_script.specs.Script.{after_acl, lines_in, is_setting}
 use Rattle.kob_script.specs.CommandLines.{events_of}
-use Rattle.kob_script.specs.declared.fault.FaultKind.{FaultKind}
+use Rattle.kob_script.specs.Words.{Word, words_of}
+use Rattle.kob_script.specs.declared.blocks.Blocks.{Blocks}
 use Rattle.kob_script.specs.declared.requests.Requests.TheInside.{Inside}
-use Rattle.kob_script.specs.Settings.{is_setting}
-use Rattle.kob_script.specs.Word.{Word}
-use Rattle.kob_script.specs.Words.{words_of}
 
--- what was read, or nothing where there was a fault
-abbrev pub items_or_none : {A : Type 0} → Result (List A) FaultKind → List A
-items_or_none (Ok items) = items
-items_or_none (Err kind) = []
+-- the lines of each block, one block after another
+abbrev pub lines_in_blocks : List (List ℕ) → List (List ℕ)
+lines_in_blocks [] = []
+lines_in_blocks (block ∷ blocks) = lines_in block ++ lines_in_blocks blocks
+
+-- No line reaches over the end of a block.
+abbrev pub AreWholeLines : List (List ℕ) → Type 0
+AreWholeLines blocks = lines_in_blocks blocks ≡ lines_in (concat blocks)
+
+-- the bytes of the block at the front that were not read
+abbrev pub rest_of : Blocks → List ℕ
+rest_of blocks = drop blocks.at blocks.front
+
+-- the lines that were not read
+abbrev pub lines_left : Blocks → List (List ℕ)
+lines_left blocks = lines_in (rest_of blocks) ++ lines_in_blocks blocks.later.items
+
+-- the lines that were not read and the blocks behind the one at the front
+abbrev pub steps_left : Blocks → ℕ
+steps_left blocks = length (lines_left blocks) + length blocks.later.items
 
 -- the words of a line, none where it has a fault
 abbrev pub line_words : List ℕ → List Word
-line_words line = items_or_none (words_of line)
+line_words line = result_unwrap_or (words_of line) []
 
 -- what words ask for, by clap's answer to them: a setting asks for nothing, and neither does what
 -- has a fault
 abbrev pub requests_of : Option CliArgs → List Word → List Event
 requests_of answer [] = []
 requests_of answer (first ∷ arguments) =
-    if is_setting first then [] else items_or_none (events_of answer (first ∷ arguments))
+    if is_setting first then [] else result_unwrap_or (events_of answer (first ∷ arguments)) []
 
 -- words of which clap is asked
 abbrev pub asks_clap : List Word → Bool

@@ -1,16 +1,53 @@
--- A script: settings, and then requests, a line each.
-use Rattle.std.specs.Prelude.{◌+◌, ℕ, List, [], ◌∷◌, ◌++◌, Option, None, Result, Ok, Err, map, nat_lt, length, if◌then◌else◌}
+-- A script: settings, and then requests, a line each; and what it may be read as, by what clap may
+-- answer to its `acl` lines.
+use Rattle.std.specs.List.{list_all}
+use Rattle.std.specs.Prelude.{IfOk, IfSome, ℕ, Bool, true, false, ◌||◌, List, [], ◌∷◌, ◌++◌, Result, Ok, Err, codes, if◌then◌else◌, bytes_eq, ◌+◌, Option, None, map, nat_lt, length, ◌≡◌, ◌&&◌, not, Some, is_none}
 use Rattle.bstr.specs.Text.{lines_of, without_terminator}
+use Rattle.kob_acl_cli.specs.Lines.{IsReadOf, is_taken, refusals, rows_of_line}
 use Rattle.kob_acl_cli.specs.declared.args.CliArgs.{CliArgs}
+use Rattle.kob_names.specs.declared.settings.Settings.{Settings}
 use Rattle.kob_script.specs.CommandLines.{events_of}
-use Rattle.kob_script.specs.declared.fault.FaultKind.{FaultKind}
-use Rattle.kob_script.specs.declared.fault.FaultKind.TheVariants.{LateSetting}
+use Rattle.kob_script.specs.Reading.{◌>>=◌, each}
+use Rattle.kob_script.specs.Values.{text_of, principal_of}
+use Rattle.kob_script.specs.Words.{Word, words_of}
 use Rattle.kob_script.specs.declared.fault.Fault.{Fault}
+use Rattle.kob_script.specs.declared.fault.FaultKind.TheVariants.{BadLine, LateSetting}
+use Rattle.kob_script.specs.declared.fault.FaultKind.{FaultKind}
+use Rattle.kob_script.specs.declared.fault.ScriptError.TheVariants as script_error
+use Rattle.kob_script.specs.declared.fault.ScriptError.{ScriptError}
 use Rattle.kob_script.specs.declared.script.Script.{Script}
-use Rattle.kob_script.specs.Reading.{◌>>=◌}
-use Rattle.kob_script.specs.Settings.{is_setting, no_settings, settings_with}
-use Rattle.kob_script.specs.Word.{Word}
-use Rattle.kob_script.specs.Words.{words_of}
+
+-- the word that begins a line with a super user
+abbrev pub is_super : Word → Bool
+is_super first = bytes_eq first.decoded (codes "super")
+
+-- a line with one of these first words is a setting, whatever follows
+abbrev pub is_setting : Word → Bool
+is_setting first = is_super first || bytes_eq first.decoded (codes "everyone")
+
+-- no super users, no bindings in force, and nothing open to everyone
+abbrev pub no_settings : Settings
+no_settings = record { supers = []; opening = []; everyone = false }
+
+-- super PRINCIPAL
+abbrev pub super_of : List Word → Result (List ℕ) FaultKind
+super_of (name ∷ []) = text_of name >>= principal_of
+super_of _ = Err BadLine
+
+-- everyone on, or everyone off
+abbrev pub everyone_of : List Word → Result Bool FaultKind
+everyone_of (word ∷ []) =
+    if bytes_eq word.decoded (codes "on") then Ok true
+    else (if bytes_eq word.decoded (codes "off") then Ok false else Err BadLine)
+everyone_of _ = Err BadLine
+
+-- the settings with what a line says that begins with this word; of the lines `everyone` the last
+-- one counts
+abbrev pub settings_with : Settings → Word → List Word → Result Settings FaultKind
+settings_with settings first arguments =
+    if is_super first then
+    (super_of arguments >>= λ name. Ok (record settings { supers = settings.supers ++ name ∷ [] }))
+    else (everyone_of arguments >>= λ everyone. Ok (record settings { everyone = everyone }))
 
 -- the script with a setting more; after a request it is late
 abbrev pub with_setting : Script → Word → List Word → Result Script FaultKind
@@ -63,3 +100,71 @@ empty_script = record { settings = no_settings; events = [] }
 -- the script that bytes without `acl` lines write, or its first fault, with lines counted from 1
 unfoldable pub script_of : List ℕ → Result Script Fault
 script_of text = lines_from empty_script 1 (lines_in text)
+
+-- clap may answer options only where they are what it reads of the texts, and refuse only texts
+-- that it doesn't take
+abbrev pub MayAnswer : List (List ℕ) → Option CliArgs → Type 0
+MayAnswer texts (Some args) = IsReadOf (rows_of_line texts) args × (refusals texts ≡ [])
+MayAnswer texts None = is_taken texts ≡ true → ⊥
+
+-- the words after `acl`, where a line asks by it
+abbrev pub after_acl : List Word → Option (List Word)
+after_acl (first ∷ host ∷ command ∷ arguments) =
+    if not (is_setting first) && bytes_eq command.decoded
+    (codes "acl") then Some arguments else None
+after_acl _ = None
+
+-- clap may have answered this to a line with these words; of other lines it isn't asked, and neither
+-- about words that are no texts
+abbrev pub IsAnswerTo : List Word → Option CliArgs → Type 0
+IsAnswerTo words answer =
+    IfSome (after_acl words) (λ arguments.
+    IfOk (each text_of arguments) (λ texts. MayAnswer texts answer))
+
+-- nothing is asked of a line with an escape that is not whole
+abbrev pub IsAnswerToLine : Result (List Word) FaultKind → Option CliArgs → Type 0
+IsAnswerToLine line answer = IfOk line (λ words. IsAnswerTo words answer)
+
+-- with a line more, the script may be this
+abbrev pub LineReadsAs : Script → List ℕ → Result Script FaultKind → Type 0
+LineReadsAs s line read =
+    (answer : Option CliArgs) × IsAnswerToLine (words_of line) answer
+    × (with_line answer s line ≡ read)
+
+-- the lines after one may be read as this, unless that one has a fault
+abbrev pub ThenLines : ℕ → Result Script FaultKind → (Script → Type 0) → Result Script Fault
+    → Type 0
+ThenLines number (Ok s) Others read = Others s
+ThenLines number (Err kind) Others read = read ≡ Err (record { line = number; kind = kind })
+
+-- the lines from one on, whose number is given, may be read as this
+unfoldable pub LinesFrom : Script → ℕ → List (List ℕ) → Result Script Fault → Type 0
+LinesFrom s number [] read = read ≡ Ok s
+LinesFrom s number (line ∷ lines) read =
+    (first : Result Script FaultKind) × LineReadsAs s line first
+    × ThenLines number first (λ next. LinesFrom next (number + 1) lines read) read
+
+-- The bytes may be read as this script, or as having this first fault, with lines counted from 1.
+abbrev pub ReadsAs : List ℕ → Result Script Fault → Type 0
+ReadsAs text read = LinesFrom empty_script 1 (lines_in text) read
+
+-- clap isn't asked about a line
+abbrev pub is_plain : Result (List Word) FaultKind → Bool
+is_plain (Ok words) = is_none (after_acl words)
+is_plain (Err kind) = true
+
+-- No line of the bytes asks by `acl`.
+abbrev pub HasNoAclLine : List ℕ → Type 0
+HasNoAclLine text = list_all (λ line. is_plain (words_of line)) (lines_in text) ≡ true
+
+-- A script was read as its bytes may be, unless memory ran out.
+abbrev pub MayRead : List ℕ → Result Script ScriptError → Type 0
+MayRead text (Ok script) = ReadsAs text (Ok script)
+MayRead text (Err script_error.Memory) = Unit {0}
+MayRead text (Err (script_error.Fault fault)) = ReadsAs text (Err fault)
+
+-- What was read is what the bytes write, unless memory ran out.
+abbrev pub Reads : Result Script ScriptError → Result Script Fault → Type 0
+Reads (Ok script) read = read ≡ Ok script
+Reads (Err script_error.Memory) read = Unit {0}
+Reads (Err (script_error.Fault fault)) read = read ≡ Err fault

@@ -1,9 +1,72 @@
--- The words of a line.
-use Rattle.std.specs.Prelude.{◌==◌, ◌||◌, ℕ, Bool, true, List, [], ◌∷◌, Result, Ok, filter, length, nat_lt, slice_index, if◌then◌else◌}
+-- The words of a line, and the bytes that they stand for.
+use Rattle.std.specs.Char.{digit_value}
 use Rattle.std.specs.List.{slice_split}
+use Rattle.std.specs.Prelude.{◌≡◌, ◌+◌, ◌*◌, ◌==◌, ◌&&◌, ℕ, zero, suc, Bool, true, List, [], ◌∷◌, ◌++◌, drop, Option, Some, None, is_some, nat_lt, unwrap_or, if◌then◌else◌, Result, Ok, ◌||◌, filter, length, slice_index, option_map}
+use Rattle.kob_script.specs.Reading.{◌>>=◌, each, found_or}
+use Rattle.kob_script.specs.declared.fault.FaultKind.TheVariants.{BadEscape}
 use Rattle.kob_script.specs.declared.fault.FaultKind.{FaultKind}
-use Rattle.kob_script.specs.Reading.{each}
-use Rattle.kob_script.specs.Word.{Word, word_of}
+
+-- two hexadecimal digits
+abbrev pub are_hexadecimal : ℕ → ℕ → Bool
+are_hexadecimal high low = nat_lt (digit_value high) 16 && nat_lt (digit_value low) 16
+
+-- the byte that they write
+abbrev pub hexadecimal : ℕ → ℕ → ℕ
+hexadecimal high low = 16 * digit_value high + digit_value low
+
+-- the byte that stands after a percent sign; nothing where no two digits follow
+abbrev pub escaped : List ℕ → Option ℕ
+escaped (high ∷ low ∷ others) =
+    if are_hexadecimal high low then Some (hexadecimal high low) else None
+escaped _ = None
+
+-- the byte at the front of a word, and what comes after it; nothing for a percent sign that begins
+-- no escape
+abbrev pub byte_at : ℕ → List ℕ → Option (ℕ × List ℕ)
+byte_at first others =
+    if first == 37 then option_map (λ byte. (byte, drop 2 others)) (escaped others)
+    else Some (first, others)
+
+-- a byte before others
+abbrev pub before : Option ℕ → Option (List ℕ) → Option (List ℕ)
+before None others = None
+before (Some byte) others = option_map (λ bytes. byte ∷ bytes) others
+
+-- what a word stands for behind so many bytes: `%` and two hexadecimal digits for a byte, each other
+-- byte for itself; nothing where no two digits follow a percent sign
+unfoldable pub unescaped_from : ℕ → List ℕ → Option (List ℕ)
+unescaped_from n [] = Some []
+unescaped_from zero (byte ∷ rest) =
+    if byte == 37 then before (escaped rest) (unescaped_from 2 rest)
+    else before (Some byte) (unescaped_from 0 rest)
+unescaped_from (suc n) (byte ∷ rest) = unescaped_from n rest
+
+abbrev pub unescaped : List ℕ → Option (List ℕ)
+unescaped word = unescaped_from 0 word
+
+-- the bytes that a part of a word stands for; where its escapes are not whole, itself
+abbrev pub bytes_of : List ℕ → List ℕ
+bytes_of part = unwrap_or (unescaped part) part
+
+-- two hexadecimal digits follow each percent sign
+abbrev pub has_whole_escapes : List ℕ → Bool
+has_whole_escapes word = is_some (unescaped word)
+
+-- the parts around this byte have whole escapes where the bytes have, so that each part is read as
+-- it stands
+abbrev pub LeavesWhole : ℕ → Type 0
+LeavesWhole byte = (front back : List ℕ) → has_whole_escapes (front ++ byte ∷ back) ≡ true
+    → (has_whole_escapes front ≡ true) × (has_whole_escapes back ≡ true)
+
+-- a word as it stands in the line, and the bytes that it stands for
+pub record Word : Type 0 where
+  pub raw : List ℕ
+  pub decoded : List ℕ
+
+-- a word, unless a percent sign in it begins no escape
+abbrev pub word_of : List ℕ → Result Word FaultKind
+word_of raw =
+    found_or BadEscape (unescaped raw) >>= λ bytes. Ok (record { raw = raw; decoded = bytes })
 
 -- a space or a tab
 abbrev pub is_blank : ℕ → Bool

@@ -18,7 +18,7 @@ pub struct Blocks {
 }
 
 impl Blocks {
-    ghost use Rattle.kob_script.specs.Blocks.{lines_in_blocks, lines_left, rest_of, steps_left};
+    ghost use Rattle.kob_script.specs.Requests.{lines_in_blocks, lines_left, rest_of, steps_left};
 
     /// Blocks of which nothing was read; no memory is taken.
     pub fn new(alloc: Global, blocks: Vec<Bytes>) -> Blocks

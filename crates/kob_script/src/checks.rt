@@ -1,20 +1,20 @@
 //! A script is checked: all its lines are read before the first request is served.
 
 ghost use Rattle.std.specs.List.{concat};
-ghost use Rattle.std.specs.Prelude.{◌≡◌, ◌<◌, ◌^◌, ◌+◌, List, length, OnOk};
+ghost use Rattle.std.specs.Prelude.{◌≡◌, ◌<◌, ◌^◌, List, length, OnOk};
 ghost use Rattle.kob_rights.specs.declared.event.Event as event;
-ghost use Rattle.kob_script.specs.Blocks.{AreWholeLines, lines_in_blocks};
-ghost use Rattle.kob_script.specs.Checks.{ChecksLine, ChecksNext, as_read, checked, fault_at};
-ghost use Rattle.kob_script.specs.Checks.{script_so_far, with_answer};
-ghost use Rattle.kob_script.specs.Requests.{requests_in};
-ghost use Rattle.kob_script.specs.Script.{script_of, with_events, with_setting, with_words};
-ghost use Rattle.kob_script.specs.ScriptReadings.{HasNoAclLine, MayRead, Reads};
+ghost use Rattle.kob_script.specs.Requests.{AreWholeLines, lines_in_blocks, requests_in};
+ghost use Rattle.kob_script.specs.Checks.{ChecksLine, ChecksNext, as_read, checked, script_so_far};
+ghost use Rattle.kob_script.specs.Checks.{fault_at, with_answer};
+ghost use Rattle.kob_script.specs.Script.{everyone_of, is_setting, is_super, super_of, script_of};
+ghost use Rattle.kob_script.specs.Script.{with_events, with_setting, with_words, HasNoAclLine};
+ghost use Rattle.kob_script.specs.Script.{MayRead, Reads};
+ghost use Rattle.kob_script.specs.Reading.{Gives};
 
-use crate::acl::{answer_to, asks_clap};
-use crate::command_lines::count_of;
+use crate::command_lines::{answer_to, asks_clap, count_of};
 use crate::fault::{Fault, FaultKind, LineError, ScriptError};
 use crate::requests::Requests;
-use crate::setting::{everyone_of, is_setting, is_super, super_of};
+use crate::values::{lent_text_of, principal_of};
 use crate::words::{Word, words_of};
 use bstr::ByteSlice;
 use kob_acl_cli::CliArgs;
@@ -191,4 +191,39 @@ fn count_requests(
         None => return Err(LineError::Memory),
     }
     Ok(())
+}
+
+/// Whether a line with this first word is a setting.
+pub fn is_setting(first: &Word<'_>) -> bool
+    ensures { result ≡ is_setting first.now }
+{
+    is_super(first) || first.decoded() == b"everyone".as_slice()
+}
+
+/// Whether a line with this first word names a super user.
+pub fn is_super(first: &Word<'_>) -> bool
+    ensures { result ≡ is_super first.now }
+{
+    first.decoded() == b"super".as_slice()
+}
+
+/// The super user whom the words after `super` name.
+pub fn super_of(alloc: Global, arguments: &[Word<'_>]) -> Result<Principal, LineError>
+    ensures { Gives result (super_of arguments.now) }
+{
+    match arguments {
+        [name] => principal_of(alloc, lent_text_of(name)?),
+        _ => Err(LineError::Fault(FaultKind::BadLine)),
+    }
+}
+
+/// Whether what no binding matches is open to everyone, by the words after `everyone`.
+pub fn everyone_of(arguments: &[Word<'_>]) -> Result<bool, LineError>
+    ensures { Gives result (everyone_of arguments.now) }
+{
+    match arguments {
+        [word] if word.decoded() == b"on".as_slice() => Ok(true),
+        [word] if word.decoded() == b"off".as_slice() => Ok(false),
+        _ => Err(LineError::Fault(FaultKind::BadLine)),
+    }
 }

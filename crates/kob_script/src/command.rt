@@ -1,10 +1,7 @@
 //! The table of commands: their names, and the words that each takes.
 
-ghost use Rattle.std.specs.List.{find};
-ghost use Rattle.std.specs.Option.{option_map};
-ghost use Rattle.std.specs.Prelude.{◌≡◌};
-ghost use Rattle.std.specs.Str.{bytes_eq};
-ghost use Rattle.kob_script.specs.Command.{command_named, row, row_named};
+ghost use Rattle.std.specs.Prelude.{◌≡◌, bytes_eq, find, option_map};
+ghost use Rattle.kob_script.specs.CommandLines.{command_named, row, row_named};
 
 /// What a word writes.
 #[derive(Clone, Copy, Debug, PartialEq, Eq)]

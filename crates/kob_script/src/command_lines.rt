@@ -1,20 +1,24 @@
-//! What a line asks for.
+//! What a line asks for. The words after `acl` are those of `kafka-acls`, each command of which is a
+//! request of its own.
 
-ghost use Rattle.std.specs.Prelude.{◌≡◌, ◌∷◌, [], IfOk, Ok};
-ghost use Rattle.kob_script.specs.Command.{command_named};
-ghost use Rattle.kob_script.specs.CommandLines.{acl_events, asks_by_acl, command_events, events_of};
-ghost use Rattle.kob_script.specs.Reading.{Gives, counted};
+ghost use Rattle.std.specs.Prelude.{◌≡◌, [], IfOk, Ok, map, option_map};
+ghost use Rattle.kob_script.specs.CommandLines.{acl_commands, acl_events, acl_request, asks_by_acl};
+ghost use Rattle.kob_script.specs.CommandLines.{error_of, events_by, events_of};
+ghost use Rattle.kob_script.specs.Reading.{Gives, GivesSeen, counted};
+ghost use Rattle.kob_script.specs.Requests.{asks_clap};
+ghost use Rattle.kob_script.specs.Script.{after_acl, IsAnswerTo, MayAnswer};
 
-use crate::acl::{acl_commands, events_by};
+use crate::checks::is_setting;
 use crate::command::command_named;
 use crate::fault::{FaultKind, LineError};
 use crate::faults::check_line;
 use crate::request::request_of;
 use crate::values::{named_host, named_principal, texts_of};
 use crate::words::Word;
-use kob_acl_cli::CliArgs;
-use kob_rights::Event;
-use std::alloc::Global;
+use kob_acl_cli::{AclCommand, CliArgs, CommandFault, LineFault, commands_of, read_line};
+use kob_names::{Host, PlainValue, Principal};
+use kob_rights::{CreateAcls, DeleteAcls, DescribeAcls, Event, Request};
+use std::alloc::{AllocError, Global};
 use std::collections::VecDeque;
 use std::marker::Model;
 
@@ -43,26 +47,6 @@ impl Asked {
         Asked {
             first: None,
             others: VecDeque::new(alloc),
-        }
-    }
-
-    /// One event; no memory is taken.
-    pub fn one(alloc: Global, event: Event) -> Asked
-        ensures { result ≡ event ∷ [] }
-    {
-        Asked {
-            first: Some(event),
-            others: VecDeque::new(alloc),
-        }
-    }
-
-    /// The events of a list; no memory is taken.
-    pub fn several(events: Vec<Event>) -> Asked
-        ensures { result ≡ events.items }
-    {
-        Asked {
-            first: None,
-            others: VecDeque::from(events),
         }
     }
 }
@@ -115,10 +99,26 @@ pub fn events_in(
     };
     if command.decoded() == b"acl".as_slice() {
         let events = acl_events(alloc, principal, host, arguments, answer)?;
-        return Ok(Asked::several(events));
+        return Ok(Asked {
+            first: None,
+            others: VecDeque::from(events),
+        });
     }
-    let event = command_event(alloc, principal, host, command.decoded(), arguments)?;
-    Ok(Asked::one(alloc, event))
+    let Some(command) = command_named(command.decoded()) else {
+        return Err(LineError::Fault(FaultKind::BadLine));
+    };
+    let principal = named_principal(alloc, principal)?;
+    let host = named_host(alloc, host)?;
+    let request = request_of(alloc, command, arguments)?;
+    let event = Event {
+        principal,
+        host,
+        request,
+    };
+    Ok(Asked {
+        first: Some(event),
+        others: VecDeque::new(alloc),
+    })
 }
 
 fn asks_by_acl(words: &[Word<'_>]) -> bool
@@ -147,26 +147,106 @@ fn acl_events(
     Ok(events_by(alloc, &principal, &host, commands)?)
 }
 
-fn command_event(
-    alloc: Global,
-    principal: &Word<'_>,
-    host: &Word<'_>,
-    name: &[u8],
-    arguments: &[Word<'_>],
-) -> Result<Event, LineError>
-    ensures { IfOk result (λ event.
-        command_events (command_named name.now) principal.now host.now arguments.now
-        ≡ Ok (event ∷ [])) }
+/// What `clap` answers to a line's words: the options of `acl`, or nothing where it refuses them,
+/// where they are no texts and where the line doesn't ask by `acl`. The error is out of memory.
+pub fn answer_to(alloc: Global, words: &[Word<'_>]) -> Result<Option<CliArgs>, AllocError>
+    ensures { IfOk result (λ answer. IsAnswerTo words.now answer) }
 {
-    let Some(command) = command_named(name) else {
-        return Err(LineError::Fault(FaultKind::BadLine));
+    let Some(arguments) = after_acl(words) else {
+        return Ok(None);
     };
-    let principal = named_principal(alloc, principal)?;
-    let host = named_host(alloc, host)?;
-    let request = request_of(alloc, command, arguments)?;
-    Ok(Event {
-        principal,
-        host,
-        request,
-    })
+    match texts_of(alloc, arguments) {
+        Ok(texts) => ask_clap(alloc, &texts),
+        Err(LineError::Memory) => Err(AllocError),
+        Err(LineError::Fault(_)) => Ok(None),
+    }
+}
+
+fn ask_clap(alloc: Global, texts: &[&str]) -> Result<Option<CliArgs>, AllocError>
+    ensures { IfOk result (λ answer. MayAnswer (map (λ text. text.now) texts.entry.now) answer) }
+{
+    match read_line(alloc, texts) {
+        Ok(args) => Ok(Some(args)),
+        Err(LineFault::Usage) => Ok(None),
+        Err(LineFault::Memory) => Err(AllocError),
+    }
+}
+
+/// Whether `clap` is asked about a line's words.
+pub fn asks_clap(words: &[Word<'_>]) -> bool
+    ensures { result ≡ asks_clap words.now }
+{
+    after_acl(words).is_some()
+}
+
+// The words after `acl`, where a line that is no setting asks by it.
+fn after_acl<'w, 'l>(words: &'w [Word<'l>]) -> Option<&'w [Word<'l>]>
+    ensures { option_map (λ arguments. arguments.now) result ≡ after_acl words.entry.now }
+{
+    match words {
+        [first, _, command, arguments @ ..]
+            if !is_setting(first) && command.decoded() == b"acl".as_slice() => { Some(arguments) }
+        _ => None,
+    }
+}
+
+/// The commands of what `clap` answers to the words of a line: options, or nothing where it refuses
+/// them.
+fn acl_commands(alloc: Global, answer: &Option<CliArgs>) -> Result<Vec<AclCommand>, LineError>
+    ensures { GivesSeen (λ commands. commands.items) result (acl_commands answer.now) }
+{
+    let Some(args) = answer else {
+        return Err(LineError::Fault(FaultKind::Usage));
+    };
+    match commands_of(alloc, args) {
+        Ok(commands) => Ok(commands),
+        Err(fault) => Err(error_of(&fault)),
+    }
+}
+
+fn error_of(fault: &CommandFault) -> LineError
+    ensures { result ≡ error_of fault.now }
+{
+    match fault {
+        CommandFault::NoAction => LineError::Fault(FaultKind::NoAction),
+        CommandFault::BadName(_) => LineError::Fault(FaultKind::BadName),
+        CommandFault::BadMix => LineError::Fault(FaultKind::BadMix),
+        CommandFault::NoResource => LineError::Fault(FaultKind::NoResource),
+        CommandFault::NoPrincipal => LineError::Fault(FaultKind::NoPrincipal),
+        CommandFault::Memory => LineError::Memory,
+    }
+}
+
+/// The events that a principal at a host asks for commands, one each.
+fn events_by(
+    alloc: Global,
+    principal: &Principal,
+    host: &Host,
+    commands: Vec<AclCommand>,
+) -> Result<Vec<Event>, AllocError>
+    ensures { IfOk result (λ events.
+        events.items ≡ events_by principal.now host.now commands.items) }
+{
+    let mut events = Vec::new(alloc);
+    for command in commands {
+        let principal = principal.copy(alloc)?;
+        let host = host.copy(alloc)?;
+        let request = acl_request(command);
+        events.push(Event {
+            principal,
+            host,
+            request,
+        })?;
+    }
+    Ok(events)
+}
+
+fn acl_request(command: AclCommand) -> Request
+    ensures { result ≡ acl_request command }
+{
+    match command {
+        AclCommand::Create(drafts) => Request::CreateAcls(CreateAcls { drafts }),
+        AclCommand::Delete(filter) => Request::DeleteAcls(DeleteAcls { filter }),
+        AclCommand::Describe(filter) => Request::DescribeAcls(DescribeAcls { filter }),
+    }
 }

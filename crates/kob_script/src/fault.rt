@@ -1,5 +1,9 @@
 //! Why a script is refused.
 
+ghost use Rattle.std.specs.Prelude.{◌≡◌};
+ghost use Rattle.kob_script.specs.declared.fault.LineError.TheVariants as line_error;
+ghost use Rattle.kob_script.specs.declared.fault.ScriptError.TheVariants as script_error;
+
 use std::alloc::{AllocError, AllocFailed};
 use thiserror::Error;
 
@@ -64,10 +68,7 @@ pub enum LineError {
 }
 
 impl From<AllocError> for LineError {
-    ghost use Rattle.std.specs.Prelude.{◌≡◌};
-    ghost use Rattle.kob_script.specs.declared.fault.LineError.TheVariants.{Memory};
-
-    ghost from_gives = { λ _ error. error ≡ Memory };
+    ghost from_gives = { λ _ error. error ≡ line_error.Memory };
 
     fn from(_error: AllocError) -> LineError {
         LineError::Memory
@@ -75,10 +76,7 @@ impl From<AllocError> for LineError {
 }
 
 impl<T: Drop> From<AllocFailed<T>> for LineError {
-    ghost use Rattle.std.specs.Prelude.{◌≡◌};
-    ghost use Rattle.kob_script.specs.declared.fault.LineError.TheVariants.{Memory};
-
-    ghost from_gives = { λ _ error. error ≡ Memory };
+    ghost from_gives = { λ _ error. error ≡ line_error.Memory };
 
     fn from(_error: AllocFailed<T>) -> LineError {
         LineError::Memory
@@ -86,10 +84,7 @@ impl<T: Drop> From<AllocFailed<T>> for LineError {
 }
 
 impl From<AllocError> for ScriptError {
-    ghost use Rattle.std.specs.Prelude.{◌≡◌};
-    ghost use Rattle.kob_script.specs.declared.fault.ScriptError.TheVariants.{Memory};
-
-    ghost from_gives = { λ _ error. error ≡ Memory };
+    ghost from_gives = { λ _ error. error ≡ script_error.Memory };
 
     fn from(_error: AllocError) -> ScriptError {
         ScriptError::Memory

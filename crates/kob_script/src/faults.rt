@@ -1,19 +1,17 @@
 //! The fault of a line's words: the first kind, in the order of the kinds, that some word has.
 
-ghost use Rattle.std.specs.Prelude.{◌≡◌, ◌∷◌, [], Some, Option, Result};
-ghost use Rattle.kob_script.specs.CommandLines.{asked_row, line_fault};
+ghost use Rattle.std.specs.Prelude.{◌≡◌, Option, Result};
+ghost use Rattle.kob_script.specs.CommandLines.{line_fault, faults_in, place_fault, slot_fault};
+ghost use Rattle.kob_script.specs.CommandLines.{words_behind};
 ghost use Rattle.kob_script.specs.Reading.{Finds, Gives, earlier, earlier_kind, fault_in};
 ghost use Rattle.kob_script.specs.Reading.{first_kind};
-ghost use Rattle.kob_script.specs.Command.{faults_in, place_fault, row_fault, slot_fault};
-ghost use Rattle.kob_script.specs.Command.{words_behind};
 ghost use Rattle.kob_script.specs.declared.fault.FaultKind as kinds;
 
-use crate::batch::idem_of;
 use crate::command::{Place, Slot, row_named};
 use crate::fault::{FaultKind, LineError};
 use crate::values::{
-    before_of, filter_pattern_of, known, lent_text_of, named_host, named_principal, number_of,
-    texts_of, which_of,
+    before_of, filter_pattern_of, idem_of, known, lent_text_of, named_host, named_principal,
+    number_of, texts_of, which_of,
 };
 use crate::words::Word;
 use kob_words::{operation_named, pattern_named, permission_named, resource_named};
@@ -23,25 +21,12 @@ use std::alloc::Global;
 pub fn check_line(alloc: Global, words: &[Word<'_>]) -> Result<(), LineError>
     ensures { Finds result (line_fault words.now) }
 {
-    match words {
-        [principal, host, command, arguments @ ..] => match row_named(command.decoded()) {
-            Some(places) => check_asked(alloc, principal, host, places, arguments),
-            None => Err(LineError::Fault(FaultKind::BadLine)),
-        },
-        _ => Err(LineError::Fault(FaultKind::BadLine)),
-    }
-}
-
-fn check_asked(
-    alloc: Global,
-    principal: &Word<'_>,
-    host: &Word<'_>,
-    places: &[Place],
-    arguments: &[Word<'_>],
-) -> Result<(), LineError>
-    ensures { Finds result (row_fault (Some (asked_row places.now))
-        (principal.now ∷ host.now ∷ arguments.now)) }
-{
+    let [principal, host, command, arguments @ ..] = words else {
+        return Err(LineError::Fault(FaultKind::BadLine));
+    };
+    let Some(places) = row_named(command.decoded()) else {
+        return Err(LineError::Fault(FaultKind::BadLine));
+    };
     let others = check_words(alloc, places, arguments);
     let behind_principal = first_error(check_slot(alloc, Slot::Host, host), others);
     first_error(
@@ -77,25 +62,17 @@ fn words_behind<'w, 'l>(place: Place, words: &'w [Word<'l>]) -> &'w [Word<'l>]
 fn check_place(alloc: Global, place: Place, words: &[Word<'_>]) -> Result<(), LineError>
     ensures { Finds result (place_fault place words.now) }
 {
-    match place {
-        Place::Records => Ok(()),
-        Place::Texts => {
+    match (place, words) {
+        (Place::Records, _) | (Place::OrNone(_), []) => Ok(()),
+        (Place::Texts, _) => {
             texts_of(alloc, words)?;
             Ok(())
         }
-        Place::One(slot) => match words.split_first() {
-            Some((word, _)) => check_slot(alloc, slot, word),
-            None => Err(LineError::Fault(FaultKind::BadLine)),
-        },
-        Place::OrDash(slot) => match words.split_first() {
-            Some((word, _)) if word.is_dash() => Ok(()),
-            Some((word, _)) => check_slot(alloc, slot, word),
-            None => Err(LineError::Fault(FaultKind::BadLine)),
-        },
-        Place::OrNone(slot) => match words.split_first() {
-            Some((word, _)) => check_slot(alloc, slot, word),
-            None => Ok(()),
-        },
+        (Place::OrDash(_), [word, ..]) if word.is_dash() => Ok(()),
+        (Place::One(slot) | Place::OrDash(slot) | Place::OrNone(slot), [word, ..]) => {
+            check_slot(alloc, slot, word)
+        }
+        _ => Err(LineError::Fault(FaultKind::BadLine)),
     }
 }
 

@@ -1,13 +1,10 @@
 //! The reader of scripts and the printer of replies.
 #![tactic(auto)]
 
-mod acl;
-mod batch;
 mod blocks;
 mod checks;
 mod command;
 mod command_lines;
-mod escape;
 mod fault;
 mod faults;
 mod laws;
@@ -15,13 +12,11 @@ mod printed;
 mod request;
 mod requests;
 mod script;
-mod setting;
 mod values;
 mod words;
 
-pub use acl::answer_to;
-pub use checks::{CheckedScript, check_script};
-pub use command_lines::{Asked, events_of};
+pub use checks::{CheckedScript, check_script, everyone_of, is_setting, is_super, super_of};
+pub use command_lines::{Asked, answer_to, events_of};
 pub use fault::{Fault, FaultKind, LineError, ScriptError};
 pub use laws::{
     cuts_leave_whole_escapes, faults_come_in_their_order, plain_scripts_have_one_reading,
@@ -29,6 +24,5 @@ pub use laws::{
 pub use printed::{print_fault, print_reply, push_outcome};
 pub use requests::Requests;
 pub use script::{Script, read_script};
-pub use setting::{everyone_of, is_setting, is_super, super_of};
 pub use values::{host_of, lent_text_of, number_of, principal_of, text_of};
 pub use words::{Word, words_of};

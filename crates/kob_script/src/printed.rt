@@ -1,14 +1,12 @@
 //! How replies and faults are printed.
 #![tactic(auto, using(kob_words::proofs::Appending::appending))]
 
-ghost use Rattle.std.specs.Prelude.{◌≡◌, ◌++◌, OnOk};
-ghost use Rattle.std.specs.Fmt.{decimal};
+ghost use Rattle.std.specs.Prelude.{◌≡◌, ◌++◌, OnOk, decimal};
 ghost use Rattle.kob_rights.specs.declared.reply.Body.TheVariants.{Bindings, Groups, Records};
 ghost use Rattle.kob_rights.specs.declared.reply.Body.TheVariants.{Serials, Topics};
-ghost use Rattle.kob_script.specs.PrintedBody.{topic_item, record_item, body_text};
-ghost use Rattle.kob_script.specs.PrintedFault.{kind_text, fault_text};
-ghost use Rattle.kob_script.specs.PrintedReply.{verdict_text, verdicts_text, code_text};
-ghost use Rattle.kob_script.specs.PrintedReply.{outcome_text, reply_text};
+ghost use Rattle.kob_script.specs.Printed.{topic_item, record_item, body_text, kind_text};
+ghost use Rattle.kob_script.specs.Printed.{fault_text, verdict_text, verdicts_text, code_text};
+ghost use Rattle.kob_script.specs.Printed.{outcome_text, reply_text};
 
 use crate::fault::{Fault, FaultKind};
 use kob_names::{Binding, Record, Text, Verdict};
@@ -59,7 +57,7 @@ fn push_code(out: &mut Vec<u8>, code: Code) -> Result<(), AllocError>
     out.extend_from_slice(code.name().as_bytes())
 }
 
-#[tactic(auto, using(kob_words::proofs::Appending::appending), unfolding(crate::specs::PrintedReply::verdicts_text))]
+#[tactic(auto, using(kob_words::proofs::Appending::appending), unfolding(crate::specs::Printed::verdicts_text))]
 fn push_verdicts(out: &mut Vec<u8>, verdicts: &[Verdict]) -> Result<(), AllocError>
     ensures { OnOk result (out.new.items ≡ out.old.items ++ verdicts_text verdicts.now) }
 {

@@ -1,8 +1,7 @@
 //! The request of a command, by the words after it, which have no fault.
 #![tactic(auto, unfolding(crate::specs::CommandLines::request_of))]
 
-ghost use Rattle.std.specs.Prelude.{◌≡◌, IfOk, Result, Ok, codes, if◌then◌else◌};
-ghost use Rattle.std.specs.Str.{bytes_eq};
+ghost use Rattle.std.specs.Prelude.{◌≡◌, IfOk, Result, Ok, codes, if◌then◌else◌, bytes_eq};
 ghost use Rattle.kob_names.specs.declared.filter.BindingFilter as names;
 ghost use Rattle.kob_rights.specs.declared.request.Request as requests;
 ghost use Rattle.kob_script.specs.CommandLines.{filter_with, request_of};
@@ -10,11 +9,11 @@ ghost use Rattle.kob_script.specs.Reading.{Gives, some};
 ghost use Rattle.kob_script.specs.declared.command.Command.TheVariants as commands;
 ghost use Rattle.kob_script.specs.declared.fault.FaultKind as kinds;
 
-use crate::batch::{idem_of, records_of};
 use crate::command::Command;
 use crate::fault::{FaultKind, LineError};
 use crate::values::{
-    before_of, filter_pattern_of, known, named_host, named_principal, number_of, text_of, which_of,
+    before_of, filter_pattern_of, idem_of, known, named_host, named_principal, number_of,
+    records_of, text_of, which_of,
 };
 use crate::words::Word;
 use kob_names::{Batch, BindingFilter, Draft, Items, Pattern};
@@ -125,16 +124,7 @@ fn other_request(alloc: Global, command: Command, words: &[Word<'_>]) -> Result<
 fn create_acl(alloc: Global, words: &[Word<'_>]) -> Result<Request, LineError>
     ensures { IfOk result (λ made. request_of commands.CreateAcl words.now ≡ Ok made) }
 {
-    let [
-        permission,
-        principal,
-        host,
-        operation,
-        resource,
-        pattern,
-        name,
-    ] = words
-    else {
+    let [permission, who, from, operation, resource, pattern, name] = words else {
         return Err(LineError::Fault(FaultKind::BadLine));
     };
     let draft = Draft {
@@ -145,8 +135,8 @@ fn create_acl(alloc: Global, words: &[Word<'_>]) -> Result<Request, LineError>
             kind: known(pattern_named(pattern.decoded()))?,
             name: text_of(alloc, name)?,
         },
-        principal: named_principal(alloc, principal)?,
-        host: named_host(alloc, host)?,
+        principal: named_principal(alloc, who)?,
+        host: named_host(alloc, from)?,
     };
     let mut drafts = Vec::with_capacity(alloc, 1)?;
     drafts.push(draft)?;
@@ -158,16 +148,7 @@ fn filter_of(alloc: Global, words: &[Word<'_>]) -> Result<BindingFilter, LineErr
     ensures { (wrap : names.BindingFilter → requests.Request)
         → IfOk result (λ filter. filter_with wrap words.now ≡ Ok (wrap filter)) }
 {
-    let [
-        resource,
-        name,
-        pattern,
-        principal,
-        host,
-        operation,
-        permission,
-    ] = words
-    else {
+    let [resource, name, pattern, who, from, operation, permission] = words else {
         return Err(LineError::Fault(FaultKind::BadLine));
     };
     Ok(BindingFilter {
@@ -176,8 +157,8 @@ fn filter_of(alloc: Global, words: &[Word<'_>]) -> Result<BindingFilter, LineErr
         operation: unless_dash(operation, known(operation_named(operation.decoded())))?,
         permission: unless_dash(permission, known(permission_named(permission.decoded())))?,
         name: unless_dash(name, text_of(alloc, name))?,
-        principal: unless_dash(principal, named_principal(alloc, principal))?,
-        host: unless_dash(host, named_host(alloc, host))?,
+        principal: unless_dash(who, named_principal(alloc, who))?,
+        host: unless_dash(from, named_host(alloc, from))?,
     })
 }
 

@@ -1,14 +1,12 @@
 //! The requests of a script that was checked, each read when it is its turn.
 
 ghost use Rattle.std.specs.Prelude.{◌≡◌, ◌<◌, ◌++◌, ◌∷◌, length, IfOk, OnOk, OnErr};
-ghost use Rattle.kob_script.specs.Blocks.{lines_in_blocks, lines_left, steps_left};
-ghost use Rattle.kob_script.specs.Requests.{answers_after, first_answer, line_words, requests_in};
-ghost use Rattle.kob_script.specs.Requests.{requests_of};
+ghost use Rattle.kob_script.specs.Requests.{lines_in_blocks, lines_left, steps_left, answers_after};
+ghost use Rattle.kob_script.specs.Requests.{first_answer, line_words, requests_in, requests_of};
 
-use crate::acl::asks_clap;
 use crate::blocks::{Blocks, first_line};
-use crate::command_lines::{Asked, events_in};
-use crate::setting::is_setting;
+use crate::checks::is_setting;
+use crate::command_lines::{Asked, asks_clap, events_in};
 use crate::words::{Word, words_of};
 use kob_acl_cli::CliArgs;
 use kob_names::Bytes;
@@ -32,10 +30,9 @@ pub struct Requests {
 impl Model for Requests {
     ghost use Rattle.std.specs.Prelude.{List};
     ghost use Rattle.kob_rights.specs.declared.event.Event.{Event};
+    ghost use Rattle.kob_script.specs.Requests.{AreCounted, requests_left};
 
     ghost Value = { List Event };
-
-    ghost use Rattle.kob_script.specs.Requests.{AreCounted, requests_left};
 
     ghost view = { requests_left };
 
@@ -100,8 +97,8 @@ fn read_on(
     ensures asked { IfOk result (λ asked. requests_in (lines_left blocks.old) answers.old.items
         ≡ asked ++ requests_in (lines_left blocks.new) answers.new.items) }
     ensures nearer { OnOk result (steps_left blocks.new < steps_left blocks.old) }
-    ensures same_lines { OnErr result (lines_left blocks.new ≡ lines_left blocks.old) }
-    ensures same_answers { OnErr result (answers.new.items ≡ answers.old.items) }
+    ensures same { OnErr result (requests_in (lines_left blocks.new) answers.new.items
+        ≡ requests_in (lines_left blocks.old) answers.old.items) }
 {
     let Some(line) = first_line(blocks.rest()) else {
         blocks.enter_next();

@@ -1,8 +1,7 @@
 //! A script: settings, and then requests, a line each.
 
 ghost use Rattle.std.specs.Prelude.{◌≡◌, ◌∷◌, [], IfOk};
-ghost use Rattle.kob_script.specs.Script.{script_of};
-ghost use Rattle.kob_script.specs.ScriptReadings.{HasNoAclLine, MayRead, Reads};
+ghost use Rattle.kob_script.specs.Script.{script_of, HasNoAclLine, MayRead, Reads};
 
 use crate::checks::{CheckedScript, check_script};
 use crate::fault::ScriptError;

@@ -1,20 +1,25 @@
-//! What words stand for: texts, principals, hosts, numbers, and the words of the tables.
+//! What words stand for: texts, principals, hosts, numbers, the words of the tables, and those of a
+//! batch.
 
-ghost use Rattle.std.specs.Prelude.{map};
-ghost use Rattle.kob_script.specs.Command.{filter_pattern_of};
-ghost use Rattle.kob_script.specs.Numbers.{before_of, number_in, number_of, which_of};
+ghost use Rattle.std.specs.List.{slice_split};
+ghost use Rattle.std.specs.Prelude.{◌≡◌, ◌==◌, IfOk, map, option_map};
+ghost use Rattle.kob_script.specs.CommandLines.{filter_pattern_of};
 ghost use Rattle.kob_script.specs.Reading.{Gives, GivesSeen, each, found_or};
-ghost use Rattle.kob_script.specs.Texts.{host_of, named_host, named_principal, principal_of};
-ghost use Rattle.kob_script.specs.Texts.{text_of};
+ghost use Rattle.kob_script.specs.Values.{before_of, host_of, idem_of, key_and_value, named_host};
+ghost use Rattle.kob_script.specs.Values.{named_principal, number_in, number_of, principal_of};
+ghost use Rattle.kob_script.specs.Values.{record_of, text_of, which_of};
+ghost use Rattle.kob_script.specs.Words as words;
 ghost use Rattle.kob_script.specs.declared.fault.FaultKind.TheVariants.{BadWord};
 
 use crate::fault::{FaultKind, LineError};
-use crate::words::Word;
+use crate::words::{Word, bytes_of, may_have_escapes};
 use bstr::ByteSlice;
-use kob_names::{FilterPattern, Host, HostFault, Principal, PrincipalFault, Text};
+use kob_names::{
+    Bytes, FilterPattern, Host, HostFault, Idem, Items, Principal, PrincipalFault, Record, Text,
+};
 use kob_rights::{Before, Which};
 use kob_words::filter_pattern_named;
-use std::alloc::Global;
+use std::alloc::{AllocError, Global};
 
 /// The text of a word, as it is there; no memory is taken.
 pub fn lent_text_of<'w>(word: &'w Word<'_>) -> Result<&'w str, LineError>
@@ -48,7 +53,7 @@ pub fn texts_of<'w>(alloc: Global, words: &'w [Word<'_>]) -> Result<Vec<&'w str>
 }
 
 /// The principal that a text is.
-#[tactic(auto, unfolding(crate::specs::Texts::principal_of))]
+#[tactic(auto, unfolding(crate::specs::Values::principal_of))]
 pub fn principal_of(alloc: Global, text: &str) -> Result<Principal, LineError>
     ensures { Gives result (principal_of text.now) }
 {
@@ -60,7 +65,7 @@ pub fn principal_of(alloc: Global, text: &str) -> Result<Principal, LineError>
 }
 
 /// The host that a text is.
-#[tactic(auto, unfolding(crate::specs::Texts::host_of))]
+#[tactic(auto, unfolding(crate::specs::Values::host_of))]
 pub fn host_of(alloc: Global, text: &str) -> Result<Host, LineError>
     ensures { Gives result (host_of text.now) }
 {
@@ -151,4 +156,76 @@ pub fn filter_pattern_of(word: &Word<'_>) -> Result<FilterPattern, LineError>
         return Ok(FilterPattern::Any);
     }
     known(filter_pattern_named(word.decoded()))
+}
+
+/// Who produced a batch: nobody for `-`, or `ID:EPOCH:BASE`. The fault is `BadLine` for other
+/// numbers of parts.
+#[tactic(auto, unfolding(crate::specs::Values::idem_of))]
+pub fn idem_of(alloc: Global, word: &Word<'_>) -> Result<Option<Idem>, LineError>
+    ensures { Gives result (idem_of word.now) }
+{
+    if word.is_dash() {
+        return Ok(None);
+    }
+    let parts = split_at_colons(alloc, word.raw())?;
+    let [id, epoch, base] = parts.as_slice() else {
+        return Err(LineError::Fault(FaultKind::BadLine));
+    };
+    let id = number_at(alloc, id)?;
+    let epoch = number_at(alloc, epoch)?;
+    let base = number_at(alloc, base)?;
+    Ok(Some(Idem { id, epoch, base }))
+}
+
+// The number that a part of a word writes, once its escapes are replaced.
+fn number_at(alloc: Global, part: &[u8]) -> Result<u64, LineError>
+    ensures { Gives result (number_in (words.bytes_of part.now)) }
+{
+    if !may_have_escapes(part) {
+        return number_in(part);
+    }
+    let digits = bytes_of(alloc, part)?;
+    number_in(digits.as_slice())
+}
+
+fn split_at_colons(alloc: Global, word: &[u8]) -> Result<Vec<&[u8]>, AllocError>
+    ensures { IfOk result (λ parts. map (λ part. part.now) parts.items
+        ≡ slice_split (λ byte. byte == 58) word.now) }
+{
+    word.split(|byte| *byte == b':').collect(alloc)
+}
+
+#[tactic(auto, unfolding(crate::specs::Values::key_and_value))]
+fn key_and_value(word: &[u8]) -> Option<(&[u8], &[u8])>
+    ensures { option_map (λ parts. (parts.0.now, parts.1.now)) result ≡ key_and_value word.now }
+{
+    word.split_once_str(b"=")
+}
+
+/// A record of a key and a value around the first `=`, or of a value alone.
+#[tactic(auto, unfolding(crate::specs::Values::record_of))]
+fn record_of(alloc: Global, word: &Word<'_>) -> Result<Record, AllocError>
+    ensures { IfOk result (λ made. made ≡ record_of word.now) }
+{
+    let (key, value) = match key_and_value(word.raw()) {
+        None => (None, Bytes::copied(alloc, word.decoded())?),
+        Some((key, value)) => (Some(bytes_of(alloc, key)?), bytes_of(alloc, value)?),
+    };
+    Ok(Record {
+        key,
+        value,
+        headers: Items::from_vec(Vec::new(alloc)),
+    })
+}
+
+/// The records that the words write, in order.
+pub fn records_of(alloc: Global, words: &[Word<'_>]) -> Result<Items<Record>, AllocError>
+    ensures { IfOk result (λ records. records ≡ map record_of words.now) }
+{
+    let mut records = Vec::with_capacity(alloc, words.len())?;
+    for word in words {
+        let message = record_of(alloc, word)?;
+        records.push(message)?;
+    }
+    Ok(Items::from_vec(records))
 }

@@ -1,17 +1,16 @@
-//! The words of a line.
+//! The words of a line, in which `%` and two hexadecimal digits stand for one byte.
 
-ghost use Rattle.std.specs.Prelude.{◌≡◌, ◌<◌, ◌∷◌, [], codes, length, slice_index};
-ghost use Rattle.std.specs.Prelude.{false, MatchOption};
-ghost use Rattle.std.specs.Str.{bytes_eq};
+ghost use Rattle.std.specs.Prelude.{◌≡◌, ◌≤◌, ◌<◌, ◌∷◌, [], codes, length, slice_index, false};
+ghost use Rattle.std.specs.Prelude.{Some, IfOk, IfSome, MatchOption, if◌then◌else◌, option_map, ⊤};
+ghost use Rattle.std.specs.Prelude.{bytes_eq, MatchBool};
 ghost use Rattle.kob_script.specs.Reading.{Gives, GivesSeen, each};
-ghost use Rattle.kob_script.specs.Word.{word_of};
-ghost use Rattle.kob_script.specs.Words.{is_blank, raw_words, words_of};
+ghost use Rattle.kob_script.specs.Words.{are_hexadecimal, byte_at, bytes_of, hexadecimal, is_blank};
+ghost use Rattle.kob_script.specs.Words.{raw_words, unescaped, word_of, words_of};
 
-use crate::escape::{may_have_escapes, unescaped};
 use crate::fault::{FaultKind, LineError};
 use kob_names::Bytes;
-use memchr::memchr2;
-use std::alloc::Global;
+use memchr::{memchr, memchr2};
+use std::alloc::{AllocError, Global};
 use std::marker::Model;
 
 /// A word as it is in a line, and the bytes that it stands for. Contracts see both.
@@ -24,7 +23,7 @@ pub struct Word<'a> {
 
 impl<'a> Model for Word<'a> {
     ghost use Rattle.std.specs.Prelude.{unwrap_or};
-    ghost use Rattle.kob_script.specs.Word.{Word};
+    ghost use Rattle.kob_script.specs.Words.{Word};
 
     ghost Value = { Word };
 
@@ -153,5 +152,71 @@ fn cut_word(bytes: &[u8]) -> Cut<'_>
             word: bytes,
             rest: &[],
         },
+    }
+}
+
+/// Whether a word may have escapes. One that has none stands for itself.
+pub fn may_have_escapes(word: &[u8]) -> bool
+    ensures { MatchBool result ⊤ (unescaped word.now ≡ Some word.now) }
+{
+    match memchr(b'%', word) {
+        Some(_) => true,
+        None => false,
+    }
+}
+
+/// The bytes that a word stands for, unless a percent sign in it begins no escape.
+pub fn unescaped(alloc: Global, word: &[u8]) -> Result<Option<Bytes>, AllocError>
+    ensures { IfOk result (λ read. read ≡ unescaped word.now) }
+{
+    let mut bytes = Vec::new(alloc);
+    let mut rest = word;
+    while let Some((first, others)) = rest.split_first() {
+        match byte_at(*first, others) {
+            Some((byte, after)) => {
+                bytes.push(byte)?;
+                rest = after;
+            }
+            None => return Ok(None),
+        }
+    }
+    Ok(Some(Bytes::from_vec(bytes)))
+}
+
+/// The bytes that a part of a word stands for; where its escapes are not whole, itself.
+pub fn bytes_of(alloc: Global, part: &[u8]) -> Result<Bytes, AllocError>
+    ensures { IfOk result (λ bytes. bytes ≡ bytes_of part.now) }
+{
+    if !may_have_escapes(part) {
+        return Bytes::copied(alloc, part);
+    }
+    match unescaped(alloc, part)? {
+        Some(bytes) => Ok(bytes),
+        None => Bytes::copied(alloc, part),
+    }
+}
+
+/// The byte at the front of a word, and what comes after it, unless a percent sign
+/// there begins no escape.
+fn byte_at(first: u8, others: &[u8]) -> Option<(u8, &[u8])>
+    ensures read { option_map (λ found. (found.0, found.1.now)) result ≡ byte_at first others.now }
+    ensures shrinks { IfSome result (λ found. length found.1.now ≤ length others.now) }
+{
+    if first != b'%' {
+        return Some((first, others));
+    }
+    match others {
+        [high, low, after @ ..] => Some((hexadecimal(*high, *low)?, after)),
+        _ => None,
+    }
+}
+
+/// The byte that two hexadecimal digits write.
+fn hexadecimal(high: u8, low: u8) -> Option<u8>
+    ensures { result ≡ (if are_hexadecimal high low then Some (hexadecimal high low) else None) }
+{
+    match (char::from(high).to_digit(16), char::from(low).to_digit(16)) {
+        (Some(high), Some(low)) => Some((16 * high + low) as u8),
+        _ => None,
     }
 }

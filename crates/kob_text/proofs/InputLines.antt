@@ -4,7 +4,7 @@ use Rattle.std.specs.List.{concat}
 use Rattle.std.proofs.lemmas.List.{map-append, take_rest}
 use Rattle.bstr.proofs.lemmas.LineLemmas.{EndsLine, lines-append}
 use Rattle.bstr.specs.Text.{lines_of, without_terminator}
-use Rattle.kob_script.specs.Blocks.{AreWholeLines, lines_in_blocks}
+use Rattle.kob_script.specs.Requests.{AreWholeLines, lines_in_blocks}
 use Rattle.kob_script.specs.Script.{lines_in}
 use Rattle.kob_text.specs.Input.{EndLines}
 

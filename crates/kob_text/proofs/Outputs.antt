@@ -7,7 +7,7 @@ use Rattle.kob_rights.specs.declared.reply.Reply.{Reply}
 use Rattle.kob_text.specs.Output.{HasOutput, IsOutput, Writes, replies_to}
 use Rattle.kob_text.specs.Runs.{IsTextOfRun, WritesRun, WritesPartOfRun}
 use Rattle.kob_script.specs.declared.script.Script.{Script}
-use Rattle.kob_script.specs.PrintedReply.{text_of_replies, stopped_text}
+use Rattle.kob_script.specs.Printed.{text_of_replies, stopped_text}
 use Rattle.kob_text.specs.Transfer.{AppendsPart}
 
 -- a broker that gives the replies of a new one under the script's settings

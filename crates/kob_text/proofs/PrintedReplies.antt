@@ -7,7 +7,7 @@ use Rattle.kob_broker.proofs.Runs.{replies_one_more, state_one_more}
 use Rattle.kob_partition.specs.Meaning.{Meaning}
 use Rattle.kob_rights.specs.declared.event.Event.{Event}
 use Rattle.kob_rights.specs.declared.reply.Reply.{Reply}
-use Rattle.kob_script.specs.PrintedReply.{reply_text, replies_text, text_of_replies}
+use Rattle.kob_script.specs.Printed.{reply_text, replies_text, text_of_replies}
 use Rattle.kob_text.specs.Transfer.{AppendsPart, AppendsAllBut}
 use Rattle.kob_text.proofs.Parts.{all_held, goes_on, part_with_more, same_text}
 

@@ -7,7 +7,7 @@ use Rattle.std.specs.Io.KnownBytes.{Appends}
 use Rattle.kob_rights.specs.declared.event.Event.{Event}
 use Rattle.kob_rights.specs.declared.reply.Reply.{Reply}
 use Rattle.kob_text.specs.declared.output.Ended.TheVariants.{Clean, Stopped}
-use Rattle.kob_script.specs.PrintedReply.{text_of_replies, stopped_text}
+use Rattle.kob_script.specs.Printed.{text_of_replies, stopped_text}
 use Rattle.kob_text.specs.Runs.{WritesRun, WritesPartOfRun}
 use Rattle.kob_text.specs.Transfer.{AppendsAllBut, AppendsPart}
 use Rattle.kob_text.proofs.Parts.{all_written, part_of_front, part_of_held, part_with_more, written_with_more}

@@ -17,9 +17,8 @@ use Rattle.kob_text.specs.declared.output.Ended.{Ended}
 use Rattle.kob_text.specs.declared.output.Ended.TheVariants.{Clean, Fault, Stopped}
 use Rattle.kob_script.specs.declared.fault.Fault as fault
 use Rattle.kob_script.specs.declared.script.Script.{Script}
-use Rattle.kob_script.specs.PrintedFault.{fault_text}
-use Rattle.kob_script.specs.PrintedReply.{text_of_replies, stopped_text}
-use Rattle.kob_script.specs.ScriptReadings.{ReadsAs}
+use Rattle.kob_script.specs.Printed.{fault_text, text_of_replies, stopped_text}
+use Rattle.kob_script.specs.Script.{ReadsAs}
 
 -- the replies of a broker that was opened with the settings, which keeps all accepted batches
 abbrev pub replies_to : Settings → List Event → List Reply

@@ -6,7 +6,7 @@ use Rattle.kob_broker.specs.Step.{replies_of}
 use Rattle.kob_partition.specs.Retained.{Retained, retained_meaning}
 use Rattle.kob_rights.specs.declared.event.Event.{Event}
 use Rattle.kob_rights.specs.declared.reply.Reply.{Reply}
-use Rattle.kob_script.specs.PrintedReply.{text_of_replies, stopped_text}
+use Rattle.kob_script.specs.Printed.{text_of_replies, stopped_text}
 use Rattle.kob_text.specs.declared.output.Ended.{Ended}
 use Rattle.kob_text.specs.declared.output.Ended.TheVariants.{Clean, Fault, Stopped}
 use Rattle.kob_text.specs.Transfer.{AppendsPart}

@@ -3,7 +3,7 @@
 ghost use Rattle.std.specs.Prelude.{◌≡◌, ◌≤◌, ◌++◌, vec_len, vec_capacity};
 ghost use Rattle.std.specs.Prelude.{OnOk, OnErr};
 ghost use Rattle.std.specs.Io.KnownBytes.{Appends};
-ghost use Rattle.kob_script.specs.PrintedReply.{stopped_text};
+ghost use Rattle.kob_script.specs.Printed.{stopped_text};
 ghost use Rattle.kob_text.specs.Limits.{piece_limit};
 ghost use Rattle.kob_text.specs.Transfer.{AppendsPart, AppendsAllBut};
 

@@ -8,7 +8,7 @@ ghost use Rattle.kob_broker.specs.Step.{step, replies_of};
 ghost use Rattle.kob_partition.specs.Retained.{retained_meaning};
 ghost use Rattle.kob_rights.specs.declared.event.Event as event;
 ghost use Rattle.kob_script.specs.Checks.{checked};
-ghost use Rattle.kob_script.specs.PrintedReply.{reply_text};
+ghost use Rattle.kob_script.specs.Printed.{reply_text};
 ghost use Rattle.kob_text.specs.Limits.{piece_limit};
 ghost use Rattle.kob_text.specs.Output.{IsWritten, replies_to};
 ghost use Rattle.kob_text.specs.Runs.{WritesRun, WritesPartOfRun, replies_from};

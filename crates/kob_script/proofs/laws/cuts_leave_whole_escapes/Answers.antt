@@ -1,4 +1,4 @@
-use Rattle.kob_script.proofs.Cuts.{at_colon, at_equals}
+use Rattle.kob_script.proofs.Escapes.{at_colon, at_equals}
 use Rattle.kob_script.proofs.laws.cuts_leave_whole_escapes.Goals as goal
 
 pub returns-clause-equals : goal.returns-clause-equals

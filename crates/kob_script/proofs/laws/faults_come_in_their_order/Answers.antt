@@ -1,8 +1,7 @@
 use Rattle.std.proofs.Common.{Some, None}
 use Rattle.kob_script.proofs.LineFaults.{first_is, count_fails, one_counted, uncounted}
-use Rattle.kob_script.specs.CommandLines.{events_of}
+use Rattle.kob_script.specs.CommandLines.{events_of, faults_in}
 use Rattle.kob_script.specs.declared.fault.LineError.TheVariants.{Fault}
-use Rattle.kob_script.specs.Command.{faults_in}
 use Rattle.kob_script.proofs.laws.faults_come_in_their_order.Goals as goal
 
 pub returns-clause-found : goal.returns-clause-found

@@ -1,5 +1,5 @@
 use Rattle.std.proofs.Common.{◌≡◌, ◌++◌, flat_map, take}
-use Rattle.kob_script.specs.PrintedBody.{group_item}
+use Rattle.kob_script.specs.Printed.{group_item}
 use Rattle.kob_script.proofs.printed.push_groups.Given as goal
 
 abbrev pub invariant-loop-name : goal.invariant-loop-name

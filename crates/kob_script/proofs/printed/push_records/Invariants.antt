@@ -1,5 +1,5 @@
 use Rattle.std.proofs.Common.{◌≡◌, ◌++◌, flat_map, take}
-use Rattle.kob_script.specs.PrintedBody.{record_item}
+use Rattle.kob_script.specs.Printed.{record_item}
 use Rattle.kob_script.proofs.printed.push_records.Given as goal
 
 abbrev pub invariant-loop-offset : goal.invariant-loop-offset

@@ -1,5 +1,5 @@
 use Rattle.std.proofs.Common.{◌≡◌, ◌++◌, flat_map, take}
-use Rattle.kob_script.specs.PrintedBody.{serial_item}
+use Rattle.kob_script.specs.Printed.{serial_item}
 use Rattle.kob_script.proofs.printed.push_serials.Given as goal
 
 abbrev pub invariant-loop-serial : goal.invariant-loop-serial

@@ -1,5 +1,5 @@
 use Rattle.std.proofs.Common.{◌≡◌, ◌++◌, flat_map, take}
-use Rattle.kob_script.specs.PrintedBody.{topic_item}
+use Rattle.kob_script.specs.Printed.{topic_item}
 use Rattle.kob_script.proofs.printed.push_topics.Given as goal
 
 abbrev pub invariant-loop-name : goal.invariant-loop-name

@@ -1,5 +1,5 @@
 use Rattle.std.proofs.Common.{◌≡◌, ◌++◌, flat_map, take}
-use Rattle.kob_script.specs.PrintedReply.{verdict_item}
+use Rattle.kob_script.specs.Printed.{verdict_item}
 use Rattle.kob_script.proofs.printed.push_verdicts.Given as goal
 
 abbrev pub invariant-loop-verdict : goal.invariant-loop-verdict

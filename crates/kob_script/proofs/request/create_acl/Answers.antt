@@ -7,7 +7,7 @@ pub returns : goal.returns
 unfolding request_of
 returns c =
     let is = seven c.args.words.now _ _ _ _ _ _ _ c.in-len7.len_at_least c.in-len7.len_below c.permission-item.is
-    c.principal-item.is c.host-item.is c.operation-item.is c.resource-item.is c.pattern-item.is c.name-item.is in
+    c.who-item.is c.from-item.is c.operation-item.is c.resource-item.is c.pattern-item.is c.name-item.is in
     rw (
       is,
       (rw (c.permission_named.ensures, c.decoded.ensures) at c.in_ok-known.ensures),

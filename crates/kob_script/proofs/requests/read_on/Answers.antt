@@ -1,7 +1,7 @@
 use Rattle.std.proofs.Common.{◌∙◌, ◌∷◌, sym, ap}
 use Rattle.kob_script.proofs.BlockLines.{no_bytes, rest_behind}
-use Rattle.kob_script.proofs.AskedLines.{line_read}
-use Rattle.kob_script.specs.Blocks.{lines_in_blocks, rest_of}
+use Rattle.kob_script.proofs.CheckedLines.{line_read}
+use Rattle.kob_script.specs.Requests.{lines_in_blocks, rest_of}
 use Rattle.kob_script.specs.Script.{lines_in}
 use Rattle.kob_script.proofs.requests.read_on.Goals as goal
 

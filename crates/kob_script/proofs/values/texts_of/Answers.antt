@@ -1,8 +1,7 @@
-use Rattle.std.proofs.Common.{arith, List, ℕ}
-use Rattle.std.specs.Borrow.{Bor}
+use Rattle.std.proofs.Common.{arith, List, ℕ, Bor}
 use Rattle.std.proofs.lemmas.Result.{err_from_is_err_and}
 use Rattle.std.proofs.lemmas.List.{map-append}
-use Rattle.kob_script.specs.Texts.{text_of}
+use Rattle.kob_script.specs.Values.{text_of}
 use Rattle.kob_script.proofs.Each.{each_fails, each_keeps, each_ends}
 use Rattle.kob_script.proofs.values.texts_of.Goals as goal
 

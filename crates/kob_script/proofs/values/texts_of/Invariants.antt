@@ -1,7 +1,7 @@
 -- What was read, and then what the rest stands for, is what the words stand for.
 use Rattle.std.proofs.Common.{◌≡◌, drop, map}
 use Rattle.kob_script.specs.Reading.{each, with_front}
-use Rattle.kob_script.specs.Texts.{text_of}
+use Rattle.kob_script.specs.Values.{text_of}
 use Rattle.kob_script.proofs.values.texts_of.Given as goal
 
 abbrev pub invariant-loop-word : goal.invariant-loop-word

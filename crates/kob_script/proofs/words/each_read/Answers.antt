@@ -1,5 +1,5 @@
 use Rattle.std.proofs.lemmas.Result.{err_from_is_err_and}
-use Rattle.kob_script.specs.Word.{word_of}
+use Rattle.kob_script.specs.Words.{word_of}
 use Rattle.kob_script.proofs.Each.{front_ends, front_fails, front_keeps}
 use Rattle.kob_script.proofs.words.each_read.Goals as goal
 

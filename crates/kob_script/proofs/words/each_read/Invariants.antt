@@ -1,8 +1,7 @@
 -- What was read, and then what the rest stands for, is what the words stand for.
 use Rattle.std.proofs.Common.{◌≡◌, length}
 use Rattle.kob_script.specs.Reading.{each, with_front}
-use Rattle.kob_script.specs.Word.{word_of}
-use Rattle.kob_script.specs.Words.{raw_words}
+use Rattle.kob_script.specs.Words.{word_of, raw_words}
 use Rattle.kob_script.proofs.words.each_read.Given as goal
 
 abbrev pub invariant-loop-cut : goal.invariant-loop-cut

@@ -3,7 +3,7 @@ use Rattle.std.proofs.Common.{◌≡◌, ◌≤◌, drop, length, take, vec_len,
 use Rattle.kob_broker.specs.Change.{state_of}
 use Rattle.kob_broker.specs.Step.{state_after}
 use Rattle.kob_partition.specs.Retained.{retained_meaning}
-use Rattle.kob_script.specs.PrintedReply.{text_of_replies}
+use Rattle.kob_script.specs.Printed.{text_of_replies}
 use Rattle.kob_text.specs.Limits.{piece_limit}
 use Rattle.kob_text.specs.Runs.{replies_from}
 use Rattle.kob_text.specs.Transfer.{AppendsAllBut}

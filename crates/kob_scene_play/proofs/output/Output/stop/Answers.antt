@@ -1,6 +1,6 @@
 use Rattle.std.proofs.Common.{◌≡◌, ◌∙◌, ◌++◌, ap, take}
 use Rattle.kob_scene_play.proofs.Written.{written_behind}
-use Rattle.kob_script.specs.PrintedReply.{stopped_text}
+use Rattle.kob_script.specs.Printed.{stopped_text}
 use Rattle.kob_scene_play.proofs.output.Output.stop.Goals as goal
 
 pub returns : goal.returns

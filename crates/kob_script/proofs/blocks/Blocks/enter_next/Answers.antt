@@ -1,5 +1,5 @@
 use Rattle.kob_script.proofs.BlockLines.{fewer_steps, next_block}
-use Rattle.kob_script.specs.Blocks.{lines_left, rest_of}
+use Rattle.kob_script.specs.Requests.{lines_left, rest_of}
 use Rattle.kob_script.proofs.blocks.Blocks.enter_next.Goals as goal
 
 pub returns-in-Some-clause-lines : goal.returns-in-Some-clause-lines

@@ -1,6 +1,6 @@
 use Rattle.std.proofs.Common.{◌∙◌, ap, ◌++◌, List, ℕ}
 use Rattle.kob_script.proofs.BlockLines.{no_lines}
-use Rattle.kob_script.specs.Blocks.{lines_in_blocks}
+use Rattle.kob_script.specs.Requests.{lines_in_blocks}
 use Rattle.kob_script.specs.Script.{lines_in}
 use Rattle.kob_script.proofs.blocks.Blocks.new.Goals as goal
 

@@ -1,9 +1,8 @@
 use Rattle.std.proofs.Common.{◌∙◌, List, ◌++◌, ap, arith, length, sym}
 use Rattle.std.proofs.lemmas.Result.{err_from_is_err_and}
 use Rattle.kob_rights.specs.declared.event.Event.{Event}
-use Rattle.kob_script.proofs.AskedLines.{nothing_at_zero, one_fewer, same_left, some_lines}
-use Rattle.kob_script.specs.Blocks.{lines_left}
-use Rattle.kob_script.specs.Requests.{requests_in}
+use Rattle.kob_script.proofs.CheckedLines.{nothing_at_zero, one_fewer, some_lines}
+use Rattle.kob_script.specs.Requests.{lines_left, requests_in}
 use Rattle.kob_script.proofs.requests.Requests.next_event.Goals as goal
 
 pub loop-alloc-init : goal.loop-alloc-init
@@ -21,18 +20,15 @@ read_on-requires c =
 
 pub invariant_of-self : goal.invariant_of-self
 invariant_of-self c =
-    let inside = c.loop-alloc.self-inside in
+    let asked = c.loop-alloc.self-inside.asked.items in
     c.loop-alloc.invariant.count
-    ∙ ap length (sym (same_left inside.asked.items (lines_left inside.blocks) _ inside.answers.items _
-    c.in_err-asked.ensures.same_lines c.in_err-asked.ensures.same_answers))
+    ∙ ap length (sym (ap (λ (rest : List Event). asked ++ rest) c.in_err-asked.ensures.same))
 
 pub returns-in_err-asked-clause-same : goal.returns-in_err-asked-clause-same
 returns-in_err-asked-clause-same c =
-    let inside = c.loop-alloc.self-inside in
+    let asked = c.loop-alloc.self-inside.asked.items in
     let p = err_from_is_err_and c.from_residual.result c.from_residual.ensures.1 in
-    rw (p.1)
-    (same_left inside.asked.items (lines_left inside.blocks) _ inside.answers.items _
-    c.in_err-asked.ensures.same_lines c.in_err-asked.ensures.same_answers ∙ c.loop-alloc.invariant.same)
+    rw (p.1) (ap (λ (rest : List Event). asked ++ rest) c.in_err-asked.ensures.same ∙ c.loop-alloc.invariant.same)
 
 pub loop-alloc-smaller : goal.loop-alloc-smaller
 loop-alloc-smaller c = c.in_ok-asked.ensures.nearer

@@ -1,8 +1,8 @@
 -- What was read, and then what the rest stands for, is what the word stands for.
 use Rattle.std.proofs.Common.{◌≡◌, length}
-use Rattle.kob_script.specs.Escapes.{unescaped}
+use Rattle.kob_script.specs.Words.{unescaped}
 use Rattle.kob_script.proofs.Escapes.{with_rest}
-use Rattle.kob_script.proofs.escape.unescaped.Given as goal
+use Rattle.kob_script.proofs.words.unescaped.Given as goal
 
 abbrev pub invariant-loop-first : goal.invariant-loop-first
 invariant-loop-first l = with_rest l.bytes.items (unescaped l.rest) ≡ unescaped l.word

@@ -1,7 +1,7 @@
 use Rattle.std.proofs.Common.{rules, tests, ◌==◌}
 use Rattle.std.proofs.lemmas.Iterator.Consumers.{map_from_collect}
 use Rattle.std.proofs.lemmas.Iterator.Splits.{YieldsList-from_slice_split}
-use Rattle.kob_script.proofs.batch.split_at_colons.Goals as goal
+use Rattle.kob_script.proofs.values.split_at_colons.Goals as goal
 
 pub returns : goal.returns
 returns c =

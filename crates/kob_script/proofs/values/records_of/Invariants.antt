@@ -1,6 +1,6 @@
 use Rattle.std.proofs.Common.{◌≡◌, map, take}
-use Rattle.kob_script.specs.Batches.{record_of}
-use Rattle.kob_script.proofs.batch.records_of.Given as goal
+use Rattle.kob_script.specs.Values.{record_of}
+use Rattle.kob_script.proofs.values.records_of.Given as goal
 
 abbrev pub invariant-loop-word : goal.invariant-loop-word
 invariant-loop-word l = l.records.items ≡ map record_of (take l.word-index l.words)

@@ -1,7 +1,7 @@
 use Rattle.std.proofs.Common.{◌≡◌, ◌++◌}
 use Rattle.std.specs.Vec.Iter.{into_iter_items}
 use Rattle.kob_script.specs.CommandLines.{events_by}
-use Rattle.kob_script.proofs.acl.events_by.Given as goal
+use Rattle.kob_script.proofs.command_lines.events_by.Given as goal
 
 abbrev pub invariant-loop-command : goal.invariant-loop-command
 invariant-loop-command l =

@@ -1,6 +1,6 @@
 use Rattle.std.proofs.Common.{◌≡◌, [], rules, drop_of_length-le}
 use Rattle.kob_script.proofs.Escapes.{all_read, byte_read, none_before, none_read}
-use Rattle.kob_script.proofs.escape.unescaped.Goals as goal
+use Rattle.kob_script.proofs.words.unescaped.Goals as goal
 
 pub loop-first-init : goal.loop-first-init
 loop-first-init c = none_before _ _ c.new-bytes.ensures.items

@@ -1,6 +1,6 @@
 use Rattle.kob_acl_cli.specs.Commands.{commands, faults}
 use Rattle.kob_script.proofs.LineFaults.{fails_first_of}
-use Rattle.kob_script.proofs.acl.acl_commands.Goals as goal
+use Rattle.kob_script.proofs.command_lines.acl_commands.Goals as goal
 
 pub returns-in-Err : goal.returns-in-Err
 returns-in-Err c =
