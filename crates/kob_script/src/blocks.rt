@@ -21,6 +21,7 @@ impl Blocks {
     ghost use Rattle.kob_script.specs.Requests.{lines_in_blocks, lines_left, rest_of, steps_left};
 
     /// Blocks of which nothing was read; no memory is taken.
+    #[tactic(auto, using(crate::proofs::BlockLines::no_lines))]
     pub fn new(alloc: Global, blocks: Vec<Bytes>) -> Blocks
         ensures { lines_left result ≡ lines_in_blocks blocks.items }
     {
@@ -73,6 +74,7 @@ pub struct Line<'a> {
 }
 
 /// The line at the front of bytes, if there are any.
+#[tactic(auto, using(crate::proofs::BlockLines::first_line_splits))]
 pub fn first_line(bytes: &[u8]) -> Option<Line<'_>>
     ensures { MatchOption result (lines_in bytes.entry.now ≡ []) (λ line.
         (line.size ≤ length bytes.entry.now)

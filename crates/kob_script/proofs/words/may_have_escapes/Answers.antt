@@ -1,4 +1,4 @@
-use Rattle.kob_script.proofs.Escapes.{unescaped_plain}
+use Rattle.kob_script.proofs.LineWords.{unescaped_plain}
 use Rattle.kob_script.proofs.words.may_have_escapes.Goals as goal
 
 pub returns-in-None : goal.returns-in-None
