@@ -53,6 +53,7 @@ impl Blocks {
 
     /// Gives the memory of the block at the front back, all of which was read, and goes on to the
     /// next block.
+    #[tactic(auto, using(crate::proofs::BlockLines::next_block, crate::proofs::BlockLines::fewer_steps))]
     pub fn enter_next(&mut self)
         requires read { rest_of self.old ≡ [] }
         requires some { 0 < length self.old.later.items }

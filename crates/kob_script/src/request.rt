@@ -121,6 +121,7 @@ fn other_request(alloc: Global, command: Command, words: &[Word<'_>]) -> Result<
     }
 }
 
+#[tactic(auto, using(crate::proofs::RowWords::seven), unfolding(crate::specs::CommandLines::request_of))]
 fn create_acl(alloc: Global, words: &[Word<'_>]) -> Result<Request, LineError>
     ensures { IfOk result (λ made. request_of commands.CreateAcl words.now ≡ Ok made) }
 {
