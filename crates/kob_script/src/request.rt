@@ -145,6 +145,7 @@ fn create_acl(alloc: Global, words: &[Word<'_>]) -> Result<Request, LineError>
     Ok(Request::CreateAcls(CreateAcls { drafts }))
 }
 
+#[tactic(auto, using(crate::proofs::RowWords::seven))]
 fn filter_of(alloc: Global, words: &[Word<'_>]) -> Result<BindingFilter, LineError>
     ensures { (wrap : names.BindingFilter → requests.Request)
         → IfOk result (λ filter. filter_with wrap words.now ≡ Ok (wrap filter)) }
