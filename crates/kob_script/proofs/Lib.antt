@@ -1,4 +1,3 @@
-pub mod BlockLines
 pub mod CheckedLines
 pub mod Choices
 pub mod Each
