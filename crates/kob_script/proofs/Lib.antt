@@ -1,8 +1,6 @@
-pub mod BlockLines
 pub mod CheckedLines
 pub mod Choices
 pub mod Each
-pub mod Escapes
 pub mod LineFaults
 pub mod LineWords
 pub mod Numbers

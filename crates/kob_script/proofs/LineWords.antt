@@ -1,12 +1,15 @@
--- The words of a line, cut off one after another.
-use Rattle.std.proofs.Common.{◌≡◌, ◌∙◌, ◌<◌, ◌+◌, ℕ, true, false, List, [], ◌∷◌, filter, length, take, drop, nat_lt, slice_index, refl, sym, ap, subst, arith, zero, suc, length-take-le, lt-ltb}
-use Rattle.std.specs.List.{position_or_len, slice_split}
+-- The words of a line, cut off one after another. A word is read byte by byte, one without a percent sign
+-- stands for itself, and a cut at a byte that is neither a percent sign nor a hexadecimal digit leaves
+-- each escape whole.
+use Rattle.std.proofs.Common.{◌≡◌, ◌∙◌, ◌<◌, ◌+◌, ℕ, true, false, List, [], ◌∷◌, filter, length, take, drop, nat_lt, slice_index, refl, sym, ap, subst, arith, zero, suc, length-take-le, lt-ltb, ◌==◌, ◌++◌, Option, Some, None, Bool, append_assoc, append-nil, if◌then◌else◌, option_map, ◌&&◌, is_some}
 use Rattle.std.proofs.lemmas.Grind.{get_or_default_zero}
 use Rattle.std.proofs.lemmas.List.Splits.{slice_split_first, slice_split_none}
 use Rattle.std.proofs.lemmas.List.Sums.{position_or_len_is}
-use Rattle.memchr.specs.Find.{is_byte2, NoneBefore, Nowhere, Passes}
-use Rattle.kob_script.specs.Words.{is_blank, raw_words}
-use Rattle.kob_script.proofs.Choices.{chosen_true, false_from}
+use Rattle.std.specs.Char.{digit_value}
+use Rattle.std.specs.List.{position_or_len, slice_split}
+use Rattle.kob_script.proofs.Choices.{chosen_true, false_from, chosen_false}
+use Rattle.kob_script.specs.Words.{is_blank, raw_words, before, byte_at, escaped, unescaped, unescaped_from, has_whole_escapes, hexadecimal, LeavesWhole}
+use Rattle.memchr.specs.Find.{is_byte2, NoneBefore, Nowhere, Passes, is_byte}
 
 not_blank : (bytes : List ℕ) (k : ℕ) → (Passes (is_byte2 32 9) bytes k → ⊥) → is_blank (slice_index bytes k) ≡ false
 not_blank bytes k refuted = false_from (is_blank (slice_index bytes k)) (λ blank. blank) refuted
@@ -52,3 +55,140 @@ module _ (bytes : List ℕ) (end : ℕ) (first : NoneBefore (Passes (is_byte2 32
       ∙ ap (λ at. take at bytes ∷ slice_split is_blank (drop (at + 1) bytes)) ends_at)
       ∙ kept_first (take end bytes) (slice_split is_blank (drop (end + 1) bytes))
       (omega (arith, long, some_before begins))
+
+-- the byte at the front, and then what the rest stands for
+abbrev then_rest : Option (ℕ × List ℕ) → Option (List ℕ)
+then_rest None = None
+then_rest (Some found) = before (Some found.0) (unescaped found.1)
+
+behind_two : (rest : List ℕ) → unescaped_from 2 rest ≡ unescaped (drop 2 rest)
+unfolding unescaped_from
+behind_two [] = refl
+behind_two (high ∷ []) = refl
+behind_two (high ∷ low ∷ rest) = refl
+
+step : (byte : ℕ) (rest : List ℕ) → unescaped (byte ∷ rest) ≡ then_rest (byte_at byte rest)
+unfolding unescaped_from
+step byte rest = by (byte == 37) (escaped rest)
+  where
+    by : (percent : Bool) (digits : Option ℕ)
+        → (if percent then before digits (unescaped_from 2 rest) else before (Some byte) (unescaped rest))
+        ≡ then_rest (if percent then option_map (λ found. (found, drop 2 rest)) digits else Some (byte, rest))
+    by true None = refl
+    by true (Some found) = ap (before (Some found)) (behind_two rest)
+    by false digits = refl
+
+-- a word without a percent sign stands for itself
+pub unescaped_plain : (word : List ℕ) → Nowhere (Passes (is_byte 37) word) 0 (length word) → unescaped word ≡ Some word
+unfolding unescaped_from
+unescaped_plain [] nowhere = refl
+unescaped_plain (byte ∷ rest) nowhere =
+    by (byte == 37) (nowhere 0 (omega arith) (omega arith))
+    (unescaped_plain rest (λ k low below. nowhere (suc k) (omega arith) (omega (arith, below))))
+  where
+    by : (percent : Bool) → (percent ≡ true → ⊥) → unescaped rest ≡ Some rest
+        → (if percent then before (escaped rest) (unescaped_from 2 rest) else before (Some byte) (unescaped rest))
+        ≡ Some (byte ∷ rest)
+    by true none behind = absurd (none refl)
+    by false none behind = ap (before (Some byte)) behind
+
+-- bytes that were read, and then what the rest stands for
+abbrev pub with_rest : List ℕ → Option (List ℕ) → Option (List ℕ)
+with_rest bytes others = option_map (λ more. bytes ++ more) others
+
+pub none_before : (bytes : List ℕ) (read : Option (List ℕ)) → bytes ≡ [] → with_rest bytes read ≡ read
+none_before bytes None empty = refl
+none_before bytes (Some more) empty = ap (λ front. Some (front ++ more)) empty
+
+one_more : (bytes : List ℕ) (byte : ℕ) (others : Option (List ℕ))
+    → with_rest (bytes ++ byte ∷ []) others ≡ with_rest bytes (before (Some byte) others)
+one_more bytes byte None = refl
+one_more bytes byte (Some more) = ap Some (append_assoc bytes (byte ∷ []) more)
+
+-- the loop over the bytes of a word, by what was found at the front of the rest
+module _ (bytes rest others : List ℕ) (first : ℕ) (all : Option (List ℕ)) (kept : with_rest bytes (unescaped rest) ≡ all)
+    (split : rest ≡ first ∷ others) where
+  front_is : with_rest bytes (then_rest (byte_at first others)) ≡ all
+  front_is = rw (split, step first others) at kept
+
+  pub byte_read : (found : ℕ × List ℕ) → Some found ≡ byte_at first others
+      → with_rest (bytes ++ found.0 ∷ []) (unescaped found.1) ≡ all
+  byte_read found is =
+      one_more bytes found.0 (unescaped found.1) ∙ ap (λ read. with_rest bytes (then_rest read)) is ∙ front_is
+
+  pub none_read : None ≡ byte_at first others → None ≡ all
+  none_read is = ap (λ read. with_rest bytes (then_rest read)) is ∙ front_is
+
+pub all_read : (bytes rest : List ℕ) (all : Option (List ℕ)) → with_rest bytes (unescaped rest) ≡ all → rest ≡ []
+    → Some bytes ≡ all
+unfolding unescaped_from
+all_read bytes rest all kept none = ap Some (sym (append-nil bytes)) ∙ (rw none at kept)
+
+parts_there : (found : Option ℕ) (others : Option (List ℕ)) → is_some (before found others) ≡ true
+    → (is_some found ≡ true) × (is_some others ≡ true)
+parts_there None others e = absurd cc
+parts_there (Some byte) None e = absurd cc
+parts_there (Some byte) (Some bytes) e = (refl, refl)
+
+digits_there : (one two : Bool) (byte : ℕ) → is_some (if one && two then Some byte else None) ≡ true
+    → (one ≡ true) × (two ≡ true)
+digits_there true true byte e = (refl, refl)
+digits_there _ _ byte e = absurd cc
+
+-- the byte at the front, where an escape and the bytes behind it are cut alike
+front_cut : {P : Type 0} (percent : Bool) (byte : ℕ) (digits_all digits : Option ℕ)
+    (behind_all behind rest_all rest : Option (List ℕ))
+    → (is_some (before digits_all behind_all) ≡ true → (is_some (before digits behind) ≡ true) × P)
+    → (is_some rest_all ≡ true → (is_some rest ≡ true) × P)
+    → is_some (if percent then before digits_all behind_all else before (Some byte) rest_all) ≡ true
+    → (is_some (if percent then before digits behind else before (Some byte) rest) ≡ true) × P
+front_cut true byte digits_all digits behind_all behind rest_all rest escape other whole = escape whole
+front_cut false byte digits_all digits behind_all behind None rest escape other whole = absurd cc
+front_cut false byte digits_all digits behind_all behind (Some bytes) None escape other whole =
+    let (none, p) = other refl in absurd cc
+front_cut false byte digits_all digits behind_all behind (Some bytes) (Some front) escape other whole =
+    (refl, (other refl).1)
+
+escape_cut : {P : Type 0} (digits : Option ℕ) (behind_all behind : Option (List ℕ))
+    → (is_some behind_all ≡ true → (is_some behind ≡ true) × P)
+    → is_some (before digits behind_all) ≡ true → (is_some (before digits behind) ≡ true) × P
+escape_cut None behind_all behind cut whole = absurd cc
+escape_cut (Some byte) None behind cut whole = absurd cc
+escape_cut (Some byte) (Some bytes) None cut whole = let (none, p) = cut refl in absurd cc
+escape_cut (Some byte) (Some bytes) (Some front) cut whole = (refl, (cut refl).1)
+
+module _ (byte : ℕ) (back : List ℕ) (other : (byte == 37) ≡ false) (none : nat_lt (digit_value byte) 16 ≡ false) where
+  not_first : (bytes : List ℕ) → is_some (escaped (byte ∷ bytes)) ≡ true → ⊥
+  not_first [] e = cc
+  not_first (low ∷ bytes) e =
+      let (first, second) = digits_there (nat_lt (digit_value byte) 16) (nat_lt (digit_value low) 16) (hexadecimal byte low) e in
+      cc (first, none)
+
+  not_second : (high : ℕ) → is_some (escaped (high ∷ byte ∷ back)) ≡ true → ⊥
+  not_second high e =
+      let (first, second) = digits_there (nat_lt (digit_value high) 16) (nat_lt (digit_value byte) 16) (hexadecimal high byte) e in
+      cc (second, none)
+
+  cut : (front : List ℕ) → has_whole_escapes (front ++ byte ∷ back) ≡ true
+      → (has_whole_escapes front ≡ true) × (has_whole_escapes back ≡ true)
+  unfolding unescaped_from
+  cut [] whole =
+      let plain = chosen_false (byte == 37) (before (escaped back) (unescaped_from 2 back)) (before (Some byte) (unescaped back)) other in
+      (refl, (parts_there (Some byte) (unescaped back) (sym (ap is_some plain) ∙ whole)).1)
+  cut (a ∷ []) whole =
+      front_cut (a == 37) a (escaped (byte ∷ back)) None _ (Some []) (unescaped (byte ∷ back)) (Some [])
+      (λ e. absurd (not_first back (parts_there _ _ e).0)) (cut []) whole
+  cut (a ∷ high ∷ []) whole =
+      front_cut (a == 37) a (escaped (high ∷ byte ∷ back)) None _ (Some []) (unescaped (high ∷ byte ∷ back))
+      (unescaped (high ∷ [])) (λ e. absurd (not_second high (parts_there _ _ e).0)) (cut (high ∷ [])) whole
+  cut (a ∷ high ∷ low ∷ rest) whole =
+      front_cut (a == 37) a (escaped (high ∷ low ∷ rest)) (escaped (high ∷ low ∷ rest)) (unescaped (rest ++ byte ∷ back))
+      (unescaped rest) (unescaped (high ∷ low ∷ rest ++ byte ∷ back)) (unescaped (high ∷ low ∷ rest))
+      (escape_cut (escaped (high ∷ low ∷ rest)) (unescaped (rest ++ byte ∷ back)) (unescaped rest) (cut rest))
+      (cut (high ∷ low ∷ rest)) whole
+
+pub at_equals : LeavesWhole 61
+at_equals = λ front back. cut 61 back refl refl front
+
+pub at_colon : LeavesWhole 58
+at_colon = λ front back. cut 58 back refl refl front

@@ -21,6 +21,7 @@ impl Blocks {
     ghost use Rattle.kob_script.specs.Requests.{lines_in_blocks, lines_left, rest_of, steps_left};
 
     /// Blocks of which nothing was read; no memory is taken.
+    #[tactic(auto, using(crate::proofs::CheckedLines::no_lines))]
     pub fn new(alloc: Global, blocks: Vec<Bytes>) -> Blocks
         ensures { lines_left result ≡ lines_in_blocks blocks.items }
     {
@@ -52,6 +53,7 @@ impl Blocks {
 
     /// Gives the memory of the block at the front back, all of which was read, and goes on to the
     /// next block.
+    #[tactic(auto, using(crate::proofs::CheckedLines::next_block, crate::proofs::CheckedLines::fewer_steps))]
     pub fn enter_next(&mut self)
         requires read { rest_of self.old ≡ [] }
         requires some { 0 < length self.old.later.items }
@@ -73,6 +75,7 @@ pub struct Line<'a> {
 }
 
 /// The line at the front of bytes, if there are any.
+#[tactic(auto, using(crate::proofs::CheckedLines::first_line_splits))]
 pub fn first_line(bytes: &[u8]) -> Option<Line<'_>>
     ensures { MatchOption result (lines_in bytes.entry.now ≡ []) (λ line.
         (line.size ≤ length bytes.entry.now)

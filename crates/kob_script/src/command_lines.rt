@@ -1,12 +1,12 @@
 //! What a line asks for. The words after `acl` are those of `kafka-acls`, each command of which is a
 //! request of its own.
 
-ghost use Rattle.std.specs.Prelude.{◌≡◌, [], IfOk, Ok, map, option_map};
+ghost use Rattle.std.specs.Prelude.{◌≡◌, [], IfOk, Ok, option_map};
 ghost use Rattle.kob_script.specs.CommandLines.{acl_commands, acl_events, acl_request, asks_by_acl};
 ghost use Rattle.kob_script.specs.CommandLines.{error_of, events_by, events_of};
 ghost use Rattle.kob_script.specs.Reading.{Gives, GivesSeen, counted};
 ghost use Rattle.kob_script.specs.Requests.{asks_clap};
-ghost use Rattle.kob_script.specs.Script.{after_acl, IsAnswerTo, MayAnswer};
+ghost use Rattle.kob_script.specs.Script.{after_acl, IsAnswerTo};
 
 use crate::checks::is_setting;
 use crate::command::command_named;
@@ -124,10 +124,7 @@ pub fn events_in(
 fn asks_by_acl(words: &[Word<'_>]) -> bool
     ensures { result ≡ asks_by_acl words.now }
 {
-    match words {
-        [_, _, command, ..] => command.decoded() == b"acl".as_slice(),
-        _ => false,
-    }
+    matches!(words, [_, _, command, ..] if command.decoded() == b"acl".as_slice())
 }
 
 fn acl_events(
@@ -155,17 +152,12 @@ pub fn answer_to(alloc: Global, words: &[Word<'_>]) -> Result<Option<CliArgs>, A
     let Some(arguments) = after_acl(words) else {
         return Ok(None);
     };
-    match texts_of(alloc, arguments) {
-        Ok(texts) => ask_clap(alloc, &texts),
-        Err(LineError::Memory) => Err(AllocError),
-        Err(LineError::Fault(_)) => Ok(None),
-    }
-}
-
-fn ask_clap(alloc: Global, texts: &[&str]) -> Result<Option<CliArgs>, AllocError>
-    ensures { IfOk result (λ answer. MayAnswer (map (λ text. text.now) texts.entry.now) answer) }
-{
-    match read_line(alloc, texts) {
+    let texts = match texts_of(alloc, arguments) {
+        Ok(texts) => texts,
+        Err(LineError::Memory) => return Err(AllocError),
+        Err(LineError::Fault(_)) => return Ok(None),
+    };
+    match read_line(alloc, &texts) {
         Ok(args) => Ok(Some(args)),
         Err(LineFault::Usage) => Ok(None),
         Err(LineFault::Memory) => Err(AllocError),
@@ -192,6 +184,7 @@ fn after_acl<'w, 'l>(words: &'w [Word<'l>]) -> Option<&'w [Word<'l>]>
 
 /// The commands of what `clap` answers to the words of a line: options, or nothing where it refuses
 /// them.
+#[tactic(auto, using(crate::proofs::LineFaults::fails_first_of))]
 fn acl_commands(alloc: Global, answer: &Option<CliArgs>) -> Result<Vec<AclCommand>, LineError>
     ensures { GivesSeen (λ commands. commands.items) result (acl_commands answer.now) }
 {

@@ -42,6 +42,7 @@ pub fn faults_come_in_their_order()
 
 /// A cut at `=` or at `:` leaves each escape whole, so that the parts of a record and the numbers
 /// of an idempotent producer are read as they are in their word.
+#[tactic(auto, using(crate::proofs::LineWords::at_equals, crate::proofs::LineWords::at_colon))]
 pub fn cuts_leave_whole_escapes()
     ensures equals { LeavesWhole 61 }
     ensures colon { LeavesWhole 58 }

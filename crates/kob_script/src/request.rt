@@ -121,6 +121,7 @@ fn other_request(alloc: Global, command: Command, words: &[Word<'_>]) -> Result<
     }
 }
 
+#[tactic(auto, using(crate::proofs::RowWords::seven), unfolding(crate::specs::CommandLines::request_of))]
 fn create_acl(alloc: Global, words: &[Word<'_>]) -> Result<Request, LineError>
     ensures { IfOk result (λ made. request_of commands.CreateAcl words.now ≡ Ok made) }
 {
@@ -144,6 +145,7 @@ fn create_acl(alloc: Global, words: &[Word<'_>]) -> Result<Request, LineError>
     Ok(Request::CreateAcls(CreateAcls { drafts }))
 }
 
+#[tactic(auto, using(crate::proofs::RowWords::seven))]
 fn filter_of(alloc: Global, words: &[Word<'_>]) -> Result<BindingFilter, LineError>
     ensures { (wrap : names.BindingFilter → requests.Request)
         → IfOk result (λ filter. filter_with wrap words.now ≡ Ok (wrap filter)) }

@@ -142,10 +142,7 @@ pub fn before_of(word: &Word<'_>) -> Result<Before, LineError>
 pub fn known<T: Copy>(found: Option<T>) -> Result<T, LineError>
     ensures { Gives result (found_or BadWord found) }
 {
-    match found {
-        Some(value) => Ok(value),
-        None => Err(LineError::Fault(FaultKind::BadWord)),
-    }
+    found.ok_or(LineError::Fault(FaultKind::BadWord))
 }
 
 /// What a filter's pattern takes; `-` is as `any`.

@@ -156,6 +156,7 @@ fn cut_word(bytes: &[u8]) -> Cut<'_>
 }
 
 /// Whether a word may have escapes. One that has none stands for itself.
+#[tactic(auto, using(crate::proofs::LineWords::unescaped_plain))]
 pub fn may_have_escapes(word: &[u8]) -> bool
     ensures { MatchBool result ⊤ (unescaped word.now ≡ Some word.now) }
 {

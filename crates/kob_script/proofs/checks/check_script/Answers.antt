@@ -1,6 +1,5 @@
 use Rattle.std.proofs.Common.{◌≡◌, ◌∙◌, ◌++◌, ◌+◌, ◌≤◌, ◌<◌, [], List, ℕ, Ok, Err, ap, arith, refl, subst, sym, drop, length, drop_of_length-le}
-use Rattle.kob_script.proofs.BlockLines.{block_lines, few_lines}
-use Rattle.kob_script.proofs.CheckedLines.{Stands, all_counted, blocks_read, stands_first, stands_next, stops, reads_plain}
+use Rattle.kob_script.proofs.CheckedLines.{block_lines, few_lines, Stands, all_counted, blocks_read, stands_first, stands_next, stops, reads_plain}
 use Rattle.kob_script.specs.Requests.{lines_in_blocks}
 use Rattle.kob_script.specs.Checks.{checked}
 use Rattle.kob_script.specs.Script.{lines_in}

@@ -1,6 +1,5 @@
 use Rattle.std.proofs.Common.{◌∙◌, ◌∷◌, sym, ap}
-use Rattle.kob_script.proofs.BlockLines.{no_bytes, rest_behind}
-use Rattle.kob_script.proofs.CheckedLines.{line_read}
+use Rattle.kob_script.proofs.CheckedLines.{no_bytes, rest_behind, line_read}
 use Rattle.kob_script.specs.Requests.{lines_in_blocks, rest_of}
 use Rattle.kob_script.specs.Script.{lines_in}
 use Rattle.kob_script.proofs.requests.read_on.Goals as goal

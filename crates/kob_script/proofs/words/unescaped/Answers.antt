@@ -1,5 +1,5 @@
 use Rattle.std.proofs.Common.{◌≡◌, [], rules, drop_of_length-le}
-use Rattle.kob_script.proofs.Escapes.{all_read, byte_read, none_before, none_read}
+use Rattle.kob_script.proofs.LineWords.{all_read, byte_read, none_before, none_read}
 use Rattle.kob_script.proofs.words.unescaped.Goals as goal
 
 pub loop-first-init : goal.loop-first-init
