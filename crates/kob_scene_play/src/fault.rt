@@ -23,7 +23,7 @@ pub enum PlayFault {
     #[error("a database failed")]
     Store,
     /// The scene has no worker at the place that a step names.
-    #[error("a step names no worker of the scene")]
+    #[error("a step names an unknown worker")]
     NoWorker,
     #[error("the output could not be written")]
     WriteFailed,

@@ -18,25 +18,25 @@ script_sentence BadEscape = codes "a percent sign without two hexadecimal digits
 script_sentence LateSetting = codes "a setting after a request, a declaration or a step"
 script_sentence BadLine = codes "an unknown command, or words that do not fit it"
 script_sentence BadText = codes "a text that is not UTF-8"
-script_sentence BadPrincipal = codes "not a principal"
-script_sentence BadHost = codes "not a host"
-script_sentence BadNumber = codes "not a decimal number of 64 bits"
+script_sentence BadPrincipal = codes "invalid principal"
+script_sentence BadHost = codes "invalid host"
+script_sentence BadNumber = codes "invalid number: not decimal digits, or more than 64 bits"
 script_sentence BadWord = codes "an unknown permission, operation, resource, pattern or column"
-script_sentence Usage = codes "words that are not options of kafka-acls"
+script_sentence Usage = codes "unknown or malformed options of kafka-acls"
 script_sentence NoAction = codes "not exactly one of --add, --remove and --list"
-script_sentence BadName = codes "no principal, host, operation or pattern type in an option"
+script_sentence BadName = codes "invalid principal, host, operation or pattern type in an option"
 script_sentence BadMix = codes "options that may not be used together"
-script_sentence NoResource = codes "no topic, group, cluster or transactional id"
-script_sentence NoPrincipal = codes "no principal"
+script_sentence NoResource = codes "missing topic, group, cluster or transactional id"
+script_sentence NoPrincipal = codes "missing principal"
 
 abbrev pub sentence_of : SceneFaultKind → List ℕ
 sentence_of (Script kind) = script_sentence kind
-sentence_of UnknownWorker = codes "no worker of that name is declared before"
+sentence_of UnknownWorker = codes "unknown worker"
 sentence_of BadWorkerName = codes "not a name of a worker"
-sentence_of NameTaken = codes "a worker of that name is declared before"
-sentence_of BadPartitions = codes "not a number of partitions from 1 to 1,000"
-sentence_of BadRoute = codes "not a replacement or a placement of a route"
-sentence_of BadId = codes "not a UUID"
+sentence_of NameTaken = codes "duplicate worker name"
+sentence_of BadPartitions = codes "invalid number of partitions: not from 1 to 1,000"
+sentence_of BadRoute = codes "invalid replacement or placement of a route"
+sentence_of BadId = codes "invalid UUID"
 
 abbrev pub sentence : Bool → SceneFaultKind → List ℕ
 sentence marked kind =

@@ -12,17 +12,17 @@ pub enum SceneFaultKind {
     /// One of the faults of scripts.
     #[error("{0}")]
     Script(FaultKind),
-    #[error("no worker of that name is declared before")]
+    #[error("unknown worker")]
     UnknownWorker,
-    #[error("not a name of a worker: 1 to 64 letters, digits, `-` and `_`, and no keyword")]
+    #[error("invalid worker name: 1 to 64 letters, digits, `-` and `_`, and no keyword")]
     BadWorkerName,
-    #[error("a worker of that name is declared before")]
+    #[error("duplicate worker name")]
     NameTaken,
-    #[error("not a number of partitions from 1 to 1,000")]
+    #[error("invalid number of partitions: not from 1 to 1,000")]
     BadPartitions,
-    #[error("not a replacement or a placement of a route")]
+    #[error("invalid replacement or placement of a route")]
     BadRoute,
-    #[error("not a UUID")]
+    #[error("invalid UUID")]
     BadId,
 }
 

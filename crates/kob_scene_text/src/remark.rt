@@ -107,12 +107,12 @@ fn sentence_of(kind: SceneFaultKind) -> &'static str
 {
     match kind {
         SceneFaultKind::Script(kind) => script_sentence(kind),
-        SceneFaultKind::UnknownWorker => "no worker of that name is declared before",
+        SceneFaultKind::UnknownWorker => "unknown worker",
         SceneFaultKind::BadWorkerName => "not a name of a worker",
-        SceneFaultKind::NameTaken => "a worker of that name is declared before",
-        SceneFaultKind::BadPartitions => "not a number of partitions from 1 to 1,000",
-        SceneFaultKind::BadRoute => "not a replacement or a placement of a route",
-        SceneFaultKind::BadId => "not a UUID",
+        SceneFaultKind::NameTaken => "duplicate worker name",
+        SceneFaultKind::BadPartitions => "invalid number of partitions: not from 1 to 1,000",
+        SceneFaultKind::BadRoute => "invalid replacement or placement of a route",
+        SceneFaultKind::BadId => "invalid UUID",
     }
 }
 
@@ -124,15 +124,15 @@ fn script_sentence(kind: FaultKind) -> &'static str
         FaultKind::LateSetting => "a setting after a request, a declaration or a step",
         FaultKind::BadLine => "an unknown command, or words that do not fit it",
         FaultKind::BadText => "a text that is not UTF-8",
-        FaultKind::BadPrincipal => "not a principal",
-        FaultKind::BadHost => "not a host",
-        FaultKind::BadNumber => "not a decimal number of 64 bits",
+        FaultKind::BadPrincipal => "invalid principal",
+        FaultKind::BadHost => "invalid host",
+        FaultKind::BadNumber => "invalid number: not decimal digits, or more than 64 bits",
         FaultKind::BadWord => "an unknown permission, operation, resource, pattern or column",
-        FaultKind::Usage => "words that are not options of kafka-acls",
+        FaultKind::Usage => "unknown or malformed options of kafka-acls",
         FaultKind::NoAction => "not exactly one of --add, --remove and --list",
-        FaultKind::BadName => "no principal, host, operation or pattern type in an option",
+        FaultKind::BadName => "invalid principal, host, operation or pattern type in an option",
         FaultKind::BadMix => "options that may not be used together",
-        FaultKind::NoResource => "no topic, group, cluster or transactional id",
-        FaultKind::NoPrincipal => "no principal",
+        FaultKind::NoResource => "missing topic, group, cluster or transactional id",
+        FaultKind::NoPrincipal => "missing principal",
     }
 }

@@ -19,25 +19,25 @@ pub enum FaultKind {
     BadLine,
     #[error("a name, a principal, a host or a word of acl that is not UTF-8")]
     BadText,
-    #[error("not a principal")]
+    #[error("invalid principal")]
     BadPrincipal,
-    #[error("not a host")]
+    #[error("invalid host")]
     BadHost,
-    #[error("not a decimal number of 64 bits")]
+    #[error("invalid number: not decimal digits, or more than 64 bits")]
     BadNumber,
     #[error("an unknown permission, operation, resource or pattern")]
     BadWord,
-    #[error("words that are not options of kafka-acls")]
+    #[error("unknown or malformed options of kafka-acls")]
     Usage,
     #[error("not exactly one of --add, --remove and --list")]
     NoAction,
-    #[error("no principal, host, operation or pattern type in an option")]
+    #[error("invalid principal, host, operation or pattern type in an option")]
     BadName,
     #[error("options that may not be used together")]
     BadMix,
-    #[error("no topic, group, cluster or transactional id")]
+    #[error("missing topic, group, cluster or transactional id")]
     NoResource,
-    #[error("no principal")]
+    #[error("missing principal")]
     NoPrincipal,
 }
 
