@@ -32,7 +32,7 @@ script_sentence NoPrincipal = codes "missing principal"
 abbrev pub sentence_of : SceneFaultKind → List ℕ
 sentence_of (Script kind) = script_sentence kind
 sentence_of UnknownWorker = codes "unknown worker"
-sentence_of BadWorkerName = codes "not a name of a worker"
+sentence_of BadWorkerName = codes "invalid worker name"
 sentence_of NameTaken = codes "duplicate worker name"
 sentence_of BadPartitions = codes "invalid number of partitions: not from 1 to 1,000"
 sentence_of BadRoute = codes "invalid replacement or placement of a route"

@@ -108,7 +108,7 @@ fn sentence_of(kind: SceneFaultKind) -> &'static str
     match kind {
         SceneFaultKind::Script(kind) => script_sentence(kind),
         SceneFaultKind::UnknownWorker => "unknown worker",
-        SceneFaultKind::BadWorkerName => "not a name of a worker",
+        SceneFaultKind::BadWorkerName => "invalid worker name",
         SceneFaultKind::NameTaken => "duplicate worker name",
         SceneFaultKind::BadPartitions => "invalid number of partitions: not from 1 to 1,000",
         SceneFaultKind::BadRoute => "invalid replacement or placement of a route",
