@@ -1,7 +1,7 @@
 #!/usr/bin/env python3
 """Microseconds, instructions and bytes of an event's way, beside a C program over Debian's SQLite.
 
-    python3 bench/event.py [N] [--bytes BYTES] [--instructions ROWS] [--threads EVENTS]     (16,000, 100, 2,000 and 1,000; 0: none)
+    python3 bench/event.py [N] [--bytes BYTES] [--instructions ROWS] [--threads EVENTS] [--write]   (16,000, 100, 2,000, 1,000; 0: none)
 
 An event is recorded with its business row (`Outbox::record`), sent by a router over a line to a broker (`Router::tick`), taken in by
 a consumer that fetches 100 records at once (`Consumer::tick`), and swept (`Outbox::sweep`), once with no row that waits and
@@ -23,9 +23,13 @@ that the program had in memory grows from N to 4N events, for each stage.
 four times as many. Then it measures one broker under one lock, with 1 to 16 sessions that each produce a record and fetch it,
 by turns. Microseconds are by the clock there, the least of five runs. Under the lock is what callgrind counts in `Kept::serve`, of one
 session's instructions. "At its end" is what massif finds in memory when it has the most, by the function that allocated it.
+
+--write also puts what is printed into bench/README.md, with the commit, the date and the machine.
 """
 
 import argparse
+import contextlib
+import io
 import os
 import pathlib
 import re
@@ -34,7 +38,11 @@ import subprocess
 import sys
 import tempfile
 
+sys.dont_write_bytecode = True
+import measure
+
 TOP = pathlib.Path(__file__).resolve().parent.parent
+BEGIN, END = "<!-- begin: bench/event.py --write -->\n", "<!-- end of bench/event.py -->\n"
 
 CRATES = """kob_names kob_prefix_tree kob_chunks kob_rights kob_producers kob_authorizer kob_ordered kob_groups kob_partition
 kob_catalog kob_broker kob_outbox kob_router kob_inbox kob_shared kob_lines kob_pipeline""".split()
@@ -219,25 +227,45 @@ def sessions(program, turns, size):
         print(f"instructions an entry: {whole / 2 / work[3]:,.0f}, of these under the lock {held / 2 / work[3]:,.0f}")
 
 
+class Both(io.StringIO):
+    """What is printed, kept and printed."""
+
+    def write(self, text):
+        sys.__stdout__.write(text)
+        sys.__stdout__.flush()
+        return super().write(text)
+
+
+def written(text):
+    """Puts what was printed into the page."""
+    page = measure.README.read_text()
+    before, rest = page.split(BEGIN)
+    measure.README.write_text(f"{before}{BEGIN}{measure.head()}\n```\n{text.strip()}\n```\n{END}{rest.split(END)[1]}")
+
+
 def main():
     parser = argparse.ArgumentParser(description=__doc__, formatter_class=argparse.RawDescriptionHelpFormatter)
     parser.add_argument("n", nargs="?", type=int, default=16_000)
     parser.add_argument("--bytes", type=int, default=100)
     parser.add_argument("--instructions", type=int, default=2_000)
     parser.add_argument("--threads", type=int, default=1_000)
+    parser.add_argument("--write", action="store_true")
     given = parser.parse_args()
-    with tempfile.TemporaryDirectory() as folder:
+    said = Both()
+    with tempfile.TemporaryDirectory() as folder, contextlib.redirect_stdout(said):
         if given.n or given.instructions:
-            measure([ours(folder, "event"), peer(folder)], given.n, given.instructions, given.bytes)
+            calls([ours(folder, "event"), peer(folder)], given.n, given.instructions, given.bytes)
         if given.threads:
             program = ours(folder, "threads")
             pipelines(program, given.threads, given.bytes)
             sessions(program, 64 * given.threads, given.bytes)
             if shutil.which("valgrind"):
                 places(program, given.threads, given.bytes)
+    if given.write:
+        written(said.getvalue())
 
 
-def measure(programs, n, counted, size):
+def calls(programs, n, counted, size):
     """Prints what is measured; the C program may be none."""
     counts = [n, 2 * n, 4 * n] if n else []
     found = [[run(program, (it, it, it, 1, size)) for it in counts] if program else None for program in programs]
