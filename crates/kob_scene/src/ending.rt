@@ -8,7 +8,7 @@ use crate::input::InputFault;
 use kob_scene_play::{Ended, PlayFault};
 
 /// The ends of a scene, and of all scenes, from the best to the worst.
-#[derive(Clone, Copy, Debug, PartialEq, Eq)]
+#[derive(Clone, Copy)]
 pub enum Ending {
     /// All was played or exported.
     Whole,

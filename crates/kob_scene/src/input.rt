@@ -12,7 +12,7 @@ const SCENE_LIMIT: usize = 16_777_216;
 const _: () = prove!(SCENE_LIMIT == 16_777_216);
 
 /// Why a text was not read.
-#[derive(Clone, Copy, Debug, PartialEq, Eq, Error)]
+#[derive(Clone, Copy, Debug, Error)]
 pub enum InputFault {
     #[error("could not be read")]
     ReadFailed,

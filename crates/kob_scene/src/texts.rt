@@ -8,7 +8,7 @@ use std::alloc::AllocError;
 use std::io::{self, Write};
 
 /// What is done with a text.
-#[derive(Clone, Copy, Debug, PartialEq, Eq)]
+#[derive(Clone, Copy)]
 pub enum Task {
     Play,
     Export,

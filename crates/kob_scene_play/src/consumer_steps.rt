@@ -16,7 +16,7 @@ use kob_shared::Recorded;
 use std::alloc::Global;
 
 /// What a tick leaves to be done.
-#[derive(Clone, Copy, Debug, PartialEq, Eq)]
+#[derive(Clone, Copy)]
 enum Left {
     /// The next tick has something to do.
     Something,

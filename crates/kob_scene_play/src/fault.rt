@@ -12,7 +12,7 @@ use std::alloc::{AllocError, AllocFailed};
 use thiserror::Error;
 
 /// Why a step could not be made, or its answer not printed. What it had done by then stays done.
-#[derive(Clone, Copy, Debug, PartialEq, Eq, Error)]
+#[derive(Clone, Copy, Debug, Error)]
 pub enum PlayFault {
     #[error("out of memory")]
     Memory,

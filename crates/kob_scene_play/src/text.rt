@@ -13,7 +13,7 @@ use std::alloc::Global;
 use std::io::Write;
 
 /// How a scene ended whose output was written.
-#[derive(Clone, Copy, Debug, PartialEq, Eq)]
+#[derive(Clone, Copy)]
 pub enum Ended {
     /// All steps were played.
     Clean,
