@@ -1,114 +1,30 @@
 //! The rows of an inbox: which are taken, seen or refused, what they keep, and lack of memory.
 
-use kob_inbox::{Inbox, InboxFault, InboxRow, Subscription, TakeIn};
+use kob_inbox::{Inbox, InboxFault, InboxRow, TakeIn};
 use kob_names::{Bytes, Header, Items, Record, Text};
-use kob_router::Place;
 use std::alloc::{AllocError, Global};
 use std::test::Fail;
 use uuid::Uuid;
 
-fn header(alloc: Global, name: &str, value: &[u8]) -> Result<Header, AllocError> {
-    let name = Text::copied(alloc, name)?;
-    let value = Bytes::copied(alloc, value)?;
-    Ok(Header { name, value })
-}
-
-/// A record with these headers, in this order.
-fn record(alloc: Global, headers: &[(&str, &[u8])]) -> Result<Record, AllocError> {
-    let mut made = Vec::new(alloc);
-    for (name, value) in headers {
-        let header = header(alloc, name, value)?;
-        made.push(header)?;
-    }
-    let value = Bytes::copied(alloc, &[0, 255])?;
-    Ok(Record {
-        key: None,
-        value,
-        headers: Items::from_vec(made),
+fn id_header(alloc: Global, id: u32) -> Result<Header, AllocError> {
+    let mut buffer = Uuid::encode_buffer();
+    let id = Uuid::from_u128(id as u128);
+    let text = id.hyphenated().encode_lower(&mut buffer);
+    Ok(Header {
+        name: Text::copied(alloc, "id")?,
+        value: Bytes::copied(alloc, text.as_bytes())?,
     })
 }
 
 /// A record that carries this id.
 fn carrying(alloc: Global, id: u32) -> Result<Record, AllocError> {
-    let mut buffer = Uuid::encode_buffer();
-    let id = Uuid::from_u128(id as u128);
-    let text = id.hyphenated().encode_lower(&mut buffer);
-    record(alloc, &[("id", text.as_bytes())])
-}
-
-const ID: &[u8] = b"00000000-0000-0000-0000-00000000000a";
-
-const UPPER: &[u8] = b"00000000-0000-0000-0000-00000000000A";
-
-const BRACED: &[u8] = b"{00000000-0000-0000-0000-00000000000a}";
-
-const URN: &[u8] = b"urn:uuid:00000000-0000-0000-0000-00000000000a";
-
-const SIMPLE: &[u8] = b"0000000000000000000000000000000A";
-
-const NO_TEXT: &[u8] = b"00000000-0000-0000-0000-00000000000\xff";
-
-const OTHER: &[u8] = b"00000000-0000-0000-0000-00000000000b";
-
-/// Headers of records, the id in all its forms, and what becomes of the records.
-const FORMS: [(&[(&str, &[u8])], TakeIn); 12] = [
-    (&[("id", UPPER)], TakeIn::Taken),
-    (&[("id", ID)], TakeIn::Seen),
-    (&[("id", BRACED)], TakeIn::Seen),
-    (&[("id", URN)], TakeIn::Seen),
-    (&[("id", SIMPLE)], TakeIn::Seen),
-    (&[("kind", b"x"), ("id", ID), ("id", b"x")], TakeIn::Seen),
-    (&[], TakeIn::NoEventId),
-    (&[("ID", ID)], TakeIn::NoEventId),
-    (&[("id", b"")], TakeIn::NoEventId),
-    (&[("id", b"x"), ("id", ID)], TakeIn::NoEventId),
-    (&[("id", NO_TEXT)], TakeIn::NoEventId),
-    (&[("id", OTHER)], TakeIn::Taken),
-];
-
-fn is_first(row: &InboxRow) -> bool {
-    (row.place, row.partition, row.offset) == (1, 0, 0)
-        && row.id == Uuid::from_u128(0xA)
-        && row.topic.as_str() == "orders"
-        && row.key.is_none()
-        && row.value.as_slice() == [0, 255].as_slice()
-}
-
-fn takes_each_form(alloc: Global, inbox: &mut Inbox) -> Option<bool> {
-    for (at, (headers, want)) in FORMS.into_iter().enumerate() {
-        let message = record(alloc, headers).ok()?;
-        let taken = inbox.take_in("orders", 0, at as u64, &message);
-        drop(message);
-        if taken != Ok(want) {
-            return Some(false);
-        }
-    }
-    Some(true)
-}
-
-/// Whether the rows are those of the two that were taken, of which the first is copied.
-fn are_two(alloc: Global, rows: &[InboxRow]) -> Option<bool> {
-    let [first, second] = rows else {
-        return Some(false);
-    };
-    let copy = first.copy(alloc).ok()?;
-    Some(is_first(&copy) && second.offset == 11)
-}
-
-fn keeps_two(alloc: Global, inbox: &mut Inbox) -> Option<bool> {
-    inbox.is_in_order();
-    let rows = inbox.taken().ok()?;
-    are_two(alloc, &rows)
-}
-
-#[test]
-fn an_id_is_one_in_every_form(rt: HostRuntime) -> Result<(), Fail> {
-    let mut inbox = Inbox::open_in_memory(rt.alloc())?;
-    let taken = takes_each_form(rt.alloc(), &mut inbox);
-    let kept = keeps_two(rt.alloc(), &mut inbox);
-    drop(inbox);
-    assert!(rt; (taken, kept) == (Some(true), Some(true)));
-    Ok(())
+    let mut headers = Vec::new(alloc);
+    headers.push(id_header(alloc, id)?)?;
+    Ok(Record {
+        key: None,
+        value: Bytes::copied(alloc, &[0, 255])?,
+        headers: Items::from_vec(headers),
+    })
 }
 
 const GREATEST: u64 = 9_223_372_036_854_775_807;
@@ -156,20 +72,27 @@ fn is_hollow(row: &InboxRow) -> bool {
     (row.place, key, row.value.len()) == (2, Some(0), 0) && row.topic.as_str() == ""
 }
 
-fn keeps_far_and_hollow(inbox: &mut Inbox) -> bool {
-    let Ok(rows) = inbox.taken() else {
-        return false;
+/// Whether the rows are those two, of which the first is copied.
+fn are_far_and_hollow(alloc: Global, rows: &[InboxRow]) -> Option<bool> {
+    let [far, hollow] = rows else {
+        return Some(false);
     };
-    matches!(rows.as_slice(), [far, hollow] if is_far(far) && is_hollow(hollow))
+    let copy = far.copy(alloc).ok()?;
+    Some(is_far(&copy) && is_hollow(hollow))
+}
+
+fn keeps_far_and_hollow(alloc: Global, inbox: &mut Inbox) -> Option<bool> {
+    let rows = inbox.taken().ok()?;
+    are_far_and_hollow(alloc, &rows)
 }
 
 #[test]
 fn rows_keep_what_was_said(rt: HostRuntime) -> Result<(), Fail> {
     let mut inbox = Inbox::open_in_memory(rt.alloc())?;
     let taken = takes_far_and_hollow(rt.alloc(), &mut inbox);
-    let kept = keeps_far_and_hollow(&mut inbox);
+    let kept = keeps_far_and_hollow(rt.alloc(), &mut inbox);
     drop(inbox);
-    assert!(rt; taken == Some(true) && kept);
+    assert!(rt; (taken, kept) == (Some(true), Some(true)));
     Ok(())
 }
 
@@ -232,44 +155,4 @@ fn refused_allocation_leaves_the_inbox(rt: HostRuntime) -> Result<(), Fail> {
     drop(inbox);
     assert!(rt; done);
     Ok(())
-}
-
-fn subscription(alloc: Global) -> Result<Subscription, AllocError> {
-    let topic = Text::copied(alloc, "orders")?;
-    let group = Text::copied(alloc, "mail")?;
-    let mut places = Vec::new(alloc);
-    places.push(Place {
-        topic,
-        partition: 3,
-    })?;
-    Ok(Subscription {
-        group,
-        assignment: Items::from_vec(places),
-        max: 10,
-    })
-}
-
-/// Whether it is that subscription.
-fn is_subscribed(subscription: &Subscription) -> bool {
-    match subscription.assignment.as_slice() {
-        [place] => {
-            place.topic.as_str() == "orders"
-                && place.partition == 3
-                && subscription.group.as_str() == "mail"
-                && subscription.max == 10
-        }
-        _ => false,
-    }
-}
-
-fn copies_subscription(alloc: Global) -> Option<bool> {
-    let subscription = subscription(alloc).ok()?;
-    let copy = subscription.copy(alloc);
-    drop(subscription);
-    Some(is_subscribed(&copy.ok()?))
-}
-
-#[test]
-fn a_subscription_is_copied(rt: HostRuntime) {
-    assert!(rt; copies_subscription(rt.alloc()) == Some(true));
 }

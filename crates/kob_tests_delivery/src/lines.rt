@@ -1,10 +1,9 @@
-//! Each line makes, loses and keeps calls.
+//! Lines that name a full journal, and lines of sessions.
 
-use crate::making::{asker, line_to, opened, recorded};
-use kob_broker::Broker;
-use kob_lines::{Loss, Lossy, RecordedLine, SessionLine};
+use crate::making::{asker, recorded, shared};
+use kob_lines::{RecordedLine, SessionLine};
 use kob_rights::{Body, Reply, Request};
-use kob_router::{Call, Delivery, Line};
+use kob_router::{Delivery, Line};
 use kob_shared::{CallFault, Recorded, SharedBroker};
 use std::alloc::Global;
 use std::sync::Wait;
@@ -17,89 +16,30 @@ fn heard_id<L: Line>(alloc: Global, line: &mut L) -> Option<u64> {
     }
 }
 
-fn is_heard(calls: &[Call], place: usize) -> Option<bool> {
-    Some(calls.get(place)?.heard.is_some())
-}
-
-/// Whether the reply of each of the first four calls was received.
-fn heard(calls: &[Call]) -> [Option<bool>; 4] {
-    [
-        is_heard(calls, 0),
-        is_heard(calls, 1),
-        is_heard(calls, 2),
-        is_heard(calls, 3),
-    ]
-}
-
-fn worker(recorded: &Recorded, place: usize) -> Option<usize> {
-    Some(recorded.journal().get(place)?.worker)
-}
-
-/// The workers of the first four entries of the journal.
-fn workers(recorded: &Recorded) -> [Option<usize>; 4] {
-    [
-        worker(recorded, 0),
-        worker(recorded, 1),
-        worker(recorded, 2),
-        worker(recorded, 3),
-    ]
-}
-
-/// The producer ids that two calls of a line hear.
-fn two_ids(alloc: Global, broker: &mut Broker) -> Option<[Option<u64>; 2]> {
-    let mut line = line_to(alloc, broker)?;
-    let ids = [heard_id(alloc, &mut line), heard_id(alloc, &mut line)];
-    let unmade = line.unmade_calls();
-    let calls = line.close();
-    let made = heard(&calls);
-    drop(calls);
-    if unmade != 0 || made != [Some(true), Some(true), None, None] {
-        return None;
-    }
-    Some(ids)
-}
-
-fn ids_of_two_lines(alloc: Global) -> Option<[[Option<u64>; 2]; 2]> {
-    let mut broker = opened(alloc)?;
-    let first = two_ids(alloc, &mut broker);
-    let next = two_ids(alloc, &mut broker);
-    drop(broker);
-    Some([first?, next?])
-}
-
-// Two lines one after another over one broker: the second goes on where the first ended.
-#[test]
-fn a_broker_is_free_again(rt: HostRuntime) {
-    let ids = ids_of_two_lines(rt.alloc());
-    assert!(rt; ids == Some([[Some(0), Some(1)], [Some(2), Some(3)]]));
-}
-
-/// What three calls over a journal for two entries hear, where the second keeps no call, and whether
-/// the line names the full journal after the third and not before.
-fn fills(alloc: Global, recorded: &mut Recorded) -> Option<([Option<u64>; 2], bool)> {
-    let (principal, host) = asker(alloc)?;
-    let mut line = RecordedLine::open(alloc, recorded, 7, principal, host);
-    let first = heard_id(alloc, &mut line);
+/// Whether a line over a journal for two entries makes two calls, of which the second is not kept,
+/// and names the full journal after the third and not before.
+fn names_full_journal(alloc: Global, line: &mut RecordedLine<'_>) -> bool {
+    let is_heard = heard_id(alloc, line) == Some(0);
     let is_served = line.call(alloc, Request::InitProducerId).is_ok();
     let is_unnamed = line.calls.fault == None;
-    let third = heard_id(alloc, &mut line);
+    let is_lost = heard_id(alloc, line) == None;
     let is_named = line.calls.fault == Some(CallFault::JournalFull);
-    let calls = line.close();
-    let made = heard(&calls);
-    drop(calls);
-    let holds = is_served && is_unnamed && is_named;
-    Some((
-        [first, third],
-        holds && made == [Some(true), Some(false), None, None],
-    ))
+    [is_heard, is_served, is_unnamed, is_lost, is_named] == [true; 5]
+}
+
+fn fills(alloc: Global, recorded: &mut Recorded) -> Option<bool> {
+    let (principal, host) = asker(alloc, "User:root", "h")?;
+    let mut line = RecordedLine::open(alloc, recorded, 7, principal, host);
+    let is_named = names_full_journal(alloc, &mut line);
+    drop(line);
+    Some(is_named)
 }
 
 fn fills_journal(alloc: Global) -> Option<bool> {
-    let mut recorded = recorded(alloc, 2)?;
+    let mut recorded = recorded(alloc, Vec::new(alloc), 2)?;
     let filled = fills(alloc, &mut recorded);
-    let workers = workers(&recorded);
     drop(recorded);
-    Some(filled? == ([Some(0), None], true) && workers == [Some(7), Some(7), None, None])
+    filled
 }
 
 // A journal for two entries: the third call is not served, and the line says why.
@@ -108,75 +48,47 @@ fn a_full_journal_is_named(rt: HostRuntime) {
     assert!(rt; fills_journal(rt.alloc()) == Some(true));
 }
 
-/// Whether four calls of a line hear what they should, of which the first never reaches the broker
-/// and the reply to the third is lost, and the line and the one below it keep the replies.
-fn loses(alloc: Global, recorded: &mut Recorded) -> Option<bool> {
-    let (principal, host) = asker(alloc)?;
-    let line = RecordedLine::open(alloc, recorded, 3, principal, host);
-    let mut line = Lossy::over(alloc, line);
-    line.lose(Loss::BeforeServe);
-    let (first, second) = (heard_id(alloc, &mut line), heard_id(alloc, &mut line));
-    line.lose(Loss::AfterServe);
-    let (third, fourth) = (heard_id(alloc, &mut line), heard_id(alloc, &mut line));
-    let (below, calls) = line.close();
-    let served = below.close();
-    let (heard, below) = (heard(&calls), heard(&served));
-    drop(calls);
-    drop(served);
-    Some(
-        [first, second, third, fourth] == [None, Some(0), None, Some(2)]
-            && heard == [Some(false), Some(true), Some(false), Some(true)]
-            && below == [Some(true), Some(true), Some(true), None],
-    )
+/// What the calls of two lines hear, in turn.
+fn in_turn<L: Line>(alloc: Global, line: &mut L, other: &mut L) -> [Option<u64>; 3] {
+    let first = heard_id(alloc, line);
+    let second = heard_id(alloc, other);
+    let third = heard_id(alloc, line);
+    [first, second, third]
 }
 
-fn loses_two(alloc: Global) -> Option<bool> {
-    let mut recorded = recorded(alloc, 10)?;
-    let lost = loses(alloc, &mut recorded);
-    let workers = workers(&recorded);
-    drop(recorded);
-    Some(lost? && workers == [Some(3), Some(3), Some(3), None])
-}
-
-// The first call never reaches the broker, the third is served and its reply lost.
-#[test]
-fn named_calls_are_lost(rt: HostRuntime) {
-    assert!(rt; loses_two(rt.alloc()) == Some(true));
-}
-
-/// What the calls of two sessions' lines hear, in turn, and how many entries the first has seen.
-fn in_turn<R: Wait>(
+/// What those of two sessions' lines hear, and how many entries the first has seen.
+fn over_sessions<R: Wait>(
     rt: &R,
     alloc: Global,
     shared: &SharedBroker,
 ) -> Option<([Option<u64>; 3], usize)> {
-    let (principal, host) = asker(alloc)?;
-    let (other_principal, other_host) = asker(alloc)?;
+    let (principal, host) = asker(alloc, "User:root", "h")?;
+    let (other_principal, other_host) = asker(alloc, "User:root", "h")?;
     let mut line = SessionLine::open(rt, alloc, shared.session(1, principal, host));
     let other = shared.session(2, other_principal, other_host);
     let mut other = SessionLine::open(rt, alloc, other);
-    let first = heard_id(alloc, &mut line);
-    let second = heard_id(alloc, &mut other);
-    let third = heard_id(alloc, &mut line);
+    let heard = in_turn(alloc, &mut line, &mut other);
     drop(other);
     let (session, calls) = line.close();
+    drop(calls);
     let seen = session.seen();
     drop(session);
-    let made = heard(&calls);
-    drop(calls);
-    if made != [Some(true), Some(true), None, None] {
-        return None;
-    }
-    Some(([first, second, third], seen))
+    Some((heard, seen))
+}
+
+/// Whether the journal has an entry of worker 1, then one of worker 2, and another of worker 1.
+fn is_shared(recorded: &Recorded) -> bool {
+    let workers = recorded.journal().iter().map(|entry| entry.worker);
+    workers.eq([1, 2, 1])
 }
 
 fn take_turns<R: Wait>(rt: &R, alloc: Global) -> Option<bool> {
-    let shared = SharedBroker::open(recorded(alloc, 10)?);
-    let told = in_turn(rt, alloc, &shared);
+    let shared = shared(alloc, Vec::new(alloc), 10)?;
+    let told = over_sessions(rt, alloc, &shared);
     let recorded = shared.finish();
-    let workers = workers(&recorded);
+    let is_shared = is_shared(&recorded);
     drop(recorded);
-    Some(told? == ([Some(0), Some(1), Some(2)], 3) && workers == [Some(1), Some(2), Some(1), None])
+    Some(told? == ([Some(0), Some(1), Some(2)], 3) && is_shared)
 }
 
 // A session as a line, of which another session's entry takes the second id.

@@ -1,16 +1,19 @@
-//! Rows, routes, outboxes, brokers and lines that the tests share.
+//! Brokers, requests, scripts, events and lines that the tests share.
 
 ghost use Rattle.std.specs.Prelude.{IfOk, IfSome, ◌≤◌};
 ghost use Rattle.kob_shared.specs.Openings.{IsFresh};
 
 use kob_broker::{Broker, OpenFault, Settings};
 use kob_lines::BrokerLine;
-use kob_names::{Host, Items, Principal, Text};
-use kob_outbox::{Change, Outbox, OutboxEvent, Row};
-use kob_rights::{Event, Reply};
-use kob_router::{Place, Route, RouteBy, RouteFault, RouteSettings};
-use kob_script::{Script, read_script};
-use kob_shared::Recorded;
+use kob_names::{
+    Binding, Draft, Host, Items, Operation, Pattern, PatternKind, Permission, PlainValue,
+    Principal, ResourceKind, Text,
+};
+use kob_outbox::{Change, Outbox, OutboxEvent};
+use kob_rights::{Body, Event, Reply, Request};
+use kob_router::{Place, Route, RouteFault, RouteSettings};
+use kob_script::read_script;
+use kob_shared::{Recorded, Script, SharedBroker};
 use std::alloc::{AllocError, Global};
 use std::test::Fail;
 use uuid::Uuid;
@@ -18,60 +21,192 @@ use uuid::Uuid;
 /// The topic of events about orders.
 pub(crate) const ORDERS: &str = "outbox.event.orders";
 
-/// The topic is created.
-const CREATED: &str = "User:root h create-topic outbox.event.orders 1";
+/// That topic is created.
+const ORDERS_CREATED: &str = "User:root h create-topic outbox.event.orders 1";
 
-/// An event of an aggregate of this kind.
-fn event(alloc: Global, id: u128, kind: &str, aggregate: &str) -> Result<OutboxEvent, AllocError> {
-    Ok(OutboxEvent {
-        id: Uuid::from_u128(id),
-        aggregate_type: String::from_str(alloc, kind)?,
-        aggregate_id: String::from_str(alloc, aggregate)?,
-        event_type: String::from_str(alloc, "OrderPaid")?,
-        payload: String::from_str(alloc, "{}")?,
+/// The topic `t` with one partition is created.
+pub(crate) const CREATE: &str = "User:root h create-topic t 1";
+
+/// One record is written to it.
+pub(crate) const WRITE: &str = "User:root h produce t 0 - v";
+
+/// The same by `User:svc`.
+pub(crate) const SERVICE_WRITE: &str = "User:svc h produce t 0 - v";
+
+/// What lets `User:svc` write is taken away.
+pub(crate) const REVOKE: &str = "User:root h delete-acls - - any User:svc - Write -";
+
+/// All topics are asked for.
+pub(crate) const METADATA: &str = "User:root h metadata";
+
+/// The events of a script.
+pub(crate) fn events_of(alloc: Global, lines: &str) -> Option<Vec<Event>> {
+    let script = read_script(alloc, lines.as_bytes()).ok()?;
+    drop(script.settings);
+    Some(script.events.into_vec())
+}
+
+/// The one event of a script's line.
+pub(crate) fn event_of(alloc: Global, line: &str) -> Option<Event> {
+    events_of(alloc, line)?.pop()
+}
+
+/// The request of a script's line.
+pub(crate) fn request_of(alloc: Global, line: &str) -> Option<Request> {
+    let event = event_of(alloc, line)?;
+    drop(event.principal);
+    drop(event.host);
+    Some(event.request)
+}
+
+fn put_times(
+    alloc: Global,
+    requests: &mut Vec<Request>,
+    request: &Request,
+    times: usize,
+) -> Option<()> {
+    for _ in 0..times {
+        let copy = request.copy(alloc).ok()?;
+        requests.push(copy).ok()?;
+    }
+    Some(())
+}
+
+/// The request of a line so many times, of whom the line names.
+pub(crate) fn script(alloc: Global, line: &str, times: usize) -> Option<Script> {
+    let Event {
+        principal,
+        host,
+        request,
+    } = event_of(alloc, line)?;
+    let mut script = Script {
+        principal,
+        host,
+        requests: Vec::new(alloc),
+    };
+    let put = put_times(alloc, &mut script.requests, &request, times);
+    drop(request);
+    if put.is_none() {
+        drop(script);
+        return None;
+    }
+    Some(script)
+}
+
+/// So many such scripts.
+pub(crate) fn scripts_of(
+    alloc: Global,
+    line: &str,
+    workers: usize,
+    times: usize,
+) -> Option<Vec<Script>> {
+    let mut scripts = Vec::new(alloc);
+    for _ in 0..workers {
+        let script = script(alloc, line, times)?;
+        scripts.push(script).ok()?;
+    }
+    Some(scripts)
+}
+
+/// A broker that is just opened.
+fn opened(alloc: Global, settings: Settings) -> Result<Broker, OpenFault>
+    ensures { IfOk result IsFresh }
+{
+    Broker::open(alloc, settings)
+}
+
+/// A broker whose one super user is `User:root`, with these bindings in force.
+pub(crate) fn broker(alloc: Global, opening: Vec<Binding>) -> Option<Broker>
+    ensures { IfSome result IsFresh }
+{
+    let Ok(script) = read_script(alloc, b"super User:root") else {
+        drop(opening);
+        return None;
+    };
+    drop(script.events);
+    let mut settings = script.settings;
+    settings.opening = Items::from_vec(opening);
+    opened(alloc, settings).ok()
+}
+
+/// Such a broker with a journal of at most so many entries.
+pub(crate) fn recorded(alloc: Global, opening: Vec<Binding>, limit: usize) -> Option<Recorded>
+    requires { limit ≤ 1000000 }
+{
+    let broker = broker(alloc, opening)?;
+    Recorded::open(alloc, broker, limit).ok()
+}
+
+/// Such a broker and journal under a lock.
+pub(crate) fn shared(alloc: Global, opening: Vec<Binding>, limit: usize) -> Option<SharedBroker>
+    requires { limit ≤ 1000000 }
+{
+    let recorded = recorded(alloc, opening, limit)?;
+    Some(SharedBroker::open(recorded))
+}
+
+/// A principal and a host.
+pub(crate) fn asker(alloc: Global, who: &str, host: &str) -> Option<(Principal, Host)> {
+    let principal = Principal::parse(alloc, who).ok()?;
+    Some((principal, Host::parse(alloc, host).ok()?))
+}
+
+fn write_draft(alloc: Global) -> Option<Draft> {
+    let name = Text::copied(alloc, "t").ok()?;
+    let (principal, host) = asker(alloc, "User:svc", "*")?;
+    Some(Draft {
+        permission: Permission::Allow,
+        principal,
+        host,
+        operation: Operation::Write,
+        resource: ResourceKind::Topic,
+        pattern: Pattern {
+            kind: PatternKind::Literal,
+            name,
+        },
     })
 }
 
-/// A row with such an event, whose id is 10.
-pub(crate) fn row(alloc: Global, kind: &str, aggregate: &str) -> Result<Row, AllocError> {
-    let event = event(alloc, 0xA, kind, aggregate)?;
-    Ok(Row { seq: 1, event })
+fn write_binding(alloc: Global) -> Option<Binding> {
+    let draft = write_draft(alloc)?;
+    let binding = Binding::new(alloc, &draft).ok();
+    drop(draft);
+    binding
 }
 
-/// A route by the aggregate's type.
-pub(crate) fn route(
-    alloc: Global,
-    replacement: &str,
-    placement: &str,
-) -> Result<Route, RouteFault> {
-    let replacement = Text::copied(alloc, replacement)?;
-    let placement = Text::copied(alloc, placement)?;
-    route_by(
-        alloc,
-        RouteSettings {
-            by: RouteBy::AggregateType,
-            replacement,
-            placement,
-        },
-    )
+/// Allows `User:svc` to write to the topic `t`, from every host.
+pub(crate) fn write_allowed(alloc: Global) -> Option<Vec<Binding>> {
+    let binding = write_binding(alloc)?;
+    let mut bindings = Vec::new(alloc);
+    bindings.push(binding).ok()?;
+    Some(bindings)
 }
 
-/// The default route.
-pub(crate) fn default_route(alloc: Global) -> Result<Route, RouteFault> {
-    route_by(alloc, RouteSettings::by_default(alloc)?)
+/// The offset that was answered.
+pub(crate) fn offset_of(reply: &Reply) -> Option<u64> {
+    match reply {
+        Reply::Done(Body::Offset(offset)) => Some(*offset),
+        _ => None,
+    }
 }
 
-fn route_by(alloc: Global, settings: RouteSettings) -> Result<Route, RouteFault> {
-    let route = Route::new(alloc, &settings);
-    drop(settings);
-    route
-}
-
-fn change(alloc: Global) -> Result<Change, AllocError> {
+/// An order is paid.
+pub(crate) fn change(alloc: Global) -> Result<Change, AllocError> {
     Ok(Change {
         kind: String::from_str(alloc, "order")?,
         id: String::from_str(alloc, "42")?,
         state: String::from_str(alloc, "paid")?,
+    })
+}
+
+/// The event with this id about the thing `42` of a kind.
+pub(crate) fn outbox_event(alloc: Global, kind: &str, id: u128) -> Result<OutboxEvent, AllocError> {
+    Ok(OutboxEvent {
+        id: Uuid::from_u128(id),
+        aggregate_type: String::from_str(alloc, kind)?,
+        aggregate_id: String::from_str(alloc, "42")?,
+        event_type: String::from_str(alloc, "OrderPaid")?,
+        payload: String::from_str(alloc, "{}")?,
     })
 }
 
@@ -90,47 +225,23 @@ pub(crate) fn outbox(alloc: Global, count: u128) -> Result<Outbox, Fail> {
 fn record_all(alloc: Global, outbox: &mut Outbox, count: u128) -> Result<(), Fail> {
     let change = change(alloc)?;
     for id in 0..count {
-        outbox.record(&change, &event(alloc, id.wrapping_add(1), "orders", "42")?)?;
+        outbox.record(&change, &outbox_event(alloc, "orders", id.wrapping_add(1))?)?;
     }
     Ok(())
 }
 
-/// The one event of a script's line.
-pub(crate) fn event_of(alloc: Global, line: &str) -> Option<Event> {
-    read_script(alloc, line.as_bytes())
-        .ok()?
-        .events
-        .into_vec()
-        .pop()
+/// The default route.
+pub(crate) fn default_route(alloc: Global) -> Result<Route, RouteFault> {
+    let settings = RouteSettings::by_default(alloc)?;
+    let route = Route::new(alloc, &settings);
+    drop(settings);
+    route
 }
 
-fn open(alloc: Global, settings: Settings) -> Result<Broker, OpenFault>
-    ensures { IfOk result IsFresh }
-{
-    Broker::open(alloc, settings)
-}
-
-/// A broker that is just opened, whose one super user is `User:root`.
-pub(crate) fn opened(alloc: Global) -> Option<Broker>
-    ensures { IfSome result IsFresh }
-{
-    let Script { settings, events } = read_script(alloc, b"super User:root").ok()?;
-    drop(events);
-    open(alloc, settings).ok()
-}
-
-/// Such a broker with a journal of at most so many entries.
-pub(crate) fn recorded(alloc: Global, limit: usize) -> Option<Recorded>
-    requires { limit ≤ 1000000 }
-{
-    let broker = opened(alloc)?;
-    Recorded::open(alloc, broker, limit).ok()
-}
-
-/// Such a broker with the topic of orders.
-pub(crate) fn broker(alloc: Global) -> Result<Broker, Fail> {
-    let mut broker = opened(alloc).ok_or("memory")?;
-    match answer(alloc, &mut broker, CREATED) {
+/// A broker with the topic of orders, whose one super user is `User:root`.
+pub(crate) fn broker_of_orders(alloc: Global) -> Result<Broker, Fail> {
+    let mut broker = broker(alloc, Vec::new(alloc)).ok_or("memory")?;
+    match answer(alloc, &mut broker, ORDERS_CREATED) {
         Some(reply) => {
             drop(reply);
             Ok(broker)
@@ -150,15 +261,9 @@ pub(crate) fn answer(alloc: Global, broker: &mut Broker, line: &str) -> Option<R
     reply
 }
 
-/// The super user, and the host `h`.
-pub(crate) fn asker(alloc: Global) -> Option<(Principal, Host)> {
-    let principal = Principal::parse(alloc, "User:root").ok()?;
-    Some((principal, Host::parse(alloc, "h").ok()?))
-}
-
 /// A line of the super user.
 pub(crate) fn line_to(alloc: Global, broker: &mut Broker) -> Option<BrokerLine<'_>> {
-    let (principal, host) = asker(alloc)?;
+    let (principal, host) = asker(alloc, "User:root", "h")?;
     Some(BrokerLine::open(alloc, broker, principal, host))
 }
 

@@ -1,232 +1,174 @@
-//! A router and a consumer that out of memory stops. `.ci/refuse` runs them with each allocation
-//! refused in turn.
+//! Sessions, fleets and pipelines that lack of memory stops. `.ci/refuse` runs them with each
+//! allocation and each start of a thread refused in turn.
 
-ghost use Rattle.std.specs.Prelude.{option_map};
-ghost use Rattle.kob_router.specs.Tick.{IsFirst, hand_of};
+ghost use Rattle.std.specs.Prelude.{◌≤◌};
 
-use crate::making::{ORDERS, answer, broker, default_route, group_and_assignment, line_to, outbox};
-use kob_broker::Broker;
-use kob_inbox::{Consumer, Inbox};
-use kob_lines::BrokerLine;
-use kob_outbox::Outbox;
-use kob_rights::{Body, Reply};
-use kob_router::{Line, Router};
+use crate::fleets::{ended, tells_two_each};
+use crate::gates::Open;
+use crate::left::{are_records, begins, is_marked};
+use crate::making::{CREATE, METADATA, WRITE, offset_of, request_of, scripts_of, shared};
+use crate::pipelines::{STEP, TWO, run};
+use crate::plans::{Cast, plan};
+use crate::sessions::{place_of, session};
+use kob_pipeline::{PipelineEnd, PipelineFault};
+use kob_shared::{CallFault, FleetEnd, FleetFault, Receipt, Session, SharedBroker};
 use std::alloc::Global;
+use std::sync::Wait;
 use std::test::Fail;
+use std::thread::Threads;
 
-/// The most ticks that are made.
-const TICKS: usize = 8;
-
-/// What a tick came to.
-#[derive(Clone, Copy, PartialEq, Eq)]
-pub(crate) enum Came {
-    /// There was nothing to do.
-    Idle,
-    /// It moved on, or a call was lost, or memory was refused.
-    On,
-    /// It was denied or refused, or the database failed.
-    Stopped,
-}
-
-/// What a tick of a router comes to.
-pub(crate) fn router_tick<L: Line>(
-    alloc: Global,
-    outbox: &mut Outbox,
-    router: &mut Router,
-    line: &mut L,
-) -> Came
-    requires { IsFirst (option_map hand_of router.old.hand) outbox.old }
-    ensures { IsFirst (option_map hand_of router.new.hand) outbox.new }
-{
-    let tick = router.tick(alloc, outbox, line);
-    let came = match &tick {
-        kob_router::Tick::Idle => Came::Idle,
-        kob_router::Tick::Moved(_) | kob_router::Tick::Repeat => Came::On,
-        kob_router::Tick::Stopped(kob_router::StopReason::Memory) => Came::On,
-        kob_router::Tick::Stopped(_) => Came::Stopped,
-    };
-    drop(tick);
-    came
-}
-
-fn router_ticks(
-    alloc: Global,
-    outbox: &mut Outbox,
-    router: &mut Router,
-    line: &mut BrokerLine<'_>,
-) -> [Came; TICKS]
-    requires { IsFirst (option_map hand_of router.old.hand) outbox.old }
-{
-    let mut came = [Came::On; TICKS];
-    for i in 0..TICKS {
-        came[i] = router_tick(alloc, outbox, router, line);
+/// Whether this is the answer to a write that got this offset, with an entry at this place.
+fn is_at(
+    called: &Result<Receipt, CallFault>,
+    offset: u64,
+    place: usize,
+) -> Result<bool, CallFault> {
+    match called {
+        Ok(receipt) => Ok(offset_of(&receipt.reply) == Some(offset) && receipt.place == place),
+        Err(fault) => Err(*fault),
     }
-    came
 }
 
-/// What a tick of a consumer comes to.
-pub(crate) fn consumer_tick<L: Line>(
+/// Whether a write gets this offset, with an entry at this place.
+fn writes_at<R: Wait>(
+    rt: &R,
     alloc: Global,
-    inbox: &mut Inbox,
-    consumer: &mut Consumer,
-    line: &mut L,
-) -> Came {
-    let tick = consumer.tick(alloc, inbox, line);
-    let came = match &tick {
-        kob_inbox::Tick::Idle => Came::Idle,
-        kob_inbox::Tick::Stopped(kob_inbox::StopReason::Memory) => Came::On,
-        kob_inbox::Tick::Stopped(_) => Came::Stopped,
-        _ => Came::On,
-    };
-    drop(tick);
-    came
+    session: &mut Session<'_>,
+    offset: u64,
+    place: usize,
+) -> Option<Result<bool, CallFault>> {
+    let request = request_of(alloc, WRITE)?;
+    let called = session.call(rt, alloc, request);
+    let is_at = is_at(&called, offset, place);
+    drop(called);
+    Some(is_at)
 }
 
-fn consumer_ticks(
+/// The same, or where lack of memory stopped it and the session has seen no more than before, of
+/// another write.
+fn writes<R: Wait>(
+    rt: &R,
     alloc: Global,
-    inbox: &mut Inbox,
-    consumer: &mut Consumer,
-    line: &mut BrokerLine<'_>,
-) -> [Came; TICKS] {
-    let mut came = [Came::On; TICKS];
-    for i in 0..TICKS {
-        came[i] = consumer_tick(alloc, inbox, consumer, line);
-    }
-    came
-}
-
-/// Whether no tick was stopped, and one of the last two was idle.
-fn came_to_the_end(came: &[Came; TICKS]) -> bool {
-    !came.contains(&Came::Stopped)
-        && (came[TICKS - 2] == Came::Idle || came[TICKS - 1] == Came::Idle)
-}
-
-/// Whether a router sends all that waits in an outbox.
-fn sends_all(alloc: Global, outbox: &mut Outbox, broker: &mut Broker) -> Result<bool, Fail> {
-    let route = default_route(alloc)?;
-    let mut line = line_to(alloc, broker).ok_or("memory")?;
-    let mut router = Router::new(alloc, route, 1);
-    let came = router_ticks(alloc, outbox, &mut router, &mut line);
-    drop(line);
-    drop(router);
-    Ok(came_to_the_end(&came))
-}
-
-/// How many records the topic has.
-fn end(alloc: Global, broker: &mut Broker) -> Option<u64> {
-    let reply = answer(
-        alloc,
-        broker,
-        "User:root h list-offsets outbox.event.orders 0 -1",
-    )?;
-    let end = match &reply {
-        Reply::Done(Body::Offset(end)) => Some(*end),
-        _ => None,
+    session: &mut Session<'_>,
+    offset: u64,
+    place: usize,
+) -> Option<bool> {
+    let seen = session.seen();
+    let written = match writes_at(rt, alloc, session, offset, place)? {
+        Err(CallFault::Memory) if session.seen() == seen => {
+            writes_at(rt, alloc, session, offset, place)?
+        }
+        written => written,
     };
-    drop(reply);
-    end
+    Some(written == Ok(true))
 }
 
-/// Whether two events are in the topic and known sent. What memory kept from being read is read
-/// again.
-fn sends_two(alloc: Global, outbox: &mut Outbox, broker: &mut Broker) -> Result<bool, Fail> {
-    let sent = sends_all(alloc, outbox, broker)?;
-    let mark = match outbox.mark() {
-        Ok(mark) => mark,
-        Err(_) => outbox.mark()?,
-    };
-    let has_two = end(alloc, broker) == Some(2) || end(alloc, broker) == Some(2);
-    Ok(sent && mark == 2 && has_two)
+/// Whether two writes go in one after another.
+fn writes_two<R: Wait>(rt: &R, alloc: Global, root: &mut Session<'_>) -> Option<bool> {
+    place_of(rt, alloc, root, CREATE)?;
+    let wrote = writes(rt, alloc, root, 0, 1)? && writes(rt, alloc, root, 1, 2)?;
+    Some(wrote && root.seen() == 3)
 }
 
-fn makes_up(alloc: Global, outbox: &mut Outbox) -> Result<bool, Fail> {
-    let mut broker = broker(alloc)?;
-    let sent = sends_two(alloc, outbox, &mut broker);
-    drop(broker);
-    sent
+fn session_writes_two<R: Wait>(rt: &R, alloc: Global, shared: &SharedBroker) -> Option<bool> {
+    let mut root = session(alloc, shared, 1, "User:root")?;
+    let wrote = writes_two(rt, alloc, &mut root);
+    drop(root);
+    wrote
 }
 
-/// Where one allocation is refused, whichever it is, the ticks that follow make up for it.
+fn shared_takes_two<R: Wait>(rt: &R, alloc: Global) -> Option<bool> {
+    let shared = shared(alloc, Vec::new(alloc), 10)?;
+    let wrote = session_writes_two(rt, alloc, &shared);
+    drop(shared);
+    wrote
+}
+
 #[test]
-fn a_router_makes_up(rt: HostRuntime) -> Result<(), Fail> {
-    let mut outbox = outbox(rt.alloc(), 2)?;
-    let sent = makes_up(rt.alloc(), &mut outbox);
-    drop(outbox);
-    assert!(rt; sent?);
+fn calls_of_a_session(rt: HostRuntime) -> Result<(), Fail> {
+    let holds = shared_takes_two(&rt, rt.alloc()).ok_or("memory")?;
+    assert!(rt; holds);
     Ok(())
 }
 
-/// Whether a consumer takes in all that the topic holds.
-fn takes_all(alloc: Global, inbox: &mut Inbox, broker: &mut Broker) -> Result<bool, Fail> {
-    let (group, assignment) = group_and_assignment(alloc).ok_or("memory")?;
-    let mut line = line_to(alloc, broker).ok_or("memory")?;
-    let mut consumer = Consumer::new(alloc, group, assignment, 2);
-    let came = consumer_ticks(alloc, inbox, &mut consumer, &mut line);
-    drop(line);
-    drop(consumer);
-    Ok(came_to_the_end(&came))
+/// Whether this is the right end of two scripts. None where memory or a thread was wanting.
+fn is_told(ended: &Result<FleetEnd, FleetFault>) -> Option<bool> {
+    match ended {
+        Ok(end) => Some(tells_two_each(end, 2)),
+        Err(FleetFault::Memory | FleetFault::NotBegun) => None,
+        Err(_) => Some(false),
+    }
 }
 
-/// Whether the records of the inbox's two rows stood at 0 and 2. What memory kept from being read is
-/// read again.
-fn has_two(inbox: &mut Inbox) -> Result<bool, Fail> {
-    let rows = match inbox.taken() {
-        Ok(rows) => rows,
-        Err(_) => inbox.taken()?,
-    };
-    let has_two = match rows.as_slice() {
-        [one, two] => one.offset == 0 && two.offset == 2,
-        _ => false,
-    };
-    drop(rows);
-    Ok(has_two)
+/// Whether two scripts are run to the right end. None where memory or a thread was wanting.
+fn serves_two<R: Threads + Wait + Sync>(rt: &R, alloc: Global) -> Option<bool> {
+    let scripts = scripts_of(alloc, METADATA, 2, 2)?;
+    let gate = Open::new();
+    let ended = ended(rt, Vec::new(alloc), Vec::new(alloc), scripts, &gate, alloc)?;
+    let told = is_told(&ended);
+    drop(ended);
+    told
 }
 
-/// Sends the last of so many events.
-fn sends_last(alloc: Global, broker: &mut Broker, count: u64) -> Result<bool, Fail> {
-    let mut outbox = outbox(alloc, count as u128)?;
-    let sent = match outbox.set_mark(count.wrapping_sub(1)) {
-        Ok(()) => sends_all(alloc, &mut outbox, broker),
-        Err(fault) => Err(Fail::from(fault)),
-    };
-    drop(outbox);
-    sent
-}
-
-/// Sends one event, appends a record without an event id, and sends another event.
-fn fills(alloc: Global, broker: &mut Broker) -> Result<bool, Fail> {
-    let sent = sends_last(alloc, broker, 1)?;
-    let appended = answer(
-        alloc,
-        broker,
-        "User:root h produce outbox.event.orders 0 - none",
-    );
-    let is_appended = appended.is_some();
-    drop(appended);
-    let sent_again = sends_last(alloc, broker, 2)?;
-    Ok(sent && is_appended && sent_again)
-}
-
-/// Whether two events around a record without an event id are taken in, each once.
-fn takes_two(alloc: Global, inbox: &mut Inbox, broker: &mut Broker) -> Result<bool, Fail> {
-    let filled = fills(alloc, broker)?;
-    let taken = takes_all(alloc, inbox, broker)?;
-    Ok(filled && taken && has_two(inbox)?)
-}
-
-fn fills_and_takes(alloc: Global, inbox: &mut Inbox) -> Result<bool, Fail> {
-    let mut broker = broker(alloc)?;
-    let taken = takes_two(alloc, inbox, &mut broker);
-    drop(broker);
-    taken
-}
-
-/// Where one allocation is refused, whichever it is, the ticks that follow make up for it.
 #[test]
-fn a_consumer_makes_up(rt: HostRuntime) -> Result<(), Fail> {
-    let mut inbox = Inbox::open_in_memory(rt.alloc())?;
-    let taken = fills_and_takes(rt.alloc(), &mut inbox);
-    drop(inbox);
-    assert!(rt; taken?);
-    Ok(())
+fn two_scripts(rt: HostRuntime) {
+    let served = match serves_two(&rt, rt.alloc()) {
+        None => serves_two(&rt, rt.alloc()),
+        served => served,
+    };
+    assert!(rt; served == Some(true));
+}
+
+/// Whether the topic has both events. What memory kept from being read is read again.
+fn has_both(alloc: Global, end: &mut PipelineEnd) -> bool {
+    let both = [0xA, 0xB];
+    are_records(alloc, &mut end.broker, &both) || are_records(alloc, &mut end.broker, &both)
+}
+
+/// Whether both events were sent, and each inbox begins with them.
+fn is_whole(alloc: Global, end: &mut PipelineEnd) -> bool {
+    let recorded = [0xA, 0xB];
+    end.inboxes
+        .iter()
+        .all(|inbox| begins(&inbox.rows, &recorded))
+        && has_both(alloc, end)
+        && is_marked(end, 2)
+}
+
+/// Whether this is such an end. None where memory or a thread was wanting.
+fn is_delivered(
+    alloc: Global,
+    ran: &mut Option<Result<PipelineEnd, PipelineFault>>,
+) -> Option<bool> {
+    match ran {
+        Some(Ok(end)) => Some(is_whole(alloc, end)),
+        Some(Err(PipelineFault::Memory | PipelineFault::NotBegun)) => None,
+        _ => Some(false),
+    }
+}
+
+/// Whether a pipeline comes to such an end. None where memory or a thread was wanting.
+fn delivers_two<R: Threads + Wait + Sync>(rt: &R, alloc: Global) -> Option<bool> {
+    let cast = Cast {
+        service: &TWO,
+        groups: &["g"],
+        consumer: &[STEP, STEP, STEP],
+        revoked: false,
+    };
+    let plan = plan(alloc, cast)?;
+    let ran = run(rt, alloc, &plan, &Open::new());
+    drop(plan);
+    let mut ran = ran;
+    let delivered = is_delivered(alloc, &mut ran);
+    drop(ran);
+    delivered
+}
+
+#[test]
+fn a_pipeline(rt: HostRuntime) {
+    let delivered = match delivers_two(&rt, rt.alloc()) {
+        None => delivers_two(&rt, rt.alloc()),
+        delivered => delivered,
+    };
+    assert!(rt; delivered == Some(true));
 }

@@ -38,7 +38,7 @@ fn rotates<R: Wait>(rt: &R, alloc: Global, shared: &RotatingBroker) -> bool {
 
 /// Whether a session fills the journal, and goes on at the place 2 after it was handed out.
 fn goes_on<R: Wait>(rt: &R, alloc: Global, shared: &RotatingBroker) -> Option<bool> {
-    let (principal, host) = asker(alloc)?;
+    let (principal, host) = asker(alloc, "User:root", "h")?;
     let mut session = shared.session(4, principal, host);
     let holds = fills(rt, alloc, &mut session)
         && rotates(rt, alloc, shared)
@@ -50,7 +50,7 @@ fn goes_on<R: Wait>(rt: &R, alloc: Global, shared: &RotatingBroker) -> Option<bo
 
 /// Such a broker with an empty journal for two entries, after an empty one.
 fn opened(alloc: Global) -> Option<Continued> {
-    let (first, continued) = recorded(alloc, 2)?.next(alloc);
+    let (first, continued) = recorded(alloc, Vec::new(alloc), 2)?.next(alloc);
     drop(first);
     Some(continued)
 }

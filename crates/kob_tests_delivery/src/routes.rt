@@ -1,70 +1,76 @@
-//! What routes make of rows, at their limits, and the partitions of keys.
+//! The headers that routes place, event ids in every form, and the partitions of keys.
 
-use crate::making::{default_route, route, row};
+use crate::making::outbox_event;
 use kob_names::{Bytes, Header, Items, PlainValue, Record, Text};
-use kob_router::{RecordFault, Route, RouteFault, Routed, event_id, partition_of, record_of};
+use kob_outbox::Row;
+use kob_router::{
+    RecordFault, Route, RouteBy, RouteFault, RouteSettings, Routed, event_id, partition_of,
+    record_of,
+};
 use std::alloc::{AllocError, Global};
 use std::test::Fail;
 
 /// The header of the rows' id.
 const ID: (&str, &str) = ("id", "00000000-0000-0000-0000-00000000000a");
 
-/// The record of a row of this kind, with this aggregate id.
-fn routed(
-    alloc: Global,
-    route: &Route,
-    kind: &str,
-    aggregate: &str,
-) -> Result<Routed, RecordFault> {
-    let row = row(alloc, kind, aggregate)?;
+fn is_key(message: &Record) -> bool {
+    match &message.key {
+        Some(key) => key.as_slice() == b"42".as_slice(),
+        None => false,
+    }
+}
+
+/// Whether a record goes to the topic `events`, with the headers of another.
+fn is_due(routed: &Routed, due: &Record) -> bool {
+    let message = &routed.message;
+    routed.topic.as_str() == "events"
+        && message.headers.same(&due.headers)
+        && message.value.as_slice() == "{}".as_bytes()
+        && is_key(message)
+        && number_of(message) == Some(0xA)
+}
+
+/// A route by the aggregate's type to the topic `events`, with headers placed so.
+fn route(alloc: Global, placement: &str) -> Result<Route, RouteFault> {
+    let settings = RouteSettings {
+        by: RouteBy::AggregateType,
+        replacement: Text::copied(alloc, "events")?,
+        placement: Text::copied(alloc, placement)?,
+    };
+    let route = Route::new(alloc, &settings);
+    drop(settings);
+    route
+}
+
+/// The record of a row of the kind `customers`.
+fn routed(alloc: Global, route: &Route) -> Result<Routed, RecordFault> {
+    let event = outbox_event(alloc, "customers", 0xA)?;
+    let row = Row { seq: 1, event };
     let routed = record_of(alloc, route, &row);
     drop(row);
     routed
 }
 
-/// Whether a record goes to this topic, with the headers of another.
-fn is_due(routed: &Routed, topic: &str, due: &Record) -> bool {
-    let message = &routed.message;
-    routed.topic.as_str() == topic
-        && message.headers.same(&due.headers)
-        && message.value.as_slice() == "{}".as_bytes()
-        && is_key(message, "42")
-        && number_of(message) == Some(0xA)
+/// Whether it has these headers, by this placement.
+fn sends(alloc: Global, placement: &str, headers: &[(&str, &str)]) -> Result<bool, Fail> {
+    let route = route(alloc, placement)?;
+    let routed = routed(alloc, &route);
+    drop(route);
+    let routed = routed?;
+    let holds = has_headers(alloc, &routed, headers);
+    drop(routed);
+    Ok(holds?)
 }
 
-/// Whether a row of the kind `customers` goes to this topic, and its record has these headers.
-fn sends(
+fn has_headers(
     alloc: Global,
-    route: &Route,
-    topic: &str,
+    routed: &Routed,
     headers: &[(&str, &str)],
-) -> Result<bool, Fail> {
-    let routed = routed(alloc, route, "customers", "42")?;
+) -> Result<bool, AllocError> {
     let due = with_headers(alloc, headers)?;
-    let holds = is_due(&routed, topic, &due);
-    drop(routed);
+    let holds = is_due(routed, &due);
     drop(due);
     Ok(holds)
-}
-
-#[test]
-fn route_names_and_ids(rt: HostRuntime) -> Result<(), Fail> {
-    let alloc = rt.alloc();
-    let route = default_route(alloc)?;
-    let refused = routed(alloc, &route, "customer orders", "42").err();
-    let holds = sends(alloc, &route, "outbox.event.customers", &[ID]);
-    drop(route);
-    assert!(rt; refused == Some(RecordFault::BadTopic));
-    assert!(rt; holds?);
-    Ok(())
-}
-
-/// The same, of the route by this placement to the topic `events`.
-fn sends_placed(alloc: Global, placement: &str, headers: &[(&str, &str)]) -> Result<bool, Fail> {
-    let route = route(alloc, "events", placement)?;
-    let holds = sends(alloc, &route, "events", headers);
-    drop(route);
-    holds
 }
 
 const NAMED: [(&str, &str); 3] = [ID, ("eventType", "OrderPaid"), ("aggregateid", "42")];
@@ -75,70 +81,9 @@ const NAMED_ID: [(&str, &str); 2] = [ID, ("id", "customers")];
 fn placement_headers(rt: HostRuntime) -> Result<(), Fail> {
     let alloc = rt.alloc();
     let placement = "type:header:eventType,aggregateid:header";
-    assert!(rt; sends_placed(alloc, placement, &NAMED)?);
-    assert!(rt; sends_placed(alloc, "", &[ID])?);
-    assert!(rt; sends_placed(alloc, "aggregatetype:header:id", &NAMED_ID)?);
-    Ok(())
-}
-
-const BAD_PLACEMENT: Option<RouteFault> = Some(RouteFault::BadPlacement);
-
-const BAD_TEMPLATE: Option<RouteFault> = Some(RouteFault::BadTemplate);
-
-/// A replacement, a placement, and the fault of the two.
-const SETTINGS: [(&str, &str, Option<RouteFault>); 13] = [
-    ("events", "type:header:", BAD_PLACEMENT),
-    ("events", "payload:header", BAD_PLACEMENT),
-    ("events", "type:header,", BAD_PLACEMENT),
-    ("events", ",", BAD_PLACEMENT),
-    ("events", "type", BAD_PLACEMENT),
-    ("events", "type:envelope", BAD_PLACEMENT),
-    ("events", "type:header:a:b", BAD_PLACEMENT),
-    ("", "", BAD_TEMPLATE),
-    ("outbox.$x", "", BAD_TEMPLATE),
-    ("$${routedByValue}", "payload:header", BAD_TEMPLATE),
-    ("outbox.${routedByValue", "", BAD_TEMPLATE),
-    ("events", "", None),
-    ("${routedByValue}.${routedByValue}", "type:header", None),
-];
-
-#[test]
-fn bad_placements_and_templates(rt: HostRuntime) -> Result<(), Fail> {
-    let alloc = rt.alloc();
-    for (replacement, placement, fault) in SETTINGS {
-        assert!(rt; route(alloc, replacement, placement).err() == fault);
-    }
-    Ok(())
-}
-
-/// The fault of a placement of so many entries, whose aliases have so many letters.
-fn fault_at(alloc: Global, entries: usize, alias: usize) -> Result<Option<RouteFault>, AllocError> {
-    let alias = "a".repeat(alloc, alias)?;
-    let mut placement = String::new(alloc);
-    for place in 0..entries {
-        if place > 0 {
-            placement.push(',')?;
-        }
-        placement.push_str("type:header:")?;
-        placement.push_str(&alias)?;
-    }
-    Ok(route(alloc, "events", &placement).err())
-}
-
-/// How many entries, how many letters, and their fault.
-const LIMITS: [(usize, usize, Option<RouteFault>); 4] = [
-    (16, 1, None),
-    (17, 1, BAD_PLACEMENT),
-    (1, 255, None),
-    (1, 256, BAD_PLACEMENT),
-];
-
-#[test]
-fn placements_at_their_limits(rt: HostRuntime) -> Result<(), Fail> {
-    let alloc = rt.alloc();
-    for (entries, alias, fault) in LIMITS {
-        assert!(rt; fault_at(alloc, entries, alias)? == fault);
-    }
+    assert!(rt; sends(alloc, placement, &NAMED)?);
+    assert!(rt; sends(alloc, "", &[ID])?);
+    assert!(rt; sends(alloc, "aggregatetype:header:id", &NAMED_ID)?);
     Ok(())
 }
 
@@ -198,43 +143,6 @@ fn event_ids_in_every_form(rt: HostRuntime) -> Result<(), Fail> {
         assert!(rt; ids_of(alloc, form)? == [Some(10), Some(10), None, None]);
     }
     Ok(())
-}
-
-/// A text of every character up to U+00BF but the zero byte: 255 bytes.
-fn all_bytes(alloc: Global) -> Result<String, AllocError> {
-    let mut text = String::new(alloc);
-    for byte in 1..0xC0_u8 {
-        text.push(char::from(byte))?;
-    }
-    Ok(text)
-}
-
-/// Whether a row's record has its aggregate id as the key.
-fn keeps_key(alloc: Global, aggregate: &str) -> Result<bool, Fail> {
-    let route = default_route(alloc)?;
-    let routed = routed(alloc, &route, "orders", aggregate);
-    drop(route);
-    let routed = routed?;
-    let holds = is_key(&routed.message, aggregate);
-    drop(routed);
-    Ok(holds)
-}
-
-#[test]
-fn a_key_of_any_bytes(rt: HostRuntime) -> Result<(), Fail> {
-    let aggregate = all_bytes(rt.alloc())?;
-    let holds = keeps_key(rt.alloc(), &aggregate);
-    assert!(rt; aggregate.len() == 255);
-    drop(aggregate);
-    assert!(rt; holds?);
-    Ok(())
-}
-
-fn is_key(message: &Record, due: &str) -> bool {
-    match &message.key {
-        Some(key) => key.as_slice() == due.as_bytes(),
-        None => false,
-    }
 }
 
 /// Kafka's own vectors: a key, and its murmur2 bitwise and 0x7fffffff.

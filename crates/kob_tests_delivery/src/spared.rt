@@ -1,152 +1,218 @@
-//! Calls on routers, consumers and prepared changes that take no memory. `.ci/refuse` runs them
-//! with every allocation refused from `spare` on.
+//! Calls on shared brokers, desks and what pipelines leave that take no memory. `.ci/refuse` runs
+//! them with every allocation refused from `spare` on.
 
-use crate::making::{broker, default_route, event_of, group_and_assignment, line_to, outbox};
-use crate::refused::{Came, consumer_tick, router_tick};
-use kob_broker::Broker;
-use kob_inbox::{Consumer, Inbox};
-use kob_lines::BrokerLine;
-use kob_outbox::Outbox;
-use kob_rights::{Event, Reason, Reply, Request};
-use kob_router::{Call, Line, Router};
+ghost use Rattle.kob_pipeline.specs.Pipelines.{IsPipeline};
+
+use crate::gates::Open;
+use crate::left::{begins, call_laws, is_marked};
+use crate::making::{CREATE, METADATA, asker, event_of, recorded, request_of, shared};
+use crate::pipelines::{STEP, TWO, run};
+use crate::plans::{Cast, FIRST_EVENTS, plan};
+use crate::sessions::session;
+use kob_names::{Host, PlainValue, Principal};
+use kob_pipeline::{PipelineEnd, Plan};
+use kob_shared::{Desk, Journal, Notes, Receipt, Recorded, SharedBroker};
 use std::alloc::Global;
-use std::test::Fail;
+use std::sync::Wait;
+use std::thread::Threads;
 
 /// The size of the allocation by which `.ci/refuse` knows that all that come after it are to be
 /// refused.
 const CUE: usize = 7_654_321;
 
 /// No memory is taken from here on, and where `.ci/refuse` runs the test, none is given.
-fn spare(alloc: Global) -> bool {
+pub(crate) fn spare(alloc: Global) -> bool {
     Vec::<u8>::with_capacity(alloc, CUE).is_ok()
 }
 
-/// Whether just two calls were made, both with a reply: for a producer id, and for a record.
-fn are_first_two(calls: &[Call]) -> bool {
-    match calls {
-        [one, two] => {
-            matches!(&one.request, Request::InitProducerId)
-                && matches!(&two.request, Request::Produce(_))
-                && matches!(&one.heard, Some(Reply::Done(_)))
-                && matches!(&two.heard, Some(Reply::Done(_)))
-        }
-        _ => false,
+/// Whether a journal has one entry, of worker 1.
+fn has_one(journal: &Journal) -> bool {
+    match journal.get(0) {
+        Some(entry) => journal.len() == 1 && entry.worker == 1 && entry.same(entry),
+        None => false,
     }
 }
 
-/// Whether a router that has sent one row starts again, and another is made, without a call.
-fn starts_again(
-    alloc: Global,
-    outbox: &mut Outbox,
-    line: &mut BrokerLine<'_>,
-) -> Result<bool, Fail> {
-    let other = default_route(alloc)?;
-    let route = default_route(alloc)?;
-    let mut router = Router::new(alloc, route, 1);
-    let moved = router_tick(alloc, outbox, &mut router, line) == Came::On;
-    let idle = router_tick(alloc, outbox, &mut router, line) == Came::Idle;
-    spare(alloc);
-    router.restart();
-    drop(Router::new(alloc, other, 1_000));
-    drop(router);
-    Ok(moved && idle && are_first_two(line.made_calls()) && line.unmade_calls() == 0)
+/// Whether a record has what it began from and its journal.
+fn is_read(recorded: &Recorded) -> bool {
+    let opening = recorded.opening();
+    let is_told = opening.supers.len() == 1 && !opening.everyone && opening.same(opening);
+    is_told && has_one(recorded.journal())
 }
 
-fn router_starts_again(alloc: Global, outbox: &mut Outbox) -> Result<bool, Fail> {
-    let mut broker = broker(alloc)?;
-    let again = match line_to(alloc, &mut broker) {
-        Some(mut line) => starts_again(alloc, outbox, &mut line),
-        None => Err(Fail::from("memory")),
-    };
+/// Whether a new session has seen nothing.
+fn sees_nothing(shared: &SharedBroker, (principal, host): (Principal, Host)) -> bool {
+    let session = shared.session(1, principal, host);
+    session.seen() == 0
+}
+
+/// Whether a record is taken apart.
+fn is_taken_apart(recorded: Recorded) -> bool {
+    let (broker, journal) = recorded.into_parts();
     drop(broker);
-    again
+    let has_one = has_one(&journal);
+    drop(journal);
+    has_one
 }
 
-#[test]
-fn a_router_starts_again(rt: HostRuntime) -> Result<(), Fail> {
-    let mut outbox = outbox(rt.alloc(), 1)?;
-    let again = router_starts_again(rt.alloc(), &mut outbox);
-    drop(outbox);
-    assert!(rt; again?);
-    Ok(())
+/// Whether a record is shared, given back and taken apart.
+fn goes_round(recorded: Recorded, asker: (Principal, Host)) -> bool {
+    let read = is_read(&recorded);
+    let shared = SharedBroker::open(recorded);
+    let unseen = sees_nothing(&shared, asker);
+    let apart = is_taken_apart(shared.finish());
+    read && unseen && apart
 }
 
-/// Whether just these calls were made: for a position, and for records.
-fn asked_and_fetched(calls: &[Call]) -> bool {
-    match calls {
-        [one, two] => {
-            matches!(&one.request, Request::OffsetFetch(_))
-                && matches!(&two.request, Request::Fetch(_))
-        }
-        _ => false,
-    }
-}
-
-/// Whether a consumer that has asked twice starts again, and another is made, without a call.
-fn begins_again(alloc: Global, inbox: &mut Inbox, line: &mut BrokerLine<'_>) -> Result<bool, Fail> {
-    let other = group_and_assignment(alloc).ok_or("memory")?;
-    let one = group_and_assignment(alloc).ok_or("memory")?;
-    let mut consumer = Consumer::new(alloc, one.0, one.1, 10);
-    let placed = consumer_tick(alloc, inbox, &mut consumer, line) == Came::On;
-    let idle = consumer_tick(alloc, inbox, &mut consumer, line) == Came::Idle;
-    spare(alloc);
-    consumer.restart();
-    drop(Consumer::new(alloc, other.0, other.1, 10));
-    drop(consumer);
-    Ok(placed && idle && asked_and_fetched(line.made_calls()) && line.unmade_calls() == 0)
-}
-
-fn consumer_begins_again(alloc: Global, inbox: &mut Inbox) -> Result<bool, Fail> {
-    let mut broker = broker(alloc)?;
-    let again = match line_to(alloc, &mut broker) {
-        Some(mut line) => begins_again(alloc, inbox, &mut line),
-        None => Err(Fail::from("memory")),
-    };
-    drop(broker);
-    again
-}
-
-#[test]
-fn a_consumer_begins_again(rt: HostRuntime) -> Result<(), Fail> {
-    let mut inbox = Inbox::open_in_memory(rt.alloc())?;
-    let again = consumer_begins_again(rt.alloc(), &mut inbox);
-    drop(inbox);
-    assert!(rt; again?);
-    Ok(())
-}
-
-/// Whether a topic that is there is refused.
-fn is_refused(reply: &Reply) -> bool {
-    match reply {
-        Reply::Refused { code: _, reason } => *reason == Reason::TopicExists,
-        _ => false,
-    }
-}
-
-/// Whether what is prepared shows the reply that is then given.
-fn shows_reply(alloc: Global, broker: &mut Broker, event: &Event) -> Option<bool> {
-    let prepared = broker.prepare(alloc, event).ok()?;
-    spare(alloc);
-    let shown = is_refused(prepared.reply());
-    let reply = broker.commit(prepared);
-    let given = is_refused(&reply);
-    drop(reply);
-    Some(shown && given)
-}
-
-/// The same of the creation of a topic that is there.
-fn shows_refusal(alloc: Global, broker: &mut Broker) -> Option<bool> {
-    let event = event_of(alloc, "User:root h create-topic outbox.event.orders 1")?;
-    let shown = shows_reply(alloc, broker, &event);
+/// Serves one event for worker 1.
+fn serve_one(alloc: Global, recorded: &mut Recorded) -> Option<()> {
+    let event = event_of(alloc, CREATE)?;
+    let served = recorded.serve_as(alloc, 1, &event).ok();
     drop(event);
-    shown
+    drop(served?);
+    Some(())
+}
+
+/// A record of one event.
+fn of_one_event(alloc: Global) -> Option<Recorded> {
+    let mut recorded = recorded(alloc, Vec::new(alloc), 1)?;
+    if serve_one(alloc, &mut recorded).is_none() {
+        drop(recorded);
+        return None;
+    }
+    Some(recorded)
+}
+
+fn shares(alloc: Global) -> Option<bool> {
+    let asker = asker(alloc, "User:root", "h")?;
+    let recorded = of_one_event(alloc)?;
+    spare(alloc);
+    Some(goes_round(recorded, asker))
 }
 
 #[test]
-fn a_prepared_reply_is_told(rt: HostRuntime) -> Result<(), Fail> {
-    let mut broker = broker(rt.alloc())?;
-    let shown = shows_refusal(rt.alloc(), &mut broker);
-    drop(broker);
-    assert!(rt; shown == Some(true));
-    Ok(())
+fn a_record_goes_round(rt: HostRuntime) {
+    assert!(rt; shares(rt.alloc()) == Some(true));
+}
+
+/// Whether one event was noted, at the place 0.
+fn are_of_one(receipts: &[Receipt]) -> bool {
+    match receipts {
+        [receipt] => receipt.place == 0 && receipt.same(receipt),
+        _ => false,
+    }
+}
+
+/// Whether these are the notes of one event.
+fn is_noted(notes: &Notes) -> bool {
+    notes.len() == 1 && notes.events().len() == 1 && are_of_one(notes.receipts())
+}
+
+/// Whether what a desk noted is returned, also once it is closed.
+fn closes(desk: Desk<'_>) -> bool {
+    let told = desk.len() == 1 && are_of_one(desk.receipts());
+    let notes = desk.close();
+    let noted = is_noted(&notes);
+    drop(notes);
+    told && noted
+}
+
+/// Whether a desk that is just opened has noted nothing.
+fn is_blank(desk: Desk<'_>) -> bool {
+    let blank = desk.len() == 0;
+    drop(desk);
+    blank
+}
+
+/// Notes one event.
+fn note_one<R: Wait>(rt: &R, alloc: Global, desk: &mut Desk<'_>) -> Option<()> {
+    let request = request_of(alloc, METADATA)?;
+    desk.call(rt, alloc, request).ok()
+}
+
+/// A desk that has noted one event.
+fn of_one_call<'a, R: Wait>(rt: &R, alloc: Global, shared: &'a SharedBroker) -> Option<Desk<'a>> {
+    let mut desk = Desk::open(alloc, session(alloc, shared, 1, "User:root")?);
+    if note_one(rt, alloc, &mut desk).is_none() {
+        drop(desk);
+        return None;
+    }
+    Some(desk)
+}
+
+/// Whether one desk is closed and another opened.
+fn opens_and_closes<R: Wait>(rt: &R, alloc: Global, shared: &SharedBroker) -> Option<bool> {
+    let desk = of_one_call(rt, alloc, shared)?;
+    let Some(other) = session(alloc, shared, 2, "User:root") else {
+        drop(desk);
+        return None;
+    };
+    spare(alloc);
+    let blank = is_blank(Desk::open(alloc, other));
+    Some(closes(desk) && blank)
+}
+
+fn serves_desks<R: Wait>(rt: &R, alloc: Global) -> Option<bool> {
+    let shared = shared(alloc, Vec::new(alloc), 1)?;
+    let closed = opens_and_closes(rt, alloc, &shared);
+    drop(shared);
+    closed
+}
+
+#[test]
+fn desks_open_and_close(rt: HostRuntime) {
+    assert!(rt; serves_desks(&rt, rt.alloc()) == Some(true));
+}
+
+/// Whether a pipeline of a service that sends two events and of a consumer left what it is to leave
+/// whoever was first: six calls beside the first events, of which three are each worker's.
+fn is_whole(end: &PipelineEnd) -> bool {
+    let counts = end.transcripts.iter().map(|notes| notes.len());
+    end.journal.len() == FIRST_EVENTS + 6
+        && end.journal.iter().count() == FIRST_EVENTS + 6
+        && counts.eq([FIRST_EVENTS, 3, 3])
+        && is_marked(end, 2)
+        && end
+            .inboxes
+            .iter()
+            .all(|inbox| begins(&inbox.rows, &[0xA, 0xB]))
+}
+
+/// Whether an end, of which the laws speak, is so.
+fn is_lawful(alloc: Global, plan: &Plan, end: &PipelineEnd) -> bool
+    requires { IsPipeline plan.now end.now }
+{
+    spare(alloc);
+    call_laws(plan, end);
+    is_whole(end)
+}
+
+/// Whether the laws are called on the end of a plan.
+fn are_called<R: Threads + Wait + Sync>(rt: &R, alloc: Global, plan: &Plan) -> bool {
+    let ran = run(rt, alloc, plan, &Open::new());
+    let Some(Ok(end)) = ran else {
+        drop(ran);
+        return false;
+    };
+    let lawful = is_lawful(alloc, plan, &end);
+    drop(end);
+    lawful
+}
+
+fn calls_laws<R: Threads + Wait + Sync>(rt: &R, alloc: Global) -> Option<bool> {
+    let cast = Cast {
+        service: &TWO,
+        groups: &["g"],
+        consumer: &[STEP, STEP, STEP],
+        revoked: false,
+    };
+    let plan = plan(alloc, cast)?;
+    let called = are_called(rt, alloc, &plan);
+    drop(plan);
+    Some(called)
+}
+
+#[test]
+fn laws_are_called(rt: HostRuntime) {
+    assert!(rt; calls_laws(&rt, rt.alloc()) == Some(true));
 }

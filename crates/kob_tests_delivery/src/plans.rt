@@ -1,17 +1,12 @@
 //! Plans of pipelines that the tests share.
 
-use crate::making::{asker, script};
+use crate::making::{ORDERS, asker, change, default_route, outbox_event, script};
 use kob_inbox::Subscription;
 use kob_names::{Items, Text};
-use kob_outbox::{Change, OutboxEvent};
 use kob_pipeline::{ConsumerPlan, ConsumerStep, Loss, Plan, Service, ServiceStep};
-use kob_router::{Place, Route, RouteSettings, Target};
+use kob_router::{Place, Target};
 use kob_script::read_script;
 use std::alloc::{AllocError, Global};
-use uuid::Uuid;
-
-/// The topic of a service's events, which are about orders.
-const ORDERS: &str = "outbox.event.orders";
 
 /// The settings and the first events of a plan: the topic is created, and the service and the
 /// groups `g` and `g2` get their rights.
@@ -50,26 +45,6 @@ fn recording(alloc: Global, kind: &str, id: u128) -> Result<ServiceStep, AllocEr
     Ok(ServiceStep::Record(change, outbox_event(alloc, kind, id)?))
 }
 
-/// An order is paid.
-pub(crate) fn change(alloc: Global) -> Result<Change, AllocError> {
-    Ok(Change {
-        kind: String::from_str(alloc, "order")?,
-        id: String::from_str(alloc, "42")?,
-        state: String::from_str(alloc, "paid")?,
-    })
-}
-
-/// The event with this id about the thing `42` of a kind.
-pub(crate) fn outbox_event(alloc: Global, kind: &str, id: u128) -> Result<OutboxEvent, AllocError> {
-    Ok(OutboxEvent {
-        id: Uuid::from_u128(id),
-        aggregate_type: String::from_str(alloc, kind)?,
-        aggregate_id: String::from_str(alloc, "42")?,
-        event_type: String::from_str(alloc, "OrderPaid")?,
-        payload: String::from_str(alloc, "{}")?,
-    })
-}
-
 fn step(alloc: Global, act: Act) -> Result<ServiceStep, AllocError> {
     match act {
         Act::Note(id) => recording(alloc, "orders", id),
@@ -89,17 +64,9 @@ fn push_steps(alloc: Global, steps: &mut Vec<ServiceStep>, acts: &[Act]) -> Opti
     Some(())
 }
 
-/// The default route.
-pub(crate) fn route(alloc: Global) -> Option<Route> {
-    let settings = RouteSettings::by_default(alloc).ok()?;
-    let route = Route::new(alloc, &settings);
-    drop(settings);
-    route.ok()
-}
-
 fn target(alloc: Global) -> Option<Target> {
     Some(Target {
-        route: route(alloc)?,
+        route: default_route(alloc).ok()?,
         partitions: 1,
     })
 }

@@ -70,56 +70,6 @@ impl Gate for Open {
     }
 }
 
-/// Holds worker 2 at its first request until worker 1 has come to the request of this number, and
-/// worker 1 there until worker 2 has come to its second.
-#[derive(Drop)]
-pub(crate) struct Between {
-    number: usize,
-    come: AtomicBool,
-    done: AtomicBool,
-    gave_up: AtomicBool,
-}
-
-impl Between {
-    pub(crate) fn before_request(number: usize) -> Between {
-        Between {
-            number,
-            come: AtomicBool::new(false),
-            done: AtomicBool::new(false),
-            gave_up: AtomicBool::new(false),
-        }
-    }
-
-    pub(crate) fn gave_up(&self) -> bool {
-        self.gave_up.load(Ordering::SeqCst)
-    }
-
-    fn wait_for(&self, flag: &AtomicBool) {
-        for _ in 0..TURNS {
-            if flag.load(Ordering::SeqCst) {
-                return;
-            }
-            thread::yield_now();
-        }
-        self.gave_up.store(true, Ordering::SeqCst);
-    }
-}
-
-impl Gate for Between {
-    fn before(&self, worker: usize, k: usize) {
-        if worker == 1 && k == self.number {
-            self.come.store(true, Ordering::SeqCst);
-            self.wait_for(&self.done);
-        }
-        if worker == 2 && k == 1 {
-            self.wait_for(&self.come);
-        }
-        if worker == 2 && k == 2 {
-            self.done.store(true, Ordering::SeqCst);
-        }
-    }
-}
-
 /// A worker waits before its request of this number until another has come to one of its own.
 #[derive(Clone, Copy)]
 pub(crate) struct Hold {

@@ -1,9 +1,9 @@
-//! A journal that is longer than one chunk of its memory, which is 256 entries.
+//! A journal that is longer than one chunk of its memory, which is 256 entries, and fills.
 
-use crate::making::{CREATE, WRITE, offset_of, shared};
+use crate::making::{CREATE, WRITE, offset_of, request_of, shared};
 use crate::sessions::{place_of, session};
 use kob_rights::{Body, Reply};
-use kob_shared::{Entry, Journal, Session, SharedBroker};
+use kob_shared::{CallFault, Entry, Journal, Session, SharedBroker};
 use std::alloc::Global;
 use std::sync::Wait;
 
@@ -13,8 +13,15 @@ const TURNS: usize = 150;
 /// An entry for each of these requests.
 const ENTRIES: usize = 301;
 
+/// Whether a call finds the journal full.
+fn is_refused<R: Wait>(rt: &R, alloc: Global, session: &mut Session<'_>) -> Option<bool> {
+    let request = request_of(alloc, WRITE)?;
+    let refused = session.call(rt, alloc, request).err();
+    Some(refused == Some(CallFault::JournalFull))
+}
+
 /// Worker 1 creates the topic, and then workers 2 and 1 write in turn: whether they receive the
-/// places one after another.
+/// places one after another, until the journal is full.
 fn take_turns<R: Wait>(
     rt: &R,
     alloc: Global,
@@ -29,7 +36,7 @@ fn take_turns<R: Wait>(
             return Some(false);
         }
     }
-    Some(true)
+    is_refused(rt, alloc, second)
 }
 
 fn write_in_turn<R: Wait>(rt: &R, alloc: Global, shared: &SharedBroker) -> Option<bool> {
@@ -51,34 +58,14 @@ fn is_due(place: usize, entry: &Entry) -> bool {
     answered && entry.worker == 1 + place % 2
 }
 
-/// Whether the journal has at each place the entry that was due.
-fn is_due_by_place(journal: &Journal) -> bool {
-    for place in 0..ENTRIES {
-        match journal.get(place) {
-            Some(entry) => {
-                if !is_due(place, entry) {
-                    return false;
-                }
-            }
-            None => return false,
-        }
-    }
-    true
-}
-
-/// Whether the journal's entries, read as one run, are those that were due.
-fn is_due_as_run(journal: &Journal) -> bool {
+/// Whether the journal has all entries that were due.
+fn is_whole(journal: &Journal) -> bool {
     for (place, entry) in journal.iter().enumerate() {
         if !is_due(place, entry) {
             return false;
         }
     }
-    true
-}
-
-/// Whether the journal, read place by place and then as one run, has all entries that were due.
-fn is_whole(journal: &Journal) -> bool {
-    journal.len() == ENTRIES && is_due_by_place(journal) && is_due_as_run(journal)
+    journal.len() == ENTRIES
 }
 
 fn ends_whole(shared: SharedBroker) -> bool {
@@ -88,7 +75,7 @@ fn ends_whole(shared: SharedBroker) -> bool {
     whole
 }
 
-/// Whether the writers receive the places that the journal has.
+/// Whether the writers receive the places that the journal has, and fill it.
 fn keeps_turns<R: Wait>(rt: &R, alloc: Global) -> Option<bool> {
     let shared = shared(alloc, Vec::new(alloc), ENTRIES)?;
     let told = write_in_turn(rt, alloc, &shared);
@@ -97,6 +84,6 @@ fn keeps_turns<R: Wait>(rt: &R, alloc: Global) -> Option<bool> {
 }
 
 #[test]
-fn journal_crosses_chunks(rt: HostRuntime) {
+fn journal_crosses_chunks_and_fills(rt: HostRuntime) {
     assert!(rt; keeps_turns(&rt, rt.alloc()) == Some(true));
 }

@@ -2,7 +2,7 @@
 
 ghost use Rattle.kob_pipeline.specs.Pipelines.{IsPipeline};
 
-use crate::making::event_of;
+use crate::making::answer;
 use crate::plans::FIRST_EVENTS;
 use kob_broker::Broker;
 use kob_inbox::InboxRow;
@@ -79,14 +79,6 @@ fn have_ids(end: &PipelineEnd, ids: &[u128]) -> bool {
         }
     }
     true
-}
-
-/// What the event of a script's line is answered.
-fn answer(alloc: Global, broker: &mut Broker, line: &str) -> Option<Reply> {
-    let event = event_of(alloc, line)?;
-    let reply = broker.serve(alloc, &event).ok();
-    drop(event);
-    reply
 }
 
 fn is_commit(reply: &Option<Reply>, due: Option<u64>) -> bool {

@@ -1,7 +1,7 @@
 //! A right that is revoked while its owner uses it.
 
 use crate::fleets::run;
-use crate::gates::Between;
+use crate::gates::{Hold, Holding};
 use crate::making::{CREATE, REVOKE, SERVICE_WRITE, events_of, offset_of, script, write_allowed};
 use crate::sessions::is_denied;
 use kob_rights::{Reply, Request};
@@ -19,7 +19,11 @@ fn put_both(alloc: Global, scripts: &mut Vec<Script>) -> Option<()> {
 }
 
 /// What these leave, where the gate lets the second in.
-fn revoke_at<R: Threads + Wait + Sync>(rt: &R, alloc: Global, gate: &Between) -> Option<FleetEnd> {
+fn revoke_at<R: Threads + Wait + Sync>(
+    rt: &R,
+    alloc: Global,
+    gate: &Holding<'_>,
+) -> Option<FleetEnd> {
     let mut scripts = Vec::new(alloc);
     put_both(alloc, &mut scripts)?;
     let opening = write_allowed(alloc)?;
@@ -71,7 +75,7 @@ fn is_gone_from<R: Threads + Wait + Sync>(
     rt: &R,
     alloc: Global,
     number: usize,
-    gate: &Between,
+    gate: &Holding<'_>,
 ) -> Option<bool> {
     let end = revoke_at(rt, alloc, gate)?;
     let revoked = is_revoked(&end, number);
@@ -79,10 +83,30 @@ fn is_gone_from<R: Threads + Wait + Sync>(
     Some(revoked && !gate.gave_up())
 }
 
+/// Worker 2 is held at its first request until worker 1 has come to the request of this number, and
+/// worker 1 there until worker 2 has come to its second.
+fn between(number: usize) -> [Hold; 2] {
+    [
+        Hold {
+            worker: 2,
+            number: 1,
+            other: 1,
+            comes_to: number as u64,
+        },
+        Hold {
+            worker: 1,
+            number,
+            other: 2,
+            comes_to: 2,
+        },
+    ]
+}
+
 #[test]
 fn revoked_while_producing(rt: HostRuntime) {
     for number in 1..6 {
-        let gate = Between::before_request(number);
+        let between = between(number);
+        let gate = Holding::at(&between);
         let holds = is_gone_from(&rt, rt.alloc(), number, &gate);
         assert!(rt; holds == Some(true), "before request {number}");
     }

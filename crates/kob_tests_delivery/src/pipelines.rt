@@ -99,25 +99,6 @@ fn after(comes_to: u64) -> Hold {
 pub(crate) const TWO: [Act; 4] = [Act::Note(0xA), TICK, Act::Note(0xB), TICK];
 
 #[test]
-fn pipeline_two_events(rt: HostRuntime) {
-    let cast = Cast {
-        service: &TWO,
-        groups: &["g"],
-        consumer: &[STEP, STEP, STEP],
-        revoked: false,
-    };
-    let due = Due {
-        calls: 6,
-        topic: &[0xA, 0xB],
-        inbox: &[0xA, 0xB],
-        mark: 2,
-        commit: Some(2),
-        denied: false,
-    };
-    assert!(rt; is_played(&rt, rt.alloc(), cast, &[after(4)], due) == Some(true));
-}
-
-#[test]
 fn two_consumers(rt: HostRuntime) {
     let cast = Cast {
         service: &TWO,

@@ -1,0 +1,234 @@
+//! A router and a consumer that out of memory stops. `.ci/refuse` runs them with each allocation
+//! refused in turn.
+
+ghost use Rattle.std.specs.Prelude.{option_map};
+ghost use Rattle.kob_router.specs.Tick.{IsFirst, hand_of};
+
+use crate::making::{
+    answer, broker_of_orders, default_route, group_and_assignment, line_to, outbox,
+};
+use kob_broker::Broker;
+use kob_inbox::{Consumer, Inbox};
+use kob_lines::BrokerLine;
+use kob_outbox::Outbox;
+use kob_rights::{Body, Reply};
+use kob_router::{Line, Router};
+use std::alloc::Global;
+use std::test::Fail;
+
+/// The most ticks that are made.
+const TICKS: usize = 8;
+
+/// What a tick came to.
+#[derive(Clone, Copy, PartialEq, Eq)]
+pub(crate) enum Came {
+    /// There was nothing to do.
+    Idle,
+    /// It moved on, or a call was lost, or memory was refused.
+    On,
+    /// It was denied or refused, or the database failed.
+    Stopped,
+}
+
+/// What a tick of a router comes to.
+pub(crate) fn router_tick<L: Line>(
+    alloc: Global,
+    outbox: &mut Outbox,
+    router: &mut Router,
+    line: &mut L,
+) -> Came
+    requires { IsFirst (option_map hand_of router.old.hand) outbox.old }
+    ensures { IsFirst (option_map hand_of router.new.hand) outbox.new }
+{
+    let tick = router.tick(alloc, outbox, line);
+    let came = match &tick {
+        kob_router::Tick::Idle => Came::Idle,
+        kob_router::Tick::Moved(_) | kob_router::Tick::Repeat => Came::On,
+        kob_router::Tick::Stopped(kob_router::StopReason::Memory) => Came::On,
+        kob_router::Tick::Stopped(_) => Came::Stopped,
+    };
+    drop(tick);
+    came
+}
+
+fn router_ticks(
+    alloc: Global,
+    outbox: &mut Outbox,
+    router: &mut Router,
+    line: &mut BrokerLine<'_>,
+) -> [Came; TICKS]
+    requires { IsFirst (option_map hand_of router.old.hand) outbox.old }
+{
+    let mut came = [Came::On; TICKS];
+    for i in 0..TICKS {
+        came[i] = router_tick(alloc, outbox, router, line);
+    }
+    came
+}
+
+/// What a tick of a consumer comes to.
+pub(crate) fn consumer_tick<L: Line>(
+    alloc: Global,
+    inbox: &mut Inbox,
+    consumer: &mut Consumer,
+    line: &mut L,
+) -> Came {
+    let tick = consumer.tick(alloc, inbox, line);
+    let came = match &tick {
+        kob_inbox::Tick::Idle => Came::Idle,
+        kob_inbox::Tick::Stopped(kob_inbox::StopReason::Memory) => Came::On,
+        kob_inbox::Tick::Stopped(_) => Came::Stopped,
+        _ => Came::On,
+    };
+    drop(tick);
+    came
+}
+
+fn consumer_ticks(
+    alloc: Global,
+    inbox: &mut Inbox,
+    consumer: &mut Consumer,
+    line: &mut BrokerLine<'_>,
+) -> [Came; TICKS] {
+    let mut came = [Came::On; TICKS];
+    for i in 0..TICKS {
+        came[i] = consumer_tick(alloc, inbox, consumer, line);
+    }
+    came
+}
+
+/// Whether no tick was stopped, and one of the last two was idle.
+fn came_to_the_end(came: &[Came; TICKS]) -> bool {
+    !came.contains(&Came::Stopped)
+        && (came[TICKS - 2] == Came::Idle || came[TICKS - 1] == Came::Idle)
+}
+
+/// Whether a router sends all that waits in an outbox.
+fn sends_all(alloc: Global, outbox: &mut Outbox, broker: &mut Broker) -> Result<bool, Fail> {
+    let route = default_route(alloc)?;
+    let mut line = line_to(alloc, broker).ok_or("memory")?;
+    let mut router = Router::new(alloc, route, 1);
+    let came = router_ticks(alloc, outbox, &mut router, &mut line);
+    drop(line);
+    drop(router);
+    Ok(came_to_the_end(&came))
+}
+
+/// How many records the topic has.
+fn end(alloc: Global, broker: &mut Broker) -> Option<u64> {
+    let reply = answer(
+        alloc,
+        broker,
+        "User:root h list-offsets outbox.event.orders 0 -1",
+    )?;
+    let end = match &reply {
+        Reply::Done(Body::Offset(end)) => Some(*end),
+        _ => None,
+    };
+    drop(reply);
+    end
+}
+
+/// Whether two events are in the topic and known sent. What memory kept from being read is read
+/// again.
+fn sends_two(alloc: Global, outbox: &mut Outbox, broker: &mut Broker) -> Result<bool, Fail> {
+    let sent = sends_all(alloc, outbox, broker)?;
+    let mark = match outbox.mark() {
+        Ok(mark) => mark,
+        Err(_) => outbox.mark()?,
+    };
+    let has_two = end(alloc, broker) == Some(2) || end(alloc, broker) == Some(2);
+    Ok(sent && mark == 2 && has_two)
+}
+
+fn makes_up(alloc: Global, outbox: &mut Outbox) -> Result<bool, Fail> {
+    let mut broker = broker_of_orders(alloc)?;
+    let sent = sends_two(alloc, outbox, &mut broker);
+    drop(broker);
+    sent
+}
+
+/// Where one allocation is refused, whichever it is, the ticks that follow make up for it.
+#[test]
+fn a_router_makes_up(rt: HostRuntime) -> Result<(), Fail> {
+    let mut outbox = outbox(rt.alloc(), 2)?;
+    let sent = makes_up(rt.alloc(), &mut outbox);
+    drop(outbox);
+    assert!(rt; sent?);
+    Ok(())
+}
+
+/// Whether a consumer takes in all that the topic holds.
+fn takes_all(alloc: Global, inbox: &mut Inbox, broker: &mut Broker) -> Result<bool, Fail> {
+    let (group, assignment) = group_and_assignment(alloc).ok_or("memory")?;
+    let mut line = line_to(alloc, broker).ok_or("memory")?;
+    let mut consumer = Consumer::new(alloc, group, assignment, 2);
+    let came = consumer_ticks(alloc, inbox, &mut consumer, &mut line);
+    drop(line);
+    drop(consumer);
+    Ok(came_to_the_end(&came))
+}
+
+/// Whether the records of the inbox's two rows stood at 0 and 2. What memory kept from being read is
+/// read again.
+fn has_two(inbox: &mut Inbox) -> Result<bool, Fail> {
+    let rows = match inbox.taken() {
+        Ok(rows) => rows,
+        Err(_) => inbox.taken()?,
+    };
+    let has_two = match rows.as_slice() {
+        [one, two] => one.offset == 0 && two.offset == 2,
+        _ => false,
+    };
+    drop(rows);
+    Ok(has_two)
+}
+
+/// Sends the last of so many events.
+fn sends_last(alloc: Global, broker: &mut Broker, count: u64) -> Result<bool, Fail> {
+    let mut outbox = outbox(alloc, count as u128)?;
+    let sent = match outbox.set_mark(count.wrapping_sub(1)) {
+        Ok(()) => sends_all(alloc, &mut outbox, broker),
+        Err(fault) => Err(Fail::from(fault)),
+    };
+    drop(outbox);
+    sent
+}
+
+/// Sends one event, appends a record without an event id, and sends another event.
+fn fills(alloc: Global, broker: &mut Broker) -> Result<bool, Fail> {
+    let sent = sends_last(alloc, broker, 1)?;
+    let appended = answer(
+        alloc,
+        broker,
+        "User:root h produce outbox.event.orders 0 - none",
+    );
+    let is_appended = appended.is_some();
+    drop(appended);
+    let sent_again = sends_last(alloc, broker, 2)?;
+    Ok(sent && is_appended && sent_again)
+}
+
+/// Whether two events around a record without an event id are taken in, each once.
+fn takes_two(alloc: Global, inbox: &mut Inbox, broker: &mut Broker) -> Result<bool, Fail> {
+    let filled = fills(alloc, broker)?;
+    let taken = takes_all(alloc, inbox, broker)?;
+    Ok(filled && taken && has_two(inbox)?)
+}
+
+fn fills_and_takes(alloc: Global, inbox: &mut Inbox) -> Result<bool, Fail> {
+    let mut broker = broker_of_orders(alloc)?;
+    let taken = takes_two(alloc, inbox, &mut broker);
+    drop(broker);
+    taken
+}
+
+/// Where one allocation is refused, whichever it is, the ticks that follow make up for it.
+#[test]
+fn a_consumer_makes_up(rt: HostRuntime) -> Result<(), Fail> {
+    let mut inbox = Inbox::open_in_memory(rt.alloc())?;
+    let taken = fills_and_takes(rt.alloc(), &mut inbox);
+    drop(inbox);
+    assert!(rt; taken?);
+    Ok(())
+}
