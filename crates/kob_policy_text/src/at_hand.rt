@@ -1,4 +1,5 @@
-//! The principals, the hosts and the names at hand, and every question on them.
+//! The principals, hosts and names that a policy and its questions mention, and every question on
+//! them.
 
 ghost use Rattle.std.specs.Prelude.{◌≡◌, ◌++◌, IfOk, OnOk, codes, map};
 ghost use Rattle.kob_policy_text.specs.Answers.{hand_of};
@@ -33,8 +34,8 @@ pub struct Target {
 }
 
 /// The principals and the hosts that bindings name, in the order in which they are first named, and
-/// the names of their patterns behind the names of topics that are given. `User:*` and `*` stand
-/// first, for all others.
+/// the names of the given topics, followed by the names of the bindings' patterns. `User:*` and `*`
+/// stand first, for all others.
 #[derive(Drop)]
 pub struct AtHand {
     principals: Vec<Principal>,
@@ -93,7 +94,7 @@ impl AtHand {
         self.principals.as_slice()
     }
 
-    /// Every question at hand.
+    /// Every question on them.
     pub fn asked(&self, alloc: Global) -> Result<Vec<Asked<'_>>, AllocError>
         ensures { IfOk result (λ asked. asked.items ≡ asked_at_hand self.now) }
     {
@@ -121,7 +122,7 @@ pub fn add_bindings(
     Ok(())
 }
 
-/// What is at hand of a policy, with the names of topics that are given.
+/// The principals, hosts and names of a policy, with the given names of topics.
 pub fn hand_of(alloc: Global, policy: &Policy, topics: &[Text]) -> Result<AtHand, AllocError>
     ensures { IfOk result (λ hand. hand ≡ hand_of policy.now topics.now) }
 {

@@ -55,8 +55,8 @@ fn push_changes(
     Ok(())
 }
 
-/// Prints each question at hand whose answer changes, with both answers, on a line. The error is out
-/// of memory; `out` has then grown by a part of them.
+/// Prints each question whose answer changes, with both answers, on a line. The error is out of
+/// memory; `out` has then grown by a part of them.
 pub fn print_changes(
     alloc: Global,
     out: &mut Vec<u8>,

@@ -19,7 +19,7 @@ pub struct Grant {
 }
 
 /// Why a binding is left out: it speaks of a kind of resource, of principal or of operation that
-/// this product does not have.
+/// this product does not support.
 #[derive(Clone, Copy)]
 pub enum LeftOut {
     Resource,

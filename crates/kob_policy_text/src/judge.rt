@@ -36,7 +36,7 @@ impl Model for Judge {
 
 impl Judge {
     /// The policy in force: its bindings get serials from 1 in their order, and equal ones one
-    /// serial. `TooMany` is more than 100,000 different bindings, `SerialsSpent` never comes.
+    /// serial. `TooMany` is more than 100,000 different bindings, `SerialsSpent` is never returned.
     pub fn open(alloc: Global, policy: Policy) -> Result<Judge, CreateFault>
         ensures policy { IfOk result (λ judge. judge ≡ policy) }
         ensures fault { IfErr result (λ fault. fault ≢ CreateFault.Memory
@@ -64,7 +64,7 @@ impl Judge {
         Judge::open(alloc, policy).map_err(|_| AllocError)
     }
 
-    /// The policy by which is decided.
+    /// The policy that decides.
     pub fn policy(&self) -> &Policy
         ensures { result.now ≡ self.now }
     {

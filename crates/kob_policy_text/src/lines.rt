@@ -102,7 +102,7 @@ fn property_items(alloc: Global, line: &[u8]) -> Result<Vec<Item>, LineError>
     property_by(alloc, trimmed(key), trimmed(value))
 }
 
-/// Whether the line is not read by its words.
+/// Whether the line is read as a whole and not word by word.
 #[tactic(auto, unfolding(crate::specs::Lines::is_listed))]
 fn is_listed(line: &[u8]) -> bool
     ensures { result ≡ is_listed line.now }
@@ -115,7 +115,7 @@ fn is_listed(line: &[u8]) -> bool
         || holds_mark(line, b" permission for operations: ")
 }
 
-/// What such a line says.
+/// What a line that is read as a whole says.
 #[tactic(auto, unfolding(crate::specs::Lines::listed_items))]
 fn listed_items(alloc: Global, line: &[u8]) -> Result<Vec<Item>, LineError>
     ensures { GivesSeen (λ items. items.items) result (listed_items line.now) }
@@ -145,7 +145,7 @@ fn base_name(path: &[u8]) -> &[u8]
     }
 }
 
-/// Whether the command is Kafka's tool, by whatever path, and no principal.
+/// Whether the command is Kafka's tool, with any path, and not a principal.
 #[tactic(auto, unfolding(crate::specs::Lines::is_tool))]
 fn is_tool(command: &[u8]) -> bool
     ensures { result ≡ is_tool command.now }
@@ -228,7 +228,7 @@ fn any_other_kind(names: &[Text]) -> bool
     names.iter().any(|name| is_other_kind(name.as_str()))
 }
 
-/// Why a line that asks for bindings is left out, if it is.
+/// Why a line that asks for bindings is left out, or `None`.
 #[tactic(auto, unfolding(crate::specs::Lines::left_out_by))]
 fn left_out_by(answer: &Option<CliArgs>, words: &[Word<'_>]) -> Option<LeftOut>
     ensures { result ≡ left_out_by answer.now words.now }
@@ -264,7 +264,7 @@ fn rules_in(alloc: Global, request: Request) -> Result<Vec<Item>, LineError>
     }
 }
 
-/// The bindings of one request, and of no more and no fewer.
+/// The bindings of a list of exactly one request.
 fn rules_of(alloc: Global, asked: Asked) -> Result<Vec<Item>, LineError>
     ensures { GivesSeen (λ items. items.items) result (rules_of asked) }
 {
@@ -320,7 +320,7 @@ fn words_items(
     }
 }
 
-/// What a line of a script says, by what `clap` answers where it is asked.
+/// What a line of a script says, by what `clap` returns if the line is an `acl` line.
 fn script_items(alloc: Global, text: &[u8]) -> Result<Vec<Item>, LineError>
     ensures { MayGive (λ items. items.items) result (SaysByWords text.now) }
 {
@@ -331,7 +331,7 @@ fn script_items(alloc: Global, text: &[u8]) -> Result<Vec<Item>, LineError>
     items
 }
 
-/// What a line says. What the words of an `acl` line mean is answered by `clap`.
+/// What a line says. The words of an `acl` line are read by `clap`.
 pub fn items_of(alloc: Global, line: &[u8]) -> Result<Vec<Item>, LineError>
     ensures { MayGive (λ items. items.items) result (Says line.now) }
 {

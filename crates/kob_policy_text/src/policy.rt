@@ -57,7 +57,7 @@ impl Origin {
 }
 
 impl Policy {
-    /// A policy of no files; no memory is taken.
+    /// A policy of no files. Does not allocate.
     pub fn new(alloc: Global) -> Policy
         ensures { result ≡ empty_policy }
     {
@@ -218,7 +218,7 @@ impl Policy {
 }
 
 /// Reads a file after those that were read before. Lines end with a line feed, before which one
-/// carriage return is dropped. The error is the first line with a fault, or lack of memory; the
+/// carriage return is dropped. The error is the first line with a fault, or out of memory; the
 /// policy then holds what the lines before it say, and maybe a part of that line. `BadName` is a
 /// pattern's name that no binding may have, `NoResource` a listed binding without a heading.
 pub fn read_file(

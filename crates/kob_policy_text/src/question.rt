@@ -47,7 +47,7 @@ pub enum Question {
     Shadowed,
 }
 
-/// The names of topics that are given, and the questions in their order.
+/// The given names of topics, and the questions in order.
 #[derive(Drop)]
 pub struct Questions {
     topics: Vec<Text>,
@@ -66,7 +66,7 @@ impl Model for Questions {
 }
 
 impl Questions {
-    /// No topics and no questions; no memory is taken.
+    /// No topics and no questions. Does not allocate.
     pub fn new(alloc: Global) -> Questions
         ensures topics { result.topics ≡ [] }
         ensures asked { result.asked ≡ [] }
@@ -77,7 +77,7 @@ impl Questions {
         }
     }
 
-    /// The names of topics that are given.
+    /// The given names of topics.
     pub fn topics(&self) -> &[Text]
         ensures { result.now ≡ self.now.topics }
     {
@@ -172,7 +172,7 @@ fn read_lines(
 
 /// Reads questions, a line each, after those that were read before: `may`, `who`, `sees`, `unused`
 /// and `shadowed`, and `topic` with a name that is given. The error is the first line with a fault,
-/// or lack of memory.
+/// or out of memory.
 pub fn read_questions(
     alloc: Global,
     questions: &mut Questions,

@@ -1,4 +1,4 @@
-//! Bindings that no other needs: without one of them, taken alone, no answer at hand changes.
+//! Bindings that no other needs: if one of them is removed, no answer changes.
 
 ghost use Rattle.std.specs.Prelude.{◌≡◌, ◌++◌, ◌<◌, IfOk, OnOk, length};
 ghost use Rattle.kob_policy_text.specs.Answers.{hand_of, is_unused, unused_line, unused_lines};

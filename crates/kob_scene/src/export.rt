@@ -1,4 +1,4 @@
-//! The state at the end of a scene, as Kafka and Debezium take it.
+//! The state at the end of a scene, in the forms of Kafka and Debezium.
 
 ghost use Rattle.std.specs.Prelude.{◌≡◌, ◌++◌, flat_map, OnOk};
 ghost use Rattle.kob_scene.specs.Export.{commands_mark, commands_part, export_text, exported};

@@ -6,7 +6,7 @@ use std::alloc::Global;
 use std::io::{self, ErrorKind, Read};
 use thiserror::Error;
 
-/// The most bytes of a scene.
+/// The maximum length of a scene, in bytes.
 const SCENE_LIMIT: usize = 16_777_216;
 
 const _: () = prove!(SCENE_LIMIT == 16_777_216);
@@ -32,7 +32,7 @@ impl From<io::Error> for InputFault {
     }
 }
 
-/// All that the reader has left. Of a text past the limit no more than a byte past it is read.
+/// Reads to the end. At most one byte more than the limit is read.
 pub fn read_text<R: Read + Drop>(alloc: Global, reader: R) -> Result<Vec<u8>, InputFault>
     ensures bytes { IfOk result (λ text. IfSome (R.remaining reader) (λ bytes. text.items ≡ bytes)) }
     ensures limited { IfOk result (λ text. length text.items ≤ 16777216) }

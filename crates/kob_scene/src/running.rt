@@ -1,4 +1,4 @@
-//! What the command line names is played or exported.
+//! The playing or the export of what the command line names.
 
 use crate::ending::{Ending, ending_of_input};
 use crate::input::{InputFault, read_text};
@@ -9,8 +9,8 @@ use clap::error::ErrorKind;
 use std::rt::{Env, Files};
 use std::{fs, io};
 
-/// Plays each file that is named, or standard input where none is, and exports what is to be
-/// exported; of several ends the worst.
+/// Plays each file that is named, or standard input if none is, and exports the files that are to
+/// be exported. Returns the worst of several ends.
 pub fn run<R: AllocGlobal + Env + Files + Input + Print + Eprint>(rt: &R) -> Ending {
     match words_of(rt) {
         Ok(words) => run_words(rt, &words),
@@ -72,7 +72,7 @@ fn run_files<R: AllocGlobal + Files + Print + Eprint>(
     ending
 }
 
-/// Plays or exports one of the files, behind a line with its name where there are several.
+/// Plays or exports one of the files, after a line with its name if there are several.
 fn run_file<R: AllocGlobal + Files + Print + Eprint>(
     rt: &R,
     task: Task,

@@ -28,7 +28,7 @@ pub struct End {
     pub topics: Vec<Topic>,
 }
 
-/// Serves the requests of a scene, on a broker as it opens it.
+/// Serves the requests of a scene, on a broker with the settings of the scene.
 pub fn end_of(alloc: Global, scene: &Scene) -> Result<End, AllocError>
     ensures { IfOk result (λ end. seen end ≡ end_of scene.now) }
 {

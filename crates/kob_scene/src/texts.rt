@@ -1,4 +1,4 @@
-//! A text that was read is played or exported.
+//! The playing or the export of a text that was read.
 
 use crate::ending::{Ending, ending_of_play};
 use crate::export::export_scene;
@@ -67,7 +67,7 @@ fn export_read<R: AllocGlobal + Print + Eprint>(rt: &R, name: &str, scene: &Scen
     finish(rt, name, &out, made)
 }
 
-/// Prints the fault of a scene as playing does.
+/// Prints the fault of a scene in the same form as playing.
 fn export_fault<R: AllocGlobal + Print + Eprint>(
     rt: &R,
     name: &str,

@@ -15,7 +15,7 @@ use kob_scene_text::{ConsumerStep, Lost, print_consumer_tick, print_inbox, print
 use kob_shared::Recorded;
 use std::alloc::Global;
 
-/// What a tick leaves to be done.
+/// What is left to do after a tick.
 #[derive(Clone, Copy)]
 enum Left {
     /// The next tick has something to do.
@@ -26,7 +26,7 @@ enum Left {
     Stopped,
 }
 
-/// Makes a step, and prints what it answers.
+/// Makes a step, and prints its result.
 pub(crate) fn play_consumer(
     alloc: Global,
     recorded: &mut Recorded,
@@ -75,7 +75,7 @@ fn left_by(tick: &Tick) -> Left {
     }
 }
 
-/// Ticks until each assigned partition was idle in turn, or the consumer is stopped.
+/// Makes ticks until each assigned partition was idle in turn, or the consumer is stopped.
 #[tactic(auto, using(crate::proofs::ConsumerRunning::none_at_first, crate::proofs::ConsumerRunning::one_tick_more))]
 fn run(
     alloc: Global,

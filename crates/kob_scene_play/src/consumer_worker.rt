@@ -44,7 +44,7 @@ impl Model for ConsumerWorker {
 }
 
 impl ConsumerWorker {
-    /// A consumer that knows no position, with an empty inbox.
+    /// A consumer without a position, with an empty inbox.
     pub fn open(
         alloc: Global,
         worker: usize,
@@ -88,7 +88,7 @@ impl ConsumerWorker {
         &self.subscription
     }
 
-    /// One step over the broker, whose first call is lost so.
+    /// One step over the broker, whose first call has this loss.
     pub fn tick(
         &mut self,
         alloc: Global,
@@ -110,7 +110,7 @@ impl ConsumerWorker {
         Ok(tick)
     }
 
-    /// Starts the consumer again; the inbox stays. No memory is taken.
+    /// Restarts the consumer. The inbox is unchanged. Does not allocate.
     pub fn restart(&mut self)
         ensures { Consumes Restarted self.old self.new }
     {
@@ -127,7 +127,7 @@ impl ConsumerWorker {
     }
 }
 
-/// Why a tick that memory or the database stopped did.
+/// Why a tick stopped that ran out of memory or whose database failed.
 fn stopped_by(tick: &Tick) -> Option<PlayFault> {
     match tick {
         Tick::Stopped(StopReason::Memory) => Some(PlayFault::Memory),

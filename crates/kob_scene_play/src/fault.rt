@@ -11,15 +11,15 @@ use kob_shared::{CallFault, ServeFault};
 use std::alloc::{AllocError, AllocFailed};
 use thiserror::Error;
 
-/// Why a step could not be made, or its answer not printed. What it had done by then stays done.
+/// Why a step could not be made, or its result not printed. What it had done by then is kept.
 #[derive(Clone, Copy, Debug, Error)]
 pub enum PlayFault {
     #[error("out of memory")]
     Memory,
-    /// The journal has 1,000,000 entries, and takes no more.
+    /// The journal is full: it has 1,000,000 entries.
     #[error("the journal is full")]
     JournalFull,
-    /// A database refused for another cause than lack of memory.
+    /// A database failed for another cause than out of memory.
     #[error("a database failed")]
     Store,
     /// The scene has no worker at the place that a step names.
@@ -87,7 +87,7 @@ impl From<InboxFault> for PlayFault {
     }
 }
 
-/// Why the last call of a line has no reply, where no loss was named for it.
+/// Why the last call of a line has no reply, if no loss was set for it.
 pub(crate) fn line_fault(line: &Lossy<RecordedLine<'_>>) -> Option<PlayFault> {
     match line.calls.fault.or(line.line.calls.fault) {
         Some(fault) => Some(fault.into()),
@@ -95,7 +95,7 @@ pub(crate) fn line_fault(line: &Lossy<RecordedLine<'_>>) -> Option<PlayFault> {
     }
 }
 
-/// Whether no reply to the first call was received, where one of its messages was to be lost.
+/// Whether the first call has no reply, if one of its messages was to be lost.
 pub(crate) fn loses_first(loss: Loss, calls: &[Call]) -> bool
     ensures { IsTrue result → LosesFirst loss calls.now }
 {
@@ -109,7 +109,7 @@ pub(crate) fn loses_first(loss: Loss, calls: &[Call]) -> bool
     }
 }
 
-/// The answer of a step, unless the step has failed, or its loss was not as it was to be.
+/// The result of a step, unless the step failed or its loss was not as it was set.
 pub(crate) fn unless<T: Drop>(
     fault: Option<PlayFault>,
     is_lost: bool,

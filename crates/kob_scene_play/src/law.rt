@@ -1,4 +1,4 @@
-//! Whether the laws of delivery speak of a service and a consumer, and what its inbox shows.
+//! Whether the laws of delivery apply to a service and a consumer, and what its inbox shows.
 
 ghost use Rattle.std.specs.Prelude.{◌≡◌, ◌++◌, OnOk, slice_get};
 ghost use Rattle.kob_router.specs.Line.{one_more};
@@ -21,10 +21,11 @@ use kob_shared::Journal;
 use kob_words::{push_bytes, push_number};
 use std::alloc::{AllocError, Global};
 
-/// Tells `N law holds` where only this service sends to the topics that the consumer reads, only
-/// this consumer commits for its group on them, and nobody deleted one; else `N law says nothing`
-/// with the premise that is broken, and the first entry that breaks it. Behind that it says whether
-/// the inbox has of each aggregate the first rows that the service recorded, in their order.
+/// Prints `N law holds` if only this service sends to the topics that the consumer reads, only this
+/// consumer commits for its group on them, and nobody deleted one. Otherwise prints `N law says
+/// nothing` with the premise that is broken, and the first entry that breaks it. After that it
+/// prints whether the inbox has of each aggregate the first rows that the service recorded, in
+/// their order.
 pub(crate) fn show_law(
     alloc: Global,
     stage: &mut Stage,
@@ -56,7 +57,7 @@ pub(crate) fn show_law(
     )
 }
 
-/// Prints whether the laws speak of a service by its number and a consumer.
+/// Prints whether the laws apply to a service, by its number, and a consumer.
 fn answer(
     journal: &Journal,
     sender: usize,

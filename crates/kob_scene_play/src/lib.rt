@@ -1,5 +1,5 @@
-//! Scenes played: each service and consumer of a scene over one broker with its journal, in the
-//! order of the scene.
+//! The player of scenes: each service and consumer of a scene runs over one broker with its
+//! journal, in the order of the scene.
 #![tactic(auto)]
 
 mod consumer_steps;

@@ -40,7 +40,7 @@ pub(crate) fn first_out_of_order(
     Ok(None)
 }
 
-/// Whether the row of the same aggregate that was recorded before this one is taken in.
+/// Whether the inbox has the row of the same aggregate that was recorded before this one.
 fn is_next(before: &[Option<usize>], taken: &[bool], at: usize) -> bool {
     match before.get(at) {
         Some(Some(earlier)) => matches!(taken.get(*earlier), Some(true)),

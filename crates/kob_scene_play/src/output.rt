@@ -12,17 +12,17 @@ use kob_words::push_number;
 use std::alloc::{AllocError, Global};
 use std::io::Write;
 
-/// What is printed is written once there are so many bytes of it.
+/// What was printed is written once it has this number of bytes.
 const PIECE: usize = 65_536;
 
-/// The last line of an output, which takes less.
+/// The maximum length of the last line of an output.
 const LAST_LINE: usize = 64;
 
-/// What is printed and not yet written, and how many answers are printed. The answer to a request
-/// and to each step has the next number.
+/// What was printed and not yet written, and the number of results that were printed. The result of
+/// each request and of each step has the next number.
 #[derive(Drop)]
 pub(crate) struct Output {
-    /// What is printed; its first bytes are whole lines, and the line of an answer may follow.
+    /// What was printed. Its first bytes are whole lines; the line of a result may follow.
     pub(crate) text: Vec<u8>,
     whole: usize,
     told: u64,
@@ -42,14 +42,14 @@ impl Output {
         })
     }
 
-    /// The number of the next answer.
+    /// The number of the next result.
     pub(crate) fn number(&self) -> u64
         ensures { result ≡ one_more self.now.told }
     {
         self.told.saturating_add(1)
     }
 
-    /// The answer that was printed is counted.
+    /// Counts the result that was printed.
     pub(crate) fn tell(&mut self)
         ensures text { self.new.text ≡ self.old.text }
         ensures told { self.new.told ≡ one_more self.old.told }
@@ -58,7 +58,7 @@ impl Output {
         self.end_line();
     }
 
-    /// A line that was printed belongs to the answer before it.
+    /// Adds a line that was printed to the result before it.
     pub(crate) fn end_line(&mut self)
         ensures text { self.new.text ≡ self.old.text }
         ensures told { self.new.told ≡ self.old.told }
@@ -66,7 +66,7 @@ impl Output {
         self.whole = self.text.len();
     }
 
-    /// Writes what is printed, once there is enough of it.
+    /// Writes what was printed, once there is enough of it.
     pub(crate) fn write_piece<W: Write>(&mut self, writer: &mut W) -> Result<(), PlayFault>
         ensures written { OnOk result (Writes (W.contents writer.old) self.old.text.items
             (W.contents writer.new) self.new.text.items []) }
@@ -78,7 +78,7 @@ impl Output {
         self.write(writer)
     }
 
-    /// Writes what is printed.
+    /// Writes what was printed.
     pub(crate) fn write<W: Write>(&mut self, writer: &mut W) -> Result<(), PlayFault>
         ensures written { OnOk result (Appends (W.contents writer.old) (W.contents writer.new)
             self.old.text.items) }
@@ -93,7 +93,7 @@ impl Output {
         Ok(())
     }
 
-    /// Writes the lines that are whole, and `stopped after M` with the number of the last answer.
+    /// Writes the whole lines, and `stopped after M` with the number of the last result.
     pub(crate) fn stop<W: Write>(&mut self, writer: &mut W) -> Result<(), PlayFault>
         ensures { OnOk result (Appends (W.contents writer.old) (W.contents writer.new)
             (take self.old.whole self.old.text.items ++ stopped_text self.old.told)) }

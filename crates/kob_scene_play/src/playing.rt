@@ -1,4 +1,4 @@
-//! A scene is played.
+//! The playing of a scene.
 
 ghost use Rattle.std.specs.Prelude.{◌≡◌, ◌++◌, [], IfOk, OnOk};
 ghost use Rattle.kob_router.specs.Line.{one_more};
@@ -24,8 +24,8 @@ use kob_shared::Recorded;
 use std::alloc::Global;
 use std::io::Write;
 
-/// Plays a scene, one step after another, and writes what each answers and nothing else. The
-/// fault is `WriteFailed`, or `Memory` before the first step.
+/// Plays a scene, one step after another, and writes the result of each and nothing else. The fault
+/// is `WriteFailed`, or `Memory` before the first step.
 pub fn play<W: Write>(alloc: Global, scene: Scene, writer: &mut W) -> Result<Ended, PlayFault>
     ensures { IfOk result (EndsAs scene (W.contents writer.old) (W.contents writer.new)) }
 {
@@ -43,8 +43,8 @@ pub fn play<W: Write>(alloc: Global, scene: Scene, writer: &mut W) -> Result<End
     }
 }
 
-/// Plays a scene into an output with nothing printed. After a fault, answers of the steps before it
-/// are printed.
+/// Plays a scene into an output with nothing printed. After a fault, the results of the steps
+/// before it are printed.
 fn play_scene<W: Write>(
     alloc: Global,
     scene: Scene,

@@ -24,7 +24,7 @@ use std::alloc::Global;
 /// A step `run` makes no more ticks than this.
 pub(crate) const RUN_LIMIT: u32 = 1_000_000;
 
-/// Makes the step at this place of the scene, and prints what it answers.
+/// Makes the step at this place of the scene, and prints its result.
 pub(crate) fn play_service(
     alloc: Global,
     recorded: &mut Recorded,
@@ -52,7 +52,7 @@ pub(crate) fn play_service(
     }
 }
 
-/// Records an event with its change; the place is noted where the row was made.
+/// Records an event with its change. If the row was made, its place is noted.
 #[tactic(auto, using(crate::proofs::Kept::records))]
 fn record(
     played: &mut PlayedService,
@@ -81,7 +81,7 @@ fn record(
     Ok(())
 }
 
-/// One tick; true where the next one has something to do.
+/// One tick. Returns true if the next one has something to do.
 fn tick(
     alloc: Global,
     recorded: &mut Recorded,
@@ -112,7 +112,7 @@ fn goes_on(tick: &Tick) -> bool
     }
 }
 
-/// Ticks until one neither moves nor repeats.
+/// Makes ticks until one neither moves nor repeats.
 #[tactic(auto, using(crate::proofs::Running::none_at_first, crate::proofs::Running::one_tick_more, crate::proofs::Running::last_tick, crate::proofs::Running::spent))]
 fn run(
     alloc: Global,
@@ -153,7 +153,7 @@ fn sweep(service: &mut ServiceWorker, out: &mut Output) -> Result<(), PlayFault>
     Ok(())
 }
 
-/// Tells the mark, and the rows after it.
+/// Prints the mark, and the rows after it.
 fn show_outbox(service: &mut ServiceWorker, out: &mut Output) -> Result<(), PlayFault>
     ensures { OnOk result (Tells (IsServiceStep service_steps.Outbox service.old
         service.new out.old.told out.new.told) out.old.text.items out.new.text.items) }

@@ -101,7 +101,7 @@ impl ServiceWorker {
         self.outbox.record(change, event)
     }
 
-    /// One step of the router over the broker, whose first call is lost so.
+    /// One step of the router over the broker, whose first call has this loss.
     pub fn tick(
         &mut self,
         alloc: Global,
@@ -123,14 +123,14 @@ impl ServiceWorker {
         Ok(tick)
     }
 
-    /// Starts the router again; the outbox stays. No memory is taken.
+    /// Restarts the router. The outbox is unchanged. Does not allocate.
     pub fn restart(&mut self)
         ensures { Does Restarted self.old self.new }
     {
         self.router.restart();
     }
 
-    /// Drops the rows up to the mark, and answers how many they were.
+    /// Removes the rows up to the mark, and returns how many they were.
     pub fn sweep(&mut self) -> Result<u64, OutboxFault>
         ensures value { IfOk result (λ count. count
             ≡ length (up_to self.old.outbox.mark self.old.outbox.events)) }
@@ -148,7 +148,7 @@ impl ServiceWorker {
         self.outbox.mark()
     }
 
-    /// The first rows after this number that were not swept, at most so many.
+    /// The first rows after this number that were not swept, at most this many.
     pub fn rows_after(&mut self, seq: u64, limit: u32) -> Result<Vec<Row>, OutboxFault>
         ensures rows { IfOk result (λ rows. map stored_row rows.items
             ≡ first_after seq limit self.old.outbox.events) }
@@ -167,7 +167,7 @@ impl ServiceWorker {
     }
 }
 
-/// Why a tick that memory or the database stopped did.
+/// Why a tick stopped that ran out of memory or whose database failed.
 fn stopped_by(tick: &Tick) -> Option<PlayFault> {
     match tick {
         Tick::Stopped(StopReason::Memory) => Some(PlayFault::Memory),

@@ -93,7 +93,7 @@ impl Stage {
     }
 }
 
-/// The service's name, or else the consumer's; `-` where there is neither.
+/// The name of the service, or that of the consumer, or `-` if there is neither.
 fn name_by<'s>(service: Option<&'s PlayedService>, consumer: Option<&'s PlayedConsumer>) -> &'s str
     ensures { result.now ≡ name_by (option_copied service.entry) (option_copied consumer.entry) }
 {

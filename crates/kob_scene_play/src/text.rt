@@ -12,7 +12,7 @@ use kob_scene_text::{SceneError, SceneFault, print_scene_fault, read_scene};
 use std::alloc::Global;
 use std::io::Write;
 
-/// How a scene ended whose output was written.
+/// How a scene ended, once its output was written.
 #[derive(Clone, Copy)]
 pub enum Ended {
     /// All steps were played.

@@ -1,4 +1,5 @@
-//! The rows of an inbox: which are taken, seen or refused, what they keep, and lack of memory.
+//! The rows of an inbox: which are taken, seen or refused, what they keep, and running out of
+//! memory.
 
 use kob_inbox::{Inbox, InboxFault, InboxRow, Subscription, TakeIn};
 use kob_names::{Bytes, Header, Items, Record, Text};
@@ -50,7 +51,7 @@ const NO_TEXT: &[u8] = b"00000000-0000-0000-0000-00000000000\xff";
 
 const OTHER: &[u8] = b"00000000-0000-0000-0000-00000000000b";
 
-/// Headers of records, the id in all its forms, and what becomes of the records.
+/// Headers of records, the id in all its forms, and the result of the intake.
 const FORMS: [(&[(&str, &[u8])], TakeIn); 12] = [
     (&[("id", UPPER)], TakeIn::Taken),
     (&[("id", ID)], TakeIn::Seen),
@@ -202,7 +203,7 @@ fn count_of(inbox: &mut Inbox) -> Result<usize, InboxFault> {
     Ok(inbox.taken()?.len())
 }
 
-/// What becomes of a record. Lack of memory leaves so many rows.
+/// The result of the intake of a record. If memory runs out, this number of rows stays.
 fn takes(alloc: Global, inbox: &mut Inbox, id: u32, before: usize) -> Result<TakeIn, InboxFault> {
     let taken = take(alloc, inbox, (0, 0), id);
     if taken == Err(InboxFault::Memory) && count_of(inbox) == Ok(before) {
@@ -223,8 +224,8 @@ fn goes_on(alloc: Global, inbox: &mut Inbox) -> bool {
     taken && count == Ok(2)
 }
 
-/// Where one allocation is refused, whichever it is, the call that wanted it leaves all and works
-/// when it is made again.
+/// If any one allocation is refused, the call that needed it changes nothing, and succeeds when it
+/// is repeated.
 #[test]
 fn refused_allocation_leaves_the_inbox(rt: HostRuntime) -> Result<(), Fail> {
     let mut inbox = Inbox::open_in_memory(rt.alloc())?;

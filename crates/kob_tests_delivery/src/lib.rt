@@ -1,6 +1,6 @@
-//! Tests of outboxes and inboxes, of routes, of lines to a broker, of journals that are handed out, of
-//! routers and consumers that run out of memory, and of calls of theirs that take none. What steps
-//! over a broker answer is shown by the scenes of `kob_scene`.
+//! Tests of outboxes and inboxes, of routes, of lines to a broker, of journals that are handed out,
+//! of routers and consumers that run out of memory, and of calls that do not allocate. The results
+//! of steps over a broker are shown by the scenes of `kob_scene`.
 #![tactic(auto)]
 
 #[cfg(test)]

@@ -9,7 +9,8 @@ use kob_shared::{CallFault, Recorded, SharedBroker};
 use std::alloc::Global;
 use std::sync::Wait;
 
-/// Asks for a producer id, of which the broker gives 0, 1, 2 and so on; the one that was received.
+/// Asks for a producer id, and returns the one that was received. The broker assigns 0, 1, 2 and so
+/// on.
 fn heard_id<L: Line>(alloc: Global, line: &mut L) -> Option<u64> {
     match line.send(alloc, Request::InitProducerId) {
         Delivery::Delivered(Reply::Done(Body::Producer { id, .. })) => Some(id),
@@ -45,7 +46,7 @@ fn workers(recorded: &Recorded) -> [Option<usize>; 4] {
     ]
 }
 
-/// The producer ids that two calls of a line hear.
+/// The producer ids that two calls of a line receive.
 fn two_ids(alloc: Global, broker: &mut Broker) -> Option<[Option<u64>; 2]> {
     let mut line = line_to(alloc, broker)?;
     let ids = [heard_id(alloc, &mut line), heard_id(alloc, &mut line)];
@@ -74,8 +75,8 @@ fn a_broker_is_free_again(rt: HostRuntime) {
     assert!(rt; ids == Some([[Some(0), Some(1)], [Some(2), Some(3)]]));
 }
 
-/// What three calls over a journal for two entries hear, where the second keeps no call, and whether
-/// the line names the full journal after the third and not before.
+/// What three calls over a journal for two entries receive, if the second keeps no call, and
+/// whether the line reports the full journal after the third and not before.
 fn fills(alloc: Global, recorded: &mut Recorded) -> Option<([Option<u64>; 2], bool)> {
     let (principal, host) = asker(alloc)?;
     let mut line = RecordedLine::open(alloc, recorded, 7, principal, host);
@@ -102,14 +103,14 @@ fn fills_journal(alloc: Global) -> Option<bool> {
     Some(filled? == ([Some(0), None], true) && workers == [Some(7), Some(7), None, None])
 }
 
-// A journal for two entries: the third call is not served, and the line says why.
+// A journal for two entries: the third call is not served, and the line reports why.
 #[test]
 fn a_full_journal_is_named(rt: HostRuntime) {
     assert!(rt; fills_journal(rt.alloc()) == Some(true));
 }
 
-/// Whether four calls of a line hear what they should, of which the first never reaches the broker
-/// and the reply to the third is lost, and the line and the one below it keep the replies.
+/// Whether four calls of a line receive what is expected, of which the first never reaches the
+/// broker and the reply to the third is lost, and the line and the one below it keep the replies.
 fn loses(alloc: Global, recorded: &mut Recorded) -> Option<bool> {
     let (principal, host) = asker(alloc)?;
     let line = RecordedLine::open(alloc, recorded, 3, principal, host);
@@ -144,7 +145,7 @@ fn named_calls_are_lost(rt: HostRuntime) {
     assert!(rt; loses_two(rt.alloc()) == Some(true));
 }
 
-/// What the calls of two sessions' lines hear, in turn, and how many entries the first has seen.
+/// What the calls of two sessions' lines receive, in turn, and how many entries the first has seen.
 fn in_turn<R: Wait>(
     rt: &R,
     alloc: Global,

@@ -75,7 +75,7 @@ fn change(alloc: Global) -> Result<Change, AllocError> {
     })
 }
 
-/// An outbox with so many events about orders, whose ids are 1, 2 and so on.
+/// An outbox with this number of events about orders, whose ids are 1, 2 and so on.
 pub(crate) fn outbox(alloc: Global, count: u128) -> Result<Outbox, Fail> {
     let mut outbox = Outbox::open_in_memory(alloc)?;
     match record_all(alloc, &mut outbox, count) {
@@ -110,7 +110,7 @@ fn open(alloc: Global, settings: Settings) -> Result<Broker, OpenFault>
     Broker::open(alloc, settings)
 }
 
-/// A broker that is just opened, whose one super user is `User:root`.
+/// A new broker, whose one super user is `User:root`.
 pub(crate) fn opened(alloc: Global) -> Option<Broker>
     ensures { IfSome result IsFresh }
 {
@@ -119,7 +119,7 @@ pub(crate) fn opened(alloc: Global) -> Option<Broker>
     open(alloc, settings).ok()
 }
 
-/// Such a broker with a journal of at most so many entries.
+/// Such a broker with a journal of at most this number of entries.
 pub(crate) fn recorded(alloc: Global, limit: usize) -> Option<Recorded>
     requires { limit ≤ 1000000 }
 {
@@ -142,7 +142,7 @@ pub(crate) fn broker(alloc: Global) -> Result<Broker, Fail> {
     }
 }
 
-/// What a line of a script is answered, or none where memory is refused.
+/// The reply to a line of a script, or `None` if memory is refused.
 pub(crate) fn answer(alloc: Global, broker: &mut Broker, line: &str) -> Option<Reply> {
     let event = event_of(alloc, line)?;
     let reply = broker.serve(alloc, &event).ok();

@@ -1,4 +1,4 @@
-//! The limits of an outbox, many rows, copies, and lack of memory.
+//! The limits of an outbox, many rows, copies, and running out of memory.
 
 use kob_outbox::{Change, Column, MarkFault, Outbox, OutboxEvent, OutboxFault, RecordFault, Row};
 use std::alloc::{AllocError, Global};
@@ -6,8 +6,8 @@ use std::ops::Range;
 use std::test::Fail;
 use uuid::Uuid;
 
-/// A business row and its event, of which the text at this place is another: from 0 for the kind of
-/// the business row to 6 for the payload.
+/// A business row and its event with another text at this place, from 0 for the kind of the
+/// business row to 6 for the payload.
 pub(crate) fn record_of(
     alloc: Global,
     event_id: u128,
@@ -45,7 +45,7 @@ fn record(
     outbox.record(&change, &event)
 }
 
-/// Records the event with this id, and so many times this piece as the text at this place.
+/// Records the event with this id, and this number of copies of a piece as the text at this place.
 fn record_long(
     alloc: Global,
     outbox: &mut Outbox,
@@ -116,8 +116,8 @@ fn fill(alloc: Global, outbox: &mut Outbox) -> bool {
     true
 }
 
-/// The number after which rows are read, how many at most, and the numbers of the rows, once the
-/// first twenty of ten thousand are gone.
+/// The number after which rows are read, the maximum number of rows, and the numbers of the rows,
+/// once the first twenty of ten thousand are swept.
 const AFTER: [(u64, u32, u64, u64); 7] = [
     (0, 0, 0, 0),
     (0, 1, 21, 22),
@@ -142,7 +142,7 @@ fn reads_in_order(outbox: &mut Outbox) -> bool {
     true
 }
 
-/// Whether the first twenty rows go once, and the mark neither goes back nor ahead.
+/// Whether the first twenty rows are swept once, and the mark moves neither back nor ahead.
 fn is_swept(outbox: &mut Outbox) -> bool {
     let marked = outbox.set_mark(20);
     let swept = (outbox.sweep(), outbox.sweep());
@@ -215,7 +215,7 @@ pub(crate) fn left(outbox: &mut Outbox) -> Result<(u64, usize), OutboxFault> {
     Ok((mark, outbox.after(0, 10)?.len()))
 }
 
-/// The number that an event gets. Lack of memory leaves the mark and so many rows.
+/// The number that an event gets. If memory runs out, the mark and this number of rows stay.
 fn records(
     alloc: Global,
     outbox: &mut Outbox,
@@ -230,7 +230,8 @@ fn records(
     }
 }
 
-/// Marks and sweeps the first of two rows; a call that memory refuses works when it is made again.
+/// Marks and sweeps the first of two rows. A call that runs out of memory succeeds when it is
+/// repeated.
 fn sweeps(outbox: &mut Outbox) -> bool {
     let marked = match outbox.set_mark(1) {
         Err(_) => outbox.set_mark(1),
@@ -274,8 +275,8 @@ fn goes_on(alloc: Global, outbox: &mut Outbox) -> bool {
         && records(alloc, outbox, (1, 6, "first"), (1, 1)) == Err(RecordFault::DuplicateId)
 }
 
-/// Where one allocation is refused, whichever it is, the call that wanted it leaves all and works
-/// when it is made again.
+/// If any one allocation is refused, the call that needed it changes nothing, and succeeds when it
+/// is repeated.
 #[test]
 fn refused_allocation_leaves_all(rt: HostRuntime) -> Result<(), Fail> {
     let mut outbox = Outbox::open_in_memory(rt.alloc())?;

@@ -1,4 +1,4 @@
-//! A router and a consumer that out of memory stops. `.ci/refuse` runs them with each allocation
+//! A router and a consumer that run out of memory. `.ci/refuse` runs them with each allocation
 //! refused in turn.
 
 ghost use Rattle.std.specs.Prelude.{option_map};
@@ -14,10 +14,10 @@ use kob_router::{Line, Router};
 use std::alloc::Global;
 use std::test::Fail;
 
-/// The most ticks that are made.
+/// The maximum number of ticks.
 const TICKS: usize = 8;
 
-/// What a tick came to.
+/// The result of a tick.
 #[derive(Clone, Copy, PartialEq, Eq)]
 pub(crate) enum Came {
     /// There was nothing to do.
@@ -28,7 +28,7 @@ pub(crate) enum Came {
     Stopped,
 }
 
-/// What a tick of a router comes to.
+/// The result of a tick of a router.
 pub(crate) fn router_tick<L: Line>(
     alloc: Global,
     outbox: &mut Outbox,
@@ -64,7 +64,7 @@ fn router_ticks(
     came
 }
 
-/// What a tick of a consumer comes to.
+/// The result of a tick of a consumer.
 pub(crate) fn consumer_tick<L: Line>(
     alloc: Global,
     inbox: &mut Inbox,
@@ -127,8 +127,8 @@ fn end(alloc: Global, broker: &mut Broker) -> Option<u64> {
     end
 }
 
-/// Whether two events are in the topic and known sent. What memory kept from being read is read
-/// again.
+/// Whether two events are in the topic and before the mark. What could not be read for lack of
+/// memory is read again.
 fn sends_two(alloc: Global, outbox: &mut Outbox, broker: &mut Broker) -> Result<bool, Fail> {
     let sent = sends_all(alloc, outbox, broker)?;
     let mark = match outbox.mark() {
@@ -146,7 +146,7 @@ fn makes_up(alloc: Global, outbox: &mut Outbox) -> Result<bool, Fail> {
     sent
 }
 
-/// Where one allocation is refused, whichever it is, the ticks that follow make up for it.
+/// If any one allocation is refused, the ticks that follow finish the work.
 #[test]
 fn a_router_makes_up(rt: HostRuntime) -> Result<(), Fail> {
     let mut outbox = outbox(rt.alloc(), 2)?;
@@ -167,8 +167,8 @@ fn takes_all(alloc: Global, inbox: &mut Inbox, broker: &mut Broker) -> Result<bo
     Ok(came_to_the_end(&came))
 }
 
-/// Whether the records of the inbox's two rows stood at 0 and 2. What memory kept from being read is
-/// read again.
+/// Whether the records of the inbox's two rows stood at 0 and 2. What could not be read for lack of
+/// memory is read again.
 fn has_two(inbox: &mut Inbox) -> Result<bool, Fail> {
     let rows = match inbox.taken() {
         Ok(rows) => rows,
@@ -182,7 +182,7 @@ fn has_two(inbox: &mut Inbox) -> Result<bool, Fail> {
     Ok(has_two)
 }
 
-/// Sends the last of so many events.
+/// Sends the last of this number of events.
 fn sends_last(alloc: Global, broker: &mut Broker, count: u64) -> Result<bool, Fail> {
     let mut outbox = outbox(alloc, count as u128)?;
     let sent = match outbox.set_mark(count.wrapping_sub(1)) {
@@ -221,7 +221,7 @@ fn fills_and_takes(alloc: Global, inbox: &mut Inbox) -> Result<bool, Fail> {
     taken
 }
 
-/// Where one allocation is refused, whichever it is, the ticks that follow make up for it.
+/// If any one allocation is refused, the ticks that follow finish the work.
 #[test]
 fn a_consumer_makes_up(rt: HostRuntime) -> Result<(), Fail> {
     let mut inbox = Inbox::open_in_memory(rt.alloc())?;

@@ -1,4 +1,4 @@
-//! A router joined with its outbox.
+//! A router together with its outbox.
 
 use crate::making::{broker, default_route, line_to};
 use crate::outbox::{left, record_of};
@@ -31,7 +31,7 @@ fn refuses(alloc: Global, relay: &mut Relay) -> bool {
         && record(alloc, relay, 2, "second") == Ok(2)
 }
 
-/// Up to which row a tick sent, or 0 where none waits.
+/// The row that a tick sent, or 0 if none waits.
 fn sent(alloc: Global, relay: &mut Relay, line: &mut BrokerLine<'_>) -> Option<u64> {
     let tick = relay.tick(alloc, line);
     let sent = match &tick {
@@ -51,7 +51,7 @@ fn sends(alloc: Global, relay: &mut Relay, line: &mut BrokerLine<'_>) -> bool {
         && relay.sweep() == Ok(2)
 }
 
-/// Whether they are, to a broker that is just opened.
+/// Whether they are, to a new broker.
 fn relays(alloc: Global, relay: &mut Relay) -> Result<bool, Fail> {
     let mut broker = broker(alloc)?;
     let holds = relays_to(alloc, relay, &mut broker);

@@ -36,7 +36,7 @@ fn rotates<R: Wait>(rt: &R, alloc: Global, shared: &RotatingBroker) -> bool {
     }
 }
 
-/// Whether a session fills the journal, and goes on at the place 2 after it was handed out.
+/// Whether a session fills the journal, and continues at the place 2 after it was handed out.
 fn goes_on<R: Wait>(rt: &R, alloc: Global, shared: &RotatingBroker) -> Option<bool> {
     let (principal, host) = asker(alloc)?;
     let mut session = shared.session(4, principal, host);

@@ -111,7 +111,7 @@ fn bad_placements_and_templates(rt: HostRuntime) -> Result<(), Fail> {
     Ok(())
 }
 
-/// The fault of a placement of so many entries, whose aliases have so many letters.
+/// The fault of a placement of this number of entries, whose aliases have this number of letters.
 fn fault_at(alloc: Global, entries: usize, alias: usize) -> Result<Option<RouteFault>, AllocError> {
     let alias = "a".repeat(alloc, alias)?;
     let mut placement = String::new(alloc);
@@ -125,7 +125,7 @@ fn fault_at(alloc: Global, entries: usize, alias: usize) -> Result<Option<RouteF
     Ok(route(alloc, "events", &placement).err())
 }
 
-/// How many entries, how many letters, and their fault.
+/// A number of entries, a number of letters, and their fault.
 const LIMITS: [(usize, usize, Option<RouteFault>); 4] = [
     (16, 1, None),
     (17, 1, BAD_PLACEMENT),

@@ -1,4 +1,4 @@
-//! Calls on routers, consumers and prepared changes that take no memory. `.ci/refuse` runs them
+//! Calls on routers, consumers and prepared changes that do not allocate. `.ci/refuse` runs them
 //! with every allocation refused from `spare` on.
 
 use crate::making::{broker, default_route, event_of, group_and_assignment, line_to, outbox};
@@ -16,12 +16,13 @@ use std::test::Fail;
 /// refused.
 const CUE: usize = 7_654_321;
 
-/// No memory is taken from here on, and where `.ci/refuse` runs the test, none is given.
+/// Nothing is allocated from here on. If `.ci/refuse` runs the test, each allocation from here on
+/// is refused.
 fn spare(alloc: Global) -> bool {
     Vec::<u8>::with_capacity(alloc, CUE).is_ok()
 }
 
-/// Whether just two calls were made, both with a reply: for a producer id, and for a record.
+/// Whether exactly two calls were made, both with a reply: for a producer id, and for a record.
 fn are_first_two(calls: &[Call]) -> bool {
     match calls {
         [one, two] => {
@@ -71,7 +72,7 @@ fn a_router_starts_again(rt: HostRuntime) -> Result<(), Fail> {
     Ok(())
 }
 
-/// Whether just these calls were made: for a position, and for records.
+/// Whether exactly these calls were made: for a position, and for records.
 fn asked_and_fetched(calls: &[Call]) -> bool {
     match calls {
         [one, two] => {
@@ -115,7 +116,7 @@ fn a_consumer_begins_again(rt: HostRuntime) -> Result<(), Fail> {
     Ok(())
 }
 
-/// Whether a topic that is there is refused.
+/// Whether a topic that exists is refused.
 fn is_refused(reply: &Reply) -> bool {
     match reply {
         Reply::Refused { code: _, reason } => *reason == Reason::TopicExists,
@@ -123,7 +124,7 @@ fn is_refused(reply: &Reply) -> bool {
     }
 }
 
-/// Whether what is prepared shows the reply that is then given.
+/// Whether a prepared change shows the reply that is returned later.
 fn shows_reply(alloc: Global, broker: &mut Broker, event: &Event) -> Option<bool> {
     let prepared = broker.prepare(alloc, event).ok()?;
     spare(alloc);
@@ -134,7 +135,7 @@ fn shows_reply(alloc: Global, broker: &mut Broker, event: &Event) -> Option<bool
     Some(shown && given)
 }
 
-/// The same of the creation of a topic that is there.
+/// The same for the creation of a topic that exists.
 fn shows_refusal(alloc: Global, broker: &mut Broker) -> Option<bool> {
     let event = event_of(alloc, "User:root h create-topic outbox.event.orders 1")?;
     let shown = shows_reply(alloc, broker, &event);

@@ -41,8 +41,8 @@ fn write_in_turn<R: Wait>(rt: &R, alloc: Global, shared: &SharedBroker) -> Optio
     told
 }
 
-/// Whether the entry at a place is the one that was due there: the topic's creation, and then the
-/// offsets in order.
+/// Whether the entry at a place is the expected one: the topic's creation, and then the offsets in
+/// order.
 fn is_due(place: usize, entry: &Entry) -> bool {
     let answered = match place.checked_sub(1) {
         None => matches!(&entry.reply, Reply::Done(Body::Created)),
@@ -51,7 +51,7 @@ fn is_due(place: usize, entry: &Entry) -> bool {
     answered && entry.worker == 1 + place % 2
 }
 
-/// Whether the journal has at each place the entry that was due.
+/// Whether the journal has at each place the expected entry.
 fn is_due_by_place(journal: &Journal) -> bool {
     for place in 0..ENTRIES {
         match journal.get(place) {
@@ -66,7 +66,7 @@ fn is_due_by_place(journal: &Journal) -> bool {
     true
 }
 
-/// Whether the journal's entries, read as one run, are those that were due.
+/// Whether the journal's entries, read as one run, are the expected ones.
 fn is_due_as_run(journal: &Journal) -> bool {
     for (place, entry) in journal.iter().enumerate() {
         if !is_due(place, entry) {
@@ -76,7 +76,7 @@ fn is_due_as_run(journal: &Journal) -> bool {
     true
 }
 
-/// Whether the journal, read place by place and then as one run, has all entries that were due.
+/// Whether the journal, read place by place and then as one run, has all expected entries.
 fn is_whole(journal: &Journal) -> bool {
     journal.len() == ENTRIES && is_due_by_place(journal) && is_due_as_run(journal)
 }

@@ -42,7 +42,7 @@ pub(crate) fn run<R: Threads + Wait + Sync, G: Gate + Sync>(
     ended(rt, opening, first, scripts, gate, alloc)?.ok()
 }
 
-/// Whether each of so many workers received two replies, and nothing else happened.
+/// Whether each of this number of workers received two replies, and nothing else happened.
 pub(crate) fn tells_two_each(end: &FleetEnd, workers: usize) -> bool
     requires { workers ≤ 64 }
 {
@@ -54,8 +54,8 @@ pub(crate) fn tells_two_each(end: &FleetEnd, workers: usize) -> bool
     end.journal.len() == 2 * workers && end.transcripts.len() == workers + 1
 }
 
-/// Whether so many workers, each of whom is held at its second request until all have come to
-/// theirs, are served, two requests each.
+/// Whether this number of workers are served, two requests each. Each is held at its second request
+/// until all have come to theirs.
 fn serves_two_each<R: Threads + Wait + Sync>(
     rt: &R,
     alloc: Global,
@@ -71,7 +71,7 @@ fn serves_two_each<R: Threads + Wait + Sync>(
     Some(told)
 }
 
-/// Whether so many workers meet, and all are served.
+/// Whether this number of workers meet, and all are served.
 fn serves_at_once<R: Threads + Wait + Sync>(rt: &R, alloc: Global, workers: usize) -> bool
     requires { workers ≤ 64 }
 {
@@ -89,7 +89,7 @@ fn sixty_four_workers(rt: HostRuntime) {
     assert!(rt; serves_at_once(&rt, rt.alloc(), 64));
 }
 
-/// Notes that an offset was received, and says whether it was not before.
+/// Notes that an offset was received, and returns whether it is new.
 fn note(offset: u64, seen: &mut [bool; 200]) -> bool {
     match seen.get_mut(offset as usize) {
         Some(slot) => {
@@ -152,7 +152,7 @@ fn two_hundred_produces(rt: HostRuntime) {
     assert!(rt; gate.calls() == 202);
 }
 
-/// Which count a fleet was refused for.
+/// The count for which a fleet was refused.
 #[derive(Clone, Copy)]
 enum Refusal {
     Workers,
@@ -168,7 +168,7 @@ fn refusal_in(ended: &Result<FleetEnd, FleetFault>) -> Refusal {
     }
 }
 
-/// What so many scripts of so many requests are refused for.
+/// The reason to refuse this number of scripts with this number of requests each.
 fn refusal_to<R: Threads + Wait + Sync>(
     rt: &R,
     alloc: Global,

@@ -4,10 +4,10 @@ use kob_shared::Gate;
 use std::sync::atomic::{AtomicBool, AtomicU64, Ordering};
 use std::thread;
 
-/// How many turns a worker waits before its gate gives up.
+/// The number of turns that a worker waits before its gate gives up.
 const TURNS: u32 = 10_000_000;
 
-/// Holds each worker at its second request until so many have come to theirs.
+/// Holds each worker at its second request until this number of workers have come to theirs.
 #[derive(Drop)]
 pub(crate) struct Meeting {
     workers: u64,
@@ -24,7 +24,7 @@ impl Meeting {
         }
     }
 
-    /// Whether all workers came to their second request, and none was let go before.
+    /// Whether all workers came to their second request, and none was released before.
     pub(crate) fn all_came(&self) -> bool {
         self.come.load(Ordering::SeqCst) == self.workers && !self.gave_up.load(Ordering::SeqCst)
     }
@@ -129,7 +129,7 @@ pub(crate) struct Hold {
     pub(crate) comes_to: u64,
 }
 
-/// Holds three workers where it is asked to, and notes how far each has come.
+/// Holds three workers at the requested places, and notes how far each has come.
 #[derive(Drop)]
 pub(crate) struct Holding<'t> {
     holds: &'t [Hold],

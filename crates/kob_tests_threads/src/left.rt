@@ -1,4 +1,4 @@
-//! What a pipeline leaves, held to what it is to leave.
+//! The end of a pipeline, compared with what is expected.
 
 ghost use Rattle.kob_pipeline.specs.Pipelines.{IsPipeline};
 
@@ -13,16 +13,16 @@ use kob_router::event_id;
 use std::alloc::Global;
 use uuid::Uuid;
 
-/// What a pipeline is to leave.
+/// The expected end of a pipeline.
 #[derive(Clone, Copy)]
 pub(crate) struct Due<'t> {
-    /// The calls that were served, beside the first events.
+    /// The number of calls that were served, besides the first events.
     pub(crate) calls: usize,
     /// The numbers of the ids of the topic's records, in order.
     pub(crate) topic: &'t [u128],
     /// Those of every inbox.
     pub(crate) inbox: &'t [u128],
-    /// Up to which row the service knows them sent.
+    /// The mark of the service.
     pub(crate) mark: u64,
     /// What the group `g` has committed.
     pub(crate) commit: Option<u64>,
@@ -42,8 +42,8 @@ pub(crate) fn breaks_no_premise(plan: &Plan, end: &PipelineEnd) -> bool {
     true
 }
 
-/// Calls the laws. What they say is proved; the call shows that a pipeline's end is one of which
-/// they speak.
+/// Calls the laws. What they say is proved; the call shows that they apply to the end of a
+/// pipeline.
 pub(crate) fn call_laws(plan: &Plan, end: &PipelineEnd)
     requires { IsPipeline plan.now end.now }
 {
@@ -81,7 +81,7 @@ fn have_ids(end: &PipelineEnd, ids: &[u128]) -> bool {
     true
 }
 
-/// What the event of a script's line is answered.
+/// The reply to the event of a line of a script.
 fn answer(alloc: Global, broker: &mut Broker, line: &str) -> Option<Reply> {
     let event = event_of(alloc, line)?;
     let reply = broker.serve(alloc, &event).ok();
@@ -159,7 +159,7 @@ fn is_denied(end: &PipelineEnd) -> bool {
     }
 }
 
-/// Whether a pipeline left what it was to leave.
+/// Whether a pipeline left what is expected.
 pub(crate) fn is_due(alloc: Global, end: &mut PipelineEnd, due: Due<'_>) -> bool {
     end.journal.len() >= FIRST_EVENTS
         && end.journal.len() - FIRST_EVENTS == due.calls

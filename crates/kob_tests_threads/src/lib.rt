@@ -1,8 +1,8 @@
 //! Tests of a broker that threads share, over its public surface.
 //!
-//! They are small functions, and let brokers, journals, fleets' ends and events go by `drop`: where
-//! such a value goes at the end of a function or by `?`, the function's proof takes the value apart
-//! anew, and costs ten times as much.
+//! They are small functions, and drop brokers, journals, ends of fleets and events by `drop`. If
+//! such a value is dropped at the end of a function or by `?`, the proof of the function considers
+//! each of its parts again, and costs ten times as much.
 #![tactic(auto)]
 
 #[cfg(test)]

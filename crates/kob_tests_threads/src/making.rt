@@ -22,7 +22,7 @@ pub(crate) const WRITE: &str = "User:root h produce t 0 - v";
 /// The same by `User:svc`.
 pub(crate) const SERVICE_WRITE: &str = "User:svc h produce t 0 - v";
 
-/// What lets `User:svc` write is taken away.
+/// The binding that allows `User:svc` to write is deleted.
 pub(crate) const REVOKE: &str = "User:root h delete-acls - - any User:svc - Write -";
 
 /// All topics are asked for.
@@ -61,7 +61,7 @@ fn put_times(
     Some(())
 }
 
-/// The request of a line so many times, of whom the line names.
+/// This number of copies of the request of a line, by the principal of the line.
 pub(crate) fn script(alloc: Global, line: &str, times: usize) -> Option<Script> {
     let Event {
         principal,
@@ -82,7 +82,7 @@ pub(crate) fn script(alloc: Global, line: &str, times: usize) -> Option<Script> 
     Some(script)
 }
 
-/// So many such scripts.
+/// This number of such scripts.
 pub(crate) fn scripts_of(
     alloc: Global,
     line: &str,
@@ -97,7 +97,7 @@ pub(crate) fn scripts_of(
     Some(scripts)
 }
 
-/// A broker that is just opened.
+/// A new broker.
 fn opened(alloc: Global, settings: Settings) -> Result<Broker, OpenFault>
     ensures { IfOk result IsFresh }
 {
@@ -118,7 +118,7 @@ pub(crate) fn broker(alloc: Global, opening: Vec<Binding>) -> Option<Broker>
     opened(alloc, settings).ok()
 }
 
-/// Such a broker with a journal of at most so many entries.
+/// Such a broker with a journal of at most this number of entries.
 pub(crate) fn recorded(alloc: Global, opening: Vec<Binding>, limit: usize) -> Option<Recorded>
     requires { limit ≤ 1000000 }
 {
@@ -171,7 +171,7 @@ pub(crate) fn write_allowed(alloc: Global) -> Option<Vec<Binding>> {
     Some(bindings)
 }
 
-/// The offset that was answered.
+/// The offset in the reply.
 pub(crate) fn offset_of(reply: &Reply) -> Option<u64> {
     match reply {
         Reply::Done(Body::Offset(offset)) => Some(*offset),

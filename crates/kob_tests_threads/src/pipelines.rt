@@ -1,4 +1,5 @@
-//! Pipelines: what reaches an inbox, also where calls are lost, workers restart and rights go.
+//! Pipelines: what reaches an inbox, also if calls are lost, workers restart and rights are
+//! revoked.
 
 ghost use Rattle.std.specs.Prelude.{IfOk, IfSome};
 ghost use Rattle.kob_pipeline.specs.Pipelines.{IsPipeline};
@@ -16,7 +17,7 @@ pub(crate) const TICK: Act = Act::Tick(Loss::None);
 
 pub(crate) const STEP: ConsumerStep = ConsumerStep::Tick(Loss::None);
 
-/// Runs a plan. None where it may not be run.
+/// Runs a plan. `None` if it may not be run.
 pub(crate) fn run<R: Threads + Wait + Sync, G: Gate + Sync>(
     rt: &R,
     alloc: Global,
@@ -31,8 +32,8 @@ pub(crate) fn run<R: Threads + Wait + Sync, G: Gate + Sync>(
     Some(pipeline(rt, alloc, plan, gate))
 }
 
-/// What a plan leaves, to which the laws apply. None if there is a fault or a breach, or a hold was
-/// given up.
+/// The end of a plan, to which the laws apply. `None` if there is a fault or a breach, or a hold
+/// was given up.
 fn play<R: Threads + Wait + Sync>(
     rt: &R,
     alloc: Global,
@@ -53,7 +54,7 @@ fn play<R: Threads + Wait + Sync>(
     Some(end)
 }
 
-/// Whether a plan, at this gate, leaves what it is to leave.
+/// Whether a plan, at this gate, leaves what is expected.
 fn is_left<R: Threads + Wait + Sync>(
     rt: &R,
     alloc: Global,
@@ -70,7 +71,7 @@ fn is_left<R: Threads + Wait + Sync>(
     is_due
 }
 
-/// Whether a plan, under these holds, leaves what it is to leave, and no hold was given up.
+/// Whether a plan, under these holds, leaves what is expected, and no hold was given up.
 fn is_played<R: Threads + Wait + Sync>(
     rt: &R,
     alloc: Global,
@@ -142,8 +143,8 @@ fn two_consumers(rt: HostRuntime) {
     assert!(rt; is_played(&rt, rt.alloc(), cast, &[after(4), third], due) == Some(true));
 }
 
-/// Whether a service that takes these steps before the consumer begins, as its calls come to this
-/// number, leaves what it is to leave.
+/// Whether a service that makes these steps and this number of calls before the consumer begins
+/// leaves what is expected.
 fn leaves<R: Threads + Wait + Sync>(
     rt: &R,
     alloc: Global,
@@ -161,7 +162,7 @@ fn leaves<R: Threads + Wait + Sync>(
 }
 
 /// The broker has the second batch already. It is sent again under a new producer id, and so gets a
-/// second offset; the consumer passes the repeat over.
+/// second offset; the consumer skips the repeat.
 #[test]
 fn reply_lost_then_restart(rt: HostRuntime) {
     let due = Due {
@@ -184,7 +185,7 @@ fn reply_lost_then_restart(rt: HostRuntime) {
     assert!(rt; leaves(&rt, rt.alloc(), &service, 6, due) == Some(true));
 }
 
-/// The broker never got the second batch, and gets it with the next tick.
+/// The broker did not receive the second batch, and receives it with the next tick.
 #[test]
 fn request_lost(rt: HostRuntime) {
     let due = Due {
@@ -206,8 +207,8 @@ fn request_lost(rt: HostRuntime) {
     assert!(rt; leaves(&rt, rt.alloc(), &service, 5, due) == Some(true));
 }
 
-/// An id that was recorded before and a text that is too long are not recorded; a row that no topic
-/// is for stops the router at each tick. None of them ends the pipeline.
+/// An id that was recorded before and a text that is too long are not recorded. A row without a
+/// topic stops the router at each tick. None of them ends the pipeline.
 #[test]
 fn refused_records_and_bad_topics_are_passed_over(rt: HostRuntime) {
     let due = Due {
@@ -232,7 +233,7 @@ fn refused_records_and_bad_topics_are_passed_over(rt: HostRuntime) {
     assert!(rt; leaves(&rt, rt.alloc(), &service, 4, due) == Some(true));
 }
 
-/// The right to the group goes between the FETCH and the OFFSET_COMMIT.
+/// The right to the group is revoked between the FETCH and the OFFSET_COMMIT.
 #[test]
 fn revoked_while_consuming(rt: HostRuntime) {
     let cast = Cast {
@@ -266,8 +267,8 @@ fn revoked_while_consuming(rt: HostRuntime) {
     );
 }
 
-/// How a plan of 500,000 sweeps and so many consumers is refused: 1 for want of room in the
-/// journal, 2 for too many workers, 0 else.
+/// How a plan of 500,000 sweeps and this number of consumers is refused: 1 if the journal has no
+/// room, 2 if there are too many workers, otherwise 0.
 fn refusal<R: Threads + Wait + Sync>(
     rt: &R,
     alloc: Global,

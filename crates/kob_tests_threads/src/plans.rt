@@ -24,27 +24,27 @@ User:root h create-acl allow User:con * Read Group literal g
 User:root h create-acl allow User:con * Read Group literal g2
 ";
 
-/// How many these events are.
+/// The number of these events.
 pub(crate) const FIRST_EVENTS: usize = 6;
 
-/// What lets `User:con` read the group `g` is taken away.
+/// The binding that allows `User:con` to read the group `g` is deleted.
 const REVOKE: &str = "User:root h delete-acls Group g any User:con - Read -";
 
-/// What a service is to do.
+/// The steps of a service.
 #[derive(Clone, Copy)]
 pub(crate) enum Act {
     /// Records the event with this id.
     Note(u128),
-    /// Records the event with this id about a kind of things that no topic is named after.
+    /// Records the event with this id about an aggregate type without a topic.
     Unroutable(u128),
-    /// Records the event with this id about a kind of things whose name is a byte too long.
+    /// Records the event with this id about an aggregate type whose name is a byte too long.
     TooLong(u128),
     Tick(Loss),
     Restart,
     Sweep,
 }
 
-/// An event about the thing `42` of a kind.
+/// An event about the aggregate `42` of a type.
 fn recording(alloc: Global, kind: &str, id: u128) -> Result<ServiceStep, AllocError> {
     let change = change(alloc)?;
     Ok(ServiceStep::Record(change, outbox_event(alloc, kind, id)?))
@@ -59,7 +59,7 @@ pub(crate) fn change(alloc: Global) -> Result<Change, AllocError> {
     })
 }
 
-/// The event with this id about the thing `42` of a kind.
+/// The event with this id about the aggregate `42` of a type.
 pub(crate) fn outbox_event(alloc: Global, kind: &str, id: u128) -> Result<OutboxEvent, AllocError> {
     Ok(OutboxEvent {
         id: Uuid::from_u128(id),
@@ -152,7 +152,7 @@ pub(crate) struct Cast<'t> {
     pub(crate) service: &'t [Act],
     pub(crate) groups: &'t [&'t str],
     pub(crate) consumer: &'t [ConsumerStep],
-    /// Whether `User:root` takes the consumer's right to the group `g` away.
+    /// Whether `User:root` revokes the consumer's right to the group `g`.
     pub(crate) revoked: bool,
 }
 
@@ -186,7 +186,7 @@ pub(crate) fn plan(alloc: Global, cast: Cast<'_>) -> Option<Plan> {
     Some(plan)
 }
 
-/// A plan with a service that sweeps 500,000 times, and so many consumers.
+/// A plan with a service that sweeps 500,000 times, and this number of consumers.
 pub(crate) fn sweeping(alloc: Global, count: usize) -> Option<Plan> {
     let sweeps = vec![in alloc; Act::Sweep; 500_000].ok()?;
     let groups = vec![in alloc; "g"; count].ok()?;

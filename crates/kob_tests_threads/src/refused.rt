@@ -1,4 +1,4 @@
-//! Sessions, fleets and pipelines that lack of memory stops. `.ci/refuse` runs them with each
+//! Sessions, fleets and pipelines that run out of memory. `.ci/refuse` runs them with each
 //! allocation and each start of a thread refused in turn.
 
 ghost use Rattle.std.specs.Prelude.{◌≤◌};
@@ -18,8 +18,8 @@ use std::sync::Wait;
 use std::test::Fail;
 use std::thread::Threads;
 
-/// What a call is answered, or where lack of memory stopped it and the session has seen no more
-/// than before, what another is.
+/// The reply to a call. If the call ran out of memory and the session has seen nothing new, the
+/// reply to another call.
 fn called<R: Wait>(
     rt: &R,
     alloc: Global,
@@ -59,7 +59,7 @@ fn writes<R: Wait>(
     Some(is_at)
 }
 
-/// Whether two writes go in one after another.
+/// Whether two writes are served one after another.
 fn writes_two<R: Wait>(rt: &R, alloc: Global, root: &mut Session<'_>) -> Option<bool> {
     place_of(rt, alloc, root, CREATE)?;
     let wrote = writes(rt, alloc, root, 0, 1)? && writes(rt, alloc, root, 1, 2)?;
@@ -87,7 +87,7 @@ fn calls_of_a_session(rt: HostRuntime) -> Result<(), Fail> {
     Ok(())
 }
 
-/// Whether this is the right end of two scripts. None where memory or a thread was wanting.
+/// Whether this is the right end of two scripts. `None` if memory or a thread was refused.
 fn is_told(ended: &Result<FleetEnd, FleetFault>) -> Option<bool> {
     match ended {
         Ok(end) => Some(tells_two_each(end, 2)),
@@ -96,7 +96,7 @@ fn is_told(ended: &Result<FleetEnd, FleetFault>) -> Option<bool> {
     }
 }
 
-/// Whether two scripts are run to the right end. None where memory or a thread was wanting.
+/// Whether two scripts are run to the right end. `None` if memory or a thread was refused.
 fn serves_two<R: Threads + Wait + Sync>(rt: &R, alloc: Global) -> Option<bool> {
     let scripts = scripts_of(alloc, METADATA, 2, 2)?;
     let gate = Open::new();
@@ -115,7 +115,7 @@ fn two_scripts(rt: HostRuntime) {
     assert!(rt; served == Some(true));
 }
 
-/// Whether the topic has both events. What memory kept from being read is read again.
+/// Whether the topic has both events. What could not be read for lack of memory is read again.
 fn has_both(alloc: Global, end: &mut PipelineEnd) -> bool {
     let both = [0xA, 0xB];
     are_records(alloc, &mut end.broker, &both) || are_records(alloc, &mut end.broker, &both)
@@ -131,7 +131,7 @@ fn is_whole(alloc: Global, end: &mut PipelineEnd) -> bool {
         && is_marked(end, 2)
 }
 
-/// Whether this is such an end. None where memory or a thread was wanting.
+/// Whether this is such an end. `None` if memory or a thread was refused.
 fn is_delivered(
     alloc: Global,
     ran: &mut Option<Result<PipelineEnd, PipelineFault>>,
@@ -143,7 +143,7 @@ fn is_delivered(
     }
 }
 
-/// Whether a pipeline comes to such an end. None where memory or a thread was wanting.
+/// Whether a pipeline comes to such an end. `None` if memory or a thread was refused.
 fn delivers_two<R: Threads + Wait + Sync>(rt: &R, alloc: Global) -> Option<bool> {
     let cast = Cast {
         service: &TWO,

@@ -20,7 +20,7 @@ const IDS: [u128; 12] = [7, 3, 12, 1, 9, 5, 11, 2, 8, 4, 10, 6];
 /// The topic of the events is created.
 const CREATE: &str = "User:root h create-topic outbox.event.orders 1";
 
-/// Records the event with this id, and answers its number.
+/// Records the event with this id, and returns its number.
 fn record<R: Wait>(rt: &R, alloc: Global, relay: &SharedRelay, id: u128) -> Option<u64> {
     let change = change(alloc).ok()?;
     let event = outbox_event(alloc, "orders", id).ok()?;
@@ -37,7 +37,7 @@ fn record_all<R: Wait>(rt: &R, alloc: Global, relay: &SharedRelay) -> bool {
     true
 }
 
-/// Records the events, and says at the end that no more come.
+/// Records the events, and notes at the end that no more follow.
 fn record_to_the_end<R: Wait>(
     rt: &R,
     alloc: Global,

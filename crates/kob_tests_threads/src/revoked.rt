@@ -18,7 +18,7 @@ fn put_both(alloc: Global, scripts: &mut Vec<Script>) -> Option<()> {
     scripts.push(revoker).ok()
 }
 
-/// What these leave, where the gate lets the second in.
+/// The end of these, if the gate admits the second.
 fn revoke_at<R: Threads + Wait + Sync>(rt: &R, alloc: Global, gate: &Between) -> Option<FleetEnd> {
     let mut scripts = Vec::new(alloc);
     put_both(alloc, &mut scripts)?;
@@ -27,8 +27,8 @@ fn revoke_at<R: Threads + Wait + Sync>(rt: &R, alloc: Global, gate: &Between) ->
     run(rt, opening, first, scripts, gate, alloc)
 }
 
-/// Whether the reply to the service's request at a place from 0 is due, if its right goes before
-/// the request of this number.
+/// Whether the reply to the service's request at this place, from 0, is the expected one if its
+/// right is revoked before the request of this number.
 fn is_due(reply: &Reply, place: usize, is_before: bool) -> bool {
     if is_before {
         offset_of(reply) == Some(place as u64)
@@ -65,8 +65,8 @@ fn is_revoked(end: &FleetEnd, number: usize) -> bool {
     }
 }
 
-/// Whether a right that the gate lets be revoked before the service's request of this number, from
-/// 1, is gone from there on.
+/// Whether a right that is revoked before the service's request of this number, from 1, is gone
+/// from there on.
 fn is_gone_from<R: Threads + Wait + Sync>(
     rt: &R,
     alloc: Global,

@@ -32,7 +32,7 @@ pub(crate) fn session<'a>(
     Some(shared.session(worker, principal, host))
 }
 
-/// Makes the request of a script's line.
+/// Makes the request of a line of a script.
 pub(crate) fn call<R: Wait>(
     rt: &R,
     alloc: Global,
@@ -101,7 +101,7 @@ fn journal_has_denied_and_fills(rt: HostRuntime) {
     assert!(rt; fills_with_two(rt.alloc()) == Some(true));
 }
 
-/// Whether a call finds the journal full, and the session has seen no more than before.
+/// Whether a call finds the journal full, and the session has seen nothing new.
 fn is_refused<R: Wait>(rt: &R, alloc: Global, session: &mut Session<'_>) -> Option<bool> {
     let request = request_of(alloc, METADATA)?;
     let refused = session.call(rt, alloc, request).err();

@@ -1,5 +1,5 @@
-//! Calls on shared brokers, desks and what pipelines leave that take no memory. `.ci/refuse` runs
-//! them with every allocation refused from `spare` on.
+//! Calls on shared brokers, on desks and on the ends of pipelines that do not allocate.
+//! `.ci/refuse` runs them with every allocation refused from `spare` on.
 
 ghost use Rattle.kob_pipeline.specs.Pipelines.{IsPipeline};
 
@@ -20,7 +20,8 @@ use std::thread::Threads;
 /// refused.
 const CUE: usize = 7_654_321;
 
-/// No memory is taken from here on, and where `.ci/refuse` runs the test, none is given.
+/// Nothing is allocated from here on. If `.ci/refuse` runs the test, each allocation from here on
+/// is refused.
 fn spare(alloc: Global) -> bool {
     Vec::<u8>::with_capacity(alloc, CUE).is_ok()
 }
@@ -33,7 +34,7 @@ fn has_one(journal: &Journal) -> bool {
     }
 }
 
-/// Whether a record has what it began from and its journal.
+/// Whether a record has its opening and its journal.
 fn is_read(recorded: &Recorded) -> bool {
     let opening = recorded.opening();
     let is_told = opening.supers.len() == 1 && !opening.everyone && opening.same(opening);
@@ -55,7 +56,7 @@ fn is_taken_apart(recorded: Recorded) -> bool {
     has_one
 }
 
-/// Whether a record is shared, given back and taken apart.
+/// Whether a record is shared, returned and taken apart.
 fn goes_round(recorded: Recorded, asker: (Principal, Host)) -> bool {
     let read = is_read(&recorded);
     let shared = SharedBroker::open(recorded);
@@ -117,7 +118,7 @@ fn closes(desk: Desk<'_>) -> bool {
     told && noted
 }
 
-/// Whether a desk that is just opened has noted nothing.
+/// Whether a new desk has noted nothing.
 fn is_blank(desk: Desk<'_>) -> bool {
     let blank = desk.len() == 0;
     drop(desk);
@@ -164,8 +165,8 @@ fn desks_open_and_close(rt: HostRuntime) {
     assert!(rt; serves_desks(&rt, rt.alloc()) == Some(true));
 }
 
-/// Whether a pipeline of a service that sends two events and of a consumer left what it is to leave
-/// whoever was first: six calls beside the first events, of which three are each worker's.
+/// Whether a pipeline of a service that sends two events and of a consumer left what is expected,
+/// in any order of its workers: six calls besides the first events, three of each worker.
 fn is_whole(end: &PipelineEnd) -> bool {
     let counts = end.transcripts.iter().map(|notes| notes.len());
     end.journal.len() == FIRST_EVENTS + 6
@@ -178,7 +179,7 @@ fn is_whole(end: &PipelineEnd) -> bool {
             .all(|inbox| begins(&inbox.rows, &[0xA, 0xB]))
 }
 
-/// Whether an end, of which the laws speak, is so.
+/// Whether the end of a plan, to which the laws apply, is so.
 fn is_lawful(alloc: Global, plan: &Plan, end: &PipelineEnd) -> bool
     requires { IsPipeline plan.now end.now }
 {
