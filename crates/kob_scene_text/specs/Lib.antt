@@ -1,6 +1,7 @@
 pub mod Consumers
 pub mod Heads
 pub mod Names
+pub mod PrintedBindings
 pub mod PrintedFault
 pub mod PrintedRequest
 pub mod PrintedRows

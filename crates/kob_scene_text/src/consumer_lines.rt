@@ -1,4 +1,4 @@
-//! Lines that declare a consumer, behind its name.
+//! Lines that declare a consumer, after its name.
 
 ghost use Rattle.std.specs.Prelude.{◌≡◌};
 ghost use Rattle.std.specs.Option.{option_map};
@@ -14,14 +14,14 @@ use kob_router::Place;
 use kob_script::{FaultKind, LineError, Word, number_of, text_of};
 use std::alloc::Global;
 
-/// What a declaration says behind the worker's name.
+/// What a declaration says after the worker's name.
 #[derive(Drop)]
 pub(crate) struct DeclaredConsumer {
     pub(crate) who: Who,
     pub(crate) subscription: Subscription,
 }
 
-/// `PRINCIPAL HOST group GROUP max N [reads TOPIC:PARTITION ..]`: the words are looked at from left
+/// `PRINCIPAL HOST group GROUP max N [reads TOPIC:PARTITION ..]`. The words are checked from left
 /// to right.
 pub(crate) fn consumer_of(alloc: Global, words: &[Word<'_>]) -> Result<DeclaredConsumer, LineError>
     ensures { Gives result (consumer_of words.now) }
@@ -55,7 +55,7 @@ fn subscription_of(
     })
 }
 
-/// What is read, behind `reads`; no words are no places.
+/// The partitions after `reads`; without words there are none.
 fn places_of(alloc: Global, words: &[Word<'_>]) -> Result<Items<Place>, LineError>
     ensures { Gives result (places_of words.now) }
 {
@@ -79,7 +79,7 @@ fn each_place(alloc: Global, words: &[Word<'_>]) -> Result<Items<Place>, LineErr
     Ok(Items::from_vec(places))
 }
 
-/// `TOPIC:PARTITION`, cut at the first raw colon.
+/// `TOPIC:PARTITION`, split at the first colon that is not escaped.
 fn place_of(alloc: Global, word: &Word<'_>) -> Result<Place, LineError>
     ensures { Gives result (place_of word.now) }
 {

@@ -4,9 +4,9 @@ use kob_script::{FaultKind, LineError};
 use std::alloc::{AllocError, AllocFailed};
 use thiserror::Error;
 
-/// What is wrong with a line. BadEscape is looked for first, over the whole line. A line of a script
-/// has the kinds of scripts in their order. In a line of a worker the words are looked at from left
-/// to right: the name, then each part behind it.
+/// What is wrong with a line. BadEscape is checked first, over the whole line. A line of a script
+/// has the kinds of scripts, in their order. The words of a worker's line are checked from left to
+/// right: the name, then each part after it.
 #[derive(Clone, Copy, Debug, Error)]
 pub enum SceneFaultKind {
     /// One of the faults of scripts.

@@ -6,6 +6,7 @@ mod fault;
 mod laws;
 mod line;
 mod name;
+mod printed_bindings;
 mod printed_fault;
 mod printed_request;
 mod printed_rows;

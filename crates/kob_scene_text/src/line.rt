@@ -1,4 +1,4 @@
-//! A line of a scene is read.
+//! The reader of a line of a scene.
 
 ghost use Rattle.std.specs.Prelude.{◌≡◌, ◌++◌, map, IfOk, OnOk};
 ghost use Rattle.kob_scene_text.specs.Heads.{asks_step, head_by, head_by_word, head_named};
@@ -39,7 +39,7 @@ pub(crate) enum Head {
     Request,
 }
 
-/// Reads a line more.
+/// Reads one more line.
 pub(crate) fn read_line(alloc: Global, reading: &mut Reading, line: &[u8]) -> Result<(), StepError>
     ensures { ReadsLine (so_far reading.old) line.now reading.new result }
 {
@@ -70,7 +70,7 @@ fn head_by(worker: Option<Worker>, rest: &[Word<'_>]) -> Head
     }
 }
 
-/// A first word with a colon is a principal, and else a worker's name.
+/// A first word with a colon is a principal; any other is the name of a worker.
 fn head_named(worker: Option<Worker>, name: &[u8], rest: &[Word<'_>]) -> Head
     ensures { result ≡ head_named worker name.now rest.now }
 {

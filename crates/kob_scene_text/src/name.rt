@@ -1,4 +1,4 @@
-//! Names of workers, the words that are none, and who works under a name.
+//! Names of workers, the words that cannot be names, and who works under a name.
 
 ghost use Rattle.std.specs.Prelude.{◌≡◌};
 ghost use Rattle.kob_script.specs.Reading.{Gives as ScriptGives};
@@ -65,7 +65,7 @@ fn is_name_byte(byte: u8) -> bool
     byte.is_ascii_alphanumeric() || byte == b'-' || byte == b'_'
 }
 
-/// Whether a line with this first word is no step.
+/// Whether a line with this first word is not a step.
 fn is_keyword(name: &[u8]) -> bool
     ensures { result ≡ is_keyword name.now }
 {

@@ -1,4 +1,4 @@
-//! How the answers to steps are printed, each on a line behind its number.
+//! How the results of steps are printed, each on a line after its number.
 
 ghost use Rattle.std.specs.Prelude.{◌≡◌, ◌++◌, OnOk, codes};
 ghost use Rattle.std.specs.Fmt.{decimal};
@@ -128,7 +128,7 @@ fn print_consumer_stop(
     }
 }
 
-/// What is printed of a text that its column doesn't take: the column's name in the tables, and
+/// What is printed for a text that its column does not accept: the column's name in the tables, and
 /// `key` for the id of a business row.
 fn bad_field_text(column: Column) -> &'static str
     ensures { result.now ≡ bad_field_text column }

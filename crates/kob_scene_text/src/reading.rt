@@ -1,4 +1,4 @@
-//! A scene is read: every line before the first step is played.
+//! The reader of a scene. Every line is read before the first step is played.
 
 ghost use Rattle.kob_scene_text.specs.SceneReadings.{MayRead};
 
@@ -9,7 +9,7 @@ use bstr::ByteSlice;
 use kob_names::{Items, Principal, Settings};
 use std::alloc::Global;
 
-/// What is read of a scene so far.
+/// What was read of a scene so far.
 #[derive(Drop)]
 pub(crate) struct Reading {
     pub(crate) supers: Vec<Principal>,
@@ -20,8 +20,8 @@ pub(crate) struct Reading {
 }
 
 /// Reads a scene to its end. Lines, words, escapes and comments are those of scripts. The error is
-/// the first line with a fault, or out of memory. What the words of an `acl` line mean is answered
-/// by `clap`, and for some words what its port states leaves more than one answer open.
+/// the first line with a fault, or out of memory. The words of an `acl` line are read by `clap`;
+/// for some words the contract of its port allows more than one result.
 pub fn read_scene(alloc: Global, text: &[u8]) -> Result<Scene, SceneError>
     ensures { MayRead text.now result }
 {

@@ -1,4 +1,4 @@
-//! What is said of a scene's fault to a person.
+//! What is reported about a scene's fault to a person.
 
 ghost use Rattle.std.specs.Prelude.{◌≡◌, ◌++◌, OnOk};
 ghost use Rattle.kob_scene_text.specs.Remark.{begins_with_mark, remark_text, script_sentence};
@@ -10,11 +10,11 @@ use kob_script::FaultKind;
 use kob_words::{push_bytes, push_number};
 use std::alloc::AllocError;
 
-/// Prints a line for standard error beside a fault: `line N: WHAT IS WRONG: WORD`, as in
-/// `line 3: an unknown command, or words that do not fit it: create-topci`. WORD is the word of the
-/// line that the kind looks at, as a principal, a host, a command or a worker's name, else the first.
-/// A byte order mark is named as one. The error is out of memory; `out` has then grown by a part of
-/// it.
+/// Prints a line for standard error beside a fault: `line N: WHAT IS WRONG: WORD`, as in `line 3:
+/// an unknown command, or words that do not fit it: create-topci`. WORD is the word of the line
+/// that the kind is about: a principal, a host, a command or a worker's name. For other kinds it is
+/// the first word. A byte order mark is reported as one. The error is out of memory; `out` has then
+/// grown by a part of it.
 pub fn print_remark(out: &mut Vec<u8>, text: &[u8], fault: SceneFault) -> Result<(), AllocError>
     ensures { OnOk result ((word : _) × (out.new.items
         ≡ out.old.items ++ remark_text (begins_with_mark text.now) fault word)) }
@@ -49,7 +49,8 @@ fn begins_with_mark(text: &[u8]) -> bool
     }
 }
 
-/// The word that a fault is about, else the first of its line; of a byte order mark the first.
+/// The word that a fault is about, or the first word of its line. For a byte order mark it is the
+/// first word.
 fn word_for(text: &[u8], fault: SceneFault) -> &[u8] {
     let before = fault.line.saturating_sub(1) as usize;
     let line = text.lines().nth(before).unwrap_or(b"".as_slice());
@@ -70,7 +71,7 @@ fn word_at(line: &[u8], place: usize) -> Option<&[u8]> {
         .nth(place)
 }
 
-/// Which word of a request a kind looks at, from 0: its command or its host, else its principal.
+/// Which word of a request a kind is about, from 0: its command, its host or its principal.
 fn place_in_request(kind: SceneFaultKind) -> usize {
     match kind {
         SceneFaultKind::Script(FaultKind::BadLine) => 2,
@@ -79,7 +80,7 @@ fn place_in_request(kind: SceneFaultKind) -> usize {
     }
 }
 
-/// The same of a declaration and a step.
+/// The same for a declaration and a step.
 fn place_in_worker_line(kind: SceneFaultKind) -> usize {
     match kind {
         SceneFaultKind::UnknownWorker => 0,

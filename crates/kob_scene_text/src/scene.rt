@@ -40,7 +40,7 @@ impl Model for Routed {
 }
 
 impl Routed {
-    /// Rows by this route, to so many partitions. No memory is taken.
+    /// Rows by this route, to this number of partitions. Does not allocate.
     pub fn new(route: Route, partitions: u32) -> Routed
         requires some { 1 ≤ partitions }
         requires most { partitions ≤ 1000 }
@@ -51,7 +51,7 @@ impl Routed {
         }
     }
 
-    /// The target that a router takes. No memory is taken.
+    /// The target that a router takes. Does not allocate.
     pub fn into_target(self) -> Target
         ensures value { result ≡ self }
         ensures some { 1 ≤ result.partitions }
@@ -99,7 +99,7 @@ pub enum Step {
     Consumer(usize, ConsumerStep),
     /// Prints every entry of the journal.
     Journal,
-    /// Asks whether the laws of delivery speak of a service and a consumer, by their places.
+    /// Asks whether the laws of delivery apply to a service and a consumer, by their places.
     Law { service: usize, consumer: usize },
 }
 
@@ -117,26 +117,26 @@ pub enum Lost {
 pub enum ServiceStep {
     /// Records a business row together with an outbox row.
     Record(Change, OutboxEvent),
-    /// One step of the router, whose first call loses a message or not.
+    /// One step of the router; a message of its first call may be lost.
     Tick(Option<Lost>),
-    /// Ticks until one neither moves nor repeats.
+    /// Makes ticks until one neither moves nor repeats.
     Run,
     Restart,
     Sweep,
-    /// Shows the mark and the rows that wait.
+    /// Prints the mark and the rows that wait.
     Outbox,
-    /// Shows the state of a business row.
+    /// Prints the state of a business row.
     Business { kind: Text, key: Text },
 }
 
 /// A step of a consumer.
 #[derive(Drop)]
 pub enum ConsumerStep {
-    /// One step of the consumer, whose first call loses a message or not.
+    /// One step of the consumer; a message of its first call may be lost.
     Tick(Option<Lost>),
-    /// Ticks until a whole round of its partitions is idle, or it stops.
+    /// Makes ticks until a whole round of its partitions is idle, or until it stops.
     Run,
     Restart,
-    /// Shows the rows that were taken in.
+    /// Prints the rows of the inbox.
     Inbox,
 }

@@ -1,4 +1,4 @@
-//! Lines that declare a service, behind its name.
+//! Lines that declare a service, after its name.
 
 ghost use Rattle.std.specs.Prelude.{◌≤◌, IfOk};
 ghost use Rattle.kob_script.specs.Reading.{Gives as ScriptGives, GivesSeen as ScriptGivesSeen};
@@ -15,22 +15,22 @@ use kob_router::{Route, RouteBy, RouteFault, RouteSettings};
 use kob_script::{FaultKind, LineError, Word, number_of, text_of};
 use std::alloc::Global;
 
-/// What a declaration says behind the worker's name.
+/// What a declaration says after the worker's name.
 #[derive(Drop)]
 pub(crate) struct DeclaredService {
     pub(crate) who: Who,
     pub(crate) route: DeclaredRoute,
 }
 
-/// A route as it is set, and as it is read, to so many partitions.
+/// A route as it is set, and as it is read, to a number of partitions.
 #[derive(Drop)]
 pub(crate) struct DeclaredRoute {
     pub(crate) settings: RouteSettings,
     pub(crate) routed: Routed,
 }
 
-/// `PRINCIPAL HOST partitions N [by COLUMN] [replacement TEXT] [placement TEXT]`: the words are
-/// looked at from left to right.
+/// `PRINCIPAL HOST partitions N [by COLUMN] [replacement TEXT] [placement TEXT]`. The words are
+/// checked from left to right.
 pub(crate) fn service_of(alloc: Global, words: &[Word<'_>]) -> Result<DeclaredService, StepError>
     ensures { Gives result (service_of words.now) }
 {
@@ -57,7 +57,7 @@ fn service_with(
     Ok(DeclaredService { who, route })
 }
 
-/// So many partitions, and the route that the words behind say.
+/// The number of partitions, and the route that the words after it say.
 fn declared_route(
     alloc: Global,
     partitions: &Word<'_>,
@@ -88,7 +88,7 @@ fn partitions_of(word: &Word<'_>) -> Result<u32, StepError>
     }
 }
 
-/// The settings of a route, each as by default where it is not given.
+/// The settings of a route, each with its default if it is not given.
 fn settings_of(alloc: Global, words: &[Word<'_>]) -> Result<RouteSettings, LineError>
     ensures { ScriptGives result (settings_of words.now) }
 {
@@ -110,7 +110,7 @@ fn settings_of(alloc: Global, words: &[Word<'_>]) -> Result<RouteSettings, LineE
     }
 }
 
-/// The column by which rows are routed, and the words behind it.
+/// The column by which rows are routed, and the words after it.
 fn by_first<'w, 'l>(words: &'w [Word<'l>]) -> Result<(RouteBy, &'w [Word<'l>]), LineError>
     ensures { ScriptGivesSeen (λ read. (read.0, read.1.now)) result (by_first words.entry.now) }
 {
@@ -135,7 +135,7 @@ fn by_named(word: &Word<'_>) -> Result<RouteBy, LineError>
     }
 }
 
-/// The text behind a keyword, and the words behind that.
+/// The text after a keyword, and the words after that.
 fn text_first<'w, 'l>(
     alloc: Global,
     expected: &[u8],

@@ -142,7 +142,7 @@ fn string_of(alloc: Global, word: &Word<'_>) -> Result<String, LineError>
     Ok(String::from_str(alloc, text)?)
 }
 
-/// `ID AGGREGATETYPE AGGREGATEID TYPE PAYLOAD KIND KEY STATE`: the words are looked at from left to
+/// `ID AGGREGATETYPE AGGREGATEID TYPE PAYLOAD KIND KEY STATE`. The words are checked from left to
 /// right.
 fn record_step(alloc: Global, words: &[Word<'_>]) -> Result<ServiceStep, StepError>
     ensures { GivesSeen service_told result (record_of words.now) }
