@@ -1,7 +1,9 @@
 -- The operation table (Kafka's documentation, "Authorization and ACLs").
-use Rattle.std.specs.Prelude.{ℕ, zero, suc, List, [], ◌∷◌, Option, Some, None}
+use Rattle.std.specs.Prelude.{ℕ, List, [], ◌∷◌, Option, Some, None, slice_index_or}
 use Rattle.kob_names.specs.declared.batch.Idem.{Idem}
 use Rattle.kob_names.specs.declared.kinds.Operation.TheVariants.{Read, Write, Create, Delete, Alter, Describe, IdempotentWrite}
+use Rattle.kob_names.specs.declared.kinds.ResourceKind.{ResourceKind}
+use Rattle.kob_names.specs.declared.kinds.ResourceKind.TheVariants.{Group, Cluster}
 use Rattle.kob_rights.specs.Check.{Check, on_topic, on_group, on_cluster}
 use Rattle.kob_rights.specs.declared.code.Code.{Code}
 use Rattle.kob_rights.specs.declared.code.Code.TheVariants.{TopicAuthorizationFailed, GroupAuthorizationFailed, ClusterAuthorizationFailed}
@@ -39,31 +41,18 @@ rights (DescribeAcls asked) = (on_cluster Describe ∷ []) ∷ []
 rights (CreateAcls create) = (on_cluster Alter ∷ []) ∷ []
 rights (DeleteAcls delete) = (on_cluster Alter ∷ []) ∷ []
 
--- the codes of a clause on a group and of the clause on a topic after it
-abbrev pub group_then_topic : ℕ → Code
-group_then_topic zero = GroupAuthorizationFailed
-group_then_topic (suc later) = TopicAuthorizationFailed
+-- the code of a denial on a kind of resource; no request asks for a transactional id
+abbrev pub code_on : ResourceKind → Code
+code_on Group = GroupAuthorizationFailed
+code_on Cluster = ClusterAuthorizationFailed
+code_on _ = TopicAuthorizationFailed
 
-abbrev pub produce_code : Option Idem → ℕ → Code
-produce_code None clause = TopicAuthorizationFailed
-produce_code (Some idem) zero = ClusterAuthorizationFailed
-produce_code (Some idem) (suc later) = TopicAuthorizationFailed
+-- the code on the last alternative of a clause, and the given one if there is none
+abbrev pub code_on_last : Code → List Check → Code
+code_on_last code [] = code
+code_on_last code (check ∷ checks) = code_on_last (code_on check.resource) checks
 
--- the code of a denial by the clause at a place: that of its resource, and the topic's for a
--- creation
+-- the code of a denial by the clause at a place: that of the resource of its last alternative
 abbrev pub denial_code : Request → ℕ → Code
-denial_code (Produce produce) clause = produce_code produce.batch.idem clause
-denial_code (Fetch fetch) clause = TopicAuthorizationFailed
-denial_code (ListOffsets asked) clause = TopicAuthorizationFailed
-denial_code (Metadata asked) clause = TopicAuthorizationFailed
-denial_code (OffsetCommit commit) clause = group_then_topic clause
-denial_code (OffsetFetch asked) clause = group_then_topic clause
-denial_code ListGroups clause = TopicAuthorizationFailed
-denial_code (DeleteGroups delete) clause = GroupAuthorizationFailed
-denial_code (CreateTopics create) clause = TopicAuthorizationFailed
-denial_code (DeleteTopics delete) clause = TopicAuthorizationFailed
-denial_code (DeleteRecords delete) clause = TopicAuthorizationFailed
-denial_code InitProducerId clause = ClusterAuthorizationFailed
-denial_code (DescribeAcls asked) clause = ClusterAuthorizationFailed
-denial_code (CreateAcls create) clause = ClusterAuthorizationFailed
-denial_code (DeleteAcls delete) clause = ClusterAuthorizationFailed
+denial_code request place =
+    code_on_last TopicAuthorizationFailed (slice_index_or (rights request) place [])

@@ -1,8 +1,10 @@
 //! The operation table: the rights of each kind of request, and the code of a denial.
 
 ghost use Rattle.std.specs.Prelude.{◌≡◌, ◌<◌, length};
-ghost use Rattle.kob_rights.specs.Rights.{rights_view};
-ghost use Rattle.kob_rights.specs.Table.{denial_code, group_then_topic, metadata_rights, rights};
+ghost use Rattle.kob_rights.specs.Rights.{clause_view, rights_view};
+ghost use Rattle.kob_rights.specs.Table.{code_on, code_on_last, denial_code, metadata_rights};
+ghost use Rattle.kob_rights.specs.Table.{rights};
+ghost use Rattle.kob_rights.specs.declared.code.Code.TheVariants as Code;
 ghost use Rattle.kob_rights.specs.declared.request.Request.TheVariants as requests;
 
 use crate::check::{Check, Clause, Rights};
@@ -10,7 +12,7 @@ use crate::code::Code;
 use crate::on_partitions::Produce;
 use crate::on_topics::{CreateTopics, Metadata};
 use crate::request::Request;
-use kob_names::Operation;
+use kob_names::{Operation, ResourceKind};
 
 impl Request {
     /// The rights that are needed, on the names as they were sent, before the request is examined.
@@ -42,39 +44,40 @@ impl Request {
         }
     }
 
-    /// The code of a denial by the clause at a place among the rights, from 0.
+    /// The code of a denial by the clause at a place among the rights, from 0: that of the resource
+    /// of its last alternative.
     pub fn denial_code(&self, clause: usize) -> Code
         requires { clause < length (rights self.now) }
         ensures { result ≡ denial_code self.now clause }
     {
-        match self {
-            Request::Produce(asked) => asked.denial_code(clause),
-            Request::Fetch(_) => Code::TopicAuthorizationFailed,
-            Request::ListOffsets(_) => Code::TopicAuthorizationFailed,
-            Request::Metadata(_) => Code::TopicAuthorizationFailed,
-            Request::OffsetCommit(_) => group_then_topic(clause),
-            Request::OffsetFetch(_) => group_then_topic(clause),
-            Request::ListGroups => Code::TopicAuthorizationFailed,
-            Request::DeleteGroups(_) => Code::GroupAuthorizationFailed,
-            Request::CreateTopics(_) => Code::TopicAuthorizationFailed,
-            Request::DeleteTopics(_) => Code::TopicAuthorizationFailed,
-            Request::DeleteRecords(_) => Code::TopicAuthorizationFailed,
-            Request::InitProducerId => Code::ClusterAuthorizationFailed,
-            Request::DescribeAcls(_) => Code::ClusterAuthorizationFailed,
-            Request::CreateAcls(_) => Code::ClusterAuthorizationFailed,
-            Request::DeleteAcls(_) => Code::ClusterAuthorizationFailed,
+        match self.rights() {
+            Rights::Free => Code::TopicAuthorizationFailed,
+            Rights::One(only) => only.denial_code(),
+            Rights::Both(first, _) if clause == 0 => first.denial_code(),
+            Rights::Both(_, second) => second.denial_code(),
         }
     }
 }
 
-/// The code of a clause on a group, or of the clause on a topic after it.
-fn group_then_topic(clause: usize) -> Code
-    ensures { result ≡ group_then_topic clause }
+impl Clause<'_> {
+    fn denial_code(&self) -> Code
+        ensures { result ≡ code_on_last Code.TopicAuthorizationFailed (clause_view self.now) }
+    {
+        match self {
+            Clause::Only(check) => code_on(check.resource),
+            Clause::Either(_, last) => code_on(last.resource),
+        }
+    }
+}
+
+/// The code of a denial on a kind of resource.
+fn code_on(resource: ResourceKind) -> Code
+    ensures { result ≡ code_on resource }
 {
-    if clause == 0 {
-        Code::GroupAuthorizationFailed
-    } else {
-        Code::TopicAuthorizationFailed
+    match resource {
+        ResourceKind::Group => Code::GroupAuthorizationFailed,
+        ResourceKind::Cluster => Code::ClusterAuthorizationFailed,
+        _ => Code::TopicAuthorizationFailed,
     }
 }
 
@@ -90,16 +93,6 @@ impl Produce {
             Clause::Only(Check::on_cluster(Operation::IdempotentWrite)),
             Clause::Only(Check::on_topic(Operation::Write, &self.topic)),
         )
-    }
-
-    fn denial_code(&self, clause: usize) -> Code
-        ensures { result ≡ denial_code (requests.Produce self.now) clause }
-    {
-        if self.batch.idem.is_some() && clause == 0 {
-            Code::ClusterAuthorizationFailed
-        } else {
-            Code::TopicAuthorizationFailed
-        }
     }
 }
 
