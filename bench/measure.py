@@ -100,6 +100,7 @@ WORKLOADS = [
     ("produce, 100 records of 50 bytes", 400, lambda n: topics(1), lambda n: lines(n, f"produce t000000 0 - {' '.join(['x' * 50] * 100)}")),
     ("produce, one record of one byte", 50_000, lambda n: topics(1), lambda n: lines(n, "produce t000000 0 - x")),
     ("produce, idempotent", 20_000, lambda n: [*topics(1), f"{ROOT} init-producer"], lambda n: lines(n, "produce t000000 0 0:0:{i} x")),
+    ("idempotent produces and reads of commits, by turns", 10_000, lambda n: [*topics(1), f"{ROOT} init-producer", f"{ROOT} commit g t000000 0 0"], lambda n: [line for i in range(n) for line in (f"{ROOT} produce t000000 0 0:0:{i} x", f"{ROOT} committed g t000000 0")]),
     ("produce, to 10 of 10,000 topics", 20_000, lambda n: topics(10_000), lambda n: turns(n, 10_000, ROOT + " produce t{i:06} 0 - v")),
     ("produce, under n super users", 1_000, lambda n: [*(f"super User:s{i:06}" for i in range(n)), *topics(1)], lambda n: lines(2_000, "produce t000000 0 - x")),
     ("fetch, 1,000 records of 50 bytes", 100, lambda n: [*topics(1), LONG_BATCH], lambda n: lines(n, "fetch t000000 0 0 1000")),

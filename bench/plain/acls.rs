@@ -24,6 +24,16 @@ pub enum Verdict {
     NoAllow,
 }
 
+impl Verdict {
+    pub fn text(&self) -> String {
+        match self {
+            Verdict::Granted => "allow".to_string(),
+            Verdict::DeniedBy(serial) => format!("deny:{serial}"),
+            Verdict::NoAllow => "no-allow".to_string(),
+        }
+    }
+}
+
 fn reaches(binding: &Binding, operation: &str) -> bool {
     let implied = match operation {
         "Describe" => &["Read", "Write", "Delete", "Alter"][..],

@@ -38,6 +38,7 @@ pub enum Request {
     Fetch(String, u64, u64, u64),
     Metadata,
     Commit(String, String, u64, u64),
+    Committed(String, String, u64),
     DeleteGroup(String),
     InitProducer,
     CreateAcl(Binding),
@@ -171,6 +172,7 @@ fn request(command: &[u8], words: &[&[u8]]) -> Result<Request, String> {
         (b"commit", [group, topic, partition, offset]) => {
             Request::Commit(text(group)?, text(topic)?, number(partition)?, number(offset)?)
         }
+        (b"committed", [group, topic, partition]) => Request::Committed(text(group)?, text(topic)?, number(partition)?),
         (b"delete-group", [name]) => Request::DeleteGroup(text(name)?),
         (b"init-producer", []) => Request::InitProducer,
         (b"create-acl", _) => Request::CreateAcl(binding(words)?),
