@@ -8,13 +8,13 @@ usage: kob_policy [--policy FILE]... [--skip] [QUESTION]...
        kob_policy --before FILE --after FILE [--policy FILE]... [QUESTION]...
 
   --policy FILE     bindings and settings; repeated, in order; - or none: standard input
-  --questions FILE  questions, a line each; repeated
-  --topics FILE     names of topics, a line each; repeated
-  --before FILE     what changes from these bindings ..
+  --questions FILE  questions, one on a line; repeated
+  --topics FILE     names of topics, one on a line; repeated
+  --before FILE     prints what changes from these bindings ..
   --after FILE      .. to these; questions are answered by these; --policy counts for both
-  --skip            go on after bindings that are left out
-  --next            begins another list with its questions; == FILE stands before each
-  --help            this text
+  --skip            continues after bindings that are left out
+  --next            begins another list with its questions; == FILE comes before each
+  --help            prints this text
 
 A policy has lines of kafka-acls --list (1.x, 2.x and 3.x), kafka-acls --add .., lines
 create-acl and acl of scripts, super USER, everyone on or off, super.users=.., and

@@ -6,11 +6,11 @@ Plays scenes: scripts with services, consumers and their steps.
 
 usage: kob_scene [FILE]... [--export FILE]...
 
-  FILE              is played; with no file at all standard input is. == FILE stands before each of several
-  --export FILE     what FILE ends with, as Kafka and Debezium take it; exports come last
-  --help            this text
+  FILE              plays FILE; without any, standard input. With several, == FILE comes before each
+  --export FILE     prints the final state of FILE for Kafka and Debezium, after all that is played
+  --help            prints this text
 
-A scene has settings first, and then requests, declarations and steps, a line each. % and two
+A scene has settings first, and then requests, declarations and steps, one on a line. % and two
 hexadecimal digits stand for a byte. A line that begins with # is a comment.
   super PRINCIPAL       everyone on|off
   PRINCIPAL HOST REQUEST ..     where REQUEST is one of
@@ -28,7 +28,7 @@ hexadecimal digits stand for a byte. A line that begins with # is a comment.
   consumer NAME PRINCIPAL HOST group GROUP max N reads TOPIC:PARTITION ..
     NAME tick [lose-request|lose-reply]     NAME run    NAME restart    NAME inbox
   journal               every request that was served, with its reply
-  law SERVICE CONSUMER  whether the laws of delivery speak of the two
+  law SERVICE CONSUMER  whether the laws of delivery apply to the two
 
-Status: 0 all was played, 1 a fault, or not read or written, 2 out of memory. docs/SCENES.md has more.
+Status: 0 all was played, 1 a fault, or a read or a write failed, 2 out of memory. More: docs/SCENES.md.
 ";
