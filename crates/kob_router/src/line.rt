@@ -20,9 +20,9 @@ impl Call {
         ensures { IfOk result (λ made. made ≡ self.now) }
     {
         let request = self.request.copy(alloc)?;
-        let heard = match &self.heard {
-            Some(reply) => Some(reply.copy(alloc)?),
-            None => None,
+        let Ok(heard) = self.heard.copy(alloc) else {
+            drop(request);
+            return Err(AllocError);
         };
         Ok(Call { request, heard })
     }

@@ -33,7 +33,14 @@ impl Work for Script {
         let mut desk = Desk::open(alloc, shared.session(worker, principal, host));
         for request in &self.requests {
             gate.before(worker, desk.len() + 1);
-            desk.call(rt, alloc, request.copy(alloc)?)?;
+            let called = match request.copy(alloc) {
+                Ok(request) => desk.call(rt, alloc, request),
+                Err(fault) => Err(fault.into()),
+            };
+            if let Err(fault) = called {
+                drop(desk);
+                return Err(fault);
+            }
         }
         gate.before(worker, desk.len() + 1);
         Ok(Done {
