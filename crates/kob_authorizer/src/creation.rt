@@ -66,6 +66,7 @@ impl PreparedCreate {
     {
         let new = new_bindings(alloc, entries, &index.keys, bindings)?;
         if let Some(fault) = limit_fault(entries.len(), next, new.len()) {
+            drop(new);
             return Err(fault);
         }
         let serials = serials_in(alloc, entries, &index.keys, next, &new, bindings)?;

@@ -73,8 +73,8 @@ impl Fresh {
         let place = self.entries.len() as u64;
         let key = binding_key(alloc, binding)?;
         let kind = kind_in_tree(binding.parts().pattern.kind);
-        let copy = binding.copy(alloc)?;
         let prepared = self.keys.prepare_add(alloc, key.as_slice(), kind, place)?;
+        let copy = binding.copy(alloc)?;
         self.entries.push((place, copy))?;
         self.keys.commit_add(prepared);
         Ok(())
