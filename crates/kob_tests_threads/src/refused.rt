@@ -52,7 +52,10 @@ fn writes<R: Wait>(
     place: usize,
 ) -> Option<bool> {
     let request = request_of(alloc, WRITE)?;
-    let again = request_of(alloc, WRITE)?;
+    let Some(again) = request_of(alloc, WRITE) else {
+        drop(request);
+        return None;
+    };
     let called = called(rt, alloc, session, (request, again));
     let is_at = is_at(&called, offset, place);
     drop(called);
