@@ -7,7 +7,7 @@ use Rattle.kob_scene_export.specs.Plain.{comment_unless, is_plain}
 
 abbrev pub head_text : List ℕ
 head_text =
-    codes "# Put --bootstrap-server HOST:PORT behind each command.\n"
+    codes "# Put --bootstrap-server HOST:PORT after each command.\n"
     ++ codes "# A line with a word that needs quotes is a comment; its escapes are those of scripts.\n"
 
 abbrev pub everyone_text : Bool → List ℕ

@@ -15,7 +15,7 @@ use std::alloc::AllocError;
 pub fn export_head(out: &mut Vec<u8>) -> Result<(), AllocError>
     ensures { OnOk result (out.new.items ≡ out.old.items ++ head_text) }
 {
-    out.extend_from_slice(b"# Put --bootstrap-server HOST:PORT behind each command.\n")?;
+    out.extend_from_slice(b"# Put --bootstrap-server HOST:PORT after each command.\n")?;
     out.extend_from_slice(
         b"# A line with a word that needs quotes is a comment; its escapes are those of scripts.\n",
     )
