@@ -1,7 +1,8 @@
 #!/usr/bin/env python3
 """Microseconds, instructions and bytes of an event's way, beside a C program over Debian's SQLite.
 
-    python3 bench/event.py [N] [--bytes BYTES] [--instructions ROWS] [--threads EVENTS] [--write]   (16,000, 100, 2,000, 1,000; 0: none)
+    python3 bench/event.py [N] [--bytes BYTES] [--instructions ROWS] [--long ROWS] [--threads EVENTS] [--write]
+    (16,000, 100, 2,000, 250, 1,000; 0: none)
 
 An event is recorded with its business row (`Outbox::record`), sent by a router over a line to a broker (`Router::tick`), taken in by
 a consumer that fetches 100 records at once (`Consumer::tick`), and swept (`Outbox::sweep`): once with no row that waits, and once with half
@@ -18,12 +19,14 @@ DELETE.
 Microseconds are by the clock, of one run at N, 2N and 4N. Instructions are those between two readings of the clock, by `valgrind
 --tool=callgrind`, at --instructions, twice and four times as many rows. Growth is a call's cost among twice the rows by its cost before: 1
 says that it does not grow with the rows, and a sweep's is 2 where it is linear. Bytes are by how much the most that the program had in
-memory grows from N to 4N events, for each stage.
+memory grows from N to 4N events, for each stage. --long measures the same with payloads of 100,000 bytes, at this number of rows, twice and
+four times as many.
 
 --threads measures a pipeline of four services, of this number of events each, and two consumers, which begin once all is sent; at twice and
 four times as many. Then it measures one broker under one lock, with 1 to 16 sessions that each produce a record and fetch it, by turns.
-Microseconds are the least of five runs. Under the lock is what callgrind counts in `Kept::serve`, of one session's instructions. "At its
-end" is what massif finds in memory when it has the most, by the function that allocated it.
+Microseconds are the least of five runs. Under the lock is what callgrind counts in `Kept::serve`, of one session's instructions. Bytes by
+place are what massif finds in memory when there is the most, by the function that allocated it, of the program as Rattle's own compiler
+builds it; the services have ended then, and their outboxes are gone.
 
 --write puts what is printed into bench/README.md, with the commit, the date and the machine.
 """
@@ -56,14 +59,14 @@ CALLS = ("record", "record, ids rise", "tick", "intake", "intake, ids rise", "sw
 SERVICES, CONSUMERS, SESSIONS, RUNS = 4, 2, (1, 2, 4, 8, 16), 5
 # Where a pipeline keeps an event, by the functions on the way to an allocation, the innermost first: the first that fits.
 PLACES = {
-    "plan": "threads::plan",
-    "inbox": "sqlite.*consumer_worker",
-    "outbox and spent ids": "sqlite.*ServiceWorker",
-    "log": "(Produce|Chunk).*kob_broker.*Kept::serve",
-    "journal": "Reply.*Kept::serve|Sender::tick|kob_chunks.*Kept::serve",
-    "notes": "Kept::serve|Desk::call",
-    "calls": "DeskLine",
-    "rows read at the end": "kob_outbox::reads|kob_inbox::reads|leave",
+    "plan": "threads::(plan|service|consumer)",
+    "inbox": "sqlite.*Consuming::run",
+    "outbox and spent ids": "sqlite.*Posting::run",
+    "rows read at the end": "(Posting|Consuming)::close",
+    "log": "prepare_effect.*Sender::deliver",
+    "notes": "prepare_effect.*Desk::call|^(?!.*Kept::serve).*Desk::call",
+    "calls of the lines": "^(?!.*Desk::call).*DeskLine",
+    "journal": "Kept::serve|Sender::deliver",
 }
 
 
@@ -207,7 +210,7 @@ def places(program, n, size):
     """Prints how many bytes of an event each place has when a pipeline has the most in memory."""
     with tempfile.TemporaryDirectory() as folder:
         words = ["valgrind", "--tool=massif", "--depth=40", "--threshold=0", "--peak-inaccuracy=0", f"--massif-out-file={folder}/out"]
-        work = words_of(program, ("pipeline", size, SERVICES, CONSUMERS, n))
+        work = words_of(f"{program}.by-rattle", ("pipeline", size, SERVICES, CONSUMERS, n))
         subprocess.run([*words, *work], check=True, stdout=subprocess.DEVNULL, stderr=subprocess.DEVNULL)
         text = (pathlib.Path(folder) / "out").read_text()
     found = dict.fromkeys([*PLACES, "other"], 0)
@@ -261,14 +264,19 @@ def main():
     parser.add_argument("n", nargs="?", type=int, default=16_000)
     parser.add_argument("--bytes", type=int, default=100)
     parser.add_argument("--instructions", type=int, default=2_000)
+    parser.add_argument("--long", type=int, default=250)
     parser.add_argument("--threads", type=int, default=1_000)
     parser.add_argument("--write", action="store_true")
     given = parser.parse_args()
     said = Both()
     with tempfile.TemporaryDirectory() as folder, contextlib.redirect_stdout(said):
-        print(f"Payloads of {given.bytes:,} bytes.\n")
-        if given.n or given.instructions:
-            calls([it for it in (ours(folder, "event"), peer(folder)) if it], given.n, given.instructions, given.bytes)
+        print(f"Payloads of {given.bytes:,} bytes:\n")
+        if given.n or given.instructions or given.long:
+            programs = [it for it in (ours(folder, "event"), peer(folder)) if it]
+            calls(programs, given.n, given.instructions, given.bytes)
+            if given.long:
+                print("Payloads of 100,000 bytes:\n")
+                calls(programs, given.long, 0, 100_000)
         if given.threads:
             program = ours(folder, "threads")
             pipelines(program, given.threads, given.bytes)

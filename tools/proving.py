@@ -46,14 +46,16 @@ def command(crate, kept, functions=()):
 
 
 def program(folder, crate, named):
-    """Proves a program that stands in a folder of its own over the libraries that it names, builds it by LLVM, and gives its file."""
-    told = words(crate, "src/main.rt", named)
-    for_target = ["--toolchain", f"{kit()}/toolchain"]
-    checked = ["rattle", "check", *told, "--logic-built", f"{kit()}/logic_built", "-o", "checked"]
-    built_by = ["rattle", "build", *told, "--crate-checked", "checked", *for_target, "--backend", "llvm", "-o", f"{crate}.o"]
-    linked = ["rattle-link", "--target", "x86_64-unknown-linux-gnu", *for_target, "-o", crate, f"{crate}.o"]
-    linked += [f"{kit()}/c/{it}.a" for it in ("libos_c", "liblibc_c")]
-    for step in (checked, built_by, linked):
+    """Proves a program that stands in a folder of its own over the libraries that it names, and gives its file as LLVM builds it. Beside
+    it, with the ending .by-rattle, is what Rattle's own compiler makes of it: there each function can be told from its frames."""
+    told, for_target = words(crate, "src/main.rt", named), ["--toolchain", f"{kit()}/toolchain"]
+    steps = [["rattle", "check", *told, "--logic-built", f"{kit()}/logic_built", "-o", "checked"]]
+    for backend, ending in (("llvm", ""), ("rattle", ".by-rattle")):
+        made = f"{crate}{ending}.o"
+        steps += [["rattle", "build", *told, "--crate-checked", "checked", *for_target, "--backend", backend, "-o", made]]
+        linked = ["rattle-link", "--target", "x86_64-unknown-linux-gnu", *for_target, "-o", crate + ending, made]
+        steps += [[*linked, *(f"{kit()}/c/{it}.a" for it in ("libos_c", "liblibc_c"))]]
+    for step in steps:
         ran = subprocess.run([kit() / "bin" / step[0], *step[1:]], cwd=folder, capture_output=True, text=True, check=False)
         if ran.returncode:
             raise SystemExit(f"{crate} was not built: {' '.join(map(str, step[:2]))} says {(ran.stdout + ran.stderr)[-2000:]}")
