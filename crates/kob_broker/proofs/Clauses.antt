@@ -1,6 +1,7 @@
 -- Which clause a denial is for.
 use Rattle.std.proofs.Common.{◌≡◌, ℕ, ◌+◌, List, [], ◌∷◌, Some, None, Bool, true, false, refl, ap, arith, cond, inl, inr, take, suc}
-use Rattle.std.specs.Prelude.{slice_get, map, ◌||◌, ◌⊎◌}
+use Rattle.std.proofs.lemmas.Bool.{or_cases, or_parts}
+use Rattle.std.specs.Prelude.{slice_get, map}
 use Rattle.kob_authorizer.specs.Contents.{Contents, IsRising}
 use Rattle.kob_authorizer.proofs.Verdicts.{true_verdict}
 use Rattle.kob_rights.specs.Check.{Check}
@@ -8,14 +9,6 @@ use Rattle.kob_rights.specs.declared.event.Event.{Event}
 use Rattle.kob_names.specs.Granted.{is_granted}
 use Rattle.kob_broker.specs.Denial.{question, verdict, is_met, first_unmet}
 use Rattle.kob_broker.specs.Justice.{SomeGranted, EachGranted, IsBlame, EachBlamed}
-
-or_false : (b c : Bool) → (b || c) ≡ false → (b ≡ false) × (c ≡ false)
-or_false true c h = cc
-or_false false c h = (refl, h)
-
-or_true : (b c : Bool) → (b || c) ≡ true → (b ≡ true) ⊎ (c ≡ true)
-or_true true c h = inl refl
-or_true false c h = inr h
 
 -- the bindings in force have rising serials
 abbrev pub IsNumbered : Contents → Type 0
@@ -29,33 +22,20 @@ blames access event check numbered ungranted = record {
   says = true_verdict access (question event check) numbered;
 }
 
-blamed_step : (access : Contents) (event : Event) (check : Check) (checks : List Check) → IsNumbered access
-    → (is_granted (verdict access event check) || is_met access event checks) ≡ false
-    → (is_met access event checks ≡ false → EachBlamed access event checks (map (verdict access event) checks))
-    → EachBlamed access event (check ∷ checks) (map (verdict access event) (check ∷ checks))
-blamed_step access event check checks numbered h more =
-    let both = or_false (is_granted (verdict access event check)) (is_met access event checks) h in
-    (blames access event check numbered both.0, more both.1)
-
 -- a clause that isn't met has a reason for each alternative
 pub each_blamed : (access : Contents) (event : Event) (clause : List Check) → IsNumbered access
     → is_met access event clause ≡ false → EachBlamed access event clause (map (verdict access event) clause)
 each_blamed access event [] numbered h = tt
 each_blamed access event (check ∷ checks) numbered h =
-    blamed_step access event check checks numbered h (each_blamed access event checks numbered)
-
-granted_step : (access : Contents) (event : Event) (check : Check) (checks : List Check)
-    → (is_granted (verdict access event check) || is_met access event checks) ≡ true
-    → (is_met access event checks ≡ true → SomeGranted access event checks) → SomeGranted access event (check ∷ checks)
-granted_step access event check checks h more =
-    elim (or_true (is_granted (verdict access event check))
-    (is_met access event checks) h) [ inl this ↦ inl this | inr rest ↦ inr (more rest) ]
+    let both = or_parts (is_granted (verdict access event check)) (is_met access event checks) h in
+    (blames access event check numbered both.0, each_blamed access event checks numbered both.1)
 
 some_granted : (access : Contents) (event : Event) (clause : List Check) → is_met access event clause ≡ true
     → SomeGranted access event clause
 some_granted access event [] h = cc
 some_granted access event (check ∷ checks) h =
-    granted_step access event check checks h (some_granted access event checks)
+    elim (or_cases (is_granted (verdict access event check)) (is_met access event checks) h)
+    [ inl this ↦ inl this | inr rest ↦ inr (some_granted access event checks rest) ]
 
 -- what the search for a clause that isn't met finds
 pub record Found (access : Contents) (event : Event) (clauses : List (List Check)) (n found : ℕ)
@@ -66,30 +46,6 @@ pub record Found (access : Contents) (event : Event) (clauses : List (List Check
   pub before : EachGranted access event (take place clauses)
   pub not_met : is_met access event clause ≡ false
 
-found_here : (access : Contents) (event : Event) (clause : List Check) (clauses : List (List Check)) (n found : ℕ)
-    (blamed : List Check)
-    → is_met access event clause ≡ false → n ≡ found → clause ≡ blamed
-    → Found access event (clause ∷ clauses) n found blamed
-found_here access event clause clauses n found blamed not_met at is = record {
-  place = 0;
-  found_is = omega arith;
-  clause_is = ap Some is;
-  before = tt;
-  not_met = rw (← is) not_met;
-}
-
-found_later : (access : Contents) (event : Event) (clause : List Check) (clauses : List (List Check)) (n found : ℕ)
-    (blamed : List Check)
-    → is_met access event clause ≡ true → Found access event clauses (n + 1) found blamed
-    → Found access event (clause ∷ clauses) n found blamed
-found_later access event clause clauses n found blamed met f = record {
-  place = suc f.place;
-  found_is = let e = f.found_is in omega arith;
-  clause_is = f.clause_is;
-  before = (some_granted access event clause met, f.before);
-  not_met = f.not_met;
-}
-
 unmet_step : (access : Contents) (event : Event) (clause : List Check) (clauses : List (List Check)) (n found : ℕ)
     (blamed : List Check) (met : Bool)
     → is_met access event clause ≡ met → cond met (first_unmet access event (n + 1) clauses) (Some (n, clause))
@@ -98,11 +54,23 @@ unmet_step : (access : Contents) (event : Event) (clause : List Check) (clauses 
     → Found access event clauses (n + 1) found blamed)
     → Found access event (clause ∷ clauses) n found blamed
 unmet_step access event clause clauses n found blamed true is h more =
-    found_later access event clause clauses n found blamed is (more h)
+    let f = more h in record {
+      place = suc f.place;
+      found_is = let e = f.found_is in omega arith;
+      clause_is = f.clause_is;
+      before = (some_granted access event clause is, f.before);
+      not_met = f.not_met;
+    }
 unmet_step access event clause clauses n found blamed false is h more =
     let pair : ◌≡◌ {A = ℕ × List Check} (n, clause) (found, blamed) = cc in
-    found_here access event clause clauses n found blamed is (ap (λ (x : ℕ × List Check). x.0) pair)
-    (ap (λ (x : ℕ × List Check). x.1) pair)
+    let at = ap (λ (x : ℕ × List Check). x.0) pair in
+    let same = ap (λ (x : ℕ × List Check). x.1) pair in record {
+      place = 0;
+      found_is = omega arith;
+      clause_is = ap Some same;
+      before = tt;
+      not_met = rw (← same) is;
+    }
 
 pub unmet_found : (access : Contents) (event : Event) (clauses : List (List Check)) (n found : ℕ) (blamed : List Check)
     → first_unmet access event n clauses ≡ Some (found, blamed) → Found access event clauses n found blamed

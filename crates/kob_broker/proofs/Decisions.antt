@@ -11,13 +11,13 @@ use Rattle.kob_rights.specs.declared.reply.Reply.TheVariants.{Refused}
 use Rattle.kob_rights.specs.declared.request.Request.{Request}
 use Rattle.kob_rights.specs.declared.request.Request.TheVariants as requests
 use Rattle.kob_broker.specs.declared.broker.Broker.{Broker}
-use Rattle.kob_broker.specs.declared.placed.Placed.{Placed}
+use Rattle.kob_broker.specs.declared.fate.Fate.{Fate}
 use Rattle.kob_broker.specs.declared.prepared.Change.TheVariants.{Unchanged}
 use Rattle.kob_broker.specs.declared.prepared.Prepared.{Prepared}
 use Rattle.kob_broker.specs.Change.{Makes, MakesFor, state_after_change, state_of}
 use Rattle.kob_broker.specs.Effect.{effect, effect_by, named, refusal}
+use Rattle.kob_broker.specs.Fate.{prepared_for}
 use Rattle.kob_broker.specs.Metadata.{metadata_request}
-use Rattle.kob_broker.specs.Placed.{prepared_for}
 
 -- a refusal for the first reason that holds
 pub refused_makes : (broker : Broker) (request : Request) (prepared : Prepared) (reason : Reason)
@@ -34,22 +34,14 @@ refused_makes broker request prepared reason why reply change event = record {
   ready = rw change tt;
 }
 
--- what is prepared for an equal request
-pub placed_makes : (broker : Broker) (produce own : Produce) (placed : Placed) (prepared : Prepared)
-    → own ≡ produce → prepared ≡ prepared_for own placed
-    → MakesFor (requests.Produce produce) broker (prepared_for produce placed)
-    → MakesFor (requests.Produce produce) broker prepared
-placed_makes broker produce own placed prepared same is makes =
-    subst (MakesFor (requests.Produce produce) broker)
-    (sym (is ∙ ap (λ (p : Produce). prepared_for p placed) same)) makes
-
-pub placed_makes_ok : {E : Type 0} (broker : Broker) (produce : Produce) (placed : Placed) (result : Result Prepared E)
-    → IfOk result (λ prepared. prepared ≡ prepared_for produce placed)
-    → MakesFor (requests.Produce produce) broker (prepared_for produce placed)
+-- what is prepared for the fate of a batch
+pub prepared_makes : {E : Type 0} (broker : Broker) (produce : Produce) (fate : Fate) (result : Result Prepared E)
+    → IfOk result (λ prepared. prepared ≡ prepared_for produce fate)
+    → MakesFor (requests.Produce produce) broker (prepared_for produce fate)
     → IfOk result (MakesFor (requests.Produce produce) broker)
-placed_makes_ok broker produce placed (Ok prepared) is makes =
+prepared_makes broker produce fate (Ok prepared) is makes =
     subst (MakesFor (requests.Produce produce) broker) (sym is) makes
-placed_makes_ok broker produce placed (Err fault) is makes = tt
+prepared_makes broker produce fate (Err error) is makes = tt
 
 -- what makes the effect of a request for whoever asks makes it for the event that has it
 pub made_for : (broker : Broker) (request : Request) (event : Event) (prepared : Prepared) → event.request ≡ request

@@ -1,5 +1,5 @@
 -- A denial is the same wherever the bindings in force and the super users are.
-use Rattle.std.proofs.Common.{◌≡◌, ℕ, ◌+◌, Bool, List, [], ◌∷◌, Option, Some, None, if◌then◌else◌, option_map, refl, ap, sym, ◌∙◌}
+use Rattle.std.proofs.Common.{◌≡◌, ℕ, ◌+◌, Bool, List, [], ◌∷◌, Option, Some, if◌then◌else◌, option_map, refl, ap, sym, ◌∙◌}
 use Rattle.kob_authorizer.specs.Contents.{Contents}
 use Rattle.kob_names.specs.Binding.{Binding}
 use Rattle.kob_names.specs.declared.verdict.Verdict.{Verdict}
@@ -8,21 +8,13 @@ use Rattle.kob_rights.specs.Check.{Check}
 use Rattle.kob_rights.specs.Table.{rights}
 use Rattle.kob_rights.specs.declared.code.Code.{Code}
 use Rattle.kob_rights.specs.declared.event.Event.{Event}
-use Rattle.kob_rights.specs.declared.reason.Reason.{Reason}
 use Rattle.kob_rights.specs.declared.reply.Reply.{Reply}
 use Rattle.kob_rights.specs.declared.reply.Reply.TheVariants.{Denied}
 use Rattle.kob_broker.specs.Denial.{denial_naming, denial_of, first_unmet, is_met}
-use Rattle.kob_broker.specs.Effect.{effect_by, named, refusal}
 use Rattle.kob_broker.specs.Justice.{AgreeOnAccess, SameDenial}
 use Rattle.kob_broker.specs.State.{State}
 use Rattle.kob_broker.specs.Step.{step, step_by}
-
-module _ {P : Type 0} (m : Meaning P) where
-  -- what is done or refused is no denial
-  never_denied : (against : Option Reason) (s : State P) (event : Event) (code : Code) (verdicts : List Verdict)
-      → (effect_by m against s (named s event.request) event event.request).reply ≡ Denied code verdicts → ⊥
-  never_denied (Some why) s event code verdicts is = cc
-  never_denied None s event code verdicts is = cc
+use Rattle.kob_broker.proofs.Steps.{step_fits}
 
 -- no decision reads the serial that comes next
 unmet_alike : (access : Contents) (next : ℕ) (event : Event) (n : ℕ) (clauses : List (List Check))
@@ -49,20 +41,17 @@ agree_back : (one other : Contents) → AgreeOnAccess one other → AgreeOnAcces
 agree_back one other k = record { entries = sym k.entries; supers = sym k.supers; everyone = sym k.everyone }
 
 module _ {P Q : Type 0} (m : Meaning P) (n : Meaning Q) where
-  by_alike : (denial : Option Reply) (s : State P) (t : State Q) (event : Event) (code : Code) (verdicts : List Verdict)
-      → (step_by m denial s event).reply ≡ Denied code verdicts
-      → (step_by n denial t event).reply ≡ Denied code verdicts
-  by_alike (Some reply) s t event code verdicts is = is
-  by_alike None s t event code verdicts is =
-      absurd (never_denied m (refusal m s event.request) s event code verdicts is)
-
+  -- what is done or refused is no denial
   denied_alike : (s : State P) (t : State Q) (event : Event) → AgreeOnAccess s.access t.access
       → (code : Code) (verdicts : List Verdict)
       → (step m s event).reply ≡ Denied code verdicts → (step n t event).reply ≡ Denied code verdicts
-  denied_alike s t event same code verdicts is =
+  denied_alike s t event same code verdicts =
+      step_fits m s event (λ o. o.reply ≡ Denied code verdicts → (step n t event).reply ≡ Denied code verdicts)
+      (λ blamed is told.
       ap (λ (denial : Option Reply). (step_by n denial t event).reply)
-      (sym (denial_alike s.access t.access event same))
-      ∙ by_alike (denial_of s.access event) s t event code verdicts is
+      (sym (denial_alike s.access t.access event same) ∙ ap (option_map (denial_naming s.access event)) is)
+      ∙ told)
+      (λ reason granted is told. cc) (λ granted is told. cc)
 
 module _ {P Q : Type 0} (m : Meaning P) (n : Meaning Q) where
   pub same_denial : (s : State P) (t : State Q) (event : Event) → AgreeOnAccess s.access t.access

@@ -1,13 +1,13 @@
 -- The first reason among lists of reasons.
 use Rattle.std.proofs.Common.{◌≡◌, List, [], ◌∷◌, ◌++◌, Some, None, Bool, true, false, refl, arith}
-use Rattle.std.proofs.Common.{◌<◌, ◌∙◌, ℕ, ap, drop, drop-cons, get_or, length, suc, sym}
+use Rattle.std.proofs.Common.{◌<◌, ◌∙◌, ℕ, ap, drop, drop-cons, get_or, length, suc, sym, zero}
 use Rattle.std.specs.List.{flat_map}
 use Rattle.std.proofs.lemmas.Bool.Decides.{nat_tests}
 use Rattle.kob_rights.specs.declared.reason.Reason.{Reason}
 use Rattle.kob_names.specs.declared.draft.Draft.{Draft}
 use Rattle.kob_broker.specs.CreateAcls.{IsUnlessRefused, draft_reasons}
-use Rattle.kob_broker.specs.declared.create_acls.DraftFault.{DraftFault}
-use Rattle.kob_broker.specs.declared.create_acls.DraftFault.TheVariants.{Refused, Memory}
+use Rattle.kob_broker.specs.declared.on_acls.DraftFault.{DraftFault}
+use Rattle.kob_broker.specs.declared.on_acls.DraftFault.TheVariants.{Refused, Memory}
 use Rattle.kob_broker.specs.Reasons.{first_reason}
 
 pub first_some : (xs ys : List (Bool × Reason)) (reason : Reason) → first_reason xs ≡ Some reason
@@ -46,3 +46,14 @@ pub none_here : (holds : Bool) (reason : Reason) (rest : List (Bool × Reason))
     → first_reason ((holds, reason) ∷ rest) ≡ None → holds ≡ false
 none_here true reason rest none = cc
 none_here false reason rest none = refl
+
+-- the test at a place of the list
+abbrev pub test_at : ℕ → List (Bool × Reason) → Bool
+test_at n [] = false
+test_at zero (x ∷ xs) = x.0
+test_at (suc n) (x ∷ xs) = test_at n xs
+
+pub test_fails : (n : ℕ) (xs : List (Bool × Reason)) → first_reason xs ≡ None → test_at n xs ≡ false
+test_fails n [] none = refl
+test_fails zero (x ∷ xs) none = none_here x.0 x.1 xs none
+test_fails (suc n) (x ∷ xs) none = test_fails n xs (none_later x.0 x.1 xs none)

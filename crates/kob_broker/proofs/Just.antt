@@ -1,7 +1,6 @@
 -- Why each reply is just.
-use Rattle.std.proofs.Common.{◌≡◌, ℕ, List, [], ◌∷◌, Some, None, refl, ap, ◌∙◌, subst, arith, zero, suc, take}
+use Rattle.std.proofs.Common.{◌≡◌, ℕ, List, [], ◌∷◌, Some, refl, ap, ◌∙◌, subst, arith, zero, suc, take}
 use Rattle.std.specs.Prelude.{Option, map}
-use Rattle.std.specs.Option.{option_map}
 use Rattle.kob_authorizer.specs.Contents.{Contents}
 use Rattle.kob_authorizer.proofs.InTurn.{added_rises}
 use Rattle.kob_authorizer.proofs.Rising.{removed_rises}
@@ -10,18 +9,18 @@ use Rattle.kob_rights.specs.Writes as writes
 use Rattle.kob_rights.specs.Table.{rights, denial_code}
 use Rattle.kob_rights.specs.Check.{Check}
 use Rattle.kob_rights.specs.declared.event.Event.{Event}
-use Rattle.kob_rights.specs.declared.reason.Reason.{Reason}
 use Rattle.kob_rights.specs.declared.reply.Reply.{Reply}
 use Rattle.kob_rights.specs.declared.reply.Reply.TheVariants.{Denied, Refused, Done}
 use Rattle.kob_rights.specs.declared.request.Request.{Request}
-use Rattle.kob_broker.specs.Denial.{verdict, first_unmet, denial_naming}
-use Rattle.kob_broker.specs.Effect.{after_write, effect_by, named, refusal}
+use Rattle.kob_broker.specs.Denial.{verdict}
+use Rattle.kob_broker.specs.Effect.{after_write, named}
 use Rattle.kob_broker.specs.InForce.{HoldsInForce, access_after, changed_access, in_force}
-use Rattle.kob_broker.specs.Justice.{EachGranted, EachJust, IsDenial, IsJust}
+use Rattle.kob_broker.specs.Justice.{EachJust, IsDenial, IsJust}
 use Rattle.kob_partition.specs.Meaning.{Meaning}
 use Rattle.kob_broker.specs.State.{State}
-use Rattle.kob_broker.specs.Step.{replies_of, step, step_by}
+use Rattle.kob_broker.specs.Step.{replies_of, step}
 use Rattle.kob_broker.proofs.Clauses.{Found, IsNumbered, each_blamed, unmet_found, unmet_none}
+use Rattle.kob_broker.proofs.Steps.{step_fits}
 
 found_denial : (access : Contents) (event : Event) (found : ℕ) (clause : List Check) → IsNumbered access
     → Found access event (rights event.request) 0 found clause
@@ -56,24 +55,14 @@ just_at access e event r reply this that just =
     subst (λ (x : Event). IsJust access x reply) this (subst (λ (x : Reply). IsJust access e x) that just)
 
 module _ {P : Type 0} (m : Meaning P) where
-  effect_just : (s : State P) (event : Event) (against : Option Reason)
-      → EachGranted s.access event (rights event.request)
-      → IsJust s.access event (effect_by m against s (named s event.request) event event.request).reply
-  effect_just s event (Some reason) granted = granted
-  effect_just s event None granted = granted
-
-  just_by : (s : State P) (event : Event) (found : Option (ℕ × List Check))
-      → first_unmet s.access event 0 (rights event.request) ≡ found → IsNumbered s.access
-      → IsJust s.access event (step_by m (option_map (denial_naming s.access event) found) s event).reply
-  just_by s event None is numbered =
-      effect_just s event (refusal m s event.request) (unmet_none s.access event (rights event.request) 0 is)
-  just_by s event (Some (place, clause)) is numbered =
-      found_denial s.access event place clause numbered
-      (unmet_found s.access event (rights event.request) 0 place clause is)
-
   -- the reply to one event is just
   step_just : (s : State P) (event : Event) → IsNumbered s.access → IsJust s.access event (step m s event).reply
-  step_just s event numbered = just_by s event (first_unmet s.access event 0 (rights event.request)) refl numbered
+  step_just s event numbered =
+      step_fits m s event (λ o. IsJust s.access event o.reply)
+      (λ blamed is. found_denial s.access event blamed.0 blamed.1 numbered
+      (unmet_found s.access event (rights event.request) 0 blamed.0 blamed.1 is))
+      (λ reason granted is. unmet_none s.access event (rights event.request) 0 granted)
+      (λ granted is. unmet_none s.access event (rights event.request) 0 granted)
 
   -- the bindings after one event are those that its reply says
   after_access : (s : State P) (found : Option P) (write : Option Write)
@@ -82,21 +71,11 @@ module _ {P : Type 0} (m : Meaning P) where
   after_access s found (Some (writes.RemoveBindings delete)) = refl
   after_access s found _ = refl
 
-  effect_access : (s : State P) (event : Event) (against : Option Reason) →
-      let outcome = effect_by m against s (named s event.request) event event.request in
-      outcome.state.access ≡ access_after outcome.reply event.request s.access
-  effect_access s event (Some reason) = refl
-  effect_access s event None = after_access s (named s event.request) (write_of event.request)
-
-  access_by : (s : State P) (event : Event) (found : Option (ℕ × List Check)) →
-      let outcome = step_by m (option_map (denial_naming s.access event) found) s event in
-      outcome.state.access ≡ access_after outcome.reply event.request s.access
-  access_by s event None = effect_access s event (refusal m s event.request)
-  access_by s event (Some blamed) = refl
-
   pub step_access : (s : State P) (event : Event)
       → (step m s event).state.access ≡ access_after (step m s event).reply event.request s.access
-  step_access s event = access_by s event (first_unmet s.access event 0 (rights event.request))
+  step_access s event =
+      step_fits m s event (λ o. o.state.access ≡ access_after o.reply event.request s.access) (λ blamed is. refl)
+      (λ reason granted is. refl) (λ granted is. after_access s (named s event.request) (write_of event.request))
 
   step_numbered : (s : State P) (event : Event) → IsNumbered s.access → IsNumbered (step m s event).state.access
   step_numbered s event numbered =

@@ -1,12 +1,11 @@
 pub mod Runs
+pub mod Steps
 pub mod FirstReasons
 pub mod Decisions
-pub mod Placing
-pub mod Drafts
+pub mod Fates
 pub mod Clauses
 pub mod Just
 pub mod Lifting
-pub mod Alike
 pub mod Unchanged
 pub mod Denials
 pub mod Shown

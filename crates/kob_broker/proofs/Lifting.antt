@@ -36,7 +36,7 @@ use Rattle.kob_rights.specs.declared.request.Request.{Request}
 use Rattle.kob_rights.specs.declared.request.Request.TheVariants.{Produce, Fetch, ListOffsets, Metadata, OffsetCommit, CreateTopics, DeleteTopics, DeleteRecords}
 use Rattle.kob_broker.specs.DeleteRecords.{offset_before, start_after, with_start}
 use Rattle.kob_broker.specs.Denial.{denial_of}
-use Rattle.kob_broker.specs.Effect.{Outcome, named, partition_in, reasons_against, body, after, after_write, refusal, effect_by, effect}
+use Rattle.kob_broker.specs.Effect.{Outcome, named, partition_in, reasons_against, body, after_write, refusal, effect_by, effect}
 use Rattle.kob_broker.specs.Fetch.{fetched_at, is_out_of_range}
 use Rattle.kob_broker.specs.ListOffsets.{offset_at}
 use Rattle.kob_broker.specs.Metadata.{metadata_of, metadata_reasons, topic_found}
@@ -207,33 +207,22 @@ module _ {P Q : Type 0} (m : Meaning P) (n : Meaning Q) (f : P → Q) (c : Carri
 
   write_alike : (s : State P) (found : Option P) (write : Option Write)
       → after_write n (state_map f s) (option_map f found) write ≡ state_map f (after_write m s found write)
-  write_alike s found (Some (writes.Append produce)) = λ i. record {
-    topics = with_batch_alike found produce s.topics i;
-    groups = s.groups;
-    access = s.access;
-    next_producer = s.next_producer;
-  }
+  write_alike s found (Some (writes.Append produce)) =
+      ap (λ (topics : List (Topic Q)). record (state_map f s) { topics = topics })
+      (with_batch_alike found produce s.topics)
   write_alike s found (Some (writes.AddTopic create)) =
-      let added = ap (λ t. topics_map f s.topics ++ t ∷ []) (new_topic_alike create.name create.partitions)
-      ∙ sym (map-append (topic_map f) s.topics (new_topic m create.name create.partitions ∷ [])) in
-      λ i. record { topics = added i; groups = s.groups; access = s.access; next_producer = s.next_producer }
-  write_alike s found (Some (writes.RemoveTopic delete)) = λ i. record {
-    topics = sym (without_topic_mapped f delete.name s.topics) i;
-    groups = groups.without_topic delete.name s.groups;
-    access = s.access;
-    next_producer = s.next_producer;
-  }
-  write_alike s found (Some (writes.AdvanceStart delete)) = λ i. record {
-    topics = with_start_alike found delete s.topics i;
-    groups = s.groups;
-    access = s.access;
-    next_producer = s.next_producer;
-  }
+      ap (λ (topics : List (Topic Q)). record (state_map f s) { topics = topics })
+      (ap (λ t. topics_map f s.topics ++ t ∷ []) (new_topic_alike create.name create.partitions)
+      ∙ sym (map-append (topic_map f) s.topics (new_topic m create.name create.partitions ∷ [])))
+  write_alike s found (Some (writes.RemoveTopic delete)) =
+      ap (λ (topics : List (Topic Q)). record (state_map f s) {
+        topics = topics;
+        groups = groups.without_topic delete.name s.groups;
+      }) (sym (without_topic_mapped f delete.name s.topics))
+  write_alike s found (Some (writes.AdvanceStart delete)) =
+      ap (λ (topics : List (Topic Q)). record (state_map f s) { topics = topics })
+      (with_start_alike found delete s.topics)
   write_alike s found _ = refl
-
-  after_alike : (s : State P) (found : Option P) (request : Request)
-      → after n (state_map f s) (option_map f found) request ≡ state_map f (after m s found request)
-  after_alike s found request = write_alike s found (write_of request)
 
   effect_by_alike : (against : Option Reason) (s : State P) (found : Option P) (event : Event) (request : Request)
       → effect_by n against (state_map f s) (option_map f found) event request
@@ -241,7 +230,7 @@ module _ {P Q : Type 0} (m : Meaning P) (n : Meaning Q) (f : P → Q) (c : Carri
   effect_by_alike (Some reason) s found event request = refl
   effect_by_alike None s found event request = λ i. record {
     reply = Done (body_alike s found event request i);
-    state = after_alike s found request i;
+    state = write_alike s found (write_of request) i;
   }
 
   effect_alike : (s : State P) (event : Event) (request : Request)

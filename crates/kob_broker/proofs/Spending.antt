@@ -1,15 +1,15 @@
 -- A limit of 63 or 64 bits is spent only where as many offsets, producer ids or serials were asked for.
-use Rattle.std.proofs.Common.{◌≡◌, ℕ, ◌+◌, ◌≤◌, Bool, true, false, cond, ◌&&◌, ◌||◌, nat_lt, List, [], ◌∷◌, ◌++◌, Option, Some, None, IfSome, All, length, refl, sym, ap, subst, ◌∙◌, arith, length-append, le-ltb}
+use Rattle.std.proofs.Common.{◌≡◌, ℕ, ◌+◌, ◌≤◌, Bool, true, false, cond, ◌&&◌, ◌||◌, nat_lt, List, [], ◌∷◌, ◌++◌, Option, Some, None, IfSome, All, length, refl, sym, ap, ◌∙◌, arith, length-append, le-ltb}
 use Rattle.std.specs.List.{flat_map, fold}
-use Rattle.std.specs.Option.{option_map}
+use Rattle.std.proofs.lemmas.Bool.{or_parts}
 use Rattle.std.proofs.lemmas.Bool.Decides.{nat_tests}
-use Rattle.std.proofs.lemmas.List.Elements.{All-cons, All-nil, All-push, All-replicate, All-weaker}
+use Rattle.std.proofs.lemmas.List.Elements.{All-nil, All-weaker}
 use Rattle.kob_authorizer.specs.Creation.{Added, add_one, addition, with_binding, serial_of}
 use Rattle.kob_authorizer.specs.Passing.{create_fault}
 use Rattle.kob_authorizer.specs.Limits.{binding_limit, serial_limit}
 use Rattle.kob_authorizer.specs.declared.fault.CreateFault.TheVariants.{TooMany, SerialsSpent}
-use Rattle.kob_catalog.specs.Topics.{Topic, place_of, with_partition}
 use Rattle.kob_names.specs.Binding.{Binding}
+use Rattle.kob_names.specs.declared.batch.Batch.{Batch}
 use Rattle.kob_names.specs.declared.settings.Settings.{Settings}
 use Rattle.kob_names.specs.declared.draft.Draft.{Draft}
 use Rattle.kob_partition.proofs.Keeping.{records_of_push}
@@ -19,76 +19,66 @@ use Rattle.kob_partition.specs.Retained.{plain_meaning}
 use Rattle.kob_partition.specs.Limits.{offset_limit}
 use Rattle.kob_producers.specs.declared.judge.Judgement.{Judgement}
 use Rattle.kob_producers.specs.declared.judge.Judgement.TheVariants.{Next, Repeat, OutOfOrder, OldEpoch}
-use Rattle.kob_rights.specs.Table.{rights}
 use Rattle.kob_rights.specs.Writes.{Write, write_of}
 use Rattle.kob_rights.specs.Writes as writes
-use Rattle.kob_rights.specs.Check.{Check}
 use Rattle.kob_rights.specs.declared.event.Event.{Event}
-use Rattle.kob_rights.specs.declared.on_partitions.DeleteRecords.{DeleteRecords as DeleteAsked}
 use Rattle.kob_rights.specs.declared.on_partitions.Produce.{Produce as ProduceAsked}
 use Rattle.kob_rights.specs.declared.reason.Reason.{Reason}
 use Rattle.kob_rights.specs.declared.request.Request.{Request}
 use Rattle.kob_rights.specs.declared.request.Request.TheVariants.{Produce, Metadata, InitProducerId, CreateAcls}
 use Rattle.kob_broker.specs.CreateAcls.{draft_reasons, limit_reasons}
-use Rattle.kob_broker.specs.DeleteRecords.{offset_before, with_start}
-use Rattle.kob_broker.specs.Denial.{denial_naming, first_unmet}
-use Rattle.kob_broker.specs.Effect.{Outcome, after_write, effect_by, named, reasons_against, refusal}
+use Rattle.kob_broker.specs.Effect.{after_write, named, reasons_against}
 use Rattle.kob_broker.specs.Named.{end_at}
-use Rattle.kob_broker.specs.Produce.{is_next, judged_at, with_batch}
+use Rattle.kob_broker.specs.Produce.{is_next, judged_at}
 use Rattle.kob_broker.specs.Reasons.{first_reason}
 use Rattle.kob_broker.specs.Spending.{SaysNothingSpent, asked_by, asked_in, asked_of, is_spent}
 use Rattle.kob_broker.specs.State.{State, open_state}
-use Rattle.kob_broker.specs.Step.{replies_of, step, step_by}
-use Rattle.kob_broker.proofs.EachPartition.{EachOf, of_request, once_removed, once_written}
+use Rattle.kob_broker.specs.Step.{replies_of, step}
+use Rattle.kob_broker.proofs.EachPartition.{EachOf, each_after, of_request, written}
+use Rattle.kob_broker.proofs.Steps.{replies_keep, step_fits}
 
 -- one of the reasons that hold is that a limit is spent
 abbrev spends : List (Bool × Reason) → Bool
 spends [] = false
 spends (against ∷ rest) = (is_spent against.1 && against.0) || spends rest
 
-abbrev IsUnspent : Reason → Type 0
-IsUnspent reason = is_spent reason ≡ false
-
-unspent_rest : (here rest : Bool) → (here || rest) ≡ false → rest ≡ false
-unspent_rest true rest none = cc
-unspent_rest false rest none = none
-
-unspent_here : (spent rest : Bool) → ((spent && true) || rest) ≡ false → spent ≡ false
-unspent_here true rest none = cc
-unspent_here false rest none = refl
-
-unspent_by : (holds : Bool) (reason : Reason) (rest : List (Bool × Reason)) → spends ((holds, reason) ∷ rest) ≡ false
-    → IfSome (first_reason rest) IsUnspent → IfSome (first_reason ((holds, reason) ∷ rest)) IsUnspent
-unspent_by true reason rest none later = unspent_here (is_spent reason) (spends rest) none
-unspent_by false reason rest none later = later
+spent_here : (spent rest : Bool) → ((spent && true) || rest) ≡ false → spent ≡ false
+spent_here true rest none = cc
+spent_here false rest none = refl
 
 -- then the first reason that holds is another
-first_unspent : (reasons : List (Bool × Reason)) → spends reasons ≡ false → IfSome (first_reason reasons) IsUnspent
-first_unspent [] none = tt
-first_unspent (against ∷ rest) none =
-    unspent_by against.0 against.1 rest none
-    (first_unspent rest (unspent_rest (is_spent against.1 && against.0) (spends rest) none))
+first_unspent : (xs : List (Bool × Reason)) (reason : Reason) → spends xs ≡ false → first_reason xs ≡ Some reason
+    → is_spent reason ≡ false
+first_unspent [] reason none is = cc
+first_unspent ((true, x) ∷ xs) reason none is =
+    let same : x ≡ reason = cc in ap is_spent (sym same) ∙ spent_here (is_spent x) (spends xs) none
+first_unspent ((false, x) ∷ xs) reason none is =
+    first_unspent xs reason (or_parts (is_spent x && false) (spends xs) none).1 is
 
 spends_append : (xs ys : List (Bool × Reason)) → spends xs ≡ false → spends ys ≡ false → spends (xs ++ ys) ≡ false
 spends_append [] ys none later = later
 spends_append (x ∷ xs) ys none later = grind (arith, nat_tests, spends_append xs ys)
 
--- as many partitions' records, producer ids and serials were asked for
-abbrev UpTo : ℕ → Plain → Type 0
-UpTo n partition = length (records_of partition.batches) ≤ n
+-- a partition has offsets for as many records more, and so have producer ids and serials
+abbrev HasFor : ℕ → Plain → Type 0
+HasFor more partition = length (records_of partition.batches) + more ≤ offset_limit
 
-pub record AskedUpTo (n : ℕ) (s : State Plain) : Type 0 where
-  pub topics : All (EachOf (UpTo n)) s.topics
-  pub producers : s.next_producer ≤ n
-  pub serials : s.access.next ≤ n + 1
+pub record StateHasFor (more : ℕ) (s : State Plain) : Type 0 where
+  pub topics : All (EachOf (HasFor more)) s.topics
+  pub producers : s.next_producer + more ≤ offset_limit
+  pub serials : s.access.next + more ≤ offset_limit + 1
 
-grown : (n more : ℕ) (s : State Plain) → AskedUpTo n s → AskedUpTo (n + more) s
-grown n more s asked = record {
-  topics = All-weaker (EachOf (UpTo n)) (EachOf (UpTo (n + more)))
-      (λ topic. All-weaker (UpTo n) (UpTo (n + more)) (λ partition short. omega arith) topic.partitions) s.topics
-      asked.topics;
-  producers = omega (arith, asked.producers);
-  serials = omega (arith, asked.serials);
+topics_fewer : (n more : ℕ) (s : State Plain) → StateHasFor (n + more) s → All (EachOf (HasFor more)) s.topics
+topics_fewer n more s has =
+    All-weaker (EachOf (HasFor (n + more))) (EachOf (HasFor more))
+    (λ topic. All-weaker (HasFor (n + more)) (HasFor more) (λ partition short. omega arith) topic.partitions) s.topics
+    has.topics
+
+fewer : (n more : ℕ) (s : State Plain) → StateHasFor (n + more) s → StateHasFor more s
+fewer n more s has = record {
+  topics = topics_fewer n more s has;
+  producers = omega (arith, has.producers);
+  serials = omega (arith, has.serials);
 }
 
 -- the serials of bindings that are added
@@ -122,181 +112,106 @@ only_last : (test last : Bool) → last ≡ false → ((test && last) || false) 
 only_last true last none = grind (arith, nat_tests)
 only_last false last none = refl
 
-produce_spends : (found : Option Plain) (produce : ProduceAsked) (n : ℕ) → IfSome found (UpTo n)
-    → n + length produce.batch.records ≤ offset_limit
+produce_spends : (found : Option Plain) (produce : ProduceAsked) (more : ℕ)
+    → IfSome found (HasFor (length produce.batch.records + more)) → length produce.batch.records ≤ offset_limit
     → nat_lt offset_limit (end_at plain_meaning found + length produce.batch.records) ≡ false
-produce_spends None produce n short few = le-ltb _ _ (omega (arith, few))
-produce_spends (Some partition) produce n short few = le-ltb _ _ (omega (arith, few, short))
+produce_spends None produce more has few = le-ltb _ _ (omega (arith, few))
+produce_spends (Some partition) produce more has few = le-ltb _ _ (omega (arith, has))
 
-request_spends : (n : ℕ) (s : State Plain) (found : Option Plain) (request : Request) → AskedUpTo n s
-    → IfSome found (UpTo n) → n + asked_by request ≤ offset_limit
+request_spends : (more : ℕ) (s : State Plain) (found : Option Plain) (request : Request)
+    → StateHasFor (asked_by request + more) s → IfSome found (HasFor (asked_by request + more))
     → spends (reasons_against plain_meaning s found request) ≡ false
-request_spends n s found (Produce produce) asked short few =
-    only_last (is_next (judged_at plain_meaning found produce.batch)) _ (produce_spends found produce n short few)
-request_spends n s found (CreateAcls create) asked short few =
+request_spends more s found (Produce produce) has at =
+    only_last (is_next (judged_at plain_meaning found produce.batch)) _
+    (produce_spends found produce more at (omega (arith, has.producers)))
+request_spends more s found (CreateAcls create) has at =
     let access = s.access in
     let after : Added = addition access.entries access.next create.drafts in
-    let more = added_next create.drafts (record { entries = access.entries; next = access.next; serials = [] }) in
-    let fits : after.next ≤ serial_limit = omega (arith, more, asked.serials, few) in
+    let added = added_next create.drafts (record { entries = access.entries; next = access.next; serials = [] }) in
+    let fits : after.next ≤ serial_limit = omega (arith, added, has.serials) in
     spends_append (flat_map draft_reasons create.drafts)
     (limit_reasons (create_fault access.entries access.next create.drafts)) (drafts_spend create.drafts)
     (limits_spend (nat_lt binding_limit (length after.entries)) (nat_lt serial_limit after.next)
     (le-ltb serial_limit after.next fits))
-request_spends n s found InitProducerId asked short few =
-    only_last true _ (search (arith, nat_tests, asked.producers, few))
-request_spends n s found (Metadata metadata) asked short few = metadata_spends metadata.topic
+request_spends more s found InitProducerId has at = only_last true _ (search (arith, nat_tests, has.producers))
+request_spends more s found (Metadata metadata) has at = metadata_spends metadata.topic
   where
     metadata_spends : (topic : Option (List ℕ))
         → spends (reasons_against plain_meaning s found (Metadata (record { topic = topic }))) ≡ false
     metadata_spends None = refl
     metadata_spends (Some name) = refl
-request_spends n s found _ asked short few = refl
+request_spends more s found _ has at = refl
 
--- what is left of a request has no more than was asked for
-put_up_to : (judgement : Judgement) (partition : Plain) (produce : ProduceAsked) (n : ℕ) (topics : List (Topic Plain))
-    → UpTo n partition
-    → All (EachOf (UpTo (n + length produce.batch.records))) topics
-    → All (EachOf (UpTo (n + length produce.batch.records)))
-    (unless_repeat judgement topics (with_partition produce.topic produce.partition
-    (plain_meaning.append partition produce.batch) topics))
-put_up_to judgement partition produce n topics short all =
-    let records = records_of partition.batches in
+-- after a write there is as much less as was asked for
+batch_has : (judgement : Judgement) (partition : Plain) (batch : Batch) (more : ℕ)
+    → HasFor (length batch.records + more) partition
+    → HasFor more (unless_repeat judgement partition (plain_meaning.append partition batch))
+batch_has judgement partition batch more has =
     let long =
-    ap length (records_of_push partition.batches produce.batch) ∙ length-append records produce.batch.records in
-    let count = length produce.batch.records in
-    let written =
-    once_written (UpTo (n + count)) (place_of produce.topic topics) produce.partition
-    (plain_meaning.append partition produce.batch) topics
-    (subst (λ m. m ≤ n + count) (sym long) (omega (arith, short))) all in
-    unless judgement written
+    ap length (records_of_push partition.batches batch) ∙ length-append (records_of partition.batches) batch.records in
+    either judgement (omega (arith, has)) (omega (arith, has, long))
   where
-    unless : (judgement : Judgement) → All (EachOf (UpTo (n + length produce.batch.records)))
-        (with_partition produce.topic produce.partition (plain_meaning.append partition produce.batch) topics)
-        → All (EachOf (UpTo (n + length produce.batch.records)))
-        (unless_repeat judgement topics (with_partition produce.topic produce.partition
-        (plain_meaning.append partition produce.batch) topics))
-    unless Next written = written
-    unless (Repeat offset) written = all
-    unless OutOfOrder written = written
-    unless OldEpoch written = written
+    either : (judgement : Judgement) → HasFor more partition → HasFor more (plain_meaning.append partition batch)
+        → HasFor more (unless_repeat judgement partition (plain_meaning.append partition batch))
+    either (Repeat offset) old put = old
+    either Next old put = put
+    either OutOfOrder old put = put
+    either OldEpoch old put = put
 
-batch_up_to : (found : Option Plain) (produce : ProduceAsked) (n : ℕ) (topics : List (Topic Plain))
-    → IfSome found (UpTo n)
-    → All (EachOf (UpTo (n + length produce.batch.records))) topics
-    → All (EachOf (UpTo (n + length produce.batch.records))) (with_batch plain_meaning found produce topics)
-batch_up_to None produce n topics short all = all
-batch_up_to (Some partition) produce n topics short all =
-    put_up_to (batch_judged plain_meaning partition produce.batch) partition produce n topics short all
+written_has : (more : ℕ) (found : Option Plain) (write : Option Write) → IfSome found (HasFor (asked_of write + more))
+    → IfSome (written plain_meaning found write) (HasFor more)
+written_has more (Some partition) (Some (writes.Append produce)) at =
+    batch_has (batch_judged plain_meaning partition produce.batch) partition produce.batch more at
+written_has more (Some partition) (Some (writes.AdvanceStart delete)) at = omega (arith, at)
+written_has more None (Some (writes.Append produce)) at = tt
+written_has more None (Some (writes.AdvanceStart delete)) at = tt
+written_has more found _ at = tt
 
-start_up_to : (found : Option Plain) (delete : DeleteAsked) (n : ℕ) (topics : List (Topic Plain))
-    → IfSome found (UpTo n) → All (EachOf (UpTo n)) topics
-    → All (EachOf (UpTo n)) (with_start plain_meaning found delete topics)
-start_up_to None delete n topics short all = all
-start_up_to (Some partition) delete n topics short all =
-    once_written (UpTo n) (place_of delete.topic topics) delete.partition
-    (plain_meaning.advance partition (offset_before plain_meaning (Some partition) delete.before)) topics short all
+producers_has : (more : ℕ) (s : State Plain) (found : Option Plain) (write : Option Write)
+    → s.next_producer + (asked_of write + more) ≤ offset_limit
+    → (after_write plain_meaning s found write).next_producer + more ≤ offset_limit
+producers_has more s found (Some writes.GiveProducerId) has = omega arith
+producers_has more s found _ has = omega arith
 
-after_asked : (n : ℕ) (s : State Plain) (found : Option Plain) (write : Option Write) → AskedUpTo n s
-    → IfSome found (UpTo n)
-    → AskedUpTo (n + asked_of write) (after_write plain_meaning s found write)
-after_asked n s found None asked short = grown n 0 s asked
-after_asked n s found (Some (writes.Append produce)) asked short =
-    let all = grown n (length produce.batch.records) s asked in
-    record {
-      topics = batch_up_to found produce n s.topics short all.topics;
-      producers = all.producers;
-      serials = all.serials;
-    }
-after_asked n s found (Some (writes.AddTopic create)) asked short =
-    let all = grown n 0 s asked in
-    record {
-      topics =
-          All-push (EachOf (UpTo (n + 0))) s.topics _ all.topics
-          (All-replicate (UpTo (n + 0)) create.partitions plain_meaning.empty (omega arith));
-      producers = all.producers;
-      serials = all.serials;
-    }
-after_asked n s found (Some (writes.RemoveTopic delete)) asked short =
-    let all = grown n 0 s asked in
-    record {
-      topics = once_removed (UpTo (n + 0)) (place_of delete.name s.topics) s.topics all.topics;
-      producers = all.producers;
-      serials = all.serials;
-    }
-after_asked n s found (Some (writes.AdvanceStart delete)) asked short =
-    grown n 0 (record s { topics = with_start plain_meaning found delete s.topics })
-    (record {
-      topics = start_up_to found delete n s.topics short asked.topics;
-      producers = asked.producers;
-      serials = asked.serials;
-    })
-after_asked n s found (Some writes.GiveProducerId) asked short =
-    let all = grown n 1 s asked in
-    record { topics = all.topics; producers = omega (arith, asked.producers); serials = all.serials }
-after_asked n s found (Some (writes.AddBindings create)) asked short =
-    let all = grown n (length create.drafts) s asked in
-    let more = added_next create.drafts (record { entries = s.access.entries; next = s.access.next; serials = [] }) in
-    record { topics = all.topics; producers = all.producers; serials = omega (arith, more, asked.serials) }
-after_asked n s found (Some (writes.CommitOffset commit)) asked short =
-    let all = grown n 0 s asked in record { topics = all.topics; producers = all.producers; serials = all.serials }
-after_asked n s found (Some (writes.RemoveGroup delete)) asked short =
-    let all = grown n 0 s asked in record { topics = all.topics; producers = all.producers; serials = all.serials }
-after_asked n s found (Some (writes.RemoveBindings delete)) asked short =
-    let all = grown n 0 s asked in record { topics = all.topics; producers = all.producers; serials = all.serials }
+serials_has : (more : ℕ) (s : State Plain) (found : Option Plain) (write : Option Write)
+    → s.access.next + (asked_of write + more) ≤ offset_limit + 1
+    → (after_write plain_meaning s found write).access.next + more ≤ offset_limit + 1
+serials_has more s found (Some (writes.AddBindings create)) has =
+    let added = added_next create.drafts (record { entries = s.access.entries; next = s.access.next; serials = [] }) in
+    omega (arith, added)
+serials_has more s found _ has = omega arith
 
-record OutcomeAsked (n : ℕ) (outcome : Outcome Plain) : Type 0 where
-  reply : SaysNothingSpent outcome.reply
-  state : AskedUpTo n outcome.state
-
-effect_asked : (against : Option Reason) (n : ℕ) (s : State Plain) (event : Event) (request : Request) → AskedUpTo n s
-    → IfSome against IsUnspent
-    → OutcomeAsked (n + asked_by request) (effect_by plain_meaning against s (named s request) event request)
-effect_asked (Some reason) n s event request asked unspent =
-    record { reply = unspent; state = grown n (asked_by request) s asked }
-effect_asked None n s event request asked unspent =
-    record {
-      reply = tt;
-      state = after_asked n s (named s request) (write_of request) asked
-          (of_request (UpTo n) s request asked.topics);
-    }
-
-by_asked : (found : Option (ℕ × List Check)) (n : ℕ) (s : State Plain) (event : Event) → AskedUpTo n s
-    → n + asked_by event.request ≤ offset_limit
-    → OutcomeAsked (n + asked_by event.request)
-    (step_by plain_meaning (option_map (denial_naming s.access event) found) s event)
-by_asked (Some blamed) n s event asked few = record { reply = tt; state = grown n (asked_by event.request) s asked }
-by_asked None n s event asked few =
+step_has : (event : Event) (events : List Event) (s : State Plain) → StateHasFor (asked_in (event ∷ events)) s
+    → SaysNothingSpent (step plain_meaning s event).reply × StateHasFor (asked_in events) (step plain_meaning s event).state
+step_has event events s has =
+    let more = asked_in events in
     let request = event.request in
     let found = named s request in
-    effect_asked (refusal plain_meaning s request) n s event request asked
-    (first_unspent (reasons_against plain_meaning s found request)
-    (request_spends n s found request asked (of_request (UpTo n) s request asked.topics) few))
-
-step_asked : (n : ℕ) (s : State Plain) (event : Event) → AskedUpTo n s → n + asked_by event.request ≤ offset_limit
-    → OutcomeAsked (n + asked_by event.request) (step plain_meaning s event)
-step_asked n s event asked few = by_asked (first_unmet s.access event 0 (rights event.request)) n s event asked few
-
--- and so through a run
-replies_asked : (events : List Event) (n : ℕ) (s : State Plain) → AskedUpTo n s → n + asked_in events ≤ offset_limit
-    → All SaysNothingSpent (replies_of plain_meaning events s)
-replies_asked [] n s asked few = All-nil SaysNothingSpent
-replies_asked (event ∷ events) n s asked few =
-    let done = step_asked n s event asked (omega (arith, few)) in
-    All-cons SaysNothingSpent (step plain_meaning s event).reply
-    (replies_of plain_meaning events (step plain_meaning s event).state)
-    done.reply (replies_asked events (n + asked_by event.request) (step plain_meaning s event).state done.state
-    (omega (arith, few)))
+    let less = fewer (asked_by request) more s has in
+    let at = of_request (HasFor (asked_by request + more)) s request has.topics in
+    step_fits plain_meaning s event (λ o. SaysNothingSpent o.reply × StateHasFor more o.state)
+    (λ blamed is. (tt, less))
+    (λ reason granted is. (
+      first_unspent (reasons_against plain_meaning s found request) reason
+          (request_spends more s found request has at) is,
+      less,
+    ))
+    (λ granted none. (
+      tt,
+      record {
+        topics =
+            each_after plain_meaning (HasFor more) s found (write_of request) (omega (arith, has.producers))
+            (written_has more found (write_of request) at) less.topics;
+        producers = producers_has more s found (write_of request) has.producers;
+        serials = serials_has more s found (write_of request) has.serials;
+      },
+    ))
 
 pub nothing_spent : (settings : Settings) (events : List Event)
     → length settings.opening + asked_in events ≤ offset_limit
     → All SaysNothingSpent (replies_of plain_meaning events (open_state settings))
 nothing_spent settings events few =
-    let bindings = settings.opening in
-    let opened : State Plain = open_state settings in
-    let more = added_next bindings (record { entries = []; next = 1; serials = [] }) in
-    replies_asked events (length bindings) opened
-    (record {
-      topics = All-nil (EachOf (UpTo (length bindings)));
-      producers = omega arith;
-      serials = omega (arith, more);
-    }) few
+    let added = added_next settings.opening (record { entries = []; next = 1; serials = [] }) in
+    replies_keep plain_meaning (λ later s. StateHasFor (asked_in later) s) SaysNothingSpent step_has events
+    (open_state settings)
+    (record { topics = All-nil _; producers = omega arith; serials = omega (arith, added) })

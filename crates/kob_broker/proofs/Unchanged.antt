@@ -1,43 +1,26 @@
--- Where a request is not done, the state stays as it was.
-use Rattle.std.proofs.Common.{◌≡◌, List, Option, Some, None, refl}
+-- If a request is not done, the state stays as it was.
+use Rattle.std.proofs.Common.{◌≡◌, List, refl}
 use Rattle.kob_names.specs.declared.verdict.Verdict.{Verdict}
 use Rattle.kob_partition.specs.Meaning.{Meaning}
 use Rattle.kob_rights.specs.declared.code.Code.{Code}
 use Rattle.kob_rights.specs.declared.event.Event.{Event}
 use Rattle.kob_rights.specs.declared.reason.Reason.{Reason}
-use Rattle.kob_rights.specs.declared.reply.Reply.{Reply}
 use Rattle.kob_rights.specs.declared.reply.Reply.TheVariants.{Denied, Refused}
-use Rattle.kob_broker.specs.Denial.{denial_of}
-use Rattle.kob_broker.specs.Effect.{effect_by, named, refusal}
+use Rattle.kob_broker.specs.Effect.{Outcome}
 use Rattle.kob_broker.specs.Justice.{LeavesUnlessDone}
 use Rattle.kob_broker.specs.State.{State}
-use Rattle.kob_broker.specs.Step.{step_by}
+use Rattle.kob_broker.proofs.Steps.{step_fits}
 
-module _ {P : Type 0} (m : Meaning P) where
-  effect_refused : (against : Option Reason) (s : State P) (event : Event) (code : Code) (reason : Reason)
-      → (effect_by m against s (named s event.request) event event.request).reply ≡ Refused code reason
-      → (effect_by m against s (named s event.request) event event.request).state ≡ s
-  effect_refused (Some why) s event code reason is = refl
-  effect_refused None s event code reason is = cc
+module _ {P : Type 0} (m : Meaning P) (s : State P) (event : Event) where
+  record Leaves (outcome : Outcome P) : Type 0 where
+    denied : (code : Code) (verdicts : List Verdict) → outcome.reply ≡ Denied code verdicts → outcome.state ≡ s
+    refused : (code : Code) (reason : Reason) → outcome.reply ≡ Refused code reason → outcome.state ≡ s
 
-  effect_denied : (against : Option Reason) (s : State P) (event : Event) (code : Code) (verdicts : List Verdict)
-      → (effect_by m against s (named s event.request) event event.request).reply ≡ Denied code verdicts
-      → (effect_by m against s (named s event.request) event event.request).state ≡ s
-  effect_denied (Some why) s event code verdicts is = refl
-  effect_denied None s event code verdicts is = cc
-
-  by_refused : (denial : Option Reply) (s : State P) (event : Event) (code : Code) (reason : Reason)
-      → (step_by m denial s event).reply ≡ Refused code reason → (step_by m denial s event).state ≡ s
-  by_refused (Some reply) s event code reason is = refl
-  by_refused None s event code reason is = effect_refused (refusal m s event.request) s event code reason is
-
-  by_denied : (denial : Option Reply) (s : State P) (event : Event) (code : Code) (verdicts : List Verdict)
-      → (step_by m denial s event).reply ≡ Denied code verdicts → (step_by m denial s event).state ≡ s
-  by_denied (Some reply) s event code verdicts is = refl
-  by_denied None s event code verdicts is = effect_denied (refusal m s event.request) s event code verdicts is
-
-  pub leaves_unless_done : (s : State P) (event : Event) → LeavesUnlessDone m s event
-  leaves_unless_done s event = record {
-    denied = by_denied (denial_of s.access event) s event;
-    refused = by_refused (denial_of s.access event) s event;
-  }
+  pub leaves_unless_done : LeavesUnlessDone m s event
+  leaves_unless_done =
+      let leaves =
+      step_fits m s event Leaves
+      (λ blamed is. record { denied = λ code verdicts told. refl; refused = λ code reason told. refl })
+      (λ reason granted is. record { denied = λ code verdicts told. refl; refused = λ code why told. refl })
+      (λ granted is. record { denied = λ code verdicts told. cc; refused = λ code reason told. cc }) in
+      record { denied = leaves.denied; refused = leaves.refused }

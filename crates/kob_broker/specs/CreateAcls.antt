@@ -12,8 +12,8 @@ use Rattle.kob_authorizer.specs.declared.fault.CreateFault.TheVariants as limits
 use Rattle.kob_rights.specs.declared.reason.Reason.{Reason}
 use Rattle.kob_rights.specs.declared.reason.Reason.TheVariants as reasons
 use Rattle.kob_rights.specs.declared.on_acls.CreateAcls.{CreateAcls}
-use Rattle.kob_broker.specs.declared.create_acls.DraftFault.{DraftFault}
-use Rattle.kob_broker.specs.declared.create_acls.DraftFault.TheVariants.{Refused, Memory}
+use Rattle.kob_broker.specs.declared.on_acls.DraftFault.{DraftFault}
+use Rattle.kob_broker.specs.declared.on_acls.DraftFault.TheVariants.{Refused, Memory}
 
 -- what may be wrong with a draft
 abbrev pub draft_reasons : Draft → List (Bool × Reason)

@@ -1,5 +1,5 @@
 -- The partition that a request names, and what is read of it, if it is there.
-use Rattle.std.specs.Prelude.{Bool, not, ℕ, List, [], ◌∷◌, Option, Some, None, is_some}
+use Rattle.std.specs.Prelude.{◌≡◌, Bool, true, false, not, ℕ, List, [], ◌∷◌, Option, Some, None, is_some, ◌⊎◌}
 use Rattle.kob_catalog.specs.Topics.{Topic, has_topic}
 use Rattle.kob_partition.specs.Meaning.{Meaning}
 use Rattle.kob_rights.specs.declared.reason.Reason.{Reason}
@@ -12,6 +12,12 @@ module _ {P : Type 0} where
       (not (has_topic name topics), reasons.UnknownTopic)
       ∷ (not (is_some found), reasons.UnknownPartition)
       ∷ []
+
+  -- the reason is the first of these
+  abbrev pub IsUnnamed : List ℕ → List (Topic P) → Option P → Reason → Type 0
+  IsUnnamed name topics found reason =
+      ((has_topic name topics ≡ false) × (reason ≡ reasons.UnknownTopic))
+      ⊎ ((has_topic name topics ≡ true) × ((found ≡ None) × (reason ≡ reasons.UnknownPartition)))
 
 module _ {P : Type 0} (m : Meaning P) where
   abbrev pub start_at : Option P → ℕ

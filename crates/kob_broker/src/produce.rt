@@ -1,21 +1,20 @@
-//! A batch appended to a partition.
+//! A batch appended to a partition, and the ids of producers.
 
-ghost use Rattle.std.specs.Prelude.{◌≡◌, ◌<◌, IfOk, length};
+ghost use Rattle.std.specs.Prelude.{◌≡◌, IfOk, Some};
 ghost use Rattle.kob_broker.specs.Change.{MakesFor, state_of};
-ghost use Rattle.kob_broker.specs.Placed.{prepared_for};
+ghost use Rattle.kob_broker.specs.Fate.{IsFate, fate_told, prepared_for};
 ghost use Rattle.kob_broker.specs.Produce.{batch_reasons, is_bad_sequence, is_unknown_producer};
-ghost use Rattle.kob_broker.specs.Produce.{reason_of};
 ghost use Rattle.kob_broker.specs.Reasons.{first_reason};
 ghost use Rattle.kob_rights.specs.declared.request.Request.TheVariants as requests;
 
 use crate::batch_size::is_within;
 use crate::broker::Broker;
-use crate::limits::{BATCH_BYTE_LIMIT, EPOCH_LIMIT, RECORD_LIMIT, SEQUENCE_LIMIT};
-use crate::placed::Placed;
+use crate::fate::Fate;
+use crate::limits::{BATCH_BYTE_LIMIT, EPOCH_LIMIT, PRODUCER_LIMIT, RECORD_LIMIT, SEQUENCE_LIMIT};
 use crate::prepared::{Change, Prepared};
 use kob_catalog::PartitionFault;
 use kob_names::{Batch, Idem};
-use kob_partition::{AppendFault, Placement};
+use kob_partition::{AppendFault, PartitionLog, Placement};
 use kob_rights::{Body, Produce, Reason};
 use std::alloc::{AllocError, Global};
 
@@ -28,8 +27,8 @@ impl Broker {
         ensures state { state_of self.new ≡ state_of self.old }
         ensures ok { IfOk result (MakesFor (requests.Produce produce.now) self.new) }
     {
-        let placed = self.place(produce)?;
-        placed.with_copy(alloc, produce)
+        let fate = self.fate(produce)?;
+        fate.with_copy(alloc, produce)
     }
 
     /// The same for a request by value.
@@ -37,8 +36,8 @@ impl Broker {
         ensures state { state_of self.new ≡ state_of self.old }
         ensures ok { IfOk result (MakesFor (requests.Produce produce) self.new) }
     {
-        match self.place(&produce) {
-            Ok(placed) => Ok(placed.with_request(produce)),
+        match self.fate(&produce) {
+            Ok(fate) => Ok(fate.with_request(produce)),
             Err(error) => {
                 drop(produce);
                 Err(error)
@@ -46,50 +45,56 @@ impl Broker {
         }
     }
 
-    /// Where the batch goes, with capacity reserved for it there. Nothing is copied, and the topic
-    /// is looked up once.
-    fn place(&mut self, produce: &Produce) -> Result<Placed, AllocError>
+    /// What becomes of the batch. Nothing is copied, and the topic is looked up once.
+    fn fate(&mut self, produce: &Produce) -> Result<Fate, AllocError>
         ensures state { state_of self.new ≡ state_of self.old }
-        ensures ok { IfOk result (λ placed. MakesFor (requests.Produce produce.now) self.new
-            (prepared_for produce.now placed)) }
+        ensures ok { IfOk result (λ fate. MakesFor (requests.Produce produce.now) self.new
+            (prepared_for produce.now fate)) }
     {
         let next_producer = self.next_producer;
-        let log = match self
+        match self
             .catalog
             .partition_mut(&produce.topic, produce.partition as usize)
         {
-            Ok(log) => log,
-            Err(PartitionFault::UnknownTopic) => return Ok(Placed::refused(Reason::UnknownTopic)),
-            Err(PartitionFault::UnknownPartition) => {
-                return Ok(Placed::refused(Reason::UnknownPartition));
-            }
-        };
-        if let Some(reason) = against_batch(&produce.batch, next_producer) {
-            return Ok(Placed::refused(reason));
+            Ok(log) => fate_in(log, &produce.batch, next_producer),
+            Err(PartitionFault::UnknownTopic) => Ok(Fate::Refused(Reason::UnknownTopic)),
+            Err(PartitionFault::UnknownPartition) => Ok(Fate::Refused(Reason::UnknownPartition)),
         }
-        match log.prepare_append(&produce.batch) {
-            Ok(Placement::New(offset)) => Ok(Placed::Last(offset)),
-            Ok(Placement::Repeated(offset)) => {
-                let body = Body::Offset(offset);
-                Ok(Placed::Nowhere(Prepared::done(body, Change::Unchanged)))
-            }
-            Err(fault) => match reason_of(fault) {
-                Some(reason) => Ok(Placed::refused(reason)),
-                None => Err(AllocError),
-            },
+    }
+
+    pub(crate) fn prepare_init_producer_id(&self) -> Prepared
+        ensures { MakesFor requests.InitProducerId self.now result }
+    {
+        let id = self.next_producer;
+        if id >= PRODUCER_LIMIT {
+            return Prepared::refused(Reason::ProducerIdsSpent);
         }
+        Prepared::done(Body::Producer { id, epoch: 0 }, Change::GiveProducer)
     }
 }
 
-/// The reason that a log's fault is reported as, and None for out of memory.
-fn reason_of(fault: AppendFault) -> Option<Reason>
-    ensures { result ≡ reason_of fault }
+/// What becomes of a batch in a partition. If it is appended, capacity is reserved for it.
+fn fate_in(log: &mut PartitionLog, batch: &Batch, next_producer: u64) -> Result<Fate, AllocError>
+    ensures kept { log.new.kept ≡ log.old.kept }
+    ensures ok { IfOk result (IsFate next_producer log.new batch.now) }
 {
-    match fault {
-        AppendFault::OldEpoch => Some(Reason::OldEpoch),
-        AppendFault::OutOfOrder => Some(Reason::OutOfOrder),
-        AppendFault::OffsetsSpent => Some(Reason::OffsetsSpent),
-        AppendFault::Memory => None,
+    match against_batch(batch, next_producer) {
+        Some(reason) => Ok(Fate::Refused(reason)),
+        None => fate_told(log.prepare_append(batch)),
+    }
+}
+
+/// What becomes of a batch, by the answer of its partition.
+fn fate_told(answer: Result<Placement, AppendFault>) -> Result<Fate, AllocError>
+    ensures { IfOk result (λ fate. fate_told answer ≡ Some fate) }
+{
+    match answer {
+        Ok(Placement::New(offset)) => Ok(Fate::Appended(offset)),
+        Ok(Placement::Repeated(offset)) => Ok(Fate::Repeated(offset)),
+        Err(AppendFault::OldEpoch) => Ok(Fate::Refused(Reason::OldEpoch)),
+        Err(AppendFault::OutOfOrder) => Ok(Fate::Refused(Reason::OutOfOrder)),
+        Err(AppendFault::OffsetsSpent) => Ok(Fate::Refused(Reason::OffsetsSpent)),
+        Err(AppendFault::Memory) => Err(AllocError),
     }
 }
 

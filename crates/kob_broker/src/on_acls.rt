@@ -1,8 +1,7 @@
-//! The creation of bindings.
+//! What is done about bindings.
 
-ghost use Rattle.std.specs.Prelude.{◌≡◌, ◌++◌, ◌∷◌, [], IfOk, IfErr, OnOk, MatchResult, Some};
-ghost use Rattle.std.specs.Prelude.{None};
 ghost use Rattle.std.specs.List.{flat_map};
+ghost use Rattle.std.specs.Prelude.{◌≡◌, ◌++◌, ◌∷◌, [], IfOk, IfErr, OnOk, None};
 ghost use Rattle.kob_broker.specs.Change.{MakesFor, state_of};
 ghost use Rattle.kob_broker.specs.CreateAcls.{draft_reasons, IsUnlessRefused};
 ghost use Rattle.kob_broker.specs.Reasons.{first_reason};
@@ -12,8 +11,57 @@ use crate::broker::Broker;
 use crate::prepared::{Change, Prepared};
 use kob_authorizer::CreateFault;
 use kob_names::{Binding, BindingFault, Draft, Items};
-use kob_rights::{Body, CreateAcls, Reason};
+use kob_rights::{Body, CreateAcls, DeleteAcls, DescribeAcls, Reason};
 use std::alloc::{AllocError, Global};
+
+impl Broker {
+    #[tactic(auto, using(crate::proofs::FirstReasons::first_some, crate::proofs::FirstReasons::first_none))]
+    pub(crate) fn prepare_create_acls(
+        &mut self,
+        alloc: Global,
+        create: &CreateAcls,
+    ) -> Result<Prepared, AllocError>
+        ensures state { state_of self.new ≡ state_of self.old }
+        ensures ok { IfOk result (MakesFor (requests.CreateAcls create.now) self.new) }
+    {
+        let bindings = match bindings_of(alloc, create.drafts.as_slice()) {
+            Ok(bindings) => bindings,
+            Err(DraftFault::Refused(reason)) => return Ok(Prepared::refused(reason)),
+            Err(DraftFault::Memory) => return Err(AllocError),
+        };
+        let made = match self.authorizer.prepare_create(alloc, bindings.as_slice()) {
+            Ok(made) => made,
+            Err(CreateFault::TooMany) => return Ok(Prepared::refused(Reason::TooManyBindings)),
+            Err(CreateFault::SerialsSpent) => return Ok(Prepared::refused(Reason::SerialsSpent)),
+            Err(CreateFault::Memory) => return Err(AllocError),
+        };
+        let serials = Items::copied(alloc, made.serials())?;
+        Ok(Prepared::done(Body::Serials(serials), Change::AddBindings(made)))
+    }
+
+    pub(crate) fn prepare_delete_acls(
+        &self,
+        alloc: Global,
+        delete: &DeleteAcls,
+    ) -> Result<Prepared, AllocError>
+        ensures { IfOk result (MakesFor (requests.DeleteAcls delete.now) self.now) }
+    {
+        let made = self.authorizer.prepare_delete(alloc, &delete.filter)?;
+        let taken = Items::copied(alloc, made.taken())?;
+        Ok(Prepared::done(Body::Bindings(taken), Change::RemoveBindings(made)))
+    }
+
+    pub(crate) fn prepare_describe_acls(
+        &self,
+        alloc: Global,
+        asked: &DescribeAcls,
+    ) -> Result<Prepared, AllocError>
+        ensures { IfOk result (MakesFor (requests.DescribeAcls asked.now) self.now) }
+    {
+        let taken = self.authorizer.describe(alloc, &asked.filter)?;
+        Ok(Prepared::done(Body::Bindings(Items::from_vec(taken)), Change::Unchanged))
+    }
+}
 
 /// Why drafts are not valid bindings.
 enum DraftFault {
@@ -68,30 +116,4 @@ fn put_binding(alloc: Global, bindings: &mut Vec<Binding>, draft: &Draft) -> Res
         return Err(DraftFault::Memory);
     }
     Ok(())
-}
-
-impl Broker {
-    #[tactic(auto, using(crate::proofs::FirstReasons::first_some, crate::proofs::FirstReasons::first_none))]
-    pub(crate) fn prepare_create_acls(
-        &mut self,
-        alloc: Global,
-        create: &CreateAcls,
-    ) -> Result<Prepared, AllocError>
-        ensures state { state_of self.new ≡ state_of self.old }
-        ensures ok { IfOk result (MakesFor (requests.CreateAcls create.now) self.new) }
-    {
-        let bindings = match bindings_of(alloc, create.drafts.as_slice()) {
-            Ok(bindings) => bindings,
-            Err(DraftFault::Refused(reason)) => return Ok(Prepared::refused(reason)),
-            Err(DraftFault::Memory) => return Err(AllocError),
-        };
-        let made = match self.authorizer.prepare_create(alloc, bindings.as_slice()) {
-            Ok(made) => made,
-            Err(CreateFault::TooMany) => return Ok(Prepared::refused(Reason::TooManyBindings)),
-            Err(CreateFault::SerialsSpent) => return Ok(Prepared::refused(Reason::SerialsSpent)),
-            Err(CreateFault::Memory) => return Err(AllocError),
-        };
-        let serials = Items::copied(alloc, made.serials())?;
-        Ok(Prepared::done(Body::Serials(serials), Change::AddBindings(made)))
-    }
 }

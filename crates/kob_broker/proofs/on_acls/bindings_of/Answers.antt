@@ -1,5 +1,5 @@
 use Rattle.kob_broker.proofs.FirstReasons.{refused_here}
-use Rattle.kob_broker.proofs.create_acls.bindings_of.Goals as goal
+use Rattle.kob_broker.proofs.on_acls.bindings_of.Goals as goal
 
 pub returns-in-Err-clause-refused : goal.returns-in-Err-clause-refused
 returns-in-Err-clause-refused c =

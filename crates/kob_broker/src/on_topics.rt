@@ -1,8 +1,8 @@
-//! The topics that a reply lists.
+//! What is done about topics.
 
-ghost use Rattle.std.specs.Prelude.{◌≡◌, IfOk, None, Some};
-ghost use Rattle.kob_broker.specs.Change.{Makes, MakesFor, state_of};
-ghost use Rattle.kob_broker.specs.Effect.{effect};
+ghost use Rattle.std.specs.Prelude.{◌≡◌, IfOk, None, OnErr, Some};
+ghost use Rattle.kob_broker.specs.Change.{MakesFor, state_of, Makes};
+ghost use Rattle.kob_broker.specs.Effect.{refusal, effect};
 ghost use Rattle.kob_broker.specs.Metadata.{metadata_request};
 ghost use Rattle.kob_partition.specs.Retained.{retained_meaning};
 ghost use Rattle.kob_rights.specs.declared.request.Request.TheVariants as requests;
@@ -10,11 +10,51 @@ ghost use Rattle.kob_rights.specs.declared.request.Request.TheVariants as reques
 use crate::broker::Broker;
 use crate::describing::TopicDescriber;
 use crate::prepared::{Change, Prepared};
-use kob_names::{Items, PlainValue, Text};
-use kob_rights::{Body, Event, Metadata, Reason};
+use kob_catalog::CreateFault;
+use kob_names::{Items, PlainValue, Text, TopicNameFault};
+use kob_rights::{Body, CreateTopics, DeleteTopics, Event, Metadata, Reason};
 use std::alloc::{AllocError, Global};
 
 impl Broker {
+    pub(crate) fn prepare_create_topics(
+        &mut self,
+        alloc: Global,
+        create: &CreateTopics,
+    ) -> Result<Prepared, AllocError>
+        ensures state { state_of self.new ≡ state_of self.old }
+        ensures ok { IfOk result (MakesFor (requests.CreateTopics create.now) self.new) }
+        ensures memory { OnErr result (refusal retained_meaning (state_of self.old)
+            (requests.CreateTopics create.now) ≡ None) }
+    {
+        if TopicNameFault::of(create.name.as_str()).is_some() {
+            return Ok(Prepared::refused(Reason::BadTopicName));
+        }
+        match self
+            .catalog
+            .prepare_create(alloc, &create.name, create.partitions)
+        {
+            Ok(made) => Ok(Prepared::done(Body::Created, Change::AddTopic(made))),
+            Err(CreateFault::Exists) => Ok(Prepared::refused(Reason::TopicExists)),
+            Err(CreateFault::BadPartitions) => Ok(Prepared::refused(Reason::BadPartitions)),
+            Err(CreateFault::TooMany) => Ok(Prepared::refused(Reason::TooManyTopics)),
+            Err(CreateFault::Memory) => Err(AllocError),
+        }
+    }
+
+    pub(crate) fn prepare_delete_topics(
+        &self,
+        alloc: Global,
+        delete: &DeleteTopics,
+    ) -> Result<Prepared, AllocError>
+        ensures { IfOk result (MakesFor (requests.DeleteTopics delete.now) self.now) }
+    {
+        if !self.catalog.contains(&delete.name) {
+            return Ok(Prepared::refused(Reason::UnknownTopic));
+        }
+        let name = delete.name.copy(alloc)?;
+        Ok(Prepared::done(Body::Deleted, Change::RemoveTopic(name)))
+    }
+
     pub(crate) fn prepare_metadata(
         &self,
         alloc: Global,

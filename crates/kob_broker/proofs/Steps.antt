@@ -1,0 +1,60 @@
+-- One step by its cases, and what a run keeps.
+use Rattle.std.proofs.Common.{◌≡◌, ℕ, List, [], ◌∷◌, ◌++◌, Option, Some, None, All, refl}
+use Rattle.std.specs.Option.{option_map}
+use Rattle.std.proofs.lemmas.List.Elements.{All-cons, All-nil}
+use Rattle.kob_partition.specs.Meaning.{Meaning}
+use Rattle.kob_rights.specs.Check.{Check}
+use Rattle.kob_rights.specs.Reason.{code_of}
+use Rattle.kob_rights.specs.Table.{rights}
+use Rattle.kob_rights.specs.declared.event.Event.{Event}
+use Rattle.kob_rights.specs.declared.reason.Reason.{Reason}
+use Rattle.kob_rights.specs.declared.reply.Reply.{Reply}
+use Rattle.kob_rights.specs.declared.reply.Reply.TheVariants.{Refused, Done}
+use Rattle.kob_broker.specs.Denial.{denial_naming, first_unmet}
+use Rattle.kob_broker.specs.Effect.{Outcome, after, body, effect_by, named, refusal}
+use Rattle.kob_broker.specs.State.{State}
+use Rattle.kob_broker.specs.Step.{replies_of, state_after, step, step_by}
+
+module _ {P : Type 0} (m : Meaning P) (s : State P) (event : Event) where
+  abbrev pub unmet : Option (ℕ × List Check)
+  unmet = first_unmet s.access event 0 (rights event.request)
+
+  -- what fits a denial, a refusal and what is done fits the step
+  module _ (Fits : Outcome P → Type 0)
+      (denied : (blamed : ℕ × List Check) → unmet ≡ Some blamed
+      → Fits (record { reply = denial_naming s.access event blamed; state = s }))
+      (refused : (reason : Reason) → unmet ≡ None → refusal m s event.request ≡ Some reason
+      → Fits (record { reply = Refused (code_of reason) reason; state = s }))
+      (done : unmet ≡ None → refusal m s event.request ≡ None → Fits (record {
+        reply = Done (body m s (named s event.request) event event.request);
+        state = after m s (named s event.request) event.request;
+      })) where
+    granted_fits : (against : Option Reason) → unmet ≡ None → refusal m s event.request ≡ against
+        → Fits (effect_by m against s (named s event.request) event event.request)
+    granted_fits (Some reason) granted is = refused reason granted is
+    granted_fits None granted is = done granted is
+
+    fits_by : (found : Option (ℕ × List Check)) → unmet ≡ found
+        → Fits (step_by m (option_map (denial_naming s.access event) found) s event)
+    fits_by (Some blamed) is = denied blamed is
+    fits_by None is = granted_fits (refusal m s event.request) is refl
+
+    pub step_fits : Fits (step m s event)
+    step_fits = fits_by unmet refl
+
+-- a fact of the events to come and the state that each step keeps, and what the replies then tell
+module _ {P : Type 0} (m : Meaning P) (Holds : List Event → State P → Type 0) (Tells : Reply → Type 0)
+    (step_keeps : (event : Event) (events : List Event) (s : State P) → Holds (event ∷ events) s
+    → Tells (step m s event).reply × Holds events (step m s event).state) where
+  pub replies_keep : (events : List Event) (s : State P) → Holds events s → All Tells (replies_of m events s)
+  replies_keep [] s holds = All-nil Tells
+  replies_keep (event ∷ events) s holds =
+      let next = step_keeps event events s holds in
+      let later : State P = (step m s event).state in
+      All-cons Tells (step m s event).reply (replies_of m events later) next.0 (replies_keep events later next.1)
+
+  pub state_keeps : (events more : List Event) (s : State P) → Holds (events ++ more) s
+      → Holds more (state_after m events s)
+  state_keeps [] more s holds = holds
+  state_keeps (event ∷ events) more s holds =
+      state_keeps events more (step m s event).state (step_keeps event (events ++ more) s holds).1

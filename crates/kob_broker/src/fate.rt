@@ -1,0 +1,50 @@
+//! What becomes of a batch.
+
+ghost use Rattle.std.specs.Prelude.{◌≡◌, IfOk};
+ghost use Rattle.kob_broker.specs.Fate.{prepared_for};
+
+use crate::prepared::{Change, Prepared};
+use kob_names::PlainValue;
+use kob_rights::{Body, Produce, Reason};
+use std::alloc::{AllocError, Global};
+
+/// What becomes of a batch, decided before its request is copied or moved.
+#[derive(Clone, Copy)]
+pub(crate) enum Fate {
+    Refused(Reason),
+    /// It repeats a batch that was accepted at this offset.
+    Repeated(u64),
+    /// It is appended at this offset; capacity is reserved.
+    Appended(u64),
+}
+
+impl Fate {
+    /// What is prepared, with the request itself.
+    pub(crate) fn with_request(self, produce: Produce) -> Prepared
+        ensures { result ≡ prepared_for produce self }
+    {
+        match self {
+            Fate::Refused(reason) => Prepared::refused(reason),
+            Fate::Repeated(offset) => Prepared::done(Body::Offset(offset), Change::Unchanged),
+            Fate::Appended(offset) => {
+                Prepared::done(Body::Offset(offset), Change::Append(produce))
+            }
+        }
+    }
+
+    /// The same with a copy of the request, which is made only if its batch is appended.
+    pub(crate) fn with_copy(self, alloc: Global, produce: &Produce) -> Result<Prepared, AllocError>
+        ensures { IfOk result (λ prepared. prepared ≡ prepared_for produce.now self) }
+    {
+        match self {
+            Fate::Refused(reason) => Ok(Prepared::refused(reason)),
+            Fate::Repeated(offset) => {
+                Ok(Prepared::done(Body::Offset(offset), Change::Unchanged))
+            }
+            Fate::Appended(offset) => {
+                let copy = produce.copy(alloc)?;
+                Ok(Prepared::done(Body::Offset(offset), Change::Append(copy)))
+            }
+        }
+    }
+}
