@@ -1,7 +1,7 @@
 -- Which clause a denial is for.
-use Rattle.std.proofs.Common.{◌≡◌, ℕ, ◌+◌, List, [], ◌∷◌, Some, None, Bool, true, false, refl, ap, arith, cond, inl, inr, take, suc}
+use Rattle.std.proofs.Common.{◌≡◌, ℕ, ◌+◌, List, [], ◌∷◌, Some, None, Bool, true, false, refl, arith, cond, inl, inr, take, suc}
 use Rattle.std.proofs.lemmas.Bool.{or_cases, or_parts}
-use Rattle.std.specs.Prelude.{slice_get, map}
+use Rattle.std.specs.Prelude.{Option, slice_get, map}
 use Rattle.kob_authorizer.specs.Contents.{Contents, IsRising}
 use Rattle.kob_authorizer.proofs.Verdicts.{true_verdict}
 use Rattle.kob_rights.specs.Check.{Check}
@@ -38,57 +38,35 @@ some_granted access event (check ∷ checks) h =
     [ inl this ↦ inl this | inr rest ↦ inr (some_granted access event checks rest) ]
 
 -- what the search for a clause that isn't met finds
-pub record Found (access : Contents) (event : Event) (clauses : List (List Check)) (n found : ℕ)
-    (clause : List Check) : Type 0 where
+pub record Found (access : Contents) (event : Event) (clauses : List (List Check)) (n : ℕ)
+    (blamed : ℕ × List Check) : Type 0 where
   pub place : ℕ
-  pub found_is : found ≡ n + place
-  pub clause_is : slice_get clauses place ≡ Some clause
+  pub found_is : blamed.0 ≡ n + place
+  pub clause_is : slice_get clauses place ≡ Some blamed.1
   pub before : EachGranted access event (take place clauses)
-  pub not_met : is_met access event clause ≡ false
+  pub not_met : is_met access event blamed.1 ≡ false
 
-unmet_step : (access : Contents) (event : Event) (clause : List Check) (clauses : List (List Check)) (n found : ℕ)
-    (blamed : List Check) (met : Bool)
-    → is_met access event clause ≡ met → cond met (first_unmet access event (n + 1) clauses) (Some (n, clause))
-    ≡ Some (found, blamed)
-    → (first_unmet access event (n + 1) clauses ≡ Some (found, blamed)
-    → Found access event clauses (n + 1) found blamed)
-    → Found access event (clause ∷ clauses) n found blamed
-unmet_step access event clause clauses n found blamed true is h more =
-    let f = more h in record {
-      place = suc f.place;
-      found_is = let e = f.found_is in omega arith;
-      clause_is = f.clause_is;
-      before = (some_granted access event clause is, f.before);
-      not_met = f.not_met;
-    }
-unmet_step access event clause clauses n found blamed false is h more =
-    let pair : ◌≡◌ {A = ℕ × List Check} (n, clause) (found, blamed) = cc in
-    let at = ap (λ (x : ℕ × List Check). x.0) pair in
-    let same = ap (λ (x : ℕ × List Check). x.1) pair in record {
-      place = 0;
-      found_is = omega arith;
-      clause_is = ap Some same;
-      before = tt;
-      not_met = rw (← same) is;
-    }
+module _ (access : Contents) (event : Event) where
+  abbrev pub Says : List (List Check) → ℕ → Option (ℕ × List Check) → Type 0
+  Says clauses n None = EachGranted access event clauses
+  Says clauses n (Some blamed) = Found access event clauses n blamed
 
-pub unmet_found : (access : Contents) (event : Event) (clauses : List (List Check)) (n found : ℕ) (blamed : List Check)
-    → first_unmet access event n clauses ≡ Some (found, blamed) → Found access event clauses n found blamed
-unmet_found access event [] n found blamed h = cc
-unmet_found access event (clause ∷ clauses) n found blamed h =
-    unmet_step access event clause clauses n found blamed (is_met access event clause) refl h
-    (unmet_found access event clauses (n + 1) found blamed)
+  says_step : (clause : List Check) (clauses : List (List Check)) (n : ℕ) (met : Bool)
+      → is_met access event clause ≡ met → (found : Option (ℕ × List Check)) → Says clauses (n + 1) found
+      → Says (clause ∷ clauses) n (cond met found (Some (n, clause)))
+  says_step clause clauses n true is None granted = (some_granted access event clause is, granted)
+  says_step clause clauses n true is (Some blamed) found = record {
+    place = suc found.place;
+    found_is = let e = found.found_is in omega arith;
+    clause_is = found.clause_is;
+    before = (some_granted access event clause is, found.before);
+    not_met = found.not_met;
+  }
+  says_step clause clauses n false is found later =
+      record { place = 0; found_is = omega arith; clause_is = refl; before = tt; not_met = is }
 
-all_step : (access : Contents) (event : Event) (clause : List Check) (clauses : List (List Check)) (n : ℕ) (met : Bool)
-    → is_met access event clause ≡ met
-    → cond met (first_unmet access event (n + 1) clauses) (Some (n, clause)) ≡ None
-    → (first_unmet access event (n + 1) clauses ≡ None → EachGranted access event clauses)
-    → EachGranted access event (clause ∷ clauses)
-all_step access event clause clauses n true is h more = (some_granted access event clause is, more h)
-all_step access event clause clauses n false is h more = cc
-
-pub unmet_none : (access : Contents) (event : Event) (clauses : List (List Check)) (n : ℕ)
-    → first_unmet access event n clauses ≡ None → EachGranted access event clauses
-unmet_none access event [] n h = tt
-unmet_none access event (clause ∷ clauses) n h =
-    all_step access event clause clauses n (is_met access event clause) refl h (unmet_none access event clauses (n + 1))
+  pub search_says : (clauses : List (List Check)) (n : ℕ) → Says clauses n (first_unmet access event n clauses)
+  search_says [] n = tt
+  search_says (clause ∷ clauses) n =
+      says_step clause clauses n (is_met access event clause) refl (first_unmet access event (n + 1) clauses)
+      (search_says clauses (n + 1))

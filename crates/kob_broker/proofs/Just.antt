@@ -19,19 +19,20 @@ use Rattle.kob_broker.specs.Justice.{EachJust, IsDenial, IsJust}
 use Rattle.kob_partition.specs.Meaning.{Meaning}
 use Rattle.kob_broker.specs.State.{State}
 use Rattle.kob_broker.specs.Step.{replies_of, step}
-use Rattle.kob_broker.proofs.Clauses.{Found, IsNumbered, each_blamed, unmet_found, unmet_none}
+use Rattle.kob_broker.proofs.Clauses.{Found, IsNumbered, Says, each_blamed, search_says}
 use Rattle.kob_broker.proofs.Steps.{step_fits}
 
-found_denial : (access : Contents) (event : Event) (found : ℕ) (clause : List Check) → IsNumbered access
-    → Found access event (rights event.request) 0 found clause
-    → IsDenial access event (denial_code event.request found) (map (verdict access event) clause)
-found_denial access event found clause numbered f = record {
+found_denial : (access : Contents) (event : Event) (blamed : ℕ × List Check) → IsNumbered access
+    → Found access event (rights event.request) 0 blamed
+    → IsDenial access event (denial_code event.request blamed.0) (map (verdict access event) blamed.1)
+found_denial access event blamed numbered f = record {
   place = f.place;
-  clause = clause;
+  clause = blamed.1;
   clause_is = f.clause_is;
   before = f.before;
-  code_is = ap (denial_code event.request) (let e = f.found_is in let same : found ≡ f.place = omega arith in same);
-  blamed = each_blamed access event clause numbered f.not_met;
+  code_is = ap (denial_code event.request)
+      (let e = f.found_is in let same : blamed.0 ≡ f.place = omega arith in same);
+  blamed = each_blamed access event blamed.1 numbered f.not_met;
 }
 
 -- the bindings after what a request did, where they are numbered
@@ -58,11 +59,11 @@ module _ {P : Type 0} (m : Meaning P) where
   -- the reply to one event is just
   step_just : (s : State P) (event : Event) → IsNumbered s.access → IsJust s.access event (step m s event).reply
   step_just s event numbered =
+      let Searched = Says s.access event (rights event.request) 0 in
+      let says = search_says s.access event (rights event.request) 0 in
       step_fits m s event (λ o. IsJust s.access event o.reply)
-      (λ blamed is. found_denial s.access event blamed.0 blamed.1 numbered
-      (unmet_found s.access event (rights event.request) 0 blamed.0 blamed.1 is))
-      (λ reason granted is. unmet_none s.access event (rights event.request) 0 granted)
-      (λ granted is. unmet_none s.access event (rights event.request) 0 granted)
+      (λ blamed is. found_denial s.access event blamed numbered (subst Searched is says))
+      (λ reason granted is. subst Searched granted says) (λ granted is. subst Searched granted says)
 
   -- the bindings after one event are those that its reply says
   after_access : (s : State P) (found : Option P) (write : Option Write)

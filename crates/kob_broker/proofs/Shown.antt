@@ -75,26 +75,23 @@ module _ {A : Type 0} (shown : A → Type 0) where
 abbrev Pair : Type 0
 Pair = List ℕ × ℕ
 
--- the topics that are listed are those of the listing of all whose name is granted
-listed_step : {P : Type 0} (granted : List ℕ → Bool) (topic : Topic P) (topics : List (Topic P)) (b : Bool)
-    → listed_where granted topics ≡ filter (λ (p : Pair). granted p.0) (map listed topics)
-    → map listed (cond b (topic ∷ filter (λ (t : Topic P). granted t.name) topics)
-    (filter (λ (t : Topic P). granted t.name) topics))
-    ≡ cond b (listed topic ∷ filter (λ (p : Pair). granted p.0) (map listed topics))
-    (filter (λ (p : Pair). granted p.0) (map listed topics))
-listed_step granted topic topics true rest = ap (λ ps. listed topic ∷ ps) rest
-listed_step granted topic topics false rest = rest
-
-listed_filter : {P : Type 0} (granted : List ℕ → Bool) (topics : List (Topic P))
-    → listed_where granted topics ≡ filter (λ (p : Pair). granted p.0) (map listed topics)
-listed_filter granted [] = refl
-listed_filter granted (topic ∷ topics) =
-    listed_step granted topic topics (granted topic.name) (listed_filter granted topics)
+-- a test of what the items show leaves what is shown of the items that pass it
+map_filter : {A B : Type 0} (f : A → B) (test : B → Bool) (xs : List A)
+    → map f (filter (λ x. test (f x)) xs) ≡ filter test (map f xs)
+map_filter f test [] = refl
+map_filter f test (x ∷ xs) = by (test (f x)) (map_filter f test xs)
+  where
+    by : (b : Bool) → map f (filter (λ x. test (f x)) xs) ≡ filter test (map f xs)
+        → map f (cond b (x ∷ filter (λ x. test (f x)) xs) (filter (λ x. test (f x)) xs))
+        ≡ cond b (f x ∷ filter test (map f xs)) (filter test (map f xs))
+    by true rest = ap (λ ys. f x ∷ ys) rest
+    by false rest = rest
 
 topics_listed : {P : Type 0} (granted : List ℕ → Bool) (topics : List (Topic P))
     → Lists (λ (p : Pair). IsTrue (granted p.0)) (listed_where granted topics) (map listed topics)
 topics_listed granted topics =
-    subst (λ ps. Lists (λ (p : Pair). IsTrue (granted p.0)) ps (map listed topics)) (sym (listed_filter granted topics))
+    subst (λ ps. Lists (λ (p : Pair). IsTrue (granted p.0)) ps (map listed topics))
+    (sym (map_filter listed (λ (p : Pair). granted p.0) topics))
     (lists_passing (λ (p : Pair). IsTrue (granted p.0)) (λ (p : Pair). granted p.0) (λ p is. is) (λ p is. is)
     (map listed topics))
 

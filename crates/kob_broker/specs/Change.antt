@@ -65,21 +65,21 @@ state_after_change GiveProducer broker =
     record (state_of broker) { next_producer = broker.next_producer + 1 }
 
 -- there is room for the change, and its place is there
-abbrev pub CanCommit : Change → Broker → Type 0
-CanCommit Unchanged broker = Unit {0}
-CanCommit (AddTopic made) broker = CanAdd made broker.catalog
-CanCommit (RemoveTopic name) broker = Unit {0}
-CanCommit (AddBindings made) broker = CanCreate made broker.authorizer
-CanCommit (RemoveBindings made) broker = CanDelete made broker.authorizer
-CanCommit (Append produce) broker =
+abbrev pub CanMake : Change → Broker → Type 0
+CanMake Unchanged broker = Unit {0}
+CanMake (AddTopic made) broker = CanAdd made broker.catalog
+CanMake (RemoveTopic name) broker = Unit {0}
+CanMake (AddBindings made) broker = CanCreate made broker.authorizer
+CanMake (RemoveBindings made) broker = CanDelete made broker.authorizer
+CanMake (Append produce) broker =
     (has_partition produce.topic produce.partition (topics_of broker.catalog) ≡ true)
     × CanAppend (catalog_log broker.catalog produce.topic produce.partition) produce.batch
-CanCommit (AdvanceStart topic partition offset) broker =
+CanMake (AdvanceStart topic partition offset) broker =
     (has_partition topic partition (topics_of broker.catalog) ≡ true)
     × (offset ≤ (catalog_log broker.catalog topic partition).kept.end)
-CanCommit (Commit made) broker = groups_kept.CanCommit made broker.groups
-CanCommit (RemoveGroup name) broker = groups.has_group name (groups_of broker.groups) ≡ true
-CanCommit GiveProducer broker = broker.next_producer < producer_limit
+CanMake (Commit made) broker = groups_kept.CanCommit made broker.groups
+CanMake (RemoveGroup name) broker = groups.has_group name (groups_of broker.groups) ≡ true
+CanMake GiveProducer broker = broker.next_producer < producer_limit
 
 -- the reply that is prepared, the state that its change leaves, and that there is room for it
 abbrev pub reply_of : Prepared → Reply
@@ -89,7 +89,7 @@ abbrev pub state_with : Prepared → Broker → State Retained
 state_with prepared broker = state_after_change prepared.change broker
 
 abbrev pub IsReady : Prepared → Broker → Type 0
-IsReady prepared broker = CanCommit prepared.change broker
+IsReady prepared broker = CanMake prepared.change broker
 
 -- what is prepared makes that outcome, and there is room for it
 pub record Makes (outcome : Outcome Retained) (broker : Broker) (prepared : Prepared) : Type 0 where
