@@ -1,6 +1,7 @@
 -- Decisions that make an outcome.
 use Rattle.std.proofs.Common.{◌≡◌, Some, sym, ap, subst, ◌∙◌}
-use Rattle.std.specs.Prelude.{Result, Ok, Err, IfOk, List, ℕ, Option}
+use Rattle.std.specs.Prelude.{Result, IfOk, List, ℕ, Option}
+use Rattle.std.proofs.lemmas.Result.{IfOk-weaker}
 use Rattle.kob_partition.specs.Retained.{retained_meaning}
 use Rattle.kob_rights.specs.Reason.{code_of}
 use Rattle.kob_rights.specs.declared.event.Event.{Event}
@@ -39,29 +40,25 @@ pub prepared_makes : {E : Type 0} (broker : Broker) (produce : Produce) (fate : 
     → IfOk result (λ prepared. prepared ≡ prepared_for produce fate)
     → MakesFor (requests.Produce produce) broker (prepared_for produce fate)
     → IfOk result (MakesFor (requests.Produce produce) broker)
-prepared_makes broker produce fate (Ok prepared) is makes =
-    subst (MakesFor (requests.Produce produce) broker) (sym is) makes
-prepared_makes broker produce fate (Err error) is makes = tt
+prepared_makes broker produce fate result is makes =
+    IfOk-weaker result (λ p. p ≡ prepared_for produce fate) (MakesFor (requests.Produce produce) broker)
+    (λ prepared same. subst (MakesFor (requests.Produce produce) broker) (sym same) makes) is
 
 -- what makes the effect of a request for whoever asks makes it for the event that has it
-pub made_for : (broker : Broker) (request : Request) (event : Event) (prepared : Prepared) → event.request ≡ request
-    → MakesFor request broker prepared
-    → Makes (effect retained_meaning (state_of broker) event event.request) broker prepared
-made_for broker request event prepared is makes =
-    subst (λ (r : Request). Makes (effect retained_meaning (state_of broker) event r) broker prepared) (sym is)
-    (makes event)
-
 pub made_for_ok : {E : Type 0} (broker : Broker) (request : Request) (event : Event) (result : Result Prepared E)
     → event.request ≡ request → IfOk result (MakesFor request broker)
     → IfOk result (Makes (effect retained_meaning (state_of broker) event event.request) broker)
-made_for_ok broker request event (Ok prepared) is makes = made_for broker request event prepared is makes
-made_for_ok broker request event (Err fault) is makes = tt
+made_for_ok broker request event result is makes =
+    subst (λ (r : Request). IfOk result (Makes (effect retained_meaning (state_of broker) event r) broker)) (sym is)
+    (IfOk-weaker result (MakesFor request broker)
+    (Makes (effect retained_meaning (state_of broker) event request) broker) (λ prepared made. made event) makes)
 
 pub metadata_for : {E : Type 0} (broker : Broker) (topic : Option (List ℕ)) (asked : Metadata) (event : Event)
     (result : Result Prepared E) → asked.topic ≡ topic
     → IfOk result (MakesFor (metadata_request topic) broker)
     → IfOk result (Makes (effect retained_meaning (state_of broker) event (requests.Metadata asked)) broker)
-metadata_for broker topic asked event (Ok prepared) is makes =
-    subst (λ t. Makes (effect retained_meaning (state_of broker) event (metadata_request t)) broker prepared) (sym is)
-    (makes event)
-metadata_for broker topic asked event (Err fault) is makes = tt
+metadata_for broker topic asked event result is makes =
+    subst (λ t. IfOk result (Makes (effect retained_meaning (state_of broker) event (metadata_request t)) broker)) (sym is)
+    (IfOk-weaker result (MakesFor (metadata_request topic) broker)
+    (Makes (effect retained_meaning (state_of broker) event (metadata_request topic)) broker)
+    (λ prepared made. made event) makes)

@@ -4,6 +4,7 @@ use Rattle.std.specs.Prelude.{Option, map}
 use Rattle.kob_authorizer.specs.Contents.{Contents}
 use Rattle.kob_authorizer.proofs.InTurn.{added_rises}
 use Rattle.kob_authorizer.proofs.Rising.{removed_rises}
+use Rattle.kob_names.specs.declared.settings.Settings.{Settings}
 use Rattle.kob_rights.specs.Writes.{Write, write_of}
 use Rattle.kob_rights.specs.Writes as writes
 use Rattle.kob_rights.specs.Table.{rights, denial_code}
@@ -17,7 +18,7 @@ use Rattle.kob_broker.specs.Effect.{after_write, named}
 use Rattle.kob_broker.specs.InForce.{HoldsInForce, access_after, changed_access, in_force}
 use Rattle.kob_broker.specs.Justice.{EachJust, IsDenial, IsJust}
 use Rattle.kob_partition.specs.Meaning.{Meaning}
-use Rattle.kob_broker.specs.State.{State}
+use Rattle.kob_broker.specs.State.{State, open_state}
 use Rattle.kob_broker.specs.Step.{replies_of, step}
 use Rattle.kob_broker.proofs.Clauses.{Found, IsNumbered, Says, each_blamed, search_says}
 use Rattle.kob_broker.proofs.Steps.{step_fits}
@@ -91,6 +92,10 @@ module _ {P : Type 0} (m : Meaning P) where
       just_at s.access e event (step m s e).reply reply this that (step_just s e numbered)
   run_just (e ∷ events) s numbered (suc k) event reply at told =
       rw (← step_access s e) (run_just events (step m s e).state (step_numbered s e numbered) k event reply at told)
+
+  pub opened_just : (settings : Settings) (events : List Event) → EachJust m events (open_state settings)
+  opened_just settings events =
+      run_just events (open_state settings) (added_rises [] 1 settings.opening (omega arith))
 
   -- the bindings after the first events of a run are those that are in force
   pub run_access : (events : List Event) (s : State P) → HoldsInForce m events s

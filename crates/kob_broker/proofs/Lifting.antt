@@ -123,10 +123,11 @@ module _ {P Q : Type 0} (m : Meaning P) (n : Meaning Q) (f : P → Q) (c : Carri
   with_start_alike None delete topics = refl
   with_start_alike (Some p) delete topics =
       let offset = offset_before m (Some p) delete.before in
-      ap (λ o. with_partition delete.topic delete.partition (n.advance (f p) o) (topics_map f topics))
-      (before_alike (Some p) delete.before)
-      ∙ ap (λ q. with_partition delete.topic delete.partition q (topics_map f topics)) (sym (c.advance p offset))
-      ∙ sym (with_partition_mapped f delete.topic delete.partition (m.advance p offset) topics)
+      rw (
+        before_alike (Some p) delete.before,
+        ← c.advance p offset,
+        ← with_partition_mapped f delete.topic delete.partition (m.advance p offset) topics,
+      ) refl
 
   out_of_range_alike : (found : Option P) (offset : ℕ)
       → is_out_of_range n (option_map f found) offset ≡ is_out_of_range m found offset
@@ -143,15 +144,10 @@ module _ {P Q : Type 0} (m : Meaning P) (n : Meaning Q) (f : P → Q) (c : Carri
       ≡ topics_map f (with_batch m found produce topics)
   with_batch_alike None produce topics = refl
   with_batch_alike (Some p) produce topics =
-      let written =
-      ap (λ q. with_partition produce.topic produce.partition q (topics_map f topics))
-      (sym (c.append p produce.batch))
-      ∙ sym (with_partition_mapped f produce.topic produce.partition (m.append p produce.batch) topics) in
-      ap (λ j. unless_repeat j (topics_map f topics)
-      (with_partition produce.topic produce.partition (n.append (f p) produce.batch) (topics_map f topics)))
-      (judged_at_alike (Some p) produce.batch)
-      ∙ unless_repeat_map f (judged_at m (Some p) produce.batch) topics
-      (with_partition produce.topic produce.partition (m.append p produce.batch) topics) _ written
+      let written = with_partition produce.topic produce.partition (m.append p produce.batch) topics in
+      rw (judged_at_alike (Some p) produce.batch, ← c.append p produce.batch)
+      (unless_repeat_map f (judged_at m (Some p) produce.batch) topics written _
+      (sym (with_partition_mapped f produce.topic produce.partition (m.append p produce.batch) topics)))
 
   in_alike : (topics : List (Topic P)) (name : Option (List ℕ × ℕ))
       → partition_in (topics_map f topics) name ≡ option_map f (partition_in topics name)

@@ -1,5 +1,5 @@
 -- A limit of 63 or 64 bits is spent only where as many offsets, producer ids or serials were asked for.
-use Rattle.std.proofs.Common.{◌≡◌, ℕ, ◌+◌, ◌≤◌, Bool, true, false, cond, ◌&&◌, ◌||◌, nat_lt, List, [], ◌∷◌, ◌++◌, Option, Some, None, IfSome, All, length, refl, sym, ap, ◌∙◌, arith, length-append, le-ltb}
+use Rattle.std.proofs.Common.{◌≡◌, ℕ, ◌+◌, ◌≤◌, Bool, true, false, cond, ◌&&◌, ◌||◌, nat_lt, List, [], ◌∷◌, ◌++◌, Option, Some, None, IfSome, All, length, refl, sym, ap, subst, ◌∙◌, arith, length-append, le-ltb}
 use Rattle.std.specs.List.{flat_map, fold}
 use Rattle.std.proofs.lemmas.Bool.{or_parts}
 use Rattle.std.proofs.lemmas.Bool.Decides.{nat_tests}
@@ -15,7 +15,7 @@ use Rattle.kob_names.specs.declared.draft.Draft.{Draft}
 use Rattle.kob_partition.proofs.Keeping.{records_of_push}
 use Rattle.kob_partition.specs.Append.{batch_judged, unless_repeat}
 use Rattle.kob_partition.specs.Batches.{Plain, records_of}
-use Rattle.kob_partition.specs.Retained.{plain_meaning}
+use Rattle.kob_partition.specs.Retained.{plain_meaning, retained_meaning}
 use Rattle.kob_partition.specs.Limits.{offset_limit}
 use Rattle.kob_producers.specs.declared.judge.Judgement.{Judgement}
 use Rattle.kob_producers.specs.declared.judge.Judgement.TheVariants.{Next, Repeat, OutOfOrder, OldEpoch}
@@ -35,6 +35,7 @@ use Rattle.kob_broker.specs.Spending.{SaysNothingSpent, asked_by, asked_in, aske
 use Rattle.kob_broker.specs.State.{State, open_state}
 use Rattle.kob_broker.specs.Step.{replies_of, step}
 use Rattle.kob_broker.proofs.EachPartition.{EachOf, each_after, of_request, written}
+use Rattle.kob_broker.proofs.Lifting.{runs_alike}
 use Rattle.kob_broker.proofs.Steps.{replies_keep, step_fits}
 
 -- one of the reasons that hold is that a limit is spent
@@ -215,3 +216,11 @@ nothing_spent settings events few =
     replies_keep plain_meaning (λ later s. StateHasFor (asked_in later) s) SaysNothingSpent step_has events
     (open_state settings)
     (record { topics = All-nil _; producers = omega arith; serials = omega (arith, added) })
+
+-- and no reply of a broker over what logs keep
+pub nothing_kept_spent : (settings : Settings) (events : List Event)
+    → length settings.opening + asked_in events ≤ offset_limit
+    → All SaysNothingSpent (replies_of retained_meaning events (open_state settings))
+nothing_kept_spent settings events few =
+    subst (All SaysNothingSpent) (sym (runs_alike (open_state settings) events).replies)
+    (nothing_spent settings events few)

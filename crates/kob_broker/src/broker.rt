@@ -70,7 +70,7 @@ impl Broker {
     }
 
     /// Decides on the request of an event whose rights are granted.
-    #[tactic(auto, using(crate::proofs::Decisions::made_for, crate::proofs::Decisions::made_for_ok))]
+    #[tactic(auto, using(crate::proofs::Decisions::made_for_ok))]
     fn prepare_effect(&mut self, alloc: Global, event: &Event) -> Result<Prepared, AllocError>
         ensures state { state_of self.new ≡ state_of self.old }
         ensures ok { IfOk result (Makes

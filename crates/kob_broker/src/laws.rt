@@ -26,6 +26,7 @@ ghost use Rattle.kob_broker.specs.Step.{replies_of, step};
 /// Whatever events come after the opening, each is served exactly if the bindings in force at its
 /// place grant every right of the operation table. Each denial names the earliest deny that hits,
 /// or says that no allow does.
+#[tactic(auto, using(crate::proofs::Just::opened_just))]
 pub fn each_reply_is_just()
     ensures plain { (settings : Settings) (events : List Event)
         → EachJust plain_meaning events (open_state settings) }
@@ -36,6 +37,7 @@ pub fn each_reply_is_just()
 }
 
 /// A denied request changes nothing, and neither does a refused one.
+#[tactic(auto, using(crate::proofs::Unchanged::leaves_unless_done))]
 pub fn only_done_requests_change_the_state()
     ensures plain { (s : State Plain) (event : Event) → LeavesUnlessDone plain_meaning s event }
     ensures retained { (s : State Retained) (event : Event)
@@ -46,6 +48,7 @@ pub fn only_done_requests_change_the_state()
 
 /// The bindings in force at any place of a run follow from the events before it and their replies:
 /// after the first events of a run, the broker holds what `in_force` makes of them.
+#[tactic(auto, using(crate::proofs::Just::run_access))]
 pub fn replies_tell_the_bindings_in_force()
     ensures plain { (s : State Plain) (events : List Event)
         → HoldsInForce plain_meaning events s }
@@ -58,6 +61,7 @@ pub fn replies_tell_the_bindings_in_force()
 /// Whether an event is denied, and how, depends only on the event, the settings and the bindings in
 /// force. Two brokers that agree on these give equal denials, whatever serial comes next, what
 /// topics and groups they hold, and however their partitions are kept.
+#[tactic(auto, using(crate::proofs::Denials::same_denial))]
 pub fn denials_depend_on_bindings_alone()
     ensures plain { (s t : State Plain) (event : Event) → AgreeOnAccess s.access t.access
         → SameDenial (step plain_meaning s event).reply (step plain_meaning t event).reply }
@@ -73,6 +77,7 @@ pub fn denials_depend_on_bindings_alone()
 
 /// If nothing is open to everyone, each verdict on a right is by super users and bindings alone.
 /// Whether anything is open to everyone never changes, whatever a broker serves.
+#[tactic(auto, using(crate::proofs::Switch::step_switch, kob_authorizer::proofs::Verdicts::by_bindings))]
 pub fn verdicts_are_by_bindings_where_nothing_is_open()
     ensures verdicts { (access : Contents) (event : Event) (check : Check)
         → access.everyone ≡ false
@@ -90,6 +95,7 @@ pub fn verdicts_are_by_bindings_where_nothing_is_open()
 /// kept gives the same replies as one over all accepted batches. Its state after them is what is
 /// kept of the other's state. Both open alike, so that what is proved of the replies of one holds
 /// of the other's.
+#[tactic(auto, using(crate::proofs::Lifting::steps_alike))]
 pub fn what_is_kept_is_enough()
     ensures opening { (settings : Settings) → OpensAlike settings }
     ensures steps { (s : State Plain) (event : Event) → StepsAlike s event }
@@ -102,6 +108,7 @@ pub fn what_is_kept_is_enough()
 /// in force there let the principal describe. They are in order of creation. The reply to
 /// LIST_GROUPS has the groups that they let it describe, or all for a principal that may describe
 /// the cluster. They are in order of their first commit.
+#[tactic(auto, using(crate::proofs::Shown::each_lists))]
 pub fn listings_hold_what_is_described()
     ensures plain { (s : State Plain) (events : List Event) → EachLists plain_meaning events s }
     ensures retained { (s : State Retained) (events : List Event)
@@ -113,6 +120,7 @@ pub fn listings_hold_what_is_described()
 /// Whatever events come after the opening, each offset in a reply is at most
 /// 9,223,372,036,854,775,807, the greatest at which a log may end. Each fetched record has an
 /// offset below that.
+#[tactic(auto, using(crate::proofs::Offsets::replies_within, crate::proofs::Offsets::kept_within))]
 pub fn offsets_stay_within_the_limit()
     ensures plain { (settings : Settings) (events : List Event)
         → All OffsetsWithin (replies_of plain_meaning events (open_state settings)) }
@@ -125,6 +133,7 @@ pub fn offsets_stay_within_the_limit()
 /// OffsetsSpent, ProducerIdsSpent and SerialsSpent are out of reach. No reply has one of them while
 /// these are at most 9,223,372,036,854,775,807 in all: the opening bindings, and the records,
 /// drafts and producer ids that the events ask for.
+#[tactic(auto, using(crate::proofs::Spending::nothing_spent, crate::proofs::Spending::nothing_kept_spent))]
 pub fn nothing_is_spent_unasked()
     ensures plain { (settings : Settings) (events : List Event)
         → length settings.opening + asked_in events ≤ offset_limit

@@ -55,6 +55,7 @@ impl Broker {
         Ok(Prepared::done(Body::Deleted, Change::RemoveTopic(name)))
     }
 
+    #[tactic(auto, using(crate::proofs::Decisions::metadata_for))]
     pub(crate) fn prepare_metadata(
         &self,
         alloc: Global,
