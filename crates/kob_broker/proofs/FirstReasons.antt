@@ -1,13 +1,8 @@
 -- The first reason among lists of reasons.
 use Rattle.std.proofs.Common.{◌≡◌, List, [], ◌∷◌, ◌++◌, Some, None, Bool, true, false, refl, arith}
-use Rattle.std.proofs.Common.{◌<◌, ◌∙◌, ℕ, ap, drop, drop-cons, get_or, length, suc, sym, zero}
-use Rattle.std.specs.List.{flat_map}
+use Rattle.std.proofs.Common.{ℕ, suc, zero}
 use Rattle.std.proofs.lemmas.Bool.Decides.{nat_tests}
 use Rattle.kob_rights.specs.declared.reason.Reason.{Reason}
-use Rattle.kob_names.specs.declared.draft.Draft.{Draft}
-use Rattle.kob_broker.specs.CreateAcls.{IsUnlessRefused, draft_reasons}
-use Rattle.kob_broker.specs.declared.on_acls.DraftFault.{DraftFault}
-use Rattle.kob_broker.specs.declared.on_acls.DraftFault.TheVariants.{Refused, Memory}
 use Rattle.kob_broker.specs.Reasons.{first_reason}
 
 pub first_some : (xs ys : List (Bool × Reason)) (reason : Reason) → first_reason xs ≡ Some reason
@@ -18,19 +13,6 @@ first_some (x ∷ xs) ys reason h = grind (arith, nat_tests, first_some xs ys re
 pub first_none : (xs ys : List (Bool × Reason)) → first_reason xs ≡ None → first_reason (xs ++ ys) ≡ first_reason ys
 first_none [] ys h = refl
 first_none (x ∷ xs) ys h = grind (arith, nat_tests, first_none xs ys)
-
--- the first draft that is refused, of those that are left
-pub refused_here : (drafts : List Draft) (at : ℕ) (draft : Draft) (fault : DraftFault) → at < length drafts
-    → draft ≡ get_or drafts at draft
-    → first_reason (flat_map draft_reasons (drop at drafts)) ≡ first_reason (flat_map draft_reasons drafts)
-    → IsUnlessRefused (first_reason (draft_reasons draft)) fault
-    → IsUnlessRefused (first_reason (flat_map draft_reasons drafts)) fault
-refused_here drafts at draft Memory within is against refused = tt
-refused_here drafts at draft (Refused reason) within is against refused =
-    sym against
-    ∙ ap (λ (left : List Draft). first_reason (flat_map draft_reasons left)) (drop-cons drafts at draft within)
-    ∙ ap (λ (d : Draft). first_reason (draft_reasons d ++ flat_map draft_reasons (drop (suc at) drafts))) (sym is)
-    ∙ first_some (draft_reasons draft) (flat_map draft_reasons (drop (suc at) drafts)) reason refused
 
 -- where no reason holds, the first doesn't, nor do those that come later
 none_later : (holds : Bool) (reason : Reason) (rest : List (Bool × Reason))

@@ -11,8 +11,6 @@ use Rattle.kob_rights.specs.Table.{rights, denial_code}
 use Rattle.kob_rights.specs.Check.{Check}
 use Rattle.kob_rights.specs.declared.event.Event.{Event}
 use Rattle.kob_rights.specs.declared.reply.Reply.{Reply}
-use Rattle.kob_rights.specs.declared.reply.Reply.TheVariants.{Denied, Refused, Done}
-use Rattle.kob_rights.specs.declared.request.Request.{Request}
 use Rattle.kob_broker.specs.Denial.{verdict}
 use Rattle.kob_broker.specs.Effect.{after_write, named}
 use Rattle.kob_broker.specs.InForce.{HoldsInForce, access_after, changed_access, in_force}
@@ -35,21 +33,6 @@ found_denial access event blamed numbered f = record {
       (let e = f.found_is in let same : blamed.0 ≡ f.place = omega arith in same);
   blamed = each_blamed access event blamed.1 numbered f.not_met;
 }
-
--- the bindings after what a request did, where they are numbered
-changed_numbered : (write : Option Write) (access : Contents) → IsNumbered access
-    → IsNumbered (changed_access write access)
-changed_numbered (Some (writes.AddBindings create)) access numbered =
-    added_rises access.entries access.next create.drafts numbered
-changed_numbered (Some (writes.RemoveBindings delete)) access numbered =
-    removed_rises access.entries access.next delete.filter numbered
-changed_numbered _ access numbered = numbered
-
-reply_numbered : (reply : Reply) (request : Request) (access : Contents) → IsNumbered access
-    → IsNumbered (access_after reply request access)
-reply_numbered (Done body) request access numbered = changed_numbered (write_of request) access numbered
-reply_numbered (Denied code verdicts) request access numbered = numbered
-reply_numbered (Refused code reason) request access numbered = numbered
 
 just_at : (access : Contents) (e event : Event) (r reply : Reply) → e ≡ event → r ≡ reply → IsJust access e r
     → IsJust access event reply
@@ -79,9 +62,19 @@ module _ {P : Type 0} (m : Meaning P) where
       step_fits m s event (λ o. o.state.access ≡ access_after o.reply event.request s.access) (λ blamed is. refl)
       (λ reason granted is. refl) (λ granted is. after_access s (named s event.request) (write_of event.request))
 
+  -- and are numbered
+  written_numbered : (s : State P) (found : Option P) (write : Option Write) → IsNumbered s.access
+      → IsNumbered (after_write m s found write).access
+  written_numbered s found (Some (writes.AddBindings create)) numbered =
+      added_rises s.access.entries s.access.next create.drafts numbered
+  written_numbered s found (Some (writes.RemoveBindings delete)) numbered =
+      removed_rises s.access.entries s.access.next delete.filter numbered
+  written_numbered s found _ numbered = numbered
+
   step_numbered : (s : State P) (event : Event) → IsNumbered s.access → IsNumbered (step m s event).state.access
   step_numbered s event numbered =
-      rw (step_access s event) (reply_numbered (step m s event).reply event.request s.access numbered)
+      step_fits m s event (λ o. IsNumbered o.state.access) (λ blamed is. numbered) (λ reason granted is. numbered)
+      (λ granted is. written_numbered s (named s event.request) (write_of event.request) numbered)
 
   -- and so each reply of a run
   pub run_just : (events : List Event) (s : State P) → IsNumbered s.access → EachJust m events s

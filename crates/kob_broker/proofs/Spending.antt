@@ -1,7 +1,8 @@
 -- A limit of 63 or 64 bits is spent only where as many offsets, producer ids or serials were asked for.
-use Rattle.std.proofs.Common.{◌≡◌, ℕ, ◌+◌, ◌≤◌, Bool, true, false, cond, ◌&&◌, ◌||◌, nat_lt, List, [], ◌∷◌, ◌++◌, Option, Some, None, IfSome, All, length, refl, sym, ap, subst, ◌∙◌, arith, length-append, le-ltb}
-use Rattle.std.specs.List.{flat_map, fold}
-use Rattle.std.proofs.lemmas.Bool.{or_parts}
+use Rattle.std.proofs.Common.{◌≡◌, ℕ, ◌+◌, ◌≤◌, Bool, true, false, cond, ◌&&◌, ◌||◌, nat_lt, List, [], ◌∷◌, Option, Some, None, IfSome, All, length, refl, sym, ap, subst, ◌∙◌, arith, length-append, le-ltb}
+use Rattle.std.specs.List.{flat_map, fold, list_any}
+use Rattle.std.proofs.lemmas.Bool.{or_from, or_parts}
+use Rattle.std.proofs.lemmas.List.Folds.{list_any-append}
 use Rattle.std.proofs.lemmas.Bool.Decides.{nat_tests}
 use Rattle.std.proofs.lemmas.List.Elements.{All-nil, All-weaker}
 use Rattle.kob_authorizer.specs.Creation.{Added, add_one, addition, with_binding, serial_of}
@@ -39,9 +40,11 @@ use Rattle.kob_broker.proofs.Lifting.{runs_alike}
 use Rattle.kob_broker.proofs.Steps.{replies_keep, step_fits}
 
 -- one of the reasons that hold is that a limit is spent
+abbrev is_spending : Bool × Reason → Bool
+is_spending against = is_spent against.1 && against.0
+
 abbrev spends : List (Bool × Reason) → Bool
-spends [] = false
-spends (against ∷ rest) = (is_spent against.1 && against.0) || spends rest
+spends xs = list_any is_spending xs
 
 spent_here : (spent rest : Bool) → ((spent && true) || rest) ≡ false → spent ≡ false
 spent_here true rest none = cc
@@ -55,10 +58,6 @@ first_unspent ((true, x) ∷ xs) reason none is =
     let same : x ≡ reason = cc in ap is_spent (sym same) ∙ spent_here (is_spent x) (spends xs) none
 first_unspent ((false, x) ∷ xs) reason none is =
     first_unspent xs reason (or_parts (is_spent x && false) (spends xs) none).1 is
-
-spends_append : (xs ys : List (Bool × Reason)) → spends xs ≡ false → spends ys ≡ false → spends (xs ++ ys) ≡ false
-spends_append [] ys none later = later
-spends_append (x ∷ xs) ys none later = grind (arith, nat_tests, spends_append xs ys)
 
 -- a partition has offsets for as many records more, and so have producer ids and serials
 abbrev HasFor : ℕ → Plain → Type 0
@@ -130,8 +129,9 @@ request_spends more s found (CreateAcls create) has at =
     let after : Added = addition access.entries access.next create.drafts in
     let added = added_next create.drafts (record { entries = access.entries; next = access.next; serials = [] }) in
     let fits : after.next ≤ serial_limit = omega (arith, added, has.serials) in
-    spends_append (flat_map draft_reasons create.drafts)
-    (limit_reasons (create_fault access.entries access.next create.drafts)) (drafts_spend create.drafts)
+    list_any-append is_spending (flat_map draft_reasons create.drafts)
+    (limit_reasons (create_fault access.entries access.next create.drafts))
+    ∙ or_from _ _ (drafts_spend create.drafts)
     (limits_spend (nat_lt binding_limit (length after.entries)) (nat_lt serial_limit after.next)
     (le-ltb serial_limit after.next fits))
 request_spends more s found InitProducerId has at = only_last true _ (search (arith, nat_tests, has.producers))

@@ -13,7 +13,7 @@ use Rattle.kob_rights.specs.declared.reason.Reason.{Reason}
 use Rattle.kob_rights.specs.declared.reason.Reason.TheVariants as reasons
 use Rattle.kob_rights.specs.declared.on_acls.CreateAcls.{CreateAcls}
 use Rattle.kob_broker.specs.declared.on_acls.DraftFault.{DraftFault}
-use Rattle.kob_broker.specs.declared.on_acls.DraftFault.TheVariants.{Refused, Memory}
+use Rattle.kob_broker.specs.declared.on_acls.DraftFault.TheVariants.{Refused}
 
 -- what may be wrong with a draft
 abbrev pub draft_reasons : Draft → List (Bool × Reason)
@@ -41,5 +41,4 @@ created_serials access create = (addition access.entries access.next create.draf
 
 -- a fault that is no lack of memory is the reason
 abbrev pub IsUnlessRefused : Option Reason → DraftFault → Type 0
-IsUnlessRefused against (Refused reason) = against ≡ Some reason
-IsUnlessRefused against Memory = Unit {0}
+IsUnlessRefused against fault = (reason : Reason) → fault ≡ Refused reason → against ≡ Some reason

@@ -74,6 +74,7 @@ impl Broker {
 }
 
 /// What becomes of a batch in a partition. If it is appended, capacity is reserved for it.
+#[tactic(auto, using(crate::proofs::Fates::bad_is, crate::proofs::Fates::told_is))]
 fn fate_in(log: &mut PartitionLog, batch: &Batch, next_producer: u64) -> Result<Fate, AllocError>
     ensures kept { log.new.kept ≡ log.old.kept }
     ensures ok { IfOk result (IsFate next_producer log.new batch.now) }

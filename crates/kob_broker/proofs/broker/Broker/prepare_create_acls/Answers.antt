@@ -1,7 +1,7 @@
-use Rattle.std.proofs.Common.{Some, ap, subst, sym, ◌∙◌}
+use Rattle.std.proofs.Common.{Some, ap, sym, ◌∙◌}
 use Rattle.std.specs.List.{flat_map}
 use Rattle.kob_rights.specs.declared.request.Request.TheVariants as requests
-use Rattle.kob_broker.specs.CreateAcls.{IsUnlessRefused, draft_reasons}
+use Rattle.kob_broker.specs.CreateAcls.{draft_reasons}
 use Rattle.kob_broker.specs.Reasons.{first_reason}
 use Rattle.kob_broker.proofs.Decisions.{refused_makes}
 use Rattle.kob_broker.proofs.FirstReasons.{first_some}
@@ -9,11 +9,8 @@ use Rattle.kob_broker.proofs.broker.Broker.prepare_create_acls.Goals as goal
 
 pub returns-in-Err-Refused-clause-ok : goal.returns-in-Err-Refused-clause-ok
 returns-in-Err-Refused-clause-ok c =
-    let create = c.args.create.now in
-    let against = first_reason (flat_map draft_reasons c.as_slice.result.now) in
-    refused_makes c.args.self.now (requests.CreateAcls create) c.refused.result _
-    (first_some (flat_map draft_reasons create.drafts) _ _
+    refused_makes c.args.self.now (requests.CreateAcls c.args.create.now) c.refused.result _
+    (first_some (flat_map draft_reasons c.args.create.now.drafts) _ _
     (ap (λ drafts. first_reason (flat_map draft_reasons drafts)) (sym c.as_slice.ensures)
-    ∙ subst (IsUnlessRefused against) c.in-Err-Refused.field-0-is c.in-Err-Refused.ensures.refused
-    ∙ ap Some (sym c.in-Err-Refused.reason-is)))
+    ∙ c.in-Err-Refused.ensures.refused _ c.in-Err-Refused.field-0-is ∙ ap Some (sym c.in-Err-Refused.reason-is)))
     c.refused.ensures.reply c.refused.ensures.change
