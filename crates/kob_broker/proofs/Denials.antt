@@ -1,7 +1,6 @@
 -- A denial is the same wherever the bindings in force and the super users are.
-use Rattle.std.proofs.Common.{◌≡◌, ℕ, ◌+◌, Bool, List, [], ◌∷◌, Option, Some, if◌then◌else◌, option_map, refl, ap, sym, ◌∙◌}
+use Rattle.std.proofs.Common.{◌≡◌, ℕ, ◌+◌, List, [], ◌∷◌, Option, Some, if◌then◌else◌, option_map, refl, ap, sym, ◌∙◌}
 use Rattle.kob_authorizer.specs.Contents.{Contents}
-use Rattle.kob_names.specs.Binding.{Binding}
 use Rattle.kob_names.specs.declared.verdict.Verdict.{Verdict}
 use Rattle.kob_partition.specs.Meaning.{Meaning}
 use Rattle.kob_rights.specs.Check.{Check}
@@ -26,10 +25,7 @@ unmet_alike access next event n (clause ∷ clauses) =
 
 with_next : (one other : Contents) → AgreeOnAccess one other → record one { next = other.next } ≡ other
 with_next one other k =
-    ap (λ (entries : List (ℕ × Binding)). record one { entries = entries; next = other.next }) k.entries
-    ∙ ap (λ (supers : List (List ℕ)). record one { entries = other.entries; supers = supers; next = other.next })
-    k.supers
-    ∙ ap (λ (everyone : Bool). record other { everyone = everyone }) k.everyone
+    λ i. record { entries = k.entries i; next = other.next; supers = k.supers i; everyone = k.everyone i }
 
 denial_alike : (one other : Contents) (event : Event) → AgreeOnAccess one other
     → denial_of one event ≡ denial_of other event

@@ -3,14 +3,11 @@ pub mod Steps
 pub mod FirstReasons
 pub mod Decisions
 pub mod Fates
-pub mod Clauses
 pub mod Just
 pub mod Lifting
-pub mod Unchanged
 pub mod Denials
 pub mod Shown
 pub mod EachPartition
 pub mod PartitionOffsets
 pub mod Offsets
 pub mod Spending
-pub mod Switch

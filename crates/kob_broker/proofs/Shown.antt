@@ -121,12 +121,7 @@ module _ {P : Type 0} (m : Meaning P) where
   pub each_lists : (events : List Event) (s : State P) → EachLists m events s
   each_lists events s k event reply at told =
       let now : State P = state_after m (take k events) s in
-      let in_force = run_access m events s k in
-      let same = reply_at m events s k event reply at told in (
-        subst (λ (r : Reply). ListsTopics (in_force_at m events s k) now event r) same
-            (subst (λ (a : Contents). ListsTopics a now event (step m now event).reply) in_force
-            (lists_topics now event)),
-        subst (λ (r : Reply). ListsGroups (in_force_at m events s k) now event r) same
-            (subst (λ (a : Contents). ListsGroups a now event (step m now event).reply) in_force
-            (lists_groups now event)),
-      )
+      let Both : Contents → Reply → Type 0 = λ access r. ListsTopics access now event r × ListsGroups access now event r in
+      subst (Both (in_force_at m events s k)) (reply_at m events s k event reply at told)
+      (subst (λ (a : Contents). Both a (step m now event).reply) (run_access m events s k)
+      (lists_topics now event, lists_groups now event))

@@ -1,7 +1,7 @@
 -- A limit of 63 or 64 bits is spent only where as many offsets, producer ids or serials were asked for.
-use Rattle.std.proofs.Common.{◌≡◌, ℕ, ◌+◌, ◌≤◌, Bool, true, false, cond, ◌&&◌, ◌||◌, nat_lt, List, [], ◌∷◌, Option, Some, None, IfSome, All, length, refl, sym, ap, subst, ◌∙◌, arith, length-append, le-ltb}
+use Rattle.std.proofs.Common.{◌≡◌, ℕ, ◌+◌, ◌≤◌, Bool, true, false, cond, ◌&&◌, ◌||◌, nat_lt, List, [], ◌∷◌, Option, Some, None, IfSome, All, length, refl, sym, ap, subst, ◌∙◌, arith, le-ltb}
 use Rattle.std.specs.List.{flat_map, fold, list_any}
-use Rattle.std.proofs.lemmas.Bool.{or_from, or_parts}
+use Rattle.std.proofs.lemmas.Bool.{and_right, or_from, or_parts}
 use Rattle.std.proofs.lemmas.List.Folds.{list_any-append}
 use Rattle.std.proofs.lemmas.Bool.Decides.{nat_tests}
 use Rattle.std.proofs.lemmas.List.Elements.{All-nil, All-weaker}
@@ -13,10 +13,8 @@ use Rattle.kob_names.specs.Binding.{Binding}
 use Rattle.kob_names.specs.declared.batch.Batch.{Batch}
 use Rattle.kob_names.specs.declared.settings.Settings.{Settings}
 use Rattle.kob_names.specs.declared.draft.Draft.{Draft}
-use Rattle.kob_partition.proofs.Keeping.{records_of_push}
 use Rattle.kob_partition.specs.Append.{batch_judged, unless_repeat}
-use Rattle.kob_partition.specs.Batches.{Plain, records_of}
-use Rattle.kob_partition.specs.Retained.{plain_meaning, retained_meaning}
+use Rattle.kob_partition.specs.Retained.{Retained, plain_meaning, retained_meaning}
 use Rattle.kob_partition.specs.Limits.{offset_limit}
 use Rattle.kob_producers.specs.declared.judge.Judgement.{Judgement}
 use Rattle.kob_producers.specs.declared.judge.Judgement.TheVariants.{Next, Repeat, OutOfOrder, OldEpoch}
@@ -60,23 +58,19 @@ first_unspent ((false, x) ∷ xs) reason none is =
     first_unspent xs reason (or_parts (is_spent x && false) (spends xs) none).1 is
 
 -- a partition has offsets for as many records more, and so have producer ids and serials
-abbrev HasFor : ℕ → Plain → Type 0
-HasFor more partition = length (records_of partition.batches) + more ≤ offset_limit
+abbrev HasFor : ℕ → Retained → Type 0
+HasFor more kept = kept.end + more ≤ offset_limit
 
-pub record StateHasFor (more : ℕ) (s : State Plain) : Type 0 where
+pub record StateHasFor (more : ℕ) (s : State Retained) : Type 0 where
   pub topics : All (EachOf (HasFor more)) s.topics
   pub producers : s.next_producer + more ≤ offset_limit
   pub serials : s.access.next + more ≤ offset_limit + 1
 
-topics_fewer : (n more : ℕ) (s : State Plain) → StateHasFor (n + more) s → All (EachOf (HasFor more)) s.topics
-topics_fewer n more s has =
-    All-weaker (EachOf (HasFor (n + more))) (EachOf (HasFor more))
-    (λ topic. All-weaker (HasFor (n + more)) (HasFor more) (λ partition short. omega arith) topic.partitions) s.topics
-    has.topics
-
-fewer : (n more : ℕ) (s : State Plain) → StateHasFor (n + more) s → StateHasFor more s
+fewer : (n more : ℕ) (s : State Retained) → StateHasFor (n + more) s → StateHasFor more s
 fewer n more s has = record {
-  topics = topics_fewer n more s has;
+  topics = All-weaker (EachOf (HasFor (n + more))) (EachOf (HasFor more))
+      (λ topic. All-weaker (HasFor (n + more)) (HasFor more) (λ kept short. omega arith) topic.partitions) s.topics
+      has.topics;
   producers = omega (arith, has.producers);
   serials = omega (arith, has.serials);
 }
@@ -109,20 +103,19 @@ limits_spend false true none = cc
 limits_spend false false none = refl
 
 only_last : (test last : Bool) → last ≡ false → ((test && last) || false) ≡ false
-only_last true last none = grind (arith, nat_tests)
-only_last false last none = refl
+only_last test last none = or_from (test && last) false (and_right test last none) refl
 
-produce_spends : (found : Option Plain) (produce : ProduceAsked) (more : ℕ)
+produce_spends : (found : Option Retained) (produce : ProduceAsked) (more : ℕ)
     → IfSome found (HasFor (length produce.batch.records + more)) → length produce.batch.records ≤ offset_limit
-    → nat_lt offset_limit (end_at plain_meaning found + length produce.batch.records) ≡ false
+    → nat_lt offset_limit (end_at retained_meaning found + length produce.batch.records) ≡ false
 produce_spends None produce more has few = le-ltb _ _ (omega (arith, few))
-produce_spends (Some partition) produce more has few = le-ltb _ _ (omega (arith, has))
+produce_spends (Some kept) produce more has few = le-ltb _ _ (omega (arith, has))
 
-request_spends : (more : ℕ) (s : State Plain) (found : Option Plain) (request : Request)
+request_spends : (more : ℕ) (s : State Retained) (found : Option Retained) (request : Request)
     → StateHasFor (asked_by request + more) s → IfSome found (HasFor (asked_by request + more))
-    → spends (reasons_against plain_meaning s found request) ≡ false
+    → spends (reasons_against retained_meaning s found request) ≡ false
 request_spends more s found (Produce produce) has at =
-    only_last (is_next (judged_at plain_meaning found produce.batch)) _
+    only_last (is_next (judged_at retained_meaning found produce.batch)) _
     (produce_spends found produce more at (omega (arith, has.producers)))
 request_spends more s found (CreateAcls create) has at =
     let access = s.access in
@@ -138,62 +131,55 @@ request_spends more s found InitProducerId has at = only_last true _ (search (ar
 request_spends more s found (Metadata metadata) has at = metadata_spends metadata.topic
   where
     metadata_spends : (topic : Option (List ℕ))
-        → spends (reasons_against plain_meaning s found (Metadata (record { topic = topic }))) ≡ false
+        → spends (reasons_against retained_meaning s found (Metadata (record { topic = topic }))) ≡ false
     metadata_spends None = refl
     metadata_spends (Some name) = refl
 request_spends more s found _ has at = refl
 
 -- after a write there is as much less as was asked for
-batch_has : (judgement : Judgement) (partition : Plain) (batch : Batch) (more : ℕ)
-    → HasFor (length batch.records + more) partition
-    → HasFor more (unless_repeat judgement partition (plain_meaning.append partition batch))
-batch_has judgement partition batch more has =
-    let long =
-    ap length (records_of_push partition.batches batch) ∙ length-append (records_of partition.batches) batch.records in
-    either judgement (omega (arith, has)) (omega (arith, has, long))
-  where
-    either : (judgement : Judgement) → HasFor more partition → HasFor more (plain_meaning.append partition batch)
-        → HasFor more (unless_repeat judgement partition (plain_meaning.append partition batch))
-    either (Repeat offset) old put = old
-    either Next old put = put
-    either OutOfOrder old put = put
-    either OldEpoch old put = put
+batch_has : (judgement : Judgement) (kept : Retained) (batch : Batch) (more : ℕ)
+    → HasFor (length batch.records + more) kept
+    → HasFor more (unless_repeat judgement kept (retained_meaning.append kept batch))
+batch_has (Repeat offset) kept batch more has = omega (arith, has)
+batch_has Next kept batch more has = omega (arith, has)
+batch_has OutOfOrder kept batch more has = omega (arith, has)
+batch_has OldEpoch kept batch more has = omega (arith, has)
 
-written_has : (more : ℕ) (found : Option Plain) (write : Option Write) → IfSome found (HasFor (asked_of write + more))
-    → IfSome (written plain_meaning found write) (HasFor more)
-written_has more (Some partition) (Some (writes.Append produce)) at =
-    batch_has (batch_judged plain_meaning partition produce.batch) partition produce.batch more at
-written_has more (Some partition) (Some (writes.AdvanceStart delete)) at = omega (arith, at)
+written_has : (more : ℕ) (found : Option Retained) (write : Option Write) → IfSome found (HasFor (asked_of write + more))
+    → IfSome (written retained_meaning found write) (HasFor more)
+written_has more (Some kept) (Some (writes.Append produce)) at =
+    batch_has (batch_judged retained_meaning kept produce.batch) kept produce.batch more at
+written_has more (Some kept) (Some (writes.AdvanceStart delete)) at = omega (arith, at)
 written_has more None (Some (writes.Append produce)) at = tt
 written_has more None (Some (writes.AdvanceStart delete)) at = tt
 written_has more found _ at = tt
 
-producers_has : (more : ℕ) (s : State Plain) (found : Option Plain) (write : Option Write)
+producers_has : (more : ℕ) (s : State Retained) (found : Option Retained) (write : Option Write)
     → s.next_producer + (asked_of write + more) ≤ offset_limit
-    → (after_write plain_meaning s found write).next_producer + more ≤ offset_limit
+    → (after_write retained_meaning s found write).next_producer + more ≤ offset_limit
 producers_has more s found (Some writes.GiveProducerId) has = omega arith
 producers_has more s found _ has = omega arith
 
-serials_has : (more : ℕ) (s : State Plain) (found : Option Plain) (write : Option Write)
+serials_has : (more : ℕ) (s : State Retained) (found : Option Retained) (write : Option Write)
     → s.access.next + (asked_of write + more) ≤ offset_limit + 1
-    → (after_write plain_meaning s found write).access.next + more ≤ offset_limit + 1
+    → (after_write retained_meaning s found write).access.next + more ≤ offset_limit + 1
 serials_has more s found (Some (writes.AddBindings create)) has =
     let added = added_next create.drafts (record { entries = s.access.entries; next = s.access.next; serials = [] }) in
     omega (arith, added)
 serials_has more s found _ has = omega arith
 
-step_has : (event : Event) (events : List Event) (s : State Plain) → StateHasFor (asked_in (event ∷ events)) s
-    → SaysNothingSpent (step plain_meaning s event).reply × StateHasFor (asked_in events) (step plain_meaning s event).state
+step_has : (event : Event) (events : List Event) (s : State Retained) → StateHasFor (asked_in (event ∷ events)) s
+    → SaysNothingSpent (step retained_meaning s event).reply × StateHasFor (asked_in events) (step retained_meaning s event).state
 step_has event events s has =
     let more = asked_in events in
     let request = event.request in
     let found = named s request in
     let less = fewer (asked_by request) more s has in
     let at = of_request (HasFor (asked_by request + more)) s request has.topics in
-    step_fits plain_meaning s event (λ o. SaysNothingSpent o.reply × StateHasFor more o.state)
+    step_fits retained_meaning s event (λ o. SaysNothingSpent o.reply × StateHasFor more o.state)
     (λ blamed is. (tt, less))
     (λ reason granted is. (
-      first_unspent (reasons_against plain_meaning s found request) reason
+      first_unspent (reasons_against retained_meaning s found request) reason
           (request_spends more s found request has at) is,
       less,
     ))
@@ -201,26 +187,26 @@ step_has event events s has =
       tt,
       record {
         topics =
-            each_after plain_meaning (HasFor more) s found (write_of request) (omega (arith, has.producers))
+            each_after retained_meaning (HasFor more) s found (write_of request) (omega (arith, has.producers))
             (written_has more found (write_of request) at) less.topics;
         producers = producers_has more s found (write_of request) has.producers;
         serials = serials_has more s found (write_of request) has.serials;
       },
     ))
 
-pub nothing_spent : (settings : Settings) (events : List Event)
-    → length settings.opening + asked_in events ≤ offset_limit
-    → All SaysNothingSpent (replies_of plain_meaning events (open_state settings))
-nothing_spent settings events few =
-    let added = added_next settings.opening (record { entries = []; next = 1; serials = [] }) in
-    replies_keep plain_meaning (λ later s. StateHasFor (asked_in later) s) SaysNothingSpent step_has events
-    (open_state settings)
-    (record { topics = All-nil _; producers = omega arith; serials = omega (arith, added) })
-
--- and no reply of a broker over what logs keep
 pub nothing_kept_spent : (settings : Settings) (events : List Event)
     → length settings.opening + asked_in events ≤ offset_limit
     → All SaysNothingSpent (replies_of retained_meaning events (open_state settings))
 nothing_kept_spent settings events few =
-    subst (All SaysNothingSpent) (sym (runs_alike (open_state settings) events).replies)
-    (nothing_spent settings events few)
+    let added = added_next settings.opening (record { entries = []; next = 1; serials = [] }) in
+    replies_keep retained_meaning (λ later s. StateHasFor (asked_in later) s) SaysNothingSpent step_has events
+    (open_state settings)
+    (record { topics = All-nil _; producers = omega arith; serials = omega (arith, added) })
+
+-- and no reply of a broker over all accepted batches
+pub nothing_spent : (settings : Settings) (events : List Event)
+    → length settings.opening + asked_in events ≤ offset_limit
+    → All SaysNothingSpent (replies_of plain_meaning events (open_state settings))
+nothing_spent settings events few =
+    subst (All SaysNothingSpent) (runs_alike (open_state settings) events).replies
+    (nothing_kept_spent settings events few)

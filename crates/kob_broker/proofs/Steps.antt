@@ -2,6 +2,7 @@
 use Rattle.std.proofs.Common.{◌≡◌, ℕ, List, [], ◌∷◌, ◌++◌, Option, Some, None, All, refl}
 use Rattle.std.specs.Option.{option_map}
 use Rattle.std.proofs.lemmas.List.Elements.{All-cons, All-nil}
+use Rattle.kob_names.specs.declared.verdict.Verdict.{Verdict}
 use Rattle.kob_partition.specs.Meaning.{Meaning}
 use Rattle.kob_rights.specs.Check.{Check}
 use Rattle.kob_rights.specs.Reason.{code_of}
@@ -9,11 +10,14 @@ use Rattle.kob_rights.specs.Table.{rights}
 use Rattle.kob_rights.specs.declared.event.Event.{Event}
 use Rattle.kob_rights.specs.declared.reason.Reason.{Reason}
 use Rattle.kob_rights.specs.declared.reply.Reply.{Reply}
-use Rattle.kob_rights.specs.declared.reply.Reply.TheVariants.{Refused, Done}
+use Rattle.kob_rights.specs.declared.reply.Reply.TheVariants.{Refused, Done, Denied}
+use Rattle.kob_rights.specs.declared.code.Code.{Code}
+use Rattle.kob_rights.specs.Writes.{Write, AddBindings, RemoveBindings, write_of}
 use Rattle.kob_broker.specs.Denial.{denial_naming, first_unmet}
-use Rattle.kob_broker.specs.Effect.{Outcome, after, body, effect_by, named, refusal}
+use Rattle.kob_broker.specs.Effect.{Outcome, after, body, effect_by, named, refusal, after_write}
 use Rattle.kob_broker.specs.State.{State}
 use Rattle.kob_broker.specs.Step.{replies_of, state_after, step, step_by}
+use Rattle.kob_broker.specs.Justice.{LeavesUnlessDone}
 
 module _ {P : Type 0} (m : Meaning P) (s : State P) (event : Event) where
   abbrev pub unmet : Option (ℕ × List Check)
@@ -58,3 +62,31 @@ module _ {P : Type 0} (m : Meaning P) (Holds : List Event → State P → Type 0
   state_keeps [] more s holds = holds
   state_keeps (event ∷ events) more s holds =
       state_keeps events more (step m s event).state (step_keeps event (events ++ more) s holds).1
+
+-- where a request is not done, the state stays as it was
+module _ {P : Type 0} (m : Meaning P) (s : State P) (event : Event) where
+  record Leaves (outcome : Outcome P) : Type 0 where
+    denied : (code : Code) (verdicts : List Verdict) → outcome.reply ≡ Denied code verdicts → outcome.state ≡ s
+    refused : (code : Code) (reason : Reason) → outcome.reply ≡ Refused code reason → outcome.state ≡ s
+
+  pub leaves_unless_done : LeavesUnlessDone m s event
+  leaves_unless_done =
+      let leaves =
+      step_fits m s event Leaves
+      (λ blamed is. record { denied = λ code verdicts told. refl; refused = λ code reason told. refl })
+      (λ reason granted is. record { denied = λ code verdicts told. refl; refused = λ code why told. refl })
+      (λ granted is. record { denied = λ code verdicts told. cc; refused = λ code reason told. cc }) in
+      record { denied = leaves.denied; refused = leaves.refused }
+
+-- whether anything is open to everyone is never changed
+module _ {P : Type 0} (m : Meaning P) (s : State P) where
+  written_switch : (found : Option P) (write : Option Write)
+      → (after_write m s found write).access.everyone ≡ s.access.everyone
+  written_switch found (Some (AddBindings create)) = refl
+  written_switch found (Some (RemoveBindings delete)) = refl
+  written_switch found _ = refl
+
+  pub step_switch : (event : Event) → (step m s event).state.access.everyone ≡ s.access.everyone
+  step_switch event =
+      step_fits m s event (λ o. o.state.access.everyone ≡ s.access.everyone) (λ blamed is. refl)
+      (λ reason granted is. refl) (λ granted is. written_switch (named s event.request) (write_of event.request))

@@ -37,7 +37,7 @@ pub fn each_reply_is_just()
 }
 
 /// A denied request changes nothing, and neither does a refused one.
-#[tactic(auto, using(crate::proofs::Unchanged::leaves_unless_done))]
+#[tactic(auto, using(crate::proofs::Steps::leaves_unless_done))]
 pub fn only_done_requests_change_the_state()
     ensures plain { (s : State Plain) (event : Event) → LeavesUnlessDone plain_meaning s event }
     ensures retained { (s : State Retained) (event : Event)
@@ -77,7 +77,7 @@ pub fn denials_depend_on_bindings_alone()
 
 /// If nothing is open to everyone, each verdict on a right is by super users and bindings alone.
 /// Whether anything is open to everyone never changes, whatever a broker serves.
-#[tactic(auto, using(crate::proofs::Switch::step_switch, kob_authorizer::proofs::Verdicts::by_bindings))]
+#[tactic(auto, using(crate::proofs::Steps::step_switch, kob_authorizer::proofs::Verdicts::by_bindings))]
 pub fn verdicts_are_by_bindings_where_nothing_is_open()
     ensures verdicts { (access : Contents) (event : Event) (check : Check)
         → access.everyone ≡ false
