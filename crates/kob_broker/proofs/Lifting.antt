@@ -244,16 +244,16 @@ module _ {P Q : Type 0} (m : Meaning P) (n : Meaning Q) (f : P → Q) (c : Carri
   step_by_alike (Some denial) s event = refl
   step_by_alike None s event = effect_alike s event event.request
 
-  pub step_alike : (s : State P) (event : Event) → step n (state_map f s) event ≡ outcome_map f (step m s event)
+  step_alike : (s : State P) (event : Event) → step n (state_map f s) event ≡ outcome_map f (step m s event)
   step_alike s event = step_by_alike (denial_of s.access event) s event
 
-  pub replies_alike : (events : List Event) (s : State P) → replies_of n events (state_map f s) ≡ replies_of m events s
+  replies_alike : (events : List Event) (s : State P) → replies_of n events (state_map f s) ≡ replies_of m events s
   replies_alike [] s = refl
   replies_alike (event ∷ events) s =
       ap (λ (o : Outcome Q). o.reply ∷ replies_of n events o.state) (step_alike s event)
       ∙ ap (λ rs. (step m s event).reply ∷ rs) (replies_alike events (step m s event).state)
 
-  pub states_alike : (events : List Event) (s : State P)
+  states_alike : (events : List Event) (s : State P)
       → state_after n events (state_map f s) ≡ state_map f (state_after m events s)
   states_alike [] s = refl
   states_alike (event ∷ events) s =
@@ -261,12 +261,9 @@ module _ {P Q : Type 0} (m : Meaning P) (n : Meaning Q) (f : P → Q) (c : Carri
       ∙ states_alike events (step m s event).state
 
 pub steps_alike : (s : State Plain) (event : Event) → StepsAlike s event
-steps_alike s event = record {
-  reply = ap (λ (o : Outcome Retained). o.reply)
-      (step_alike plain_meaning retained_meaning retained_of retaining_carries s event);
-  state = ap (λ (o : Outcome Retained). o.state)
-      (step_alike plain_meaning retained_meaning retained_of retaining_carries s event);
-}
+steps_alike s event =
+    let same = step_alike plain_meaning retained_meaning retained_of retaining_carries s event in
+    record { reply = ap (λ (o : Outcome Retained). o.reply) same; state = ap (λ (o : Outcome Retained). o.state) same }
 
 pub runs_alike : (s : State Plain) (events : List Event) → RunsAlike s events
 runs_alike s events = record {
