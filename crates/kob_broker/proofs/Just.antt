@@ -13,15 +13,15 @@ use Rattle.kob_rights.specs.Check.{Check}
 use Rattle.kob_rights.specs.declared.event.Event.{Event}
 use Rattle.kob_rights.specs.Writes.{Write, write_of}
 use Rattle.kob_rights.specs.Table.{rights, denial_code}
-use Rattle.kob_rights.specs.declared.reply.Reply.{Reply}
 use Rattle.kob_rights.specs.Writes as writes
 use Rattle.kob_broker.specs.Denial.{question, verdict, is_met, first_unmet}
 use Rattle.kob_broker.specs.Justice.{SomeGranted, EachGranted, IsBlame, EachBlamed, EachJust, IsDenial, IsJust}
 use Rattle.kob_broker.specs.Effect.{after_write, named}
 use Rattle.kob_broker.specs.InForce.{HoldsInForce, access_after, changed_access, in_force}
 use Rattle.kob_broker.specs.State.{State, open_state}
-use Rattle.kob_broker.specs.Step.{replies_of, step}
-use Rattle.kob_broker.proofs.Steps.{step_fits}
+use Rattle.kob_broker.specs.Step.{replies_of, state_after, step}
+use Rattle.kob_broker.proofs.Runs.{reply_at}
+use Rattle.kob_broker.proofs.Steps.{state_keeps, step_fits}
 
 -- the bindings in force have rising serials
 abbrev pub IsNumbered : Contents → Type 0
@@ -97,11 +97,6 @@ found_denial access event blamed numbered f = record {
   blamed = each_blamed access event blamed.1 numbered f.not_met;
 }
 
-just_at : (access : Contents) (e event : Event) (r reply : Reply) → e ≡ event → r ≡ reply → IsJust access e r
-    → IsJust access event reply
-just_at access e event r reply this that just =
-    subst (λ (x : Event). IsJust access x reply) this (subst (λ (x : Reply). IsJust access e x) that just)
-
 module _ {P : Type 0} (m : Meaning P) where
   -- the reply to one event is just
   step_just : (s : State P) (event : Event) → IsNumbered s.access → IsJust s.access event (step m s event).reply
@@ -139,20 +134,6 @@ module _ {P : Type 0} (m : Meaning P) where
       step_fits m s event (λ o. IsNumbered o.state.access) (λ blamed is. numbered) (λ reason granted is. numbered)
       (λ granted is. written_numbered s (named s event.request) (write_of event.request) numbered)
 
-  -- and so each reply of a run
-  pub run_just : (events : List Event) (s : State P) → IsNumbered s.access → EachJust m events s
-  run_just [] s numbered k event reply at told = cc
-  run_just (e ∷ events) s numbered zero event reply at told =
-      let this : e ≡ event = cc in
-      let that : (step m s e).reply ≡ reply = cc in
-      just_at s.access e event (step m s e).reply reply this that (step_just s e numbered)
-  run_just (e ∷ events) s numbered (suc k) event reply at told =
-      rw (← step_access s e) (run_just events (step m s e).state (step_numbered s e numbered) k event reply at told)
-
-  pub opened_just : (settings : Settings) (events : List Event) → EachJust m events (open_state settings)
-  opened_just settings events =
-      run_just events (open_state settings) (added_rises [] 1 settings.opening (omega arith))
-
   -- the bindings after the first events of a run are those that are in force
   pub run_access : (events : List Event) (s : State P) → HoldsInForce m events s
   run_access [] s zero = refl
@@ -162,3 +143,17 @@ module _ {P : Type 0} (m : Meaning P) where
       let next : State P = (step m s e).state in
       run_access events next k
       ∙ ap (in_force (take k events) (take k (replies_of m events next))) (step_access s e)
+
+  -- and so each reply of a run is just
+  pub run_just : (events : List Event) (s : State P) → IsNumbered s.access → EachJust m events s
+  run_just events s numbered k event reply at told =
+      let now : State P = state_after m (take k events) s in
+      let now_numbered =
+      state_keeps m (λ _ t. IsNumbered t.access) (λ _. Unit {0}) (λ e later t h. (tt, step_numbered t e h))
+      (take k events) [] s numbered in
+      subst (λ (access : Contents). IsJust access event reply) (run_access events s k)
+      (subst (IsJust now.access event) (reply_at m events s k event reply at told) (step_just now event now_numbered))
+
+  pub opened_just : (settings : Settings) (events : List Event) → EachJust m events (open_state settings)
+  opened_just settings events =
+      run_just events (open_state settings) (added_rises [] 1 settings.opening (omega arith))
