@@ -4,9 +4,9 @@ use Rattle.std.specs.Prelude.{option_map, is_some}
 use Rattle.std.proofs.lemmas.List.{map-append, length-map}
 use Rattle.kob_authorizer.specs.Contents.{Contents}
 use Rattle.kob_catalog.proofs.Listings.{listed_mapped}
-use Rattle.kob_catalog.proofs.Places.{partition_of_mapped, place_of_mapped, topic_at_mapped, with_partition_mapped, without_topic_mapped}
+use Rattle.kob_catalog.proofs.Places.{partition_count_mapped, partition_of_mapped, place_of_mapped, with_partition_mapped, without_topic_mapped}
 use Rattle.kob_catalog.specs.Creation.{new_topic}
-use Rattle.kob_catalog.specs.Topics.{Topic, place_of, topic_at, topic_map, topics_map, with_partition}
+use Rattle.kob_catalog.specs.Topics.{Topic, topic_map, topics_map, with_partition}
 use Rattle.kob_groups.specs.Groups as groups
 use Rattle.kob_names.specs.declared.batch.Batch.{Batch}
 use Rattle.kob_names.specs.declared.batch.Idem.{Idem}
@@ -39,7 +39,7 @@ use Rattle.kob_broker.specs.Denial.{denial_of}
 use Rattle.kob_broker.specs.Effect.{Outcome, named, partition_in, reasons_against, body, after_write, refusal, effect_by, effect}
 use Rattle.kob_broker.specs.Fetch.{fetched_at, is_out_of_range}
 use Rattle.kob_broker.specs.ListOffsets.{offset_at}
-use Rattle.kob_broker.specs.Metadata.{metadata_of, metadata_reasons, topic_found}
+use Rattle.kob_broker.specs.Metadata.{counted, metadata_of, metadata_reasons}
 use Rattle.kob_broker.specs.Named.{end_at, start_at}
 use Rattle.kob_broker.specs.Plainly.{StepsAlike, RunsAlike}
 use Rattle.kob_broker.specs.Produce.{judged_at, with_batch}
@@ -64,19 +64,10 @@ module _ {P Q : Type 0} (f : P → Q) where
   unless_repeat_map OutOfOrder old new written is = is
   unless_repeat_map OldEpoch old new written is = is
 
-  topic_found_map : (name : List ℕ) (topics : List (Topic P)) (place : Option ℕ)
-      → topic_found name (topics_map f topics) place ≡ topic_found name topics place
-  topic_found_map name topics None = refl
-  topic_found_map name topics (Some place) =
-      ap (λ n. (name, n) ∷ []) (ap (λ (t : Topic Q). length t.partitions) (topic_at_mapped f topics place)
-      ∙ length-map (topic_at topics place).partitions f)
-
   metadata_map : (access : Contents) (event : Event) (topics : List (Topic P)) (asked : Option (List ℕ))
       → metadata_of access event (topics_map f topics) asked ≡ metadata_of access event topics asked
   metadata_map access event topics None = listed_mapped f _ topics
-  metadata_map access event topics (Some name) =
-      ap (topic_found name (topics_map f topics)) (place_of_mapped f name topics)
-      ∙ topic_found_map name topics (place_of name topics)
+  metadata_map access event topics (Some name) = ap (counted name) (partition_count_mapped f name topics)
 
   metadata_reasons_map : (topics : List (Topic P)) (asked : Option (List ℕ))
       → metadata_reasons (topics_map f topics) asked ≡ metadata_reasons topics asked
