@@ -2,7 +2,6 @@
 use Rattle.std.proofs.Common.{◌≡◌, ℕ, List, [], ◌∷◌, ◌++◌, Option, Some, None, All, refl}
 use Rattle.std.specs.Option.{option_map}
 use Rattle.std.proofs.lemmas.List.Elements.{All-cons, All-nil}
-use Rattle.kob_names.specs.declared.verdict.Verdict.{Verdict}
 use Rattle.kob_partition.specs.Meaning.{Meaning}
 use Rattle.kob_rights.specs.Check.{Check}
 use Rattle.kob_rights.specs.Reason.{code_of}
@@ -11,7 +10,6 @@ use Rattle.kob_rights.specs.declared.event.Event.{Event}
 use Rattle.kob_rights.specs.declared.reason.Reason.{Reason}
 use Rattle.kob_rights.specs.declared.reply.Reply.{Reply}
 use Rattle.kob_rights.specs.declared.reply.Reply.TheVariants.{Refused, Done, Denied}
-use Rattle.kob_rights.specs.declared.code.Code.{Code}
 use Rattle.kob_rights.specs.Writes.{Write, AddBindings, RemoveBindings, write_of}
 use Rattle.kob_broker.specs.Denial.{denial_naming, first_unmet}
 use Rattle.kob_broker.specs.Effect.{Outcome, after, body, effect_by, named, refusal, after_write}
@@ -63,20 +61,17 @@ module _ {P : Type 0} (m : Meaning P) (Holds : List Event → State P → Type 0
   state_keeps (event ∷ events) more s holds =
       state_keeps events more (step m s event).state (step_keeps event (events ++ more) s holds).1
 
--- where a request is not done, the state stays as it was
 module _ {P : Type 0} (m : Meaning P) (s : State P) (event : Event) where
-  record Leaves (outcome : Outcome P) : Type 0 where
-    denied : (code : Code) (verdicts : List Verdict) → outcome.reply ≡ Denied code verdicts → outcome.state ≡ s
-    refused : (code : Code) (reason : Reason) → outcome.reply ≡ Refused code reason → outcome.state ≡ s
-
+  -- if a request is not done, the state stays as it was
   pub leaves_unless_done : LeavesUnlessDone m s event
-  leaves_unless_done =
-      let leaves =
-      step_fits m s event Leaves
-      (λ blamed is. record { denied = λ code verdicts told. refl; refused = λ code reason told. refl })
-      (λ reason granted is. record { denied = λ code verdicts told. refl; refused = λ code why told. refl })
-      (λ granted is. record { denied = λ code verdicts told. cc; refused = λ code reason told. cc }) in
-      record { denied = leaves.denied; refused = leaves.refused }
+  leaves_unless_done = record {
+    denied = λ code verdicts.
+        step_fits m s event (λ o. o.reply ≡ Denied code verdicts → o.state ≡ s) (λ blamed is told. refl)
+        (λ reason granted is told. refl) (λ granted is told. cc);
+    refused = λ code reason.
+        step_fits m s event (λ o. o.reply ≡ Refused code reason → o.state ≡ s) (λ blamed is told. refl)
+        (λ why granted is told. refl) (λ granted is told. cc);
+  }
 
 -- whether anything is open to everyone is never changed
 module _ {P : Type 0} (m : Meaning P) (s : State P) where

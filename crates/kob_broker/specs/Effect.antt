@@ -67,7 +67,7 @@ module _ {P : Type 0} (m : Meaning P) where
   reasons_against s found (CreateAcls create) = create_acls_reasons s.access create
   reasons_against s found (DeleteAcls delete) = []
 
-  -- what an event is answered whose request is done
+  -- the body of the reply to an event whose request is done
   abbrev pub body : State P → Option P → Event → Request → Body
   body s found event (Produce produce) =
       bodies.Offset (offset_told (judged_at m found produce.batch) (end_at m found))
@@ -113,8 +113,8 @@ module _ {P : Type 0} (m : Meaning P) where
   abbrev pub refusal : State P → Request → Option Reason
   refusal s request = first_reason (reasons_against s (named s request) request)
 
-  -- refused for the first reason that holds, with the state as it was, or else done; `event` tells
-  -- who asks
+  -- refused for the first reason that holds, with the state as it was, otherwise done; `event`
+  -- tells who asks
   abbrev pub effect_by : Option Reason → State P → Option P → Event → Request → Outcome P
   effect_by (Some reason) s found event request =
       record { reply = Refused (code_of reason) reason; state = s }

@@ -45,14 +45,14 @@ IsShownGroup access event name =
     IsTrue (describes_cluster access event) ⊎ IsTrue (describes_group access event name)
 
 module _ {P : Type 0} where
-  -- who asks for all topics is answered with those that are shown, each with its number of
+  -- the reply to a request for all topics lists those that are shown, each with its number of
   -- partitions, in order of creation
   abbrev pub ListsTopics : Contents → State P → Event → Reply → Type 0
   ListsTopics access s event reply = event.request ≡ metadata_request None
       → (topics : List (List ℕ × ℕ)) × (reply ≡ Done (Topics topics))
       × Lists (IsShownTopic access event) topics (map listed s.topics)
 
-  -- who asks for the groups is answered with those that are shown, in order of the first commit
+  -- the reply to a request for the groups lists those that are shown, in order of the first commit
   abbrev pub ListsGroups : Contents → State P → Event → Reply → Type 0
   ListsGroups access s event reply = event.request ≡ ListGroups
       → (groups : List (List ℕ)) × (reply ≡ Done (Groups groups))

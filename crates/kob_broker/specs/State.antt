@@ -8,7 +8,7 @@ use Rattle.kob_names.specs.Binding.{Binding}
 use Rattle.kob_names.specs.declared.settings.Settings.{Settings}
 
 -- the topics in order of creation, the groups with their committed offsets, the bindings in force
--- with the super users and the switch, and the producer id that is given next
+-- with the super users and the switch, and the producer id that is returned next
 pub record State (P : Type 0) : Type 0 where
   pub topics : List (Topic P)
   pub groups : Groups

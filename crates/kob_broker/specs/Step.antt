@@ -8,7 +8,7 @@ use Rattle.kob_partition.specs.Meaning.{Meaning}
 use Rattle.kob_broker.specs.State.{State}
 
 module _ {P : Type 0} (m : Meaning P) where
-  -- denied with the state as it was, or else the request's effect
+  -- denied with the state as it was, otherwise the request's effect
   abbrev pub step_by : Option Reply → State P → Event → Outcome P
   step_by (Some denial) s event = record { reply = denial; state = s }
   step_by None s event = effect m s event event.request
