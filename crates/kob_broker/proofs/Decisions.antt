@@ -12,12 +12,12 @@ use Rattle.kob_rights.specs.declared.reply.Reply.TheVariants.{Refused}
 use Rattle.kob_rights.specs.declared.request.Request.{Request}
 use Rattle.kob_rights.specs.declared.request.Request.TheVariants as requests
 use Rattle.kob_broker.specs.declared.broker.Broker.{Broker}
-use Rattle.kob_broker.specs.declared.fate.Fate.{Fate}
+use Rattle.kob_broker.specs.declared.batch_outcome.BatchOutcome.{BatchOutcome}
 use Rattle.kob_broker.specs.declared.prepared.Change.TheVariants.{Unchanged}
 use Rattle.kob_broker.specs.declared.prepared.Prepared.{Prepared}
 use Rattle.kob_broker.specs.Change.{Makes, MakesFor, state_after_change, state_of}
 use Rattle.kob_broker.specs.Effect.{effect, effect_by, named, refusal}
-use Rattle.kob_broker.specs.Fate.{prepared_for}
+use Rattle.kob_broker.specs.BatchOutcome.{prepared_for}
 use Rattle.kob_broker.specs.Metadata.{metadata_request}
 
 -- a refusal for the first reason that holds
@@ -35,13 +35,13 @@ refused_makes broker request prepared reason why reply change event = record {
   ready = rw change tt;
 }
 
--- what is prepared for the fate of a batch
-pub prepared_makes : {E : Type 0} (broker : Broker) (produce : Produce) (fate : Fate) (result : Result Prepared E)
-    → IfOk result (λ prepared. prepared ≡ prepared_for produce fate)
-    → MakesFor (requests.Produce produce) broker (prepared_for produce fate)
+-- what is prepared for the outcome of a batch
+pub prepared_makes : {E : Type 0} (broker : Broker) (produce : Produce) (outcome : BatchOutcome) (result : Result Prepared E)
+    → IfOk result (λ prepared. prepared ≡ prepared_for produce outcome)
+    → MakesFor (requests.Produce produce) broker (prepared_for produce outcome)
     → IfOk result (MakesFor (requests.Produce produce) broker)
-prepared_makes broker produce fate result is makes =
-    IfOk-weaker result (λ p. p ≡ prepared_for produce fate) (MakesFor (requests.Produce produce) broker)
+prepared_makes broker produce outcome result is makes =
+    IfOk-weaker result (λ p. p ≡ prepared_for produce outcome) (MakesFor (requests.Produce produce) broker)
     (λ prepared same. subst (MakesFor (requests.Produce produce) broker) (sym same) makes) is
 
 -- what makes the effect of a request for whoever asks makes it for the event that has it

@@ -2,7 +2,7 @@ pub mod Runs
 pub mod Steps
 pub mod FirstReasons
 pub mod Decisions
-pub mod Fates
+pub mod BatchOutcomes
 pub mod Just
 pub mod Lifting
 pub mod Denials

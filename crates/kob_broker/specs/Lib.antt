@@ -21,7 +21,7 @@ pub mod InitProducerId
 pub mod Effect
 pub mod Step
 pub mod Change
-pub mod Fate
+pub mod BatchOutcome
 pub mod InForce
 pub mod Justice
 pub mod Listings

@@ -1,11 +1,11 @@
 //! The core of the broker: each event is one step, decided by the bindings in force at its place.
 #![tactic(auto)]
 
+mod batch_outcome;
 mod batch_size;
 mod broker;
 mod denial;
 mod describing;
-mod fate;
 mod laws;
 mod limits;
 mod on_acls;

@@ -2,14 +2,14 @@
 
 ghost use Rattle.std.specs.Prelude.{◌≡◌, IfOk, Some};
 ghost use Rattle.kob_broker.specs.Change.{MakesFor, state_of};
-ghost use Rattle.kob_broker.specs.Fate.{IsFate, fate_told, prepared_for};
+ghost use Rattle.kob_broker.specs.BatchOutcome.{IsBatchOutcome, outcome_told, prepared_for};
 ghost use Rattle.kob_broker.specs.Produce.{batch_reasons, is_bad_sequence, is_unknown_producer};
 ghost use Rattle.kob_broker.specs.Reasons.{first_reason};
 ghost use Rattle.kob_rights.specs.declared.request.Request.TheVariants as requests;
 
+use crate::batch_outcome::BatchOutcome;
 use crate::batch_size::is_within;
 use crate::broker::Broker;
-use crate::fate::Fate;
 use crate::limits::{BATCH_BYTE_LIMIT, EPOCH_LIMIT, PRODUCER_LIMIT, RECORD_LIMIT, SEQUENCE_LIMIT};
 use crate::prepared::{Change, Prepared};
 use kob_catalog::PartitionFault;
@@ -27,8 +27,8 @@ impl Broker {
         ensures state { state_of self.new ≡ state_of self.old }
         ensures ok { IfOk result (MakesFor (requests.Produce produce.now) self.new) }
     {
-        let fate = self.fate(produce)?;
-        fate.with_copy(alloc, produce)
+        let outcome = self.outcome(produce)?;
+        outcome.with_copy(alloc, produce)
     }
 
     /// The same for a request by value.
@@ -36,8 +36,8 @@ impl Broker {
         ensures state { state_of self.new ≡ state_of self.old }
         ensures ok { IfOk result (MakesFor (requests.Produce produce) self.new) }
     {
-        match self.fate(&produce) {
-            Ok(fate) => Ok(fate.with_request(produce)),
+        match self.outcome(&produce) {
+            Ok(outcome) => Ok(outcome.with_request(produce)),
             Err(error) => {
                 drop(produce);
                 Err(error)
@@ -46,19 +46,21 @@ impl Broker {
     }
 
     /// What becomes of the batch. Nothing is copied, and the topic is looked up once.
-    fn fate(&mut self, produce: &Produce) -> Result<Fate, AllocError>
+    fn outcome(&mut self, produce: &Produce) -> Result<BatchOutcome, AllocError>
         ensures state { state_of self.new ≡ state_of self.old }
-        ensures ok { IfOk result (λ fate. MakesFor (requests.Produce produce.now) self.new
-            (prepared_for produce.now fate)) }
+        ensures ok { IfOk result (λ outcome. MakesFor (requests.Produce produce.now) self.new
+            (prepared_for produce.now outcome)) }
     {
         let next_producer = self.next_producer;
         match self
             .catalog
             .partition_mut(&produce.topic, produce.partition as usize)
         {
-            Ok(log) => fate_in(log, &produce.batch, next_producer),
-            Err(PartitionFault::UnknownTopic) => Ok(Fate::Refused(Reason::UnknownTopic)),
-            Err(PartitionFault::UnknownPartition) => Ok(Fate::Refused(Reason::UnknownPartition)),
+            Ok(log) => outcome_in(log, &produce.batch, next_producer),
+            Err(PartitionFault::UnknownTopic) => Ok(BatchOutcome::Refused(Reason::UnknownTopic)),
+            Err(PartitionFault::UnknownPartition) => Ok(BatchOutcome::Refused(
+                Reason::UnknownPartition,
+            )),
         }
     }
 
@@ -74,27 +76,31 @@ impl Broker {
 }
 
 /// What becomes of a batch in a partition. If it is appended, capacity is reserved for it.
-#[tactic(auto, using(crate::proofs::Fates::bad_is, crate::proofs::Fates::told_is))]
-fn fate_in(log: &mut PartitionLog, batch: &Batch, next_producer: u64) -> Result<Fate, AllocError>
+#[tactic(auto, using(crate::proofs::BatchOutcomes::bad_is, crate::proofs::BatchOutcomes::told_is))]
+fn outcome_in(
+    log: &mut PartitionLog,
+    batch: &Batch,
+    next_producer: u64,
+) -> Result<BatchOutcome, AllocError>
     ensures kept { log.new.kept ≡ log.old.kept }
-    ensures ok { IfOk result (IsFate next_producer log.new batch.now) }
+    ensures ok { IfOk result (IsBatchOutcome next_producer log.new batch.now) }
 {
     match against_batch(batch, next_producer) {
-        Some(reason) => Ok(Fate::Refused(reason)),
-        None => fate_told(log.prepare_append(batch)),
+        Some(reason) => Ok(BatchOutcome::Refused(reason)),
+        None => outcome_told(log.prepare_append(batch)),
     }
 }
 
 /// What becomes of a batch, by the answer of its partition.
-fn fate_told(answer: Result<Placement, AppendFault>) -> Result<Fate, AllocError>
-    ensures { IfOk result (λ fate. fate_told answer ≡ Some fate) }
+fn outcome_told(answer: Result<Placement, AppendFault>) -> Result<BatchOutcome, AllocError>
+    ensures { IfOk result (λ outcome. outcome_told answer ≡ Some outcome) }
 {
     match answer {
-        Ok(Placement::New(offset)) => Ok(Fate::Appended(offset)),
-        Ok(Placement::Repeated(offset)) => Ok(Fate::Repeated(offset)),
-        Err(AppendFault::OldEpoch) => Ok(Fate::Refused(Reason::OldEpoch)),
-        Err(AppendFault::OutOfOrder) => Ok(Fate::Refused(Reason::OutOfOrder)),
-        Err(AppendFault::OffsetsSpent) => Ok(Fate::Refused(Reason::OffsetsSpent)),
+        Ok(Placement::New(offset)) => Ok(BatchOutcome::Appended(offset)),
+        Ok(Placement::Repeated(offset)) => Ok(BatchOutcome::Repeated(offset)),
+        Err(AppendFault::OldEpoch) => Ok(BatchOutcome::Refused(Reason::OldEpoch)),
+        Err(AppendFault::OutOfOrder) => Ok(BatchOutcome::Refused(Reason::OutOfOrder)),
+        Err(AppendFault::OffsetsSpent) => Ok(BatchOutcome::Refused(Reason::OffsetsSpent)),
         Err(AppendFault::Memory) => Err(AllocError),
     }
 }

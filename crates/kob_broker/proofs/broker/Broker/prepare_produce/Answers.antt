@@ -3,5 +3,5 @@ use Rattle.kob_broker.proofs.broker.Broker.prepare_produce.Goals as goal
 
 pub returns-clause-ok : goal.returns-clause-ok
 returns-clause-ok c =
-    prepared_makes c.fate.new.self c.args.produce.now c.in_ok-fate.fate c.with_copy.result c.with_copy.ensures
-    c.in_ok-fate.ensures.ok
+    prepared_makes c.outcome.new.self c.args.produce.now c.in_ok-outcome.outcome c.with_copy.result c.with_copy.ensures
+    c.in_ok-outcome.ensures.ok

@@ -1,7 +1,7 @@
 //! What becomes of a batch.
 
 ghost use Rattle.std.specs.Prelude.{◌≡◌, IfOk};
-ghost use Rattle.kob_broker.specs.Fate.{prepared_for};
+ghost use Rattle.kob_broker.specs.BatchOutcome.{prepared_for};
 
 use crate::prepared::{Change, Prepared};
 use kob_names::PlainValue;
@@ -10,7 +10,7 @@ use std::alloc::{AllocError, Global};
 
 /// What becomes of a batch, decided before its request is copied or moved.
 #[derive(Clone, Copy)]
-pub(crate) enum Fate {
+pub(crate) enum BatchOutcome {
     Refused(Reason),
     /// It repeats a batch that was accepted at this offset.
     Repeated(u64),
@@ -18,15 +18,18 @@ pub(crate) enum Fate {
     Appended(u64),
 }
 
-impl Fate {
+impl BatchOutcome {
     /// What is prepared, with the request itself.
     pub(crate) fn with_request(self, produce: Produce) -> Prepared
         ensures { result ≡ prepared_for produce self }
     {
         match self {
-            Fate::Refused(reason) => Prepared::refused(reason),
-            Fate::Repeated(offset) => Prepared::done(Body::Offset(offset), Change::Unchanged),
-            Fate::Appended(offset) => {
+            BatchOutcome::Refused(reason) => Prepared::refused(reason),
+            BatchOutcome::Repeated(offset) => Prepared::done(
+                Body::Offset(offset),
+                Change::Unchanged,
+            ),
+            BatchOutcome::Appended(offset) => {
                 Prepared::done(Body::Offset(offset), Change::Append(produce))
             }
         }
@@ -37,11 +40,11 @@ impl Fate {
         ensures { IfOk result (λ prepared. prepared ≡ prepared_for produce.now self) }
     {
         match self {
-            Fate::Refused(reason) => Ok(Prepared::refused(reason)),
-            Fate::Repeated(offset) => {
+            BatchOutcome::Refused(reason) => Ok(Prepared::refused(reason)),
+            BatchOutcome::Repeated(offset) => {
                 Ok(Prepared::done(Body::Offset(offset), Change::Unchanged))
             }
-            Fate::Appended(offset) => {
+            BatchOutcome::Appended(offset) => {
                 let copy = produce.copy(alloc)?;
                 Ok(Prepared::done(Body::Offset(offset), Change::Append(copy)))
             }
