@@ -1,13 +1,5 @@
 -- What the statement on the business rows does.
-use Rattle.std.proofs.Common.{◌≡◌, inl, ℕ, List, [], ◌∷◌, ◌++◌, Some, None, Option, Ok, Err, Result, OnOk, true, false, refl, sym, ap, subst, ◌∙◌, pos, arith}
-use Rattle.std.specs.FinMap.{insert}
-use Rattle.std.specs.Str.{IsUtf8}
-use Rattle.kob_outbox.proofs.statements.Words.{Abort, AreConflicts, Database, Enforced, Error, ExecutesInside, Given, Has, InsertsOr, Int, IsJudged, Judged, Meets, Null, Puts, Refusal, Row, State, Task, Text, Trees, Updates, Upserts, Values, Written, all_from, conflicts, edit_of, edited, has_mapped, ids_of, mapped_has, put_row, rowid, shown, without_rowid}
-use Rattle.kob_outbox.specs.Contents.{States}
-use Rattle.kob_outbox.specs.Layout.{AreBusiness, Business, Holds, business_tree, placed_row}
-use Rattle.kob_outbox.specs.Recording.{with_state}
-use Rattle.kob_outbox.specs.Service.{IsChanging, contents_of}
-use Rattle.kob_outbox.specs.Tables.{business_table, service_schema}
+use Rattle.kob_outbox.proofs.statements.Words.{[], ◌++◌, ◌∙◌, ◌∷◌, ◌≡◌, Abort, AreBusiness, AreConflicts, Business, Database, Enforced, Err, Error, ExecutesInside, Given, Has, Holds, InsertsOr, Int, IsChanging, IsJudged, IsUtf8, Judged, List, Meets, None, Null, Ok, OnOk, Option, Puts, Refusal, Result, Row, Some, State, States, Task, Text, Trees, Updates, Upserts, Values, Written, all_from, ap, arith, business_table, business_tree, conflicts, contents_of, edit_of, edited, false, has_mapped, ids_of, inl, insert, mapped_has, placed_row, pos, put_row, refl, rowid, service_schema, shown, subst, sym, true, with_state, without_rowid, ℕ}
 use Rattle.kob_outbox.proofs.statements.Steps.{IsAlone, KeepOthers, Tried, uncounted, task_on, tried, put, updated, candidate, cast_int, cast_null}
 use Rattle.kob_outbox.proofs.statements.Values.{and_true, not_true}
 use Rattle.kob_outbox.proofs.statements.Writing.{wrote}
@@ -15,7 +7,7 @@ use Rattle.kob_outbox.proofs.statements.Selecting.{program_of}
 use Rattle.kob_outbox.proofs.statements.Picking.{one_at_most}
 use Rattle.kob_outbox.proofs.States.{Placed, has_key_of, key, same_key}
 use Rattle.kob_outbox.proofs.Recording.{changing_holds}
-use Rattle.kob_outbox.proofs.Upserting.{NoneHas, business_upserted, conflict_is, is_it, next_after, next_placed, one_at, put_new, put_over}
+use Rattle.kob_outbox.proofs.Upserting.{NoneHas, business_upserted, conflict_is, is_it, next_after, next_placed, put_new, put_over}
 use Rattle.kob_outbox.proofs.Texts.{business_there, new_business, over_business, put_business_text, replace_business}
 
 alone : IsAlone service_schema Enforced business_tree
@@ -73,19 +65,20 @@ module _ (limit : Option ℕ) (b : Business) (db : Trees) (states : States)
 
     resolves : (one : Written) → Updates task (program_of business_there) given db (Ok one) → Done one.trees
     resolves one does =
+        let over = put_over b t here n 1 has.placed has.rising has.apart h in
         let it =
         updated limit Enforced service_schema business_table params alone (program_of business_there) given db one
         does in
         let answer : it.0 ≡ (Int (pos t.0) ∷ Int (pos t.0) ∷ Text t.1.kind ∷ Text t.1.id ∷ Text b.state ∷ []) ∷ [] =
         one_at_most business_there given placed_row (is_it b t here) (λ p. and_true (is_it b t here p)) db has.placed
-        has.rows_are (t ∷ []) (one_at b t here 1 has.placed has.rising h) it.0 (it.1.answer Null) (omega arith) in
+        has.rows_are (t ∷ []) over.0 it.0 (it.1.answer Null) (omega arith) in
         let rows =
         it.2.rows ∙ ap (λ rows. edited db (edit_of db (uncounted business_table) (ids_of rows) Given 1 rows)) answer
         ∙ rw (cast_int (pos t.0))
         (ap (λ k. put_row (Int (pos t.0) ∷ Text k.0 ∷ Text k.1 ∷ Text b.state ∷ [])
         (without_rowid (pos t.0) (db business_tree))) (same_key (key t.1) (key b) here))
         ∙ ap (λ rows. put_row (placed_row (t.0, b)) (without_rowid (pos t.0) rows)) has.rows_are
-        ∙ put_over b t here n 1 has.placed has.rising has.apart h in
+        ∙ over.1 in
         (business_upserted b n _ (one.trees business_tree) states has (omega arith) state rows, it.2.tables)
 
   there : (x : Row) (more : List Row) → Found (Some (1 ∷ 2 ∷ [])) (x ∷ more)

@@ -1,13 +1,8 @@
 -- What adding an id to those that are spent does.
-use Rattle.std.proofs.Common.{◌≡◌, ℕ, suc, ◌<◌, ◌^◌, pos, List, [], ◌∷◌, length, bytes_eq, true, Option, None, Ok, Err, refl, arith, if◌then◌else◌}
-use Rattle.kob_outbox.proofs.statements.Words.{EndsScope, Enforced, Error, Executes, Ignore, Int, Null, Row, State, Text, Trees, Values, accepts_terms, cast_row, conflicts}
+use Rattle.kob_outbox.proofs.statements.Words.{[], ◌<◌, ◌^◌, ◌∷◌, ◌≡◌, EndsScope, Enforced, Err, Error, Executes, Ignore, Int, IsChanging, List, None, Null, Ok, Option, Row, State, Text, Trees, Values, accepts_terms, arith, bytes_eq, cast_row, conflicts, contents_of, if◌then◌else◌, is_recorded, length, pos, refl, service_schema, spent_row, spent_rows, spent_table, spent_tree, suc, true, ℕ}
 use Rattle.sqlite.specs.Listing.{understood}
 use Rattle.sqlite_tied.specs.Compute.{everything}
 use Rattle.sqlite_value.specs.Keys.{first_key}
-use Rattle.kob_outbox.specs.Layout.{spent_row, spent_rows, spent_tree}
-use Rattle.kob_outbox.specs.Recording.{is_recorded}
-use Rattle.kob_outbox.specs.Service.{IsChanging, contents_of}
-use Rattle.kob_outbox.specs.Tables.{service_schema, spent_table}
 use Rattle.kob_outbox.proofs.Texts.{insert_spent, new_spent, spend_text, spending}
 use Rattle.kob_outbox.proofs.statements.Failing.{IsMemory, IsWhole, NeverFails, stays_inside}
 use Rattle.kob_outbox.proofs.statements.Ignoring.{Ignored, ReferToNone, all_fine, ignores, not_escaping, stopped_by_memory, suits_by}

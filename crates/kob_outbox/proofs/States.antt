@@ -1,19 +1,7 @@
 -- The map of the business rows' states.
-use Rattle.std.proofs.Common.{◌≡◌, inl, inr, ℕ, List, [], ◌∷◌, map, filter, length, ◌≤◌, arith, Bool, true, false, ◌&&◌, if◌then◌else◌, bytes_eq, Some, Ordering, Less, Equal, Greater, is_eq, refl, sym, ap, subst, ◌∙◌}
-use Rattle.std.proofs.lemmas.Bool.{cases_Bool}
-use Rattle.std.proofs.lemmas.Slice.Eq.{bytes_eq-Decides}
-use Rattle.std.proofs.lemmas.Map.Text.{is_eq-slice_cmp}
-use Rattle.std.specs.Prelude.{cond}
-use Rattle.std.specs.Ordering.{nat_cmp, eq_by_cmp, ordering_then}
-use Rattle.std.specs.Cmp.{IsTotalOrder, then_total}
 use Rattle.std.specs.Cmp.Lexicographic.{slice_cmp, on_texts}
-use Rattle.std.specs.FinMap.{IsAntisymmetric, find, from_entries, get, get-from_entries, get-insert, insert, same_map}
-use Rattle.kob_outbox.specs.Contents.{Key, States, key_cmp}
-use Rattle.std.specs.List.{AllByRecursion}
-use Rattle.std.specs.Str.{IsUtf8}
-use Rattle.kob_outbox.proofs.statements.Words.{IsAscending, Row, Text}
-use Rattle.kob_outbox.specs.Layout.{AreBusiness, Business, entry_of, has_key, shown_state}
-use Rattle.kob_outbox.specs.Reading.{state_at}
+use Rattle.kob_outbox.specs.Contents.{Key}
+use Rattle.kob_outbox.proofs.statements.Words.{[], ◌&&◌, ◌∙◌, ◌∷◌, ◌≡◌, ◌≤◌, AllByRecursion, AreBusiness, Bool, Business, Equal, Greater, IsAntisymmetric, IsAscending, IsTotalOrder, IsUtf8, Less, List, Ordering, Row, Some, States, Text, and_parts, ap, arith, bytes_eq, bytes_eq-Decides, cases_Bool, cond, entry_of, eq_by_cmp, false, filter, find, from_entries, get, get-from_entries, get-insert, has_key, if◌then◌else◌, inl, inr, insert, is_eq, is_eq-slice_cmp, key_cmp, length, map, nat_cmp, ordering_then, refl, same_map, shown_state, state_at, subst, sym, then_total, true, ℕ}
 use Rattle.kob_outbox.proofs.statements.Values.{both_ways}
 
 abbrev pub Placed : Type 0
@@ -22,7 +10,7 @@ Placed = ℕ × Business
 abbrev pub AreApart : List Placed → Type 0
 AreApart = IsAscending (λ (a b : Placed). has_key b.1.kind b.1.id a.1 ≡ false)
 
-bytes_eq_sym : (s t : List ℕ) → bytes_eq s t ≡ bytes_eq t s
+pub bytes_eq_sym : (s t : List ℕ) → bytes_eq s t ≡ bytes_eq t s
 bytes_eq_sym s t =
     both_ways _ _ (λ e. (bytes_eq-Decides t s).1 (sym ((bytes_eq-Decides s t).0 e)))
     (λ e. (bytes_eq-Decides s t).1 (sym ((bytes_eq-Decides t s).0 e)))
@@ -41,14 +29,9 @@ ties q k =
     both_equal (slice_cmp nat_cmp q.0 k.0) (slice_cmp nat_cmp q.1 k.1)
     ∙ rw (is_eq-slice_cmp q.0 k.0, is_eq-slice_cmp q.1 k.1) refl
 
-both : (a b : Bool) → (a && b) ≡ true → (a ≡ true) × (b ≡ true)
-both true true h = (refl, refl)
-both true false h = absurd cc
-both false b h = absurd cc
-
 pub same_key : (q k : Key) → (bytes_eq q.0 k.0 && bytes_eq q.1 k.1) ≡ true → q ≡ k
 same_key q k h =
-    let p = both _ _ h in
+    let p = and_parts _ _ h in
     let kinds : q.0 ≡ k.0 = (bytes_eq-Decides q.0 k.0).0 p.0 in
     let ids : q.1 ≡ k.1 = (bytes_eq-Decides q.1 k.1).0 p.1 in
     λ i. (kinds i, ids i)

@@ -1,9 +1,7 @@
 -- What the fixed texts mean.
-use Rattle.std.proofs.Common.{ℕ, List, [], ◌∷◌, codes, refl, pos, Some, arith}
-use Rattle.kob_outbox.proofs.statements.Words.{Abort, Binary, Command, Compare, Delete, Eq, Gt, Ignore, Insert, InsertOr, Int, Le, Null, Term, Text, Update, Upsert, Values, col, lit, op2}
+use Rattle.kob_outbox.proofs.statements.Words.{[], ◌∷◌, Abort, Binary, Command, Compare, Delete, Eq, Gt, Ignore, Insert, InsertOr, Int, Le, List, Null, Some, Term, Text, Update, Upsert, Values, arith, business, business_table, codes, col, lit, mark, mark_table, no_schema, one_table, op2, outbox, outbox_table, pos, refl, service_schema, spent, spent_table, three_tables, two_tables, ℕ}
 use Rattle.sqlite_tied.specs.Compute.{everything}
 use Rattle.sqlite.specs.Listing.{understood}
-use Rattle.kob_outbox.specs.Tables.{business, business_table, mark, mark_table, no_schema, one_table, outbox, outbox_table, service_schema, spent, spent_table, three_tables, two_tables}
 use Rattle.kob_outbox.proofs.statements.Creating.{IsCreation}
 use Rattle.kob_outbox.proofs.statements.Selecting.{IsSelect, Scan, by_key, no_limit, over, program_of}
 use Rattle.kob_outbox.proofs.statements.Writing.{IsWriting}

@@ -1,14 +1,7 @@
 -- The business rows where one is written over or put last.
-use Rattle.std.proofs.Common.{◌≡◌, inl, inr, ℕ, suc, ◌<◌, ◌≤◌, pos, ◌+ℤ◌, List, [], ◌∷◌, map, filter, bytes_eq, Bool, true, false, ◌||◌, ◌&&◌, Some, refl, sym, ap, add-one, subst, ◌∙◌, arith}
-use Rattle.std.specs.List.{fold, AllByRecursion}
-use Rattle.std.proofs.lemmas.Bool.{cases_Bool}
-use Rattle.std.specs.Str.{IsUtf8}
-use Rattle.std.specs.FinMap.{insert}
-use Rattle.kob_outbox.proofs.statements.Words.{Binary, Has, Int, Row, all_has, conflicts, equal, id_in, put_row, rowid, without_rowid}
+use Rattle.kob_outbox.proofs.statements.Words.{[], ◌&&◌, ◌+ℤ◌, ◌<◌, ◌||◌, ◌∙◌, ◌∷◌, ◌≡◌, ◌≤◌, AllByRecursion, AreBusiness, Binary, Bool, Business, Has, Int, IsRisingFrom, IsUtf8, List, Row, Some, States, add-one, all_has, ap, arith, business_table, bytes_eq, cases_Bool, conflicts, equal, false, filter, fold, has_key, id_in, inl, inr, insert, map, placed_row, pos, put_row, refl, rowid, service_schema, subst, suc, sym, true, without_rowid, ℕ}
 use Rattle.sqlite_value.specs.Keys.{first_key}
-use Rattle.kob_outbox.specs.Contents.{Key, States}
-use Rattle.kob_outbox.specs.Layout.{AreBusiness, Business, IsRisingFrom, has_key, placed_row}
-use Rattle.kob_outbox.specs.Tables.{business_table, service_schema}
+use Rattle.kob_outbox.specs.Contents.{Key}
 use Rattle.kob_outbox.proofs.States.{AreApart, Placed, has_key_of, key, same_key, states_upserted, upserted}
 use Rattle.kob_outbox.proofs.statements.Values.{equal_itself, equal_texts, number_above, number_below, number_same, unequal_above, unequal_numbers}
 
@@ -113,49 +106,39 @@ module _ (b : Business) where
     abbrev pub is_it : Placed → Bool
     is_it p = equal Binary (Int (pos p.0)) (Int (pos t.0))
 
-    none_at : (low : ℕ) (ps : List Placed) → t.0 < low → IsRisingFrom low ps → filter is_it ps ≡ []
-    none_at low [] up rising = refl
-    none_at low (p ∷ ps) up rising =
+    -- a row past which all numbers are
+    past : (low : ℕ) (ps : List Placed) → t.0 < low → IsRisingFrom low ps
+        → (filter is_it ps ≡ []) × (without_rowid (pos t.0) (map placed_row ps) ≡ map placed_row ps)
+        × (put_row (placed_row (t.0, b)) (map placed_row ps) ≡ placed_row (t.0, b) ∷ map placed_row ps)
+    past low [] up rising = (refl, refl, refl)
+    past low (p ∷ ps) up rising =
         let above : t.0 < p.0 = omega (arith, up, rising.0) in
-        rw (unequal_above p.0 t.0 above) (none_at (suc p.0) ps (omega (arith, above)) rising.1)
+        let more = past (suc p.0) ps (omega (arith, above)) rising.1 in (
+          rw (unequal_above p.0 t.0 above) more.0,
+          rw (number_above p.0 t.0 above) (ap (λ rows. placed_row p ∷ rows) more.1),
+          rw (number_above p.0 t.0 above) refl,
+        )
 
-    -- it is the only one with its number
-    pub one_at : (low : ℕ) (ps : List Placed) → IsRisingFrom low ps → Has ps t → filter is_it ps ≡ t ∷ []
-    one_at low [] rising h = elim h [ ]
-    one_at low (p ∷ ps) rising (inl e) =
-        let up : t.0 < suc p.0 = subst (λ (x : Placed). x.0 < suc p.0) (sym e) (omega arith) in
-        subst (λ (x : Placed). filter is_it (x ∷ ps) ≡ t ∷ []) e
-        (rw (equal_itself t.0, none_at (suc p.0) ps up rising.1) refl)
-    one_at low (p ∷ ps) rising (inr h) =
-        let below : p.0 < t.0 = omega (arith, at_least (suc p.0) ps t rising.1 h) in
-        rw (unequal_numbers p.0 t.0 below) (one_at (suc p.0) ps rising.1 h)
+    -- it is the only one with its number, and the new row comes in its place
+    abbrev Over : ℕ → List Placed → Type 0
+    Over n ps =
+        (filter is_it ps ≡ t ∷ [])
+        × (put_row (placed_row (t.0, b)) (without_rowid (pos t.0) (map placed_row ps)) ≡ map placed_row (upserted b n ps))
 
-    all_left : (low : ℕ) (ps : List Placed) → t.0 < low → IsRisingFrom low ps
-        → without_rowid (pos t.0) (map placed_row ps) ≡ map placed_row ps
-    all_left low [] up rising = refl
-    all_left low (p ∷ ps) up rising =
-        let above : t.0 < p.0 = omega (arith, up, rising.0) in
-        rw (number_above p.0 t.0 above)
-        (ap (λ more. placed_row p ∷ more) (all_left (suc p.0) ps (omega (arith, above)) rising.1))
-
-    goes_first : (low : ℕ) (ps : List Placed) → t.0 < low → IsRisingFrom low ps
-        → put_row (placed_row (t.0, b)) (map placed_row ps) ≡ placed_row (t.0, b) ∷ map placed_row ps
-    goes_first low [] up rising = refl
-    goes_first low (p ∷ ps) up rising =
-        let above : t.0 < p.0 = omega (arith, up, rising.0) in rw (number_above p.0 t.0 above) refl
-
-    pub put_over : (n low : ℕ) (ps : List Placed) → IsRisingFrom low ps → AreApart ps → Has ps t
-        → put_row (placed_row (t.0, b)) (without_rowid (pos t.0) (map placed_row ps)) ≡ map placed_row (upserted b n ps)
+    pub put_over : (n low : ℕ) (ps : List Placed) → IsRisingFrom low ps → AreApart ps → Has ps t → Over n ps
     put_over n low [] rising apart h = elim h [ ]
     put_over n low (p ∷ ps) rising apart (inl e) =
         let up : t.0 < suc p.0 = subst (λ (x : Placed). x.0 < suc p.0) (sym e) (omega arith) in
-        subst (λ (x : Placed). put_row (placed_row (t.0, b)) (without_rowid (pos t.0) (map placed_row (x ∷ ps)))
-        ≡ map placed_row (upserted b n (x ∷ ps))) e
-        (rw (number_same t.0, here, all_left (suc p.0) ps up rising.1) (goes_first (suc p.0) ps up rising.1))
+        let more = past (suc p.0) ps up rising.1 in
+        subst (λ (x : Placed). Over n (x ∷ ps)) e
+        (rw (equal_itself t.0, more.0) refl, rw (number_same t.0, here, more.1) more.2)
     put_over n low (p ∷ ps) rising apart (inr h) =
         let below : p.0 < t.0 = omega (arith, at_least (suc p.0) ps t rising.1 h) in
         let other : has_key_of b p.1 ≡ false =
         ap (λ k. has_key k.0 k.1 p.1) (sym (same_key (key t.1) (key b) here))
         ∙ all_has (λ (x : Placed). has_key x.1.kind x.1.id p.1 ≡ false) ps t apart.0 h in
-        rw (number_below p.0 t.0 below, other)
-        (rw (number_below p.0 t.0 below) (ap (λ more. placed_row p ∷ more) (put_over n (suc p.0) ps rising.1 apart.1 h)))
+        let more = put_over n (suc p.0) ps rising.1 apart.1 h in (
+          rw (unequal_numbers p.0 t.0 below) more.0,
+          rw (number_below p.0 t.0 below, other)
+              (rw (number_below p.0 t.0 below) (ap (λ rows. placed_row p ∷ rows) more.1)),
+        )

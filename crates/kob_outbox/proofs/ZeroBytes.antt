@@ -1,7 +1,5 @@
 -- A search for a zero byte says whether a text has one.
-use Rattle.std.proofs.Common.{◌≡◌, ◌==◌, ◌||◌, ℕ, suc, arith, length, List, [], ◌∷◌, Option, Some, None, Bool, true, false, not, refl, ap, sym}
-use Rattle.std.specs.List.{list_any}
-use Rattle.std.specs.Option.{is_none}
+use Rattle.kob_outbox.proofs.statements.Words.{[], ◌==◌, ◌||◌, ◌∷◌, ◌≡◌, Bool, List, None, Option, Some, ap, arith, false, is_none, length, list_any, not, refl, suc, sym, true, ℕ}
 use Rattle.std.proofs.lemmas.List.Folds.{list_any_at}
 use Rattle.memchr.specs.Find.{is_byte, IsFirstByte, Nowhere, Passes}
 

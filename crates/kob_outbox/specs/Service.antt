@@ -1,6 +1,7 @@
 -- A database that is a service's.
-use Rattle.std.specs.Prelude.{◌≡◌, ℕ, List, length, false, true, None, IsTrue}
+use Rattle.std.specs.Prelude.{◌≡◌, ℕ, List, length, false, true, Option, None, IsTrue}
 use Rattle.kob_outbox.specs.Blank.{IsAtRest}
+use Rattle.sqlite.specs.Effect.{Database}
 use Rattle.sqlite.specs.Held.{Held, state}
 use Rattle.sqlite.specs.State.{State}
 use Rattle.sqlite.specs.Steps.{over_memory}
@@ -39,14 +40,17 @@ pub record IsChanging (s : State) : Type 0 where
   pub unlimited : s.step_limit ≡ None
   pub holds : Holds (contents_in s.now.trees) s.now.trees
 
--- what each statement in a transaction leaves: the last commit, and the limit on steps
-pub record KeepsLast (old new : State) : Type 0 where
-  pub committed : new.committed ≡ old.committed
-  pub limit : new.step_limit ≡ old.step_limit
+-- the last commit, and the limit on steps
+abbrev pub last_commit : State → Database × Option ℕ
+last_commit s = (s.committed, s.step_limit)
 
--- what the statement that spends an id did, by the number of rows that it wrote
+-- each statement in a transaction leaves both
+abbrev pub KeepsLast : State → State → Type 0
+KeepsLast old new = last_commit new ≡ last_commit old
+
+-- what the statement that spends an id did: it wrote a row, or found the id
 pub record Spends (id : List ℕ) (old new : State) (count : ℕ) : Type 0 where
   pub changing : IsChanging new
-  pub fresh : is_recorded (contents_of old).ids id ≡ false
-      → (count ≡ 1) × (contents_of new ≡ with_id (contents_of old) id)
-  pub again : is_recorded (contents_of old).ids id ≡ true → count ≡ 0
+  pub fresh : ¬ (count ≡ 0) → (is_recorded (contents_of old).ids id ≡ false)
+      × (contents_of new ≡ with_id (contents_of old) id)
+  pub again : count ≡ 0 → is_recorded (contents_of old).ids id ≡ true

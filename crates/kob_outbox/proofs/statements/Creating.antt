@@ -1,9 +1,5 @@
 -- What CREATE TABLE makes of a database whose tables are empty.
-use Rattle.std.proofs.Common.{◌≡◌, ℕ, List, [], ◌∷◌, ◌++◌, false, None, Ok, Err, Result, OnOk, sym, ap, subst, ◌∙◌, if◌then◌else◌}
-use Rattle.std.specs.List.{AllByRecursion}
-use Rattle.kob_outbox.proofs.statements.Words.{CreateTable, Database, Error, Executes, HasCleanDisk, Held, IsPlain, KeepsRows, MemStore, Schema, State, Table, Tally, Trees, Writes, command_of, created, lacks_sequence, memory_is_clean, next_tree, runs_as, statement_of, table_defined_by, understood}
-use Rattle.kob_outbox.specs.Blank.{IsBlank}
-use Rattle.kob_outbox.specs.Service.{database}
+use Rattle.kob_outbox.proofs.statements.Words.{[], ◌++◌, ◌∙◌, ◌∷◌, ◌≡◌, AllByRecursion, CreateTable, Database, Err, Error, Executes, HasCleanDisk, Held, IsBlank, IsPlain, KeepsRows, List, MemStore, None, Ok, OnOk, Result, Schema, State, Table, Tally, Trees, Writes, ap, command_of, created, database, false, if◌then◌else◌, lacks_sequence, memory_is_clean, next_tree, runs_as, statement_of, subst, sym, table_defined_by, understood, ℕ}
 use Rattle.kob_outbox.proofs.statements.Plain.{went, same_value}
 
 -- the text makes this table, which counts no rowids

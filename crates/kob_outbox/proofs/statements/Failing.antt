@@ -1,6 +1,5 @@
 -- Over memory a query fails for want of memory alone.
-use Rattle.std.proofs.Common.{Some, ◌⊎◌, Bool, Option, ◌||◌, ◌&&◌, ◌≡◌, inl, inr, ℕ, ◌≤◌, List, [], length, true, false, None, Ok, Err, Result, sym, ap, subst, subst₂, ◌∙◌, arith, append-nil, ◌≢◌}
-use Rattle.kob_outbox.proofs.statements.Words.{Broken, Command, CompileError, Compiled, Corrupt, Does, Error, Escapes, Executes, Fails, Full, Io, IsMisplaced, IsNoStatement, IsPlain, IsReadError, IsSourceOf, ProgramOverflows, Query, RefusesToRead, Row, Schema, Select, SqliteFailure, State, Trees, Unstorable, Value, accepts_program, command_of, end, inner, is_pragma, is_query, mode_of, reads_listing, shows_rows, text_of, timed, understood}
+use Rattle.kob_outbox.proofs.statements.Words.{[], ◌&&◌, ◌||◌, ◌∙◌, ◌≡◌, ◌≢◌, ◌≤◌, ◌⊎◌, Bool, Broken, Command, CompileError, Compiled, Corrupt, Does, Err, Error, Escapes, Executes, Fails, Full, Io, IsMisplaced, IsNoStatement, IsPlain, IsReadError, IsSourceOf, List, None, Ok, Option, ProgramOverflows, Query, RefusesToRead, Result, Row, Schema, Select, Some, SqliteFailure, State, Trees, Unstorable, Value, accepts_program, ap, append-nil, arith, command_of, end, false, inl, inner, inr, is_pragma, is_query, length, mode_of, reads_listing, shows_rows, subst, subst₂, sym, text_of, timed, true, understood, ℕ}
 use Rattle.sqlite_trees.specs.declared.error.StoreError.TheVariants.{OutOfMemory}
 use Rattle.sqlite.specs.declared.error.ErrorCode.TheVariants as code
 use Rattle.sqlite.specs.State.{EndsScope, IsNotRun, FailsToQuery, ExecutesIn}

@@ -1,8 +1,5 @@
 -- INSERT OR IGNORE of one row.
-use Rattle.std.proofs.Common.{ℤ, ◌≡◌, inl, inr, ℕ, suc, ◌<◌, ◌^◌, pos, List, [], ◌∷◌, ◌++◌, length, map, Bool, true, false, None, Some, Option, Ok, Err, refl, sym, ap, subst, subst₂, ◌∙◌, arith, if◌then◌else◌}
-use Rattle.std.specs.Prelude.{◌/◌}
-use Rattle.std.specs.List.{AllByRecursion, enumerate_from, list_any}
-use Rattle.kob_outbox.proofs.statements.Words.{Among, AreConflicts, AtPlace, BadReference, Check, Clears, Command, Concludes, Database, Datatype, Enforced, Error, Escapes, Executes, ForeignKey, Given, Has, Ignore, InsertOr, InsertsOr, Int, IsJudged, IsMisplaced, Judged, Keys, Mismatch, Mode, NoRowid, NotNull, OnRows, OnTable, Outcome, PrimaryKey, Refers, Refusal, Row, Schema, Source, Sourced, State, Table, Task, Term, TooDeep, Trees, Tries, TriesEach, Unique, Values, Violates, Written, accepts_terms, cast_row, conflicts, count_of, edit_of, edited, fits_i64, id_in, mode_of, nothing, put_row, rowid, understood, value_rows}
+use Rattle.kob_outbox.proofs.statements.Words.{[], ◌++◌, ◌/◌, ◌<◌, ◌^◌, ◌∙◌, ◌∷◌, ◌≡◌, AllByRecursion, Among, AreConflicts, AtPlace, BadReference, Bool, Check, Clears, Command, Concludes, Database, Datatype, Enforced, Err, Error, Escapes, Executes, ForeignKey, Given, Has, Ignore, InsertOr, InsertsOr, Int, IsJudged, IsMisplaced, Judged, Keys, List, Mismatch, Mode, NoRowid, None, NotNull, Ok, OnRows, OnTable, Option, Outcome, PrimaryKey, Refers, Refusal, Row, Schema, Some, Source, Sourced, State, Table, Task, Term, TooDeep, Trees, Tries, TriesEach, Unique, Values, Violates, Written, accepts_terms, ap, arith, cast_row, conflicts, count_of, edit_of, edited, enumerate_from, false, fits_i64, id_in, if◌then◌else◌, inl, inr, length, list_any, map, mode_of, nothing, pos, put_row, refl, rowid, subst, subst₂, suc, sym, true, understood, value_rows, ℕ, ℤ}
 use Rattle.kob_outbox.proofs.statements.Failing.{IsMemory, IsWhole, NeverFails, for_memory_or}
 use Rattle.kob_outbox.proofs.statements.Numbered.{at_row, put_last, row_of}
 use Rattle.kob_outbox.proofs.statements.Plain.{same_value}

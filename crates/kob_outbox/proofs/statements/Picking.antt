@@ -1,10 +1,5 @@
 -- The rows that a query over one table picks.
-use Rattle.std.proofs.Common.{◌≡◌, ◌≤◌, ℕ, Ordering, List, [], ◌∷◌, length, map, filter, flat_map, Bool, true, inl, inr, ◌<◌, refl, if◌then◌else◌, Less, ap, subst, ◌∙◌, arith, IsPermutation}
-use Rattle.std.proofs.lemmas.Bool.{cases_Bool}
-use Rattle.std.proofs.lemmas.List.{length-map}
-use Rattle.std.proofs.lemmas.List.Sorted.{length_permutation}
-use Rattle.std.specs.List.{list_all}
-use Rattle.kob_outbox.proofs.statements.Words.{Env, IsAnswer, IsAscending, Output, Query, Row, Trees, ascending-map, ascending_weaker, holds, map-map, one_permutation, output, output_cmp, output_cmp_total, overlay, page, sorted_unique}
+use Rattle.kob_outbox.proofs.statements.Words.{[], ◌<◌, ◌∙◌, ◌∷◌, ◌≡◌, ◌≤◌, Bool, Env, IsAnswer, IsAscending, IsPermutation, Less, List, Ordering, Output, Query, Row, Trees, ap, arith, ascending-map, ascending_weaker, cases_Bool, filter, flat_map, holds, if◌then◌else◌, inl, inr, length, length-map, length_permutation, list_all, map, map-map, one_permutation, output, output_cmp, output_cmp_total, overlay, page, refl, sorted_unique, subst, true, ℕ}
 use Rattle.kob_outbox.proofs.statements.Selecting.{Scan, query_of}
 
 -- the permutations of a list of one element at most

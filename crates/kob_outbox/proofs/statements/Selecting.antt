@@ -1,10 +1,5 @@
 -- A SELECT over one table: what its text means, and what it answers and leaves.
-use Rattle.std.proofs.Common.{◌≡◌, ℕ, List, [], ◌∷◌, length, true, false, None, Result, pos, negsuc, refl, ap}
-use Rattle.std.specs.Prelude.{Vec, IfOk, IfErr}
-use Rattle.std.specs.declared.alloc.Global.{Global}
-use Rattle.kob_outbox.proofs.statements.Words.{Binary, Database, Error, FailsToQuery, HasCleanDisk, Held, Int, IsAnswer, IsPlain, Key, MemStore, Null, Program, Query, Row, Schema, Select, Shown, Term, Trees, accepts_program, col, command_of, end, inner, lit, memory_is_clean, overlay, reads_as, reads_listing, understood}
-use Rattle.kob_outbox.specs.Blank.{IsAtRest}
-use Rattle.kob_outbox.specs.Service.{database}
+use Rattle.kob_outbox.proofs.statements.Words.{[], ◌∷◌, ◌≡◌, Binary, Database, Error, FailsToQuery, Global, HasCleanDisk, Held, IfErr, IfOk, Int, IsAnswer, IsAtRest, IsPlain, Key, List, MemStore, None, Null, Program, Query, Result, Row, Schema, Select, Shown, Term, Trees, Vec, accepts_program, ap, col, command_of, database, end, false, inner, length, lit, memory_is_clean, negsuc, overlay, pos, reads_as, reads_listing, refl, true, understood, ℕ}
 use Rattle.kob_outbox.proofs.statements.Failing.{IsMemory, IsWhole, for_memory, no_sum}
 use Rattle.kob_outbox.proofs.statements.Plain.{all_stays, if_err, if_ok, rests}
 

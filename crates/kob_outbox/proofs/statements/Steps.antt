@@ -1,10 +1,6 @@
 -- What a write does to the trees, where no foreign key and no AUTOINCREMENT is about.
-use Rattle.std.proofs.Common.{◌≡◌, ◌≢◌, inl, inr, ℕ, ℤ, List, [], ◌∷◌, ◌++◌, length, Bool, true, false, cond, None, Option, Ok, refl, sym, ap, subst, ◌∙◌}
-use Rattle.kob_outbox.proofs.statements.Words.{Answers, Applies, Chosen, Conflict, Counter, Counts, Deletes, Edit, Edited, Given, Gives, Inserts, InsertsOr, Int, Integer, IsJudged, IsSource, Judged, Keys, Null, Program, Puts, Refusal, Row, Schema, Source, Table, Task, Term, Then, Trees, TriesEach, Updates, Upsert, Value, Values, Written, cast, cast_row, count_of, edit_of, ids_of, last_id, mended, nothing, one_step, taken_by, value_rows, with_rowid, works}
+use Rattle.kob_outbox.proofs.statements.Words.{[], ◌++◌, ◌/◌, ◌∙◌, ◌∷◌, ◌≡◌, ◌≢◌, AllByRecursion, Answers, Applies, Bool, Chosen, Conflict, Counter, Counts, Deletes, Edit, Edited, Given, Gives, Inserts, InsertsOr, Int, Integer, IsJudged, IsSource, Judged, Keys, List, None, Null, Ok, Option, Program, Puts, Refusal, Row, Schema, Source, Table, Task, Term, Then, Trees, TriesEach, Updates, Upsert, Value, Values, Written, ap, cast, cast_row, cond, count_of, edit_of, false, ids_of, inl, inr, last_id, length, mended, nothing, one_step, option_or, refl, subst, sym, taken_by, true, value_rows, with_rowid, works, ℕ, ℤ}
 use Rattle.sqlite.specs.Ops.{unary}
-use Rattle.std.specs.List.{AllByRecursion}
-use Rattle.std.specs.Option.{option_or}
-use Rattle.std.specs.Prelude.{◌/◌}
 use Rattle.kob_outbox.proofs.statements.Plain.{went, same_value}
 
 either : (b : Bool) (x : Value) → cond b x x ≡ x
@@ -51,7 +47,6 @@ module _ (limit : Option ℕ) (keys : Keys) (schema : Schema) (table : Table) (p
       → Inserts (task_on limit keys schema table params) from db (Ok w)
       → (rows : List Row) × IsSource (record { schema = schema; trees = db }) (params ++ []) from rows
       × Applies schema keys db (edit_of db (uncounted table) [] Chosen 0 rows) w.trees
-      × (w.rows ≡ (edit_of db (uncounted table) [] Chosen 0 rows).news)
   inserted from db w h =
       let given = went h in
       let counted = went given.2 in
@@ -62,7 +57,7 @@ module _ (limit : Option ℕ) (keys : Keys) (schema : Schema) (table : Table) (p
       let it =
       left db written.0 [] news news (last_id news) w written.1
       (same_value late.2 ∙ ap left_with (same_value late.1)) in
-      (given.0, given.1, it.0, it.1)
+      (given.0, given.1, it.0)
 
   pub deleted : (q : Program) (db : Trees) (w : Written) → Deletes (task_on limit keys schema table params) q db (Ok w)
       → (rows : List Row) × Answers (record { schema = schema; trees = db }) q params rows
@@ -78,13 +73,12 @@ module _ (limit : Option ℕ) (keys : Keys) (schema : Schema) (table : Table) (p
       → Updates (task_on limit keys schema table params) q given db (Ok w)
       → (rows : List Row) × Answers (record { schema = schema; trees = db }) q given rows
       × Applies schema keys db (edit_of db (uncounted table) (ids_of rows) Given 1 rows) w.trees
-      × (w.rows ≡ (edit_of db (uncounted table) (ids_of rows) Given 1 rows).news)
   updated q given db w h =
       let found = went h in
       let written = went found.2 in
       let news = (edit_of db (uncounted table) (ids_of found.0) Given 1 found.0).news in
       let it = left db written.0 (ids_of found.0) news news None w written.1 (same_value written.2) in
-      (found.0, found.1, it.0, it.1)
+      (found.0, found.1, it.0)
 
   pub put : (new : Row) (db : Trees) (w : Written) → Puts (task_on limit keys schema table params) new db (Ok w)
       → Applies schema keys db (edit_of db (uncounted table) [] Given 0 (new ∷ [])) w.trees

@@ -1,9 +1,5 @@
 -- How numbers and texts compare in SQL.
-use Rattle.std.proofs.Common.{◌⊎◌, inl, inr, ◌≡◌, ℕ, pos, ◌<◌, ◌^◌, nat_lt, nat_le, bytes_eq, Bool, true, false, ◌||◌, ◌&&◌, List, refl, sym, ap, ◌∙◌, arith, Less, Equal, Greater, is_eq, Some}
-use Rattle.std.specs.Ordering.{nat_cmp, int_cmp, is_gt, is_le}
-use Rattle.std.specs.Cmp.{nat_cmp_is}
-use Rattle.std.proofs.lemmas.Map.Text.{is_eq-slice_cmp}
-use Rattle.kob_outbox.proofs.statements.Words.{Binary, Compare, Gt, Int, Le, Text, equal, fits_i64, from_truth, is_true, value_cmp, value_cmp-Int, value_cmp-Text}
+use Rattle.kob_outbox.proofs.statements.Words.{◌&&◌, ◌<◌, ◌^◌, ◌||◌, ◌∙◌, ◌≡◌, ◌⊎◌, Binary, Bool, Compare, Equal, Greater, Gt, Int, Le, Less, List, Some, Text, ap, arith, bytes_eq, equal, false, fits_i64, from_truth, inl, inr, int_cmp, is_eq, is_eq-slice_cmp, is_gt, is_le, is_true, nat_cmp, nat_cmp_is, nat_le, nat_lt, pos, refl, sym, true, value_cmp, value_cmp-Int, value_cmp-Text, ℕ}
 use Rattle.sqlite_sql.specs.Ops.{binary}
 
 truth_back : (b : Bool) → is_true (from_truth (Some b)) ≡ b

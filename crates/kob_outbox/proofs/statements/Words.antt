@@ -1,4 +1,4 @@
--- The words of SQL and of its tables that the proofs cite, from the modules of `sqlite`.
+-- The words of SQL, of its tables and of lists that the proofs cite, passed on from one place.
 pub use Rattle.sqlite.proofs.Callers.{IsPlain, command_of, memory_is_clean, one_permutation, one_step, reads_as, runs_as, statement_of}
 pub use Rattle.sqlite.specs.Cast.{cast, cast_row}
 pub use Rattle.sqlite.specs.Change.{created, next_tree}
@@ -71,3 +71,27 @@ pub use Rattle.sqlite_value.proofs.OrderLemmas.{value_cmp-Int, value_cmp-Text}
 pub use Rattle.sqlite_value.specs.Keys.{first_key}
 pub use Rattle.sqlite_value.specs.Order.{column, value_cmp}
 pub use Rattle.sqlite_value.specs.declared.keys.Key.{Key}
+pub use Rattle.kob_outbox.specs.Blank.{IsAtRest, IsBlank}
+pub use Rattle.kob_outbox.specs.Contents.{Contents, Event, IsRising, States, empty, key_cmp}
+pub use Rattle.kob_outbox.specs.Events.{id_text, key_of, stored_event, stored_row}
+pub use Rattle.kob_outbox.specs.Layout.{AreBusiness, Business, Holds, IsReadable, IsRisingFrom, IsShown, blob_in, business_tree, contents_in, entry_in, entry_of, event_in, event_row, has_key, mark_row, mark_tree, outbox_tree, placed_row, shown_event, shown_state, spent_row, spent_rows, spent_tree, text_in}
+pub use Rattle.kob_outbox.specs.Numbers.{number_in}
+pub use Rattle.kob_outbox.specs.Reading.{first_after, later_than, state_at, up_to, without_sent}
+pub use Rattle.kob_outbox.specs.Recording.{after_record, is_recorded, with_event, with_id, with_state}
+pub use Rattle.kob_outbox.specs.Service.{IsChanging, IsService, KeepsLast, Spends, contents, contents_of, database}
+pub use Rattle.kob_outbox.specs.Tables.{business, business_table, mark, mark_table, no_schema, one_table, outbox, outbox_table, service_schema, spent, spent_table, three_tables, two_tables}
+pub use Rattle.kob_outbox.specs.declared.event.OutboxEvent.{OutboxEvent}
+pub use Rattle.std.proofs.Common.{[], ◌&&◌, ◌++◌, ◌+ℤ◌, ◌+◌, ◌/◌, ◌<◌, ◌==◌, ◌^◌, ◌||◌, ◌∙◌, ◌∷◌, ◌≡◌, ◌≢◌, ◌≤◌, ◌⊎◌, Bool, Equal, Err, Greater, IfErr, IfOk, IsErrAnd, IsPermutation, IsTrue, Less, List, None, Ok, OnErr, OnOk, Option, Ordering, Result, Some, Vec, add-one, ap, append-nil, arith, bytes_eq, codes, cond, false, filter, flat_map, if◌then◌else◌, inl, inr, int_cmp, is_eq, is_gt, is_le, le-ltb, length, length-append, map, min, nat_cmp, nat_le, nat_lt, negsuc, not, pos, refl, rules, slice_get, slice_index_or, string_bytes, subst, subst₂, suc, sym, take, true, unwrap_or, zero, ℕ, ℤ}
+pub use Rattle.std.proofs.lemmas.Bool.{and_parts, cases_Bool, cases_lt, cond-false, cond-true}
+pub use Rattle.std.proofs.lemmas.List.{length-map, length-take, map-append, take-map, take_all, take_more}
+pub use Rattle.std.proofs.lemmas.List.Sorted.{IsPermutation-map, length_permutation, list_any-IsPermutation}
+pub use Rattle.std.proofs.lemmas.Map.Text.{is_eq-slice_cmp}
+pub use Rattle.std.proofs.lemmas.Slice.Eq.{bytes_eq-Decides}
+pub use Rattle.std.proofs.lemmas.Str.{IsUtf8-string_bytes}
+pub use Rattle.std.specs.Cmp.{IsTotalOrder, nat_cmp_is, then_total}
+pub use Rattle.std.specs.FinMap.{IsAntisymmetric, find, from_entries, get, get-from_entries, get-insert, insert, same_map}
+pub use Rattle.std.specs.List.{AllByRecursion, enumerate_from, fold, list_all, list_any}
+pub use Rattle.std.specs.Option.{is_none, option_or}
+pub use Rattle.std.specs.Ordering.{eq_by_cmp, ordering_then}
+pub use Rattle.std.specs.Str.{IsUtf8}
+pub use Rattle.std.specs.declared.alloc.Global.{Global}

@@ -1,7 +1,5 @@
 -- From a statement's text to the rows that it writes.
-use Rattle.std.proofs.Common.{◌≡◌, ℕ, List, [], ◌∷◌, ◌++◌, length, slice_get, if◌then◌else◌, Some, None, Option, Ok, sym, ap, subst, ◌∙◌}
-use Rattle.std.specs.Prelude.{◌/◌, unwrap_or}
-use Rattle.kob_outbox.proofs.statements.Words.{AtPlace, Chosen, Command, Database, Does, Enforced, Executes, Insert, IsPlain, Mode, OnRows, OnTable, Row, Runs, Schema, State, Table, Tally, Term, Trees, Values, Writes, WritesRows, Written, command_of, edit_of, edited, mode_of, put_row, runs_as, statement_of, understood, value_rows}
+use Rattle.kob_outbox.proofs.statements.Words.{[], ◌++◌, ◌/◌, ◌∙◌, ◌∷◌, ◌≡◌, AtPlace, Chosen, Command, Database, Does, Enforced, Executes, Insert, IsPlain, List, Mode, None, Ok, OnRows, OnTable, Option, Row, Runs, Schema, Some, State, Table, Tally, Term, Trees, Values, Writes, WritesRows, Written, ap, command_of, edit_of, edited, if◌then◌else◌, length, mode_of, put_row, runs_as, slice_get, statement_of, subst, sym, understood, unwrap_or, value_rows, ℕ}
 use Rattle.kob_outbox.proofs.statements.Plain.{went, same_value}
 use Rattle.kob_outbox.proofs.statements.Steps.{IsAlone, KeepOthers, inserted, uncounted, task_on}
 

@@ -1,7 +1,4 @@
-use Rattle.std.proofs.Common.{string_bytes}
-use Rattle.std.proofs.lemmas.Str.{IsUtf8-string_bytes}
-use Rattle.kob_outbox.proofs.statements.Words.{memory_is_clean}
-use Rattle.kob_outbox.specs.Service.{database}
+use Rattle.kob_outbox.proofs.statements.Words.{IsUtf8-string_bytes, database, memory_is_clean, string_bytes}
 use Rattle.kob_outbox.proofs.Replacing.{replaces}
 use Rattle.kob_outbox.proofs.statements.Plain.{inside_keeps}
 use Rattle.kob_outbox.proofs.business_table.replace_business.Goals as goal

@@ -1,7 +1,4 @@
-use Rattle.std.proofs.Common.{◌≡◌}
-use Rattle.kob_outbox.specs.Layout.{contents_in, shown_state}
-use Rattle.kob_outbox.specs.Reading.{state_at}
-use Rattle.kob_outbox.specs.Service.{contents}
+use Rattle.kob_outbox.proofs.statements.Words.{◌≡◌, contents, contents_in, shown_state, state_at}
 use Rattle.kob_outbox.proofs.Reading.{answer_business}
 use Rattle.kob_outbox.proofs.Texts.{select_business}
 use Rattle.kob_outbox.proofs.statements.Selecting.{queried}

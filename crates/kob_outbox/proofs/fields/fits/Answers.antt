@@ -1,4 +1,4 @@
-use Rattle.std.proofs.Common.{rules}
+use Rattle.kob_outbox.proofs.statements.Words.{rules}
 use Rattle.kob_outbox.proofs.ZeroBytes.{zero_byte_found}
 use Rattle.kob_outbox.proofs.fields.fits.Goals as goal
 

@@ -1,5 +1,4 @@
-use Rattle.kob_outbox.proofs.statements.Words.{memory_is_clean}
-use Rattle.kob_outbox.specs.Service.{database}
+use Rattle.kob_outbox.proofs.statements.Words.{database, memory_is_clean}
 use Rattle.kob_outbox.proofs.Marks.{begins}
 use Rattle.kob_outbox.proofs.mark_table.insert_mark.Goals as goal
 

@@ -1,7 +1,4 @@
-use Rattle.std.proofs.Common.{refl}
-use Rattle.kob_outbox.proofs.statements.Words.{memory_is_clean}
-use Rattle.kob_outbox.specs.Numbers.{number_in}
-use Rattle.kob_outbox.specs.Service.{database}
+use Rattle.kob_outbox.proofs.statements.Words.{database, memory_is_clean, number_in, refl}
 use Rattle.kob_outbox.proofs.Marks.{moves}
 use Rattle.kob_outbox.proofs.mark_table.update_mark.Goals as goal
 

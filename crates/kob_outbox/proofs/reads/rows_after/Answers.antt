@@ -1,10 +1,4 @@
-use Rattle.std.proofs.Common.{rules, ◌≡◌, map, min, sym, subst, ap, ◌∙◌}
-use Rattle.std.specs.List.{AllByRecursion}
-use Rattle.kob_outbox.proofs.statements.Words.{map-map}
-use Rattle.kob_outbox.specs.Events.{stored_row}
-use Rattle.kob_outbox.specs.Layout.{IsShown, shown_event}
-use Rattle.kob_outbox.specs.Reading.{first_after}
-use Rattle.kob_outbox.specs.Service.{database, contents_of}
+use Rattle.kob_outbox.proofs.statements.Words.{◌∙◌, ◌≡◌, AllByRecursion, IsShown, ap, contents_of, database, first_after, map, map-map, min, rules, shown_event, stored_row, subst, sym}
 use Rattle.kob_outbox.proofs.statements.Plain.{if_ok}
 use Rattle.kob_outbox.proofs.Shown.{first_shown, rows_as}
 use Rattle.kob_outbox.proofs.reads.rows_after.Goals as goal

@@ -1,8 +1,5 @@
-use Rattle.std.proofs.Common.{rules, ◌≡◌}
-use Rattle.kob_outbox.proofs.statements.Words.{SqliteFailure, column}
+use Rattle.kob_outbox.proofs.statements.Words.{◌≡◌, SqliteFailure, column, contents, rules, state_at}
 use Rattle.sqlite.specs.declared.error.ErrorCode.TheVariants.{OutOfMemory}
-use Rattle.kob_outbox.specs.Reading.{state_at}
-use Rattle.kob_outbox.specs.Service.{contents}
 use Rattle.kob_outbox.proofs.Shown.{first_state, state_readable}
 use Rattle.kob_outbox.proofs.States.{text_at}
 use Rattle.kob_outbox.proofs.statements.Failing.{readable_fails}

@@ -1,5 +1,4 @@
-use Rattle.std.proofs.Common.{◌<◌, rules, ◌≡◌, arith, ap, length}
-use Rattle.kob_outbox.proofs.statements.Words.{SqliteFailure, column}
+use Rattle.kob_outbox.proofs.statements.Words.{◌<◌, ◌≡◌, SqliteFailure, ap, arith, column, length, rules}
 use Rattle.sqlite.specs.declared.error.ErrorCode.TheVariants.{OutOfMemory}
 use Rattle.kob_outbox.proofs.statements.Failing.{readable_fails}
 use Rattle.kob_outbox.proofs.rows.row_of.Goals as goal

@@ -1,6 +1,4 @@
-use Rattle.std.proofs.Common.{◌≡◌, map, take}
-use Rattle.kob_outbox.specs.Events.{stored_row}
-use Rattle.kob_outbox.specs.Layout.{shown_event}
+use Rattle.kob_outbox.proofs.statements.Words.{◌≡◌, map, shown_event, stored_row, take}
 use Rattle.kob_outbox.proofs.rows.rows_of.Given as goal
 
 abbrev pub invariant-loop-row : goal.invariant-loop-row

@@ -1,6 +1,4 @@
-use Rattle.std.proofs.Common.{refl}
-use Rattle.kob_outbox.proofs.statements.Words.{memory_is_clean}
-use Rattle.kob_outbox.specs.Service.{database}
+use Rattle.kob_outbox.proofs.statements.Words.{database, memory_is_clean, refl}
 use Rattle.kob_outbox.proofs.statements.Plain.{inside_keeps}
 use Rattle.kob_outbox.proofs.Recording.{adds, adds_again}
 use Rattle.kob_outbox.proofs.spent_table.insert_spent.Goals as goal
