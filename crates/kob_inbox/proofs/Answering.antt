@@ -1,16 +1,8 @@
 -- What taking a record in answers.
-use Rattle.std.proofs.Common.{◌≡◌, inl, inr, ℕ, ◌+◌, List, [], ◌∷◌, ◌++◌, length, length-append, if◌then◌else◌, Option, Some, Result, Ok, Err, IsTrue, refl, sym, ap, ◌∙◌, arith}
-use Rattle.std.specs.Prelude.{IsErrAnd, IsErrOf}
-use Rattle.std.proofs.lemmas.Bool.{cases_Bool}
-use Rattle.kob_outbox.proofs.statements.Words.{Error, State}
+use Rattle.kob_inbox.proofs.Words.{[], ◌++◌, ◌+◌, ◌∙◌, ◌∷◌, ◌≡◌, Contents, Err, Error, HasLast, InboxFault, Intake, IsErrAnd, IsErrOf, IsInbox, IsTrue, List, Ok, Option, Result, Some, answer_to, ap, arith, cases_Bool, contents_in, false, id_text, if◌then◌else◌, inl, inr, is_there, length, length-append, refl, sym, true, with_intake, ℕ}
+use Rattle.kob_outbox.proofs.statements.Words.{State}
 use Rattle.kob_outbox.proofs.statements.Failing.{IsMemory}
-use Rattle.kob_outbox.specs.Events.{id_text}
-use Rattle.kob_inbox.specs.Contents.{Contents, Intake}
-use Rattle.kob_inbox.specs.Database.{HasLast, IsInbox}
 use Rattle.kob_inbox.specs.Faults.{fault_of}
-use Rattle.kob_inbox.specs.Intake.{answer_to, is_there, with_intake}
-use Rattle.kob_inbox.specs.Layout.{contents_in}
-use Rattle.kob_inbox.specs.declared.fault.InboxFault.{InboxFault}
 use Rattle.kob_inbox.specs.declared.fault.InboxFault.TheVariants.{Memory, Store}
 use Rattle.kob_inbox.specs.declared.inbox.TakeIn.TheVariants.{Taken, Seen}
 
@@ -19,18 +11,11 @@ module _ (events : Contents) (found : Option (List ℕ)) (uuid id : List ℕ) (i
   answered : answer_to events found ≡ (if is_there events id then Seen else Taken)
   answered = ap (answer_to events) (sym is) ∙ ap (λ t. if is_there events t then Seen else Taken) (sym text)
 
-  pub seen : (count : ℕ) → count ≡ (if is_there events id then 0 else 1) → count ≡ 0 → Seen ≡ answer_to events found
-  seen count counts none = elim (cases_Bool (is_there events id)) [
-    | inl there ↦ sym (answered ∙ rw there refl)
-    | inr absent ↦ absurd (let one : count ≡ 1 = counts ∙ rw absent refl in let no = sym none ∙ one in cc)
-  ]
+  pub seen : is_there events id ≡ true → Seen ≡ answer_to events found
+  seen there = sym (answered ∙ rw there refl)
 
-  pub taken : (count : ℕ) → count ≡ (if is_there events id then 0 else 1) → ¬ (count ≡ 0)
-      → Taken ≡ answer_to events found
-  taken count counts some = elim (cases_Bool (is_there events id)) [
-    | inl there ↦ absurd (some (counts ∙ rw there refl))
-    | inr absent ↦ sym (answered ∙ rw absent refl)
-  ]
+  pub taken : is_there events id ≡ false → Taken ≡ answer_to events found
+  taken absent = sym (answered ∙ rw absent refl)
 
   -- where the id is there, only want of memory stops it
   pub stored : {A : Type 0} (r : Result A InboxFault) (e : Error) → IsErrAnd r (λ f. f ≡ fault_of e)
@@ -47,21 +32,14 @@ module _ (last : ℕ) (old new : State) (was : HasLast last old) (inbox : IsInbo
   pub stays : contents_in new.now.trees ≡ contents_in old.now.trees → HasLast last new
   stays same = record { inbox = inbox; last_is = was.last_is ∙ ap length (sym same) }
 
-  module _ (e : Intake) (left : contents_in new.now.trees ≡ with_intake (contents_in old.now.trees) e) (count : ℕ)
-      (counts : count ≡ (if is_there (contents_in old.now.trees) e.id then 0 else 1)) where
-    pub stays_seen : count ≡ 0 → HasLast last new
-    stays_seen none = elim (cases_Bool (is_there (contents_in old.now.trees) e.id)) [
-      | inl there ↦ stays (left ∙ rw there refl)
-      | inr absent ↦ absurd (let one : count ≡ 1 = counts ∙ rw absent refl in let no = sym none ∙ one in cc)
-    ]
+  module _ (e : Intake) (left : contents_in new.now.trees ≡ with_intake (contents_in old.now.trees) e) where
+    pub stays_seen : is_there (contents_in old.now.trees) e.id ≡ true → HasLast last new
+    stays_seen there = stays (left ∙ rw there refl)
 
-    pub moves : ¬ (count ≡ 0) → HasLast (last + 1) new
-    moves some = elim (cases_Bool (is_there (contents_in old.now.trees) e.id)) [
-      | inl there ↦ absurd (some (counts ∙ rw there refl))
-      | inr absent ↦
-          let events = contents_in old.now.trees in
-          let more : contents_in new.now.trees ≡ events ++ e ∷ [] = left ∙ rw absent refl in
-          let longer : length (contents_in new.now.trees) ≡ length events + 1 =
-          ap length more ∙ length-append events (e ∷ []) in
-          record { inbox = inbox; last_is = omega (arith, longer, was.last_is) }
-    ]
+    pub moves : is_there (contents_in old.now.trees) e.id ≡ false → HasLast (last + 1) new
+    moves absent =
+        let events = contents_in old.now.trees in
+        let more : contents_in new.now.trees ≡ events ++ e ∷ [] = left ∙ rw absent refl in
+        let longer : length (contents_in new.now.trees) ≡ length events + 1 =
+        ap length more ∙ length-append events (e ∷ []) in
+        record { inbox = inbox; last_is = omega (arith, longer, was.last_is) }

@@ -1,13 +1,6 @@
 -- A cursor that is moved, or that is new.
-use Rattle.std.proofs.Common.{◌≡◌, inl, inr, ◌++◌, ◌∷◌, [], List, ℕ, suc, ◌+◌, ◌<◌, Bool, length, get_or, take, drop, set, true, refl, sym, ap, ◌∙◌, arith, Some, None, bytes_eq}
-use Rattle.std.specs.Prelude.{nat_eq}
-use Rattle.std.proofs.lemmas.Bool.{cases_Bool, cond-true, cond-false, eqb-true, and_parts}
-use Rattle.std.proofs.lemmas.List.{set_split, drop_more}
-use Rattle.std.proofs.lemmas.Slice.Eq.{bytes_eq-Decides}
+use Rattle.kob_inbox.proofs.Words.{[], ◌++◌, ◌+◌, ◌<◌, ◌∙◌, ◌∷◌, ◌≡◌, Bool, Cursor, List, None, Place, Some, and_parts, ap, arith, bytes_eq, bytes_eq-Decides, cases_Bool, cond-false, cond-true, cursor_of, drop, drop_more, eqb-true, get_or, inl, inr, length, nat_eq, refl, set, set_split, standing, suc, sym, take, true, with_cursor, ℕ}
 use Rattle.kob_router.specs.Places.{same_place}
-use Rattle.kob_router.specs.declared.place.Place.{Place}
-use Rattle.kob_inbox.specs.declared.cursors.Cursor.{Cursor}
-use Rattle.kob_inbox.specs.Cursors.{cursor_of, with_cursor, standing}
 
 pub moved_new : (cs : List Cursor) (c : Cursor) → standing (cursor_of cs c.place) ≡ None
     → with_cursor cs c ≡ cs ++ c ∷ []

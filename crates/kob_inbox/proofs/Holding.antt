@@ -1,12 +1,8 @@
 -- What is read back of the events that the tree holds.
-use Rattle.std.proofs.Common.{◌≡◌, ℕ, List, [], false, map, Option, None, Some, Ok, Err, Result, OnOk, refl, sym, ap, subst, ◌∙◌, arith}
+use Rattle.kob_inbox.proofs.Words.{[], ◌∙◌, ◌≡◌, Contents, Err, Error, Holds, IsInbox, List, None, Ok, OnOk, Option, Result, Some, Trees, ap, arith, contents_in, false, inbox_schema, intake_in, key_in, key_value, map, placed_row, refl, subst, sym, ℕ}
 use Rattle.kob_outbox.specs.Blank.{IsBlank}
 use Rattle.kob_outbox.proofs.statements.Numbered.{rows_back}
-use Rattle.kob_outbox.proofs.statements.Words.{Error, State, Trees}
-use Rattle.kob_inbox.specs.Contents.{Contents}
-use Rattle.kob_inbox.specs.Database.{IsInbox}
-use Rattle.kob_inbox.specs.Layout.{Holds, contents_in, intake_in, key_in, key_value, placed_row}
-use Rattle.kob_inbox.specs.Tables.{inbox_schema}
+use Rattle.kob_outbox.proofs.statements.Words.{State}
 
 pub key_back : (key : Option (List ℕ)) → key_in (key_value key) ≡ key
 key_back None = refl

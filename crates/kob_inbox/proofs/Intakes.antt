@@ -1,8 +1,6 @@
 -- What taking an event in does.
-use Rattle.std.proofs.Common.{◌≡◌, inl, inr, ℕ, suc, ◌<◌, ◌^◌, pos, List, [], ◌∷◌, ◌++◌, length, length-append, bytes_eq, true, false, None, Some, Option, Ok, Err, Result, OnOk, OnErr, IfOk, IfErr, IsTrue, refl, sym, ap, ◌∙◌, arith, if◌then◌else◌}
-use Rattle.std.proofs.lemmas.Slice.Eq.{bytes_eq-Decides}
-use Rattle.std.proofs.lemmas.Bool.{cases_Bool}
-use Rattle.kob_outbox.proofs.statements.Words.{Blob, Chosen, Database, Enforced, Error, Executes, Int, Row, State, Text, accepts_terms, all-append, all_weaker, ascending-append, cast_row, conflicts, none_from_any, with_rowid}
+use Rattle.kob_inbox.proofs.Words.{[], ◌++◌, ◌<◌, ◌^◌, ◌∙◌, ◌∷◌, ◌≡◌, ◌≢◌, Blob, Chosen, Contents, Database, Enforced, Err, Error, Executes, Holds, IfErr, IfOk, Int, Intake, IsInbox, IsOnce, IsReadable, IsTrue, List, None, Ok, OnErr, OnOk, Option, Result, Row, Some, Text, accepts_terms, all-append, all_weaker, ap, arith, ascending-append, bytes_eq, bytes_eq-Decides, cases_Bool, cast_row, conflicts, contents_in, false, if◌then◌else◌, inbox_schema, inbox_table, inbox_tree, inl, inr, is_there, key_value, length, length-append, none_from_any, placed_row, pos, refl, suc, sym, true, with_intake, with_rowid, ℕ}
+use Rattle.kob_outbox.proofs.statements.Words.{State}
 use Rattle.sqlite_value.specs.Keys.{first_key}
 use Rattle.sqlite_tied.specs.Compute.{everything}
 use Rattle.kob_outbox.proofs.statements.Failing.{IsMemory, NeverFails}
@@ -10,11 +8,6 @@ use Rattle.kob_outbox.proofs.statements.Ignoring.{Ignored, IsSuited, ReferToNone
 use Rattle.kob_outbox.proofs.statements.Plain.{execute_stays, rests}
 use Rattle.kob_outbox.proofs.statements.Steps.{IsAlone, uncounted, cast_int, cast_null}
 use Rattle.kob_outbox.proofs.statements.Values.{alone_test, equal_texts, not_true, unequal_numbers}
-use Rattle.kob_inbox.specs.Contents.{Contents, Intake, IsOnce}
-use Rattle.kob_inbox.specs.Database.{IsInbox}
-use Rattle.kob_inbox.specs.Intake.{is_there, with_intake}
-use Rattle.kob_inbox.specs.Layout.{Holds, IsReadable, contents_in, inbox_tree, key_value, placed_row}
-use Rattle.kob_inbox.specs.Tables.{inbox_schema, inbox_table}
 use Rattle.kob_inbox.proofs.Holding.{inbox_holds}
 use Rattle.kob_inbox.proofs.Texts.{insert_intake, put_text, put_whole, new_row}
 
@@ -108,11 +101,12 @@ pub takes : (old new : State) (e : Intake) (r : Result ℕ Error) → IsInbox ol
     → suc (length (contents_in old.now.trees)) < 2 ^ 63 → new.step_limit ≡ old.step_limit → IsTrue new.is_open
     → Executes put_text (intake_params (suc (length (contents_in old.now.trees))) e) old new r
     → IsInbox new × OnOk r (contents_in new.now.trees ≡ with_intake (contents_in old.now.trees) e)
-    × IfOk r (λ count. count ≡ (if is_there (contents_in old.now.trees) e.id then 0 else 1))
+    × IfOk r (λ count. count ≡ 0 → IsTrue (is_there (contents_in old.now.trees) e.id))
+    × IfOk r (λ count. count ≢ 0 → is_there (contents_in old.now.trees) e.id ≡ false)
     × OnErr r (contents_in new.now.trees ≡ contents_in old.now.trees)
 takes old new e (Err why) was fine low limit opened h =
     let stays = execute_stays put_text _ old new was.settled was.idle opened why h in
-    (rests old new was limit stays, tt, tt, ap (λ (d : Database). contents_in d.trees) stays.now)
+    (rests old new was limit stays, tt, tt, tt, ap (λ (d : Database). contents_in d.trees) stays.now)
 takes old new e (Ok count) was fine low limit opened h =
     let events = contents_in old.now.trees in
     let it = goes old was e new count h in
@@ -126,7 +120,7 @@ takes old new e (Ok count) was fine low limit opened h =
             once = was.holds.once;
             readable = was.holds.readable;
           }) in
-          (all.0, all.1 ∙ rw there refl, (it.0.again there).0 ∙ rw there refl, tt)
+          (all.0, all.1 ∙ rw there refl, λ _. there, λ some. absurd (some (it.0.again there).0), tt)
       | inr absent ↦
           let longer : length (events ++ e ∷ []) ≡ suc (length events) = length-append events (e ∷ []) ∙ omega arith in
           let all = left (events ++ e ∷ []) (record {
@@ -134,7 +128,10 @@ takes old new e (Ok count) was fine low limit opened h =
             room = omega (arith, longer, low);
             once = once_with e events absent was.holds.once;
             readable = all-append IsReadable events (e ∷ []) was.holds.readable (fine, tt);
-          }) in (all.0, all.1 ∙ rw absent refl, (it.0.fresh absent).0 ∙ rw absent refl, tt)
+          }) in
+          let never : count ≡ 0 → IsTrue (is_there events e.id) =
+          λ none. absurd (let one = (it.0.fresh absent).0 in omega (arith, one, none)) in
+          (all.0, all.1 ∙ rw absent refl, never, λ _. absent, tt)
     ]
 
 -- an id that is there is refused for want of memory alone

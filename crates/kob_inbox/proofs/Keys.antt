@@ -1,9 +1,7 @@
 -- A record's key as a value of SQL.
-use Rattle.std.proofs.Common.{◌≡◌, ℕ, List, Option, None, Some, refl}
+use Rattle.kob_inbox.proofs.Words.{◌≡◌, Blob, List, None, Option, Some, bound_value, key_value, or_null, refl, ℕ}
 use Rattle.std.specs.Borrow.{Bor}
 use Rattle.std.specs.Option.{option_copied}
-use Rattle.kob_outbox.proofs.statements.Words.{Blob, bound_value, or_null}
-use Rattle.kob_inbox.specs.Layout.{key_value}
 
 pub lent_key : (key : Option (Bor (List ℕ)))
     → or_null (λ (b : Bor (List ℕ)). Blob b.now) key ≡ key_value (option_copied key)

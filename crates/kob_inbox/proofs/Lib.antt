@@ -8,3 +8,4 @@ pub mod Running
 pub mod Shown
 pub mod Texts
 pub mod Ticking
+pub mod Words

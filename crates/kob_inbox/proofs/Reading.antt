@@ -1,13 +1,10 @@
 -- What the SELECTs answer.
-use Rattle.std.proofs.Common.{◌≡◌, ℕ, pos, List, [], ◌∷◌, map, true, refl, ◌∙◌}
-use Rattle.std.specs.List.{enumerate_from}
-use Rattle.kob_outbox.proofs.statements.Words.{Int, IsAnswer, Output, Row, Trees, map-map, overlay}
+use Rattle.kob_inbox.proofs.Words.{[], ◌∙◌, ◌∷◌, ◌≡◌, Contents, Int, Intake, List, Output, Row, Trees, enumerate_from, inbox_tree, map, map-map, overlay, placed_row, pos, refl, shown_intake, true, ℕ}
+use Rattle.kob_outbox.proofs.statements.Words.{IsAnswer}
 use Rattle.kob_outbox.proofs.statements.Numbered.{rising}
 use Rattle.kob_outbox.proofs.statements.Picking.{all_stay, in_order, rises}
 use Rattle.kob_outbox.proofs.statements.Selecting.{query_of}
 use Rattle.kob_outbox.proofs.statements.Values.{number_below}
-use Rattle.kob_inbox.specs.Contents.{Contents, Intake}
-use Rattle.kob_inbox.specs.Layout.{inbox_tree, placed_row, shown_intake}
 use Rattle.kob_inbox.proofs.Texts.{all_taken}
 
 module _ (db : Trees) (rows : List Row) (events : Contents)

@@ -1,14 +1,6 @@
 -- What a run makes of the inbox.
-use Rattle.std.proofs.Common.{◌≡◌, ℕ, List, [], ◌∷◌, ◌++◌, Option, None, Some, refl, ap, ◌∙◌, sym}
-use Rattle.kob_rights.specs.declared.request.Request.{Request}
-use Rattle.kob_rights.specs.declared.reply.Reply.{Reply}
-use Rattle.kob_rights.specs.declared.reply.Reply.TheVariants.{Denied, Refused, Done}
-use Rattle.kob_router.specs.HeaderId.{event_id}
-use Rattle.kob_inbox.specs.declared.fetcher.Subscription.{Subscription}
-use Rattle.kob_inbox.specs.Contents.{Contents}
-use Rattle.kob_inbox.specs.Intake.{Arrival, taken_in, with_record}
-use Rattle.kob_inbox.specs.Run.{State, Move, IsConsumerRun, after, after_answer, taken_by, taken_of}
-use Rattle.kob_inbox.specs.Run.Move.{Called, Restarted}
+use Rattle.kob_inbox.proofs.Words.{[], ◌++◌, ◌∙◌, ◌∷◌, ◌≡◌, Arrival, Called, Contents, Denied, Done, IsConsumerRun, List, Move, None, Option, Refused, Reply, Request, Restarted, Some, Subscription, after, after_answer, ap, event_id, refl, sym, taken_by, taken_in, taken_of, with_record, ℕ}
+use Rattle.kob_inbox.specs.Run.{State}
 
 taken_more : (events : Contents) (xs ys : List Arrival) → taken_in events (xs ++ ys) ≡ taken_in (taken_in events xs) ys
 taken_more events [] ys = refl

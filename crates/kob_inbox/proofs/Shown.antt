@@ -1,11 +1,7 @@
 -- Events read back from the rows of a query.
-use Rattle.std.proofs.Common.{◌≡◌, ℕ, ◌+◌, List, [], ◌∷◌, map, refl, sym, ap, ◌∙◌}
-use Rattle.std.specs.List.{AllByRecursion, enumerate_from}
-use Rattle.kob_outbox.proofs.statements.Words.{Row, column, map_back}
+use Rattle.kob_inbox.proofs.Words.{[], ◌+◌, ◌∙◌, ◌∷◌, ◌≡◌, AllByRecursion, Contents, Intake, IsReadable, IsShown, List, Row, ap, column, enumerate_from, key_in, map, map_back, refl, shown_intake, sym, ℕ}
 use Rattle.kob_outbox.specs.Layout.{blob_in, text_in}
 use Rattle.kob_outbox.specs.Numbers.{number_in}
-use Rattle.kob_inbox.specs.Contents.{Contents, Intake}
-use Rattle.kob_inbox.specs.Layout.{IsReadable, IsShown, key_in, shown_intake}
 use Rattle.kob_inbox.proofs.Holding.{key_back}
 
 -- the event that a row shows, behind its place

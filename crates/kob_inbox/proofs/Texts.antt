@@ -1,6 +1,5 @@
 -- What the fixed texts mean.
-use Rattle.std.proofs.Common.{ℕ, List, [], ◌∷◌, codes, refl, arith}
-use Rattle.kob_outbox.proofs.statements.Words.{Ignore, InsertOr, Null, Term, Values, col, lit}
+use Rattle.kob_inbox.proofs.Words.{[], ◌∷◌, Ignore, InsertOr, List, Null, Term, Values, arith, codes, col, inbox, inbox_schema, inbox_table, lit, refl, ℕ}
 use Rattle.sqlite_tied.specs.Compute.{everything}
 use Rattle.sqlite.specs.Listing.{understood}
 use Rattle.kob_outbox.specs.Tables.{no_schema}
@@ -8,7 +7,6 @@ use Rattle.kob_outbox.proofs.statements.Creating.{IsCreation}
 use Rattle.kob_outbox.proofs.statements.Failing.{IsWhole}
 use Rattle.kob_outbox.proofs.statements.Selecting.{IsSelect, Scan, by_key, no_limit, over}
 use Rattle.kob_outbox.proofs.statements.Writing.{IsWriting}
-use Rattle.kob_inbox.specs.Tables.{inbox, inbox_schema, inbox_table}
 
 abbrev pub create_text : List ℕ
 create_text =

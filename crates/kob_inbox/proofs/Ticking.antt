@@ -1,33 +1,18 @@
 -- A tick of a consumer is put together.
-use Rattle.std.proofs.Common.{◌≡◌, inl, inr, ℕ, ◌+◌, ◌<◌, List, [], ◌∷◌, ◌++◌, true, refl, sym, ap, ◌∙◌, subst, length, take, append-nil, arith, Option, Some, None}
-use Rattle.std.specs.Prelude.{slice_get, IfNone, IfSome}
-use Rattle.std.proofs.lemmas.Bool.{cond-true}
-use Rattle.kob_names.specs.declared.record.Record.{Record}
+use Rattle.kob_inbox.proofs.Words.{[], ◌++◌, ◌+◌, ◌<◌, ◌∙◌, ◌∷◌, ◌≡◌, Called, Contents, Cursor, Denied, Done, Hears, IfNone, IfSome, InboxFault, IsDue, List, None, Option, Place, Record, Refused, Reply, Request, Scene, Some, Subscription, Ticks, after_answer, after_done, ap, append-nil, arith, arrivals, behind, cond-true, cursor_of, due, event_id, inl, inr, length, refl, slice_get, standing, subst, sym, take, taken_in, true, turn_after, with_progress, with_record, ℕ}
 use Rattle.kob_rights.specs.declared.on_partitions.Fetch.{Fetch as FetchRequest}
-use Rattle.kob_rights.specs.declared.request.Request.{Request}
 use Rattle.kob_rights.specs.declared.request.Request.TheVariants.{Fetch, OffsetCommit}
-use Rattle.kob_rights.specs.declared.reply.Reply.{Reply}
-use Rattle.kob_rights.specs.declared.reply.Reply.TheVariants.{Denied, Refused, Done}
 use Rattle.kob_rights.specs.declared.reply.Body.{Body}
 use Rattle.kob_rights.specs.declared.reply.Body.TheVariants as bodies
-use Rattle.kob_router.specs.HeaderId.{event_id}
 use Rattle.kob_router.specs.Line.{Adds}
 use Rattle.kob_router.specs.declared.line.Call.{Call}
 use Rattle.kob_router.specs.declared.line.Delivery.TheVariants.{Lost}
-use Rattle.kob_router.specs.declared.place.Place.{Place}
-use Rattle.kob_inbox.specs.declared.cursors.Cursor.{Cursor}
 use Rattle.kob_inbox.specs.declared.cursors.Standing.{Standing}
-use Rattle.kob_inbox.specs.declared.fetcher.Subscription.{Subscription}
-use Rattle.kob_inbox.specs.declared.fault.InboxFault.{InboxFault}
 use Rattle.kob_inbox.specs.declared.tick.Tick.{Tick}
 use Rattle.kob_inbox.specs.declared.tick.Tick.TheVariants.{Committed, Repeat, Stopped}
 use Rattle.kob_inbox.specs.declared.tick.StopReason.TheVariants as stop
-use Rattle.kob_inbox.specs.Contents.{Contents}
-use Rattle.kob_inbox.specs.Cursors.{cursor_of, standing, with_progress}
-use Rattle.kob_inbox.specs.Intake.{arrivals, taken_in, with_record}
-use Rattle.kob_inbox.specs.Run.{State, IsDue, after_answer, after_done, behind, due, turn_after}
-use Rattle.kob_inbox.specs.Run.Move.{Called}
-use Rattle.kob_inbox.specs.Tick.{Hears, IsAnswer, Scene, Ticks}
+use Rattle.kob_inbox.specs.Run.{State}
+use Rattle.kob_inbox.specs.Tick.{IsAnswer}
 
 -- ---- records, one more at a time
 

@@ -1,6 +1,6 @@
 //! The one table of an inbox: the SQL that makes, reads and writes it.
 
-ghost use Rattle.std.specs.Prelude.{◌≡◌, ◌<◌, ◌^◌, [], pos, map, if◌then◌else◌, IsTrue};
+ghost use Rattle.std.specs.Prelude.{◌≡◌, ◌≢◌, ◌<◌, ◌^◌, [], pos, map, false, IsTrue};
 ghost use Rattle.std.specs.Prelude.{IfOk, IfErr, OnOk, OnErr};
 ghost use Rattle.std.specs.List.{enumerate_from};
 ghost use Rattle.sqlite.specs.declared.types.Value.TheVariants.{Int};
@@ -46,8 +46,8 @@ pub(crate) fn insert_intake<'a>(
     ensures inbox { IsInbox (database conn.new) }
     ensures ok { OnOk result (contents conn.new ≡ with_intake (contents conn.old)
         (intake_of id.now (arrival_from origin.now message.now))) }
-    ensures count { IfOk result (λ count.
-        count ≡ (if is_there (contents conn.old) id.now then 0 else 1)) }
+    ensures seen { IfOk result (λ count. count ≡ 0 → IsTrue (is_there (contents conn.old) id.now)) }
+    ensures fresh { IfOk result (λ count. count ≢ 0 → is_there (contents conn.old) id.now ≡ false) }
     ensures err { OnErr result (contents conn.new ≡ contents conn.old) }
     ensures again { IfErr result (λ e. IsTrue (is_there (contents conn.old) id.now)
         → e ≡ Error.SqliteFailure ErrorCode.OutOfMemory) }

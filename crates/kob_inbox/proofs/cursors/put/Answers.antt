@@ -1,4 +1,4 @@
-use Rattle.std.proofs.Common.{◌∙◌, false, sym}
+use Rattle.kob_inbox.proofs.Words.{◌∙◌, false, sym}
 use Rattle.kob_inbox.proofs.Cursoring.{moved_new}
 use Rattle.kob_inbox.proofs.cursors.put.Goals as goal
 

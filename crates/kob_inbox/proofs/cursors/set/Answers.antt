@@ -1,6 +1,4 @@
-use Rattle.std.proofs.Common.{List, ◌<◌, length, sym, ap, ◌∙◌, arith}
-use Rattle.kob_inbox.specs.declared.cursors.Cursor.{Cursor}
-use Rattle.kob_inbox.specs.Cursors.{with_cursor}
+use Rattle.kob_inbox.proofs.Words.{◌<◌, ◌∙◌, Cursor, List, ap, arith, length, sym, with_cursor}
 use Rattle.kob_inbox.proofs.Cursoring.{changed}
 use Rattle.kob_inbox.proofs.cursors.set.Goals as goal
 

@@ -1,5 +1,4 @@
-use Rattle.std.proofs.Common.{◌≡◌, ◌++◌, take, drop}
-use Rattle.kob_inbox.specs.Cursors.{IsKnown, cursor_of, with_cursor}
+use Rattle.kob_inbox.proofs.Words.{◌++◌, ◌≡◌, IsKnown, cursor_of, drop, take, with_cursor}
 use Rattle.kob_inbox.proofs.cursors.set.Given as goal
 
 abbrev pub invariant-loop-i : goal.invariant-loop-i

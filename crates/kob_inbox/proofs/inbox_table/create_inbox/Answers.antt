@@ -1,4 +1,4 @@
-use Rattle.kob_outbox.specs.Service.{database}
+use Rattle.kob_inbox.proofs.Words.{database}
 use Rattle.kob_outbox.proofs.statements.Creating.{creates}
 use Rattle.kob_inbox.proofs.Holding.{opens}
 use Rattle.kob_inbox.proofs.Texts.{create_inbox}

@@ -1,7 +1,4 @@
-use Rattle.std.proofs.Common.{refl}
-use Rattle.kob_outbox.proofs.statements.Words.{memory_is_clean}
-use Rattle.kob_outbox.specs.Service.{database}
-use Rattle.kob_inbox.specs.Intake.{intake_of}
+use Rattle.kob_inbox.proofs.Words.{database, intake_of, memory_is_clean, refl}
 use Rattle.kob_inbox.specs.Origin.{arrival_from}
 use Rattle.kob_inbox.proofs.Intakes.{takes, takes_again}
 use Rattle.kob_inbox.proofs.Keys.{bound_key, lent_key}
@@ -35,8 +32,9 @@ returns c =
     record {
       inbox = it.0;
       ok = it.1;
-      count = it.2;
-      err = it.3;
+      seen = it.2;
+      fresh = it.3;
+      err = it.4;
       again =
           takes_again old new e c.execute.result was
           (record { unlimited = was.unlimited; is_open = refl; faults = (refl, refl) }) c.requires.room ran;

@@ -1,8 +1,5 @@
-use Rattle.std.proofs.Common.{◌≡◌, map}
-use Rattle.std.specs.List.{enumerate_from}
+use Rattle.kob_inbox.proofs.Words.{◌≡◌, contents, contents_in, enumerate_from, map, shown_intake}
 use Rattle.kob_outbox.proofs.statements.Selecting.{queried}
-use Rattle.kob_inbox.specs.Database.{contents}
-use Rattle.kob_inbox.specs.Layout.{contents_in, shown_intake}
 use Rattle.kob_inbox.proofs.Reading.{answer_taken}
 use Rattle.kob_inbox.proofs.Texts.{select_taken}
 use Rattle.kob_inbox.proofs.inbox_table.select_taken.Goals as goal

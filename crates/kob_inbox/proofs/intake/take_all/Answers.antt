@@ -1,10 +1,4 @@
-use Rattle.std.proofs.Common.{◌≡◌, ◌+◌, ◌<◌, ◌++◌, ◌∷◌, [], List, ℕ, ap, ◌∙◌, sym, subst, take, length, arith}
-use Rattle.std.proofs.lemmas.List.{take_more}
-use Rattle.kob_names.specs.declared.record.Record.{Record}
-use Rattle.kob_router.specs.HeaderId.{event_id}
-use Rattle.kob_inbox.specs.Contents.{Contents}
-use Rattle.kob_inbox.specs.Intake.{arrivals, taken_in, with_record}
-use Rattle.kob_inbox.specs.Run.{behind}
+use Rattle.kob_inbox.proofs.Words.{[], ◌++◌, ◌+◌, ◌<◌, ◌∙◌, ◌∷◌, ◌≡◌, Contents, List, Record, ap, arith, arrivals, behind, event_id, length, subst, sym, take, take_more, taken_in, with_record, ℕ}
 use Rattle.kob_inbox.proofs.Ticking.{taken_last, behind_last}
 use Rattle.kob_inbox.proofs.intake.take_all.Goals as goal
 

@@ -1,6 +1,4 @@
-use Rattle.std.proofs.Common.{◌≡◌, None, take}
-use Rattle.kob_inbox.specs.Intake.{arrivals, taken_in}
-use Rattle.kob_inbox.specs.Run.{behind}
+use Rattle.kob_inbox.proofs.Words.{◌≡◌, None, arrivals, behind, take, taken_in}
 use Rattle.kob_inbox.proofs.intake.take_all.Given as goal
 
 abbrev pub invariant-loop-at : goal.invariant-loop-at

@@ -1,10 +1,5 @@
-use Rattle.std.proofs.Common.{map, sym, subst, ◌∙◌}
-use Rattle.std.specs.List.{AllByRecursion, enumerate_from}
-use Rattle.kob_outbox.proofs.statements.Words.{map-map}
+use Rattle.kob_inbox.proofs.Words.{◌∙◌, AllByRecursion, IsShown, contents, enumerate_from, map, map-map, placed_intake, shown_intake, subst, sym}
 use Rattle.kob_outbox.proofs.statements.Plain.{if_ok}
-use Rattle.kob_inbox.specs.Database.{contents}
-use Rattle.kob_inbox.specs.Layout.{IsShown, shown_intake}
-use Rattle.kob_inbox.specs.Rows.{placed_intake}
 use Rattle.kob_inbox.proofs.Shown.{all_shown, same_events}
 use Rattle.kob_inbox.proofs.reads.all_rows.Goals as goal
 

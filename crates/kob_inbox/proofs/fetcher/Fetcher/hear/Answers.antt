@@ -1,4 +1,4 @@
-use Rattle.kob_inbox.specs.Tick.{state_of}
+use Rattle.kob_inbox.proofs.Words.{state_of}
 use Rattle.kob_inbox.proofs.Ticking.{hears_committed}
 use Rattle.kob_inbox.proofs.fetcher.Fetcher.hear.Goals as goal
 

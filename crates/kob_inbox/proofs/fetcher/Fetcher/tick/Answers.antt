@@ -1,7 +1,4 @@
-use Rattle.std.proofs.Common.{List, subst}
-use Rattle.kob_inbox.specs.declared.cursors.Cursor.{Cursor}
-use Rattle.kob_inbox.specs.Run.{due}
-use Rattle.kob_inbox.specs.Tick.{Hears, state_of}
+use Rattle.kob_inbox.proofs.Words.{Cursor, Hears, List, due, state_of, subst}
 use Rattle.kob_inbox.proofs.Ticking.{is_due, regrown, state_with, ticks_denied, ticks_heard, ticks_lost, ticks_refused}
 use Rattle.kob_inbox.proofs.fetcher.Fetcher.tick.Goals as goal
 

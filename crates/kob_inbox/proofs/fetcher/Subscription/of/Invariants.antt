@@ -1,4 +1,4 @@
-use Rattle.std.proofs.Common.{◌≡◌}
+use Rattle.kob_inbox.proofs.Words.{◌≡◌}
 use Rattle.kob_inbox.specs.Assigned.{first_partitions}
 use Rattle.kob_inbox.proofs.fetcher.Subscription.of.Given as goal
 

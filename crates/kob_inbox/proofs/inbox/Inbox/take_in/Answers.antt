@@ -1,10 +1,4 @@
-use Rattle.std.proofs.Common.{◌≡◌, inl, sym, ap, ◌∙◌}
-use Rattle.kob_router.specs.HeaderId.{event_id}
-use Rattle.kob_inbox.specs.Contents.{Contents}
-use Rattle.kob_inbox.specs.Database.{contents}
-use Rattle.kob_inbox.specs.Intake.{answer_to, intake_of}
-use Rattle.kob_outbox.specs.Events.{id_text}
-use Rattle.kob_outbox.specs.Service.{database}
+use Rattle.kob_inbox.proofs.Words.{◌∙◌, ◌≡◌, Contents, answer_to, ap, contents, database, event_id, id_text, inl, intake_of, sym}
 use Rattle.kob_inbox.proofs.Answering.{moves, seen, stays, stays_seen, stored, taken}
 use Rattle.kob_inbox.proofs.inbox.Inbox.take_in.Goals as goal
 
@@ -14,7 +8,7 @@ returns-then-branch-eq0-clause-answer c =
     let text = c.encode_lower-id.ensures.text ∙ ap id_text c.hyphenated.ensures in
     let same : contents c.self.inside.conn ≡ c.args.self.now = c.self.view_is in
     seen (contents c.self.inside.conn) found c.in-Some.id c.encode_lower-id.result.now c.in-Some.ensures text
-    c.in_ok-insert_intake.field-0 c.in_ok-insert_intake.ensures.count c.if-branch-eq0.true
+    (c.in_ok-insert_intake.ensures.seen c.if-branch-eq0.true)
     ∙ ap (λ (events : Contents). answer_to events found) same
 
 pub returns-clause-answer : goal.returns-clause-answer
@@ -23,7 +17,7 @@ returns-clause-answer c =
     let text = c.encode_lower-id.ensures.text ∙ ap id_text c.hyphenated.ensures in
     let same : contents c.self.inside.conn ≡ c.args.self.now = c.self.view_is in
     taken (contents c.self.inside.conn) found c.in-Some.id c.encode_lower-id.result.now c.in-Some.ensures text
-    c.in_ok-insert_intake.field-0 c.in_ok-insert_intake.ensures.count c.if-branch-eq0.false
+    (c.in_ok-insert_intake.ensures.fresh c.if-branch-eq0.false)
     ∙ ap (λ (events : Contents). answer_to events found) same
 
 pub returns-in_err-insert_intake-clause-store : goal.returns-in_err-insert_intake-clause-store
@@ -50,8 +44,7 @@ invariant_of-self-then-branch-eq0 c =
       place = record { topic = c.args.topic.now; partition = c.args.partition };
       offset = c.args.offset;
       message = c.args.message.now;
-    })) c.in_ok-insert_intake.ensures.ok c.in_ok-insert_intake.field-0 c.in_ok-insert_intake.ensures.count
-    c.if-branch-eq0.true
+    })) c.in_ok-insert_intake.ensures.ok (c.in_ok-insert_intake.ensures.seen c.if-branch-eq0.true)
 
 pub invariant_of-self-2 : goal.invariant_of-self-2
 invariant_of-self-2 c =
@@ -60,5 +53,4 @@ invariant_of-self-2 c =
       place = record { topic = c.args.topic.now; partition = c.args.partition };
       offset = c.args.offset;
       message = c.args.message.now;
-    })) c.in_ok-insert_intake.ensures.ok c.in_ok-insert_intake.field-0 c.in_ok-insert_intake.ensures.count
-    c.if-branch-eq0.false
+    })) c.in_ok-insert_intake.ensures.ok (c.in_ok-insert_intake.ensures.fresh c.if-branch-eq0.false)
