@@ -1,7 +1,8 @@
 -- What the statement on the business rows does.
 use Rattle.kob_outbox.proofs.statements.Words.{[], ◌++◌, ◌∙◌, ◌∷◌, ◌≡◌, Abort, AreBusiness, AreConflicts, Business, Database, Enforced, Err, Error, ExecutesInside, Given, Has, Holds, InsertsOr, Int, IsChanging, IsJudged, IsUtf8, Judged, List, Meets, None, Null, Ok, OnOk, Option, Puts, Refusal, Result, Row, Some, State, States, Task, Text, Trees, Updates, Upserts, Values, Written, all_from, ap, arith, business_table, business_tree, conflicts, contents_of, edit_of, edited, false, has_mapped, ids_of, inl, insert, mapped_has, placed_row, pos, put_row, refl, rowid, service_schema, shown, subst, sym, true, with_state, without_rowid, ℕ}
-use Rattle.kob_outbox.proofs.statements.Steps.{IsAlone, KeepOthers, Tried, uncounted, task_on, tried, put, updated, candidate, cast_int, cast_null}
-use Rattle.kob_outbox.proofs.statements.Values.{and_true, not_true}
+use Rattle.kob_outbox.proofs.statements.Steps.{IsAlone, KeepOthers, uncounted, task_on, tried, put, updated, candidate, cast_int, cast_null}
+use Rattle.kob_outbox.proofs.statements.Values.{and_true}
+use Rattle.kob_outbox.proofs.statements.Numbered.{none_conflicts, one_conflicts}
 use Rattle.kob_outbox.proofs.statements.Writing.{wrote}
 use Rattle.kob_outbox.proofs.statements.Selecting.{program_of}
 use Rattle.kob_outbox.proofs.statements.Picking.{one_at_most}
@@ -37,10 +38,9 @@ module _ (limit : Option ℕ) (b : Business) (db : Trees) (states : States)
   Found target = AreConflicts target service_schema.indexes (uncounted business_table) (db business_tree) row
 
   none_has : Found (Some (1 ∷ 2 ∷ [])) [] → NoneHas b has.placed
-  none_has conf = all_from (λ (p : Placed). has_key_of b p.1 ≡ false) has.placed (λ p h. not_true _ (λ here.
-      conf.complete (placed_row p)
-      (subst (λ rs. Has rs (placed_row p)) (sym has.rows_are) (mapped_has placed_row has.placed p h))
-      (conflict_is p (n, b) ∙ here)))
+  none_has =
+      none_conflicts placed_row has.placed (db business_tree) has.rows_are (Some (1 ∷ 2 ∷ [])) service_schema
+      (uncounted business_table) row (λ p. has_key_of b p.1) (λ p _. conflict_is p (n, b))
 
   puts_last : (one : Written) → NoneHas b has.placed → Puts task row db (Ok one) → Done one.trees
   puts_last one none h =
@@ -83,15 +83,9 @@ module _ (limit : Option ℕ) (b : Business) (db : Trees) (states : States)
 
   there : (x : Row) (more : List Row) → Found (Some (1 ∷ 2 ∷ [])) (x ∷ more)
       → (t : Placed) × (has_key_of b t.1 ≡ true) × Has has.placed t × (x ≡ Int (pos t.0) ∷ [])
-  there x more conf =
-      let got = conf.sound x (inl refl) in
-      let t = has_mapped placed_row has.placed got.0 (subst (λ rs. Has rs got.0) has.rows_are got.1) in (
-        t.0,
-        sym (conflict_is t.0 (n, b))
-            ∙ subst (λ r. conflicts (Some (1 ∷ 2 ∷ [])) service_schema.indexes business_table row r ≡ true) t.2 got.2,
-        t.1,
-        got.3 ∙ ap (λ r. rowid r ∷ []) t.2,
-      )
+  there =
+      one_conflicts placed_row has.placed (db business_tree) has.rows_are (Some (1 ∷ 2 ∷ [])) service_schema
+      (uncounted business_table) row (λ p. has_key_of b p.1) (λ p _. conflict_is p (n, b))
 
   meets : (one : Written) (found : List Row) → Found (Some (1 ∷ 2 ∷ [])) found
       → Meets task (Upserts task Abort row db []) row db over_business found (Ok one) → Done one.trees
@@ -113,11 +107,8 @@ module _ (limit : Option ℕ) (b : Business) (db : Trees) (states : States)
   pub written : (w : Written) → InsertsOr task Abort (over_business ∷ []) (Values new_business 4) db (Ok w)
       → Done w.trees
   written w does =
-      let t = tried limit Enforced service_schema business_table params alone Abort (over_business ∷ []) new_business 4
-      (Null ∷ params) db w refl does in
-      let u =
-      subst (Tried limit Enforced service_schema business_table params alone Abort (over_business ∷ []) db w)
-      tried_row t in
+      let u = tried limit Enforced service_schema business_table params alone Abort (over_business ∷ []) new_business 4
+      (Null ∷ params) row db w refl tried_row does in
       subst Done (sym u.trees) (decided u.one u.verdict u.judged u.does)
 
 pub replaces : (old new : State) (b : Business) (r : Result ℕ Error) → IsUtf8 b.state → IsChanging old

@@ -1,10 +1,10 @@
 -- INSERT OR IGNORE of one row.
-use Rattle.kob_outbox.proofs.statements.Words.{[], ◌++◌, ◌/◌, ◌<◌, ◌^◌, ◌∙◌, ◌∷◌, ◌≡◌, AllByRecursion, Among, AreConflicts, AtPlace, BadReference, Bool, Check, Clears, Command, Concludes, Database, Datatype, Enforced, Err, Error, Escapes, Executes, ForeignKey, Given, Has, Ignore, InsertOr, InsertsOr, Int, IsJudged, IsMisplaced, Judged, Keys, List, Mismatch, Mode, NoRowid, None, NotNull, Ok, OnRows, OnTable, Option, Outcome, PrimaryKey, Refers, Refusal, Row, Schema, Some, Source, Sourced, State, Table, Task, Term, TooDeep, Trees, Tries, TriesEach, Unique, Values, Violates, Written, accepts_terms, ap, arith, cast_row, conflicts, count_of, edit_of, edited, enumerate_from, false, fits_i64, id_in, if◌then◌else◌, inl, inr, length, list_any, map, mode_of, nothing, pos, put_row, refl, rowid, subst, subst₂, suc, sym, true, understood, value_rows, ℕ, ℤ}
+use Rattle.kob_outbox.proofs.statements.Words.{[], ◌++◌, ◌/◌, ◌<◌, ◌^◌, ◌∙◌, ◌∷◌, ◌≡◌, AllByRecursion, Among, AreConflicts, AtPlace, BadReference, Bool, Check, Clears, Command, Concludes, Database, Datatype, Enforced, Err, Error, Escapes, Executes, ForeignKey, Given, Has, Ignore, InsertOr, InsertsOr, Int, IsJudged, IsMisplaced, Judged, Keys, List, Mismatch, Mode, NoRowid, None, NotNull, Ok, OnRows, OnTable, Option, Outcome, PrimaryKey, Refers, Refusal, Row, Schema, Some, Source, Sourced, State, Table, Task, Term, TooDeep, Trees, Tries, TriesEach, Unique, Values, Violates, Written, accepts_terms, all_has, any_from_none, ap, arith, cast_row, conflicts, count_of, edit_of, edited, enumerate_from, false, fits_i64, id_in, if◌then◌else◌, inl, inr, length, list_any, map, mode_of, nothing, pos, put_row, refl, rowid, some_from, subst, subst₂, suc, sym, true, understood, value_rows, ℕ, ℤ}
 use Rattle.kob_outbox.proofs.statements.Failing.{IsMemory, IsWhole, NeverFails, for_memory_or}
-use Rattle.kob_outbox.proofs.statements.Numbered.{at_row, put_last, row_of}
+use Rattle.kob_outbox.proofs.statements.Numbered.{all_below, any_numbered, none_conflicts, one_conflicts, put_last}
 use Rattle.kob_outbox.proofs.statements.Plain.{same_value}
-use Rattle.kob_outbox.proofs.statements.Steps.{IsAlone, KeepOthers, Tried, candidate, put, task_on, tried, uncounted}
-use Rattle.kob_outbox.proofs.statements.Values.{fits, not_true}
+use Rattle.kob_outbox.proofs.statements.Steps.{IsAlone, KeepOthers, candidate, put, task_on, tried, uncounted}
+use Rattle.kob_outbox.proofs.statements.Values.{fits}
 use Rattle.kob_outbox.proofs.statements.Writing.{IsWriting, wrote}
 
 -- nothing in the row alone speaks against it
@@ -151,18 +151,26 @@ module _ {schema : Schema} {text : List ℕ} {terms : List Term} {width at : ℕ
   abbrev Found : List Row → Type 0
   Found = AreConflicts None schema.indexes (uncounted table) (db table.tree) (row (n, x))
 
+  abbrev placed : List (ℕ × X)
+  placed = enumerate_from 1 xs
+
+  abbrev same_at : ℕ × X → Bool
+  same_at p = same p.1 x
+
+  conflict_at : (p : ℕ × X) → Has placed p
+      → conflicts None schema.indexes (uncounted table) (row (n, x)) (row p) ≡ same_at p
+  conflict_at p has =
+      conflict p (n, x) (all_has (λ (q : ℕ × X). q.0 < n) placed p (all_below 1 n xs (omega (arith, next))) has)
+
   none_found : Found [] → there ≡ false
-  none_found h = not_true _ (λ found.
-      let it = row_of row (λ y. same y x) 1 xs found in
-      h.complete (row it.0) (subst (λ rows. Has rows (row it.0)) (sym holds) it.2)
-      (conflict it.0 (n, x) (omega (arith, it.1, next)) ∙ it.3))
+  none_found h =
+      sym (any_numbered (λ y. same y x) 1 xs) ∙ any_from_none same_at placed
+      (none_conflicts row placed (db table.tree) holds None schema (uncounted table) (row (n, x)) same_at conflict_at h)
 
   some_found : (f : Row) (more : List Row) → Found (f ∷ more) → there ≡ true
   some_found f more h =
-      let got = h.sound f (inl refl) in
-      let it = at_row row (λ y. same y x) 1 xs got.0 (subst (λ rows. Has rows got.0) holds got.1) in
-      it.3 (sym (conflict it.0 (n, x) (omega (arith, it.1, next)))
-      ∙ subst (λ r. conflicts None schema.indexes (uncounted table) (row (n, x)) r ≡ true) it.2 got.2)
+      let p = one_conflicts row placed (db table.tree) holds None schema (uncounted table) (row (n, x)) same_at
+      conflict_at f more h in sym (any_numbered (λ y. same y x) 1 xs) ∙ some_from same_at placed p.0 p.2 p.1
 
   abbrev Left : Trees → ℕ → Type 0
   Left = Ignored schema table row xs x there db
@@ -195,9 +203,9 @@ module _ {schema : Schema} {text : List ℕ} {terms : List Term} {width at : ℕ
       × (new.in_transaction ≡ old.in_transaction)
   ignores new count h =
       let it = wrote write params old new has count h in
-      let t =
-      tried old.step_limit Enforced schema table params alone Ignore [] terms width source db it.written given it.does in
-      let u = subst (Tried old.step_limit Enforced schema table params alone Ignore [] db it.written) tried_as t in
+      let u =
+      tried old.step_limit Enforced schema table params alone Ignore [] terms width source (row (n, x)) db it.written
+      given tried_as it.does in
       let judged =
       judged_clears old.step_limit Enforced schema table params (row (n, x)) suits db (Ok u.one) u.verdict
       u.judged u.does in

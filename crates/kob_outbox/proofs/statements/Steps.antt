@@ -134,10 +134,12 @@ module _ (limit : Option ℕ) (keys : Keys) (schema : Schema) (table : Table) (p
         does = judged.2;
       }
 
-  pub tried : (way : Conflict) (clauses : List Upsert) (terms : List Term) (width : ℕ) (source : Row) (db : Trees)
+  pub tried : (way : Conflict) (clauses : List Upsert) (terms : List Term) (width : ℕ) (source new : Row) (db : Trees)
       (w : Written) → value_rows (params ++ []) width (length terms / width) terms ≡ source ∷ []
+      → candidate way db source ≡ new
       → InsertsOr (task_on limit keys schema table params) way clauses (Values terms width) db (Ok w)
-      → Tried way clauses db w (candidate way db source)
-  tried way clauses terms width source db w is h =
+      → Tried way clauses db w new
+  tried way clauses terms width source new db w is row h =
       let given = went h in
-      one_tried way clauses source db w (subst (After way clauses db w) (given.1.1 ∙ is) given.2)
+      subst (Tried way clauses db w) row
+      (one_tried way clauses source db w (subst (After way clauses db w) (given.1.1 ∙ is) given.2))

@@ -80,14 +80,6 @@ alone_test false = refl
 pub and_and_true : (a b : Bool) → (a && (b && true)) ≡ (a && b)
 and_and_true a b = ap (λ c. a && c) (and_true b)
 
-pub or_left : (a b : Bool) → a ≡ true → (a || b) ≡ true
-or_left true b h = refl
-or_left false b h = absurd cc
-
-pub or_right : (a b : Bool) → b ≡ true → (a || b) ≡ true
-or_right true b h = refl
-or_right false b h = h
-
 pub not_true : (b : Bool) → ¬ (b ≡ true) → b ≡ false
 not_true true h = absurd (h refl)
 not_true false h = refl

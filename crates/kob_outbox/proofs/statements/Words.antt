@@ -32,7 +32,7 @@ pub use Rattle.sqlite.specs.declared.run.Mode.{Mode}
 pub use Rattle.sqlite.specs.declared.types.Value.{Value}
 pub use Rattle.sqlite.specs.declared.types.Value.TheVariants.{Blob, Int, Null, Text}
 pub use Rattle.sqlite_catalog.specs.Change.{KeepsRows}
-pub use Rattle.sqlite_keyed.proofs.ListLemmas.{all_weaker, ascending-map, ascending_weaker, map_back, none_from_any}
+pub use Rattle.sqlite_keyed.proofs.ListLemmas.{all_weaker, any_from_none, ascending-map, ascending_weaker, map_back, none_from_any}
 pub use Rattle.sqlite_keyed.proofs.SortLemmas.{sorted_unique}
 pub use Rattle.sqlite_resolve.specs.declared.compiled.Compiled.{Compiled}
 pub use Rattle.sqlite_resolve.specs.declared.error.CompileError.{CompileError}
@@ -77,7 +77,7 @@ pub use Rattle.kob_outbox.specs.Events.{id_text, key_of, stored_event, stored_ro
 pub use Rattle.kob_outbox.specs.Layout.{AreBusiness, Business, Holds, IsReadable, IsRisingFrom, IsShown, blob_in, business_tree, contents_in, entry_in, entry_of, event_in, event_row, has_key, mark_row, mark_tree, outbox_tree, placed_row, shown_event, shown_state, spent_row, spent_rows, spent_tree, text_in}
 pub use Rattle.kob_outbox.specs.Numbers.{number_in}
 pub use Rattle.kob_outbox.specs.Reading.{first_after, later_than, state_at, up_to, without_sent}
-pub use Rattle.kob_outbox.specs.Recording.{after_record, is_recorded, with_event, with_id, with_state}
+pub use Rattle.kob_outbox.specs.Recording.{IsNext, after_record, is_recorded, with_event, with_id, with_state}
 pub use Rattle.kob_outbox.specs.Service.{IsChanging, IsService, KeepsLast, Spends, contents, contents_of, database}
 pub use Rattle.kob_outbox.specs.Tables.{business, business_table, mark, mark_table, no_schema, one_table, outbox, outbox_table, service_schema, spent, spent_table, three_tables, two_tables}
 pub use Rattle.kob_outbox.specs.declared.event.OutboxEvent.{OutboxEvent}
