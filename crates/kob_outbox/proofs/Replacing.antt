@@ -1,5 +1,5 @@
 -- What the statement on the business rows does.
-use Rattle.kob_outbox.proofs.statements.Words.{[], ◌++◌, ◌∙◌, ◌∷◌, ◌≡◌, Abort, AreBusiness, AreConflicts, Business, Database, Enforced, Err, Error, ExecutesInside, Given, Has, Holds, InsertsOr, Int, IsChanging, IsJudged, IsUtf8, Judged, List, Meets, None, Null, Ok, OnOk, Option, Puts, Refusal, Result, Row, Some, State, States, Task, Text, Trees, Updates, Upserts, Values, Written, all_from, ap, arith, business_table, business_tree, conflicts, contents_of, edit_of, edited, false, has_mapped, ids_of, inl, insert, mapped_has, placed_row, pos, put_row, refl, rowid, service_schema, shown, subst, sym, true, with_state, without_rowid, ℕ}
+use Rattle.kob_outbox.proofs.statements.Words.{[], ◌++◌, ◌∙◌, ◌∷◌, ◌≡◌, Abort, AreBusiness, AreConflicts, Business, Database, Enforced, Err, Error, ExecutesInside, Given, Has, Holds, InsertsOr, Int, IsChanging, IsJudged, IsUtf8, Judged, List, Meets, None, Null, Ok, OnOk, Option, Puts, Refusal, Result, Row, Some, State, States, Task, Text, Trees, Updates, Upserts, Values, Written, ap, arith, business_table, business_tree, contents_of, edit_of, edited, ids_of, insert, placed_row, pos, put_row, refl, rowid, service_schema, shown, subst, sym, true, with_state, without_rowid, ℕ}
 use Rattle.kob_outbox.proofs.statements.Steps.{IsAlone, KeepOthers, uncounted, task_on, tried, put, updated, candidate, cast_int, cast_null}
 use Rattle.kob_outbox.proofs.statements.Values.{and_true}
 use Rattle.kob_outbox.proofs.statements.Numbered.{none_conflicts, one_conflicts}

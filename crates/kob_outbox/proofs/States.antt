@@ -1,8 +1,8 @@
 -- The map of the business rows' states.
 use Rattle.std.specs.Cmp.Lexicographic.{slice_cmp, on_texts}
 use Rattle.kob_outbox.specs.Contents.{Key}
-use Rattle.kob_outbox.proofs.statements.Words.{[], ◌&&◌, ◌∙◌, ◌∷◌, ◌≡◌, ◌≤◌, AllByRecursion, AreBusiness, Bool, Business, Equal, Greater, IsAntisymmetric, IsAscending, IsTotalOrder, IsUtf8, Less, List, Ordering, Row, Some, States, Text, and_parts, ap, arith, bytes_eq, bytes_eq-Decides, cases_Bool, cond, entry_of, eq_by_cmp, false, filter, find, from_entries, get, get-from_entries, get-insert, has_key, if◌then◌else◌, inl, inr, insert, is_eq, is_eq-slice_cmp, key_cmp, length, map, nat_cmp, ordering_then, refl, same_map, shown_state, state_at, subst, sym, then_total, true, ℕ}
-use Rattle.kob_outbox.proofs.statements.Values.{both_ways}
+use Rattle.kob_outbox.proofs.statements.Words.{[], ◌&&◌, ◌∙◌, ◌∷◌, ◌≡◌, ◌≤◌, AllByRecursion, AreBusiness, Bool, Business, Equal, Greater, IsAntisymmetric, IsAscending, IsTotalOrder, IsUtf8, Less, List, Ordering, Row, Some, States, Text, all_weaker, and_parts, ap, arith, bytes_eq, bytes_eq-Decides, cases_Bool, cond, entry_of, eq_by_cmp, false, filter, filter_none, find, from_entries, get, get-from_entries, get-insert, has_key, if◌then◌else◌, inl, inr, insert, is_eq, is_eq-slice_cmp, key_cmp, length, map, nat_cmp, ordering_then, refl, same_map, shown_state, state_at, subst, sym, then_total, true, ℕ}
+use Rattle.kob_outbox.proofs.statements.Values.{both_ways, not_true}
 
 abbrev pub Placed : Type 0
 Placed = ℕ × Business
@@ -50,6 +50,12 @@ abbrev pub upserted : Business → ℕ → List Placed → List Placed
 upserted b n [] = (n, b) ∷ []
 upserted b n (p ∷ ps) = if has_key_of b p.1 then (p.0, b) ∷ ps else p ∷ upserted b n ps
 
+key_is : (b x : Business) → key x ≡ key b → has_key_of b x ≡ true
+key_is b x same = rw (
+  (bytes_eq-Decides x.kind b.kind).1 (ap (λ k. k.0) same),
+  (bytes_eq-Decides x.id b.id).1 (ap (λ k. k.1) same),
+) refl
+
 -- one key does not tie with two that differ
 tied_once : (b : Business) (q : Key) (x : Business) → has_key_of b x ≡ false → eq_by_cmp key_cmp q (key x) ≡ true
     → ¬ (eq_by_cmp key_cmp q (key b) ≡ true)
@@ -57,12 +63,6 @@ tied_once b q x other here there =
     let same : key x ≡ key b =
     sym (same_key q (key x) (sym (ties q (key x)) ∙ here)) ∙ same_key q (key b) (sym (ties q (key b)) ∙ there) in
     let no = sym (key_is b x same) ∙ other in cc
-  where
-    key_is : (b x : Business) → key x ≡ key b → has_key_of b x ≡ true
-    key_is b x same = rw (
-      (bytes_eq-Decides x.kind b.kind).1 (ap (λ k. k.0) same),
-      (bytes_eq-Decides x.id b.id).1 (ap (λ k. k.1) same),
-    ) refl
 
 exchange : {X : Type 0} (s t : Bool) (x y z : X) → (s ≡ true → ¬ (t ≡ true))
     → cond s x (cond t y z) ≡ cond t y (cond s x z)
@@ -100,19 +100,12 @@ states_upserted b n ps = same_map key_total key_same _ _ (λ q.
 no_more : (kind id : List ℕ) (p : Placed) (ps : List Placed) → has_key kind id p.1 ≡ true
     → AllByRecursion (λ (x : Placed). has_key x.1.kind x.1.id p.1 ≡ false) ps
     → filter (λ (x : Placed). has_key kind id x.1) ps ≡ []
-no_more kind id p [] is apart = refl
-no_more kind id p (x ∷ ps) is apart = elim (cases_Bool (has_key kind id x.1)) [
-  | inl too ↦ absurd (
-      let same : key p.1 ≡ key x.1 = same_key (key p.1) (kind, id) is ∙ sym (same_key (key x.1) (kind, id) too) in
-      let again : has_key x.1.kind x.1.id p.1 ≡ true =
-      rw (
-        (bytes_eq-Decides p.1.kind x.1.kind).1 (ap (λ k. k.0) same),
-        (bytes_eq-Decides p.1.id x.1.id).1 (ap (λ k. k.1) same),
-      ) refl in
-      let no = sym again ∙ apart.0 in cc
-      )
-  | inr other ↦ rw other (no_more kind id p ps is apart.1)
-]
+no_more kind id p ps is apart =
+    filter_none (λ (x : Placed). has_key kind id x.1) ps (all_weaker
+    (λ (x : Placed). has_key x.1.kind x.1.id p.1 ≡ false) (λ (x : Placed). has_key kind id x.1 ≡ false) (λ x other.
+    not_true _ (λ too.
+    let same : key p.1 ≡ key x.1 = same_key (key p.1) (kind, id) is ∙ sym (same_key (key x.1) (kind, id) too) in
+    let no = sym (key_is x.1 p.1 same) ∙ other in cc)) ps apart)
 
 pub one_has_key : (kind id : List ℕ) (ps : List Placed) → AreApart ps
     → length (filter (λ (p : Placed). has_key kind id p.1) ps) ≤ 1

@@ -1,6 +1,7 @@
 -- A search for a zero byte says whether a text has one.
-use Rattle.kob_outbox.proofs.statements.Words.{[], ◌==◌, ◌||◌, ◌∷◌, ◌≡◌, Bool, List, None, Option, Some, ap, arith, false, is_none, length, list_any, not, refl, suc, sym, true, ℕ}
+use Rattle.kob_outbox.proofs.statements.Words.{[], ◌==◌, ◌∷◌, ◌≡◌, Bool, List, None, Option, Some, ap, arith, false, is_none, length, list_any, not, or_from, refl, suc, sym, ℕ}
 use Rattle.std.proofs.lemmas.List.Folds.{list_any_at}
+use Rattle.kob_outbox.proofs.statements.Values.{not_true}
 use Rattle.memchr.specs.Find.{is_byte, IsFirstByte, Nowhere, Passes}
 
 abbrev is_zero : ℕ → Bool
@@ -9,12 +10,8 @@ is_zero byte = byte == 0
 none_is_zero : (text : List ℕ) → Nowhere (Passes (is_byte 0) text) 0 (length text) → list_any is_zero text ≡ false
 none_is_zero [] nowhere = refl
 none_is_zero (byte ∷ rest) nowhere =
-    by (byte == 0) (nowhere 0 (omega arith) (omega arith))
+    or_from _ _ (not_true (byte == 0) (nowhere 0 (omega arith) (omega arith)))
     (none_is_zero rest (λ k low below. nowhere (suc k) (omega arith) (omega (arith, below))))
-  where
-    by : (first : Bool) → (first ≡ true → ⊥) → list_any is_zero rest ≡ false → (first || list_any is_zero rest) ≡ false
-    by true never after = absurd (never refl)
-    by false never after = after
 
 pub zero_byte_found : (text : List ℕ) (found : Option ℕ) → IsFirstByte (is_byte 0) text found
     → is_none found ≡ not (list_any is_zero text)

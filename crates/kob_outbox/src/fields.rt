@@ -26,6 +26,7 @@ pub const NAME_BYTES_LIMIT: usize = 255;
 /// The maximum length of a business row's state and of an event's payload, in bytes.
 pub const TEXT_BYTES_LIMIT: usize = 1_048_576;
 
+#[tactic(auto, using(crate::proofs::ZeroBytes::zero_byte_found))]
 fn fits(most: usize, text: &str) -> bool
     ensures { result ≡ fits_in most text.now }
 {

@@ -16,6 +16,7 @@ use sqlite::{Connection, MemStore};
 use std::alloc::Global;
 
 /// The state of the business row with this kind and id.
+#[tactic(auto, using(crate::proofs::Shown::first_state))]
 pub(crate) fn state_of(
     conn: &mut Connection<MemStore>,
     kind: &str,

@@ -10,6 +10,7 @@ use crate::fault::OutboxFault;
 use std::alloc::Global;
 use uuid::Uuid;
 
+#[tactic(auto, using(crate::proofs::statements::Failing::readable_fails))]
 fn row_of(row: &sqlite::Row) -> Result<Row, OutboxFault>
     requires { IsShown row.now }
     ensures row { IfOk result (λ r. shown_event (stored_row r) ≡ row.now) }

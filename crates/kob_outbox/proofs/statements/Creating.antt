@@ -1,5 +1,5 @@
 -- What CREATE TABLE makes of a database whose tables are empty.
-use Rattle.kob_outbox.proofs.statements.Words.{[], ◌++◌, ◌∙◌, ◌∷◌, ◌≡◌, AllByRecursion, CreateTable, Database, Err, Error, Executes, HasCleanDisk, Held, IsBlank, IsPlain, KeepsRows, List, MemStore, None, Ok, OnOk, Result, Schema, State, Table, Tally, Trees, Writes, ap, command_of, created, database, false, if◌then◌else◌, lacks_sequence, memory_is_clean, next_tree, runs_as, statement_of, subst, sym, table_defined_by, understood, ℕ}
+use Rattle.kob_outbox.proofs.statements.Words.{[], ◌∙◌, ◌∷◌, ◌≡◌, AllByRecursion, CreateTable, Database, Err, Error, Executes, HasCleanDisk, Held, IsBlank, IsPlain, KeepsRows, List, MemStore, None, Ok, OnOk, Result, Schema, State, Table, Tally, Trees, Writes, all-append, ap, command_of, created, database, false, if◌then◌else◌, lacks_sequence, memory_is_clean, next_tree, runs_as, statement_of, subst, sym, table_defined_by, understood, ℕ}
 use Rattle.kob_outbox.proofs.statements.Plain.{went, same_value}
 
 -- the text makes this table, which counts no rowids
@@ -14,11 +14,6 @@ still_empty : (tables : List Table) (old new : Trees) → AllByRecursion (λ t. 
     → KeepsRows tables old new → AllByRecursion (λ t. new t.tree ≡ []) tables
 still_empty [] old new none keeps = tt
 still_empty (t ∷ tables) old new none keeps = (keeps.0 ∙ none.0, still_empty tables old new none.1 keeps.1)
-
-and_last : (tables : List Table) (last : Table) (db : Trees) → AllByRecursion (λ t. db t.tree ≡ []) tables
-    → db last.tree ≡ [] → AllByRecursion (λ t. db t.tree ≡ []) (tables ++ last ∷ [])
-and_last [] last db none empty = (empty, tt)
-and_last (t ∷ tables) last db none empty = (none.0, and_last tables last db none.1 empty)
 
 -- the table was made, and it has no row
 pub record Created (schema : Schema) (table : Table) (old new : State) : Type 0 where
@@ -69,7 +64,8 @@ module _ {schema : Schema} {text : List ℕ} {table : Table} (it : IsCreation sc
         settled = rw has.idle at made.committed;
         idle = made.mode ∙ has.idle;
         unlimited = limit ∙ has.unlimited;
-        holds = and_last schema.tables (record table { tree = next_tree schema }) (database new).now.trees
+        holds = all-append (λ t. (database new).now.trees t.tree ≡ []) schema.tables
+            (record table { tree = next_tree schema } ∷ [])
             (still_empty schema.tables (database old).now.trees (database new).now.trees has.holds made.kept)
-            made.fresh;
+            (made.fresh, tt);
       }

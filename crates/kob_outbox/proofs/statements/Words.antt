@@ -32,7 +32,7 @@ pub use Rattle.sqlite.specs.declared.run.Mode.{Mode}
 pub use Rattle.sqlite.specs.declared.types.Value.{Value}
 pub use Rattle.sqlite.specs.declared.types.Value.TheVariants.{Blob, Int, Null, Text}
 pub use Rattle.sqlite_catalog.specs.Change.{KeepsRows}
-pub use Rattle.sqlite_keyed.proofs.ListLemmas.{all_weaker, any_from_none, ascending-map, ascending_weaker, map_back, none_from_any}
+pub use Rattle.sqlite_keyed.proofs.ListLemmas.{all_weaker, any_from_none, filter-filter, filter_none, ascending-map, ascending_weaker, map_back, none_from_any}
 pub use Rattle.sqlite_keyed.proofs.SortLemmas.{sorted_unique}
 pub use Rattle.sqlite_resolve.specs.declared.compiled.Compiled.{Compiled}
 pub use Rattle.sqlite_resolve.specs.declared.error.CompileError.{CompileError}
@@ -82,7 +82,7 @@ pub use Rattle.kob_outbox.specs.Service.{IsChanging, IsService, KeepsLast, Spend
 pub use Rattle.kob_outbox.specs.Tables.{business, business_table, mark, mark_table, no_schema, one_table, outbox, outbox_table, service_schema, spent, spent_table, three_tables, two_tables}
 pub use Rattle.kob_outbox.specs.declared.event.OutboxEvent.{OutboxEvent}
 pub use Rattle.std.proofs.Common.{[], ◌&&◌, ◌++◌, ◌+ℤ◌, ◌+◌, ◌/◌, ◌<◌, ◌==◌, ◌^◌, ◌||◌, ◌∙◌, ◌∷◌, ◌≡◌, ◌≢◌, ◌≤◌, ◌⊎◌, Bool, Equal, Err, Greater, IfErr, IfOk, IsErrAnd, IsPermutation, IsTrue, Less, List, None, Ok, OnErr, OnOk, Option, Ordering, Result, Some, Vec, add-one, ap, append-nil, arith, bytes_eq, codes, cond, false, filter, flat_map, if◌then◌else◌, inl, inr, int_cmp, is_eq, is_gt, is_le, le-ltb, length, length-append, map, min, nat_cmp, nat_le, nat_lt, negsuc, not, pos, refl, rules, slice_get, slice_index_or, string_bytes, subst, subst₂, suc, sym, take, true, unwrap_or, zero, ℕ, ℤ}
-pub use Rattle.std.proofs.lemmas.Bool.{and_parts, cases_Bool, cases_lt, cond-false, cond-true}
+pub use Rattle.std.proofs.lemmas.Bool.{and_parts, cases_Bool, cases_lt, cond-false, cond-true, or_from}
 pub use Rattle.std.proofs.lemmas.List.{length-map, length-take, map-append, take-map, take_all, take_more}
 pub use Rattle.std.proofs.lemmas.List.Sorted.{IsPermutation-map, length_permutation, list_any-IsPermutation}
 pub use Rattle.std.proofs.lemmas.Map.Text.{is_eq-slice_cmp}

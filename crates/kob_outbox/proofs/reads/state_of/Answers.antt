@@ -1,6 +1,6 @@
 use Rattle.kob_outbox.proofs.statements.Words.{◌≡◌, SqliteFailure, column, contents, rules, state_at}
 use Rattle.sqlite.specs.declared.error.ErrorCode.TheVariants.{OutOfMemory}
-use Rattle.kob_outbox.proofs.Shown.{first_state, state_readable}
+use Rattle.kob_outbox.proofs.Shown.{state_readable}
 use Rattle.kob_outbox.proofs.States.{text_at}
 use Rattle.kob_outbox.proofs.statements.Failing.{readable_fails}
 use Rattle.kob_outbox.proofs.reads.state_of.Goals as goal
@@ -17,9 +17,3 @@ returns-in_err-get-in-Some-clause-memory c =
     readable_fails 0 (column row 0) c.in_err-get-in-Some.field-0.0 _ c.in_err-get-in-Some.ensures.named
     (λ other. c.in_err-get-in-Some.ensures.kind other text.0) text.1 in
     grind (rules, is)
-
-pub returns-in-Some-clause-value : goal.returns-in-Some-clause-value
-returns-in-Some-clause-value c =
-    let all = (contents c.args.conn.now).business in
-    first_state (state_at c.args.kind.now c.args.id.now all) _ c.in-Some.row.now _ c.in_ok-select_business.ensures.rows
-    (search rules) c.in_ok-get-in-Some.ensures.ok.1
