@@ -1,5 +1,5 @@
 -- How numbers and texts compare in SQL.
-use Rattle.kob_outbox.proofs.statements.Words.{◌&&◌, ◌<◌, ◌^◌, ◌||◌, ◌∙◌, ◌≡◌, ◌⊎◌, Binary, Bool, Compare, Equal, Greater, Gt, Int, Le, Less, List, Some, Text, ap, arith, bytes_eq, equal, false, fits_i64, from_truth, inl, inr, int_cmp, is_eq, is_eq-slice_cmp, is_gt, is_le, is_true, nat_cmp, nat_cmp_is, nat_le, nat_lt, pos, refl, sym, true, value_cmp, value_cmp-Int, value_cmp-Text, ℕ}
+use Rattle.kob_outbox.proofs.statements.Words.{◌&&◌, ◌<◌, ◌^◌, ◌||◌, ◌∙◌, ◌≡◌, Binary, Bool, Compare, Equal, Greater, Gt, Int, Le, Less, List, Some, Text, ap, arith, bytes_eq, equal, false, fits_i64, from_truth, is_eq, is_eq-slice_cmp, is_gt, is_le, is_true, nat_lt, not, pos, refl, sym, true, value_cmp, value_cmp-Int, value_cmp-Text, ℕ}
 use Rattle.sqlite_sql.specs.Ops.{binary}
 
 truth_back : (b : Bool) → is_true (from_truth (Some b)) ≡ b
@@ -10,17 +10,14 @@ pub equal_texts : (s t : List ℕ) → equal Binary (Text s) (Text t) ≡ bytes_
 unfolding binary
 equal_texts s t = truth_back _ ∙ ap is_eq (value_cmp-Text s t) ∙ is_eq-slice_cmp s t
 
-pos_cmp : (i k : ℕ) → int_cmp (pos i) (pos k) ≡ nat_cmp i k
-pos_cmp i k = grind arith
-
 pub number_below : (i k : ℕ) → i < k → value_cmp (Int (pos i)) (Int (pos k)) ≡ Less
-number_below i k low = value_cmp-Int (pos i) (pos k) ∙ pos_cmp i k ∙ sym (nat_cmp_is i k Less low)
+number_below i k low = value_cmp-Int (pos i) (pos k) ∙ grind (arith, low)
 
 pub number_above : (i k : ℕ) → k < i → value_cmp (Int (pos i)) (Int (pos k)) ≡ Greater
-number_above i k low = value_cmp-Int (pos i) (pos k) ∙ pos_cmp i k ∙ sym (nat_cmp_is i k Greater low)
+number_above i k low = value_cmp-Int (pos i) (pos k) ∙ grind (arith, low)
 
 pub number_same : (k : ℕ) → value_cmp (Int (pos k)) (Int (pos k)) ≡ Equal
-number_same k = value_cmp-Int (pos k) (pos k) ∙ pos_cmp k k ∙ sym (nat_cmp_is k k Equal refl)
+number_same k = value_cmp-Int (pos k) (pos k) ∙ grind arith
 
 pub unequal_numbers : (i k : ℕ) → i < k → equal Binary (Int (pos i)) (Int (pos k)) ≡ false
 unfolding binary
@@ -34,34 +31,21 @@ pub equal_itself : (k : ℕ) → equal Binary (Int (pos k)) (Int (pos k)) ≡ tr
 unfolding binary
 equal_itself k = truth_back _ ∙ ap is_eq (number_same k)
 
-gt_lt : (i k : ℕ) → is_gt (nat_cmp i k) ≡ nat_lt k i
-gt_lt i k = grind arith
-
-le_le : (i k : ℕ) → is_le (nat_cmp i k) ≡ nat_le i k
-le_le i k = grind arith
-
 pub greater : (i k : ℕ) → is_true (binary (Compare Gt Binary) (Int (pos i)) (Int (pos k))) ≡ nat_lt k i
 unfolding binary
-greater i k = truth_back _ ∙ ap is_gt (value_cmp-Int (pos i) (pos k) ∙ pos_cmp i k) ∙ gt_lt i k
+greater i k = truth_back _ ∙ ap is_gt (value_cmp-Int (pos i) (pos k)) ∙ grind arith
 
-pub at_most : (i k : ℕ) → is_true (binary (Compare Le Binary) (Int (pos i)) (Int (pos k))) ≡ nat_le i k
+pub at_most : (i k : ℕ) → is_true (binary (Compare Le Binary) (Int (pos i)) (Int (pos k))) ≡ not (nat_lt k i)
 unfolding binary
-at_most i k = truth_back _ ∙ ap is_le (value_cmp-Int (pos i) (pos k) ∙ pos_cmp i k) ∙ le_le i k
+at_most i k = truth_back _ ∙ ap is_le (value_cmp-Int (pos i) (pos k)) ∙ grind arith
 
 pub both_ways : (a b : Bool) → (a ≡ true → b ≡ true) → (b ≡ true → a ≡ true) → a ≡ b
 both_ways true b f g = sym (f refl)
 both_ways false true f g = g refl
 both_ways false false f g = refl
 
-nat_cases : (i k : ℕ) → (i < k) ⊎ ((i ≡ k) ⊎ (k < i))
-nat_cases i k = grind arith
-
 pub equal_numbers : (i k : ℕ) → is_eq (value_cmp (Int (pos i)) (Int (pos k))) ≡ true → i ≡ k
-equal_numbers i k h = elim (nat_cases i k) [
-  | inl low ↦ absurd (let e = rw (number_below i k low) at h in cc)
-  | inr (inl same) ↦ same
-  | inr (inr high) ↦ absurd (let e = rw (number_above i k high) at h in cc)
-]
+equal_numbers i k h = let same = sym (ap is_eq (value_cmp-Int (pos i) (pos k))) ∙ h in grind (arith, same)
 
 pub fits : (n : ℕ) → n < 2 ^ 63 → fits_i64 (pos n) ≡ true
 fits n low = grind (arith, low)
