@@ -123,7 +123,8 @@ module _ (b : Business) where
     abbrev Over : ℕ → List Placed → Type 0
     Over n ps =
         (filter is_it ps ≡ t ∷ [])
-        × (put_row (placed_row (t.0, b)) (without_rowid (pos t.0) (map placed_row ps)) ≡ map placed_row (upserted b n ps))
+        × (put_row (placed_row (t.0, b)) (without_rowid (pos t.0) (map placed_row ps))
+        ≡ map placed_row (upserted b n ps))
 
     pub put_over : (n low : ℕ) (ps : List Placed) → IsRisingFrom low ps → AreApart ps → Has ps t → Over n ps
     put_over n low [] rising apart h = elim h [ ]
