@@ -12,7 +12,6 @@ pub use Rattle.sqlite.specs.Effect.{Answers, Database, IsSource, RefusesToRead, 
 pub use Rattle.sqlite.specs.Held.{Held}
 pub use Rattle.sqlite.specs.Kind.TheVariants.{Integer}
 pub use Rattle.sqlite.specs.Listing.{IsSourceOf, reads_listing, understood}
-pub use Rattle.sqlite.specs.Ops.{unary}
 pub use Rattle.sqlite.specs.Order.{Row}
 pub use Rattle.sqlite.specs.Program.{overlay}
 pub use Rattle.sqlite.specs.Query.{IsAnswer, Output, Query, end, inner, output, output_cmp, page}
@@ -20,7 +19,7 @@ pub use Rattle.sqlite.specs.Reading.{IsReadError}
 pub use Rattle.sqlite.specs.Rows.{Clears, Counter, Counts, Deletes, Edited, Gives, Inserts, InsertsOr, Judged, Meets, Outcome, Puts, Sourced, Task, Then, Tries, TriesEach, Updates, Upserts, Written, count_of, last_id, mended, nothing, shown}
 pub use Rattle.sqlite.specs.Schema.{Schema}
 pub use Rattle.sqlite.specs.Source.TheVariants.{Values}
-pub use Rattle.sqlite.specs.State.{EndsScope, Escapes, Executes, ExecutesIn, ExecutesInside, Fails, FailsToQuery, HasCleanDisk, IsMisplaced, IsNoStatement, IsNotRun, IsRolledBack, IsUnchanged, QueriesRow, Runs, Shown, Shows, State, Writes, is_pragma, mode_of, shows_rows, text_of}
+pub use Rattle.sqlite.specs.State.{EndsScope, Escapes, Executes, ExecutesInside, Fails, FailsToQuery, HasCleanDisk, IsMisplaced, IsNoStatement, IsRolledBack, IsUnchanged, Runs, Shown, Shows, State, Writes, is_pragma, mode_of, shows_rows, text_of}
 pub use Rattle.sqlite.specs.Steps.{FailsToCommit}
 pub use Rattle.sqlite.specs.Table.{Table}
 pub use Rattle.sqlite.specs.Term.{Term, col, lit, op2}
@@ -58,17 +57,16 @@ pub use Rattle.sqlite_schema.specs.declared.schema.Constraint.TheVariants.{Check
 pub use Rattle.sqlite_schema.specs.declared.schema.Keys.{Keys}
 pub use Rattle.sqlite_schema.specs.declared.schema.Keys.TheVariants.{Enforced}
 pub use Rattle.sqlite_sql.proofs.QueryLemmas.{output_cmp_total}
-pub use Rattle.sqlite_sql.specs.Ops.{binary, fits_i64, from_truth, is_true}
+pub use Rattle.sqlite_sql.specs.Ops.{fits_i64, from_truth, is_true}
 pub use Rattle.sqlite_sql.specs.Program.{ProgramOverflows}
 pub use Rattle.sqlite_sql.specs.Term.{Env, holds}
 pub use Rattle.sqlite_sql.specs.declared.ops.BinaryOp.TheVariants.{Compare}
 pub use Rattle.sqlite_sql.specs.declared.ops.CompareOp.TheVariants.{Eq, Gt, Le}
-pub use Rattle.sqlite_trees.proofs.ListLemmas.{all-append, all-filter, all-get_or, all-permutation, all_from_map, ascending-append, ascending-filter, filter-map, filter_same, map-map}
+pub use Rattle.sqlite_trees.proofs.ListLemmas.{all-append, all-filter, all-get_or, all_from_map, ascending-append, ascending-filter, filter-map, filter_same, map-map}
 pub use Rattle.sqlite_trees.specs.declared.error.StoreError.TheVariants.{Broken, Corrupt, Full, Io, Unstorable}
 pub use Rattle.sqlite_trees.specs.declared.memory.MemStore.{MemStore}
 pub use Rattle.sqlite_typing.specs.Types.{accepts_program, accepts_terms}
 pub use Rattle.sqlite_value.proofs.OrderLemmas.{value_cmp-Int, value_cmp-Text}
-pub use Rattle.sqlite_value.specs.Keys.{first_key}
 pub use Rattle.sqlite_value.specs.Order.{column, value_cmp}
 pub use Rattle.sqlite_value.specs.declared.keys.Key.{Key}
 pub use Rattle.kob_outbox.specs.Blank.{IsAtRest, IsBlank}
@@ -81,14 +79,14 @@ pub use Rattle.kob_outbox.specs.Recording.{IsNext, after_record, is_recorded, wi
 pub use Rattle.kob_outbox.specs.Service.{IsChanging, IsService, KeepsLast, Spends, contents, contents_of, database}
 pub use Rattle.kob_outbox.specs.Tables.{business, business_table, mark, mark_table, no_schema, one_table, outbox, outbox_table, service_schema, spent, spent_table, three_tables, two_tables}
 pub use Rattle.kob_outbox.specs.declared.event.OutboxEvent.{OutboxEvent}
-pub use Rattle.std.proofs.Common.{[], ◌&&◌, ◌++◌, ◌+ℤ◌, ◌+◌, ◌/◌, ◌<◌, ◌==◌, ◌^◌, ◌||◌, ◌∙◌, ◌∷◌, ◌≡◌, ◌≢◌, ◌≤◌, ◌⊎◌, Bool, Equal, Err, Greater, IfErr, IfOk, IsErrAnd, IsPermutation, IsTrue, Less, List, None, Ok, OnErr, OnOk, Option, Ordering, Result, Some, Vec, add-one, ap, append-nil, arith, bytes_eq, codes, cond, false, filter, flat_map, if◌then◌else◌, inl, inr, int_cmp, is_eq, is_gt, is_le, le-ltb, length, length-append, map, min, nat_cmp, nat_le, nat_lt, negsuc, not, pos, refl, rules, slice_get, slice_index_or, string_bytes, subst, subst₂, suc, sym, take, true, unwrap_or, zero, ℕ, ℤ}
-pub use Rattle.std.proofs.lemmas.Bool.{and_parts, cases_Bool, cases_lt, cond-false, cond-true, or_from}
+pub use Rattle.std.proofs.Common.{[], ◌&&◌, ◌++◌, ◌+ℤ◌, ◌+◌, ◌/◌, ◌<◌, ◌==◌, ◌^◌, ◌||◌, ◌∙◌, ◌∷◌, ◌≡◌, ◌≢◌, ◌≤◌, ◌⊎◌, Bool, Equal, Err, Greater, IfErr, IfOk, IsErrAnd, IsPermutation, IsTrue, Less, List, None, Ok, OnErr, OnOk, Option, Ordering, Result, Some, Vec, add-one, ap, append-nil, arith, bytes_eq, codes, cond, false, filter, flat_map, if◌then◌else◌, inl, inr, is_eq, is_gt, is_le, length, length-append, map, min, nat_cmp, nat_lt, negsuc, not, pos, refl, rules, slice_get, slice_index_or, string_bytes, subst, subst₂, suc, sym, take, true, unwrap_or, zero, ℕ, ℤ}
+pub use Rattle.std.proofs.lemmas.Bool.{and_parts, cases_Bool, cond-false, cond-true, or_from}
 pub use Rattle.std.proofs.lemmas.List.{length-map, length-take, map-append, take-map, take_all, take_more}
 pub use Rattle.std.proofs.lemmas.List.Sorted.{IsPermutation-map, length_permutation, list_any-IsPermutation}
 pub use Rattle.std.proofs.lemmas.Map.Text.{is_eq-slice_cmp}
 pub use Rattle.std.proofs.lemmas.Slice.Eq.{bytes_eq-Decides}
 pub use Rattle.std.proofs.lemmas.Str.{IsUtf8-string_bytes}
-pub use Rattle.std.specs.Cmp.{IsTotalOrder, nat_cmp_is, then_total}
+pub use Rattle.std.specs.Cmp.{IsTotalOrder, then_total}
 pub use Rattle.std.specs.FinMap.{IsAntisymmetric, find, from_entries, get, get-from_entries, get-insert, insert, same_map}
 pub use Rattle.std.specs.List.{AllByRecursion, enumerate_from, fold, list_all, list_any}
 pub use Rattle.std.specs.Option.{is_none, option_or}
