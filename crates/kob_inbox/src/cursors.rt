@@ -38,6 +38,7 @@ pub(crate) fn standing_of(cursors: &[Cursor], place: &Place) -> Option<Standing>
 }
 
 /// Adds the cursor of a partition that has none, in reserved capacity.
+#[tactic(auto, using(crate::proofs::Cursoring::moved_new))]
 pub(crate) fn put(cursors: &mut Vec<Cursor>, place: Place, position: u64)
     requires room { vec_len cursors.old < vec_capacity cursors.old }
     requires unknown { standing (cursor_of cursors.old.items place) ≡ None }
@@ -52,6 +53,7 @@ pub(crate) fn put(cursors: &mut Vec<Cursor>, place: Place, position: u64)
 }
 
 /// Moves the cursor of a partition.
+#[tactic(auto, using(crate::proofs::Cursoring::changed))]
 pub(crate) fn set(cursors: &mut [Cursor], place: &Place, position: u64, uncommitted: bool)
     requires { IsKnown (cursor_of cursors.old place.now) }
     ensures { cursors.new ≡ with_cursor cursors.old

@@ -77,6 +77,7 @@ impl Inbox {
     /// unique id decides whether it is there already, so that the cost does not grow with the
     /// number of rows. If all 9,223,372,036,854,775,807 places are used, or the number of the
     /// partition is greater than that, the fault is `Store`.
+    #[tactic(auto, using(crate::proofs::Answering::stays, crate::proofs::Answering::stays_seen, crate::proofs::Answering::moves))]
     pub fn take_in(
         &mut self,
         topic: &str,

@@ -14,6 +14,7 @@ use sqlite::{Connection, MemStore};
 use std::alloc::Global;
 
 /// All events, in the order of their places.
+#[tactic(auto, using(crate::proofs::Shown::all_shown))]
 pub(crate) fn all_rows(
     conn: &mut Connection<MemStore>,
     alloc: Global,

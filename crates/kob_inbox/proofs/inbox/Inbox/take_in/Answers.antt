@@ -1,5 +1,5 @@
-use Rattle.kob_inbox.proofs.Words.{◌∙◌, ◌≡◌, Contents, answer_to, ap, contents, database, event_id, id_text, inl, intake_of, sym}
-use Rattle.kob_inbox.proofs.Answering.{moves, seen, stays, stays_seen, stored, taken}
+use Rattle.kob_inbox.proofs.Words.{◌∙◌, ◌≡◌, Contents, answer_to, ap, contents, event_id, id_text, inl, sym}
+use Rattle.kob_inbox.proofs.Answering.{seen, stored, taken}
 use Rattle.kob_inbox.proofs.inbox.Inbox.take_in.Goals as goal
 
 pub returns-then-branch-eq0-clause-answer : goal.returns-then-branch-eq0-clause-answer
@@ -31,26 +31,3 @@ returns-in_err-insert_intake-clause-store c = λ h.
     c.from_residual.result c.in_err-insert_intake.field-0.0
     c.from_residual.ensures.1 c.in_err-insert_intake.ensures.again h
     )
-
-pub invariant_of-self : goal.invariant_of-self
-invariant_of-self c =
-    stays c.self.inside.last (database c.self.inside.conn) (database c.insert_intake.new.conn) c.self.invariant
-    c.insert_intake.ensures.inbox c.in_err-insert_intake.ensures.err
-
-pub invariant_of-self-then-branch-eq0 : goal.invariant_of-self-then-branch-eq0
-invariant_of-self-then-branch-eq0 c =
-    stays_seen c.self.inside.last (database c.self.inside.conn) (database c.insert_intake.new.conn) c.self.invariant
-    c.insert_intake.ensures.inbox (intake_of c.encode_lower-id.result.now (record {
-      place = record { topic = c.args.topic.now; partition = c.args.partition };
-      offset = c.args.offset;
-      message = c.args.message.now;
-    })) c.in_ok-insert_intake.ensures.ok (c.in_ok-insert_intake.ensures.seen c.if-branch-eq0.true)
-
-pub invariant_of-self-2 : goal.invariant_of-self-2
-invariant_of-self-2 c =
-    moves c.self.inside.last (database c.self.inside.conn) (database c.insert_intake.new.conn) c.self.invariant
-    c.insert_intake.ensures.inbox (intake_of c.encode_lower-id.result.now (record {
-      place = record { topic = c.args.topic.now; partition = c.args.partition };
-      offset = c.args.offset;
-      message = c.args.message.now;
-    })) c.in_ok-insert_intake.ensures.ok (c.in_ok-insert_intake.ensures.fresh c.if-branch-eq0.false)
