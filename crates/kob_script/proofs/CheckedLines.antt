@@ -1,6 +1,6 @@
 -- The lines of blocks; what a line asks for, when it is checked and when it is read again, and what is
 -- left behind it; and that a script without `acl` lines has one reading.
-use Rattle.std.proofs.Common.{◌≡◌, ◌∙◌, ◌≤◌, ◌<◌, ◌+◌, ℕ, List, [], ◌∷◌, ◌++◌, length, drop, take, map, get_or, sym, ap, refl, arith, length-take-le, suc, drop-drop, ◌&&◌, not, Bool, true, false, if◌then◌else◌, nat_lt, Option, Some, None, Result, Ok, Err, codes, append_assoc, append-nil, ◌-◌, ◌==◌, slice_index_or, is_some, bytes_eq, eqb-true, subst, is_none}
+use Rattle.std.proofs.Common.{◌≡◌, ◌∙◌, ◌≤◌, ◌<◌, ◌+◌, ℕ, List, [], ◌∷◌, ◌++◌, length, drop, take, map, get_or, sym, ap, refl, arith, length-take-le, suc, drop-drop, ◌&&◌, Bool, true, false, if◌then◌else◌, nat_lt, Option, Some, None, Result, Ok, Err, MatchOption, append_assoc, append-nil, ◌-◌, ◌==◌, slice_index_or, is_some, eqb-true, subst, is_none}
 use Rattle.std.proofs.lemmas.List.{drop_more}
 use Rattle.std.specs.List.{concat, list_all}
 use Rattle.std.specs.Result.{result_unwrap_or}
@@ -11,17 +11,13 @@ use Rattle.kob_acl_cli.specs.declared.args.CliArgs.{CliArgs}
 use Rattle.kob_names.specs.declared.settings.Settings.{Settings}
 use Rattle.kob_rights.specs.declared.event.Event.{Event}
 use Rattle.kob_script.specs.Checks.{fault_at, with_answer, ChecksLine, ChecksNext, script_so_far}
-use Rattle.kob_script.specs.CommandLines.{command_named, acl_events, command_events, events_of}
-use Rattle.kob_script.specs.Reading.{◌>>=◌, Fails}
+use Rattle.kob_script.specs.CommandLines.{asked_by, events_of, line_fault}
+use Rattle.kob_script.specs.Reading.{◌>>=◌, Fails, unless_found, LateSetting, FaultKind, Memory, Fault, LineError}
 use Rattle.kob_script.specs.Requests.{AreWholeLines, lines_in_blocks, asks_clap, first_answer, line_words, requests_in, requests_of, answers_after}
-use Rattle.kob_script.specs.Script.{lines_in, with_line, with_words, at_line, empty_script, lines_from, script_of, then_lines, HasNoAclLine, is_plain, LinesFrom, MayRead, Reads, ReadsAs, ThenLines, IsAnswerTo, is_setting, settings_with}
+use Rattle.kob_script.specs.Script.{after_acl, lines_in, with_line, with_words, empty_script, lines_from, script_of, then_lines, HasNoAclLine, is_plain, LinesFrom, MayRead, Reads, ReadsAs, ThenLines, IsAnswerTo, IsAnswerToLine, is_setting, settings_with}
 use Rattle.kob_script.specs.Words.{Word, words_of}
 use Rattle.kob_script.specs.declared.checks.Checking.{Checking}
 use Rattle.kob_script.specs.declared.fault.Fault as fault
-use Rattle.kob_script.specs.declared.fault.FaultKind.TheVariants.{LateSetting}
-use Rattle.kob_script.specs.declared.fault.FaultKind.{FaultKind}
-use Rattle.kob_script.specs.declared.fault.LineError.TheVariants.{Memory, Fault}
-use Rattle.kob_script.specs.declared.fault.LineError.{LineError}
 use Rattle.kob_script.specs.declared.fault.ScriptError.TheVariants as script_error
 use Rattle.kob_script.specs.declared.fault.ScriptError.{ScriptError}
 use Rattle.kob_script.specs.declared.script.Script.{Script}
@@ -81,31 +77,9 @@ block_lines blocks i block below is =
     ap lines_in_blocks (drop_more blocks i block below)
     ∙ ap (λ bytes. lines_in bytes ++ lines_in_blocks (drop (i + 1) blocks)) (sym is)
 
-pub few_lines : (blocks : List (List ℕ)) → AreWholeLines blocks → length (lines_in_blocks blocks) ≤ length (concat blocks)
-few_lines blocks whole = let same = ap length whole in omega (arith, same, length-lines (concat blocks))
-
 -- the answers for what comes from these words on
 abbrev pub answers_from : List Word → Option CliArgs → List (Option CliArgs) → List (Option CliArgs)
 answers_from words answer others = if asks_clap words then answer ∷ others else others
-
--- what a line asks for is the same by its own answer and by the first of those that were kept
-chosen_alike : {A B C : Type 0} (setting acl : Bool) (arguments : C) (x : B) (next : A → B)
-    (by : Option CliArgs → A) (other : A) (answer : Option CliArgs) (others : List (Option CliArgs))
-    → let asks = is_some (if not setting && acl then Some arguments else None) in
-    (if setting then x else next (if acl then
-    by (slice_index_or (if asks then answer ∷ others else others) 0 None) else other))
-    ≡ (if setting then x else next (if acl then by answer else other))
-chosen_alike false true arguments x next by other answer others = refl
-chosen_alike _ _ arguments x next by other answer others = refl
-
-answered_alike : (words : List Word) (answer : Option CliArgs) (others : List (Option CliArgs))
-    → requests_of (first_answer (answers_from words answer others)) words ≡ requests_of answer words
-unfolding events_of
-answered_alike (first ∷ host ∷ command ∷ arguments) answer others =
-    chosen_alike (is_setting first) (bytes_eq command.decoded (codes "acl")) arguments [] (λ read. result_unwrap_or read [])
-    (λ given. acl_events given first host arguments)
-    (command_events (command_named command.decoded) first host arguments) answer others
-answered_alike _ answer others = refl
 
 -- the answers with one more, and others
 pub answers_split : (answers : List (Option CliArgs)) (words : List Word) (answer : Option CliArgs)
@@ -118,23 +92,32 @@ answers_split answers words answer others = by (asks_clap words)
     by true = append_assoc answers (answer ∷ []) others
     by false = refl
 
-passed : (asks : Bool) (answer : Option CliArgs) (others : List (Option CliArgs)) (lines : List (List ℕ))
-    (events : List Event)
-    → events ++ requests_in lines
-    (if asks then drop 1 (if asks then answer ∷ others else others) else (if asks then answer ∷ others else others))
-    ≡ events ++ requests_in lines others
-passed true answer others lines events = refl
-passed false answer others lines events = refl
+-- what words ask for is the same by their own answer and by the first of those that were kept
+asked_alike : (P : List Word → Type 0) (arguments : Option (List Word)) (ask : Option CliArgs → List Event)
+    (rest : List (Option CliArgs) → List Event) (answer : Option CliArgs) (others : List (Option CliArgs))
+    → MatchOption arguments (answer ≡ None) P
+    → let asks = is_some arguments in
+    let left = if asks then answer ∷ others else others in
+    ask (if asks then slice_index_or left 0 None else None) ++ rest (if asks then drop 1 left else left)
+    ≡ ask answer ++ rest others
+asked_alike P (Some arguments) ask rest answer others is = refl
+asked_alike P None ask rest answer others is = rw is refl
 
 -- a line at the front, read again by the answer that was kept
 pub line_again : (line : List ℕ) (lines : List (List ℕ)) (answer : Option CliArgs) (others : List (Option CliArgs))
+    → IsAnswerToLine (words_of line) answer
     → requests_in (line ∷ lines) (answers_from (line_words line) answer others)
     ≡ requests_of answer (line_words line) ++ requests_in lines others
 unfolding requests_in
-line_again line lines answer others =
-    let words = line_words line in
-    passed (asks_clap words) answer others lines (requests_of (first_answer (answers_from words answer others)) words)
-    ∙ ap (λ events. events ++ requests_in lines others) (answered_alike words answer others)
+line_again line lines answer others is = by (words_of line) is
+  where
+    by : (read : Result (List Word) FaultKind) → IsAnswerToLine read answer
+        → let words = result_unwrap_or read [] in
+        let left = answers_from words answer others in
+        requests_of (first_answer words left) words ++ requests_in lines (answers_after words left)
+        ≡ requests_of answer words ++ requests_in lines others
+    by (Err kind) is = refl
+    by (Ok words) is = asked_alike _ (after_acl words) (λ given. requests_of given words) (requests_in lines) answer others is
 
 events_in : Result Script FaultKind → List Event
 events_in (Ok s) = s.events
@@ -142,22 +125,22 @@ events_in (Err kind) = []
 
 words_ask : (answer : Option CliArgs) (s next : Script) (words : List Word) → with_words answer s words ≡ Ok next
     → next.events ≡ s.events ++ requests_of answer words
-unfolding events_in
+unfolding events_in events_of
 words_ask answer s next [] is = sym (ap events_in is) ∙ sym (append-nil s.events)
 words_ask answer s next (first ∷ arguments) is =
     by (is_setting first) (nat_lt 0 (length s.events)) (settings_with s.settings first arguments)
-    (events_of answer (first ∷ arguments)) is
+    (line_fault (first ∷ arguments)) (asked_by answer (first ∷ arguments)) is
   where
-    by : (setting late : Bool) (set : Result Settings FaultKind) (read : Result (List Event) FaultKind)
+    by : (setting late : Bool) (set : Result Settings FaultKind) (fault : Option FaultKind)
+        (read : Result (List Event) FaultKind)
         → (if setting then (if late then Err LateSetting
         else (set >>= λ settings. Ok (record { settings = settings; events = s.events })))
-        else (read >>= λ events. Ok (record { settings = s.settings; events = s.events ++ events }))) ≡ Ok next
+        else (unless_found fault read
+        >>= λ events. Ok (record { settings = s.settings; events = s.events ++ events }))) ≡ Ok next
         → next.events ≡ s.events ++ (if setting then [] else result_unwrap_or read [])
-    by true true set read made = absurd cc
-    by true false (Ok settings) read made = sym (ap events_in made) ∙ sym (append-nil s.events)
-    by true false (Err kind) read made = absurd cc
-    by false late set (Ok events) made = sym (ap events_in made)
-    by false late set (Err kind) made = absurd cc
+    by true false (Ok settings) fault read made = sym (ap events_in made) ∙ sym (append-nil s.events)
+    by false late set None (Ok events) made = sym (ap events_in made)
+    by _ _ _ _ _ made = absurd cc
 
 read_asks : (answer : Option CliArgs) (s next : Script) (words : Result (List Word) FaultKind)
     → (words >>= with_words answer s) ≡ Ok next
@@ -194,7 +177,7 @@ nothing_at_zero (x ∷ more) count counts zero =
 -- a line was read that stood at the front
 pub line_read : (text : List ℕ) (lines left later last : List (List ℕ)) (answers kept : List (Option CliArgs))
     (events : List Event) → lines ≡ text ∷ left → last ≡ later
-    → events ≡ requests_of (first_answer answers) (line_words text)
+    → events ≡ requests_of (first_answer (line_words text) answers) (line_words text)
     → kept ≡ answers_after (line_words text) answers
     → requests_in (lines ++ later) answers ≡ events ++ requests_in (left ++ last) kept
 unfolding requests_in
@@ -204,29 +187,21 @@ both : (a b : Bool) → (a && b) ≡ true → (a ≡ true) × (b ≡ true)
 both true b e = (refl, e)
 both false b e = absurd cc
 
--- a choice that is no other where it isn't `acl`
-others_alike : {A B C : Type 0} (setting acl : Bool) (x : B) (one two other : A) (next : A → B) (arguments : C)
-    → is_none (if not setting && acl then Some arguments else None) ≡ true
-    → (if setting then x else next (if acl then one else other))
-    ≡ (if setting then x else next (if acl then two else other))
-others_alike true acl x one two other next arguments plain = refl
-others_alike false true x one two other next arguments plain = absurd cc
-others_alike false false x one two other next arguments plain = refl
-
--- a line that is no `acl` line is read in one way, whatever clap answered
+-- a line that is no `acl` line is read in one way, as clap's answer tells nothing of it
 line_alike : (answer : Option CliArgs) (s : Script) (line : Result (List Word) FaultKind) → is_plain line ≡ true
-    → (line >>= with_words answer s) ≡ (line >>= with_words None s)
-unfolding events_of
-line_alike answer s (Ok (first ∷ host ∷ command ∷ arguments)) plain =
-    others_alike (is_setting first) (bytes_eq command.decoded (codes "acl")) _ (acl_events answer first host arguments)
-    (acl_events None first host arguments) (command_events (command_named command.decoded) first host arguments)
-    (λ read. read >>= λ events. Ok (record { settings = s.settings; events = s.events ++ events })) arguments plain
-line_alike answer s _ plain = refl
+    → IsAnswerToLine line answer → (line >>= with_words answer s) ≡ (line >>= with_words None s)
+line_alike answer s (Err kind) plain is = refl
+line_alike answer s (Ok words) plain is = by _ (after_acl words) plain is
+  where
+    by : (P : List Word → Type 0) (arguments : Option (List Word)) → is_none arguments ≡ true
+        → MatchOption arguments (answer ≡ None) P → with_words answer s words ≡ with_words None s words
+    by P None plain is = ap (λ given. with_words given s words) is
+    by P (Some arguments) plain is = absurd cc
 
 then_alike : (number : ℕ) (lines : List (List ℕ)) (first : Result Script FaultKind) (read : Result Script fault.Fault)
     → ((next : Script) → LinesFrom next (number + 1) lines read → read ≡ lines_from next (number + 1) lines)
     → ThenLines number first (λ next. LinesFrom next (number + 1) lines read) read
-    → read ≡ then_lines (at_line number first) (λ next. lines_from next (number + 1) lines)
+    → read ≡ then_lines number first (λ next. lines_from next (number + 1) lines)
 then_alike number lines (Ok next) read others may = others next may
 then_alike number lines (Err kind) read others may = may
 
@@ -240,7 +215,7 @@ lines_alike s number (line ∷ lines) read plain (first, (answer, is, gives), ot
     then_alike number lines (with_line None s line) read
     (λ next may. lines_alike next (number + 1) lines read here.1 may)
     (subst (λ (r : Result Script FaultKind). ThenLines number r (λ next. LinesFrom next (number + 1) lines read) read)
-    (sym gives ∙ line_alike answer s (words_of line) here.0) others)
+    (sym gives ∙ line_alike answer s (words_of line) here.0 is) others)
 
 pub one_reading : (text : List ℕ) (read : Result Script fault.Fault) → HasNoAclLine text → ReadsAs text read
     → read ≡ script_of text
@@ -273,93 +248,82 @@ module _ (s : Script) (line : List ℕ) (new : Checking) (old kept : List (Optio
   line_fails Memory fails = tt
   line_fails (Fault kind) fails = rw fails (None, tt, refl)
 
--- The lines that are left may be read after what was checked so far, as all may be, and with what
--- they ask for, by answers behind those that were kept, all ask for what they do.
-pub record Stands (lines : List (List ℕ)) (checking : Checking) (answers : List (Option CliArgs)) (number : ℕ)
+-- What was checked so far: the lines that are left may be read after it as all may be, and all ask
+-- for its events and for what those that are left do, by answers after those that were kept.
+pub record Stands (blocks : List (List ℕ)) (checking : Checking) (answers : List (Option CliArgs)) (number : ℕ)
     (rest : List (List ℕ)) : Type 0 where
+  pub few : number + length rest ≤ length (concat blocks)
   pub events : List Event
   pub counts : checking.requests ≡ length events
-  pub leads : (read : Result Script fault.Fault) → LinesFrom (script_so_far checking events) number rest read
-      → LinesFrom empty_script 1 lines read
+  pub leads : (read : Result Script fault.Fault) → LinesFrom (script_so_far checking events) (number + 1) rest read
+      → ReadsAs (concat blocks) read
   pub asks : (more : List (Option CliArgs))
-      → requests_in lines (answers ++ more) ≡ events ++ requests_in rest more
+      → requests_in (lines_in_blocks blocks) (answers ++ more) ≡ events ++ requests_in rest more
 
-pub stands_first : (lines : List (List ℕ)) (checking : Checking) (answers : List (Option CliArgs))
-    → checking.supers.items ≡ [] → checking.everyone ≡ false → checking.requests ≡ 0 → answers ≡ []
-    → Stands lines checking answers 1 lines
-stands_first lines checking answers nobody closed none unanswered = record {
-  events = [];
-  counts = none;
-  leads = λ read may. (rw (nobody, closed) at may);
-  asks = λ more. rw unanswered refl;
-}
+pub stands_first : (blocks : List (List ℕ)) (checking : Checking) (answers : List (Option CliArgs))
+    → AreWholeLines blocks → checking.supers.items ≡ [] → checking.everyone ≡ false → checking.requests ≡ 0 → answers ≡ []
+    → Stands blocks checking answers 0 (lines_in_blocks blocks)
+stands_first blocks checking answers whole nobody closed none unanswered =
+    let same = ap length whole in record {
+      few = omega (arith, same, length-lines (concat blocks));
+      events = [];
+      counts = none;
+      leads = λ read may. rw (← whole) (rw (nobody, closed) at may);
+      asks = λ more. rw unanswered refl;
+    }
 
-module _ (lines : List (List ℕ)) (checking new : Checking) (answers kept : List (Option CliArgs)) (number : ℕ)
-    (rest : List (List ℕ)) (line : List ℕ) (others : List (List ℕ)) (stands : Stands lines checking answers number rest)
+-- at a line
+module _ (blocks : List (List ℕ)) (checking new : Checking) (answers kept : List (Option CliArgs)) (number : ℕ)
+    (rest : List (List ℕ)) (line : List ℕ) (others : List (List ℕ)) (stands : Stands blocks checking answers number rest)
     (split : rest ≡ line ∷ others) where
   pub stands_next : ((events : List Event) → checking.requests ≡ length events
       → ChecksLine (script_so_far checking events) line new answers kept (Ok tt))
-      → Stands lines new kept (number + 1) others
+      → Stands blocks new kept (number + 1) others
   unfolding LinesFrom
   stands_next checks =
       let words = line_words line in
       let (answer, is, keeps, (events, counts, reads)) = checks stands.events stands.counts in
       let asked = line_asks answer (script_so_far checking stands.events) (script_so_far new events) line reads in
+      let count = ap length split in
       record {
+        few = omega (arith, count, stands.few);
         events = events;
         counts = counts;
-        leads = λ read may. stands.leads read
-            (rw split (Ok (script_so_far new events), (answer, is, reads), may));
+        leads = λ read may. stands.leads read (rw split (Ok (script_so_far new events), (answer, is, reads), may));
         asks = λ more.
             rw (
               keeps,
               answers_split answers words answer more,
               stands.asks (answers_from words answer more),
               split,
-              line_again line others answer more,
+              line_again line others answer more is,
               asked,
             )
             (sym (append_assoc stands.events (requests_of answer words) (requests_in others more)));
       }
 
-  stops_at : (kind : FaultKind) → ((events : List Event) → checking.requests ≡ length events
-      → ChecksLine (script_so_far checking events) line new answers kept (Err (Fault kind)))
-      → LinesFrom empty_script 1 lines (Err (record { line = number; kind = kind }))
+  pub stops : (e : LineError) → ((events : List Event) → checking.requests ≡ length events
+      → ChecksLine (script_so_far checking events) line new answers kept (Err e))
+      → MayRead (concat blocks) (Err (fault_at (number + 1) e))
   unfolding LinesFrom
-  stops_at kind checks =
-      let read : Result Script fault.Fault = Err (record { line = number; kind = kind }) in
+  stops Memory checks = tt
+  stops (Fault kind) checks =
+      let read : Result Script fault.Fault = Err (record { line = number + 1; kind = kind }) in
       stands.leads read (rw split (Err kind, checks stands.events stands.counts, refl))
 
--- behind the last line
-module _ (lines : List (List ℕ)) (checking : Checking) (answers : List (Option CliArgs)) (number : ℕ)
-    (rest : List (List ℕ)) (stands : Stands lines checking answers number rest) (none : rest ≡ []) where
-  all_asked : requests_in lines answers ≡ stands.events
+-- after the last line
+module _ (blocks : List (List ℕ)) (checking : Checking) (answers : List (Option CliArgs)) (number : ℕ)
+    (rest : List (List ℕ)) (stands : Stands blocks checking answers number rest) (none : rest ≡ []) where
+  all_asked : requests_in (lines_in_blocks blocks) answers ≡ stands.events
   unfolding requests_in
   all_asked =
-      ap (requests_in lines) (sym (append-nil answers)) ∙ stands.asks []
+      ap (requests_in (lines_in_blocks blocks)) (sym (append-nil answers)) ∙ stands.asks []
       ∙ ap (λ left. stands.events ++ requests_in left []) none ∙ append-nil stands.events
 
-  pub all_counted : checking.requests ≡ length (requests_in lines answers)
+  pub all_counted : checking.requests ≡ length (requests_in (lines_in_blocks blocks) answers)
   all_counted = stands.counts ∙ ap length (sym all_asked)
 
-  all_read : (read : Script) → read ≡ script_so_far checking (requests_in lines answers)
-      → LinesFrom empty_script 1 lines (Ok read)
+  pub all_read : (read : Script) → read ≡ script_so_far checking (requests_in (lines_in_blocks blocks) answers)
+      → ReadsAs (concat blocks) (Ok read)
   unfolding LinesFrom
   all_read read is = stands.leads (Ok read) (rw none (ap Ok (is ∙ ap (script_so_far checking) all_asked)))
-
--- the lines of blocks are those of their bytes
-module _ (blocks : List (List ℕ)) (whole : AreWholeLines blocks) (checking : Checking) (answers : List (Option CliArgs))
-    (number : ℕ) (rest : List (List ℕ)) (stands : Stands (lines_in_blocks blocks) checking answers number rest) where
-  pub stops : (new : Checking) (kept : List (Option CliArgs)) (line : List ℕ) (others : List (List ℕ))
-      → rest ≡ line ∷ others → (e : LineError) → ((events : List Event) → checking.requests ≡ length events
-      → ChecksLine (script_so_far checking events) line new answers kept (Err e))
-      → MayRead (concat blocks) (Err (fault_at number e))
-  stops new kept line others split Memory checks = tt
-  stops new kept line others split (Fault kind) checks =
-      rw (← whole) (stops_at (lines_in_blocks blocks) checking new answers kept number rest line others stands split kind checks)
-
-  pub blocks_read : rest ≡ [] → (read : Script)
-      → read ≡ script_so_far checking (requests_in (lines_in_blocks blocks) answers)
-      → ReadsAs (concat blocks) (Ok read)
-  blocks_read none read is =
-      rw (← whole) (all_read (lines_in_blocks blocks) checking answers number rest stands none read is)

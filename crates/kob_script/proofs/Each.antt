@@ -1,10 +1,7 @@
 -- Values that are read in turn, by a loop over what they are read from.
 use Rattle.std.proofs.Common.{◌≡◌, ◌∙◌, ◌<◌, ◌≤◌, ◌+◌, ℕ, List, [], ◌∷◌, ◌++◌, Result, Ok, Err, length, get_or, drop, map, sym, ap, subst, append-nil, append_assoc, refl, drop_of_length-le}
 use Rattle.std.proofs.lemmas.List.{drop_more}
-use Rattle.kob_script.specs.declared.fault.FaultKind.{FaultKind}
-use Rattle.kob_script.specs.declared.fault.LineError.{LineError}
-use Rattle.kob_script.specs.declared.fault.LineError.TheVariants.{Memory, Fault}
-use Rattle.kob_script.specs.Reading.{◌>>=◌, Fails, each, with_front}
+use Rattle.kob_script.specs.Reading.{◌>>=◌, Fails, each, with_front, FaultKind, LineError, Memory, Fault}
 
 -- one value more at the front
 pub with_front_more : {A : Type 0} (front : List A) (x : A) (read : Result (List A) FaultKind)

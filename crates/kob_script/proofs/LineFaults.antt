@@ -2,24 +2,16 @@
 -- for; the faults of options, and what they stand for in a script.
 use Rattle.std.proofs.Common.{inl, inr, List, [], ◌∷◌, refl, ◌≡◌, ◌≤◌, Bool, true, false, if◌then◌else◌, nat_lt, arith, Option, Some, None, ap, ℕ, ◌∙◌, length, map, Result, Ok, Err, codes, ltb-false, ltb-true, option_map, bytes_eq}
 use Rattle.std.proofs.lemmas.List.{length-map}
+use Rattle.kob_acl_cli.specs.declared.args.CliArgs.{CliArgs}
 use Rattle.kob_acl_cli.specs.declared.commands.AclCommand.{AclCommand}
 use Rattle.kob_acl_cli.specs.declared.fault.CommandFault.{CommandFault}
 use Rattle.kob_acl_cli.specs.declared.fault.CommandFault.TheVariants as options
 use Rattle.kob_acl_cli.specs.Misread.{IsFirstFault}
-use Rattle.kob_script.specs.CommandLines.{place_fault, error_of, unless_faults, acl_commands, acl_request, acl_events, asked_row, asking, asks_by_acl, command_events, event_by, events_by, events_of, line_fault, request_by, request_of, acl_row, command_named, row, faults_in, place_value, row_fault, slot_fault, value_of, values_of, words_behind}
-use Rattle.kob_script.specs.Reading.{Fails, IsAmong, earlier, first_kind, rank, Finds, both, ◌>>=◌, counted, fault_in, some, unless_found}
-use Rattle.kob_script.specs.declared.fault.FaultKind.{FaultKind}
-use Rattle.kob_acl_cli.specs.declared.args.CliArgs.{CliArgs}
-use Rattle.kob_rights.specs.declared.request.Request.{Request}
+use Rattle.kob_rights.specs.declared.event.Event.{Event}
+use Rattle.kob_script.specs.CommandLines.{error_of, unless_faults, acl_commands, acl_request, acl_requests, asked_by, asked_row, asking, asks_by_acl, events_of, line_fault, request_of, command_named, row, row_fault}
+use Rattle.kob_script.specs.Reading.{Fails, IsAmong, earlier, first_kind, rank, Finds, ◌>>=◌, counted, found_or, unless_found, FaultKind, BadLine, LineError, Memory, Fault}
 use Rattle.kob_script.specs.declared.command.Command.{Command}
-use Rattle.kob_script.specs.declared.command.Command.TheVariants.{InitProducer}
-use Rattle.kob_script.specs.declared.fault.LineError.{LineError}
-use Rattle.kob_script.specs.declared.fault.LineError.TheVariants.{Memory, Fault}
-use Rattle.kob_script.specs.declared.command.Place.TheVariants.{One, OrDash, OrNone, Records, Texts}
-use Rattle.kob_script.specs.declared.command.Place.{Place}
-use Rattle.kob_script.specs.declared.command.Slot.{Slot}
-use Rattle.kob_script.specs.declared.command.Slot.TheVariants.{Text}
-use Rattle.kob_script.specs.Values.{named_principal, named_host}
+use Rattle.kob_script.specs.declared.command.Place.TheVariants.{Texts}
 use Rattle.kob_script.specs.Words.{Word}
 use Rattle.kob_script.proofs.Choices.{chosen_false}
 
@@ -82,89 +74,33 @@ pub first_is : (faults : List (Option FaultKind)) (found : Option FaultKind) →
     → IsFirst found faults
 first_is faults found is = rw is at (first_of faults)
 
--- what a slot finds is what reading tells
-slot_is : (at : Slot) (word : Word) → fault_in (value_of at word) ≡ slot_fault at word
-slot_is Text word = refl
-slot_is _ word = refl
+-- as many events as commands
+as_many : (who from : Word) (told : Result (List AclCommand) FaultKind)
+    → counted (asking who from (told >>= λ commands. Ok (map acl_request commands))) ≡ counted told
+as_many who from (Ok commands) =
+    ap Ok (length-map (map acl_request commands) _ ∙ length-map commands acl_request)
+as_many who from (Err kind) = refl
 
-some_is : {A : Type 0} (read : Result A FaultKind) → fault_in (some read) ≡ fault_in read
-some_is (Ok x) = refl
-some_is (Err kind) = refl
-
-dash_is : {A : Type 0} (dash : Bool) (read : Result A FaultKind)
-    → fault_in (if dash then Ok None else some read) ≡ (if dash then None else fault_in read)
-dash_is true read = refl
-dash_is false read = some_is read
-
-place_is : (place : Place) (words : List Word) → fault_in (place_value place words) ≡ place_fault place words
-place_is (One at) [] = refl
-place_is (One at) (word ∷ words) = slot_is at word
-place_is (OrDash at) [] = refl
-place_is (OrDash at) (word ∷ words) =
-    rw (dash_is (bytes_eq word.raw (codes "-")) (value_of at word), slot_is at word) refl
-place_is (OrNone at) [] = refl
-place_is (OrNone at) (word ∷ words) = some_is (value_of at word) ∙ slot_is at word
-place_is Records words = refl
-place_is Texts words = refl
-
-fault_both : {A B : Type 0} (one : Result A FaultKind) (other : Result B FaultKind)
-    → fault_in (both one other) ≡ earlier (fault_in one) (fault_in other)
-fault_both (Ok x) (Ok y) = refl
-fault_both (Err kind) (Ok y) = refl
-fault_both _ _ = refl
-
-row_is : (places : List Place) (words : List Word) → fault_in (values_of places words) ≡ first_kind (faults_in places words)
-row_is [] [] = refl
-row_is [] (word ∷ words) = refl
-row_is (place ∷ places) words =
-    let behind = words_behind place words in
-    rw (fault_both (place_value place words) (values_of places behind), place_is place words, row_is places behind) refl
-
--- what is read behind the words that tell who asks: events for commands of `acl`, or one event
-acl_counted : {A : Type 0} (read : Result (List ℕ × (List ℕ × A)) FaultKind) (told : Result (List AclCommand) FaultKind)
-    → counted (read >>= λ asked. told >>= λ commands. Ok (events_by asked.0 asked.1.0 commands))
-    ≡ unless_found (fault_in read) (counted told)
-acl_counted (Ok asked) (Ok commands) =
-    ap Ok (length-map (map acl_request commands) (event_by asked.0 asked.1.0) ∙ length-map commands acl_request)
-acl_counted _ _ = refl
-
-one_counted_of : {A : Type 0} (who from : Result (List ℕ) FaultKind) (read : Result A FaultKind) (make : A → Request)
-    → counted (both who (both from (read >>= λ values. Ok (make values)))
-    >>= λ asked. Ok (event_by asked.0 asked.1.0 asked.1.1 ∷ []))
-    ≡ unless_found (fault_in (both who (both from read))) (Ok 1)
-one_counted_of (Ok who) (Ok from) (Ok values) make = refl
-one_counted_of (Ok who) (Err other) (Ok values) make = refl
-one_counted_of (Err one) (Ok from) (Ok values) make = refl
-one_counted_of (Err one) (Err other) (Ok values) make = refl
-one_counted_of _ _ _ make = refl
-
--- a request is read by the row of its command
-request_is : (command : Command) (words : List Word)
-    → request_of command words ≡ (values_of (row command) words >>= λ values. Ok (request_by command values))
-unfolding request_of
-request_is InitProducer words = refl
-request_is _ words = refl
-
-by_name : (answer : Option CliArgs) (who from : Word) (words : List Word) (acl : Bool) (found : Option Command)
-    → counted (if acl then acl_events answer who from words else command_events found who from words)
-    ≡ unless_found (row_fault (option_map asked_row (if acl then Some acl_row else option_map row found))
-    (who ∷ from ∷ words)) (if acl then counted (acl_commands answer) else Ok 1)
-by_name answer who from words true found =
-    acl_counted (asking who from (values_of acl_row words)) (acl_commands answer)
-    ∙ ap (λ fault. unless_found fault (counted (acl_commands answer))) (row_is (asked_row acl_row) (who ∷ from ∷ words))
-by_name answer who from words false None = refl
-by_name answer who from words false (Some command) =
-    ap (λ made. counted (asking who from made >>= λ asked. Ok (event_by asked.0 asked.1.0 asked.1.1 ∷ [])))
-    (request_is command words)
-    ∙ one_counted_of (named_principal who) (named_host from) (values_of (row command) words) (request_by command)
-    ∙ ap (λ fault. unless_found fault (Ok 1)) (row_is (asked_row (row command)) (who ∷ from ∷ words))
+counted_unless : {A : Type 0} (fault : Option FaultKind) (read : Result (List A) FaultKind) (count : Result ℕ FaultKind)
+    → counted read ≡ count → counted (unless_found fault read) ≡ unless_found fault count
+counted_unless None read count is = is
+counted_unless (Some kind) read count is = refl
 
 counted_by_fault : (answer : Option CliArgs) (words : List Word)
     → counted (events_of answer words)
     ≡ unless_found (line_fault words) (if asks_by_acl words then counted (acl_commands answer) else Ok 1)
-unfolding events_of
+unfolding events_of asked_by
 counted_by_fault answer (who ∷ from ∷ command ∷ words) =
-    by_name answer who from words (bytes_eq command.decoded (codes "acl")) (command_named command.decoded)
+    by (bytes_eq command.decoded (codes "acl")) (command_named command.decoded)
+  where
+    by : (acl : Bool) (found : Option Command)
+        → let fault = row_fault (option_map asked_row (if acl then Some (Texts ∷ []) else option_map row found)) (who ∷ from ∷ words)
+        in counted (unless_found fault (asking who from (if acl then acl_requests answer
+        else (found_or BadLine found >>= λ known. Ok (request_of known words ∷ [])))))
+        ≡ unless_found fault (if acl then counted (acl_commands answer) else Ok 1)
+    by true found = counted_unless _ _ _ (as_many who from (acl_commands answer))
+    by false None = refl
+    by false (Some known) = counted_unless _ _ (Ok 1) refl
 counted_by_fault answer _ = refl
 
 -- a line that has no fault asks for one thing, or by `acl` for as many as there are commands
@@ -188,6 +124,17 @@ pub were_counted : {A : Type 0} (read : Result (List A) FaultKind) (count : ℕ)
     → (items : List A) × (read ≡ Ok items) × (count ≡ length items)
 were_counted (Ok items) count is = (items, refl, cc)
 were_counted (Err kind) count is = absurd cc
+
+-- what words without a fault ask for is what their line asks for
+pub were_asked : (answer : Option CliArgs) (words : List Word) (count : ℕ) (events : List Event)
+    → counted (events_of answer words) ≡ Ok count → asked_by answer words ≡ Ok events → events_of answer words ≡ Ok events
+unfolding events_of
+were_asked answer words count events counts asked = by (line_fault words) counts
+  where
+    by : (fault : Option FaultKind) → counted (unless_found fault (asked_by answer words)) ≡ Ok count
+        → unless_found fault (asked_by answer words) ≡ Ok events
+    by None counts = asked
+    by (Some kind) counts = absurd cc
 
 pub uncounted : {A : Type 0} (read : Result (List A) FaultKind) (e : LineError) → Fails e (counted read) → Fails e read
 uncounted read Memory fails = tt

@@ -124,71 +124,64 @@ pub all_read : (bytes rest : List ℕ) (all : Option (List ℕ)) → with_rest b
 unfolding unescaped_from
 all_read bytes rest all kept none = ap Some (sym (append-nil bytes)) ∙ (rw none at kept)
 
-parts_there : (found : Option ℕ) (others : Option (List ℕ)) → is_some (before found others) ≡ true
-    → (is_some found ≡ true) × (is_some others ≡ true)
-parts_there None others e = absurd cc
-parts_there (Some byte) None e = absurd cc
-parts_there (Some byte) (Some bytes) e = (refl, refl)
+-- what two parts around a byte stand for
+abbrev joined : ℕ → Option (List ℕ) → Option (List ℕ) → Option (List ℕ)
+joined byte None back = None
+joined byte (Some front) back = option_map (λ bytes. front ++ byte ∷ bytes) back
 
-digits_there : (one two : Bool) (byte : ℕ) → is_some (if one && two then Some byte else None) ≡ true
-    → (one ≡ true) × (two ≡ true)
-digits_there true true byte e = (refl, refl)
-digits_there _ _ byte e = absurd cc
+both_whole : (byte : ℕ) (front back : Option (List ℕ)) → is_some (joined byte front back) ≡ true
+    → (is_some front ≡ true) × (is_some back ≡ true)
+both_whole byte (Some front) (Some back) whole = (refl, refl)
+both_whole byte _ _ whole = absurd cc
 
--- the byte at the front, where an escape and the bytes behind it are cut alike
-front_cut : {P : Type 0} (percent : Bool) (byte : ℕ) (digits_all digits : Option ℕ)
-    (behind_all behind rest_all rest : Option (List ℕ))
-    → (is_some (before digits_all behind_all) ≡ true → (is_some (before digits behind) ≡ true) × P)
-    → (is_some rest_all ≡ true → (is_some rest ≡ true) × P)
-    → is_some (if percent then before digits_all behind_all else before (Some byte) rest_all) ≡ true
-    → (is_some (if percent then before digits behind else before (Some byte) rest) ≡ true) × P
-front_cut true byte digits_all digits behind_all behind rest_all rest escape other whole = escape whole
-front_cut false byte digits_all digits behind_all behind None rest escape other whole = absurd cc
-front_cut false byte digits_all digits behind_all behind (Some bytes) None escape other whole =
-    let (none, p) = other refl in absurd cc
-front_cut false byte digits_all digits behind_all behind (Some bytes) (Some front) escape other whole =
-    (refl, (other refl).1)
+before_joined : (byte : ℕ) (found : Option ℕ) (front back : Option (List ℕ))
+    → before found (joined byte front back) ≡ joined byte (before found front) back
+before_joined byte (Some first) (Some front) (Some bytes) = refl
+before_joined byte _ _ _ = refl
 
-escape_cut : {P : Type 0} (digits : Option ℕ) (behind_all behind : Option (List ℕ))
-    → (is_some behind_all ≡ true → (is_some behind ≡ true) × P)
-    → is_some (before digits behind_all) ≡ true → (is_some (before digits behind) ≡ true) × P
-escape_cut None behind_all behind cut whole = absurd cc
-escape_cut (Some byte) None behind cut whole = absurd cc
-escape_cut (Some byte) (Some bytes) None cut whole = let (none, p) = cut refl in absurd cc
-escape_cut (Some byte) (Some bytes) (Some front) cut whole = (refl, (cut refl).1)
+-- the byte at the front, if what comes after it is joined alike
+front_joined : (byte a : ℕ) (percent : Bool) (digits_all digits : Option ℕ) (after_all after rest_all rest back : Option (List ℕ))
+    → before digits_all after_all ≡ joined byte (before digits after) back → rest_all ≡ joined byte rest back
+    → (if percent then before digits_all after_all else before (Some a) rest_all)
+    ≡ joined byte (if percent then before digits after else before (Some a) rest) back
+front_joined byte a true digits_all digits after_all after rest_all rest back escape plain = escape
+front_joined byte a false digits_all digits after_all after rest_all rest back escape plain =
+    ap (before (Some a)) plain ∙ before_joined byte (Some a) rest back
+
+no_digits : (one : Bool) (byte : ℕ) → (if one && false then Some byte else None) ≡ None
+no_digits true byte = refl
+no_digits false byte = refl
 
 module _ (byte : ℕ) (back : List ℕ) (other : (byte == 37) ≡ false) (none : nat_lt (digit_value byte) 16 ≡ false) where
-  not_first : (bytes : List ℕ) → is_some (escaped (byte ∷ bytes)) ≡ true → ⊥
-  not_first [] e = cc
-  not_first (low ∷ bytes) e =
-      let (first, second) = digits_there (nat_lt (digit_value byte) 16) (nat_lt (digit_value low) 16) (hexadecimal byte low) e in
-      cc (first, none)
+  not_first : (bytes : List ℕ) (others : Option (List ℕ)) → before (escaped (byte ∷ bytes)) others ≡ None
+  not_first [] others = refl
+  not_first (low ∷ bytes) others = rw none refl
 
-  not_second : (high : ℕ) → is_some (escaped (high ∷ byte ∷ back)) ≡ true → ⊥
-  not_second high e =
-      let (first, second) = digits_there (nat_lt (digit_value high) 16) (nat_lt (digit_value byte) 16) (hexadecimal high byte) e in
-      cc (second, none)
+  not_second : (high : ℕ) (others : Option (List ℕ)) → before (escaped (high ∷ byte ∷ back)) others ≡ None
+  not_second high others = rw (none, no_digits (nat_lt (digit_value high) 16) (hexadecimal high byte)) refl
 
-  cut : (front : List ℕ) → has_whole_escapes (front ++ byte ∷ back) ≡ true
-      → (has_whole_escapes front ≡ true) × (has_whole_escapes back ≡ true)
+  cut : (front : List ℕ) → unescaped (front ++ byte ∷ back) ≡ joined byte (unescaped front) (unescaped back)
   unfolding unescaped_from
-  cut [] whole =
-      let plain = chosen_false (byte == 37) (before (escaped back) (unescaped_from 2 back)) (before (Some byte) (unescaped back)) other in
-      (refl, (parts_there (Some byte) (unescaped back) (sym (ap is_some plain) ∙ whole)).1)
-  cut (a ∷ []) whole =
-      front_cut (a == 37) a (escaped (byte ∷ back)) None _ (Some []) (unescaped (byte ∷ back)) (Some [])
-      (λ e. absurd (not_first back (parts_there _ _ e).0)) (cut []) whole
-  cut (a ∷ high ∷ []) whole =
-      front_cut (a == 37) a (escaped (high ∷ byte ∷ back)) None _ (Some []) (unescaped (high ∷ byte ∷ back))
-      (unescaped (high ∷ [])) (λ e. absurd (not_second high (parts_there _ _ e).0)) (cut (high ∷ [])) whole
-  cut (a ∷ high ∷ low ∷ rest) whole =
-      front_cut (a == 37) a (escaped (high ∷ low ∷ rest)) (escaped (high ∷ low ∷ rest)) (unescaped (rest ++ byte ∷ back))
-      (unescaped rest) (unescaped (high ∷ low ∷ rest ++ byte ∷ back)) (unescaped (high ∷ low ∷ rest))
-      (escape_cut (escaped (high ∷ low ∷ rest)) (unescaped (rest ++ byte ∷ back)) (unescaped rest) (cut rest))
-      (cut (high ∷ low ∷ rest)) whole
+  cut [] = chosen_false (byte == 37) (before (escaped back) (unescaped_from 2 back)) (before (Some byte) (unescaped back)) other
+  cut (a ∷ []) =
+      front_joined byte a (a == 37) (escaped (byte ∷ back)) None _ (Some []) (unescaped (byte ∷ back)) (Some [])
+      (unescaped back) (not_first back _) (cut [])
+  cut (a ∷ high ∷ []) =
+      front_joined byte a (a == 37) (escaped (high ∷ byte ∷ back)) None _ (Some []) (unescaped (high ∷ byte ∷ back))
+      (unescaped (high ∷ [])) (unescaped back) (not_second high _) (cut (high ∷ []))
+  cut (a ∷ high ∷ low ∷ rest) =
+      front_joined byte a (a == 37) (escaped (high ∷ low ∷ rest)) (escaped (high ∷ low ∷ rest))
+      (unescaped (rest ++ byte ∷ back)) (unescaped rest) (unescaped (high ∷ low ∷ rest ++ byte ∷ back))
+      (unescaped (high ∷ low ∷ rest)) (unescaped back)
+      (ap (before (escaped (high ∷ low ∷ rest))) (cut rest)
+      ∙ before_joined byte (escaped (high ∷ low ∷ rest)) (unescaped rest) (unescaped back)) (cut (high ∷ low ∷ rest))
+
+  pub leaves_whole : (front : List ℕ) → has_whole_escapes (front ++ byte ∷ back) ≡ true
+      → (has_whole_escapes front ≡ true) × (has_whole_escapes back ≡ true)
+  leaves_whole front whole = both_whole byte (unescaped front) (unescaped back) (sym (ap is_some (cut front)) ∙ whole)
 
 pub at_equals : LeavesWhole 61
-at_equals = λ front back. cut 61 back refl refl front
+at_equals = λ front back. leaves_whole 61 back refl refl front
 
 pub at_colon : LeavesWhole 58
-at_colon = λ front back. cut 58 back refl refl front
+at_colon = λ front back. leaves_whole 58 back refl refl front

@@ -1,29 +1,28 @@
--- The commands by which a line asks: their names, the words that each takes, one row a command, what
--- the words of a row stand for, and what a line asks for by them.
+-- The commands by which a line asks: their names, the words that each takes, one row a command, the
+-- fault of a line's words, and what a line asks for by them.
 use Rattle.std.specs.Prelude.{ℕ, List, Option, Result, Ok, codes, if◌then◌else◌, [], ◌∷◌, Some, None, Err, drop, map, Bool, false, find, option_map, bytes_eq}
+use Rattle.std.specs.Result.{result_ok, result_unwrap_or}
 use Rattle.kob_acl_cli.specs.Commands.{commands, faults}
 use Rattle.kob_acl_cli.specs.declared.args.CliArgs.{CliArgs}
 use Rattle.kob_acl_cli.specs.declared.commands.AclCommand.TheVariants.{Create, Delete, Describe}
 use Rattle.kob_acl_cli.specs.declared.commands.AclCommand.{AclCommand}
 use Rattle.kob_acl_cli.specs.declared.fault.CommandFault.TheVariants as options
 use Rattle.kob_acl_cli.specs.declared.fault.CommandFault.{CommandFault}
-use Rattle.kob_names.specs.declared.batch.Idem.{Idem}
 use Rattle.kob_names.specs.declared.draft.Draft.{Draft}
 use Rattle.kob_names.specs.declared.filter.BindingFilter.{BindingFilter}
 use Rattle.kob_names.specs.declared.filter.FilterPattern.TheVariants.{Any}
 use Rattle.kob_names.specs.declared.filter.FilterPattern.{FilterPattern}
-use Rattle.kob_names.specs.declared.kinds.Operation.{Operation}
-use Rattle.kob_names.specs.declared.kinds.PatternKind.{PatternKind}
-use Rattle.kob_names.specs.declared.kinds.Permission.{Permission}
-use Rattle.kob_names.specs.declared.kinds.ResourceKind.{ResourceKind}
-use Rattle.kob_names.specs.declared.record.Record.{Record}
+use Rattle.kob_names.specs.declared.kinds.Operation.TheVariants.{All}
+use Rattle.kob_names.specs.declared.kinds.PatternKind.TheVariants.{Literal}
+use Rattle.kob_names.specs.declared.kinds.Permission.TheVariants.{Allow}
+use Rattle.kob_names.specs.declared.kinds.ResourceKind.TheVariants.{Topic}
 use Rattle.kob_rights.specs.declared.event.Event.{Event}
-use Rattle.kob_rights.specs.declared.on_partitions.Before.{Before}
-use Rattle.kob_rights.specs.declared.on_partitions.Which.{Which}
+use Rattle.kob_rights.specs.declared.on_partitions.Before.TheVariants as befores
+use Rattle.kob_rights.specs.declared.on_partitions.Which.TheVariants.{End}
 use Rattle.kob_rights.specs.declared.request.Request.TheVariants as ask
 use Rattle.kob_rights.specs.declared.request.Request.{Request}
 use Rattle.kob_script.specs.Values.{idem_of, record_of, number_of, which_of, before_of, text_of, named_principal, named_host}
-use Rattle.kob_script.specs.Reading.{found_or, both, first_kind, each, fault_in, some, ◌>>=◌}
+use Rattle.kob_script.specs.Reading.{found_or, first_kind, each, fault_in, unless_found, ◌>>=◌, BadWord, BadLine, Usage, NoAction, BadName, BadMix, NoResource, NoPrincipal, FaultKind, LineError}
 use Rattle.kob_script.specs.Words.{Word}
 use Rattle.kob_script.specs.declared.command.Command.TheVariants.{CreateTopic, DeleteTopic, Metadata, Produce, Fetch, ListOffsets, DeleteRecords, InitProducer, Commit, Committed, Groups, DeleteGroup, CreateAcl, DescribeAcls, DeleteAcls}
 use Rattle.kob_script.specs.declared.command.Command.{Command}
@@ -31,10 +30,7 @@ use Rattle.kob_script.specs.declared.command.Place.TheVariants.{One, OrDash, OrN
 use Rattle.kob_script.specs.declared.command.Place.{Place}
 use Rattle.kob_script.specs.declared.command.Slot.TheVariants as slot
 use Rattle.kob_script.specs.declared.command.Slot.{Slot}
-use Rattle.kob_script.specs.declared.fault.FaultKind.TheVariants.{BadWord, BadLine, Usage, NoAction, BadName, BadMix, NoResource, NoPrincipal}
-use Rattle.kob_script.specs.declared.fault.FaultKind.{FaultKind}
 use Rattle.kob_script.specs.declared.fault.LineError.TheVariants as line_error
-use Rattle.kob_script.specs.declared.fault.LineError.{LineError}
 use Rattle.kob_words.specs.Operation.{operation_named}
 use Rattle.kob_words.specs.Pattern.{filter_pattern_named, pattern_named}
 use Rattle.kob_words.specs.Permission.{permission_named}
@@ -99,105 +95,43 @@ row CreateAcl =
 row DescribeAcls = filter_row
 row DeleteAcls = filter_row
 
--- the words after `acl`
-abbrev pub acl_row : List Place
-acl_row = Texts ∷ []
-
--- the row of a command's word, in lower case only
+-- the row of a command's word, in lower case only; the words after `acl` are texts
 abbrev pub row_named : List ℕ → Option (List Place)
-row_named name = if bytes_eq name (codes "acl") then Some acl_row else option_map row (command_named name)
+row_named name =
+    if bytes_eq name (codes "acl") then Some (Texts ∷ []) else option_map row (command_named name)
 
--- what a word stands for in a slot
-abbrev pub Value : Slot → Type 0
-Value slot.Text = List ℕ
-Value slot.Principal = List ℕ
-Value slot.Host = List ℕ
-Value slot.Number = ℕ
-Value slot.StartOrEnd = Which
-Value slot.OffsetOrEnd = Before
-Value slot.Producer = Option Idem
-Value slot.Permission = Permission
-Value slot.Operation = Operation
-Value slot.Resource = ResourceKind
-Value slot.Pattern = PatternKind
-Value slot.FilterPattern = FilterPattern
-
-abbrev pub value_of : (at : Slot) → Word → Result (Value at) FaultKind
-value_of slot.Text word = text_of word
-value_of slot.Principal word = named_principal word
-value_of slot.Host word = named_host word
-value_of slot.Number word = number_of word
-value_of slot.StartOrEnd word = which_of word
-value_of slot.OffsetOrEnd word = before_of word
-value_of slot.Producer word = idem_of word
-value_of slot.Permission word = known permission_named word
-value_of slot.Operation word = known operation_named word
-value_of slot.Resource word = known resource_named word
-value_of slot.Pattern word = known pattern_named word
-value_of slot.FilterPattern word = filter_pattern_of word
-
--- what the words stand for that a place takes
-abbrev pub PlaceValue : Place → Type 0
-PlaceValue (One at) = Value at
-PlaceValue (OrDash at) = Option (Value at)
-PlaceValue (OrNone at) = Option (Value at)
-PlaceValue Records = List Record
-PlaceValue Texts = List (List ℕ)
-
--- what the words of a row stand for
-abbrev pub Values : List Place → Type 0
-Values [] = Unit {0}
-Values (place ∷ places) = PlaceValue place × Values places
-
--- nothing for the word `-`, which has to stand without escapes
-abbrev pub unless_dash : {A : Type 0} → (Word → Result A FaultKind) → Word
-    → Result (Option A) FaultKind
-unless_dash read word = if bytes_eq word.raw (codes "-") then Ok None else some (read word)
-
--- what a place takes of the words from it on; a word too few is a fault of the line
-abbrev pub place_value : (place : Place) → List Word → Result (PlaceValue place) FaultKind
-place_value (One at) [] = Err BadLine
-place_value (One at) (word ∷ words) = value_of at word
-place_value (OrDash at) [] = Err BadLine
-place_value (OrDash at) (word ∷ words) = unless_dash (value_of at) word
-place_value (OrNone at) [] = Ok None
-place_value (OrNone at) (word ∷ words) = some (value_of at word)
-place_value Records words = Ok (map record_of words)
-place_value Texts words = each text_of words
-
--- the words that it leaves
-abbrev pub words_behind : Place → List Word → List Word
-words_behind Records words = []
-words_behind Texts words = []
-words_behind place words = drop 1 words
-
--- the words of a row, or the fault of the first kind that is in them; a word too many is one of the
--- line
-abbrev pub values_of : (places : List Place) → List Word → Result (Values places) FaultKind
-values_of [] [] = Ok tt
-values_of [] (word ∷ words) = Err BadLine
-values_of (place ∷ places) words =
-    both (place_value place words) (values_of places (words_behind place words))
-
--- the fault that a word has in a slot; by cases, as its value is of the slot's own type
+-- the fault that a word has in a slot
 abbrev pub slot_fault : Slot → Word → Option FaultKind
 slot_fault slot.Text word = fault_in (text_of word)
-slot_fault at word = fault_in (value_of at word)
-
--- the same where `-` is taken too
-abbrev pub dash_fault : Slot → Word → Option FaultKind
-dash_fault at word = if bytes_eq word.raw (codes "-") then None else slot_fault at word
+slot_fault slot.Principal word = fault_in (named_principal word)
+slot_fault slot.Host word = fault_in (named_host word)
+slot_fault slot.Number word = fault_in (number_of word)
+slot_fault slot.StartOrEnd word = fault_in (which_of word)
+slot_fault slot.OffsetOrEnd word = fault_in (before_of word)
+slot_fault slot.Producer word = fault_in (idem_of word)
+slot_fault slot.Permission word = fault_in (known permission_named word)
+slot_fault slot.Operation word = fault_in (known operation_named word)
+slot_fault slot.Resource word = fault_in (known resource_named word)
+slot_fault slot.Pattern word = fault_in (known pattern_named word)
+slot_fault slot.FilterPattern word = fault_in (filter_pattern_of word)
 
 -- the fault at a place; a word too few is one of the line
 abbrev pub place_fault : Place → List Word → Option FaultKind
 place_fault (One at) [] = Some BadLine
 place_fault (One at) (word ∷ words) = slot_fault at word
 place_fault (OrDash at) [] = Some BadLine
-place_fault (OrDash at) (word ∷ words) = dash_fault at word
+place_fault (OrDash at) (word ∷ words) =
+    if bytes_eq word.raw (codes "-") then None else slot_fault at word
 place_fault (OrNone at) [] = None
 place_fault (OrNone at) (word ∷ words) = slot_fault at word
 place_fault Records words = None
 place_fault Texts words = fault_in (each text_of words)
+
+-- the words that a place leaves
+abbrev pub words_behind : Place → List Word → List Word
+words_behind Records words = []
+words_behind Texts words = []
+words_behind place words = drop 1 words
 
 -- the fault at each place of a row; a word too many is one of the line
 abbrev pub faults_in : List Place → List Word → List (Option FaultKind)
@@ -211,7 +145,108 @@ abbrev pub row_fault : Option (List Place) → List Word → Option FaultKind
 row_fault None words = Some BadLine
 row_fault (Some places) words = first_kind (faults_in places words)
 
--- the kind of a fault of options; lack of memory is never one of theirs
+-- the row of a line: the words that tell who asks, and the row of its command
+abbrev pub asked_row : List Place → List Place
+asked_row places = One slot.Principal ∷ One slot.Host ∷ places
+
+-- the fault of a line's words, PRINCIPAL HOST COMMAND and the command's words
+abbrev pub line_fault : List Word → Option FaultKind
+line_fault (who ∷ from ∷ command ∷ words) =
+    row_fault (option_map asked_row (row_named command.decoded)) (who ∷ from ∷ words)
+line_fault _ = Some BadLine
+
+-- What a word without a fault stands for. The last value stands for a word with a fault, by which
+-- nothing is asked.
+abbrev pub value : {A : Type 0} → Result A FaultKind → A → A
+value read other = result_unwrap_or read other
+
+abbrev pub text : Word → List ℕ
+text word = value (text_of word) []
+
+abbrev pub number : Word → ℕ
+number word = value (number_of word) 0
+
+-- a part of a filter: nothing for the word `-`, which has to stand without escapes
+abbrev pub unless_dash : {A : Type 0} → Result A FaultKind → Word → Option A
+unless_dash read word = if bytes_eq word.raw (codes "-") then None else result_ok read
+
+abbrev pub filter_by : Word → Word → Word → Word → Word → Word → Word → BindingFilter
+filter_by resource name pattern who from operation permission = record {
+  resource = unless_dash (known resource_named resource) resource;
+  name = unless_dash (text_of name) name;
+  pattern = value (filter_pattern_of pattern) Any;
+  principal = unless_dash (named_principal who) who;
+  host = unless_dash (named_host from) from;
+  operation = unless_dash (known operation_named operation) operation;
+  permission = unless_dash (known permission_named permission) permission;
+}
+
+abbrev pub draft_by : Word → Word → Word → Word → Word → Word → Word → Draft
+draft_by permission who from operation resource kind name = record {
+  permission = value (known permission_named permission) Allow;
+  principal = value (named_principal who) [];
+  host = value (named_host from) [];
+  operation = value (known operation_named operation) All;
+  resource = value (known resource_named resource) Topic;
+  pattern = record { kind = value (known pattern_named kind) Literal; name = text name };
+}
+
+-- what a command asks for by the words after it, which have no fault
+unfoldable pub request_of : Command → List Word → Request
+request_of CreateTopic (name ∷ partitions ∷ []) =
+    ask.CreateTopics (record { name = text name; partitions = number partitions })
+request_of DeleteTopic (name ∷ []) = ask.DeleteTopics (record { name = text name })
+request_of Metadata [] = ask.Metadata (record { topic = None })
+request_of Metadata (name ∷ []) = ask.Metadata (record { topic = Some (text name) })
+request_of Produce (topic ∷ partition ∷ idem ∷ records) =
+    ask.Produce (record {
+      topic = text topic;
+      partition = number partition;
+      batch = record { idem = value (idem_of idem) None; records = map record_of records };
+    })
+request_of Fetch (topic ∷ partition ∷ offset ∷ max ∷ []) =
+    ask.Fetch (record {
+      topic = text topic;
+      partition = number partition;
+      offset = number offset;
+      max = number max;
+    })
+request_of ListOffsets (topic ∷ partition ∷ which ∷ []) =
+    ask.ListOffsets (record {
+      topic = text topic;
+      partition = number partition;
+      which = value (which_of which) End;
+    })
+request_of DeleteRecords (topic ∷ partition ∷ before ∷ []) =
+    ask.DeleteRecords (record {
+      topic = text topic;
+      partition = number partition;
+      before = value (before_of before) befores.End;
+    })
+request_of InitProducer words = ask.InitProducerId
+request_of Commit (group ∷ topic ∷ partition ∷ offset ∷ []) =
+    ask.OffsetCommit (record {
+      group = text group;
+      topic = text topic;
+      partition = number partition;
+      offset = number offset;
+    })
+request_of Committed (group ∷ topic ∷ partition ∷ []) =
+    ask.OffsetFetch
+    (record { group = text group; topic = text topic; partition = number partition })
+request_of DeleteGroup (group ∷ []) = ask.DeleteGroups (record { group = text group })
+request_of CreateAcl (permission ∷ who ∷ from ∷ operation ∷ resource ∷ kind ∷ name ∷ []) =
+    ask.CreateAcls
+    (record { drafts = draft_by permission who from operation resource kind name ∷ [] })
+request_of DescribeAcls (resource ∷ name ∷ pattern ∷ who ∷ from ∷ operation ∷ permission ∷ []) =
+    ask.DescribeAcls
+    (record { filter = filter_by resource name pattern who from operation permission })
+request_of DeleteAcls (resource ∷ name ∷ pattern ∷ who ∷ from ∷ operation ∷ permission ∷ []) =
+    ask.DeleteAcls
+    (record { filter = filter_by resource name pattern who from operation permission })
+request_of _ words = ask.ListGroups
+
+-- the kind of a fault of options; out of memory is never one of theirs
 abbrev pub kind_of : CommandFault → FaultKind
 kind_of options.NoAction = NoAction
 kind_of (options.BadName word) = BadName
@@ -230,129 +265,45 @@ abbrev pub unless_faults : List CommandFault → List AclCommand → Result (Lis
 unless_faults [] made = Ok made
 unless_faults (fault ∷ others) made = Err (kind_of fault)
 
--- the commands of options
-abbrev pub commands_in : CliArgs → Result (List AclCommand) FaultKind
-commands_in args = unless_faults (faults args) (commands args)
-
--- the commands of clap's answer: options, or nothing where it refuses the words
+-- the commands of clap's answer: options, or nothing if it refuses the words
 abbrev pub acl_commands : Option CliArgs → Result (List AclCommand) FaultKind
-acl_commands answer = found_or Usage answer >>= commands_in
+acl_commands None = Err Usage
+acl_commands (Some args) = unless_faults (faults args) (commands args)
 
 abbrev pub acl_request : AclCommand → Request
 acl_request (Create drafts) = ask.CreateAcls (record { drafts = drafts })
 acl_request (Delete filter) = ask.DeleteAcls (record { filter = filter })
 acl_request (Describe filter) = ask.DescribeAcls (record { filter = filter })
 
--- the filter that the words of its row stand for
-abbrev pub filter_by : Values filter_row → BindingFilter
-filter_by (resource, (name, (pattern, (principal, (host, (operation, (permission, end))))))) =
-    record {
-      resource = resource;
-      name = name;
-      pattern = pattern;
-      principal = principal;
-      host = host;
-      operation = operation;
-      permission = permission;
-    }
+-- what `acl` asks for by clap's answer to the words after it
+abbrev pub acl_requests : Option CliArgs → Result (List Request) FaultKind
+acl_requests answer = acl_commands answer >>= λ commands. Ok (map acl_request commands)
 
--- the binding that the words of its row stand for
-abbrev pub draft_by : Values (row CreateAcl) → Draft
-draft_by (permission, (principal, (host, (operation, (resource, (kind, (name, end))))))) =
-    record {
-      permission = permission;
-      principal = principal;
-      host = host;
-      operation = operation;
-      resource = resource;
-      pattern = record { kind = kind; name = name };
-    }
+-- the events by which the principal and the host of a line ask
+abbrev pub events_by : List ℕ → List ℕ → List Request → List Event
+events_by principal host requests =
+    map (λ request. record { principal = principal; host = host; request = request }) requests
 
--- the request of a command, by what its words stand for
-abbrev pub request_by : (command : Command) → Values (row command) → Request
-request_by CreateTopic (name, (partitions, end)) =
-    ask.CreateTopics (record { name = name; partitions = partitions })
-request_by DeleteTopic (name, end) = ask.DeleteTopics (record { name = name })
-request_by Metadata (topic, end) = ask.Metadata (record { topic = topic })
-request_by Produce (topic, (partition, (idem, (records, end)))) =
-    ask.Produce (record {
-      topic = topic;
-      partition = partition;
-      batch = record { idem = idem; records = records };
-    })
-request_by Fetch (topic, (partition, (offset, (max, end)))) =
-    ask.Fetch (record { topic = topic; partition = partition; offset = offset; max = max })
-request_by ListOffsets (topic, (partition, (which, end))) =
-    ask.ListOffsets (record { topic = topic; partition = partition; which = which })
-request_by DeleteRecords (topic, (partition, (before, end))) =
-    ask.DeleteRecords (record { topic = topic; partition = partition; before = before })
-request_by InitProducer end = ask.InitProducerId
-request_by Commit (group, (topic, (partition, (offset, end)))) =
-    ask.OffsetCommit
-    (record { group = group; topic = topic; partition = partition; offset = offset })
-request_by Committed (group, (topic, (partition, end))) =
-    ask.OffsetFetch (record { group = group; topic = topic; partition = partition })
-request_by Groups end = ask.ListGroups
-request_by DeleteGroup (group, end) = ask.DeleteGroups (record { group = group })
-request_by CreateAcl values = ask.CreateAcls (record { drafts = draft_by values ∷ [] })
-request_by DescribeAcls values = ask.DescribeAcls (record { filter = filter_by values })
-request_by DeleteAcls values = ask.DeleteAcls (record { filter = filter_by values })
+-- the events by which the words of a line ask for these requests
+abbrev pub asking : Word → Word → Result (List Request) FaultKind → Result (List Event) FaultKind
+asking who from read =
+    read >>= λ requests. Ok
+    (events_by (value (named_principal who) []) (value (named_host from) []) requests)
 
--- what a command asks for by the words after it; by cases, as their values are of its own type
-unfoldable pub request_of : Command → List Word → Result Request FaultKind
-request_of InitProducer words = values_of [] words >>= λ values. Ok (request_by InitProducer values)
-request_of command words = values_of (row command) words >>= λ values. Ok (request_by command values)
-
--- what the words of a filter ask for
-abbrev pub filter_with : (BindingFilter → Request) → List Word → Result Request FaultKind
-filter_with ask words = values_of filter_row words >>= λ values. Ok (ask (filter_by values))
-
--- what is read of a line behind the words that tell who asks
-abbrev pub asking : {A : Type 0} → Word → Word → Result A FaultKind
-    → Result (List ℕ × (List ℕ × A)) FaultKind
-asking who from read = both (named_principal who) (both (named_host from) read)
-
--- the event that a principal at a host asks for something, and those by the commands of `acl`
-abbrev pub event_by : List ℕ → List ℕ → Request → Event
-event_by principal host request = record { principal = principal; host = host; request = request }
-
-abbrev pub events_by : List ℕ → List ℕ → List AclCommand → List Event
-events_by principal host commands =
-    map (λ request. event_by principal host request) (map acl_request commands)
-
--- what a command other than `acl` asks for
-abbrev pub command_events : Option Command → Word → Word → List Word
-    → Result (List Event) FaultKind
-command_events None who from words = Err BadLine
-command_events (Some command) who from words =
-    asking who from (request_of command words)
-    >>= λ asked. Ok (event_by asked.0 asked.1.0 asked.1.1 ∷ [])
-
--- what `acl` asks for by clap's answer to the words after it, which are texts: any number of events
-abbrev pub acl_events : Option CliArgs → Word → Word → List Word → Result (List Event) FaultKind
-acl_events answer who from words =
-    asking who from (values_of acl_row words) >>= λ asked. acl_commands answer
-    >>= λ commands. Ok (events_by asked.0 asked.1.0 commands)
+-- what the words of a line ask for, which have no fault; by `acl`, the options may have one
+unfoldable pub asked_by : Option CliArgs → List Word → Result (List Event) FaultKind
+asked_by answer (who ∷ from ∷ command ∷ words) =
+    asking who from (if bytes_eq command.decoded (codes "acl") then acl_requests answer
+    else (found_or BadLine (command_named command.decoded)
+    >>= λ named. Ok (request_of named words ∷ [])))
+asked_by answer _ = Err BadLine
 
 -- a line asks by `acl`
 abbrev pub asks_by_acl : List Word → Bool
 asks_by_acl (principal ∷ host ∷ command ∷ words) = bytes_eq command.decoded (codes "acl")
 asks_by_acl _ = false
 
--- the events of a line, PRINCIPAL HOST COMMAND and the command's words, by clap's answer to those of
--- `acl`; or the line's fault, that of the first kind that is in its words
+-- the events of a line, by clap's answer to the words after `acl`; or the line's fault, that of its
+-- words before that of options
 unfoldable pub events_of : Option CliArgs → List Word → Result (List Event) FaultKind
-events_of answer (who ∷ from ∷ command ∷ words) =
-    if bytes_eq command.decoded (codes "acl") then acl_events answer who from words
-    else command_events (command_named command.decoded) who from words
-events_of answer _ = Err BadLine
-
--- a row behind the words that tell who asks
-abbrev pub asked_row : List Place → List Place
-asked_row places = One slot.Principal ∷ One slot.Host ∷ places
-
--- the fault of a line's words, by the row of its command
-abbrev pub line_fault : List Word → Option FaultKind
-line_fault (who ∷ from ∷ command ∷ words) =
-    row_fault (option_map asked_row (row_named command.decoded)) (who ∷ from ∷ words)
-line_fault _ = Some BadLine
+events_of answer words = unless_found (line_fault words) (asked_by answer words)

@@ -12,10 +12,9 @@ use Rattle.kob_rights.specs.declared.reply.Body.{Body}
 use Rattle.kob_rights.specs.declared.reply.Reply.TheVariants.{Denied, Refused, Done}
 use Rattle.kob_rights.specs.declared.reply.Reply.{Reply}
 use Rattle.kob_script.specs.declared.fault.Fault.{Fault}
-use Rattle.kob_script.specs.declared.fault.FaultKind.TheVariants.{BadEscape, LateSetting, BadLine, BadText, BadPrincipal, BadHost, BadNumber, BadWord, Usage, NoAction, BadName, BadMix, NoResource, NoPrincipal}
-use Rattle.kob_script.specs.declared.fault.FaultKind.{FaultKind}
 use Rattle.kob_words.specs.PrintedBinding.{binding_text}
 use Rattle.kob_words.specs.PrintedText.{bytes_text}
+use Rattle.kob_script.specs.Reading.{BadEscape, LateSetting, BadLine, BadText, BadPrincipal, BadHost, BadNumber, BadWord, Usage, NoAction, BadName, BadMix, NoResource, NoPrincipal, FaultKind}
 
 -- an item of a list, after a space
 abbrev pub serial_item : ℕ → List ℕ
@@ -98,7 +97,7 @@ replies_text number (reply ∷ replies) = reply_text number reply ++ replies_tex
 abbrev pub text_of_replies : List Reply → List ℕ
 text_of_replies replies = replies_text 1 replies
 
--- the line for a run that memory stopped after some requests
+-- the line for a run that stopped after some requests, out of memory
 abbrev pub stopped_text : ℕ → List ℕ
 stopped_text done = codes "stopped after " ++ decimal done ++ codes "\n"
 

@@ -1,10 +1,10 @@
 -- Reading, up to the first fault, and the order of faults: of those in a line the one whose kind
 -- comes first counts.
 use Rattle.std.specs.Prelude.{◌≡◌, ◌⊎◌, ℕ, List, [], ◌∷◌, Option, Some, None, Result, Ok, Err, nat_lt, if◌then◌else◌, ◌++◌, length}
-use Rattle.kob_script.specs.declared.fault.FaultKind.TheVariants.{BadEscape, LateSetting, BadLine, BadText, BadPrincipal, BadHost, BadNumber, BadWord, Usage, NoAction, BadName, BadMix, NoResource, NoPrincipal}
-use Rattle.kob_script.specs.declared.fault.FaultKind.{FaultKind}
-use Rattle.kob_script.specs.declared.fault.LineError.TheVariants.{Memory, Fault}
-use Rattle.kob_script.specs.declared.fault.LineError.{LineError}
+pub use Rattle.kob_script.specs.declared.fault.FaultKind.TheVariants.{BadEscape, LateSetting, BadLine, BadText, BadPrincipal, BadHost, BadNumber, BadWord, Usage, NoAction, BadName, BadMix, NoResource, NoPrincipal}
+pub use Rattle.kob_script.specs.declared.fault.FaultKind.{FaultKind}
+pub use Rattle.kob_script.specs.declared.fault.LineError.TheVariants.{Memory, Fault}
+pub use Rattle.kob_script.specs.declared.fault.LineError.{LineError}
 
 -- the place of each kind in the order in which they are looked for over a whole line
 abbrev pub rank : FaultKind → ℕ
@@ -42,13 +42,6 @@ abbrev pub IsAmong : FaultKind → List (Option FaultKind) → Type 0
 IsAmong kind [] = ⊥
 IsAmong kind (fault ∷ faults) = (fault ≡ Some kind) ⊎ IsAmong kind faults
 
--- two values, or the fault whose kind comes first
-abbrev pub both : {A B : Type 0} → Result A FaultKind → Result B FaultKind → Result (A × B) FaultKind
-both (Ok x) (Ok y) = Ok (x, y)
-both (Ok x) (Err other) = Err other
-both (Err kind) (Ok y) = Err kind
-both (Err kind) (Err other) = Err (earlier_kind kind other)
-
 -- A test of words found this fault or none, unless memory ran out.
 abbrev pub Finds : Result (Unit {0}) LineError → Option FaultKind → Type 0
 Finds (Ok done) fault = fault ≡ None
@@ -62,7 +55,7 @@ abbrev pub ◌>>=◌ : {A B : Type 0} → Result A FaultKind → (A → Result B
 (Ok x) >>= f = f x
 (Err kind) >>= f = Err kind
 
--- A function failed with the fault of reading, or by lack of memory.
+-- A function failed with the fault of reading, or out of memory.
 abbrev pub Fails : {A : Type 0} → LineError → Result A FaultKind → Type 0
 Fails Memory read = Unit {0}
 Fails (Fault kind) read = read ≡ Err kind
@@ -110,8 +103,3 @@ counted read = read >>= λ items. Ok (length items)
 abbrev pub found_or : {A : Type 0} → FaultKind → Option A → Result A FaultKind
 found_or kind None = Err kind
 found_or kind (Some x) = Ok x
-
--- a value that is there
-abbrev pub some : {A : Type 0} → Result A FaultKind → Result (Option A) FaultKind
-some (Ok x) = Ok (Some x)
-some (Err kind) = Err kind

@@ -6,7 +6,7 @@ use Rattle.std.specs.Prelude.{◌≡◌, ◌+◌, ℕ, List, [], ◌∷◌, ◌+
 use Rattle.kob_acl_cli.specs.declared.args.CliArgs.{CliArgs}
 use Rattle.kob_rights.specs.declared.event.Event.{Event}
 use Rattle.kob_script.specs.Script.{after_acl, lines_in, is_setting}
-use Rattle.kob_script.specs.CommandLines.{events_of}
+use Rattle.kob_script.specs.CommandLines.{asked_by}
 use Rattle.kob_script.specs.Words.{Word, words_of}
 use Rattle.kob_script.specs.declared.blocks.Blocks.{Blocks}
 use Rattle.kob_script.specs.declared.requests.Requests.TheInside.{Inside}
@@ -28,29 +28,27 @@ rest_of blocks = drop blocks.at blocks.front
 abbrev pub lines_left : Blocks → List (List ℕ)
 lines_left blocks = lines_in (rest_of blocks) ++ lines_in_blocks blocks.later.items
 
--- the lines that were not read and the blocks behind the one at the front
+-- the number of lines that were not read and of blocks after the one at the front
 abbrev pub steps_left : Blocks → ℕ
 steps_left blocks = length (lines_left blocks) + length blocks.later.items
 
--- the words of a line, none where it has a fault
+-- the words of a line, none if it has an escape that is not whole
 abbrev pub line_words : List ℕ → List Word
 line_words line = result_unwrap_or (words_of line) []
 
--- what words ask for, by clap's answer to them: a setting asks for nothing, and neither does what
--- has a fault
+-- what words without a fault ask for, by clap's answer to them; a setting asks for nothing
 abbrev pub requests_of : Option CliArgs → List Word → List Event
 requests_of answer [] = []
 requests_of answer (first ∷ arguments) =
-    if is_setting first then [] else result_unwrap_or (events_of answer (first ∷ arguments)) []
+    if is_setting first then [] else result_unwrap_or (asked_by answer (first ∷ arguments)) []
 
 -- words of which clap is asked
 abbrev pub asks_clap : List Word → Bool
 asks_clap words = is_some (after_acl words)
 
--- the first of the answers that are left, by which words are read; of others than those of which
--- clap was asked it tells nothing
-abbrev pub first_answer : List (Option CliArgs) → Option CliArgs
-first_answer answers = slice_index_or answers 0 None
+-- the answer by which words are read: the first of those that are left, if clap was asked
+abbrev pub first_answer : List Word → List (Option CliArgs) → Option CliArgs
+first_answer words answers = if asks_clap words then slice_index_or answers 0 None else None
 
 -- the answers that are left after words
 abbrev pub answers_after : List Word → List (Option CliArgs) → List (Option CliArgs)
@@ -60,7 +58,7 @@ answers_after words answers = if asks_clap words then drop 1 answers else answer
 unfoldable pub requests_in : List (List ℕ) → List (Option CliArgs) → List Event
 requests_in [] answers = []
 requests_in (line ∷ lines) answers =
-    requests_of (first_answer answers) (line_words line)
+    requests_of (first_answer (line_words line) answers) (line_words line)
     ++ requests_in lines (answers_after (line_words line) answers)
 
 -- the requests that were not given: those of the line that was read last, and of the lines after it

@@ -1,18 +1,16 @@
 -- A script: settings, and then requests, a line each; and what it may be read as, by what clap may
 -- answer to its `acl` lines.
 use Rattle.std.specs.List.{list_all}
-use Rattle.std.specs.Prelude.{IfOk, IfSome, ℕ, Bool, true, false, ◌||◌, List, [], ◌∷◌, ◌++◌, Result, Ok, Err, codes, if◌then◌else◌, bytes_eq, ◌+◌, Option, None, map, nat_lt, length, ◌≡◌, ◌&&◌, not, Some, is_none}
+use Rattle.std.specs.Prelude.{IfOk, MatchOption, ℕ, Bool, true, false, ◌||◌, List, [], ◌∷◌, ◌++◌, Result, Ok, Err, codes, if◌then◌else◌, bytes_eq, ◌+◌, Option, None, map, nat_lt, length, ◌≡◌, ◌&&◌, not, Some, is_none}
 use Rattle.bstr.specs.Text.{lines_of, without_terminator}
 use Rattle.kob_acl_cli.specs.Lines.{IsReadOf, is_taken, refusals, rows_of_line}
 use Rattle.kob_acl_cli.specs.declared.args.CliArgs.{CliArgs}
 use Rattle.kob_names.specs.declared.settings.Settings.{Settings}
 use Rattle.kob_script.specs.CommandLines.{events_of}
-use Rattle.kob_script.specs.Reading.{◌>>=◌, each}
+use Rattle.kob_script.specs.Reading.{◌>>=◌, each, BadLine, LateSetting, FaultKind}
 use Rattle.kob_script.specs.Values.{text_of, principal_of}
 use Rattle.kob_script.specs.Words.{Word, words_of}
 use Rattle.kob_script.specs.declared.fault.Fault.{Fault}
-use Rattle.kob_script.specs.declared.fault.FaultKind.TheVariants.{BadLine, LateSetting}
-use Rattle.kob_script.specs.declared.fault.FaultKind.{FaultKind}
 use Rattle.kob_script.specs.declared.fault.ScriptError.TheVariants as script_error
 use Rattle.kob_script.specs.declared.fault.ScriptError.{ScriptError}
 use Rattle.kob_script.specs.declared.script.Script.{Script}
@@ -73,22 +71,18 @@ with_words answer s (first ∷ arguments) =
 unfoldable pub with_line : Option CliArgs → Script → List ℕ → Result Script FaultKind
 with_line answer s line = words_of line >>= with_words answer s
 
--- a fault with the number of its line
-abbrev pub at_line : ℕ → Result Script FaultKind → Result Script Fault
-at_line number (Ok s) = Ok s
-at_line number (Err kind) = Err (record { line = number; kind = kind })
-
--- what comes after, unless there was a fault
-abbrev pub then_lines : Result Script Fault → (Script → Result Script Fault) → Result Script Fault
-then_lines (Ok s) f = f s
-then_lines (Err fault) f = Err fault
+-- the lines after one, whose number is given, unless that one has a fault
+abbrev pub then_lines : ℕ → Result Script FaultKind → (Script → Result Script Fault)
+    → Result Script Fault
+then_lines number (Ok next) others = others next
+then_lines number (Err kind) others = Err (record { line = number; kind = kind })
 
 -- the lines from one on, whose number is given, up to the first fault; clap is not asked, and so no
 -- `acl` line is read
 unfoldable pub lines_from : Script → ℕ → List (List ℕ) → Result Script Fault
 lines_from s number [] = Ok s
 lines_from s number (line ∷ lines) =
-    then_lines (at_line number (with_line None s line)) (λ next. lines_from next (number + 1) lines)
+    then_lines number (with_line None s line) (λ next. lines_from next (number + 1) lines)
 
 -- the lines of the bytes, without their ends
 abbrev pub lines_in : List ℕ → List (List ℕ)
@@ -114,11 +108,11 @@ after_acl (first ∷ host ∷ command ∷ arguments) =
     (codes "acl") then Some arguments else None
 after_acl _ = None
 
--- clap may have answered this to a line with these words; of other lines it isn't asked, and neither
--- about words that are no texts
+-- clap may have answered this to a line with these words; of a line that doesn't ask by `acl` it
+-- tells nothing, and it isn't asked about words that are no texts
 abbrev pub IsAnswerTo : List Word → Option CliArgs → Type 0
 IsAnswerTo words answer =
-    IfSome (after_acl words) (λ arguments.
+    MatchOption (after_acl words) (answer ≡ None) (λ arguments.
     IfOk (each text_of arguments) (λ texts. MayAnswer texts answer))
 
 -- nothing is asked of a line with an escape that is not whole

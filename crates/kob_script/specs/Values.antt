@@ -13,9 +13,7 @@ use Rattle.kob_rights.specs.declared.on_partitions.Before.{Before}
 use Rattle.kob_rights.specs.declared.on_partitions.Which.TheVariants.{Start, End}
 use Rattle.kob_rights.specs.declared.on_partitions.Which.{Which}
 use Rattle.kob_script.specs.Words.{bytes_of, Word}
-use Rattle.kob_script.specs.Reading.{◌>>=◌, unless_fault}
-use Rattle.kob_script.specs.declared.fault.FaultKind.TheVariants.{BadText, BadPrincipal, BadHost, BadLine, BadNumber}
-use Rattle.kob_script.specs.declared.fault.FaultKind.{FaultKind}
+use Rattle.kob_script.specs.Reading.{◌>>=◌, unless_fault, BadText, BadPrincipal, BadHost, BadLine, BadNumber, FaultKind}
 
 abbrev pub text_in : List ℕ → Result (List ℕ) FaultKind
 text_in bytes = if is_utf8 bytes then Ok bytes else Err BadText
@@ -42,7 +40,7 @@ named_host word = text_of word >>= host_of
 -- one or more decimal digits that write a number of 64 bits
 abbrev pub is_number : List ℕ → Bool
 is_number digits =
-    nat_lt 0 (length digits) && (all_ascii_digits digits
+    all_ascii_digits digits && (nat_lt 0 (length digits)
     && nat_lt (digits_value 10 digits) (2 ^ 64))
 
 abbrev pub number_in : List ℕ → Result ℕ FaultKind

@@ -2,9 +2,7 @@
 use Rattle.std.specs.Char.{digit_value}
 use Rattle.std.specs.List.{slice_split}
 use Rattle.std.specs.Prelude.{◌≡◌, ◌+◌, ◌*◌, ◌==◌, ◌&&◌, ℕ, zero, suc, Bool, true, List, [], ◌∷◌, ◌++◌, drop, Option, Some, None, is_some, nat_lt, unwrap_or, if◌then◌else◌, Result, Ok, ◌||◌, filter, length, slice_index, option_map}
-use Rattle.kob_script.specs.Reading.{◌>>=◌, each, found_or}
-use Rattle.kob_script.specs.declared.fault.FaultKind.TheVariants.{BadEscape}
-use Rattle.kob_script.specs.declared.fault.FaultKind.{FaultKind}
+use Rattle.kob_script.specs.Reading.{◌>>=◌, each, found_or, BadEscape, FaultKind}
 
 -- two hexadecimal digits
 abbrev pub are_hexadecimal : ℕ → ℕ → Bool
@@ -44,7 +42,7 @@ unescaped_from (suc n) (byte ∷ rest) = unescaped_from n rest
 abbrev pub unescaped : List ℕ → Option (List ℕ)
 unescaped word = unescaped_from 0 word
 
--- the bytes that a part of a word stands for; where its escapes are not whole, itself
+-- the bytes that a part of a word stands for; the part itself if its escapes are not whole
 abbrev pub bytes_of : List ℕ → List ℕ
 bytes_of part = unwrap_or (unescaped part) part
 
@@ -81,7 +79,6 @@ abbrev pub is_skipped : List (List ℕ) → Bool
 is_skipped [] = true
 is_skipped (first ∷ others) = slice_index first 0 == 35
 
--- the words of a line, none where it is skipped; an escape that is not whole is the first fault to
--- be looked for
+-- the words of a line, none if it is skipped; an escape that is not whole is the first fault
 abbrev pub words_of : List ℕ → Result (List Word) FaultKind
 words_of line = if is_skipped (raw_words line) then Ok [] else each word_of (raw_words line)

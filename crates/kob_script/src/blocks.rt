@@ -8,7 +8,7 @@ use kob_names::Bytes;
 use std::alloc::Global;
 use std::collections::VecDeque;
 
-/// Blocks, of which the one at the front was read up to a place.
+/// Blocks. The one at the front was read up to `at`.
 #[derive(Debug, Drop)]
 pub struct Blocks {
     front: Bytes,
@@ -20,7 +20,7 @@ pub struct Blocks {
 impl Blocks {
     ghost use Rattle.kob_script.specs.Requests.{lines_in_blocks, lines_left, rest_of, steps_left};
 
-    /// Blocks of which nothing was read; no memory is taken.
+    /// Blocks of which nothing was read. Does not allocate.
     #[tactic(auto, using(crate::proofs::CheckedLines::no_lines))]
     pub fn new(alloc: Global, blocks: Vec<Bytes>) -> Blocks
         ensures { lines_left result ≡ lines_in_blocks blocks.items }
@@ -32,14 +32,14 @@ impl Blocks {
         }
     }
 
-    /// The bytes of the block at the front that were not read.
+    /// The bytes of the block at the front that were not yet read.
     pub fn rest(&self) -> &[u8]
         ensures { result.now ≡ rest_of self.now }
     {
         &self.front.as_slice()[self.at..]
     }
 
-    /// Goes on behind a line that takes so many bytes.
+    /// Moves past a line of this number of bytes.
     pub fn pass(&mut self, size: usize)
         requires { self.old.at + size ≤ length self.old.front }
         ensures at { self.new.at ≡ self.old.at + size }
@@ -51,8 +51,7 @@ impl Blocks {
         self.at += size;
     }
 
-    /// Gives the memory of the block at the front back, all of which was read, and goes on to the
-    /// next block.
+    /// Frees the block at the front, which was read to its end, and moves to the next one.
     #[tactic(auto, using(crate::proofs::CheckedLines::next_block, crate::proofs::CheckedLines::fewer_steps))]
     pub fn enter_next(&mut self)
         requires read { rest_of self.old ≡ [] }
@@ -67,7 +66,7 @@ impl Blocks {
     }
 }
 
-/// A line without its end, and the number of bytes that it takes with it.
+/// A line without its end, and its number of bytes with it.
 #[derive(Drop)]
 pub struct Line<'a> {
     pub text: &'a [u8],

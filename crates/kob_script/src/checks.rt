@@ -1,4 +1,4 @@
-//! A script is checked: all its lines are read before the first request is served.
+//! The check of a script: all its lines are read before the first request is served.
 
 ghost use Rattle.std.specs.List.{concat};
 ghost use Rattle.std.specs.Prelude.{◌≡◌, ◌<◌, ◌^◌, List, length, OnOk};
@@ -37,10 +37,10 @@ struct Checking {
 }
 
 /// Checks a script in blocks of whole lines, with fewer than 2^63 bytes, in time linear in its
-/// size: what a line asks for is counted, and its bytes are held until it is served. The error is
-/// the first line with a fault, or lack of memory, which 2^64 requests count as. What the words of
-/// an `acl` line mean is answered by `clap`, and for some words what its port states leaves more
-/// than one answer open; a script without such lines has one reading.
+/// size. The requests are counted, and the blocks are kept until they are served. The error is the
+/// first line with a fault, or `Memory`, also for 2^64 requests. `clap` tells what the words of an
+/// `acl` line mean, and for some words its port may return more than one result. A script without
+/// such lines has one reading.
 pub fn check_script(alloc: Global, blocks: Vec<Bytes>) -> Result<CheckedScript, ScriptError>
     requires whole { AreWholeLines blocks.items }
     requires short { length (concat blocks.items) < 2 ^ 63 }
@@ -119,7 +119,7 @@ fn check_line(
     Ok(())
 }
 
-// Keeps the answer to words of which clap is asked, since another call may answer in another way.
+// Keeps what clap returned for the words, if it was called: another call may return another result.
 fn keep_answer(
     answers: &mut Vec<Option<CliArgs>>,
     words: &[Word<'_>],

@@ -40,8 +40,7 @@ pub enum Place {
     Texts,
 }
 
-/// What a line asks for. `acl` is not among these, since it may ask for more than one request, or
-/// none.
+/// What a line asks for. `acl` is not one of these: it may ask for any number of requests.
 #[derive(Clone, Copy, Debug, PartialEq, Eq)]
 pub enum Command {
     CreateTopic,

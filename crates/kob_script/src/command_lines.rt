@@ -1,9 +1,9 @@
-//! What a line asks for. The words after `acl` are those of `kafka-acls`, each command of which is a
-//! request of its own.
+//! What a line asks for. The words after `acl` are those of `kafka-acls`, and each of its commands is
+//! one request.
 
-ghost use Rattle.std.specs.Prelude.{◌≡◌, [], IfOk, Ok, option_map};
-ghost use Rattle.kob_script.specs.CommandLines.{acl_commands, acl_events, acl_request, asks_by_acl};
-ghost use Rattle.kob_script.specs.CommandLines.{error_of, events_by, events_of};
+ghost use Rattle.std.specs.Prelude.{◌≡◌, [], IfOk, Ok, option_map, map};
+ghost use Rattle.kob_script.specs.CommandLines.{acl_commands, acl_request, acl_requests, asked_by};
+ghost use Rattle.kob_script.specs.CommandLines.{asking, asks_by_acl, error_of, events_by, events_of};
 ghost use Rattle.kob_script.specs.Reading.{Gives, GivesSeen, counted};
 ghost use Rattle.kob_script.specs.Requests.{asks_clap};
 ghost use Rattle.kob_script.specs.Script.{after_acl, IsAnswerTo};
@@ -22,7 +22,7 @@ use std::alloc::{AllocError, Global};
 use std::collections::VecDeque;
 use std::marker::Model;
 
-/// The events that a line asks for, in order. One event takes no list, and so no memory.
+/// The events that a line asks for, in order. A single event needs no allocation for a list.
 #[derive(Debug, Drop)]
 pub struct Asked {
     pub first: Option<Event>,
@@ -40,7 +40,7 @@ impl Model for Asked {
 }
 
 impl Asked {
-    /// No event; no memory is taken.
+    /// No event. Does not allocate.
     pub fn nothing(alloc: Global) -> Asked
         ensures { result ≡ [] }
     {
@@ -51,8 +51,8 @@ impl Asked {
     }
 }
 
-/// How many events a line's words ask for, by `clap`'s answer to those of `acl`. The fault is that
-/// of the words, or of `acl`'s options; no event is made.
+/// The number of events that a line's words ask for, by `clap`'s answer to those of `acl`. The fault
+/// is that of the words, or of the options of `acl`. No event is made.
 #[tactic(auto, using(crate::proofs::LineFaults::line_counted, crate::proofs::LineFaults::count_fails))]
 pub fn count_of(
     alloc: Global,
@@ -70,7 +70,7 @@ pub fn count_of(
 }
 
 /// The events of a line's words, in order, by `clap`'s answer to those of `acl`.
-#[tactic(auto, using(crate::proofs::LineFaults::uncounted))]
+#[tactic(auto, using(crate::proofs::LineFaults::uncounted, crate::proofs::LineFaults::were_asked))]
 pub fn events_of(
     alloc: Global,
     words: &[Word<'_>],
@@ -85,20 +85,20 @@ pub fn events_of(
     }
 }
 
-/// The same of words that have no fault, so that the error is out of memory.
-#[tactic(auto, unfolding(crate::specs::CommandLines::events_of))]
+/// The events of words without a fault, in order. The error is then out of memory.
+#[tactic(auto, unfolding(crate::specs::CommandLines::asked_by))]
 pub fn events_in(
     alloc: Global,
     words: &[Word<'_>],
     answer: &Option<CliArgs>,
 ) -> Result<Asked, LineError>
-    ensures { IfOk result (λ asked. events_of answer.now words.now ≡ Ok asked) }
+    ensures { IfOk result (λ asked. asked_by answer.now words.now ≡ Ok asked) }
 {
     let [principal, host, command, arguments @ ..] = words else {
         return Err(LineError::Fault(FaultKind::BadLine));
     };
     if command.decoded() == b"acl".as_slice() {
-        let events = acl_events(alloc, principal, host, arguments, answer)?;
+        let events = acl_events(alloc, principal, host, answer)?;
         return Ok(Asked {
             first: None,
             others: VecDeque::from(events),
@@ -131,21 +131,19 @@ fn acl_events(
     alloc: Global,
     principal: &Word<'_>,
     host: &Word<'_>,
-    arguments: &[Word<'_>],
     answer: &Option<CliArgs>,
 ) -> Result<Vec<Event>, LineError>
     ensures { IfOk result (λ events.
-        acl_events answer.now principal.now host.now arguments.now ≡ Ok events.items) }
+        asking principal.now host.now (acl_requests answer.now) ≡ Ok events.items) }
 {
-    texts_of(alloc, arguments)?;
     let commands = acl_commands(alloc, answer)?;
     let principal = named_principal(alloc, principal)?;
     let host = named_host(alloc, host)?;
     Ok(events_by(alloc, &principal, &host, commands)?)
 }
 
-/// What `clap` answers to a line's words: the options of `acl`, or nothing where it refuses them,
-/// where they are no texts and where the line doesn't ask by `acl`. The error is out of memory.
+/// What `clap` answers to a line's words: the options of `acl`. `None` if it refuses them, if they
+/// are not UTF-8, or if the line does not ask by `acl`. The error is out of memory.
 pub fn answer_to(alloc: Global, words: &[Word<'_>]) -> Result<Option<CliArgs>, AllocError>
     ensures { IfOk result (λ answer. IsAnswerTo words.now answer) }
 {
@@ -171,7 +169,7 @@ pub fn asks_clap(words: &[Word<'_>]) -> bool
     after_acl(words).is_some()
 }
 
-// The words after `acl`, where a line that is no setting asks by it.
+// The words after `acl`, if the line asks by it and is no setting.
 fn after_acl<'w, 'l>(words: &'w [Word<'l>]) -> Option<&'w [Word<'l>]>
     ensures { option_map (λ arguments. arguments.now) result ≡ after_acl words.entry.now }
 {
@@ -182,8 +180,7 @@ fn after_acl<'w, 'l>(words: &'w [Word<'l>]) -> Option<&'w [Word<'l>]>
     }
 }
 
-/// The commands of what `clap` answers to the words of a line: options, or nothing where it refuses
-/// them.
+/// The commands of `clap`'s answer to the words of a line. The fault is `Usage` for `None`.
 #[tactic(auto, using(crate::proofs::LineFaults::fails_first_of))]
 fn acl_commands(alloc: Global, answer: &Option<CliArgs>) -> Result<Vec<AclCommand>, LineError>
     ensures { GivesSeen (λ commands. commands.items) result (acl_commands answer.now) }
@@ -210,15 +207,15 @@ fn error_of(fault: &CommandFault) -> LineError
     }
 }
 
-/// The events that a principal at a host asks for commands, one each.
+/// The events by which a principal at a host asks for commands, one each.
 fn events_by(
     alloc: Global,
     principal: &Principal,
     host: &Host,
     commands: Vec<AclCommand>,
 ) -> Result<Vec<Event>, AllocError>
-    ensures { IfOk result (λ events.
-        events.items ≡ events_by principal.now host.now commands.items) }
+    ensures { IfOk result (λ events. events.items
+        ≡ events_by principal.now host.now (map acl_request commands.items)) }
 {
     let mut events = Vec::new(alloc);
     for command in commands {

@@ -7,8 +7,8 @@ ghost use Rattle.kob_script.specs.declared.fault.ScriptError.TheVariants as scri
 use std::alloc::{AllocError, AllocFailed};
 use thiserror::Error;
 
-/// What is wrong with a line. The kinds are in the order in which they are looked for over a
-/// whole line.
+/// What is wrong with a line. The variants are in the order in which a whole line is searched for
+/// them.
 #[derive(Clone, Copy, Debug, PartialEq, Eq, Error)]
 pub enum FaultKind {
     #[error("a percent sign without two hexadecimal digits")]
@@ -49,7 +49,7 @@ pub struct Fault {
     pub kind: FaultKind,
 }
 
-/// Why a script was not read: its first fault, or lack of memory.
+/// Why a script was not read: its first fault, or out of memory.
 #[derive(Clone, Copy, Debug, PartialEq, Eq, Error)]
 pub enum ScriptError {
     #[error("out of memory")]

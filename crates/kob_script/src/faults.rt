@@ -17,7 +17,7 @@ use crate::words::Word;
 use kob_words::{operation_named, pattern_named, permission_named, resource_named};
 use std::alloc::Global;
 
-/// Tests the words of a line, and makes nothing of them.
+/// Checks the words of a line.
 pub fn check_line(alloc: Global, words: &[Word<'_>]) -> Result<(), LineError>
     ensures { Finds result (line_fault words.now) }
 {
@@ -35,7 +35,7 @@ pub fn check_line(alloc: Global, words: &[Word<'_>]) -> Result<(), LineError>
     )
 }
 
-// Tests words by the places of a row, of which there are few.
+// Checks words by the places of a row. Recursive: a row has at most seven.
 fn check_words(alloc: Global, places: &[Place], words: &[Word<'_>]) -> Result<(), LineError>
     ensures { Finds result (first_kind (faults_in places.now words.now)) }
 {
@@ -90,7 +90,7 @@ fn first_error(one: Result<(), LineError>, other: Result<(), LineError>) -> Resu
     }
 }
 
-// The variants stand in the order of the kinds.
+// The variants are in the order of the kinds.
 fn earlier_kind(kind: FaultKind, other: FaultKind) -> FaultKind
     ensures { result ≡ earlier_kind kind other }
 {
@@ -101,7 +101,7 @@ fn earlier_kind(kind: FaultKind, other: FaultKind) -> FaultKind
     }
 }
 
-// Whether something was read, which is dropped.
+// Drops what was read, and keeps the error.
 fn tested<T: Drop>(read: Result<T, LineError>) -> Result<(), LineError>
     ensures { (told : Result T kinds.FaultKind) → Gives read told → Finds result (fault_in told) }
 {

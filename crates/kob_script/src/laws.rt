@@ -1,4 +1,4 @@
-//! What follows of the definitions.
+//! What follows from the definitions.
 
 ghost use Rattle.std.specs.Prelude.{◌≡◌, ◌≤◌, ℕ, List, Option, Some, None, Result, Ok, Err, false};
 ghost use Rattle.kob_acl_cli.specs.declared.args.CliArgs.{CliArgs};
@@ -12,7 +12,7 @@ ghost use Rattle.kob_script.specs.declared.fault.FaultKind.{FaultKind};
 ghost use Rattle.kob_script.specs.declared.script.Script.{Script};
 ghost use Rattle.kob_script.specs.declared.command.Place.{Place};
 
-/// A script without `acl` lines may be read in one way alone.
+/// A script without `acl` lines has only one reading.
 #[tactic(auto, using(crate::proofs::CheckedLines::one_reading))]
 pub fn plain_scripts_have_one_reading()
     ensures { (text : List ℕ) (read : Result Script Fault)
@@ -21,9 +21,9 @@ pub fn plain_scripts_have_one_reading()
     // By the definitions.
 }
 
-/// Over a whole line faults come in the order of their kinds: the fault of the words of a row is one
-/// that some word has, and no word has one of a kind that comes before. A line whose words have a
-/// fault is read as that fault; one other than of `acl` whose words have none asks for one thing.
+/// Over a whole line, faults come in the order of their kinds. The fault of the words of a row is one
+/// that some word has, and no word has one of an earlier kind. A line whose words have a fault is
+/// read as that fault. A line whose words have none asks for one event, unless it asks by `acl`.
 pub fn faults_come_in_their_order()
     ensures found { (places : List Place) (words : List Word) (kind : FaultKind)
         → row_fault (Some places) words ≡ Some kind → IsAmong kind (faults_in places words) }
@@ -40,8 +40,8 @@ pub fn faults_come_in_their_order()
     // By the definitions.
 }
 
-/// A cut at `=` or at `:` leaves each escape whole, so that the parts of a record and the numbers
-/// of an idempotent producer are read as they are in their word.
+/// A cut at `=` or at `:` leaves each escape whole. So the parts of a record and the numbers of a
+/// producer are read as they are in their word.
 #[tactic(auto, using(crate::proofs::LineWords::at_equals, crate::proofs::LineWords::at_colon))]
 pub fn cuts_leave_whole_escapes()
     ensures equals { LeavesWhole 61 }

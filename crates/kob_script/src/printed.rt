@@ -14,8 +14,8 @@ use kob_rights::{Body, Code, Reply};
 use kob_words::{print_binding, push_bytes, push_number};
 use std::alloc::AllocError;
 
-/// Prints a reply behind its number, with a line feed after it. The error is out of memory; `out`
-/// has then grown by a part of it.
+/// Prints the number of a reply, the reply and a line feed. The error is out of memory; `out` then
+/// ends with a part of them.
 pub fn print_reply(out: &mut Vec<u8>, number: u64, reply: &Reply) -> Result<(), AllocError>
     ensures { OnOk result (out.new.items ≡ out.old.items ++ reply_text number reply.now) }
 {
@@ -25,7 +25,7 @@ pub fn print_reply(out: &mut Vec<u8>, number: u64, reply: &Reply) -> Result<(), 
 }
 
 /// Prints a reply without a number or a line feed: `ok ..`, `denied ..` or `refused ..`. The error is
-/// out of memory; `out` has then grown by a part of it.
+/// out of memory; `out` then ends with a part of it.
 pub fn push_outcome(out: &mut Vec<u8>, reply: &Reply) -> Result<(), AllocError>
     ensures { OnOk result (out.new.items ≡ out.old.items ++ outcome_text reply.now) }
 {
@@ -187,8 +187,8 @@ fn push_groups(out: &mut Vec<u8>, groups: &[Text]) -> Result<(), AllocError>
     Ok(())
 }
 
-/// Prints the line `fault line LINE KIND` with its line feed. The error is out of memory; `out`
-/// has then grown by a part of it.
+/// Prints the line `fault line LINE KIND` with its line feed. The error is out of memory; `out` then
+/// ends with a part of it.
 pub fn print_fault(out: &mut Vec<u8>, fault: Fault) -> Result<(), AllocError>
     ensures { OnOk result (out.new.items ≡ out.old.items ++ fault_text fault) }
 {

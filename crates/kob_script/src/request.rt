@@ -1,11 +1,10 @@
-//! The request of a command, by the words after it, which have no fault.
+//! The request of a command, from the words after it, which have no fault.
 #![tactic(auto, unfolding(crate::specs::CommandLines::request_of))]
 
-ghost use Rattle.std.specs.Prelude.{◌≡◌, IfOk, Result, Ok, codes, if◌then◌else◌, bytes_eq};
-ghost use Rattle.kob_names.specs.declared.filter.BindingFilter as names;
-ghost use Rattle.kob_rights.specs.declared.request.Request as requests;
-ghost use Rattle.kob_script.specs.CommandLines.{filter_with, request_of};
-ghost use Rattle.kob_script.specs.Reading.{Gives, some};
+ghost use Rattle.std.specs.Prelude.{◌≡◌, IfOk, Result};
+ghost use Rattle.kob_rights.specs.declared.request.Request.TheVariants as requests;
+ghost use Rattle.kob_script.specs.CommandLines.{request_of, unless_dash};
+ghost use Rattle.kob_script.specs.Reading.{Gives};
 ghost use Rattle.kob_script.specs.declared.command.Command.TheVariants as commands;
 ghost use Rattle.kob_script.specs.declared.fault.FaultKind as kinds;
 
@@ -26,7 +25,7 @@ use std::alloc::Global;
 
 /// What a command asks for.
 pub fn request_of(alloc: Global, command: Command, words: &[Word<'_>]) -> Result<Request, LineError>
-    ensures { IfOk result (λ made. request_of command words.now ≡ Ok made) }
+    ensures { IfOk result (λ made. made ≡ request_of command words.now) }
 {
     match (command, words) {
         (Command::CreateTopic, [name, partitions]) => Ok(Request::CreateTopics(CreateTopics {
@@ -66,7 +65,7 @@ fn request_on_offsets(
     command: Command,
     words: &[Word<'_>],
 ) -> Result<Request, LineError>
-    ensures { IfOk result (λ made. request_of command words.now ≡ Ok made) }
+    ensures { IfOk result (λ made. made ≡ request_of command words.now) }
 {
     match (command, words) {
         (Command::ListOffsets, [topic, partition, which]) => Ok(Request::ListOffsets(
@@ -102,7 +101,7 @@ fn request_on_offsets(
 
 // The requests of producers, groups and bindings.
 fn other_request(alloc: Global, command: Command, words: &[Word<'_>]) -> Result<Request, LineError>
-    ensures { IfOk result (λ made. request_of command words.now ≡ Ok made) }
+    ensures { IfOk result (λ made. made ≡ request_of command words.now) }
 {
     match (command, words) {
         (Command::InitProducer, []) => Ok(Request::InitProducerId),
@@ -123,7 +122,7 @@ fn other_request(alloc: Global, command: Command, words: &[Word<'_>]) -> Result<
 
 #[tactic(auto, using(crate::proofs::RowWords::seven), unfolding(crate::specs::CommandLines::request_of))]
 fn create_acl(alloc: Global, words: &[Word<'_>]) -> Result<Request, LineError>
-    ensures { IfOk result (λ made. request_of commands.CreateAcl words.now ≡ Ok made) }
+    ensures { IfOk result (λ made. made ≡ request_of commands.CreateAcl words.now) }
 {
     let [permission, who, from, operation, resource, pattern, name] = words else {
         return Err(LineError::Fault(FaultKind::BadLine));
@@ -145,10 +144,12 @@ fn create_acl(alloc: Global, words: &[Word<'_>]) -> Result<Request, LineError>
     Ok(Request::CreateAcls(CreateAcls { drafts }))
 }
 
-#[tactic(auto, using(crate::proofs::RowWords::seven))]
+#[tactic(auto, using(crate::proofs::RowWords::seven), unfolding(crate::specs::CommandLines::request_of))]
 fn filter_of(alloc: Global, words: &[Word<'_>]) -> Result<BindingFilter, LineError>
-    ensures { (wrap : names.BindingFilter → requests.Request)
-        → IfOk result (λ filter. filter_with wrap words.now ≡ Ok (wrap filter)) }
+    ensures describe { IfOk result (λ filter. request_of commands.DescribeAcls words.now
+        ≡ requests.DescribeAcls (record { filter = filter })) }
+    ensures delete { IfOk result (λ filter. request_of commands.DeleteAcls words.now
+        ≡ requests.DeleteAcls (record { filter = filter })) }
 {
     let [resource, name, pattern, who, from, operation, permission] = words else {
         return Err(LineError::Fault(FaultKind::BadLine));
@@ -164,10 +165,10 @@ fn filter_of(alloc: Global, words: &[Word<'_>]) -> Result<BindingFilter, LineErr
     })
 }
 
-// What was read of a word, or nothing where it is `-`.
+// What was read of a word, or nothing if it is `-`.
 fn unless_dash<T: Drop>(word: &Word<'_>, read: Result<T, LineError>) -> Result<Option<T>, LineError>
     ensures { (told : Result T kinds.FaultKind) → Gives read told
-        → Gives result (if bytes_eq word.now.raw (codes "-") then Ok None else some told) }
+        → IfOk result (λ part. part ≡ unless_dash told word.now) }
 {
     if word.is_dash() {
         return Ok(None);

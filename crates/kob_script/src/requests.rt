@@ -1,4 +1,4 @@
-//! The requests of a script that was checked, each read when it is its turn.
+//! The requests of a checked script. Each is read when it is needed.
 
 ghost use Rattle.std.specs.Prelude.{◌≡◌, ◌<◌, ◌++◌, ◌∷◌, length, IfOk, OnOk, OnErr};
 ghost use Rattle.kob_script.specs.Requests.{lines_in_blocks, lines_left, steps_left, answers_after};
@@ -15,14 +15,14 @@ use std::alloc::{AllocError, Global};
 use std::collections::VecDeque;
 use std::marker::Model;
 
-/// The requests of a script that are left, in order, and seen by contracts as their events. A
-/// request is held as its line until it is given. What `clap` answered to the words of `acl` lines
-/// is held too, since another call may answer them in another way.
+/// The requests of a script that are left, in order. Contracts see their events. A request is kept
+/// as its line until it is returned, with `clap`'s answer to an `acl` line, since another call may
+/// return another one.
 #[derive(Debug, Drop)]
 pub struct Requests {
     blocks: Blocks,
     answers: VecDeque<Option<CliArgs>>,
-    /// What the line that was read last asks for.
+    /// What the line read last asks for.
     asked: VecDeque<Event>,
     left: u64,
 }
@@ -40,8 +40,8 @@ impl Model for Requests {
 }
 
 impl Requests {
-    /// What the lines of blocks ask for, by the answers to those of `acl`, and how many requests
-    /// that is; no memory is taken.
+    /// What the lines of blocks ask for, by the answers to those of `acl`, and the number of these
+    /// requests. Does not allocate.
     pub fn new(
         alloc: Global,
         blocks: Vec<Bytes>,
@@ -59,15 +59,15 @@ impl Requests {
         }
     }
 
-    /// How many requests are left.
+    /// The number of requests that are left.
     pub fn len(&self) -> u64
         ensures { result ≡ length self.now }
     {
         self.left
     }
 
-    /// The event of the next request, of which there has to be one. A block is freed once a request
-    /// behind it is asked for. The error is out of memory, after which all that was left is left.
+    /// The event of the next request; there has to be one. A block is freed when a request after it
+    /// is read. The error is out of memory; the same requests are then left.
     pub fn next_event(&mut self, alloc: Global) -> Result<Event, AllocError>
         requires { 0 < length self.old }
         ensures next { IfOk result (λ event. self.old ≡ event ∷ self.new) }
@@ -87,7 +87,7 @@ impl Requests {
     }
 }
 
-// Reads a line, and gives what it asks for, or goes on to the next block.
+// Reads a line and returns what it asks for, or moves to the next block.
 fn read_on(
     alloc: Global,
     blocks: &mut Blocks,
@@ -110,14 +110,15 @@ fn read_on(
     Ok(asked)
 }
 
-// What a line without a fault asks for. Where clap was asked about it, the answer is removed.
+// What a line without a fault asks for. If clap was asked about it, its answer is removed.
 fn read_again(
     alloc: Global,
     line: &[u8],
     answers: &mut VecDeque<Option<CliArgs>>,
 ) -> Result<Asked, AllocError>
     ensures asked { IfOk result (λ asked. asked
-        ≡ requests_of (first_answer answers.old.items) (line_words line.now)) }
+        ≡ requests_of (first_answer (line_words line.now) answers.old.items)
+        (line_words line.now)) }
     ensures used { OnOk result (answers.new.items
         ≡ answers_after (line_words line.now) answers.old.items) }
     ensures same { OnErr result (answers.new.items ≡ answers.old.items) }
@@ -132,16 +133,19 @@ fn read_again(
     Ok(asked)
 }
 
-// What words ask for by the first answer.
+// What words ask for, by the first answer if clap was asked about them.
 fn asked_first(
     alloc: Global,
     words: &[Word<'_>],
     answers: &VecDeque<Option<CliArgs>>,
 ) -> Result<Asked, AllocError>
     ensures { IfOk result (λ asked. asked
-        ≡ requests_of (first_answer answers.now.items) words.now) }
+        ≡ requests_of (first_answer words.now answers.now.items) words.now) }
 {
     let unasked = None;
+    if !asks_clap(words) {
+        return requests_of(alloc, words, &unasked);
+    }
     requests_of(alloc, words, answers.front().unwrap_or(&unasked))
 }
 

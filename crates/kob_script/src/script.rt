@@ -1,4 +1,4 @@
-//! A script: settings, and then requests, a line each.
+//! A script: settings, and then requests, one a line.
 
 ghost use Rattle.std.specs.Prelude.{◌≡◌, ◌∷◌, [], IfOk};
 ghost use Rattle.kob_script.specs.Script.{script_of, HasNoAclLine, MayRead, Reads};
@@ -10,18 +10,17 @@ use kob_names::{Bytes, Items, Settings};
 use kob_rights::Event;
 use std::alloc::{AllocError, Global};
 
-/// What a script holds: its settings, which open no bindings, and what its lines ask for, in order.
+/// A script: its settings, without opening bindings, and what its lines ask for, in order.
 #[derive(Debug, Drop)]
 pub struct Script {
     pub settings: Settings,
     pub events: Items<Event>,
 }
 
-/// Reads a script to its end, in time linear in its size, by a copy of its bytes. Lines end with a
-/// line feed, before which one carriage return is dropped; the last line may lack it. The error is
-/// the first line with a fault, or lack of memory. What the words of an `acl` line mean is answered
-/// by `clap`, and for some words what its port states leaves more than one answer open; a script
-/// without such lines has one reading.
+/// Reads a script, of which it makes a copy, in time linear in its size. A line ends with a line
+/// feed, or with a carriage return and a line feed; the last line may have no end. The error is the
+/// first line with a fault, or `Memory`. `clap` tells what the words of an `acl` line mean, and for
+/// some words its port may return more than one result. A script without such lines has one reading.
 pub fn read_script(alloc: Global, text: &[u8]) -> Result<Script, ScriptError>
     ensures any { MayRead text.now result }
     ensures plain { HasNoAclLine text.now → Reads result (script_of text.now) }

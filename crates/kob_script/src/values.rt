@@ -21,7 +21,7 @@ use kob_rights::{Before, Which};
 use kob_words::filter_pattern_named;
 use std::alloc::{AllocError, Global};
 
-/// The text of a word, as it is there; no memory is taken.
+/// The text of a word, borrowed from it. Does not allocate.
 pub fn lent_text_of<'w>(word: &'w Word<'_>) -> Result<&'w str, LineError>
     ensures { GivesSeen (λ text. text.now) result (text_of word.entry.now) }
 {
@@ -39,7 +39,7 @@ pub fn text_of(alloc: Global, word: &Word<'_>) -> Result<Text, LineError>
     Ok(Text::copied(alloc, text)?)
 }
 
-/// The texts of the words, in order, as they are there.
+/// The texts of the words, in order, borrowed from them.
 pub fn texts_of<'w>(alloc: Global, words: &'w [Word<'_>]) -> Result<Vec<&'w str>, LineError>
     ensures { GivesSeen (λ texts. map (λ text. text.now) texts.items) result
         (each text_of words.entry.now) }
@@ -145,7 +145,7 @@ pub fn known<T: Copy>(found: Option<T>) -> Result<T, LineError>
     found.ok_or(LineError::Fault(FaultKind::BadWord))
 }
 
-/// What a filter's pattern takes; `-` is as `any`.
+/// The pattern of a filter; `-` is the same as `any`.
 pub fn filter_pattern_of(word: &Word<'_>) -> Result<FilterPattern, LineError>
     ensures { Gives result (filter_pattern_of word.now) }
 {
@@ -174,7 +174,7 @@ pub fn idem_of(alloc: Global, word: &Word<'_>) -> Result<Option<Idem>, LineError
     Ok(Some(Idem { id, epoch, base }))
 }
 
-// The number that a part of a word writes, once its escapes are replaced.
+// The number that a part of a word writes, after its escapes are replaced.
 fn number_at(alloc: Global, part: &[u8]) -> Result<u64, LineError>
     ensures { Gives result (number_in (words.bytes_of part.now)) }
 {

@@ -17,7 +17,7 @@ use std::marker::Model;
 #[derive(Drop)]
 pub struct Word<'a> {
     raw: &'a [u8],
-    /// The bytes that it stands for, where these are others.
+    /// The bytes that it stands for, if it may have escapes.
     replaced: Option<Bytes>,
 }
 
@@ -34,8 +34,8 @@ impl<'a> Model for Word<'a> {
 }
 
 impl<'a> Word<'a> {
-    /// The word that is so in a line. The fault is `BadEscape`; a word without a percent sign
-    /// takes no memory.
+    /// The word that these bytes of a line are. The fault is `BadEscape`. Does not allocate for a
+    /// word without a percent sign.
     pub fn read(alloc: Global, raw: &'a [u8]) -> Result<Word<'a>, LineError>
         ensures { Gives result (word_of raw.now) }
     {
@@ -71,7 +71,7 @@ impl<'a> Word<'a> {
         }
     }
 
-    /// Whether it is `-`, which has to be without escapes.
+    /// Whether it is `-`, without an escape.
     pub fn is_dash(&self) -> bool
         ensures { result ≡ bytes_eq self.now.raw (codes "-") }
     {
@@ -79,12 +79,11 @@ impl<'a> Word<'a> {
     }
 }
 
-/// Room for the words of most lines.
+/// Most lines have no more words.
 const MANY_WORDS: usize = 8;
 
-/// The words of a line, none where it is skipped: where it has none, or a first one that begins
-/// with `#`. The fault is `BadEscape`, the first to be looked for. A line that is skipped takes no
-/// memory.
+/// The words of a line. None if the line is skipped: if it has no word, or its first one begins with
+/// `#`. The fault is `BadEscape`, the first of the kinds. Does not allocate for a skipped line.
 pub fn words_of(alloc: Global, line: &[u8]) -> Result<Vec<Word<'_>>, LineError>
     ensures { GivesSeen (λ words. words.items) result (words_of line.now) }
 {
@@ -107,7 +106,7 @@ fn each_read(alloc: Global, line: &[u8]) -> Result<Vec<Word<'_>>, LineError>
     Ok(words)
 }
 
-/// A word, and the bytes behind the blank that ends it.
+/// A word, and the bytes after the blank that ends it.
 #[derive(Clone, Copy)]
 struct Cut<'a> {
     word: &'a [u8],
@@ -136,7 +135,7 @@ fn is_blank(byte: u8) -> bool
     byte == b' ' || byte == b'\t'
 }
 
-// Cuts bytes that begin with a word behind it.
+// Cuts bytes that begin with a word after it.
 fn cut_word(bytes: &[u8]) -> Cut<'_>
     requires some { 0 < length bytes.now }
     requires begins { is_blank (slice_index bytes.now 0) ≡ false }
@@ -155,7 +154,7 @@ fn cut_word(bytes: &[u8]) -> Cut<'_>
     }
 }
 
-/// Whether a word may have escapes. One that has none stands for itself.
+/// Whether a word may have escapes. A word without escapes stands for itself.
 #[tactic(auto, using(crate::proofs::LineWords::unescaped_plain))]
 pub fn may_have_escapes(word: &[u8]) -> bool
     ensures { MatchBool result ⊤ (unescaped word.now ≡ Some word.now) }
@@ -184,7 +183,7 @@ pub fn unescaped(alloc: Global, word: &[u8]) -> Result<Option<Bytes>, AllocError
     Ok(Some(Bytes::from_vec(bytes)))
 }
 
-/// The bytes that a part of a word stands for; where its escapes are not whole, itself.
+/// The bytes that a part of a word stands for; the part itself if its escapes are not whole.
 pub fn bytes_of(alloc: Global, part: &[u8]) -> Result<Bytes, AllocError>
     ensures { IfOk result (λ bytes. bytes ≡ bytes_of part.now) }
 {
@@ -197,8 +196,8 @@ pub fn bytes_of(alloc: Global, part: &[u8]) -> Result<Bytes, AllocError>
     }
 }
 
-/// The byte at the front of a word, and what comes after it, unless a percent sign
-/// there begins no escape.
+/// The byte at the front of a word, and what comes after it. `None` if a percent sign there begins
+/// no escape.
 fn byte_at(first: u8, others: &[u8]) -> Option<(u8, &[u8])>
     ensures read { option_map (λ found. (found.0, found.1.now)) result ≡ byte_at first others.now }
     ensures shrinks { IfSome result (λ found. length found.1.now ≤ length others.now) }

@@ -1,16 +1,14 @@
 use Rattle.std.proofs.Common.{◌≡◌, ◌∙◌, ◌++◌, ◌+◌, ◌≤◌, ◌<◌, [], List, ℕ, Ok, Err, ap, arith, refl, subst, sym, drop, length, drop_of_length-le}
-use Rattle.kob_script.proofs.CheckedLines.{block_lines, few_lines, Stands, all_counted, blocks_read, stands_first, stands_next, stops, reads_plain}
+use Rattle.kob_script.proofs.CheckedLines.{block_lines, Stands, all_counted, all_read, stands_first, stands_next, stops, reads_plain}
 use Rattle.kob_script.specs.Requests.{lines_in_blocks}
 use Rattle.kob_script.specs.Checks.{checked}
 use Rattle.kob_script.specs.Script.{lines_in}
 use Rattle.kob_script.proofs.checks.check_script.Goals as goal
 
 pub loop-block-init : goal.loop-block-init
-loop-block-init c = record {
-  few = omega (arith, few_lines c.args.blocks.items c.requires.whole);
-  stands = stands_first (lines_in_blocks c.args.blocks.items) _ c.new-answers.result.items c.new.ensures.items refl refl
-      c.new-answers.ensures.items;
-}
+loop-block-init c =
+    stands_first c.args.blocks.items _ c.new-answers.result.items c.requires.whole c.new.ensures.items refl refl
+    c.new-answers.ensures.items
 
 pub loop-line-init : goal.loop-line-init
 loop-line-init c =
@@ -24,12 +22,7 @@ loop-line-init c =
     let rest : lines_in_blocks (drop at blocks) ≡ c.into_iter-line-iterator.result ++ later =
     block_lines blocks at c.block-item.result below (rw c.as_slice-block-items.ensures.value at c.block-item.is)
     ∙ ap (λ (lines : List (List ℕ)). lines ++ later) (sym given) in
-    let count = ap length rest in
-    record {
-      few = omega (arith, count, c.loop-block.invariant.few);
-      stands = subst (Stands _ c.loop-block.checking c.loop-block.answers.items (c.loop-block.number + 1)) rest
-          c.loop-block.invariant.stands;
-    }
+    subst (Stands _ c.loop-block.checking c.loop-block.answers.items c.loop-block.number) rest c.loop-block.invariant
 
 pub overflow_add-number : goal.overflow_add-number
 overflow_add-number c =
@@ -40,22 +33,17 @@ overflow_add-number c =
 pub loop-line-preserved : goal.loop-line-preserved
 loop-line-preserved c =
     let later = lines_in_blocks (drop (c.loop-block.block-index + 1) c.args.blocks.items) in
-    let split = ap (λ (lines : List (List ℕ)). lines ++ later) c.in-Some.ensures.steps in
-    let count = ap length split in
-    record {
-      few = omega (arith, count, c.loop-line.invariant.few);
-      stands = stands_next _ c.loop-line.checking c.check_line.new.checking c.loop-line.answers.items
-          c.check_line.new.answers.items (c.loop-line.number + 1) _ c.in-Some.line.now (c.next.new.self ++ later)
-          c.loop-line.invariant.stands split c.in-Ok.ensures;
-    }
+    stands_next _ c.loop-line.checking c.check_line.new.checking c.loop-line.answers.items c.check_line.new.answers.items
+    c.loop-line.number _ c.in-Some.line.now (c.next.new.self ++ later) c.loop-line.invariant
+    (ap (λ (lines : List (List ℕ)). lines ++ later) c.in-Some.ensures.steps) c.in-Ok.ensures
 
 pub returns-in-Err-clause-any : goal.returns-in-Err-clause-any
 returns-in-Err-clause-any c =
     let later = lines_in_blocks (drop (c.loop-block.block-index + 1) c.args.blocks.items) in
     rw c.fault_at.ensures
-    (stops c.args.blocks.items c.requires.whole c.loop-line.checking c.loop-line.answers.items (c.loop-line.number + 1) _
-    c.loop-line.invariant.stands c.check_line.new.checking c.check_line.new.answers.items c.in-Some.line.now
-    (c.next.new.self ++ later) (ap (λ (lines : List (List ℕ)). lines ++ later) c.in-Some.ensures.steps) _ c.in-Err.ensures)
+    (stops c.args.blocks.items c.loop-line.checking c.check_line.new.checking c.loop-line.answers.items
+    c.check_line.new.answers.items c.loop-line.number _ c.in-Some.line.now (c.next.new.self ++ later)
+    c.loop-line.invariant (ap (λ (lines : List (List ℕ)). lines ++ later) c.in-Some.ensures.steps) _ c.in-Err.ensures)
 
 pub returns-in-Err-clause-plain : goal.returns-in-Err-clause-plain
 returns-in-Err-clause-plain c = reads_plain _ (Err c.fault_at.result) (returns-in-Err-clause-any c)
@@ -63,13 +51,8 @@ returns-in-Err-clause-plain c = reads_plain _ (Err c.fault_at.result) (returns-i
 pub loop-block-preserved : goal.loop-block-preserved
 loop-block-preserved c =
     let later = lines_in_blocks (drop (c.loop-block.block-index + 1) c.args.blocks.items) in
-    let rest = ap (λ (lines : List (List ℕ)). lines ++ later) c.in-None.ensures.steps.0 in
-    let count = ap length rest in
-    record {
-      few = omega (arith, count, c.loop-line.invariant.few);
-      stands = subst (Stands _ c.loop-line.checking c.loop-line.answers.items (c.loop-line.number + 1)) rest
-          c.loop-line.invariant.stands;
-    }
+    subst (Stands _ c.loop-line.checking c.loop-line.answers.items c.loop-line.number)
+    (ap (λ (lines : List (List ℕ)). lines ++ later) c.in-None.ensures.steps.0) c.loop-line.invariant
 
 no_blocks : (blocks : List (List ℕ)) (given : List (List ℕ)) (at : ℕ) → given ≡ blocks → length given ≤ at
     → lines_in_blocks (drop at blocks) ≡ []
@@ -78,14 +61,14 @@ no_blocks blocks given at same past =
 
 pub finished-requires : goal.finished-requires
 finished-requires c =
-    all_counted _ c.loop-block.checking c.loop-block.answers.items (c.loop-block.number + 1) _ c.loop-block.invariant.stands
+    all_counted _ c.loop-block.checking c.loop-block.answers.items c.loop-block.number _ c.loop-block.invariant
     (no_blocks c.args.blocks.items _ _ c.as_slice-block-items.ensures.value (omega arith))
 
 pub returns-clause-any : goal.returns-clause-any
 returns-clause-any c =
-    blocks_read c.args.blocks.items c.requires.whole c.loop-block.checking c.loop-block.answers.items
-    (c.loop-block.number + 1) _ c.loop-block.invariant.stands
-    (no_blocks c.args.blocks.items _ _ c.as_slice-block-items.ensures.value (omega arith)) _ c.finished.ensures
+    all_read c.args.blocks.items c.loop-block.checking c.loop-block.answers.items c.loop-block.number _
+    c.loop-block.invariant (no_blocks c.args.blocks.items _ _ c.as_slice-block-items.ensures.value (omega arith)) _
+    c.finished.ensures
 
 pub returns-clause-plain : goal.returns-clause-plain
 returns-clause-plain c = reads_plain _ (Ok (checked c.finished.result)) (returns-clause-any c)

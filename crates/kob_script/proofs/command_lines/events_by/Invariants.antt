@@ -1,9 +1,9 @@
-use Rattle.std.proofs.Common.{◌≡◌, ◌++◌}
+use Rattle.std.proofs.Common.{◌≡◌, ◌++◌, map}
 use Rattle.std.specs.Vec.Iter.{into_iter_items}
-use Rattle.kob_script.specs.CommandLines.{events_by}
+use Rattle.kob_script.specs.CommandLines.{acl_request, events_by}
 use Rattle.kob_script.proofs.command_lines.events_by.Given as goal
 
 abbrev pub invariant-loop-command : goal.invariant-loop-command
 invariant-loop-command l =
     (l.yielded ++ into_iter_items l.command-iterator ≡ into_iter_items l.initial.command-iterator)
-    × (l.events.items ≡ events_by l.principal l.host l.yielded)
+    × (l.events.items ≡ events_by l.principal l.host (map acl_request l.yielded))

@@ -1,7 +1,6 @@
-use Rattle.std.proofs.Common.{Some, None}
-use Rattle.kob_script.proofs.LineFaults.{first_is, count_fails, one_counted, uncounted}
+use Rattle.std.proofs.Common.{Some, None, refl}
+use Rattle.kob_script.proofs.LineFaults.{first_is, one_counted}
 use Rattle.kob_script.specs.CommandLines.{events_of, faults_in}
-use Rattle.kob_script.specs.declared.fault.LineError.TheVariants.{Fault}
 use Rattle.kob_script.proofs.laws.faults_come_in_their_order.Goals as goal
 
 pub returns-clause-found : goal.returns-clause-found
@@ -14,8 +13,8 @@ pub returns-clause-none : goal.returns-clause-none
 returns-clause-none c = λ places words kind none among. first_is (faults_in places words) None none kind among
 
 pub returns-clause-read : goal.returns-clause-read
-returns-clause-read c = λ answer words kind is.
-    uncounted (events_of answer words) (Fault kind) (count_fails answer words (Fault kind) is)
+unfolding events_of
+returns-clause-read c = λ answer words kind is. rw is refl
 
 pub returns-clause-asks : goal.returns-clause-asks
 returns-clause-asks c = λ answer words none plain. one_counted answer words none plain
