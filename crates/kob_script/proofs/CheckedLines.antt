@@ -10,10 +10,10 @@ use Rattle.bstr.specs.Text.{line_len, lines_of, without_terminator}
 use Rattle.kob_acl_cli.specs.declared.args.CliArgs.{CliArgs}
 use Rattle.kob_names.specs.declared.settings.Settings.{Settings}
 use Rattle.kob_rights.specs.declared.event.Event.{Event}
-use Rattle.kob_script.specs.Checks.{fault_at, with_answer, ChecksLine, ChecksNext, script_so_far}
+use Rattle.kob_script.specs.Checks.{fault_at, kept_answer, ChecksLine, ChecksNext, script_so_far}
 use Rattle.kob_script.specs.CommandLines.{asked_by, events_of, line_fault}
 use Rattle.kob_script.specs.Reading.{◌>>=◌, Fails, unless_found, LateSetting, FaultKind, Memory, Fault, LineError}
-use Rattle.kob_script.specs.Requests.{AreWholeLines, lines_in_blocks, asks_clap, first_answer, line_words, requests_in, requests_of, answers_after}
+use Rattle.kob_script.specs.Requests.{AreWholeLines, lines_in_blocks, first_answer, line_words, requests_in, requests_of, answers_after}
 use Rattle.kob_script.specs.Script.{after_acl, lines_in, with_line, with_words, empty_script, lines_from, script_of, then_lines, HasNoAclLine, is_plain, LinesFrom, MayRead, Reads, ReadsAs, ThenLines, IsAnswerTo, IsAnswerToLine, is_setting, settings_with}
 use Rattle.kob_script.specs.Words.{Word, words_of}
 use Rattle.kob_script.specs.declared.checks.Checking.{Checking}
@@ -77,47 +77,16 @@ block_lines blocks i block below is =
     ap lines_in_blocks (drop_more blocks i block below)
     ∙ ap (λ bytes. lines_in bytes ++ lines_in_blocks (drop (i + 1) blocks)) (sym is)
 
--- the answers for what comes from these words on
-abbrev pub answers_from : List Word → Option CliArgs → List (Option CliArgs) → List (Option CliArgs)
-answers_from words answer others = if asks_clap words then answer ∷ others else others
-
--- the answers with one more, and others
-pub answers_split : (answers : List (Option CliArgs)) (words : List Word) (answer : Option CliArgs)
-    (others : List (Option CliArgs))
-    → with_answer answers words answer ++ others ≡ answers ++ answers_from words answer others
-answers_split answers words answer others = by (asks_clap words)
-  where
-    by : (asks : Bool) → (if asks then answers ++ answer ∷ [] else answers) ++ others
-        ≡ answers ++ (if asks then answer ∷ others else others)
-    by true = append_assoc answers (answer ∷ []) others
-    by false = refl
-
 -- what words ask for is the same by their own answer and by the first of those that were kept
 asked_alike : (P : List Word → Type 0) (arguments : Option (List Word)) (ask : Option CliArgs → List Event)
     (rest : List (Option CliArgs) → List Event) (answer : Option CliArgs) (others : List (Option CliArgs))
     → MatchOption arguments (answer ≡ None) P
     → let asks = is_some arguments in
-    let left = if asks then answer ∷ others else others in
+    let left = (if asks then answer ∷ [] else []) ++ others in
     ask (if asks then slice_index_or left 0 None else None) ++ rest (if asks then drop 1 left else left)
     ≡ ask answer ++ rest others
 asked_alike P (Some arguments) ask rest answer others is = refl
 asked_alike P None ask rest answer others is = rw is refl
-
--- a line at the front, read again by the answer that was kept
-pub line_again : (line : List ℕ) (lines : List (List ℕ)) (answer : Option CliArgs) (others : List (Option CliArgs))
-    → IsAnswerToLine (words_of line) answer
-    → requests_in (line ∷ lines) (answers_from (line_words line) answer others)
-    ≡ requests_of answer (line_words line) ++ requests_in lines others
-unfolding requests_in
-line_again line lines answer others is = by (words_of line) is
-  where
-    by : (read : Result (List Word) FaultKind) → IsAnswerToLine read answer
-        → let words = result_unwrap_or read [] in
-        let left = answers_from words answer others in
-        requests_of (first_answer words left) words ++ requests_in lines (answers_after words left)
-        ≡ requests_of answer words ++ requests_in lines others
-    by (Err kind) is = refl
-    by (Ok words) is = asked_alike _ (after_acl words) (λ given. requests_of given words) (requests_in lines) answer others is
 
 events_in : Result Script FaultKind → List Event
 events_in (Ok s) = s.events
@@ -142,17 +111,26 @@ words_ask answer s next (first ∷ arguments) is =
     by false late set None (Ok events) made = sym (ap events_in made)
     by _ _ _ _ _ made = absurd cc
 
-read_asks : (answer : Option CliArgs) (s next : Script) (words : Result (List Word) FaultKind)
-    → (words >>= with_words answer s) ≡ Ok next
-    → next.events ≡ s.events ++ requests_of answer (result_unwrap_or words [])
-read_asks answer s next (Ok words) is = words_ask answer s next words is
-read_asks answer s next (Err kind) is = absurd cc
-
--- a line that was read puts what it asks for behind what was asked for before
-pub line_asks : (answer : Option CliArgs) (s next : Script) (line : List ℕ) → with_line answer s line ≡ Ok next
-    → next.events ≡ s.events ++ requests_of answer (line_words line)
-unfolding with_line
-line_asks answer s next line is = read_asks answer s next (words_of line) is
+-- a line that was read asks, by the answer that was kept, for what comes after the events before it
+line_asks : (answer : Option CliArgs) (s next : Script) (line : List ℕ) (lines : List (List ℕ))
+    (others : List (Option CliArgs))
+    → IsAnswerToLine (words_of line) answer → with_line answer s line ≡ Ok next
+    → s.events ++ requests_in (line ∷ lines) (kept_answer (line_words line) answer ++ others)
+    ≡ next.events ++ requests_in lines others
+unfolding with_line requests_in
+line_asks answer s next line lines others is reads = by (words_of line) is reads
+  where
+    by : (read : Result (List Word) FaultKind) → IsAnswerToLine read answer → (read >>= with_words answer s) ≡ Ok next
+        → let words = result_unwrap_or read [] in
+        let left = kept_answer words answer ++ others in
+        s.events ++ (requests_of (first_answer words left) words ++ requests_in lines (answers_after words left))
+        ≡ next.events ++ requests_in lines others
+    by (Err kind) is reads = absurd cc
+    by (Ok words) is reads =
+        ap (λ (asked : List Event). s.events ++ asked)
+        (asked_alike _ (after_acl words) (λ given. requests_of given words) (requests_in lines) answer others is)
+        ∙ sym (append_assoc s.events (requests_of answer words) (requests_in lines others))
+        ∙ ap (λ (events : List Event). events ++ requests_in lines others) (sym (words_ask answer s next words reads))
 
 -- where requests are left and none was read, some lines are left
 pub some_lines : (asked : List Event) (lines : List (List ℕ)) (answers : List (Option CliArgs)) (all : List Event) (n : ℕ)
@@ -231,7 +209,7 @@ reads_plain text (Err (script_error.Fault fault)) may plain = sym (one_reading t
 module _ (s : Script) (line : List ℕ) (new : Checking) (old kept : List (Option CliArgs)) where
   -- a line that was checked by clap's answer to its words
   pub line_checked : (words : List Word) (answer : Option CliArgs) → words_of line ≡ Ok words → IsAnswerTo words answer
-      → kept ≡ with_answer old words answer → ChecksNext new (Ok tt) (with_words answer s words)
+      → kept ≡ old ++ kept_answer words answer → ChecksNext new (Ok tt) (with_words answer s words)
       → ChecksLine s line new old kept (Ok tt)
   unfolding with_line
   line_checked words answer has is keeps reads = rw has (answer, is, keeps, reads)
@@ -281,25 +259,19 @@ module _ (blocks : List (List ℕ)) (checking new : Checking) (answers kept : Li
       → Stands blocks new kept (number + 1) others
   unfolding LinesFrom
   stands_next checks =
-      let words = line_words line in
       let (answer, is, keeps, (events, counts, reads)) = checks stands.events stands.counts in
-      let asked = line_asks answer (script_so_far checking stands.events) (script_so_far new events) line reads in
+      let before = script_so_far checking stands.events in
+      let after = script_so_far new events in
+      let mine = kept_answer (line_words line) answer in
       let count = ap length split in
       record {
         few = omega (arith, count, stands.few);
         events = events;
         counts = counts;
-        leads = λ read may. stands.leads read (rw split (Ok (script_so_far new events), (answer, is, reads), may));
+        leads = λ read may. stands.leads read (rw split (Ok after, (answer, is, reads), may));
         asks = λ more.
-            rw (
-              keeps,
-              answers_split answers words answer more,
-              stands.asks (answers_from words answer more),
-              split,
-              line_again line others answer more is,
-              asked,
-            )
-            (sym (append_assoc stands.events (requests_of answer words) (requests_in others more)));
+            rw (keeps, append_assoc answers mine more, stands.asks (mine ++ more), split)
+            (line_asks answer before after line others more is reads);
       }
 
   pub stops : (e : LineError) → ((events : List Event) → checking.requests ≡ length events

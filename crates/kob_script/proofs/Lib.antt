@@ -4,4 +4,3 @@ pub mod Each
 pub mod LineFaults
 pub mod LineWords
 pub mod Numbers
-pub mod RowWords

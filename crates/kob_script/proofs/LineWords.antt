@@ -1,14 +1,14 @@
 -- The words of a line, cut off one after another. A word is read byte by byte, one without a percent sign
 -- stands for itself, and a cut at a byte that is neither a percent sign nor a hexadecimal digit leaves
--- each escape whole.
-use Rattle.std.proofs.Common.{◌≡◌, ◌∙◌, ◌<◌, ◌+◌, ℕ, true, false, List, [], ◌∷◌, filter, length, take, drop, nat_lt, slice_index, refl, sym, ap, subst, arith, zero, suc, length-take-le, lt-ltb, ◌==◌, ◌++◌, Option, Some, None, Bool, append_assoc, append-nil, if◌then◌else◌, option_map, ◌&&◌, is_some}
+-- each escape whole. And the seven words of a row.
+use Rattle.std.proofs.Common.{◌≡◌, ◌∙◌, ◌<◌, ◌≤◌, ◌+◌, get_or, ℕ, true, false, List, [], ◌∷◌, filter, length, take, drop, nat_lt, slice_index, refl, sym, ap, subst, arith, zero, suc, length-take-le, lt-ltb, ◌==◌, ◌++◌, Option, Some, None, Bool, append_assoc, append-nil, if◌then◌else◌, option_map, ◌&&◌, is_some}
 use Rattle.std.proofs.lemmas.Grind.{get_or_default_zero}
 use Rattle.std.proofs.lemmas.List.Splits.{slice_split_first, slice_split_none}
 use Rattle.std.proofs.lemmas.List.Sums.{position_or_len_is}
 use Rattle.std.specs.Char.{digit_value}
 use Rattle.std.specs.List.{position_or_len, slice_split}
 use Rattle.kob_script.proofs.Choices.{chosen_true, false_from, chosen_false}
-use Rattle.kob_script.specs.Words.{is_blank, raw_words, before, byte_at, escaped, unescaped, unescaped_from, has_whole_escapes, hexadecimal, LeavesWhole}
+use Rattle.kob_script.specs.Words.{is_blank, raw_words, before, byte_at, escaped, unescaped, unescaped_from, has_whole_escapes, hexadecimal, LeavesWhole, Word}
 use Rattle.memchr.specs.Find.{is_byte2, NoneBefore, Nowhere, Passes, is_byte}
 
 not_blank : (bytes : List ℕ) (k : ℕ) → (Passes (is_byte2 32 9) bytes k → ⊥) → is_blank (slice_index bytes k) ≡ false
@@ -185,3 +185,13 @@ at_equals = λ front back. leaves_whole 61 back refl refl front
 
 pub at_colon : LeavesWhole 58
 at_colon = λ front back. leaves_whole 58 back refl refl front
+
+-- seven words, each known by its index
+pub seven : (words : List Word) (a b c d e f g : Word) → 7 ≤ length words → length words < 8 → a ≡ get_or words 0 a
+    → b ≡ get_or words 1 b → c ≡ get_or words 2 c → d ≡ get_or words 3 d → e ≡ get_or words 4 e → f ≡ get_or words 5 f
+    → g ≡ get_or words 6 g → words ≡ a ∷ b ∷ c ∷ d ∷ e ∷ f ∷ g ∷ []
+seven (a' ∷ b' ∷ c' ∷ d' ∷ e' ∷ f' ∷ g' ∷ []) a b c d e f g many few is0 is1 is2 is3 is4 is5 is6 =
+    rw (is0, is1, is2, is3, is4, is5, is6) refl
+seven (a' ∷ b' ∷ c' ∷ d' ∷ e' ∷ f' ∷ g' ∷ h ∷ more) a b c d e f g many few is0 is1 is2 is3 is4 is5 is6 =
+    absurd (omega (arith, few))
+seven _ a b c d e f g many few is0 is1 is2 is3 is4 is5 is6 = absurd (omega (arith, many))

@@ -31,9 +31,9 @@ ChecksNext checking (Ok done) read =
     × (read ≡ Ok (script_so_far checking events))
 ChecksNext checking (Err error) read = Fails error read
 
--- the answers with one more, if it was asked for
-abbrev pub with_answer : List (Option CliArgs) → List Word → Option CliArgs → List (Option CliArgs)
-with_answer answers words answer = if asks_clap words then answers ++ answer ∷ [] else answers
+-- what is kept of clap's answer to words: nothing if it was not asked
+abbrev pub kept_answer : List Word → Option CliArgs → List (Option CliArgs)
+kept_answer words answer = if asks_clap words then answer ∷ [] else []
 
 -- A line more was read with an answer that clap may give, which is kept if clap was asked, unless
 -- memory ran out.
@@ -41,7 +41,7 @@ abbrev pub ChecksLine : Script → List ℕ → Checking → List (Option CliArg
     → Result (Unit {0}) LineError → Type 0
 ChecksLine s line checking old new (Ok done) =
     (answer : Option CliArgs) × IsAnswerToLine (words_of line) answer
-    × (new ≡ with_answer old (line_words line) answer)
+    × (new ≡ old ++ kept_answer (line_words line) answer)
     × ChecksNext checking (Ok done) (with_line answer s line)
 ChecksLine s line checking old new (Err line_error.Memory) = Unit {0}
 ChecksLine s line checking old new (Err (line_error.Fault kind)) = LineReadsAs s line (Err kind)

@@ -8,7 +8,6 @@ use Rattle.kob_acl_cli.specs.declared.commands.AclCommand.TheVariants.{Create, D
 use Rattle.kob_acl_cli.specs.declared.commands.AclCommand.{AclCommand}
 use Rattle.kob_acl_cli.specs.declared.fault.CommandFault.TheVariants as options
 use Rattle.kob_acl_cli.specs.declared.fault.CommandFault.{CommandFault}
-use Rattle.kob_names.specs.declared.draft.Draft.{Draft}
 use Rattle.kob_names.specs.declared.filter.BindingFilter.{BindingFilter}
 use Rattle.kob_names.specs.declared.filter.FilterPattern.TheVariants.{Any}
 use Rattle.kob_names.specs.declared.filter.FilterPattern.{FilterPattern}
@@ -181,16 +180,6 @@ filter_by resource name pattern who from operation permission = record {
   permission = unless_dash (known permission_named permission) permission;
 }
 
-abbrev pub draft_by : Word → Word → Word → Word → Word → Word → Word → Draft
-draft_by permission who from operation resource kind name = record {
-  permission = value (known permission_named permission) Allow;
-  principal = value (named_principal who) [];
-  host = value (named_host from) [];
-  operation = value (known operation_named operation) All;
-  resource = value (known resource_named resource) Topic;
-  pattern = record { kind = value (known pattern_named kind) Literal; name = text name };
-}
-
 -- what a command asks for by the words after it, which have no fault
 unfoldable pub request_of : Command → List Word → Request
 request_of CreateTopic (name ∷ partitions ∷ []) =
@@ -236,8 +225,16 @@ request_of Committed (group ∷ topic ∷ partition ∷ []) =
     (record { group = text group; topic = text topic; partition = number partition })
 request_of DeleteGroup (group ∷ []) = ask.DeleteGroups (record { group = text group })
 request_of CreateAcl (permission ∷ who ∷ from ∷ operation ∷ resource ∷ kind ∷ name ∷ []) =
-    ask.CreateAcls
-    (record { drafts = draft_by permission who from operation resource kind name ∷ [] })
+    ask.CreateAcls (record {
+      drafts = record {
+        permission = value (known permission_named permission) Allow;
+        principal = value (named_principal who) [];
+        host = value (named_host from) [];
+        operation = value (known operation_named operation) All;
+        resource = value (known resource_named resource) Topic;
+        pattern = record { kind = value (known pattern_named kind) Literal; name = text name };
+      } ∷ [];
+    })
 request_of DescribeAcls (resource ∷ name ∷ pattern ∷ who ∷ from ∷ operation ∷ permission ∷ []) =
     ask.DescribeAcls
     (record { filter = filter_by resource name pattern who from operation permission })

@@ -1,11 +1,11 @@
 //! The check of a script: all its lines are read before the first request is served.
 
 ghost use Rattle.std.specs.List.{concat};
-ghost use Rattle.std.specs.Prelude.{◌≡◌, ◌<◌, ◌^◌, List, length, OnOk};
+ghost use Rattle.std.specs.Prelude.{◌≡◌, ◌<◌, ◌^◌, ◌++◌, List, length, OnOk};
 ghost use Rattle.kob_rights.specs.declared.event.Event as event;
 ghost use Rattle.kob_script.specs.Requests.{AreWholeLines, lines_in_blocks, requests_in};
 ghost use Rattle.kob_script.specs.Checks.{ChecksLine, ChecksNext, as_read, checked, script_so_far};
-ghost use Rattle.kob_script.specs.Checks.{fault_at, with_answer};
+ghost use Rattle.kob_script.specs.Checks.{fault_at, kept_answer};
 ghost use Rattle.kob_script.specs.Script.{everyone_of, is_setting, is_super, super_of, script_of};
 ghost use Rattle.kob_script.specs.Script.{with_events, with_setting, with_words, HasNoAclLine};
 ghost use Rattle.kob_script.specs.Script.{MayRead, Reads};
@@ -126,7 +126,7 @@ fn keep_answer(
     answer: Option<CliArgs>,
 ) -> Result<(), AllocError>
     ensures { OnOk result
-        (answers.new.items ≡ with_answer answers.old.items words.now answer) }
+        (answers.new.items ≡ answers.old.items ++ kept_answer words.now answer) }
 {
     if asks_clap(words) {
         answers.push(answer)?;

@@ -120,7 +120,7 @@ fn other_request(alloc: Global, command: Command, words: &[Word<'_>]) -> Result<
     }
 }
 
-#[tactic(auto, using(crate::proofs::RowWords::seven), unfolding(crate::specs::CommandLines::request_of))]
+#[tactic(auto, using(crate::proofs::LineWords::seven), unfolding(crate::specs::CommandLines::request_of))]
 fn create_acl(alloc: Global, words: &[Word<'_>]) -> Result<Request, LineError>
     ensures { IfOk result (λ made. made ≡ request_of commands.CreateAcl words.now) }
 {
@@ -144,7 +144,7 @@ fn create_acl(alloc: Global, words: &[Word<'_>]) -> Result<Request, LineError>
     Ok(Request::CreateAcls(CreateAcls { drafts }))
 }
 
-#[tactic(auto, using(crate::proofs::RowWords::seven), unfolding(crate::specs::CommandLines::request_of))]
+#[tactic(auto, using(crate::proofs::LineWords::seven), unfolding(crate::specs::CommandLines::request_of))]
 fn filter_of(alloc: Global, words: &[Word<'_>]) -> Result<BindingFilter, LineError>
     ensures describe { IfOk result (λ filter. request_of commands.DescribeAcls words.now
         ≡ requests.DescribeAcls (record { filter = filter })) }

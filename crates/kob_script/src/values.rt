@@ -2,12 +2,12 @@
 //! batch.
 
 ghost use Rattle.std.specs.List.{slice_split};
-ghost use Rattle.std.specs.Prelude.{◌≡◌, ◌==◌, IfOk, map, option_map};
+ghost use Rattle.std.specs.Prelude.{◌≡◌, ◌==◌, IfOk, map};
 ghost use Rattle.kob_script.specs.CommandLines.{filter_pattern_of};
 ghost use Rattle.kob_script.specs.Reading.{Gives, GivesSeen, each, found_or};
-ghost use Rattle.kob_script.specs.Values.{before_of, host_of, idem_of, key_and_value, named_host};
-ghost use Rattle.kob_script.specs.Values.{named_principal, number_in, number_of, principal_of};
-ghost use Rattle.kob_script.specs.Values.{record_of, text_of, which_of};
+ghost use Rattle.kob_script.specs.Values.{before_of, host_of, idem_of, named_host, named_principal};
+ghost use Rattle.kob_script.specs.Values.{number_in, number_of, principal_of, record_of, text_of};
+ghost use Rattle.kob_script.specs.Values.{which_of};
 ghost use Rattle.kob_script.specs.Words as words;
 ghost use Rattle.kob_script.specs.declared.fault.FaultKind.TheVariants.{BadWord};
 
@@ -192,19 +192,12 @@ fn split_at_colons(alloc: Global, word: &[u8]) -> Result<Vec<&[u8]>, AllocError>
     word.split(|byte| *byte == b':').collect(alloc)
 }
 
-#[tactic(auto, unfolding(crate::specs::Values::key_and_value))]
-fn key_and_value(word: &[u8]) -> Option<(&[u8], &[u8])>
-    ensures { option_map (λ parts. (parts.0.now, parts.1.now)) result ≡ key_and_value word.now }
-{
-    word.split_once_str(b"=")
-}
-
 /// A record of a key and a value around the first `=`, or of a value alone.
-#[tactic(auto, unfolding(crate::specs::Values::record_of))]
+#[tactic(auto, unfolding(crate::specs::Values::record_of, crate::specs::Values::key_and_value))]
 fn record_of(alloc: Global, word: &Word<'_>) -> Result<Record, AllocError>
     ensures { IfOk result (λ made. made ≡ record_of word.now) }
 {
-    let (key, value) = match key_and_value(word.raw()) {
+    let (key, value) = match word.raw().split_once_str(b"=") {
         None => (None, Bytes::copied(alloc, word.decoded())?),
         Some((key, value)) => (Some(bytes_of(alloc, key)?), bytes_of(alloc, value)?),
     };
