@@ -1,5 +1,5 @@
 -- The lines of blocks; what a line asks for, when it is checked and when it is read again, and what is
--- left behind it; and that a script without `acl` lines has one reading.
+-- left after it; and that a script without `acl` lines has one reading.
 use Rattle.std.proofs.Common.{◌≡◌, ◌∙◌, ◌≤◌, ◌<◌, ◌+◌, ℕ, List, [], ◌∷◌, ◌++◌, length, drop, take, map, get_or, sym, ap, refl, arith, length-take-le, suc, drop-drop, ◌&&◌, Bool, true, false, if◌then◌else◌, nat_lt, Option, Some, None, Result, Ok, Err, MatchOption, append_assoc, append-nil, ◌-◌, ◌==◌, slice_index_or, is_some, eqb-true, subst, is_none}
 use Rattle.std.proofs.lemmas.List.{drop_more}
 use Rattle.std.specs.List.{concat, list_all}
@@ -47,7 +47,7 @@ first_line_splits (b ∷ rest) whole text more others is reads =
           ∙ ap (λ n. text ∷ lines_in (drop n bytes)) (sym long),
     )
 
--- behind a block that was read to its end
+-- after a block that was read to its end
 pub next_block : (rest block : List ℕ) (later more : List (List ℕ)) → rest ≡ [] → later ≡ block ∷ more
     → lines_in block ++ lines_in_blocks more ≡ lines_in rest ++ lines_in_blocks later
 next_block rest block later more none split = rw (none, split, no_lines) refl
@@ -65,7 +65,7 @@ no_bytes [] none = refl
 no_bytes (b ∷ rest) none =
     let step = ap (map without_terminator) (lines-step (b ∷ rest) (omega arith)) in absurd (cc (none, step))
 
--- behind a line of the block at the front
+-- after a line of the block at the front
 pub rest_behind : (front next : List ℕ) (at size end : ℕ) → next ≡ front → end ≡ at + size
     → drop end next ≡ drop size (drop at front)
 rest_behind front next at size end same place = rw (same, place) (sym (drop-drop size at front))
@@ -132,7 +132,7 @@ line_asks answer s next line lines others is reads = by (words_of line) is reads
         ∙ sym (append_assoc s.events (requests_of answer words) (requests_in lines others))
         ∙ ap (λ (events : List Event). events ++ requests_in lines others) (sym (words_ask answer s next words reads))
 
--- where requests are left and none was read, some lines are left
+-- if requests are left and none was read, some lines are left
 pub some_lines : (asked : List Event) (lines : List (List ℕ)) (answers : List (Option CliArgs)) (all : List Event) (n : ℕ)
     → asked ≡ [] → asked ++ requests_in lines answers ≡ all → 0 < length all → 0 < length lines + n
 unfolding requests_in

@@ -55,7 +55,7 @@ fault_at line (line_error.Fault kind) = script_error.Fault (record { line = line
 abbrev pub checked : CheckedScript → Script
 checked script = record { settings = script.settings; events = script.requests }
 
--- what was read, where a script was checked
+-- what was read, if a script was checked
 abbrev pub as_read : Result CheckedScript ScriptError → Result Script ScriptError
 as_read (Ok script) = Ok (checked script)
 as_read (Err error) = Err error

@@ -127,17 +127,17 @@ place_fault Records words = None
 place_fault Texts words = fault_in (each text_of words)
 
 -- the words that a place leaves
-abbrev pub words_behind : Place → List Word → List Word
-words_behind Records words = []
-words_behind Texts words = []
-words_behind place words = drop 1 words
+abbrev pub words_after : Place → List Word → List Word
+words_after Records words = []
+words_after Texts words = []
+words_after place words = drop 1 words
 
 -- the fault at each place of a row; a word too many is one of the line
 abbrev pub faults_in : List Place → List Word → List (Option FaultKind)
 faults_in [] [] = []
 faults_in [] (word ∷ words) = Some BadLine ∷ []
 faults_in (place ∷ places) words =
-    place_fault place words ∷ faults_in places (words_behind place words)
+    place_fault place words ∷ faults_in places (words_after place words)
 
 -- the fault of the words of a row; a command that has none is no line
 abbrev pub row_fault : Option (List Place) → List Word → Option FaultKind

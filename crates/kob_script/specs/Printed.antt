@@ -26,7 +26,7 @@ group_item name = codes " " ++ bytes_text name
 abbrev pub topic_item : List ℕ × ℕ → List ℕ
 topic_item (name, partitions) = codes " " ++ bytes_text name ++ codes ":" ++ decimal partitions
 
--- KEY=, or nothing where there is no key
+-- KEY=, or nothing without a key
 abbrev pub key_text : Option (List ℕ) → List ℕ
 key_text None = []
 key_text (Some key) = bytes_text key ++ codes "="

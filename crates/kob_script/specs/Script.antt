@@ -95,13 +95,13 @@ empty_script = record { settings = no_settings; events = [] }
 unfoldable pub script_of : List ℕ → Result Script Fault
 script_of text = lines_from empty_script 1 (lines_in text)
 
--- clap may answer options only where they are what it reads of the texts, and refuse only texts
+-- clap may answer options only if they are what it reads of the texts, and refuse only texts
 -- that it doesn't take
 abbrev pub MayAnswer : List (List ℕ) → Option CliArgs → Type 0
 MayAnswer texts (Some args) = IsReadOf (rows_of_line texts) args × (refusals texts ≡ [])
 MayAnswer texts None = is_taken texts ≡ true → ⊥
 
--- the words after `acl`, where a line asks by it
+-- the words after `acl`, if a line asks by it
 abbrev pub after_acl : List Word → Option (List Word)
 after_acl (first ∷ host ∷ command ∷ arguments) =
     if not (is_setting first) && bytes_eq command.decoded

@@ -12,7 +12,7 @@ are_hexadecimal high low = nat_lt (digit_value high) 16 && nat_lt (digit_value l
 abbrev pub hexadecimal : ℕ → ℕ → ℕ
 hexadecimal high low = 16 * digit_value high + digit_value low
 
--- the byte that stands after a percent sign; nothing where no two digits follow
+-- the byte that stands after a percent sign; nothing unless two digits follow
 abbrev pub escaped : List ℕ → Option ℕ
 escaped (high ∷ low ∷ others) =
     if are_hexadecimal high low then Some (hexadecimal high low) else None
@@ -30,8 +30,8 @@ abbrev pub before : Option ℕ → Option (List ℕ) → Option (List ℕ)
 before None others = None
 before (Some byte) others = option_map (λ bytes. byte ∷ bytes) others
 
--- what a word stands for behind so many bytes: `%` and two hexadecimal digits for a byte, each other
--- byte for itself; nothing where no two digits follow a percent sign
+-- what a word stands for after this number of bytes: `%` and two hexadecimal digits for a byte, each
+-- other byte for itself; nothing if a percent sign without two digits after it is there
 unfoldable pub unescaped_from : ℕ → List ℕ → Option (List ℕ)
 unescaped_from n [] = Some []
 unescaped_from zero (byte ∷ rest) =
@@ -50,7 +50,7 @@ bytes_of part = unwrap_or (unescaped part) part
 abbrev pub has_whole_escapes : List ℕ → Bool
 has_whole_escapes word = is_some (unescaped word)
 
--- the parts around this byte have whole escapes where the bytes have, so that each part is read as
+-- the parts around this byte have whole escapes if the bytes have, so that each part is read as
 -- it stands
 abbrev pub LeavesWhole : ℕ → Type 0
 LeavesWhole byte = (front back : List ℕ) → has_whole_escapes (front ++ byte ∷ back) ≡ true

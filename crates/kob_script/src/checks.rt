@@ -3,8 +3,8 @@
 ghost use Rattle.std.specs.List.{concat};
 ghost use Rattle.std.specs.Prelude.{◌≡◌, ◌<◌, ◌^◌, ◌++◌, List, length, OnOk};
 ghost use Rattle.kob_rights.specs.declared.event.Event as event;
-ghost use Rattle.kob_script.specs.Requests.{AreWholeLines, lines_in_blocks, requests_in};
-ghost use Rattle.kob_script.specs.Checks.{ChecksLine, ChecksNext, as_read, checked, script_so_far};
+ghost use Rattle.kob_script.specs.Requests.{AreWholeLines};
+ghost use Rattle.kob_script.specs.Checks.{ChecksLine, ChecksNext, as_read, script_so_far};
 ghost use Rattle.kob_script.specs.Checks.{fault_at, kept_answer};
 ghost use Rattle.kob_script.specs.Script.{everyone_of, is_setting, is_super, super_of, script_of};
 ghost use Rattle.kob_script.specs.Script.{with_events, with_setting, with_words, HasNoAclLine};
@@ -64,33 +64,19 @@ pub fn check_script(alloc: Global, blocks: Vec<Bytes>) -> Result<CheckedScript, 
             }
         }
     }
-    Ok(finished(alloc, checking, blocks, answers))
-}
-
-fn finished(
-    alloc: Global,
-    checking: Checking,
-    blocks: Vec<Bytes>,
-    answers: Vec<Option<CliArgs>>,
-) -> CheckedScript
-    requires { checking.requests
-        ≡ length (requests_in (lines_in_blocks blocks.items) answers.items) }
-    ensures { checked result
-        ≡ script_so_far checking (requests_in (lines_in_blocks blocks.items) answers.items) }
-{
     let Checking {
         supers,
         everyone,
         requests,
     } = checking;
-    CheckedScript {
+    Ok(CheckedScript {
         settings: Settings {
             supers: Items::from_vec(supers),
             opening: Items::from_vec(Vec::new(alloc)),
             everyone,
         },
         requests: Requests::new(alloc, blocks, answers, requests),
-    }
+    })
 }
 
 fn fault_at(error: LineError, line: u64) -> ScriptError

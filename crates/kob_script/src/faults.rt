@@ -2,7 +2,7 @@
 
 ghost use Rattle.std.specs.Prelude.{◌≡◌, Option, Result};
 ghost use Rattle.kob_script.specs.CommandLines.{line_fault, faults_in, place_fault, slot_fault};
-ghost use Rattle.kob_script.specs.CommandLines.{words_behind};
+ghost use Rattle.kob_script.specs.CommandLines.{words_after};
 ghost use Rattle.kob_script.specs.Reading.{Finds, Gives, earlier, earlier_kind, fault_in};
 ghost use Rattle.kob_script.specs.Reading.{first_kind};
 ghost use Rattle.kob_script.specs.declared.fault.FaultKind as kinds;
@@ -28,10 +28,10 @@ pub fn check_line(alloc: Global, words: &[Word<'_>]) -> Result<(), LineError>
         return Err(LineError::Fault(FaultKind::BadLine));
     };
     let others = check_words(alloc, places, arguments);
-    let behind_principal = first_error(check_slot(alloc, Slot::Host, host), others);
+    let after_principal = first_error(check_slot(alloc, Slot::Host, host), others);
     first_error(
         check_slot(alloc, Slot::Principal, principal),
-        behind_principal,
+        after_principal,
     )
 }
 
@@ -45,12 +45,12 @@ fn check_words(alloc: Global, places: &[Place], words: &[Word<'_>]) -> Result<()
             _ => Err(LineError::Fault(FaultKind::BadLine)),
         };
     };
-    let others = check_words(alloc, places, words_behind(*place, words));
+    let others = check_words(alloc, places, words_after(*place, words));
     first_error(check_place(alloc, *place, words), others)
 }
 
-fn words_behind<'w, 'l>(place: Place, words: &'w [Word<'l>]) -> &'w [Word<'l>]
-    ensures { result.now ≡ words_behind place words.entry.now }
+fn words_after<'w, 'l>(place: Place, words: &'w [Word<'l>]) -> &'w [Word<'l>]
+    ensures { result.now ≡ words_after place words.entry.now }
 {
     match (place, words) {
         (Place::Records | Place::Texts, _) => &[],

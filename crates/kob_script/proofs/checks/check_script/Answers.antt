@@ -1,7 +1,7 @@
-use Rattle.std.proofs.Common.{◌≡◌, ◌∙◌, ◌++◌, ◌+◌, ◌≤◌, ◌<◌, [], List, ℕ, Ok, Err, ap, arith, refl, subst, sym, drop, length, drop_of_length-le}
-use Rattle.kob_script.proofs.CheckedLines.{block_lines, Stands, all_counted, all_read, stands_first, stands_next, stops, reads_plain}
+use Rattle.std.proofs.Common.{◌≡◌, ◌∙◌, ◌++◌, ◌+◌, ◌≤◌, ◌<◌, [], List, ℕ, Err, ap, arith, refl, subst, sym, drop, length, drop_of_length-le}
+use Rattle.kob_script.proofs.CheckedLines.{block_lines, Stands, all_counted, all_read, one_reading, stands_first, stands_next, stops, reads_plain}
 use Rattle.kob_script.specs.Requests.{lines_in_blocks}
-use Rattle.kob_script.specs.Checks.{checked}
+use Rattle.std.specs.List.{concat}
 use Rattle.kob_script.specs.Script.{lines_in}
 use Rattle.kob_script.proofs.checks.check_script.Goals as goal
 
@@ -59,8 +59,8 @@ no_blocks : (blocks : List (List ℕ)) (given : List (List ℕ)) (at : ℕ) → 
 no_blocks blocks given at same past =
     let long = ap length same in ap lines_in_blocks (drop_of_length-le blocks {i = at} (omega (arith, long, past)))
 
-pub finished-requires : goal.finished-requires
-finished-requires c =
+pub new-requires-3 : goal.new-requires-3
+new-requires-3 c =
     all_counted _ c.loop-block.checking c.loop-block.answers.items c.loop-block.number _ c.loop-block.invariant
     (no_blocks c.args.blocks.items _ _ c.as_slice-block-items.ensures.value (omega arith))
 
@@ -68,7 +68,7 @@ pub returns-clause-any : goal.returns-clause-any
 returns-clause-any c =
     all_read c.args.blocks.items c.loop-block.checking c.loop-block.answers.items c.loop-block.number _
     c.loop-block.invariant (no_blocks c.args.blocks.items _ _ c.as_slice-block-items.ensures.value (omega arith)) _
-    c.finished.ensures
+    (rw (c.from_vec.ensures, c.from_vec-2.ensures, c.new-2.ensures.items, c.new-3.ensures) refl)
 
 pub returns-clause-plain : goal.returns-clause-plain
-returns-clause-plain c = reads_plain _ (Ok (checked c.finished.result)) (returns-clause-any c)
+returns-clause-plain c = λ plain. sym (one_reading (concat c.args.blocks.items) _ plain (returns-clause-any c))
