@@ -1,6 +1,7 @@
 //! The requests of a checked script. Each is read when it is needed.
 
-ghost use Rattle.std.specs.Prelude.{◌≡◌, ◌<◌, ◌++◌, ◌∷◌, length, IfOk, OnOk, OnErr};
+ghost use Rattle.std.specs.Prelude.{◌≡◌, ◌<◌, ◌++◌, ◌∷◌, length, slice_index_or};
+ghost use Rattle.std.specs.Prelude.{IfOk, OnOk, OnErr, None};
 ghost use Rattle.kob_script.specs.Requests.{lines_in_blocks, lines_left, steps_left, answers_after};
 ghost use Rattle.kob_script.specs.Requests.{first_answer, line_words, requests_in, requests_of};
 
@@ -126,26 +127,24 @@ fn read_again(
     let Ok(words) = words_of(alloc, line) else {
         return Err(AllocError);
     };
-    let asked = asked_first(alloc, &words, answers)?;
-    if asks_clap(&words) {
-        answers.pop_front();
+    if !asks_clap(&words) {
+        return requests_of(alloc, &words, &None);
     }
+    let asked = asked_first(alloc, &words, answers)?;
+    answers.pop_front();
     Ok(asked)
 }
 
-// What words ask for, by the first answer if clap was asked about them.
+// What words ask for, by the first answer.
 fn asked_first(
     alloc: Global,
     words: &[Word<'_>],
     answers: &VecDeque<Option<CliArgs>>,
 ) -> Result<Asked, AllocError>
     ensures { IfOk result (λ asked. asked
-        ≡ requests_of (first_answer words.now answers.now.items) words.now) }
+        ≡ requests_of (slice_index_or answers.now.items 0 None) words.now) }
 {
     let unasked = None;
-    if !asks_clap(words) {
-        return requests_of(alloc, words, &unasked);
-    }
     requests_of(alloc, words, answers.front().unwrap_or(&unasked))
 }
 
