@@ -203,7 +203,7 @@ pub fn super_of(alloc: Global, arguments: &[Word<'_>]) -> Result<Principal, Line
     }
 }
 
-/// Whether what no binding matches is open to everyone, by the words after `everyone`.
+/// Whether a resource that no binding matches is open to everyone, by the words after `everyone`.
 pub fn everyone_of(arguments: &[Word<'_>]) -> Result<bool, LineError>
     ensures { Gives result (everyone_of arguments.now) }
 {

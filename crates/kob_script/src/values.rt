@@ -52,7 +52,7 @@ pub fn texts_of<'w>(alloc: Global, words: &'w [Word<'_>]) -> Result<Vec<&'w str>
     Ok(texts)
 }
 
-/// The principal that a text is.
+/// The principal that a text writes.
 #[tactic(auto, unfolding(crate::specs::Values::principal_of))]
 pub fn principal_of(alloc: Global, text: &str) -> Result<Principal, LineError>
     ensures { Gives result (principal_of text.now) }
@@ -64,7 +64,7 @@ pub fn principal_of(alloc: Global, text: &str) -> Result<Principal, LineError>
     }
 }
 
-/// The host that a text is.
+/// The host that a text writes.
 #[tactic(auto, unfolding(crate::specs::Values::host_of))]
 pub fn host_of(alloc: Global, text: &str) -> Result<Host, LineError>
     ensures { Gives result (host_of text.now) }

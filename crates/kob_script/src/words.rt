@@ -135,7 +135,7 @@ fn is_blank(byte: u8) -> bool
     byte == b' ' || byte == b'\t'
 }
 
-// Cuts bytes that begin with a word after it.
+// Cuts bytes after the word that they begin with.
 fn cut_word(bytes: &[u8]) -> Cut<'_>
     requires some { 0 < length bytes.now }
     requires begins { is_blank (slice_index bytes.now 0) ≡ false }
