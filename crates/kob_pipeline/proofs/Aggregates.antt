@@ -35,7 +35,7 @@ use Rattle.kob_router.specs.Served.{AreServed}
 use Rattle.kob_pipeline.specs.Served.{served_to}
 use Rattle.kob_pipeline.proofs.Logged.{is_fresh}
 use Rattle.kob_pipeline.proofs.Rows.{call_of, called_ids, kept_by_router, recorded}
-use Rattle.kob_pipeline.proofs.ServedRuns.{IsUnheard}
+use Rattle.kob_pipeline.proofs.ServedRuns.{IsOf, IsUnheard, all_pass}
 use Rattle.kob_router.proofs.Lawful as lawful
 
 -- the sixteen bytes that the text of an id is made of
@@ -163,12 +163,12 @@ module _ (test : Event → Bool) where
       ]
 
   -- what is kept along a run: the ids are those of the rows
-  abbrev IsTold : List Event → State → List Entry → Type 0
-  IsTold rows s es = (s.outbox.ids ≡ ids_of rows) × AllByRecursion (IsToldById test rows) rows
+  abbrev IsTold : List Event → State → Unit {0} → Type 0
+  IsTold rows s b = (s.outbox.ids ≡ ids_of rows) × AllByRecursion (IsToldById test rows) rows
 
-  told_move : (route : Dispatching) (m : Move) (rows : List Event) (s : State) (es : List Entry) → May route s m
-      → IsUnheard (call_of m) → IsTold rows s es → IsTold (rows ++ recorded s m) (after s m) es
-  told_move route (Recorded change event) rows s es may u (ids, h) =
+  told_move : (route : Dispatching) (m : Move) (rows : List Event) (s : State) (b : Unit {0}) → May route s m
+      → IsUnheard (call_of m) → IsTold rows s b → IsTold (rows ++ recorded s m) (after s m) b
+  told_move route (Recorded change event) rows s b may u (ids, h) =
       let row : Event = stored_event (next_seq s.outbox) event in (
         ap (λ (xs : List (List ℕ)). xs ++ row.id ∷ []) ids ∙ sym (map_push (λ (r : Event). r.id) rows row),
         told_more rows row
@@ -176,18 +176,18 @@ module _ (test : Event → Bool) where
             (is_fresh s.outbox change event may))
             h,
       )
-  told_move route Swept rows s es may u k = rw append-nil k
-  told_move route Restarted rows s es may u k = rw append-nil k
-  told_move route (Took hand) rows s es may u k = rw append-nil k
-  told_move route (Called c marks) rows s es may u (ids, h) = rw append-nil (called_ids s c marks ∙ ids, h)
+  told_move route Swept rows s b may u k = rw append-nil k
+  told_move route Restarted rows s b may u k = rw append-nil k
+  told_move route (Took hand) rows s b may u k = rw append-nil k
+  told_move route (Called c marks) rows s b may u (ids, h) = rw append-nil (called_ids s c marks ∙ ids, h)
 
   pub told_all : (route : Dispatching) (worker : ℕ) (journal : List Entry) (moves : List Move) (final : State)
       → IsRouterRun route start moves final → AreServed (calls_of moves) (served_to worker journal)
       → AllByRecursion (IsToldById test (events_of start.outbox moves)) (events_of start.outbox moves)
   told_all route worker journal moves final run served =
-      (kept_by_router route worker IsTold (told_move route)
-      (λ c marks rows s e es may by own k. (called_ids s c marks ∙ k.0, k.1))
-      (λ rows s e es other k. k) moves final journal run served (refl, tt)).1
+      (kept_by_router route worker (IsOf journal) IsTold (told_move route)
+      (λ c marks rows s e b d may by own there k. (called_ids s c marks ∙ k.0, k.1))
+      (λ rows s e b d other there k. k) moves final journal tt tt run served (all_pass journal) (refl, tt)).1
 
 -- the rows of a place whose ids pass are those of the aggregate
 pub filter_both : (p r s : Event → Bool) (rows : List Event)

@@ -22,15 +22,15 @@ use Rattle.kob_inbox.specs.declared.cursors.Standing.{Standing}
 use Rattle.kob_inbox.specs.declared.fetcher.Subscription.{Subscription}
 use Rattle.kob_pipeline.specs.View.{Step, View, read_from, with_commit, IsHistory, opening_view}
 use Rattle.kob_pipeline.proofs.ConsumerKept.{Fits, Taking, WithinCursor, WithinOffset, taking_after_fetch, taking_after_move, taking_nothing, taking_with_commit, taking_after_restart, taking_first, taking_later, Stands, read_in_order, read_stands}
-use Rattle.kob_pipeline.proofs.Lists.{places_are}
+use Rattle.kob_pipeline.proofs.Lists.{all_both, places_are}
 use Rattle.kob_pipeline.proofs.RouterRun.{NotDone, heard_no_done, heard_none}
-use Rattle.kob_pipeline.proofs.ServedRuns.{Hears, IsRun, IsServedBy, IsUnheard, added, kept_by_run}
+use Rattle.kob_pipeline.proofs.ServedRuns.{Hears, IsRun, IsServedBy, IsUnheard, StepsAs, added, history_passes, kept_by_run}
 use Rattle.std.specs.List.{filter_map}
 use Rattle.kob_router.specs.declared.line.Call.{Call}
 use Rattle.kob_inbox.specs.Run.Move.{Called, Restarted}
 use Rattle.kob_shared.specs.declared.journal.Entry.{Entry}
 use Rattle.kob_pipeline.specs.Taking.{IsTakenInOrder}
-use Rattle.kob_pipeline.specs.Premises.{IsNeverDeleted, IsSoleCommitter}
+use Rattle.kob_pipeline.specs.Premises.{IsNeverDeleted, IsNoDeletion, IsOwnCommit, IsSoleCommitter}
 use Rattle.kob_router.specs.Served.{AreServed}
 use Rattle.kob_pipeline.specs.Served.{served_to}
 use Rattle.kob_pipeline.proofs.Logged.{records_more}
@@ -266,72 +266,40 @@ within_left bound o n (inl e) w = subst (WithinOffset bound) (sym e) w
 within_left bound o n (inr e) w = subst (WithinOffset bound) (sym e) tt
 
 module _ (t : Subscription) (q : Place) (worker : ℕ) (end : View) where
-  -- what is kept, by the entries that are left: the history from some view on, and the premises
-  record IsLeft (arrived : List Arrival) (s : State) (es : List Entry) : Type 0 where
-    view : View
-    history : IsHistory view es end
-    sole : IsSoleCommitter worker t.group q.topic es
-    never : IsNeverDeleted q.topic es
-    kept : TakingIn t q s view arrived
+  -- an OFFSET_COMMIT of the group that was done is the worker's, and nobody deletes the topic
+  abbrev IsAsked : Entry → Type 0
+  IsAsked e = IsOwnCommit worker t.group q.topic e × IsNoDeletion q.topic e
 
-  taking_move : (m : Move) (arrived : List Arrival) (s : State) (v : View) → IsUnheard (call_of m)
-      → TakingIn t q s v arrived → TakingIn t q (after t s m) v (arrived ++ takes s m)
-  taking_move Restarted arrived s v u k = taking_nothing q (taking_after_restart q k)
-  taking_move (Called c count) arrived s v u k =
+  abbrev TakingBy : List Arrival → State → View → Type 0
+  TakingBy arrived s v = TakingIn t q s v arrived
+
+  moved : (m : Move) (arrived : List Arrival) (s : State) (v : View) → May t s m → IsUnheard (call_of m)
+      → TakingBy arrived s v → TakingBy (arrived ++ takes s m) (after t s m) v
+  moved Restarted arrived s v may u k = taking_nothing q (taking_after_restart q k)
+  moved (Called c count) arrived s v may u k =
       taking_silent t q s v arrived c.request c.heard count (heard_none c.heard u) k
 
-  moved : (m : Move) (arrived : List Arrival) (s : State) (es : List Entry) → May t s m → IsUnheard (call_of m)
-      → IsLeft arrived s es → IsLeft (arrived ++ takes s m) (after t s m) es
-  moved m arrived s es may u l =
-      record {
-        view = l.view;
-        history = l.history;
-        sole = l.sole;
-        never = l.never;
-        kept = taking_move m arrived s l.view u l.kept;
-      }
+  served : (m : Move) (arrived : List Arrival) (s : State) (e : Entry) (v w : View) → May t s m
+      → IsServedBy e (call_of m) → e.worker ≡ worker → StepsAs IsAsked v e w → TakingBy arrived s v
+      → TakingBy (arrived ++ takes s m) (after t s m) w
+  served Restarted arrived s e v w may by own goes k = absurd by
+  served (Called c count) arrived s e v w may by own goes k =
+      taking_served t q s v w arrived may.0.place c.request e.reply c.heard count (is_due_as t s c.request may.0) by.1
+      (subst (λ (r : Request). Step v r e.reply w) by.0 goes.1) k
 
-  served : (m : Move) (arrived : List Arrival) (s : State) (e : Entry) (es : List Entry) → May t s m
-      → IsServedBy e (call_of m) → e.worker ≡ worker → IsLeft arrived s (e ∷ es)
-      → IsLeft (arrived ++ takes s m) (after t s m) es
-  served Restarted arrived s e es may by own l = absurd by
-  served (Called c count) arrived s e es may by own l =
-      record {
-        view = l.history.0;
-        history = l.history.2;
-        sole = l.sole.1;
-        never = l.never.1;
-        kept =
-            taking_served t q s l.view l.history.0 arrived may.0.place c.request e.reply c.heard count
-            (is_due_as t s c.request may.0) by.1
-            (subst (λ (r : Request). Step l.view r e.reply l.history.0) by.0 l.history.1) l.kept;
-      }
-
-  others : (arrived : List Arrival) (s : State) (e : Entry) (es : List Entry) → (e.worker ≡ worker → ⊥)
-      → IsLeft arrived s (e ∷ es) → IsLeft arrived s es
-  others arrived s e es other l =
-      let v = l.view in
-      let w = l.history.0 in
+  others : (arrived : List Arrival) (s : State) (e : Entry) (v w : View) → (e.worker ≡ worker → ⊥)
+      → StepsAs IsAsked v e w → TakingBy arrived s v → TakingBy arrived s w
+  others arrived s e v w other ((sole, never), step) k =
       let by : Leaves t.group q v w e.event.request e.reply =
-      leaves t.group q v w e.event.request e.reply l.never.0 l.history.1 in
+      leaves t.group q v w e.event.request e.reply never step in
       let log : records_of (v.log q) ++ records_of by.more ≡ records_of (w.log q) =
       sym (ap records_of by.log ∙ records_more (v.log q) by.more) in
       let grown : Taking q (records_of (w.log q)) (v.committed t.group q) s.cursors arrived =
       subst (λ (rs : List Record). Taking q rs (v.committed t.group q) s.cursors arrived) log
-      (taking_later q (records_of by.more) l.kept) in
-      record {
-        view = w;
-        history = l.history.2;
-        sole = l.sole.1;
-        never = l.never.1;
-        kept =
-            taking_with_commit q grown
-            (within_left grown.bound (v.committed t.group q) (w.committed t.group q)
-            (by.commit (λ c. other (l.sole.0 c))) grown.commit);
-      }
-
-  at_end : (arrived : List Arrival) (s : State) → IsLeft arrived s [] → TakingIn t q s end arrived
-  at_end arrived s l = rw (l.history.log q, l.history.committed t.group q) l.kept
+      (taking_later q (records_of by.more) k) in
+      taking_with_commit q grown
+      (within_left grown.bound (v.committed t.group q) (w.committed t.group q) (by.commit (λ c. other (sole c)))
+      grown.commit)
 
   pub is_taken_in_order : (journal : List Entry) (moves : List Move) (final : State)
       → IsHistory opening_view journal end → IsConsumerRun t start moves final
@@ -339,11 +307,12 @@ module _ (t : Subscription) (q : Place) (worker : ℕ) (end : View) where
       → IsNeverDeleted q.topic journal
       → IsTakenInOrder q (records_of (end.log q)) (taken_of moves)
   is_taken_in_order journal moves final history run a sole never =
-      let l : IsLeft (added (after t) takes start moves) final [] =
-      kept_by_run (May t) (after t) call_of takes worker IsLeft moved served others moves start final journal
-      (is_run t moves start final run)
-      (subst (λ (cs : List Call). AreServed cs (served_to worker journal)) (its_calls moves) a)
-      (record { view = opening_view; history = history; sole = sole; never = never; kept = taking_first q }) in
-      let k = at_end (added (after t) takes start moves) final l in
+      let each = all_both (IsOwnCommit worker t.group q.topic) (IsNoDeletion q.topic) journal sole never in
+      let p = history_passes IsAsked opening_view end journal history each in
+      let k : TakingIn t q final end (added (after t) takes start moves) =
+      rw (p.2.log q, p.2.committed t.group q)
+      (kept_by_run (May t) (after t) call_of takes worker (StepsAs IsAsked) TakingBy moved served others final p.0 moves
+      start journal opening_view (is_run t moves start final run)
+      (subst (λ (cs : List Call). AreServed cs (served_to worker journal)) (its_calls moves) a) p.1 (taking_first q)) in
       subst (IsTakenInOrder q (records_of (end.log q))) (sym (all_taken t moves start))
       (record { bound = k.bound; offsets = k.offsets; contents = k.contents })

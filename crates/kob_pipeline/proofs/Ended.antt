@@ -1,102 +1,99 @@
--- What workers left, one worker more at a time, and where the journal is what was noted.
-use Rattle.std.proofs.Common.{◌≡◌, List, [], ◌∷◌, ◌++◌, length, sym, ap, ◌∙◌, map, arith, refl}
-use Rattle.std.proofs.lemmas.List.{flat_map_more, map-append}
-use Rattle.kob_shared.specs.Fleets.{EachIsAnswered, IsAnswered, Follows, IsKept}
-use Rattle.kob_shared.specs.Noted.{Noted}
-use Rattle.kob_shared.specs.Runs.{events_in, notes_of, told_in, IsAsNoted}
-use Rattle.kob_shared.specs.declared.work.Done.{Done}
-use Rattle.kob_pipeline.specs.declared.end.InboxEnd.{InboxEnd}
-use Rattle.kob_pipeline.specs.declared.end.OutboxEnd.{OutboxEnd}
-use Rattle.kob_pipeline.specs.declared.end.WorkerEnd.{WorkerEnd}
-use Rattle.kob_pipeline.proofs.Lists.{all_last}
-use Rattle.kob_pipeline.specs.Leavings.{HasNoRefusal, IsKeptByStore, inbox_of, inboxes_of, outbox_of, outboxes_of}
-use Rattle.std.specs.List.{AllZip}
+-- How many workers there are, and what is left where the journal is what was noted.
+use Rattle.std.proofs.Common.{◌≡◌, List, [], ◌∷◌, ◌++◌, ◌+◌, length, length-append, sym, ap, ◌∙◌, map, arith, refl, subst}
+use Rattle.std.specs.List.{All, AllByRecursion, AllZip}
+use Rattle.std.proofs.lemmas.List.{length-map}
+use Rattle.std.proofs.lemmas.List.Elements.{recursion_from_All}
 use Rattle.kob_broker.specs.Change.{state_of}
+use Rattle.kob_broker.specs.State.{settings_of}
 use Rattle.kob_names.specs.declared.settings.Settings.{Settings}
+use Rattle.kob_rights.specs.declared.event.Event.{Event}
+use Rattle.kob_shared.specs.Fleets.{EachIsAnswered, Follows, IsAnswered}
 use Rattle.kob_shared.specs.Journals.{IsLegal, Record}
+use Rattle.kob_shared.specs.Noted.{Noted}
 use Rattle.kob_shared.specs.Openings.{opened_by}
+use Rattle.kob_shared.specs.Runs.{IsAsNoted, events_in, notes_of, told_in}
+use Rattle.kob_shared.specs.declared.work.Done.{Done}
 use Rattle.kob_shared.proofs.Beginnings.{begins_with}
+use Rattle.kob_shared.proofs.Openings.{opened_again}
 use Rattle.kob_pipeline.specs.declared.end.PipelineEnd.{PipelineEnd}
+use Rattle.kob_pipeline.specs.declared.end.WorkerEnd.{WorkerEnd}
+use Rattle.kob_pipeline.specs.declared.end.WorkerEnd.TheVariants.{Outbox, Inbox, Nothing, StoreRefused}
+use Rattle.kob_pipeline.specs.declared.plan.Plan.{Plan}
 use Rattle.kob_pipeline.specs.declared.worker.Worker.{Worker}
-use Rattle.kob_pipeline.specs.Ends.{IsEnd}
-use Rattle.kob_pipeline.specs.Workers.{IsLeft, planned_as}
+use Rattle.kob_pipeline.specs.Counts.{workers_planned}
+use Rattle.kob_pipeline.specs.Pipelines.{IsEnd, IsPipeline}
+use Rattle.kob_pipeline.specs.Workers.{HasEnded, IsKeptByStore, IsLeft, IsWhole, Planned, planned_as, planned_workers}
+use Rattle.kob_pipeline.specs.Workers.Planned.{Serving, Consuming, Administering}
 
-pub notes_push : (first : Noted) (done : List (Done WorkerEnd)) (one : Done WorkerEnd) (notes : List Noted)
-    → notes ≡ notes_of first done → notes ++ one.notes ∷ [] ≡ notes_of first (done ++ one ∷ [])
-notes_push first done one notes same =
-    ap (λ (ns : List Noted). ns ++ one.notes ∷ []) same
-    ∙ ap (λ (ns : List Noted). first ∷ ns) (sym (map-append (λ (d : Done WorkerEnd). d.notes) done (one ∷ [])))
+-- how many workers there are
+pub workers_counted : (plan : Plan) (workers : List Worker) → map planned_as workers ≡ planned_workers plan
+    → length workers ≡ workers_planned plan
+workers_counted plan workers same =
+    let a = length-map plan.services.items Serving in
+    let b = length-map plan.consumers.items Consuming in
+    let c = length-map plan.administrators.items Administering in
+    let services = map Serving plan.services.items in
+    let consumers = map Consuming plan.consumers.items in
+    let administrators = map Administering plan.administrators.items in
+    let d = length-append services (consumers ++ administrators) in
+    let e = length-append consumers administrators in
+    let all = ap length same in omega (arith, length-map workers planned_as, all, a, b, c, d, e)
 
-pub answered_push : (notes : List Noted) (one : Noted) → EachIsAnswered (events_in notes) (told_in notes)
-    → IsAnswered (length one.events) one.told
-    → EachIsAnswered (events_in (notes ++ one ∷ [])) (told_in (notes ++ one ∷ []))
-answered_push [] one each here = (here, tt)
-answered_push (n ∷ notes) one each here = (each.0, answered_push notes one each.1 here)
+-- who was not refused came to its end
+has_ended : (worker : Planned) (noted : Noted) (end : WorkerEnd) → IsLeft worker noted end → IsKeptByStore end
+    → HasEnded worker noted end
+has_ended worker noted (Outbox left) is kept = is
+has_ended worker noted (Inbox left) is kept = is
+has_ended worker noted Nothing is kept = is
+has_ended worker noted StoreRefused is kept = absurd kept
 
--- what was gathered of the workers so far
-pub record Gathers (first : Noted) (done : List (Done WorkerEnd)) (notes : List Noted) (os : List OutboxEnd)
-    (is : List InboxEnd) : Type 0 where
-  pub transcripts : notes ≡ notes_of first done
-  pub answered : EachIsAnswered (events_in notes) (told_in notes)
-  pub outboxes : os ≡ outboxes_of done
-  pub inboxes : is ≡ inboxes_of done
-  pub unrefused : HasNoRefusal done
-
--- one worker more
-pub gathers_more : {first : Noted} {done : List (Done WorkerEnd)} {notes : List Noted} {os ps : List OutboxEnd}
-    {is js : List InboxEnd} (one : Done WorkerEnd) → Gathers first done notes os is
-    → IsAnswered (length one.notes.events) one.notes.told → IsKeptByStore one.end → ps ≡ os ++ outbox_of one.end
-    → js ≡ is ++ inbox_of one.end
-    → Gathers first (done ++ one ∷ []) (notes ++ one.notes ∷ []) ps js
-gathers_more {first} {done} {notes} one was answered kept outbox inbox = record {
-  transcripts = notes_push first done one notes was.transcripts;
-  answered = answered_push notes one.notes was.answered answered;
-  outboxes =
-      outbox ∙ ap (λ (xs : List OutboxEnd). xs ++ outbox_of one.end) was.outboxes
-      ∙ flat_map_more (λ (d : Done WorkerEnd). outbox_of d.end) [] done one;
-  inboxes =
-      inbox ∙ ap (λ (xs : List InboxEnd). xs ++ inbox_of one.end) was.inboxes
-      ∙ flat_map_more (λ (d : Done WorkerEnd). inbox_of d.end) [] done one;
-  unrefused = all_last (λ (d : Done WorkerEnd). IsKeptByStore d.end) done one was.unrefused kept;
-}
-
--- ---- what is left where the journal is what was noted
-
-all_planned : (workers : List Worker) (done : List (Done WorkerEnd))
+all_ended : (workers : List Worker) (done : List (Done WorkerEnd)) → AllByRecursion IsWhole done
     → AllZip (λ w d. IsLeft (planned_as w) d.notes d.end) workers done
-    → AllZip (λ w d. IsLeft w d.notes d.end) (map planned_as workers) done
-all_planned [] [] all = tt
-all_planned [] (d ∷ done) all = absurd all
-all_planned (w ∷ workers) [] all = absurd all
-all_planned (w ∷ workers) (d ∷ done) all = (all.0, all_planned workers done all.1)
+    → AllZip (λ w d. HasEnded w d.notes d.end) (map planned_as workers) done
+all_ended [] [] kept all = tt
+all_ended [] (d ∷ done) kept all = absurd all
+all_ended (w ∷ workers) [] kept all = absurd all
+all_ended (w ∷ workers) (d ∷ done) kept all =
+    (has_ended (planned_as w) d.notes d.end all.0 kept.0.0, all_ended workers done kept.1 all.1)
+
+all_answered : (done : List (Done WorkerEnd)) → AllByRecursion IsWhole done
+    → EachIsAnswered (events_in (map (λ d. d.notes) done)) (told_in (map (λ d. d.notes) done))
+all_answered [] kept = tt
+all_answered (d ∷ done) kept = (kept.0.1, all_answered done kept.1)
+
+-- all notes have a receipt for each event
+pub each_answered : (first : Noted) (done : List (Done WorkerEnd)) → IsAnswered (length first.events) first.told
+    → All IsWhole done → EachIsAnswered (events_in (notes_of first done)) (told_in (notes_of first done))
+each_answered first done answered kept = (answered, all_answered done (recursion_from_All IsWhole done kept))
 
 -- the journal is what was noted
 pub ended : (opening : Settings) (first : Noted) (workers : List Worker) (done : List (Done WorkerEnd))
     (found : Record) (end : PipelineEnd)
     → IsLegal (opened_by found.opening) found.journal found.broker
     → (found.opening ≡ opening) × IsAsNoted (notes_of first done) found → Follows 0 first.told
-    → AllZip (λ w d. IsLeft (planned_as w) d.notes d.end) workers done → HasNoRefusal done
-    → EachIsAnswered (events_in end.transcripts.items) (told_in end.transcripts.items)
-    → state_of end.broker ≡ found.broker → end.journal ≡ found.journal → end.transcripts.items ≡ notes_of first done
-    → end.outboxes.items ≡ outboxes_of done → end.inboxes.items ≡ inboxes_of done
-    → IsEnd opening first.events (map planned_as workers) end
-ended opening first workers done found end legal kept follows each unrefused answered broker journal transcripts
-    outboxes inboxes =
-    let notes = notes_of first done in
-    let each_answered : EachIsAnswered (events_in notes) (told_in notes) = rw transcripts at answered in
-    let here : IsKept (events_in notes) (told_in notes) end.journal = rw journal kept.1 in
+    → AllZip (λ w d. IsLeft (planned_as w) d.notes d.end) workers done
+    → IsAnswered (length first.events) first.told → All IsWhole done
+    → state_of end.broker ≡ found.broker → end.journal ≡ found.journal → end.first ≡ first → end.done.items ≡ done
+    → IsEnd (opened_by opening) first.events (map planned_as workers) end
+ended opening first workers done found end legal noted follows each answered kept broker journal same all =
+    let receipts = each_answered first done answered kept in
     record {
-      legal = rw (broker, journal, ← kept.0) legal;
-      begins = begins_with first.events first.told end.journal (each_answered.0).counted follows
-          (here.mine 0 (omega arith));
-      answered = answered;
-      kept = rw transcripts here;
-      worker_0 = first;
-      asked = refl;
-      done = done;
-      each = all_planned workers done each;
-      unrefused = unrefused;
-      transcripts = transcripts;
-      outboxes = outboxes;
-      inboxes = inboxes;
+      legal = rw (broker, journal, ← noted.0) legal;
+      begins =
+          rw journal (begins_with first.events first.told found.journal answered.counted follows
+          (noted.1.mine 0 (omega arith)));
+      asked = ap (λ (n : Noted). n.events) same;
+      answered = rw (same, all) receipts;
+      kept = rw (same, all, journal) noted.1;
+      done = rw all (all_ended workers done (recursion_from_All IsWhole done kept) each);
     }
+
+-- so it is of a plan
+pub as_planned : (opening : Settings) (plan : Plan) (events : List Event) (planned : List Planned) (end : PipelineEnd)
+    → opening ≡ settings_of (opened_by plan.settings) → events ≡ plan.first → planned ≡ planned_workers plan
+    → IsEnd (opened_by opening) events planned end → IsPipeline plan end
+as_planned opening plan events planned end stored first workers is =
+    subst (λ o. IsEnd o plan.first (planned_workers plan) end)
+    (ap opened_by stored ∙ sym (opened_again plan.settings))
+    (subst (λ es. IsEnd (opened_by opening) es (planned_workers plan) end) first
+    (subst (λ ws. IsEnd (opened_by opening) events ws end) workers is))

@@ -17,7 +17,6 @@ pub mod TopicReads
 pub mod CommitReads
 pub mod Breaches
 pub mod BrokerSteps
-pub mod Finals
 pub mod Ended
 pub mod Losing
 pub mod Ticked

@@ -1,12 +1,12 @@
 -- Lemmas on lists and places.
-use Rattle.std.proofs.Common.{◌≡◌, ◌⊎◌, ℕ, zero, suc, ◌+◌, length, List, [], ◌∷◌, ◌++◌, Bool, true, false, ◌||◌, refl, ap, ◌∙◌, inl, inr, subst, arith}
+use Rattle.std.proofs.Common.{◌≡◌, ◌⊎◌, ℕ, zero, suc, ◌+◌, length, List, [], ◌∷◌, ◌++◌, Bool, true, false, cond, ◌||◌, refl, ap, ◌∙◌, inl, inr, subst, arith}
 use Rattle.std.specs.Prelude.{filter, map, Contains, Some, slice_get, bytes_eq}
 use Rattle.std.specs.List.{list_any, AllByRecursion}
 use Rattle.std.proofs.lemmas.Slice.Eq.{bytes_eq-Decides}
-use Rattle.std.proofs.lemmas.Bool.{eqb-true, eq-eqb, and_parts, and_from, cases_Bool, or_left, or_right, or_from, or_parts}
+use Rattle.std.proofs.lemmas.Bool.{both_ways, eqb-true, eq-eqb, and_parts, and_from, cases_Bool, or_left, or_right, or_from, or_parts}
 use Rattle.std.proofs.lemmas.List.{append-nil}
 use Rattle.std.proofs.lemmas.Cmp.{nat_list_eq_equiv}
-use Rattle.std.proofs.lemmas.List.Elements.{All-contains, All-contains_itself, All-filter, filter-append, filter_passes}
+use Rattle.std.proofs.lemmas.List.Elements.{All-contains, All-contains_itself, All-filter, All-from_recursion, filter-append, filter_passes, recursion_from_All}
 use Rattle.std.proofs.lemmas.Option.{slice_get_within, get_or_from_slice_get}
 use Rattle.kob_router.specs.Places.{same_place}
 use Rattle.kob_router.specs.declared.place.Place.{Place}
@@ -72,14 +72,12 @@ pub filter_twice : {A : Type 0} (p r : A → Bool) → ((x : A) → p x ≡ true
     → filter p (filter r xs) ≡ filter p xs
 filter_twice p r h [] = refl
 filter_twice {A} p r h (x ∷ xs) =
-    elim (cases_Bool (p x)) [
-      | inl hit ↦ rw (h x hit, hit) (ap (λ ys. x ∷ ys) (filter_twice p r h xs))
-      | inr miss ↦
-          rw miss (elim (cases_Bool (r x)) [
-            | inl y ↦ rw (y, miss) (filter_twice p r h xs)
-            | inr n ↦ rw n
-                (filter_twice p r h xs)
-          ])
+    elim (cases_Bool (r x)) [
+      | inl on ↦ rw on (ap (λ (ys : List A). cond (p x) (x ∷ ys) ys) (filter_twice p r h xs))
+      | inr off ↦ elim (cases_Bool (p x)) [
+        | inl hit ↦ absurd (both_ways (r x) off (h x hit))
+        | inr miss ↦ rw (off, miss) (filter_twice p r h xs)
+      ]
     ]
 
 pub filter_all : {A : Type 0} (p : A → Bool) (xs : List A) → AllByRecursion (λ x. p x ≡ true) xs → filter p xs ≡ xs
@@ -157,17 +155,10 @@ all_weaker P R f (x ∷ xs) h = (f x h.0, all_weaker P R f xs h.1)
 -- what holds of all holds of what a filter keeps, and that passes
 pub all_passing : {A : Type 0} (P : A → Type 0) (test : A → Bool) (xs : List A) → AllByRecursion P xs
     → AllByRecursion (λ x. P x × (test x ≡ true)) (filter test xs)
-all_passing P test [] h = tt
-all_passing P test (x ∷ xs) h =
-    elim (cases_Bool (test x)) [
-      | inl on ↦
-          let rest = all_passing P test xs h.1 in
-          subst (AllByRecursion (λ y. P y × (test y ≡ true)))
-          (let e : x ∷ filter test xs ≡ filter test (x ∷ xs) = rw on refl in e) ((h.0, on), rest)
-      | inr off ↦
-          subst (AllByRecursion (λ y. P y × (test y ≡ true)))
-          (let e : filter test xs ≡ filter test (x ∷ xs) = rw off refl in e) (all_passing P test xs h.1)
-    ]
+all_passing P test xs h =
+    recursion_from_All (λ x. P x × (test x ≡ true)) (filter test xs)
+    (λ k d within.
+    (All-filter test P xs (All-from_recursion P xs h) k d within, filter_passes test xs k d within))
 
 pub all_both : {A : Type 0} (P R : A → Type 0) (xs : List A) → AllByRecursion P xs → AllByRecursion R xs
     → AllByRecursion (λ x. P x × R x) xs
@@ -181,6 +172,4 @@ all_contained P (x ∷ xs) f = (f x (0, omega arith, refl), all_contained P xs (
 
 pub all_at : {A : Type 0} (P : A → Type 0) (xs : List A) (i : ℕ) (x : A) → slice_get xs i ≡ Some x → AllByRecursion P xs
     → P x
-all_at P [] i x e h = cc
-all_at {A} P (y ∷ xs) zero x e h = let same : y ≡ x = cc in subst P same h.0
-all_at P (y ∷ xs) (suc i) x e h = all_at P xs i x e h.1
+all_at P xs i x e h = All-contains P xs x (All-from_recursion P xs h) (contains_at xs i x e)

@@ -155,13 +155,13 @@ module _ (route : Dispatching) (q : Place) where
     pub each : AllByRecursion (IsRecordOf route q rows) (records_of log)
     pub given : AllByRecursion (λ (b : Batch). IsGiven next b.idem) log
 
-  pub logged_recorded : {rows : List Event} {log : List Batch} {next : ℕ} {upto : List Event} (row : Event)
-      → IsLogged rows log next upto → IsLogged (rows ++ row ∷ []) log next upto
-  logged_recorded {rows} {log} row k =
+  pub logged_more_rows : {rows : List Event} {log : List Batch} {next : ℕ} {upto : List Event} (more : List Event)
+      → IsLogged rows log next upto → IsLogged (rows ++ more) log next upto
+  logged_more_rows {rows} {log} more k =
       record {
         delivered = k.delivered;
-        each = all_weaker (IsRecordOf route q rows) (IsRecordOf route q (rows ++ row ∷ []))
-            (λ x (r, at, e). (r, Contains-append_left rows (row ∷ []) r at, e)) (records_of log) k.each;
+        each = all_weaker (IsRecordOf route q rows) (IsRecordOf route q (rows ++ more))
+            (λ x (r, at, e). (r, Contains-append_left rows more r at, e)) (records_of log) k.each;
         given = k.given;
       }
 

@@ -1,7 +1,7 @@
 -- The laws of delivery, of a pipeline's plan and what it leaves.
-use Rattle.std.proofs.Common.{◌≡◌, ◌<◌, ◌+◌, ℕ, Bool, true, false, cond, List, [], ◌∷◌, Some, length, map, nat_eq, slice_get, slice_index_or, refl, ap, sym, ◌∙◌, arith, subst, inl, inr}
+use Rattle.std.proofs.Common.{◌≡◌, ◌<◌, ◌+◌, ℕ, zero, suc, Bool, true, false, cond, List, [], ◌∷◌, ◌++◌, Some, option_map, length, map, nat_eq, slice_get, slice_index_or, refl, ap, sym, ◌∙◌, arith, subst, inl, inr}
 use Rattle.std.proofs.lemmas.List.{get_or-map, length-map}
-use Rattle.std.proofs.lemmas.Option.{get_or_from_slice_get, slice_get_within}
+use Rattle.std.proofs.lemmas.Option.{get_or_from_slice_get, slice_get-map, slice_get_within}
 use Rattle.kob_rights.specs.declared.event.Event.{Event as Asked}
 use Rattle.kob_shared.specs.Fleets.{IsKept, claims, mine_from}
 use Rattle.kob_shared.specs.Noted.{Noted}
@@ -10,8 +10,13 @@ use Rattle.kob_shared.specs.declared.journal.Entry.{Entry}
 use Rattle.kob_shared.specs.declared.journal.Receipt.{Receipt}
 use Rattle.kob_router.specs.Served.{Served}
 use Rattle.kob_pipeline.specs.Served.{served_by_notes, served_in, served_to}
+use Rattle.kob_shared.specs.declared.work.Done.{Done}
+use Rattle.kob_pipeline.specs.Consumers.{IsConsumption}
+use Rattle.kob_pipeline.specs.Services.{IsServiceRun}
+use Rattle.kob_pipeline.specs.Workers.{HasEnded, Planned, planned_workers}
+use Rattle.kob_pipeline.specs.Workers.Planned.{Administering, Consuming, Serving}
 use Rattle.std.proofs.lemmas.Simd.{map-map}
-use Rattle.std.specs.List.{AllByRecursion, enumerate_from}
+use Rattle.std.specs.List.{AllByRecursion, AllZip, enumerate_from}
 use Rattle.std.specs.Prelude.{Contains}
 use Rattle.kob_broker.specs.Change.{state_of}
 use Rattle.kob_outbox.specs.Contents.{Event}
@@ -24,7 +29,7 @@ use Rattle.kob_inbox.specs.Rows.{placed_intake}
 use Rattle.kob_pipeline.specs.BrokerView.{view_after}
 use Rattle.kob_pipeline.specs.Delivery.{IsDelivered}
 use Rattle.kob_pipeline.specs.Parts.{IsConsumerPart, IsServicePart}
-use Rattle.kob_pipeline.specs.Pipelines.{IsConsumedBy, IsPipeline, IsServedBy, consumer_number, service_number}
+use Rattle.kob_pipeline.specs.Pipelines.{HasDone, HasLeft, IsPipeline, consumer_number, consumer_place, notes_in, service_number}
 use Rattle.kob_pipeline.specs.PlanEnds.{TakesInOrder, inbox_in, outbox_in, records_at}
 use Rattle.kob_pipeline.specs.PlanRows.{rows_of_service}
 use Rattle.kob_pipeline.specs.Premises.{ArePrivate, IsNeverDeleted, IsSoleCommitter, IsSoleProducer}
@@ -34,6 +39,8 @@ use Rattle.kob_pipeline.specs.Waiting.{IsWaitingOrSent}
 use Rattle.kob_pipeline.specs.declared.end.InboxEnd.{InboxEnd}
 use Rattle.kob_pipeline.specs.declared.end.OutboxEnd.{OutboxEnd}
 use Rattle.kob_pipeline.specs.declared.end.PipelineEnd.{PipelineEnd}
+use Rattle.kob_pipeline.specs.declared.end.WorkerEnd.{WorkerEnd}
+use Rattle.kob_pipeline.specs.declared.end.WorkerEnd.TheVariants.{Inbox, Outbox}
 use Rattle.kob_pipeline.specs.declared.plan.ConsumerPlan.{ConsumerPlan}
 use Rattle.kob_pipeline.specs.declared.plan.Plan.{Plan}
 use Rattle.kob_pipeline.specs.declared.plan.Service.{Service}
@@ -43,7 +50,7 @@ use Rattle.kob_pipeline.proofs.ConsumerRun.{is_taken_in_order}
 use Rattle.kob_pipeline.proofs.DeliveryLaws.{holds_a_prefix}
 use Rattle.kob_pipeline.proofs.RouterRun.{is_delivered}
 use Rattle.kob_pipeline.proofs.RowsRun.{all_wait_or_sent}
-use Rattle.kob_pipeline.proofs.Lists.{all_weaker, same_some}
+use Rattle.kob_pipeline.proofs.Lists.{all_weaker, get_behind, get_front}
 use Rattle.kob_pipeline.proofs.Rows.{rows_of_steps}
 use Rattle.kob_outbox.specs.Contents as outboxes
 use Rattle.kob_router.specs.Run as routers
@@ -99,35 +106,124 @@ served_alike notes journal worker noted kept there =
     ∙ ap served_of (sym (kept.mine worker (among notes worker noted there)))
     ∙ of_journal worker 0 journal
 
+-- ---- what stands at a worker's place
+
+-- what stands at a place of the second list, by what stands there in the first
+zip_at : {A B : Type 0} (R : A → B → Type 0) (xs : List A) (ys : List B) (k : ℕ) (x : A) → AllZip R xs ys
+    → slice_get xs k ≡ Some x → (y : B) × (slice_get ys k ≡ Some y) × R x y
+zip_at R [] ys k x all there = cc
+zip_at R (a ∷ xs) [] k x all there = absurd all
+zip_at R (a ∷ xs) (b ∷ ys) zero x all there = let same : a ≡ x = cc in (b, refl, subst (λ z. R z b) same all.0)
+zip_at R (a ∷ xs) (b ∷ ys) (suc k) x all there = zip_at R xs ys k x all.1 there
+
+map_at : {A B : Type 0} (v : A → B) (xs : List A) (k : ℕ) (x : A) → slice_get xs k ≡ Some x
+    → slice_get (map v xs) k ≡ Some (v x)
+map_at v xs k x there = slice_get-map v xs k ∙ ap (option_map v) there
+
 -- ---- the laws of delivery, of a pipeline's plan and what it leaves
 
 without_places : (n : ℕ) (inbox : List Intake) → map (λ (x : ℕ × Intake). x.1) (enumerate_from n inbox) ≡ inbox
 without_places n [] = refl
 without_places n (i ∷ inbox) = ap (λ rest. i ∷ rest) (without_places (n + 1) inbox)
 
+-- the inbox that is left is what the run leaves
+its_inbox : (consumer : ConsumerPlan) (noted : Noted) (left : InboxEnd) (run : IsConsumption consumer noted left)
+    → inbox_in left ≡ run.state.inbox
+its_inbox consumer noted left run =
+    sym (map-map (λ (x : ℕ × Intake). x.1) placed_intake left.rows.items)
+    ∙ ap (map (λ (x : ℕ × Intake). x.1)) run.rows
+    ∙ without_places 1 run.state.inbox
+
 module _ (plan : Plan) (end : PipelineEnd) (of : IsPipeline plan end) where
   history : IsHistory opening_view end.journal (view_after plan.settings end.journal)
   history = legal_is_history plan.settings end.journal (state_of end.broker) of.legal
 
-  of_service : (k : ℕ) (service : Service) (by : IsServedBy end (service_number plan k) k service)
-      → IsServicePart service.target (service_number plan k) end.journal by.run.moves by.run.state
-  of_service k service by = record {
-    run = by.run.run;
-    served =
-        rw (← served_alike end.transcripts.items end.journal (service_number plan k) by.noted of.kept by.transcript)
-        by.run.served;
-  }
+  -- what the worker at a place noted and left, and what the journal says that it was served
+  record At (place : ℕ) (worker : Planned) : Type 0 where
+    noted : Noted
+    left : WorkerEnd
+    done : HasDone end place noted left
+    ended : HasEnded worker noted left
+    served : served_by_notes noted.events noted.told ≡ served_to (place + 1) end.journal
 
-  of_consumer : (k : ℕ) (consumer : ConsumerPlan) (by : IsConsumedBy end (consumer_number plan k) k consumer)
-      → IsConsumerPart consumer.subscription (consumer_number plan k) end.journal by.run.moves by.run.state
-  of_consumer k consumer by = record {
-    run = by.run.run;
-    served =
-        rw (← served_alike end.transcripts.items end.journal (consumer_number plan k) by.noted of.kept by.transcript)
-        by.run.served;
-  }
+  at_place : (place : ℕ) (worker : Planned) → slice_get (planned_workers plan) place ≡ Some worker → At place worker
+  at_place place worker there =
+      let at = zip_at (λ w d. HasEnded w d.notes d.end) (planned_workers plan) end.done.items place worker of.done there in
+      let next : place + 1 ≡ suc place = omega arith in
+      record {
+        noted = at.0.notes;
+        left = at.0.end;
+        done = at.1;
+        ended = at.2;
+        served =
+            served_alike (notes_in end) end.journal (place + 1) at.0.notes of.kept
+            (ap (slice_get (notes_in end)) next
+            ∙ map_at (λ (d : Done WorkerEnd). d.notes) end.done.items place at.0 at.1);
+      }
 
-  its_rows : (k : ℕ) (service : Service) (by : IsServedBy end (service_number plan k) k service)
+  -- what a service noted and left, and its part in the journal
+  record Serves (k : ℕ) (service : Service) : Type 0 where
+    noted : Noted
+    left : OutboxEnd
+    done : HasDone end k noted (Outbox left)
+    run : IsServiceRun service noted left
+    part : IsServicePart service.target (service_number plan k) end.journal run.moves run.state
+
+  serves : (k : ℕ) (service : Service) → slice_get plan.services.items k ≡ Some service → Serves k service
+  serves k service there = by at.left at.done at.ended
+    where
+      at : At k (Serving service)
+      at =
+          at_place k (Serving service)
+          (get_front (map Serving plan.services.items)
+          (map Consuming plan.consumers.items ++ map Administering plan.administrators.items) k (Serving service)
+          (map_at Serving plan.services.items k service there))
+
+      by : (left : WorkerEnd) → HasDone end k at.noted left → HasEnded (Serving service) at.noted left
+          → Serves k service
+      by (Outbox left) done run = record {
+        noted = at.noted;
+        left = left;
+        done = done;
+        run = run;
+        part = record { run = run.run; served = rw (← at.served) run.served };
+      }
+      by _ done run = absurd run
+
+  -- what a consumer noted and left, and its part in the journal
+  record Consumes (k : ℕ) (consumer : ConsumerPlan) : Type 0 where
+    noted : Noted
+    left : InboxEnd
+    done : HasDone end (consumer_place plan k) noted (Inbox left)
+    run : IsConsumption consumer noted left
+    part : IsConsumerPart consumer.subscription (consumer_number plan k) end.journal run.moves run.state
+
+  consumes : (k : ℕ) (consumer : ConsumerPlan) → slice_get plan.consumers.items k ≡ Some consumer
+      → Consumes k consumer
+  consumes k consumer there = by at.left at.done at.ended
+    where
+      at : At (consumer_place plan k) (Consuming consumer)
+      at =
+          let front = map Serving plan.services.items in
+          let own = map Consuming plan.consumers.items in
+          let rest = map Administering plan.administrators.items in
+          at_place (consumer_place plan k) (Consuming consumer)
+          (get_behind front (own ++ rest) (consumer_place plan k) k
+          (omega (arith, length-map plan.services.items Serving))
+          ∙ get_front own rest k (Consuming consumer) (map_at Consuming plan.consumers.items k consumer there))
+
+      by : (left : WorkerEnd) → HasDone end (consumer_place plan k) at.noted left
+          → HasEnded (Consuming consumer) at.noted left → Consumes k consumer
+      by (Inbox left) done run = record {
+        noted = at.noted;
+        left = left;
+        done = done;
+        run = run;
+        part = record { run = run.run; served = rw (← at.served) run.served };
+      }
+      by _ done run = absurd run
+
+  its_rows : (k : ℕ) (service : Service) (by : Serves k service)
       → routers.events_of outboxes.empty by.run.moves ≡ rows_of_service service
   its_rows k service by =
       rows_of_steps (dispatch_of service.target) routers.start by.run.state service.steps.items by.run.moves
@@ -137,87 +233,77 @@ module _ (plan : Plan) (end : PipelineEnd) (of : IsPipeline plan end) where
       → IsSoleProducer (service_number plan k) place.topic end.journal → IsNeverDeleted place.topic end.journal
       → IsDelivered (dispatch_of service.target) place (rows_of_service service) (records_at plan end place)
   its_partitions k service place there sole never =
-      let by : IsServedBy end (service_number plan k) k service = of.services k service there in
+      let by : Serves k service = serves k service there in
       rw (← its_rows k service by)
       (is_delivered (dispatch_of service.target) place (target_tells service.target) (service_number plan k)
-      (view_after plan.settings end.journal) end.journal by.run.moves by.run.state history by.run.run
-      (of_service k service by).served sole never)
-
-  still_waits : (left : OutboxEnd) (outbox : outboxes.Contents) (target : Target) (worker : ℕ) (journal : List Entry)
-      (rows : List Event)
-      → outbox.mark ≡ left.mark → outbox.events ≡ (outbox_in left).events
-      → AllByRecursion (IsWaitingOrSent (dispatch_of target) worker journal outbox) rows
-      → AllByRecursion (IsWaitingOrSent (dispatch_of target) worker journal (outbox_in left)) rows
-  still_waits left outbox target worker journal rows mark events all =
-      all_weaker (IsWaitingOrSent (dispatch_of target) worker journal outbox)
-      (IsWaitingOrSent (dispatch_of target) worker journal (outbox_in left)) by rows all
-    where
-      by : (row : Event) → IsWaitingOrSent (dispatch_of target) worker journal outbox row
-          → IsWaitingOrSent (dispatch_of target) worker journal (outbox_in left) row
-      by row (inl waits) = inl (record {
-        past = subst (λ (mark : ℕ). mark < row.seq) mark waits.past;
-        there = subst (λ (events : List Event). Contains events row) events waits.there;
-      })
-      by row (inr sent) = inr sent
+      (view_after plan.settings end.journal) end.journal by.run.moves by.run.state history by.part.run by.part.served
+      sole never)
 
   pub is_none_lost : (k : ℕ) (service : Service) (left : OutboxEnd) → slice_get plan.services.items k ≡ Some service
-      → slice_get end.outboxes.items k ≡ Some left
+      → HasLeft end k (Outbox left)
       → AllByRecursion
       (IsWaitingOrSent (dispatch_of service.target) (service_number plan k) end.journal (outbox_in left))
       (rows_of_service service)
   is_none_lost k service left there kept =
-      let by : IsServedBy end (service_number plan k) k service = of.services k service there in
-      let same : by.left ≡ left = same_some by.left left (sym by.outbox ∙ kept) in
-      subst (λ (rows : List Event).
-      AllByRecursion
-      (IsWaitingOrSent (dispatch_of service.target) (service_number plan k) end.journal (outbox_in left)) rows)
+      let by : Serves k service = serves k service there in
+      let route = dispatch_of service.target in
+      let outbox = by.run.state.outbox in
+      let ends : Some (Outbox by.left) ≡ Some (Outbox left) =
+      sym (ap (option_map (λ (d : Done WorkerEnd). d.end)) by.done) ∙ kept in
+      let same : by.left ≡ left = cc in
+      let mark : outbox.mark ≡ left.mark = sym by.run.mark ∙ ap (λ (l : OutboxEnd). l.mark) same in
+      let events : outbox.events ≡ (outbox_in left).events =
+      sym by.run.rows ∙ ap (λ (l : OutboxEnd). (outbox_in l).events) same in
+      subst (AllByRecursion (IsWaitingOrSent route (service_number plan k) end.journal (outbox_in left)))
       (its_rows k service by)
-      (still_waits left by.run.state.outbox service.target (service_number plan k) end.journal
-      (routers.events_of outboxes.empty by.run.moves)
-      (sym by.run.mark ∙ ap (λ (l : OutboxEnd). l.mark) same)
-      (sym by.run.rows ∙ ap (λ (l : OutboxEnd). (outbox_in l).events) same)
-      (all_wait_or_sent (dispatch_of service.target) (service_number plan k) end.journal by.run.moves by.run.state
-      by.run.run (of_service k service by).served))
-
-  -- the inbox that is left is what the run leaves
-  its_inbox : (k : ℕ) (consumer : ConsumerPlan) (by : IsConsumedBy end (consumer_number plan k) k consumer)
-      → inbox_in by.left ≡ by.run.state.inbox
-  its_inbox k consumer by =
-      sym (map-map (λ (x : ℕ × Intake). x.1) placed_intake by.left.rows.items)
-      ∙ ap (map (λ (x : ℕ × Intake). x.1)) by.run.rows
-      ∙ without_places 1 by.run.state.inbox
+      (all_weaker (IsWaitingOrSent route (service_number plan k) end.journal outbox)
+      (IsWaitingOrSent route (service_number plan k) end.journal (outbox_in left))
+      (λ row is. elim is [
+        | inl waits ↦ inl (record {
+          past = subst (λ (n : ℕ). n < row.seq) mark waits.past;
+          there = subst (λ (es : List Event). Contains es row) events waits.there;
+        })
+        | inr sent ↦ inr sent
+      ]) (routers.events_of outboxes.empty by.run.moves)
+      (all_wait_or_sent route (service_number plan k) end.journal by.run.moves by.run.state by.part.run
+      by.part.served))
 
   pub takes_its_records : (k : ℕ) (consumer : ConsumerPlan) (place : Place) → slice_get plan.consumers.items k
       ≡ Some consumer
       → IsSoleCommitter (consumer_number plan k) consumer.subscription.group place.topic end.journal
       → IsNeverDeleted place.topic end.journal
-      → TakesInOrder plan end (consumer_number plan k) k consumer place
+      → TakesInOrder plan end k consumer place
   takes_its_records k consumer place there sole never =
-      let by : IsConsumedBy end (consumer_number plan k) k consumer = of.consumers k consumer there in
+      let by : Consumes k consumer = consumes k consumer there in
       record {
-        by = by;
+        noted = by.noted;
+        left = by.left;
+        done = by.done;
+        run = by.run;
         order =
             is_taken_in_order consumer.subscription place (consumer_number plan k)
-            (view_after plan.settings end.journal) end.journal by.run.moves by.run.state history by.run.run
-            (of_consumer k consumer by).served sole never;
+            (view_after plan.settings end.journal) end.journal by.run.moves by.run.state history by.part.run
+            by.part.served sole never;
         inbox =
-            its_inbox k consumer by
+            its_inbox consumer by.noted by.left by.run
             ∙ run_takes_in consumer.subscription by.run.moves consumers.start by.run.state by.run.run;
       }
 
   pub reaches_its_inbox : (i k : ℕ) (service : Service) (consumer : ConsumerPlan) (left : InboxEnd)
       → slice_get plan.services.items i ≡ Some service → slice_get plan.consumers.items k ≡ Some consumer
-      → slice_get end.inboxes.items k ≡ Some left
+      → HasLeft end (consumer_place plan k) (Inbox left)
       → ArePrivate (service_number plan i) (consumer_number plan k) consumer.subscription.group
       consumer.subscription.assignment end.journal
       → (kind id : List ℕ) → ReachesInOrder (rows_of_service service) (inbox_in left) kind id
   reaches_its_inbox i k service consumer left sends takes kept private kind id =
-      let sent : IsServedBy end (service_number plan i) i service = of.services i service sends in
-      let took : IsConsumedBy end (consumer_number plan k) k consumer = of.consumers k consumer takes in
-      let same : took.left ≡ left = same_some took.left left (sym took.inbox ∙ kept) in
+      let sent : Serves i service = serves i service sends in
+      let took : Consumes k consumer = consumes k consumer takes in
+      let ends : Some (Inbox took.left) ≡ Some (Inbox left) =
+      sym (ap (option_map (λ (d : Done WorkerEnd). d.end)) took.done) ∙ kept in
+      let same : took.left ≡ left = cc in
       subst (λ (rows : List Event). ReachesInOrder rows (inbox_in left) kind id) (its_rows i service sent)
       (subst (λ (inbox : List Intake). ReachesInOrder (routers.events_of outboxes.empty sent.run.moves) inbox kind id)
-      (sym (its_inbox k consumer took) ∙ ap inbox_in same)
+      (sym (its_inbox consumer took.noted took.left took.run) ∙ ap inbox_in same)
       (holds_a_prefix service.target consumer.subscription (service_number plan i) (consumer_number plan k) end.journal
       (view_after plan.settings end.journal) sent.run.moves sent.run.state took.run.moves took.run.state kind id history
-      (of_service i service sent) (of_consumer k consumer took) private))
+      sent.part took.part private))

@@ -6,21 +6,21 @@ use Rattle.kob_names.specs.declared.batch.Batch.{Batch}
 use Rattle.kob_outbox.specs.Contents.{Contents, Event}
 use Rattle.kob_outbox.specs.Events.{stored_event}
 use Rattle.kob_outbox.specs.Recording.{next_seq}
-use Rattle.kob_outbox.specs.declared.change.Change.{Change}
 use Rattle.kob_outbox.specs.declared.event.OutboxEvent.{OutboxEvent}
 use Rattle.kob_partition.specs.Batches.{history}
 use Rattle.kob_producers.specs.declared.sent.Sent.{Sent}
 use Rattle.kob_router.specs.Dispatches.{Dispatching, place_of}
 use Rattle.kob_router.specs.Places.{with_sequence_for, sequence_of, same_place, after_use}
-use Rattle.kob_router.specs.Run.{Hand, IsRecordable, May, State, after, start, batch_of}
-use Rattle.kob_router.specs.Run.Move.{Recorded, Restarted, Swept, Took}
+use Rattle.kob_router.specs.Run.{Hand, May, Move, State, after, start, batch_of}
+use Rattle.kob_router.specs.Run.Move.{Called, Recorded, Restarted, Swept, Took}
 use Rattle.kob_router.specs.declared.dispatch.Dispatch.{Dispatch}
 use Rattle.kob_router.specs.declared.place.Place.{Place}
 use Rattle.kob_router.specs.declared.sender.Producer.{Producer}
 use Rattle.kob_router.specs.declared.sequences.Sequence.{Sequence}
 use Rattle.kob_pipeline.specs.Delivery.{told_id, goes_to}
-use Rattle.kob_pipeline.proofs.Logged.{IsKept, kept_at_start, kept_recorded, kept_swept, kept_marked, IsLogged, logged_later, logged_recorded, IsBatchOf, logged_again, logged_elsewhere, logged_first}
-use Rattle.kob_pipeline.proofs.Lists.{all_last, get_front, first_is, place_cases, same_here, same_some}
+use Rattle.kob_pipeline.proofs.Logged.{IsKept, kept_at_start, kept_recorded, kept_swept, kept_marked, IsLogged, logged_later, logged_more_rows, IsBatchOf, logged_again, logged_elsewhere, logged_first}
+use Rattle.kob_pipeline.proofs.Lists.{all_append, get_front, first_is, place_cases, same_here, same_some}
+use Rattle.kob_pipeline.proofs.Rows.{recorded}
 use Rattle.kob_pipeline.proofs.Sending.{AreCounted, counted_none, no_history, sequence_prepared, wrapped, IsNumber, apart_wrapped, counted_last, history_last, idem_of, next_base, next_wrapped, repeat_base, sequence_used_elsewhere, sequence_used_here}
 use Rattle.std.proofs.lemmas.Bool.{both_ways}
 use Rattle.std.proofs.lemmas.List.{append-nil, length_push}
@@ -51,6 +51,48 @@ pub in_hand_more : (route : Dispatching) (o : Option Hand) (wait : List Event) (
     → InHand route o (wait ++ row ∷ [])
 in_hand_more route None wait row h = tt
 in_hand_more route (Some x) wait row h = (get_front wait (row ∷ []) 0 x.event h.0, h.1)
+
+-- of the rows these were sent and these wait, and what is in hand is the first that waits
+pub record IsHeld (route : Dispatching) (rows : List Event) (c : Contents) (hand : Option Hand)
+    (sent wait : List Event) : Type 0 where
+  pub kept : IsKept rows c sent wait
+  pub holds : InHand route hand wait
+
+-- the move leaves the mark
+abbrev pub IsUnmarked : Move → Type 0
+IsUnmarked (Called call marks) = marks ≡ false
+IsUnmarked _ = Unit {0}
+
+pub held_by_move : {route : Dispatching} {rows : List Event} {sent wait : List Event} (s : State) (m : Move)
+    → May route s m → IsUnmarked m → IsHeld route rows s.outbox s.hand sent wait
+    → IsHeld route (rows ++ recorded s m) (after s m).outbox (after s m).hand sent (wait ++ recorded s m)
+held_by_move {route = route} {wait = wait} s (Recorded change event) may u h = record {
+  kept = kept_recorded change event may h.kept;
+  holds = in_hand_more route s.hand wait (stored_event (next_seq s.outbox) event) h.holds;
+}
+held_by_move {rows = rows} {wait = wait} s Swept may u h =
+    rw (append-nil rows, append-nil wait) (record { kept = kept_swept h.kept; holds = h.holds })
+held_by_move {rows = rows} {wait = wait} s Restarted may u h =
+    rw (append-nil rows, append-nil wait) (record { kept = h.kept; holds = tt })
+held_by_move {rows = rows} {wait = wait} s (Took hand) may u h =
+    rw (append-nil rows, append-nil wait)
+    (record { kept = h.kept; holds = (rw h.kept.waits at may.1, may.2) })
+held_by_move {rows = rows} {wait = wait} s (Called call marks) may u h = rw (u, append-nil rows, append-nil wait) h
+
+-- what is in hand counts as sent
+pub held_marked : {route : Dispatching} {rows : List Event} {c : Contents} {sent wait : List Event} (hand : Hand)
+    → IsHeld route rows c (Some hand) sent wait
+    → (rest : List Event)
+    × IsHeld route rows (record c { mark = hand.event.seq }) None (sent ++ hand.event ∷ []) rest
+held_marked {rows = rows} {c = c} {sent = sent} {wait = wait} hand h =
+    let first = first_is wait hand.event h.holds.0 in
+    (first.0, record { kept = kept_marked (subst (IsKept rows c sent) first.1 h.kept); holds = tt })
+
+-- what is recorded tells its id
+tells_recorded : (route : Dispatching) (s : State) (m : Move) → TellsIds route
+    → AllByRecursion (TellsItsId route) (recorded s m)
+tells_recorded route s (Recorded change event) tells = (tells (next_seq s.outbox) event, tt)
+tells_recorded route s _ tells = tt
 
 -- the batch in hand is in the log, and was not acknowledged yet
 pub record IsPending (ss : List Sequence) (hand : Option Hand) (q : Place) (count : ℕ) (ahead : Option Event) : Type 0
@@ -90,7 +132,7 @@ in_step_taken : (ss : List Sequence) (old : Option Hand) (hand : Hand) (q : Plac
 in_step_taken ss old hand q n ahead none (inl e) = inl (sequence_prepared ss hand.place q ∙ e)
 in_step_taken ss old hand q n ahead none (inr w) = let bad : Some w.held ≡ None = sym w.in_hand ∙ none in absurd cc
 
-known_taken : (o : Option Producer) (ss : List Sequence) (old : Option Hand) (hand : Hand) (q : Place)
+pub known_taken : (o : Option Producer) (ss : List Sequence) (old : Option Hand) (hand : Hand) (q : Place)
     (log : List Batch) (next : ℕ) (ahead : Option Event) → old ≡ None → Known o ss old q log next ahead
     → Known o (with_sequence_for ss hand.place) (Some hand) q log next ahead
 known_taken None ss old hand q log next ahead none k = sequence_prepared ss hand.place q ∙ k
@@ -107,9 +149,8 @@ module _ (route : Dispatching) (q : Place) where
     pub sent : List Event
     pub ahead : Option Event
     pub rest : List Event
-    pub kept : IsKept rows s.outbox sent (here ahead ++ rest)
+    pub held : IsHeld route rows s.outbox s.hand sent (here ahead ++ rest)
     pub tells : AllByRecursion (TellsItsId route) rows
-    pub holds : InHand route s.hand (here ahead ++ rest)
     pub logged : IsLogged route q rows log next (sent ++ here ahead)
     pub known : Known s.producer s.sequences s.hand q log next ahead
 
@@ -119,9 +160,8 @@ module _ (route : Dispatching) (q : Place) where
         sent = [];
         ahead = None;
         rest = [];
-        kept = kept_at_start;
+        held = record { kept = kept_at_start; holds = tt };
         tells = tt;
-        holds = tt;
         logged = record { delivered = refl; each = tt; given = tt };
         known = refl;
       }
@@ -134,71 +174,27 @@ module _ (route : Dispatching) (q : Place) where
         sent = k.sent;
         ahead = k.ahead;
         rest = k.rest;
-        kept = k.kept;
+        held = k.held;
         tells = k.tells;
-        holds = k.holds;
         logged = logged_later route q l k.logged;
         known = known_later s.producer s.sequences s.hand q log next later k.ahead l k.known;
       }
 
-  -- the router has another producer id, other sequences or another row in hand
-  kept_as : {rows : List Event} {s : State} {log : List Batch} {next : ℕ} (o : Option Producer) (ss : List Sequence)
-      (hand : Option Hand) (k : Kept rows s log next) → InHand route hand (here k.ahead ++ k.rest)
-      → Known o ss hand q log next k.ahead
-      → Kept rows (record { outbox = s.outbox; producer = o; sequences = ss; hand = hand }) log next
-  kept_as o ss hand k holds known =
+  -- a move that leaves the mark
+  pub kept_by_move : {rows : List Event} {s : State} {log : List Batch} {next : ℕ} (m : Move) → TellsIds route
+      → May route s m → IsUnmarked m → (k : Kept rows s log next)
+      → Known (after s m).producer (after s m).sequences (after s m).hand q log next k.ahead
+      → Kept (rows ++ recorded s m) (after s m) log next
+  kept_by_move {rows} {s} m tells may u k known =
       record {
         sent = k.sent;
         ahead = k.ahead;
-        rest = k.rest;
-        kept = k.kept;
-        tells = k.tells;
-        holds = holds;
-        logged = k.logged;
+        rest = k.rest ++ recorded s m;
+        held = rw (← append_assoc (here k.ahead) k.rest (recorded s m)) (held_by_move s m may u k.held);
+        tells = all_append (TellsItsId route) rows (recorded s m) k.tells (tells_recorded route s m tells);
+        logged = logged_more_rows route q (recorded s m) k.logged;
         known = known;
       }
-
-  pub kept_after_record : {rows : List Event} {s : State} {log : List Batch} {next : ℕ} (change : Change)
-      (event : OutboxEvent) → TellsIds route → IsRecordable s.outbox change event → Kept rows s log next
-      → Kept (rows ++ stored_event (next_seq s.outbox) event ∷ []) (after s (Recorded change event)) log next
-  kept_after_record {rows} {s} change event tells may k =
-      let row : Event = stored_event (next_seq s.outbox) event in
-      let more = append_assoc (here k.ahead) k.rest (row ∷ []) in
-      record {
-        sent = k.sent;
-        ahead = k.ahead;
-        rest = k.rest ++ row ∷ [];
-        kept = rw (← more) (kept_recorded change event may k.kept);
-        tells = all_last (TellsItsId route) rows row k.tells (tells (next_seq s.outbox) event);
-        holds = rw (← more) (in_hand_more route s.hand (here k.ahead ++ k.rest) row k.holds);
-        logged = logged_recorded route q row k.logged;
-        known = k.known;
-      }
-
-  pub kept_after_sweep : {rows : List Event} {s : State} {log : List Batch} {next : ℕ} → Kept rows s log next
-      → Kept rows (after s Swept) log next
-  kept_after_sweep k =
-      record {
-        sent = k.sent;
-        ahead = k.ahead;
-        rest = k.rest;
-        kept = kept_swept k.kept;
-        tells = k.tells;
-        holds = k.holds;
-        logged = k.logged;
-        known = k.known;
-      }
-
-  pub kept_after_restart : {rows : List Event} {s : State} {log : List Batch} {next : ℕ} → Kept rows s log next
-      → Kept rows (after s Restarted) log next
-  kept_after_restart k = kept_as None [] None k tt refl
-
-  pub kept_after_take : {rows : List Event} {s : State} {log : List Batch} {next : ℕ} (hand : Hand)
-      → May route s (Took hand) → Kept rows s log next → Kept rows (after s (Took hand)) log next
-  kept_after_take {s = s} {log = log} {next = next} hand may k =
-      kept_as s.producer (with_sequence_for s.sequences hand.place) (Some hand) k
-      (rw k.kept.waits at may.1, may.2)
-      (known_taken s.producer s.sequences s.hand hand q log next k.ahead may.0 k.known)
 
   -- the producer is given an id
   pub kept_after_id : {rows : List Event} {c : Contents} {ss : List Sequence} {hand : Option Hand} {log : List Batch}
@@ -209,16 +205,21 @@ module _ (route : Dispatching) (q : Place) where
         sequences = ss;
         hand = hand;
       }) log (next + 1)
-  unfolding kept_later
-  kept_after_id {ss = ss} {hand = hand} {log = log} {next = next} k =
-      let p : Producer = record { id = next; epoch = 0 } in
+  kept_after_id {log = log} {next = next} k =
       let none : history next log ≡ [] = no_history next next (omega arith) log k.logged.given in
-      kept_as (Some p) ss hand (kept_later (omega arith) k) k.holds
-      (record {
-        below = omega arith;
-        counted = rw none (counted_none p);
-        in_step = inl (k.known ∙ ap (λ (sents : List Sent). wrapped (length sents)) (sym none));
-      })
+      record {
+        sent = k.sent;
+        ahead = k.ahead;
+        rest = k.rest;
+        held = k.held;
+        tells = k.tells;
+        logged = logged_later route q (omega arith) k.logged;
+        known = record {
+          below = omega arith;
+          counted = rw none (counted_none (record { id = next; epoch = 0 }));
+          in_step = inl (k.known ∙ ap (λ (sents : List Sent). wrapped (length sents)) (sym none));
+        };
+      }
 
 -- ---- what a served call of a router keeps
 
@@ -301,15 +302,14 @@ module _ (route : Dispatching) (q : Place) where
       }) log next
   kept_after_mark {rows} {c} {p} {ss} {h} {log} {next} k ready =
       let one =
-      sent_one h.event k.ahead k.rest k.holds.0
-      (sent_why route ss h q (length (history p.id log)) k.ahead k.holds.1 ready) k.kept k.logged in
+      sent_one h.event k.ahead k.rest k.held.holds.0
+      (sent_why route ss h q (length (history p.id log)) k.ahead k.held.holds.1 ready) k.held.kept k.logged in
       record {
         sent = k.sent ++ h.event ∷ [];
         ahead = None;
         rest = one.0;
-        kept = one.1;
+        held = record { kept = one.1; holds = tt };
         tells = k.tells;
-        holds = tt;
         logged = subst (IsLogged route q rows log next) (sym (append-nil (k.sent ++ h.event ∷ []))) one.2;
         known = record {
           below = k.known.below;
@@ -352,8 +352,8 @@ kept_after_batch route rows c p ss h log next x k to comes =
     let s : Sent = sent_batch (idem_of p (sequence_of ss q)) 1 more.0 in
     let number : IsNumber p n s = record { epoch = refl; base = base; single = refl } in
     let count : length (history p.id (log ++ b ∷ [])) ≡ n + 1 = ap length more.1 ∙ length_push (history p.id log) s in
-    let at = first_is (here k.ahead ++ k.rest) h.event k.holds.0 in
-    let kept : IsKept rows c k.sent (h.event ∷ at.0) = subst (IsKept rows c k.sent) at.1 k.kept in
+    let at = first_is (here k.ahead ++ k.rest) h.event k.held.holds.0 in
+    let kept : IsKept rows c k.sent (h.event ∷ at.0) = subst (IsKept rows c k.sent) at.1 k.held.kept in
     let has : Contains rows h.event =
     rw kept.rows_are (Contains-append_right k.sent (h.event ∷ at.0) h.event (0, omega arith, refl)) in
     let tells : TellsItsId route h.event =
@@ -368,10 +368,9 @@ kept_after_batch route rows c p ss h log next x k to comes =
         sent = k.sent;
         ahead = Some h.event;
         rest = at.0;
-        kept = kept;
+        held = record { kept = kept; holds = (refl, k.held.holds.1) };
         tells = k.tells;
-        holds = (refl, k.holds.1);
-        logged = log_more route q k.ahead k.rest at.0 at.1 has is k.kept k.logged;
+        logged = log_more route q k.ahead k.rest at.0 at.1 has is k.held.kept k.logged;
         known = record {
           below = k.known.below;
           counted = rw more.1 (counted_last p (history p.id log) s k.known.counted number);

@@ -22,17 +22,17 @@ use Rattle.kob_router.specs.Run.Move.{Called, Recorded, Restarted, Swept, Took}
 use Rattle.kob_router.specs.declared.place.Place.{Place}
 use Rattle.kob_router.specs.declared.sender.Producer.{Producer}
 use Rattle.kob_router.specs.declared.sequences.Sequence.{Sequence}
-use Rattle.kob_pipeline.specs.View.{Accepts, Does, Step, View, with_batch, with_producer, IsHistory, opening_view}
-use Rattle.kob_pipeline.proofs.Lists.{place_cases, same_here}
-use Rattle.kob_pipeline.proofs.RouterKept.{Kept, kept_after_id, kept_later, IsServed, holding, kept_after_batch, kept_after_mark, repeat_is_pending, TellsIds, here, kept_after_record, kept_after_restart, kept_after_sweep, kept_after_take, kept_first}
+use Rattle.kob_pipeline.specs.View.{Accepts, Does, IsSameView, Step, View, with_batch, with_producer, IsHistory, opening_view}
+use Rattle.kob_pipeline.proofs.Lists.{all_both, place_cases, same_here}
+use Rattle.kob_pipeline.proofs.RouterKept.{IsServed, Kept, TellsIds, here, holding, kept_after_batch, kept_after_id, kept_after_mark, kept_by_move, kept_first, kept_later, known_taken, repeat_is_pending}
 use Rattle.kob_pipeline.proofs.Sending.{idem_of}
-use Rattle.kob_pipeline.proofs.ServedRuns.{Hears, IsServedBy, IsUnheard}
+use Rattle.kob_pipeline.proofs.ServedRuns.{Hears, IsServedBy, IsUnheard, StepsAs, history_passes}
 use Rattle.std.proofs.lemmas.List.{map-append}
 use Rattle.std.proofs.lemmas.List.Elements.{filter-append}
 use Rattle.kob_router.specs.declared.line.Call.{Call}
 use Rattle.kob_shared.specs.declared.journal.Entry.{Entry}
 use Rattle.kob_pipeline.specs.Delivery.{IsDelivered, goes_to, routed_to}
-use Rattle.kob_pipeline.specs.Premises.{IsNeverDeleted, IsSoleProducer}
+use Rattle.kob_pipeline.specs.Premises.{IsNeverDeleted, IsNoDeletion, IsOwnProduce, IsSoleProducer}
 use Rattle.kob_router.specs.Served.{AreServed}
 use Rattle.kob_pipeline.specs.Served.{served_to}
 use Rattle.kob_pipeline.proofs.OtherSteps.{leaves}
@@ -210,78 +210,49 @@ module _ (route : Dispatching) (q : Place) where
 -- ---- what a router leaves on a partition: by its own moves and the entries of the journal, each at its pace
 
 module _ (route : Dispatching) (q : Place) (tells : TellsIds route) (worker : ℕ) (end : View) where
-  -- what is kept, by the entries that are left: the history from some view on, and the premises
-  record IsLeft (rows : List Event) (s : State) (es : List Entry) : Type 0 where
-    view : View
-    history : IsHistory view es end
-    sole : IsSoleProducer worker q.topic es
-    never : IsNeverDeleted q.topic es
-    kept : KeptIn route q rows s view
-
-  no_more : {rows : List Event} {s : State} {log : List Batch} {next : ℕ} → Kept route q rows s log next
-      → Kept route q (rows ++ []) s log next
-  no_more {rows} k = rw (append-nil rows) k
+  -- a PRODUCE to the topic that was done is the worker's, and nobody deletes the topic
+  abbrev IsAsked : Entry → Type 0
+  IsAsked e = IsOwnProduce worker q.topic e × IsNoDeletion q.topic e
 
   kept_move : (m : Move) (rows : List Event) (s : State) (v : View) → May route s m → IsUnheard (call_of m)
       → KeptIn route q rows s v → KeptIn route q (rows ++ recorded s m) (after s m) v
-  kept_move (Recorded change event) rows s v may u k = kept_after_record route q change event tells may k
-  kept_move Swept rows s v may u k = no_more (kept_after_sweep route q k)
-  kept_move Restarted rows s v may u k = no_more (kept_after_restart route q k)
-  kept_move (Took hand) rows s v may u k = no_more (kept_after_take route q hand may k)
+  kept_move (Recorded change event) rows s v may u k =
+      kept_by_move route q (Recorded change event) tells may tt k k.known
+  kept_move Swept rows s v may u k = kept_by_move route q Swept tells may tt k k.known
+  kept_move Restarted rows s v may u k = kept_by_move route q Restarted tells may tt k refl
+  kept_move (Took hand) rows s v may u k =
+      kept_by_move route q (Took hand) tells may tt k
+      (known_taken s.producer s.sequences s.hand hand q (v.log q) v.next_producer k.ahead may.0 k.known)
   kept_move (Called c marks) rows s v may u k =
-      no_more (kept_after_no_answer route q rows s v c.request c.heard marks may (heard_none c.heard u) k)
+      rw (append-nil rows)
+      (kept_after_no_answer route q rows s v c.request c.heard marks may (heard_none c.heard u) k)
 
-  moved : (m : Move) (rows : List Event) (s : State) (es : List Entry) → May route s m → IsUnheard (call_of m)
-      → IsLeft rows s es → IsLeft (rows ++ recorded s m) (after s m) es
-  moved m rows s es may u l =
-      record {
-        view = l.view;
-        history = l.history;
-        sole = l.sole;
-        never = l.never;
-        kept = kept_move m rows s l.view may u l.kept;
-      }
+  served : (c : Call) (marks : Bool) (rows : List Event) (s : State) (e : Entry) (v w : View)
+      → May route s (Called c marks) → IsServedBy e (Some c) → e.worker ≡ worker → StepsAs IsAsked v e w
+      → KeptIn route q rows s v → KeptIn route q rows (after s (Called c marks)) w
+  served c marks rows s e v w may by own goes k =
+      kept_after_served route q rows s v w c.request e.reply c.heard marks may by.1
+      (subst (λ (r : Request). Step v r e.reply w) by.0 goes.1) k
 
-  served : (c : Call) (marks : Bool) (rows : List Event) (s : State) (e : Entry) (es : List Entry)
-      → May route s (Called c marks) → IsServedBy e (Some c) → e.worker ≡ worker → IsLeft rows s (e ∷ es)
-      → IsLeft rows (after s (Called c marks)) es
-  served c marks rows s e es may by own l =
-      record {
-        view = l.history.0;
-        history = l.history.2;
-        sole = l.sole.1;
-        never = l.never.1;
-        kept =
-            kept_after_served route q rows s l.view l.history.0 c.request e.reply c.heard marks may by.1
-            (subst (λ (r : Request). Step l.view r e.reply l.history.0) by.0 l.history.1) l.kept;
-      }
-
-  others : (rows : List Event) (s : State) (e : Entry) (es : List Entry) → (e.worker ≡ worker → ⊥)
-      → IsLeft rows s (e ∷ es) → IsLeft rows s es
-  others rows s e es other l =
-      let v = l.view in
-      let w = l.history.0 in
-      let by = leaves [] q v w e.event.request e.reply l.never.0 l.history.1 in
+  others : (rows : List Event) (s : State) (e : Entry) (v w : View) → (e.worker ≡ worker → ⊥)
+      → StepsAs IsAsked v e w → KeptIn route q rows s v → KeptIn route q rows s w
+  others rows s e v w other ((sole, never), step) k =
+      let by = leaves [] q v w e.event.request e.reply never step in
       let log : v.log q ≡ w.log q =
-      sym (by.log ∙ ap (λ (more : List Batch). v.log q ++ more) (by.grows (λ p. other (l.sole.0 p)))
+      sym (by.log ∙ ap (λ (more : List Batch). v.log q ++ more) (by.grows (λ p. other (sole p)))
       ∙ append-nil (v.log q)) in
-      record {
-        view = w;
-        history = l.history.2;
-        sole = l.sole.1;
-        never = l.never.1;
-        kept = rw (← log) (kept_later route q by.later l.kept);
-      }
+      rw (← log) (kept_later route q by.later k)
 
-  at_end : (rows : List Event) (s : State) → IsLeft rows s [] → KeptIn route q rows s end
-  at_end rows s l = rw (l.history.log q, l.history.next_producer) l.kept
+  as_shown : (rows : List Event) (s : State) (v : View) → IsSameView end v → KeptIn route q rows s v
+      → KeptIn route q rows s end
+  as_shown rows s v same k = rw (same.log q, same.next_producer) k
 
   -- what is kept says what was delivered
   delivered : (rows : List Event) (s : State) → KeptIn route q rows s end
       → IsDelivered route q rows (records_of (end.log q))
   delivered rows s k =
       let front : List Event = k.sent ++ here k.ahead in
-      let all : front ++ k.rest ≡ rows = append_assoc k.sent (here k.ahead) k.rest ∙ sym k.kept.rows_are in
+      let all : front ++ k.rest ≡ rows = append_assoc k.sent (here k.ahead) k.rest ∙ sym k.held.kept.rows_are in
       record {
         ids = (
           map (λ r. r.id) (routed_to route q k.rest),
@@ -299,8 +270,9 @@ module _ (route : Dispatching) (q : Place) (tells : TellsIds route) (worker : �
       → IsNeverDeleted q.topic journal
       → IsDelivered route q (events_of start.outbox moves) (records_of (end.log q))
   is_delivered journal moves final history run a sole never =
-      let l =
-      kept_by_router route worker IsLeft moved served others moves final journal run a
-      (record { view = opening_view; history = history; sole = sole; never = never; kept = kept_first route q }) in
-      delivered (events_of start.outbox moves) final
-      (at_end (events_of start.outbox moves) final l)
+      let each = all_both (IsOwnProduce worker q.topic) (IsNoDeletion q.topic) journal sole never in
+      let p = history_passes IsAsked opening_view end journal history each in
+      let k =
+      kept_by_router route worker (StepsAs IsAsked) (KeptIn route q) kept_move served others moves final journal
+      opening_view p.0 run a p.1 (kept_first route q) in
+      delivered (events_of start.outbox moves) final (as_shown (events_of start.outbox moves) final p.0 p.2 k)

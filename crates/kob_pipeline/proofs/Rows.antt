@@ -12,8 +12,10 @@ use Rattle.kob_router.specs.declared.line.Call.{Call}
 use Rattle.kob_shared.specs.declared.journal.Entry.{Entry}
 use Rattle.kob_router.specs.Served.{AreServed}
 use Rattle.kob_pipeline.specs.Served.{served_to}
-use Rattle.kob_pipeline.proofs.ServedRuns.{IsRun, IsServedBy, IsUnheard, added, kept_by_run}
-use Rattle.std.proofs.lemmas.Bool.{cond-true, lt-ltb, ltb-true}
+use Rattle.kob_pipeline.proofs.ServedRuns.{IsRun, IsServedBy, IsUnheard, Passes, added, kept_by_run}
+use Rattle.std.proofs.lemmas.Bool.{lt-ltb, ltb-true}
+use Rattle.std.proofs.lemmas.List.Elements.{All-filter, All-from_recursion, recursion_from_All}
+use Rattle.kob_pipeline.proofs.Lists.{all_last, all_weaker, filter_all}
 use Rattle.kob_outbox.specs.Reading.{later_than}
 use Rattle.kob_outbox.specs.Fields.{first_bad}
 use Rattle.kob_outbox.specs.declared.fields.Column.{Column}
@@ -46,13 +48,18 @@ same_events (Recorded change event ∷ moves) c d e =
     (ap (λ (ids : List (List ℕ)). ids ++ id_text event.id ∷ []) e))
 same_events (_ ∷ moves) c d e = same_events moves c d e
 
-advanced_ids : (s : State) (o : Option Hand) → (after_acknowledgement s o).outbox.ids ≡ s.outbox.ids
-advanced_ids s None = refl
-advanced_ids s (Some h) = refl
+-- a call moves the mark at most
+called_outbox : (s : State) (call : Call) (marks : Bool) → (mark : ℕ)
+    × ((after s (Called call marks)).outbox ≡ record s.outbox { mark = mark })
+called_outbox s call true = by s.hand
+  where
+    by : (o : Option Hand) → (mark : ℕ) × ((after_acknowledgement s o).outbox ≡ record s.outbox { mark = mark })
+    by None = (s.outbox.mark, refl)
+    by (Some h) = (h.event.seq, refl)
+called_outbox s call false = (s.outbox.mark, refl)
 
 pub called_ids : (s : State) (call : Call) (marks : Bool) → (after s (Called call marks)).outbox.ids ≡ s.outbox.ids
-called_ids s call true = advanced_ids s s.hand
-called_ids s call false = refl
+called_ids s call marks = ap (λ (c : Contents). c.ids) (called_outbox s call marks).1
 
 -- what one move records, and then the others
 pub events_behind : (s : State) (move : Move) (moves : List Move)
@@ -80,67 +87,52 @@ is_run route [] s t run = run
 is_run route (move ∷ moves) s t run = (run.0, is_run route moves (after s move) t run.1)
 
 -- what is kept along a journal holds at the end, of all rows
-module _ (route : Dispatching) (worker : ℕ) (K : List Event → State → List Entry → Type 0)
-    (moved : (m : Move) (rows : List Event) (s : State) (es : List Entry) → May route s m → IsUnheard (call_of m)
-    → K rows s es → K (rows ++ recorded s m) (after s m) es)
-    (served : (c : Call) (marks : Bool) (rows : List Event) (s : State) (e : Entry) (es : List Entry)
-    → May route s (Called c marks) → IsServedBy e (Some c) → e.worker ≡ worker → K rows s (e ∷ es)
-    → K rows (after s (Called c marks)) es)
-    (others : (rows : List Event) (s : State) (e : Entry) (es : List Entry) → (e.worker ≡ worker → ⊥)
-    → K rows s (e ∷ es) → K rows s es) where
-  serves : (m : Move) (rows : List Event) (s : State) (e : Entry) (es : List Entry) → May route s m
-      → IsServedBy e (call_of m) → e.worker ≡ worker → K rows s (e ∷ es) → K (rows ++ recorded s m) (after s m) es
-  serves (Called c marks) rows s e es may by own k =
-      subst (λ (rs : List Event). K rs (after s (Called c marks)) es) (sym (append-nil rows))
-      (served c marks rows s e es may by own k)
-  serves _ rows s e es may by own k = absurd by
+module _ {B : Type 0} (route : Dispatching) (worker : ℕ) (Goes : B → Entry → B → Type 0)
+    (K : List Event → State → B → Type 0)
+    (moved : (m : Move) (rows : List Event) (s : State) (b : B) → May route s m → IsUnheard (call_of m) → K rows s b
+    → K (rows ++ recorded s m) (after s m) b)
+    (served : (c : Call) (marks : Bool) (rows : List Event) (s : State) (e : Entry) (b d : B)
+    → May route s (Called c marks) → IsServedBy e (Some c) → e.worker ≡ worker → Goes b e d → K rows s b
+    → K rows (after s (Called c marks)) d)
+    (others : (rows : List Event) (s : State) (e : Entry) (b d : B) → (e.worker ≡ worker → ⊥) → Goes b e d
+    → K rows s b → K rows s d) where
+  serves : (m : Move) (rows : List Event) (s : State) (e : Entry) (b d : B) → May route s m
+      → IsServedBy e (call_of m) → e.worker ≡ worker → Goes b e d → K rows s b
+      → K (rows ++ recorded s m) (after s m) d
+  serves (Called c marks) rows s e b d may by own goes k =
+      subst (λ (rs : List Event). K rs (after s (Called c marks)) d) (sym (append-nil rows))
+      (served c marks rows s e b d may by own goes k)
+  serves _ rows s e b d may by own goes k = absurd by
 
-  pub kept_by_router : (moves : List Move) (final : State) (journal : List Entry) → IsRouterRun route start moves final
-      → AreServed (calls_of moves) (served_to worker journal) → K [] start journal
-      → K (events_of start.outbox moves) final []
-  kept_by_router moves final journal run a k =
-      subst (λ (rows : List Event). K rows final []) (sym (events_added moves start))
-      (kept_by_run (May route) after call_of recorded worker K moved serves others moves start final journal
+  pub kept_by_router : (moves : List Move) (final : State) (journal : List Entry) (b end : B)
+      → IsRouterRun route start moves final → AreServed (calls_of moves) (served_to worker journal)
+      → Passes Goes b journal end → K [] start b → K (events_of start.outbox moves) final end
+  kept_by_router moves final journal b end run a p k =
+      subst (λ (rows : List Event). K rows final end) (sym (events_added moves start))
+      (kept_by_run (May route) after call_of recorded worker Goes K moved serves others final end moves start journal b
       (is_run route moves start final run)
-      (subst (λ (cs : List Call). AreServed cs (served_to worker journal)) (its_calls moves) a) k)
+      (subst (λ (cs : List Call). AreServed cs (served_to worker journal)) (its_calls moves) a) p k)
 
 -- ---- the numbers of an outbox's rows are positive, so that a read from 0 on gives all
 
 -- each row has a positive number
+abbrev IsNumber : Event → Type 0
+IsNumber e = 0 < e.seq
+
 abbrev IsNumbered : List Event → Type 0
-IsNumbered events = AllByRecursion (λ (e : Event). 0 < e.seq) events
-
-numbered_push : (events : List Event) (e : Event) → IsNumbered events → 0 < e.seq → IsNumbered (events ++ e ∷ [])
-numbered_push [] e is positive = (positive, tt)
-numbered_push (x ∷ events) e is positive = (is.0, numbered_push events e is.1 positive)
-
-kept_or_not : (b : Bool) (e : Event) (events : List Event) → 0 < e.seq → IsNumbered events
-    → IsNumbered (cond b (e ∷ events) events)
-kept_or_not true e events here is = (here, is)
-kept_or_not false e events here is = is
-
-numbered_filter : (test : Event → Bool) (events : List Event) → IsNumbered events → IsNumbered (filter test events)
-numbered_filter test [] is = tt
-numbered_filter test (e ∷ events) is =
-    kept_or_not (test e) e (filter test events) is.0 (numbered_filter test events is.1)
-
-advanced_numbered : (s : State) (hand : Option Hand) → IsNumbered s.outbox.events
-    → IsNumbered (after_acknowledgement s hand).outbox.events
-advanced_numbered s None is = is
-advanced_numbered s (Some hand) is = is
-
-called_numbered : (s : State) (call : _) (marks : Bool) → IsNumbered s.outbox.events
-    → IsNumbered (after s (Called call marks)).outbox.events
-called_numbered s call true is = advanced_numbered s s.hand is
-called_numbered s call false is = is
+IsNumbered events = AllByRecursion IsNumber events
 
 move_numbered : (s : State) (move : Move) → IsNumbered s.outbox.events → IsNumbered (after s move).outbox.events
 move_numbered s (Recorded change event) is =
-    numbered_push s.outbox.events (stored_event (next_seq s.outbox) event) is (omega arith)
-move_numbered s Swept is = numbered_filter (λ (e : Event). nat_lt s.outbox.mark e.seq) s.outbox.events is
+    all_last IsNumber s.outbox.events (stored_event (next_seq s.outbox) event) is (omega arith)
+move_numbered s Swept is =
+    recursion_from_All IsNumber (later_than s.outbox.mark s.outbox.events)
+    (All-filter (λ (e : Event). nat_lt s.outbox.mark e.seq) IsNumber s.outbox.events
+    (All-from_recursion IsNumber s.outbox.events is))
 move_numbered s Restarted is = is
 move_numbered s (Took hand) is = is
-move_numbered s (Called call marks) is = called_numbered s call marks is
+move_numbered s (Called call marks) is =
+    subst (λ (c : Contents). IsNumbered c.events) (sym (called_outbox s call marks).1) is
 
 pub run_numbered : (route : Dispatching) (moves : List Move) (old new : State) → IsRouterRun route old moves new
     → IsNumbered old.outbox.events → IsNumbered new.outbox.events
@@ -150,10 +142,9 @@ run_numbered route (move ∷ moves) old new run is =
 
 -- none is left out
 pub all_later : (events : List Event) → IsNumbered events → later_than 0 events ≡ events
-all_later [] is = refl
-all_later (e ∷ events) is =
-    cond-true (nat_lt 0 e.seq) (e ∷ later_than 0 events) (later_than 0 events) (lt-ltb 0 e.seq is.0)
-    ∙ ap (λ (es : List Event). e ∷ es) (all_later events is.1)
+all_later events is =
+    filter_all (λ (e : Event). nat_lt 0 e.seq) events
+    (all_weaker IsNumber (λ (e : Event). nat_lt 0 e.seq ≡ true) (λ e positive. lt-ltb 0 e.seq positive) events is)
 
 -- ---- the rows that a run records are those of the plan's steps that the outbox accepts
 

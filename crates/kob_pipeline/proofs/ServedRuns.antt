@@ -1,13 +1,15 @@
 -- A run of a worker whose calls a journal served, along the journal: its moves and the entries, each at its pace.
-use Rattle.std.proofs.Common.{◌≡◌, ◌⊎◌, ℕ, ◌==◌, List, [], ◌∷◌, ◌++◌, inl, inr, sym, subst, append_assoc, append-nil}
-use Rattle.std.specs.Prelude.{Option, Some, None}
-use Rattle.std.specs.List.{cons_option, filter_map}
+use Rattle.std.proofs.Common.{◌≡◌, ◌⊎◌, ℕ, ◌==◌, List, [], ◌∷◌, ◌++◌, inl, inr, refl, sym, subst, append_assoc, append-nil}
+use Rattle.std.specs.Prelude.{Contains, Option, Some, None}
+use Rattle.std.specs.List.{AllByRecursion, cons_option, filter_map}
 use Rattle.std.proofs.lemmas.Bool.{cases_Bool, eqb-false, eqb-true}
 use Rattle.kob_rights.specs.declared.reply.Reply.{Reply}
 use Rattle.kob_router.specs.declared.line.Call.{Call}
 use Rattle.kob_shared.specs.declared.journal.Entry.{Entry}
 use Rattle.kob_router.specs.Served.{AreServed, Served}
 use Rattle.kob_pipeline.specs.Served.{served_in, served_to}
+use Rattle.kob_pipeline.proofs.Lists.{all_contained}
+use Rattle.kob_pipeline.specs.View.{IsHistory, IsSameView, Step, View}
 
 -- what was heard of a reply
 abbrev pub Hears : Option Reply → Reply → Type 0
@@ -44,51 +46,82 @@ abbrev pub added : {S M A : Type 0} → (S → M → S) → (S → M → List A)
 added after adds s [] = []
 added after adds s (m ∷ ms) = adds s m ++ added after adds (after s m) ms
 
--- What holds of what was added, of the state and of the entries that are left is kept by a move that no entry served,
--- by a move with the entry that served it, and by an entry of another worker: so it holds when all moves are made and
--- no entry is left.
-module _ {S M A : Type 0} (May : S → M → Type 0) (after : S → M → S) (call_of : M → Option Call) (adds : S → M → List A)
-    (worker : ℕ) (K : List A → S → List Entry → Type 0)
-    (moves : (m : M) (xs : List A) (s : S) (es : List Entry) → May s m → IsUnheard (call_of m) → K xs s es
-    → K (xs ++ adds s m) (after s m) es)
-    (serves : (m : M) (xs : List A) (s : S) (e : Entry) (es : List Entry) → May s m → IsServedBy e (call_of m)
-    → e.worker ≡ worker → K xs s (e ∷ es) → K (xs ++ adds s m) (after s m) es)
-    (others : (xs : List A) (s : S) (e : Entry) (es : List Entry) → (e.worker ≡ worker → ⊥) → K xs s (e ∷ es)
-    → K xs s es) where
-  abbrev Ends : S → List Served → List Entry → Type 0
-  Ends t ss es =
-      (ms : List M) (s : S) (xs : List A) → IsRun May after s ms t → AreServed (filter_map call_of ms) ss → K xs s es
-      → K (xs ++ added after adds s ms) t []
+-- the entries lead, one after another, from what stands beside the run to what stands there at last
+abbrev pub Passes : {B : Type 0} → (B → Entry → B → Type 0) → B → List Entry → B → Type 0
+Passes Goes b [] end = end ≡ b
+Passes {B} Goes b (e ∷ es) end = (c : B) × Goes b e c × Passes Goes c es end
 
-  one_more : (t : S) (m : M) (ms : List M) (s : S) (xs : List A)
-      → K ((xs ++ adds s m) ++ added after adds (after s m) ms) t [] → K (xs ++ added after adds s (m ∷ ms)) t []
-  one_more t m ms s xs k = subst (λ ys. K ys t []) (append_assoc xs (adds s m) (added after adds (after s m) ms)) k
+-- What holds of what was added, of the state and of what stands beside them is kept by a move that no entry served, by
+-- a move with the entry that served it, and by an entry of another worker: so it holds after all moves and entries.
+module _ {S M A B : Type 0} (May : S → M → Type 0) (after : S → M → S) (call_of : M → Option Call)
+    (adds : S → M → List A) (worker : ℕ) (Goes : B → Entry → B → Type 0) (K : List A → S → B → Type 0)
+    (moves : (m : M) (xs : List A) (s : S) (b : B) → May s m → IsUnheard (call_of m) → K xs s b
+    → K (xs ++ adds s m) (after s m) b)
+    (serves : (m : M) (xs : List A) (s : S) (e : Entry) (b c : B) → May s m → IsServedBy e (call_of m)
+    → e.worker ≡ worker → Goes b e c → K xs s b → K (xs ++ adds s m) (after s m) c)
+    (others : (xs : List A) (s : S) (e : Entry) (b c : B) → (e.worker ≡ worker → ⊥) → Goes b e c → K xs s b → K xs s c)
+    (t : S) (end : B) where
+  abbrev Ends : List Served → List Entry → Type 0
+  Ends ss es =
+      (ms : List M) (s : S) (xs : List A) (b : B) → IsRun May after s ms t → AreServed (filter_map call_of ms) ss
+      → Passes Goes b es end → K xs s b → K (xs ++ added after adds s ms) t end
 
-  no_entry : (t : S) → Ends t [] []
-  no_entry t [] s xs run a k = subst (λ ys. K ys t []) (sym (append-nil xs)) (subst (λ x. K xs x []) (sym run) k)
-  no_entry t (m ∷ ms) s xs run a k =
+  one_more : (m : M) (ms : List M) (s : S) (xs : List A)
+      → K ((xs ++ adds s m) ++ added after adds (after s m) ms) t end → K (xs ++ added after adds s (m ∷ ms)) t end
+  one_more m ms s xs k = subst (λ ys. K ys t end) (append_assoc xs (adds s m) (added after adds (after s m) ms)) k
+
+  no_entry : Ends [] []
+  no_entry [] s xs b run a p k =
+      subst (λ ys. K ys t end) (sym (append-nil xs))
+      (subst (λ c. K xs t c) (sym p) (subst (λ x. K xs x b) (sym run) k))
+  no_entry (m ∷ ms) s xs b run a p k =
       let n = none_served (call_of m) (filter_map call_of ms) a in
-      one_more t m ms s xs (no_entry t ms (after s m) (xs ++ adds s m) run.1 n.1 (moves m xs s [] run.0 n.0 k))
+      one_more m ms s xs (no_entry ms (after s m) (xs ++ adds s m) b run.1 n.1 p (moves m xs s b run.0 n.0 k))
 
-  own_entry : (t : S) (e : Entry) (es : List Entry) → Ends t (served_to worker es) es → e.worker ≡ worker
-      → Ends t (served_in e ∷ served_to worker es) (e ∷ es)
-  own_entry t e es next own [] s xs run a k = absurd a
-  own_entry t e es next own (m ∷ ms) s xs run a k =
-      one_more t m ms s xs
+  own_entry : (e : Entry) (es : List Entry) → Ends (served_to worker es) es → e.worker ≡ worker
+      → Ends (served_in e ∷ served_to worker es) (e ∷ es)
+  own_entry e es next own [] s xs b run a p k = absurd a
+  own_entry e es next own (m ∷ ms) s xs b run a p k =
+      one_more m ms s xs
       (elim (one_served (call_of m) (filter_map call_of ms) e (served_to worker es) a) [
         | inl n ↦
-            own_entry t e es next own ms (after s m) (xs ++ adds s m) run.1 n.1 (moves m xs s (e ∷ es) run.0 n.0 k)
-        | inr n ↦ next ms (after s m) (xs ++ adds s m) run.1 n.1 (serves m xs s e es run.0 n.0 own k)
+            own_entry e es next own ms (after s m) (xs ++ adds s m) b run.1 n.1 p (moves m xs s b run.0 n.0 k)
+        | inr n ↦
+            next ms (after s m) (xs ++ adds s m) p.0 run.1 n.1 p.2 (serves m xs s e b p.0 run.0 n.0 own p.1 k)
       ])
 
-  along : (t : S) (es : List Entry) → Ends t (served_to worker es) es
-  along t [] ms s xs run a k = no_entry t ms s xs run a k
-  along t (e ∷ es) ms s xs run a k =
+  along : (es : List Entry) → Ends (served_to worker es) es
+  along [] ms s xs b run a p k = no_entry ms s xs b run a p k
+  along (e ∷ es) ms s xs b run a p k =
       elim (cases_Bool (e.worker == worker)) [
-        | inl own ↦ own_entry t e es (along t es) (eqb-true e.worker worker own) ms s xs run (rw own at a) k
-        | inr other ↦ along t es ms s xs run (rw other at a) (others xs s e es (eqb-false e.worker worker other) k)
+        | inl own ↦ own_entry e es (along es) (eqb-true e.worker worker own) ms s xs b run (rw own at a) p k
+        | inr other ↦
+            along es ms s xs p.0 run (rw other at a) p.2 (others xs s e b p.0 (eqb-false e.worker worker other) p.1 k)
       ]
 
-  pub kept_by_run : (ms : List M) (s t : S) (es : List Entry) → IsRun May after s ms t
-      → AreServed (filter_map call_of ms) (served_to worker es) → K [] s es → K (added after adds s ms) t []
-  kept_by_run ms s t es run a k = along t es ms s [] run a k
+  pub kept_by_run : (ms : List M) (s : S) (es : List Entry) (b : B) → IsRun May after s ms t
+      → AreServed (filter_map call_of ms) (served_to worker es) → Passes Goes b es end → K [] s b
+      → K (added after adds s ms) t end
+  kept_by_run ms s es b run a p k = along es ms s [] b run a p k
+
+-- ---- what stands beside a run: views, by the steps of entries of which P holds, or nothing
+
+abbrev pub StepsAs : (Entry → Type 0) → View → Entry → View → Type 0
+StepsAs P v e w = P e × Step v e.event.request e.reply w
+
+pub history_passes : (P : Entry → Type 0) (v end : View) (es : List Entry) → IsHistory v es end → AllByRecursion P es
+    → (w : View) × Passes (StepsAs P) v es w × IsSameView end w
+history_passes P v end [] history each = (v, refl, history)
+history_passes P v end (e ∷ es) history each =
+    let p = history_passes P history.0 end es history.2 each.1 in
+    (p.0, (history.0, (each.0, history.1), p.1), p.2)
+
+abbrev pub IsOf : List Entry → Unit {0} → Entry → Unit {0} → Type 0
+IsOf journal b e c = Contains journal e
+
+pub all_pass : (journal : List Entry) → Passes (IsOf journal) tt journal tt
+all_pass journal = go journal (all_contained (Contains journal) journal (λ e there. there))
+  where
+    go : (es : List Entry) → AllByRecursion (Contains journal) es → Passes (IsOf journal) tt es tt
+    go [] each = refl
+    go (e ∷ es) each = (tt, each.0, go es each.1)

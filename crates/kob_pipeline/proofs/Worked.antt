@@ -2,7 +2,7 @@
 use Rattle.std.proofs.Common.{◌≡◌, List, [], ◌∷◌, ◌++◌, refl, ap, subst, ℕ, ◌+◌, ◌<◌, length, take, get_or, sym, ◌∙◌, append_assoc, append-nil, inl, inr, map, Result, Ok, Err, IfOk}
 use Rattle.kob_router.specs.declared.line.Call.{Call}
 use Rattle.kob_inbox.specs.declared.fetcher.Subscription.{Subscription}
-use Rattle.kob_inbox.specs.Run.{IsConsumerRun, Move, State, after, calls_of}
+use Rattle.kob_inbox.specs.Run.{Move, calls_of}
 use Rattle.kob_inbox.specs.Run.Move.{Called, Restarted}
 use Rattle.std.proofs.lemmas.List.{take_more}
 use Rattle.kob_lines.specs.declared.lossy.Loss.{Loss}
@@ -12,6 +12,7 @@ use Rattle.kob_outbox.specs.Events.{stored_row}
 use Rattle.kob_outbox.specs.Reading.{later_than}
 use Rattle.kob_router.specs.Dispatches.{Dispatching, dispatch_of}
 use Rattle.kob_router.proofs.Runs.{run_append}
+use Rattle.kob_lines.proofs.ConsumerCourses.{joined}
 use Rattle.kob_rights.specs.declared.event.Event.{Event}
 use Rattle.kob_shared.specs.Noted.{AtDesk, Noted, nothing}
 use Rattle.kob_pipeline.specs.declared.end.InboxEnd.{InboxEnd}
@@ -31,11 +32,6 @@ use Rattle.kob_pipeline.proofs.Rows.{all_later, run_numbered}
 use Rattle.kob_inbox.specs.Run as consumers
 use Rattle.kob_router.specs.Run as routers
 use Rattle.kob_lines.specs.declared.lossy.Loss.TheVariants as lost
-
-pub consumer_run_append : (t : Subscription) (ms ns : List Move) (a b c : State) → IsConsumerRun t a ms b
-    → IsConsumerRun t b ns c → IsConsumerRun t a (ms ++ ns) c
-consumer_run_append t [] ns a b c one two = subst (λ (s : State). IsConsumerRun t s ns c) one two
-consumer_run_append t (m ∷ ms) ns a b c one two = (one.0, consumer_run_append t ms ns (after t a m) b c one.1 two)
 
 pub consumer_calls_append : (ms ns : List Move) → calls_of (ms ++ ns) ≡ calls_of ms ++ calls_of ns
 consumer_calls_append [] ns = refl
@@ -167,7 +163,7 @@ consumer_run : (t : Subscription) (old new : consumers.State) (steps : List Cons
     (ls : List Loss) → Steps (IsConsumerStep t) old steps moves ls new → consumers.IsConsumerRun t old moves new
 consumer_run t old new steps moves ls all =
     steps_run (IsConsumerStep t) (consumers.IsConsumerRun t) (λ s u same. same)
-    (λ a b c xs ys one two. consumer_run_append t xs ys a b c one two)
+    (λ a b c xs ys one two. joined t xs ys a b c one two)
     (λ a u xs ms b done. done.run) old new steps moves ls all
 
 -- what was noted from nothing on is all

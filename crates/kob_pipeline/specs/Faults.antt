@@ -4,7 +4,7 @@ use Rattle.kob_names.specs.declared.settings.Settings.{Settings}
 use Rattle.kob_shared.specs.declared.fleet_stop.FleetStop.{FleetStop}
 use Rattle.kob_shared.specs.declared.fleet_stop.FleetStop.TheVariants as stops
 use Rattle.kob_shared.specs.Fleets.{EachIsAnswered, IsTornAt, IsWorkerWithin}
-use Rattle.kob_shared.specs.Runs.{events_in, told_in}
+use Rattle.kob_shared.specs.Runs.{events_in, notes_of, told_in}
 use Rattle.kob_pipeline.specs.declared.fault.PipelineFault.{PipelineFault}
 use Rattle.kob_pipeline.specs.declared.fault.PipelineFault.TheVariants.{TooManyWorkers, JournalFull, NotBegun, Memory, Stale, Full, Store, Torn}
 
@@ -18,11 +18,12 @@ as_fault (stops.Full worker) = Full worker
 abbrev pub IsAsFault : FleetStop → PipelineFault → Type 0
 IsAsFault stop fault = fault ≡ as_fault stop
 
--- the journal that is given back is torn there, and each transcript has a receipt for each event
+-- the journal that is given back is torn there, and all notes have a receipt for each event
 abbrev pub IsTornOnlyWhere : Settings → PipelineFault → Type 0
-IsTornOnlyWhere opening (Torn worker place found transcripts) =
-    EachIsAnswered (events_in transcripts.items) (told_in transcripts.items)
-    × IsTornAt opening (events_in transcripts.items) (told_in transcripts.items) found worker place
+IsTornOnlyWhere opening (Torn worker place ran) =
+    let notes = notes_of ran.first ran.done.items in
+    EachIsAnswered (events_in notes) (told_in notes)
+    × IsTornAt opening (events_in notes) (told_in notes) ran.found worker place
 IsTornOnlyWhere opening fault = Unit {0}
 
 -- a fault that comes after the counts were found to fit

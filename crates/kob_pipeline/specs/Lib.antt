@@ -10,9 +10,7 @@ pub mod Waiting
 pub mod BrokerView
 pub mod Consumers
 pub mod Counts
-pub mod Ends
 pub mod Faults
-pub mod Leavings
 pub mod Losses
 pub mod Noting
 pub mod Pipelines

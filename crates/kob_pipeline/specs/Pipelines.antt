@@ -1,71 +1,59 @@
 -- What a pipeline leaves of a plan.
-use Rattle.std.specs.Prelude.{◌≡◌, ℕ, ◌+◌, length, Some, slice_get}
+use Rattle.std.specs.Prelude.{◌≡◌, ℕ, ◌+◌, List, length, Some, option_map, slice_get}
+use Rattle.std.specs.List.{AllZip}
 use Rattle.kob_broker.specs.Change.{state_of}
-use Rattle.kob_shared.specs.Fleets.{BeginsWith, EachIsAnswered, IsKept, events_of_script}
+use Rattle.kob_broker.specs.State.{State}
+use Rattle.kob_partition.specs.Retained.{Retained}
+use Rattle.kob_rights.specs.declared.event.Event.{Event}
+use Rattle.kob_shared.specs.Fleets.{BeginsWith, EachIsAnswered, IsKept}
 use Rattle.kob_shared.specs.Journals.{IsLegal}
 use Rattle.kob_shared.specs.Noted.{Noted}
 use Rattle.kob_shared.specs.Openings.{opened_by}
-use Rattle.kob_shared.specs.Runs.{events_in, told_in}
-use Rattle.kob_shared.specs.declared.script.Script.{Script}
-use Rattle.kob_pipeline.specs.declared.end.InboxEnd.{InboxEnd}
-use Rattle.kob_pipeline.specs.declared.end.OutboxEnd.{OutboxEnd}
+use Rattle.kob_shared.specs.Runs.{events_in, notes_of, told_in}
+use Rattle.kob_shared.specs.declared.work.Done.{Done}
 use Rattle.kob_pipeline.specs.declared.end.PipelineEnd.{PipelineEnd}
-use Rattle.kob_pipeline.specs.declared.plan.ConsumerPlan.{ConsumerPlan}
+use Rattle.kob_pipeline.specs.declared.end.WorkerEnd.{WorkerEnd}
 use Rattle.kob_pipeline.specs.declared.plan.Plan.{Plan}
-use Rattle.kob_pipeline.specs.declared.plan.Service.{Service}
-use Rattle.kob_pipeline.specs.Consumers.{IsConsumption}
-use Rattle.kob_pipeline.specs.Counts.{workers_planned}
-use Rattle.kob_pipeline.specs.Services.{IsServiceRun}
+use Rattle.kob_pipeline.specs.Workers.{HasEnded, Planned, planned_workers}
 
--- the number of the k-th service, of the k-th consumer and of the k-th administrator, k from 0
+-- the place in the list of what workers left, of the k-th consumer, k from 0; the k-th service has
+-- place k
+abbrev pub consumer_place : Plan → ℕ → ℕ
+consumer_place plan k = length plan.services.items + k
+
+-- the number of the k-th service and of the k-th consumer, after worker 0
 abbrev pub service_number : Plan → ℕ → ℕ
 service_number plan k = k + 1
 
 abbrev pub consumer_number : Plan → ℕ → ℕ
-consumer_number plan k = length plan.services.items + k + 1
+consumer_number plan k = consumer_place plan k + 1
 
-abbrev pub administrator_number : Plan → ℕ → ℕ
-administrator_number plan k = length plan.services.items + length plan.consumers.items + k + 1
+-- the notes of all workers, worker 0's first
+abbrev pub notes_in : PipelineEnd → List Noted
+notes_in end = notes_of end.first end.done.items
 
--- this worker is this service, and the k-th outbox is what it leaves
-pub record IsServedBy (end : PipelineEnd) (worker k : ℕ) (service : Service) : Type 0 where
-  pub noted : Noted
-  pub left : OutboxEnd
-  pub transcript : slice_get end.transcripts.items worker ≡ Some noted
-  pub outbox : slice_get end.outboxes.items k ≡ Some left
-  pub run : IsServiceRun service noted left
+-- the worker at this place noted and left this
+abbrev pub HasDone : PipelineEnd → ℕ → Noted → WorkerEnd → Type 0
+HasDone end place noted left =
+    slice_get end.done.items place ≡ Some (record { notes = noted; end = left })
 
--- this worker is this consumer, and the k-th inbox is what it leaves
-pub record IsConsumedBy (end : PipelineEnd) (worker k : ℕ) (consumer : ConsumerPlan) : Type 0 where
-  pub noted : Noted
-  pub left : InboxEnd
-  pub transcript : slice_get end.transcripts.items worker ≡ Some noted
-  pub inbox : slice_get end.inboxes.items k ≡ Some left
-  pub run : IsConsumption consumer noted left
+-- the worker at this place left this
+abbrev pub HasLeft : PipelineEnd → ℕ → WorkerEnd → Type 0
+HasLeft end place left =
+    option_map (λ (one : Done WorkerEnd). one.end) (slice_get end.done.items place) ≡ Some left
 
--- this worker is this administrator: what it noted are the events of its script
-pub record IsAdministered (end : PipelineEnd) (worker : ℕ) (script : Script) : Type 0 where
-  pub noted : Noted
-  pub transcript : slice_get end.transcripts.items worker ≡ Some noted
-  pub events : noted.events ≡ events_of_script script
+-- The journal is legal from this opening on and begins with the first events, which are all that
+-- worker 0 asked. Each worker's notes are its entries, with a receipt for each event, at rising
+-- places, and nobody else has an entry. Each worker did its steps, in the order of their numbers.
+pub record IsEnd (opening : State Retained) (first : List Event) (planned : List Planned)
+    (end : PipelineEnd) : Type 0 where
+  pub legal : IsLegal opening end.journal (state_of end.broker)
+  pub begins : BeginsWith first end.journal
+  pub asked : end.first.events ≡ first
+  pub answered : EachIsAnswered (events_in (notes_in end)) (told_in (notes_in end))
+  pub kept : IsKept (events_in (notes_in end)) (told_in (notes_in end)) end.journal
+  pub done : AllZip (λ w d. HasEnded w d.notes d.end) planned end.done.items
 
--- The journal is legal from the plan's settings on and begins with the first events, which are all
--- that worker 0 asked. Each worker's transcript is its entries, with a receipt for each event, at
--- rising places, and nobody else has an entry. Each worker did its steps.
-pub record IsPipeline (plan : Plan) (end : PipelineEnd) : Type 0 where
-  pub legal : IsLegal (opened_by plan.settings) end.journal (state_of end.broker)
-  pub begins : BeginsWith plan.first end.journal
-  pub first : slice_get (events_in end.transcripts.items) 0 ≡ Some plan.first
-  pub answered : EachIsAnswered (events_in end.transcripts.items) (told_in end.transcripts.items)
-  pub kept : IsKept (events_in end.transcripts.items) (told_in end.transcripts.items) end.journal
-  pub counted : length end.transcripts.items ≡ workers_planned plan + 1
-  pub outboxes : length end.outboxes.items ≡ length plan.services.items
-  pub inboxes : length end.inboxes.items ≡ length plan.consumers.items
-  pub services : (k : ℕ) (service : Service) → slice_get plan.services.items k ≡ Some service
-      → IsServedBy end (service_number plan k) k service
-  pub consumers : (k : ℕ) (consumer : ConsumerPlan)
-      → slice_get plan.consumers.items k ≡ Some consumer
-      → IsConsumedBy end (consumer_number plan k) k consumer
-  pub administrators : (k : ℕ) (script : Script)
-      → slice_get plan.administrators.items k ≡ Some script
-      → IsAdministered end (administrator_number plan k) script
+-- so it is of a plan: services, then consumers, then administrators
+abbrev pub IsPipeline : Plan → PipelineEnd → Type 0
+IsPipeline plan end = IsEnd (opened_by plan.settings) plan.first (planned_workers plan) end

@@ -1,15 +1,15 @@
 -- What the workers of a pipeline leave.
-use Rattle.std.specs.Prelude.{◌≡◌, List, ◌++◌, map}
+use Rattle.std.specs.Prelude.{◌≡◌, List, ◌++◌, length, map}
 use Rattle.std.specs.List.{enumerate_from}
 use Rattle.kob_inbox.specs.Rows.{placed_intake}
 use Rattle.kob_inbox.specs.Run as consumers
 use Rattle.kob_outbox.specs.Events.{stored_row}
 use Rattle.kob_router.specs.Dispatches.{dispatch_of}
 use Rattle.kob_router.specs.Run as routers
-use Rattle.kob_rights.specs.declared.event.Event.{Event}
-use Rattle.kob_shared.specs.Fleets.{events_of_script}
+use Rattle.kob_shared.specs.Fleets.{IsAnswered, events_of_script}
 use Rattle.kob_shared.specs.Noted.{AtDesk, Noted}
 use Rattle.kob_shared.specs.declared.script.Script.{Script}
+use Rattle.kob_shared.specs.declared.work.Done.{Done}
 use Rattle.kob_pipeline.specs.declared.end.InboxEnd.{InboxEnd}
 use Rattle.kob_pipeline.specs.declared.end.OutboxEnd.{OutboxEnd}
 use Rattle.kob_pipeline.specs.declared.end.WorkerEnd.{WorkerEnd}
@@ -38,23 +38,6 @@ pub record IsInboxLeft (consumer : ConsumerPlan) (old new : AtDesk) (left : Inbo
       (standing consumers.start old) consumer.steps.items (standing state new)
   pub rows : map placed_intake left.rows.items ≡ enumerate_from 1 state.inbox
 
--- what a service leaves, unless its database refused
-abbrev pub IsServiceLeft : Service → Noted → WorkerEnd → Type 0
-IsServiceLeft service noted (ends.Outbox left) = IsServiceRun service noted left
-IsServiceLeft service noted ends.StoreRefused = Unit {0}
-IsServiceLeft service noted end = ⊥
-
--- what a consumer leaves, unless its database refused
-abbrev pub IsConsumptionLeft : ConsumerPlan → Noted → WorkerEnd → Type 0
-IsConsumptionLeft consumer noted (ends.Inbox left) = IsConsumption consumer noted left
-IsConsumptionLeft consumer noted ends.StoreRefused = Unit {0}
-IsConsumptionLeft consumer noted end = ⊥
-
--- an administrator leaves its notes alone
-abbrev pub IsAdministratorLeft : List Event → Noted → WorkerEnd → Type 0
-IsAdministratorLeft events noted ends.Nothing = noted.events ≡ events
-IsAdministratorLeft events noted end = ⊥
-
 -- a worker, as it was planned
 pub data Planned : Type 0 where
   Serving : (service : Service) → Planned
@@ -72,8 +55,24 @@ planned_workers plan =
     map Serving plan.services.items
     ++ (map Consuming plan.consumers.items ++ map Administering plan.administrators.items)
 
--- what each kind of worker leaves
+-- what a worker of each kind notes and leaves after its last step
+abbrev pub HasEnded : Planned → Noted → WorkerEnd → Type 0
+HasEnded (Serving service) noted (ends.Outbox left) = IsServiceRun service noted left
+HasEnded (Consuming consumer) noted (ends.Inbox left) = IsConsumption consumer noted left
+HasEnded (Administering script) noted ends.Nothing = noted.events ≡ events_of_script script
+HasEnded worker noted end = ⊥
+
+-- the same, unless its database refused
 abbrev pub IsLeft : Planned → Noted → WorkerEnd → Type 0
-IsLeft (Serving service) noted end = IsServiceLeft service noted end
-IsLeft (Consuming consumer) noted end = IsConsumptionLeft consumer noted end
-IsLeft (Administering script) noted end = IsAdministratorLeft (events_of_script script) noted end
+IsLeft worker noted ends.StoreRefused = Unit {0}
+IsLeft worker noted end = HasEnded worker noted end
+
+-- the database of the worker did not refuse
+abbrev pub IsKeptByStore : WorkerEnd → Type 0
+IsKeptByStore ends.StoreRefused = ⊥
+IsKeptByStore end = Unit {0}
+
+-- and each event that it noted has its receipt
+abbrev pub IsWhole : Done WorkerEnd → Type 0
+IsWhole one =
+    IsKeptByStore one.end × IsAnswered (length one.notes.events) one.notes.told

@@ -1,7 +1,8 @@
 //! Workers that are consumers.
 
 ghost use Rattle.std.specs.Prelude.{◌≡◌, IfOk};
-ghost use Rattle.kob_pipeline.specs.Workers.{IsInboxLeft, IsConsumptionLeft};
+ghost use Rattle.kob_pipeline.specs.Workers.{IsInboxLeft, IsLeft};
+ghost use Rattle.kob_pipeline.specs.Workers.Planned.{Consuming as PlannedConsumer};
 
 use crate::consuming::Consuming;
 use crate::desk::desk_at;
@@ -22,7 +23,7 @@ pub(crate) fn consume<R: Wait, G: Gate>(
     shared: &SharedBroker,
     gate: &G,
 ) -> Result<Done<WorkerEnd>, CallFault>
-    ensures { IfOk result (λ d. IsConsumptionLeft consumer.now d.notes d.end) }
+    ensures { IfOk result (λ d. IsLeft (PlannedConsumer consumer.now) d.notes d.end) }
 {
     let desk = desk_at(alloc, shared, worker, &consumer.principal, &consumer.host)?;
     let mut line = DeskLine::open(rt, alloc, gate, worker, desk);

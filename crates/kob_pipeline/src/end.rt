@@ -3,7 +3,7 @@
 use kob_broker::Broker;
 use kob_inbox::InboxRow;
 use kob_outbox::Row;
-use kob_shared::{Journal, Notes};
+use kob_shared::{Done, Journal, Notes};
 
 /// What a service's outbox holds at its end.
 #[derive(Drop)]
@@ -21,23 +21,25 @@ pub struct InboxEnd {
     pub rows: Vec<InboxRow>,
 }
 
-/// The result of a pipeline: the broker, the journal, and the notes of each worker, worker 0 first.
-/// Also what each service's outbox and each consumer's inbox holds, in the plan's order.
+/// The result of a worker of a pipeline, besides its notes.
+#[derive(Drop)]
+pub enum WorkerEnd {
+    /// What a service left.
+    Outbox(OutboxEnd),
+    /// What a consumer left.
+    Inbox(InboxEnd),
+    /// An administrator leaves its notes alone.
+    Nothing,
+    /// A worker's database failed for another cause than out of memory. No pipeline ends so.
+    StoreRefused,
+}
+
+/// The result of a pipeline: the broker, the journal, the notes of worker 0, and what each further
+/// worker noted and left, from worker 1 on.
 #[derive(Drop)]
 pub struct PipelineEnd {
     pub broker: Broker,
     pub journal: Journal,
-    pub transcripts: Vec<Notes>,
-    pub outboxes: Vec<OutboxEnd>,
-    pub inboxes: Vec<InboxEnd>,
-}
-
-/// The result of a worker besides its notes.
-#[derive(Drop)]
-pub(crate) enum WorkerEnd {
-    Outbox(OutboxEnd),
-    Inbox(InboxEnd),
-    Nothing,
-    /// Its database failed for another cause than out of memory.
-    StoreRefused,
+    pub first: Notes,
+    pub done: Vec<Done<WorkerEnd>>,
 }

@@ -1,6 +1,7 @@
 //! Why pipelines do not run to their end.
 
-use kob_shared::{FleetStop, Notes, Recorded};
+use crate::end::WorkerEnd;
+use kob_shared::{FleetStop, Ran};
 use std::alloc::{AllocError, AllocFailed};
 
 /// Why a pipeline did not run to its end.
@@ -30,8 +31,7 @@ pub enum PipelineFault {
     Torn {
         worker: usize,
         place: usize,
-        found: Recorded,
-        transcripts: Vec<Notes>,
+        ran: Ran<WorkerEnd>,
     },
 }
 

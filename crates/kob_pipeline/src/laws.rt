@@ -4,13 +4,15 @@ ghost use Rattle.std.specs.Prelude.{◌≡◌, List, ℕ, Some, slice_get};
 ghost use Rattle.kob_router.specs.Dispatches.{dispatch_of};
 ghost use Rattle.kob_router.specs.declared.place.Place.{Place as PlaceValue};
 ghost use Rattle.kob_pipeline.specs.Delivery.{IsDelivered};
-ghost use Rattle.kob_pipeline.specs.Pipelines.{IsPipeline, consumer_number, service_number};
+ghost use Rattle.kob_pipeline.specs.Pipelines.{HasLeft, IsPipeline};
+ghost use Rattle.kob_pipeline.specs.Pipelines.{consumer_number, consumer_place, service_number};
 ghost use Rattle.kob_pipeline.specs.PlanEnds.{IsNoneLost, TakesInOrder, inbox_in, records_at};
 ghost use Rattle.kob_pipeline.specs.PlanRows.{rows_of_service};
 ghost use Rattle.kob_pipeline.specs.Premises.{ArePrivate, IsNeverDeleted};
 ghost use Rattle.kob_pipeline.specs.Premises.{IsSoleCommitter, IsSoleProducer};
 ghost use Rattle.kob_pipeline.specs.Reaching.{ReachesInOrder};
 ghost use Rattle.kob_pipeline.specs.declared.end.InboxEnd.{InboxEnd as InboxLeft};
+ghost use Rattle.kob_pipeline.specs.declared.end.WorkerEnd.TheVariants.{Inbox};
 ghost use Rattle.kob_pipeline.specs.declared.plan.ConsumerPlan.{ConsumerPlan as Consumer};
 ghost use Rattle.kob_pipeline.specs.declared.plan.Service.{Service as ServicePlan};
 
@@ -51,7 +53,7 @@ pub fn consumer_law(plan: &Plan, end: &PipelineEnd)
         → IsSoleCommitter (consumer_number plan.now k) consumer.subscription.group place.topic
         end.now.journal
         → IsNeverDeleted place.topic end.now.journal
-        → TakesInOrder plan.now end.now (consumer_number plan.now k) k consumer place }
+        → TakesInOrder plan.now end.now k consumer place }
 {
     // By the definitions.
 }
@@ -69,7 +71,7 @@ pub fn pipeline_law(plan: &Plan, end: &PipelineEnd)
     ensures reached { (i k : ℕ) (service : ServicePlan) (consumer : Consumer) (left : InboxLeft)
         → slice_get plan.now.services.items i ≡ Some service
         → slice_get plan.now.consumers.items k ≡ Some consumer
-        → slice_get end.now.inboxes.items k ≡ Some left
+        → HasLeft end.now (consumer_place plan.now k) (Inbox left)
         → ArePrivate (service_number plan.now i) (consumer_number plan.now k)
         consumer.subscription.group consumer.subscription.assignment end.now.journal
         → (kind id : List ℕ)

@@ -10,7 +10,6 @@ mod desk;
 mod end;
 mod fault;
 mod laws;
-mod leavings;
 mod line;
 mod pipelines;
 mod plan;
@@ -27,7 +26,7 @@ pub use delivery_laws::{
     a_consumer_takes_each_offset_in_order, a_partition_holds_what_was_routed,
     a_row_waits_or_was_sent, an_inbox_holds_a_prefix_of_each_aggregate,
 };
-pub use end::{InboxEnd, OutboxEnd, PipelineEnd};
+pub use end::{InboxEnd, OutboxEnd, PipelineEnd, WorkerEnd};
 pub use fault::PipelineFault;
 pub use kob_lines::Loss;
 pub use laws::{consumer_law, pipeline_law, router_law};

@@ -1,8 +1,8 @@
 //! Pipelines.
 
 ghost use Rattle.std.specs.Prelude.{◌≡◌, ◌+◌, ◌<◌, ◌≤◌, ◌↔◌, ◌++◌, length, map, IfErr, IfOk};
-ghost use Rattle.std.specs.Prelude.{IsErrOf};
-ghost use Rattle.std.specs.List.{AllZip};
+ghost use Rattle.std.specs.Prelude.{IsErrOf, IsTrue};
+ghost use Rattle.std.specs.List.{All, AllZip};
 ghost use Rattle.kob_broker.specs.Change.{state_of};
 ghost use Rattle.kob_broker.specs.State.{settings_of};
 ghost use Rattle.kob_shared.specs.Fleets.{Follows};
@@ -11,14 +11,12 @@ ghost use Rattle.kob_shared.specs.Limits.{entry_limit, worker_limit};
 ghost use Rattle.kob_shared.specs.Openings.{opened_by};
 ghost use Rattle.kob_pipeline.specs.Counts.{entries_planned, workers_planned};
 ghost use Rattle.kob_pipeline.specs.Faults.{IsLater, IsTornOnlyWhere, NamesWorkerWithin};
-ghost use Rattle.kob_pipeline.specs.Pipelines.{IsPipeline};
+ghost use Rattle.kob_pipeline.specs.Pipelines.{IsEnd, IsPipeline};
 ghost use Rattle.kob_pipeline.specs.Plans.{IsRunnable};
-ghost use Rattle.kob_pipeline.specs.Ends.{IsEnd};
-ghost use Rattle.kob_pipeline.specs.Workers.{IsLeft, planned_as};
+ghost use Rattle.kob_pipeline.specs.Workers.{IsKeptByStore, IsLeft, IsWhole, planned_as};
 
 use crate::end::{PipelineEnd, WorkerEnd};
 use crate::fault::PipelineFault;
-use crate::leavings::{Leavings, leavings_of};
 use crate::plan::Plan;
 use crate::room::{has_few_workers, has_room};
 use crate::worker::Worker;
@@ -26,7 +24,7 @@ use crate::workers::workers_of;
 use kob_broker::{Broker, OpenFault, Settings};
 use kob_names::PlainValue;
 use kob_rights::Event;
-use kob_shared::{Difference, Gate, Ran, Recorded, find_tear, run_fleet};
+use kob_shared::{Difference, Done, Gate, Ran, find_tear, run_fleet};
 use std::alloc::{AllocError, Global};
 use std::sync::Wait;
 use std::thread::Threads;
@@ -81,7 +79,7 @@ fn run_plan<R: Threads + Wait + Sync, G: Gate + Sync>(
     let workers = workers_of(alloc, plan)?;
     let (broker, opening, first) = opened(alloc, plan)?;
     let ran = run_fleet(rt, alloc, broker, first, &workers, gate)?;
-    end_of(alloc, &opening, ran, &workers)
+    end_of(&opening, ran, &workers)
 }
 
 /// A broker as the plan opens it, a copy of its settings, and the first events. The error is out of
@@ -115,9 +113,9 @@ fn broker_of(alloc: Global, settings: &Settings) -> Result<Broker, AllocError>
     }
 }
 
-/// Compares the journal with the workers' notes, and returns what they left.
+/// Compares the journal with the workers' notes, and returns what they left. The error is `Store` if
+/// a worker's database failed.
 fn end_of(
-    alloc: Global,
     opening: &Settings,
     ran: Ran<WorkerEnd>,
     workers: &[Worker<'_>],
@@ -125,65 +123,58 @@ fn end_of(
     requires sound { IsSound ran.found }
     requires first { Follows 0 ran.first.told }
     requires each { AllZip (λ w d. IsLeft (planned_as w) d.notes d.end) workers.now ran.done.items }
-    ensures ok { IfOk result (IsEnd opening.now ran.first.events (map planned_as workers.now)) }
+    ensures ok { IfOk result
+        (IsEnd (opened_by opening.now) ran.first.events (map planned_as workers.now)) }
     ensures torn { IfErr result (IsTornOnlyWhere opening.now) }
     ensures later { IfErr result IsLater }
     ensures named { IfErr result (NamesWorkerWithin 0) }
 {
-    let difference = find_tear(opening, &ran);
-    let Ran { found, first, done } = ran;
-    let left = match leavings_of(alloc, first, done) {
-        Ok(left) => left,
-        Err(fault) => {
-            drop(found);
-            return Err(fault);
-        }
-    };
-    match difference {
-        Some(difference) => Err(torn(difference, found, left)),
-        None => Ok(end_with(found, left)),
+    let _answered = ran.first.receipts();
+    if !are_whole(&ran.done) {
+        drop(ran);
+        return Err(PipelineFault::Store);
+    }
+    match find_tear(opening, &ran) {
+        Some(Difference { worker, place }) => Err(PipelineFault::Torn { worker, place, ran }),
+        None => Ok(end_with(ran)),
     }
 }
 
-/// The fault of a pipeline whose journal and notes differ there. Does not allocate.
-fn torn(difference: Difference, found: Recorded, left: Leavings) -> PipelineFault
-    ensures { result
-        ≡ PipelineFault.Torn difference.worker difference.place found left.transcripts }
+/// Whether no worker's database failed. Then what each left is whole.
+fn are_whole(done: &[Done<WorkerEnd>]) -> bool
+    ensures { IsTrue result → All IsWhole done.now }
 {
-    let Leavings {
-        transcripts,
-        outboxes,
-        inboxes,
-    } = left;
-    drop(outboxes);
-    drop(inboxes);
-    PipelineFault::Torn {
-        worker: difference.worker,
-        place: difference.place,
-        found,
-        transcripts,
+    for one in done {
+        let _answered = one.notes.receipts();
+        if !is_kept_by_store(&one.end) {
+            return false;
+        }
+    }
+    true
+}
+
+fn is_kept_by_store(end: &WorkerEnd) -> bool
+    ensures { IsTrue result ↔ IsKeptByStore end.now }
+{
+    match end {
+        WorkerEnd::StoreRefused => false,
+        _ => true,
     }
 }
 
 /// The result of a pipeline whose journal is what the workers noted. Does not allocate.
-fn end_with(found: Recorded, left: Leavings) -> PipelineEnd
-    ensures broker { state_of result.broker ≡ found.broker }
-    ensures journal { result.journal ≡ found.journal }
-    ensures transcripts { result.transcripts.items ≡ left.transcripts.items }
-    ensures outboxes { result.outboxes.items ≡ left.outboxes.items }
-    ensures inboxes { result.inboxes.items ≡ left.inboxes.items }
+fn end_with(ran: Ran<WorkerEnd>) -> PipelineEnd
+    ensures broker { state_of result.broker ≡ ran.found.broker }
+    ensures journal { result.journal ≡ ran.found.journal }
+    ensures first { result.first ≡ ran.first }
+    ensures done { result.done.items ≡ ran.done.items }
 {
+    let Ran { found, first, done } = ran;
     let (broker, journal) = found.into_parts();
-    let Leavings {
-        transcripts,
-        outboxes,
-        inboxes,
-    } = left;
     PipelineEnd {
         broker,
         journal,
-        transcripts,
-        outboxes,
-        inboxes,
+        first,
+        done,
     }
 }

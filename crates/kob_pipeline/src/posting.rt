@@ -1,7 +1,7 @@
 //! A service with its router and its outbox, and its steps.
 
-ghost use Rattle.std.specs.Prelude.{◌≡◌, ◌≤◌, ◌⊎◌, ◌^◌, map, IfErr, IfOk, IsErrOf, None};
-ghost use Rattle.std.specs.Prelude.{OnErr, OnOk, false, option_map};
+ghost use Rattle.std.specs.Prelude.{◌≡◌, ◌≤◌, ◌⊎◌, ◌^◌, ◌++◌, [], map, IfErr, IfOk, IsErrOf, None};
+ghost use Rattle.std.specs.Prelude.{◌-◌, OnErr, OnOk, false, length, option_map, slice_get, unwrap_or};
 ghost use Rattle.kob_outbox.specs.Events.{id_text, stored_row};
 ghost use Rattle.kob_outbox.specs.Fields.{first_bad};
 ghost use Rattle.kob_outbox.specs.Reading.{later_than};
@@ -10,6 +10,7 @@ ghost use Rattle.kob_router.specs.Dispatches.{dispatch_of};
 ghost use Rattle.kob_router.specs.Run.{calls_of, start};
 ghost use Rattle.kob_router.specs.Tick.{IsFirst, hand_of, state_of};
 ghost use Rattle.kob_pipeline.specs.declared.plan.ServiceStep.TheVariants as steps;
+ghost use Rattle.kob_pipeline.specs.Firsts.{IsPrefixOf};
 ghost use Rattle.kob_pipeline.specs.Services.{GoesOn, IsServiceStep};
 ghost use Rattle.kob_pipeline.specs.Steps.{Leads, Steps, standing};
 
@@ -210,14 +211,37 @@ fn rows_of(outbox: &mut Outbox) -> Result<Vec<Row>, StepFault>
         map stored_row rows.items ≡ later_than 0 outbox.old.events) }
     ensures same { outbox.new ≡ outbox.old }
 {
-    outbox.is_in_order();
     let mut rows = outbox.after(0, PAGE)?;
-    while let Some(last) = rows.last() {
-        let mut page = outbox.after(last.seq, PAGE)?;
+    loop {
+        let mut page = page_after(outbox, &rows)?;
         if page.is_empty() {
-            break;
+            return Ok(rows);
         }
         rows.append(&mut page)?;
     }
-    Ok(rows)
+}
+
+/// The next rows after those that were read, up to a page. None are left if there are none.
+fn page_after(outbox: &mut Outbox, rows: &[Row]) -> Result<Vec<Row>, StepFault>
+    requires { IsPrefixOf (map stored_row rows.now) (later_than 0 outbox.old.events) }
+    ensures next { IfOk result (λ page.
+        IsPrefixOf (map stored_row (rows.now ++ page.items)) (later_than 0 outbox.old.events)) }
+    ensures over { IfOk result (λ page. page.items ≡ []
+        → map stored_row rows.now ≡ later_than 0 outbox.old.events) }
+    ensures same { outbox.new ≡ outbox.old }
+{
+    outbox.is_in_order();
+    let last = last_number(rows);
+    Ok(outbox.after(last, PAGE)?)
+}
+
+/// The number of the last row, or 0.
+fn last_number(rows: &[Row]) -> u64
+    ensures { result
+        ≡ unwrap_or (option_map (λ row. row.seq) (slice_get rows.now (length rows.now - 1))) 0 }
+{
+    match rows.last() {
+        Some(row) => row.seq,
+        None => 0,
+    }
 }

@@ -1,7 +1,8 @@
 //! Workers that are services.
 
 ghost use Rattle.std.specs.Prelude.{◌≡◌, ◌≤◌, IfOk};
-ghost use Rattle.kob_pipeline.specs.Workers.{IsOutboxLeft, IsServiceLeft};
+ghost use Rattle.kob_pipeline.specs.Workers.{IsLeft, IsOutboxLeft};
+ghost use Rattle.kob_pipeline.specs.Workers.Planned.{Serving as PlannedService};
 
 use crate::desk::desk_at;
 use crate::end::{OutboxEnd, WorkerEnd};
@@ -50,7 +51,7 @@ impl<'a> ServiceWorker<'a> {
         shared: &SharedBroker,
         gate: &G,
     ) -> Result<Done<WorkerEnd>, CallFault>
-        ensures { IfOk result (λ d. IsServiceLeft self.now d.notes d.end) }
+        ensures { IfOk result (λ d. IsLeft (PlannedService self.now) d.notes d.end) }
     {
         let service = self.service;
         let desk = desk_at(alloc, shared, worker, &service.principal, &service.host)?;

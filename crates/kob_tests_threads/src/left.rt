@@ -7,7 +7,9 @@ use crate::plans::FIRST_EVENTS;
 use kob_broker::Broker;
 use kob_inbox::InboxRow;
 use kob_names::{Record, Verdict};
-use kob_pipeline::{PipelineEnd, Plan, consumer_law, first_breach, pipeline_law, router_law};
+use kob_pipeline::{
+    PipelineEnd, Plan, WorkerEnd, consumer_law, first_breach, pipeline_law, router_law,
+};
 use kob_rights::{Body, Code, Reply};
 use kob_router::event_id;
 use std::alloc::Global;
@@ -60,7 +62,7 @@ fn has_ids(rows: &[InboxRow], ids: &[u128]) -> bool {
 }
 
 /// Whether an inbox holds the first of these ids, in order, each once.
-pub(crate) fn begins(rows: &[InboxRow], ids: &[u128]) -> bool {
+fn begins(rows: &[InboxRow], ids: &[u128]) -> bool {
     if rows.len() > ids.len() {
         return false;
     }
@@ -73,8 +75,22 @@ pub(crate) fn begins(rows: &[InboxRow], ids: &[u128]) -> bool {
 }
 
 fn have_ids(end: &PipelineEnd, ids: &[u128]) -> bool {
-    for inbox in &end.inboxes {
-        if !has_ids(&inbox.rows, ids) {
+    for one in &end.done {
+        if let WorkerEnd::Inbox(inbox) = &one.end
+            && !has_ids(&inbox.rows, ids)
+        {
+            return false;
+        }
+    }
+    true
+}
+
+/// Whether each inbox holds the first of these ids, in order, each once.
+pub(crate) fn each_begins(end: &PipelineEnd, ids: &[u128]) -> bool {
+    for one in &end.done {
+        if let WorkerEnd::Inbox(inbox) = &one.end
+            && !begins(&inbox.rows, ids)
+        {
             return false;
         }
     }
@@ -135,18 +151,21 @@ pub(crate) fn are_records(alloc: Global, broker: &mut Broker, ids: &[u128]) -> b
 
 /// Whether the service's mark is this.
 pub(crate) fn is_marked(end: &PipelineEnd, mark: u64) -> bool {
-    match end.outboxes.get(0) {
-        Some(left) => left.mark == mark,
-        None => false,
+    let Some(service) = end.done.get(0) else {
+        return false;
+    };
+    match &service.end {
+        WorkerEnd::Outbox(left) => left.mark == mark,
+        _ => false,
     }
 }
 
 /// Whether the last reply to worker 2 denies its right to the group, since no binding allows it.
 fn is_denied(end: &PipelineEnd) -> bool {
-    let Some(notes) = end.transcripts.get(2) else {
+    let Some(consumer) = end.done.get(1) else {
         return false;
     };
-    let receipts = notes.receipts();
+    let receipts = consumer.notes.receipts();
     if receipts.len() == 0 {
         return false;
     }

@@ -5,7 +5,7 @@ ghost use Rattle.std.specs.Prelude.{◌≤◌};
 
 use crate::fleets::{ended, tells_two_each};
 use crate::gates::Open;
-use crate::left::{are_records, begins, is_marked};
+use crate::left::{are_records, each_begins, is_marked};
 use crate::making::{CREATE, METADATA, WRITE, offset_of, request_of, scripts_of, shared};
 use crate::pipelines::{STEP, TWO, run};
 use crate::plans::{Cast, plan};
@@ -127,11 +127,7 @@ fn has_both(alloc: Global, end: &mut PipelineEnd) -> bool {
 /// Whether both events were sent, and each inbox begins with them.
 fn is_whole(alloc: Global, end: &mut PipelineEnd) -> bool {
     let recorded = [0xA, 0xB];
-    end.inboxes
-        .iter()
-        .all(|inbox| begins(&inbox.rows, &recorded))
-        && has_both(alloc, end)
-        && is_marked(end, 2)
+    each_begins(end, &recorded) && has_both(alloc, end) && is_marked(end, 2)
 }
 
 /// Whether this is such an end. `None` if memory or a thread was refused.

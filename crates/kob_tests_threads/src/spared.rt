@@ -4,7 +4,7 @@
 ghost use Rattle.kob_pipeline.specs.Pipelines.{IsPipeline};
 
 use crate::gates::Open;
-use crate::left::{begins, call_laws, is_marked};
+use crate::left::{call_laws, each_begins, is_marked};
 use crate::making::{CREATE, METADATA, asker, event_of, recorded, request_of, shared};
 use crate::pipelines::{STEP, TWO, run};
 use crate::plans::{Cast, FIRST_EVENTS, plan};
@@ -168,15 +168,13 @@ fn desks_open_and_close(rt: HostRuntime) {
 /// Whether a pipeline of a service that sends two events and of a consumer left what is expected,
 /// in any order of its workers: six calls besides the first events, three of each worker.
 fn is_whole(end: &PipelineEnd) -> bool {
-    let counts = end.transcripts.iter().map(|notes| notes.len());
+    let counts = end.done.iter().map(|one| one.notes.len());
     end.journal.len() == FIRST_EVENTS + 6
         && end.journal.iter().count() == FIRST_EVENTS + 6
-        && counts.eq([FIRST_EVENTS, 3, 3])
+        && end.first.len() == FIRST_EVENTS
+        && counts.eq([3, 3])
         && is_marked(end, 2)
-        && end
-            .inboxes
-            .iter()
-            .all(|inbox| begins(&inbox.rows, &[0xA, 0xB]))
+        && each_begins(end, &[0xA, 0xB])
 }
 
 /// Whether the end of a plan, to which the laws apply, is so.

@@ -2,10 +2,10 @@ use Rattle.std.proofs.Common.{◌≤◌, arith, length, map, ap, ◌∙◌, vec_
 use Rattle.std.proofs.lemmas.Result.{IfOk-weaker, err_from_is_err_and}
 use Rattle.kob_shared.specs.Limits.{entry_limit}
 use Rattle.kob_pipeline.specs.Counts.{workers_planned}
-use Rattle.kob_pipeline.specs.Ends.{IsEnd}
-use Rattle.kob_pipeline.specs.Pipelines.{IsPipeline}
+use Rattle.kob_shared.specs.Openings.{opened_by}
+use Rattle.kob_pipeline.specs.Pipelines.{IsEnd, IsPipeline}
 use Rattle.kob_pipeline.specs.Workers.{planned_as}
-use Rattle.kob_pipeline.proofs.Finals.{pipeline_ended, workers_counted}
+use Rattle.kob_pipeline.proofs.Ended.{as_planned, workers_counted}
 use Rattle.kob_pipeline.proofs.PipelineFaults.{named_fleet}
 use Rattle.kob_pipeline.proofs.pipelines.run_plan.Goals as goal
 
@@ -27,9 +27,9 @@ returns-clause-ok g c =
     let opening = c.in_ok-broker.opening in
     let events = c.in_ok-ran.ran.first.events in
     let planned = map planned_as c.deref-2.result.now in
-    IfOk-weaker c.end_of.result (IsEnd opening events planned) (IsPipeline plan)
+    IfOk-weaker c.end_of.result (IsEnd (opened_by opening) events planned) (IsPipeline plan)
     (λ end is.
-    pipeline_ended opening plan events planned end c.in_ok-broker.ensures.opening
+    as_planned opening plan events planned end c.in_ok-broker.ensures.opening
     (c.in_ok-ran.ensures.first.0 ∙ c.in_ok-broker.ensures.first)
     (ap (map planned_as) c.deref-2.ensures.value ∙ c.in_ok-workers.ensures) is)
     c.end_of.ensures.ok

@@ -1,0 +1,16 @@
+use Rattle.std.proofs.Common.{arith, subst}
+use Rattle.std.specs.List.{All}
+use Rattle.std.proofs.lemmas.List.{take_all}
+use Rattle.std.proofs.lemmas.List.Elements.{All-more}
+use Rattle.kob_pipeline.specs.Workers.{IsWhole}
+use Rattle.kob_pipeline.proofs.pipelines.are_whole.Goals as goal
+
+pub loop-one-preserved : goal.loop-one-preserved
+loop-one-preserved c =
+    let one = c.one-item.result in
+    let kept = c.is_kept_by_store.ensures.0 c.if-not-is_kept_by_store.false in
+    All-more IsWhole c.args.done.now c.loop-one.one-index one (omega arith) c.loop-one.invariant
+    (subst IsWhole c.one-item.is (kept, c.receipts-answered.ensures.answered))
+
+pub returns : goal.returns
+returns c = λ _. subst (All IsWhole) (take_all c.loop-one.one-index c.args.done.now c.loop-one-test.false) c.loop-one.invariant
