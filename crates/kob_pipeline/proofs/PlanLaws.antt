@@ -21,7 +21,6 @@ use Rattle.std.specs.Prelude.{Contains}
 use Rattle.kob_broker.specs.Change.{state_of}
 use Rattle.kob_outbox.specs.Contents.{Event}
 use Rattle.kob_router.specs.Dispatches.{dispatch_of}
-use Rattle.kob_router.specs.declared.dispatch.Target.{Target}
 use Rattle.kob_router.specs.declared.place.Place.{Place}
 use Rattle.kob_inbox.proofs.Running.{run_takes_in}
 use Rattle.kob_inbox.specs.Contents.{Intake}

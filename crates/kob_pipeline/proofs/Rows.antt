@@ -1,5 +1,5 @@
 -- The moves of a router, one at a time: what they record, keep along a journal, and leave of the rows.
-use Rattle.std.proofs.Common.{◌≡◌, ℕ, suc, List, [], ◌∷◌, ◌++◌, Bool, true, false, refl, sym, ap, ◌∙◌, subst, length, append-nil, ◌<◌, filter, cond, arith, ◌⊎◌, ◌^◌, not, ◌&&◌, nat_lt, Option, Some, None, is_none, inl, inr, append_assoc, true≢false}
+use Rattle.std.proofs.Common.{◌≡◌, ℕ, suc, List, [], ◌∷◌, ◌++◌, Bool, true, false, refl, sym, ap, ◌∙◌, subst, length, append-nil, ◌<◌, arith, ◌⊎◌, ◌^◌, not, ◌&&◌, nat_lt, Option, Some, None, is_none, inl, inr, append_assoc, true≢false}
 use Rattle.std.specs.Prelude.{Option, Some, None, nat_lt}
 use Rattle.std.specs.List.{filter_map, AllByRecursion}
 use Rattle.kob_outbox.specs.Contents.{Contents, Event}

@@ -1,5 +1,4 @@
 use Rattle.std.proofs.Common.{ap, ◌∙◌}
-use Rattle.kob_outbox.specs.Contents.{Contents}
 use Rattle.kob_outbox.specs.Reading.{first_after}
 use Rattle.kob_pipeline.proofs.Outboxes.{page_read}
 use Rattle.kob_pipeline.proofs.posting.page_after.Goals as goal
