@@ -1,15 +1,15 @@
 -- Offsets that are taken in order, and what a run of a consumer keeps, of one partition.
-use Rattle.std.proofs.Common.{◌≡◌, ℕ, zero, suc, ◌+◌, ◌≤◌, min, List, [], ◌∷◌, ◌++◌, refl, sym, ap, ◌∙◌, inl, inr, subst, length, take, drop, arith, append_assoc, true, false, cond}
+use Rattle.std.proofs.Common.{◌≡◌, ℕ, zero, suc, ◌+◌, ◌≤◌, min, List, [], ◌∷◌, ◌++◌, refl, sym, ap, ◌∙◌, inl, inr, subst, take, drop, arith, true, false, cond}
 use Rattle.std.specs.Prelude.{Some, map, nat_eq, slice_get, Option, None}
 use Rattle.std.specs.List.{AllByRecursion, enumerate_from}
 use Rattle.std.proofs.lemmas.Bool.{cases_lt, cases_Bool}
-use Rattle.std.proofs.lemmas.List.{length_push, take-append-drop, length-take-le, drop_all, append-nil, map-append}
+use Rattle.std.proofs.lemmas.List.{append-nil, map-append}
 use Rattle.kob_names.specs.declared.record.Record.{Record}
 use Rattle.kob_partition.specs.Limits.{fetch_limit}
 use Rattle.kob_inbox.specs.Run.{behind}
 use Rattle.kob_pipeline.specs.Firsts.{numbers_below, with_each_new, with_new, firsts}
 use Rattle.kob_pipeline.specs.View.{read_from}
-use Rattle.kob_pipeline.proofs.Lists.{get_behind, all_append, all_weaker, get_front, place_cases, places_are, same_here}
+use Rattle.kob_pipeline.proofs.Lists.{all_append, all_weaker, get_front, place_cases, places_are, same_here}
 use Rattle.kob_pipeline.proofs.Once.{numbers_again, numbers_beyond, each_new_append}
 use Rattle.std.proofs.lemmas.List.Elements.{filter-append}
 use Rattle.kob_router.specs.Places.{same_place}
@@ -19,10 +19,10 @@ use Rattle.kob_inbox.specs.Intake.{Arrival, arrivals}
 use Rattle.kob_inbox.specs.declared.cursors.Cursor.{Cursor}
 use Rattle.kob_pipeline.specs.Taking.{from_place}
 
--- these offsets follow one another
-abbrev pub AreConsecutive : ℕ → List (ℕ × Record) → Type 0
-AreConsecutive n [] = Unit {0}
-AreConsecutive n (x ∷ xs) = (x.0 ≡ n) × AreConsecutive (n + 1) xs
+-- these offsets follow one another, and the records stand there
+abbrev pub AreRead : List Record → ℕ → List (ℕ × Record) → Type 0
+AreRead records n [] = Unit {0}
+AreRead records n (x ∷ xs) = (x.0 ≡ n) × (slice_get records x.0 ≡ Some x.1) × AreRead records (n + 1) xs
 
 -- offsets that go on from a position up to a bound
 pub record Reached (bound position : ℕ) (xs : List (ℕ × Record)) : Type 0 where
@@ -31,13 +31,13 @@ pub record Reached (bound position : ℕ) (xs : List (ℕ × Record)) : Type 0 w
   pub within : behind position xs ≤ reach
   pub no_less : bound ≤ reach
 
-pub reached : (bound position : ℕ) (xs : List (ℕ × Record)) → position ≤ bound → AreConsecutive position xs
-    → Reached bound position xs
-reached bound position [] l c = record { reach = bound; offsets = refl; within = l; no_less = omega arith }
-reached bound position (x ∷ xs) l c =
+pub reached : (records : List Record) (bound position : ℕ) (xs : List (ℕ × Record)) → position ≤ bound
+    → AreRead records position xs → Reached bound position xs
+reached records bound position [] l c = record { reach = bound; offsets = refl; within = l; no_less = omega arith }
+reached records bound position (x ∷ xs) l c =
     elim (cases_lt position bound) [
       | inl lt ↦
-          let r = reached bound (position + 1) xs (omega arith) c.1 in
+          let r = reached records bound (position + 1) xs (omega arith) c.2 in
           record {
             reach = r.reach;
             offsets = rw (c.0, numbers_again bound position lt) r.offsets;
@@ -45,7 +45,7 @@ reached bound position (x ∷ xs) l c =
             no_less = r.no_less;
           }
       | inr ge ↦
-          let r = reached (suc bound) (position + 1) xs (omega arith) c.1 in
+          let r = reached records (suc bound) (position + 1) xs (omega arith) c.2 in
           let at : position ≡ bound = omega arith in
           let offsets : List ℕ = map (λ (y : ℕ × Record). y.0) xs in
           record {
@@ -59,65 +59,35 @@ reached bound position (x ∷ xs) l c =
           }
     ]
 
-consecutive_from : (n : ℕ) (xs : List Record) → AreConsecutive n (enumerate_from n xs)
-consecutive_from n [] = tt
-consecutive_from n (x ∷ xs) = (refl, consecutive_from (n + 1) xs)
+-- what a list is from some place on
+drop_at : (n : ℕ) (xs : List Record) (x : Record) (rest : List Record) → drop n xs ≡ x ∷ rest
+    → (slice_get xs n ≡ Some x) × (drop (suc n) xs ≡ rest)
+drop_at zero [] x rest e = cc
+drop_at zero (y ∷ ys) x rest e = (cc, cc)
+drop_at (suc n) [] x rest e = cc
+drop_at (suc n) (y ∷ ys) x rest e = drop_at n ys x rest e
 
-consecutive_take : (k n : ℕ) (xs : List (ℕ × Record)) → AreConsecutive n xs → AreConsecutive n (take k xs)
-consecutive_take zero n xs c = tt
-consecutive_take (suc k) n [] c = tt
-consecutive_take (suc k) n (x ∷ xs) c = (c.0, consecutive_take k (n + 1) xs c.1)
+read_some : (records : List Record) (n k : ℕ) (rest : List Record) → drop n records ≡ rest
+    → AreRead records n (enumerate_from n (take k rest))
+read_some records n zero rest e = tt
+read_some records n (suc k) [] e = tt
+read_some records n (suc k) (x ∷ rest) e =
+    let d = drop_at n records x rest e in
+    let next : n + 1 ≡ suc n = omega arith in
+    (refl, d.0, read_some records (n + 1) k rest (ap (λ (m : ℕ). drop m records) next ∙ d.1))
 
-all_take : {A : Type 0} (P : A → Type 0) (k : ℕ) (xs : List A) → AllByRecursion P xs → AllByRecursion P (take k xs)
-all_take P zero xs h = tt
-all_take P (suc k) [] h = tt
-all_take P (suc k) (x ∷ xs) h = (h.0, all_take P k xs h.1)
+read_take : (records : List Record) (k n : ℕ) (xs : List (ℕ × Record)) → AreRead records n xs
+    → AreRead records n (take k xs)
+read_take records zero n xs c = tt
+read_take records (suc k) n [] c = tt
+read_take records (suc k) n (x ∷ xs) c = (c.0, c.1, read_take records k (n + 1) xs c.2)
 
-all_numbered_take : (P : ℕ × Record → Type 0) (k n : ℕ) (xs : List Record) → AllByRecursion P (enumerate_from n xs)
-    → AllByRecursion P (enumerate_from n (take k xs))
-all_numbered_take P zero n xs h = tt
-all_numbered_take P (suc k) n [] h = tt
-all_numbered_take P (suc k) n (x ∷ xs) h = (h.0, all_numbered_take P k (n + 1) xs h.1)
-
--- the pair tells what stands at its offset
-abbrev pub Stands : List Record → ℕ × Record → Type 0
-Stands records x = slice_get records x.0 ≡ Some x.1
-
-stand_from : (records front rest : List Record) → records ≡ front ++ rest
-    → AllByRecursion (Stands records) (enumerate_from (length front) rest)
-stand_from records front [] e = tt
-stand_from records front (x ∷ rest) e =
-    let at : slice_get records (length front) ≡ Some x =
-    ap (λ (rs : List Record). slice_get rs (length front)) e
-    ∙ get_behind front (x ∷ rest) (length front) 0 (omega arith) in
-    let all = stand_from records (front ++ x ∷ []) rest (e ∙ sym (append_assoc front (x ∷ []) rest)) in
-    (at, subst (λ (n : ℕ). AllByRecursion (Stands records) (enumerate_from n rest)) (length_push front x) all)
-
-all_stand : (records : List Record) (offset : ℕ) → AllByRecursion (Stands records)
-    (enumerate_from offset (drop offset records))
-all_stand records offset =
-    elim (cases_lt offset (length records)) [
-      | inl lt ↦
-          subst (λ (n : ℕ). AllByRecursion (Stands records) (enumerate_from n (drop offset records)))
-          (length-take-le offset records (omega arith))
-          (stand_from records (take offset records) (drop offset records) (sym (take-append-drop offset records)))
-      | inr ge ↦
-          subst (λ (rest : List Record). AllByRecursion (Stands records) (enumerate_from offset rest))
-          (sym (drop_all offset records ge)) tt
-    ]
-
--- the first of what a FETCH reads: consecutive from its offset on, and each stands at its offset
+-- so it is of the first of what a FETCH reads
 pub read_in_order : (records : List Record) (offset max count : ℕ)
-    → AreConsecutive offset (take count (read_from records offset max))
+    → AreRead records offset (take count (read_from records offset max))
 read_in_order records offset max count =
-    consecutive_take count offset (read_from records offset max)
-    (consecutive_from offset (take (min max fetch_limit) (drop offset records)))
-
-pub read_stands : (records : List Record) (offset max count : ℕ)
-    → AllByRecursion (Stands records) (take count (read_from records offset max))
-read_stands records offset max count =
-    all_take (Stands records) count (read_from records offset max)
-    (all_numbered_take (Stands records) (min max fetch_limit) offset (drop offset records) (all_stand records offset))
+    read_take records count offset (read_from records offset max)
+    (read_some records offset (min max fetch_limit) (drop offset records) refl)
 
 -- ---- what a run of a consumer keeps, of one partition
 
@@ -185,10 +155,10 @@ offsets_arrived : (q : Place) (xs : List (ℕ × Record)) → map offset_of (arr
 offsets_arrived q [] = refl
 offsets_arrived q (x ∷ xs) = ap (λ (ns : List ℕ). x.0 ∷ ns) (offsets_arrived q xs)
 
-contents_arrived : (records : List Record) (p : Place) (xs : List (ℕ × Record)) → AllByRecursion (Stands records) xs
+contents_arrived : (records : List Record) (p : Place) (n : ℕ) (xs : List (ℕ × Record)) → AreRead records n xs
     → AllByRecursion (IsContent records) (arrivals p xs)
-contents_arrived records p [] h = tt
-contents_arrived records p (x ∷ xs) h = (h.0, contents_arrived records p xs h.1)
+contents_arrived records p n [] h = tt
+contents_arrived records p n (x ∷ xs) h = (h.1, contents_arrived records p (n + 1) xs h.2)
 
 -- the cursor behind records that were taken in
 abbrev cursor_behind : Place → ℕ → List (ℕ × Record) → Cursor
@@ -254,10 +224,10 @@ module _ (q : Place) where
   -- records are taken in from the position on
   taking_here : {records : List Record} {committed : Option ℕ} {cursors : List Cursor} {arrived : List Arrival}
       (position : ℕ) (xs : List (ℕ × Record)) (k : Taking records committed cursors arrived) → position ≤ k.bound
-      → AreConsecutive position xs → AllByRecursion (Stands records) xs
+      → AreRead records position xs
       → Taking records committed (with_cursor cursors (cursor_behind q position xs)) (arrived ++ arrivals q xs)
-  taking_here {records} {committed} {cursors} {arrived} position xs k l c all =
-      let r : Reached k.bound position xs = reached k.bound position xs l c in
+  taking_here {records} {committed} {cursors} {arrived} position xs k l c =
+      let r : Reached k.bound position xs = reached records k.bound position xs l c in
       let more : from_place q (arrived ++ arrivals q xs) ≡ from_place q arrived ++ arrivals q xs =
       filter-append (λ (a : Arrival). same_place a.place q) arrived (arrivals q xs)
       ∙ ap (λ (ys : List Arrival). from_place q arrived ++ ys) (here_all q xs) in
@@ -273,7 +243,7 @@ module _ (q : Place) where
         contents =
             rw more
             (all_append (IsContent records) (from_place q arrived) (arrivals q xs) k.contents
-            (contents_arrived records q xs all));
+            (contents_arrived records q position xs c));
         cursor = rw (cursor_moved cursors (cursor_behind q position xs)) r.within;
         commit = within_more committed k.bound r.reach r.no_less k.commit;
       }
@@ -298,7 +268,7 @@ module _ (q : Place) where
 
   -- what records have to be that are taken in from the position on
   abbrev pub Fits : List Record → ℕ → ℕ → List (ℕ × Record) → Type 0
-  Fits records bound position xs = (position ≤ bound) × AreConsecutive position xs × AllByRecursion (Stands records) xs
+  Fits records bound position xs = (position ≤ bound) × AreRead records position xs
 
   -- so many of the records that were heard are taken in
   pub taking_after_fetch : {records : List Record} {committed : Option ℕ} {cursors : List Cursor}
@@ -312,6 +282,6 @@ module _ (q : Place) where
         | inl e ↦
             let f = fits e in
             subst (λ (y : Place). Taking records committed (with_cursor cursors (cursor_behind y position xs))
-            (arrived ++ arrivals y xs)) (sym e) (taking_here position xs k f.0 f.1 f.2)
+            (arrived ++ arrivals y xs)) (sym e) (taking_here position xs k f.0 f.1)
         | inr apart ↦ taking_elsewhere p position xs apart k
       ]

@@ -21,7 +21,7 @@ use Rattle.kob_inbox.specs.declared.cursors.Cursor.{Cursor}
 use Rattle.kob_inbox.specs.declared.cursors.Standing.{Standing}
 use Rattle.kob_inbox.specs.declared.fetcher.Subscription.{Subscription}
 use Rattle.kob_pipeline.specs.View.{Step, View, read_from, with_commit, IsHistory, opening_view}
-use Rattle.kob_pipeline.proofs.ConsumerKept.{Fits, Taking, WithinCursor, WithinOffset, taking_after_fetch, taking_after_move, taking_nothing, taking_with_commit, taking_after_restart, taking_first, taking_later, Stands, read_in_order, read_stands}
+use Rattle.kob_pipeline.proofs.ConsumerKept.{AreRead, Fits, Taking, WithinCursor, WithinOffset, taking_after_fetch, taking_after_move, taking_nothing, taking_with_commit, taking_after_restart, taking_first, taking_later, read_in_order}
 use Rattle.kob_pipeline.proofs.Lists.{all_both, places_are}
 use Rattle.kob_pipeline.proofs.RouterRun.{NotDone, heard_no_done, heard_none}
 use Rattle.kob_pipeline.proofs.ServedRuns.{Hears, IsRun, IsServedBy, IsUnheard, StepsAs, added, history_passes, kept_by_run}
@@ -155,9 +155,8 @@ module _ (t : Subscription) (q : Place) where
       let fits : p ≡ q → Fits q (records_of (v.log q)) k.bound asked.offset xs =
       λ e'. (
         rw here (position_within s.cursors p q c k.bound at k.cursor e'),
-        read_in_order records asked.offset asked.max count,
-        subst (λ (y : Place). Rattle.std.specs.List.AllByRecursion (Stands (records_of (v.log y))) xs) e'
-            (read_stands records asked.offset asked.max count),
+        subst (λ (y : Place). AreRead (records_of (v.log y)) asked.offset xs) e'
+            (read_in_order records asked.offset asked.max count),
       ) in
       rw (e, is)
       (taking_after_fetch q p asked.offset count xs k
