@@ -2,7 +2,7 @@
 """Microseconds, instructions and bytes of an event's way, beside a C program over Debian's SQLite.
 
     python3 bench/event.py [N] [--bytes BYTES] [--instructions ROWS] [--long ROWS] [--threads EVENTS] [--write]
-    (16,000, 100, 2,000, 250, 1,000; 0: none)
+    (16,000, 100, 2,000, 250, 4,000; 0: none)
 
 An event is recorded with its business row (`Outbox::record`), sent by a router over a line to a broker (`Router::tick`), taken in by
 a consumer that fetches 100 records at once (`Consumer::tick`), and swept (`Outbox::sweep`): once with no row that waits, and once with half
@@ -23,8 +23,8 @@ memory grows from N to 4N events, for each stage. --long measures the same with 
 four times as many.
 
 --threads measures a pipeline of four services, of this number of events each, and two consumers, which begin once all is sent; at twice and
-four times as many. Then it measures one broker under one lock, with 1 to 16 sessions that each produce a record and fetch it, by turns.
-Microseconds are the least of five runs. Under the lock is what callgrind counts in `Kept::serve`, of one session's instructions. Bytes by
+four times as many, and the instructions of a quarter of them. Then it measures one broker under one lock, with 1 to 16 sessions that each
+produce a record and fetch it, by turns. Microseconds are the least of five runs. Under the lock is what callgrind counts in `Kept::serve`, of one session's instructions. Bytes by
 place are what massif finds in memory when there is the most, by the function that allocated it, of the program as Rattle's own compiler
 builds it; the services have ended then, and their outboxes are gone.
 
@@ -55,7 +55,7 @@ SOURCES = {
     "threads": {"src/main.rt": "threads.txt"},
 }
 NEEDS = "kob_names kob_rights kob_broker kob_outbox kob_router kob_inbox kob_shared kob_pipeline uuid anyhow".split()
-CALLS = ("record", "record, ids rise", "tick", "intake", "intake, ids rise", "sweep, none waits", "sweep, half waits")
+CALLS = ("record", "record, ids rise", "tick", "intake", "intake, ids rise", "sweep, none waits", "sweep, half waits", "the same, ids rise")
 SERVICES, CONSUMERS, SESSIONS, RUNS = 4, 2, (1, 2, 4, 8, 16), 5
 # Where a pipeline keeps an event, by the functions on the way to an allocation, the innermost first: the first that fits.
 PLACES = {
@@ -93,13 +93,13 @@ def peer(folder):
 
 
 def works(n, size):
-    """What a program is run with: all rows are sent and swept, half of them, all with ids that rise."""
-    return (n, n, n, 1, size, 0), (n, n // 2, 0, 1, size, 0), (n, n, n, 0, size, 1)
+    """What a program is run with: all rows are sent and swept, or half of them, with ids that are spread and with ids that rise."""
+    return [(n, sent, sent if sent == n else 0, 1, size, rises) for rises in (0, 1) for sent in (n, n // 2)]
 
 
-def of_calls(n, whole, half, rising):
-    """The cost of each of CALLS, from that of the stages of the three runs."""
-    return [whole[0] / n, rising[0] / n, whole[1] / n, whole[2] / n, rising[2] / n, whole[3], half[3]]
+def of_calls(n, whole, half, rising, rising_half):
+    """The cost of each of CALLS, from that of the stages of the four runs."""
+    return [whole[0] / n, rising[0] / n, whole[1] / n, whole[2] / n, rising[2] / n, whole[3], half[3], rising_half[3]]
 
 
 def words_of(program, work):
@@ -192,18 +192,22 @@ def least(program, work, due):
 
 
 def pipelines(program, n, size):
-    """Prints what a pipeline costs for an event, and how it grows."""
+    """Prints what a pipeline costs for an event, and how it grows; instructions of a quarter of the events."""
     rows = []
-    heading("Events of a pipeline in threads", "microseconds an event", "growth", "instructions an event", "growth")
+    heading("Events of a pipeline in threads", "microseconds an event", "growth")
     for it in (n, 2 * n, 4 * n):
-        work, events = ("pipeline", size, SERVICES, CONSUMERS, it), SERVICES * it
-        micros, high = least(program, work, CONSUMERS * events)
-        counted = instructions(program, work, 1)[0] if shutil.which("valgrind") else 0
-        grown = [later / before if before else 0 for before, later in zip(rows[-1][:2], (micros / events, counted / events))] if rows else []
-        rows.append((micros / events, counted / events, high))
-        growth = [f"{it:.2f}" for it in grown] or ["", ""]
-        row(f"{events:,}", f"{micros / events:.1f}", growth[0], f"{counted / events:,.0f}", growth[1])
-    print(f"\nMemory grows by {(rows[2][2] - rows[0][2]) / (3 * n * SERVICES):,.0f} bytes for one more event.\n")
+        micros, high = least(program, ("pipeline", size, SERVICES, CONSUMERS, it), CONSUMERS * SERVICES * it)
+        rows.append((micros / it / SERVICES, high))
+        row(f"{SERVICES * it:,}", f"{rows[-1][0]:.1f}", f"{rows[-1][0] / rows[-2][0]:.2f}" if rows[1:] else "")
+    print(f"\nMemory grows by {(rows[2][1] - rows[0][1]) / (3 * n * SERVICES):,.0f} bytes for one more event.\n")
+    if shutil.which("valgrind"):
+        heading("Events of a pipeline in threads", "instructions an event", "growth")
+        before = 0
+        for it in (n // 4, n // 2, n):
+            counted = instructions(program, ("pipeline", size, SERVICES, CONSUMERS, it), 1)[0] / it / SERVICES
+            row(f"{SERVICES * it:,}", f"{counted:,.0f}", f"{counted / before:.2f}" if before else "")
+            before = counted
+        print()
 
 
 def places(program, n, size):
@@ -265,7 +269,7 @@ def main():
     parser.add_argument("--bytes", type=int, default=100)
     parser.add_argument("--instructions", type=int, default=2_000)
     parser.add_argument("--long", type=int, default=250)
-    parser.add_argument("--threads", type=int, default=1_000)
+    parser.add_argument("--threads", type=int, default=4_000)
     parser.add_argument("--write", action="store_true")
     given = parser.parse_args()
     said = Both()
@@ -280,9 +284,9 @@ def main():
         if given.threads:
             program = ours(folder, "threads")
             pipelines(program, given.threads, given.bytes)
-            sessions(program, 64 * given.threads, given.bytes)
+            sessions(program, 16 * given.threads, given.bytes)
             if shutil.which("valgrind"):
-                places(program, given.threads, given.bytes)
+                places(program, given.threads // 4, given.bytes)
     if given.write:
         written(said.getvalue())
 
