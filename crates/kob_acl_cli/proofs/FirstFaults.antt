@@ -4,11 +4,10 @@ use Rattle.std.proofs.lemmas.List.{take-append-drop, drop_more}
 use Rattle.std.proofs.lemmas.List.Elements.{filter-append}
 use Rattle.kob_acl_cli.specs.Commands.{faults}
 use Rattle.kob_acl_cli.specs.Misread.{IsFirstFault, bad_names, misread_words}
-use Rattle.kob_acl_cli.specs.Mixes.{has_one_action, is_bad_mix, lacks_resource, lacks_principal}
-use Rattle.kob_acl_cli.specs.Targets.{only_if}
+use Rattle.kob_acl_cli.specs.Mixes.{has_one_action, refusals}
 use Rattle.kob_acl_cli.specs.declared.args.CliArgs.{CliArgs}
 use Rattle.kob_acl_cli.specs.declared.fault.CommandFault.{CommandFault}
-use Rattle.kob_acl_cli.specs.declared.fault.CommandFault.TheVariants.{BadMix, NoResource, NoPrincipal, Memory}
+use Rattle.kob_acl_cli.specs.declared.fault.CommandFault.TheVariants.{Memory}
 
 pub first_or_memory : (faults : List CommandFault) (fault : CommandFault) → fault ≡ Memory → IsFirstFault faults fault
 first_or_memory [] fault is = is
@@ -45,12 +44,4 @@ first_at test words i d fault before below first_is =
 pub first_of_words : (args : CliArgs) (fault : CommandFault) → has_one_action args ≡ true
     → IsFirstFault (bad_names (misread_words args)) fault → IsFirstFault (faults args) fault
 first_of_words args fault one first_is =
-    let mixed =
-    first_before (bad_names (misread_words args)) (only_if (is_bad_mix args) (BadMix ∷ [])) fault first_is in
-    let unresourced =
-    first_before (bad_names (misread_words args) ++ only_if (is_bad_mix args) (BadMix ∷ []))
-    (only_if (lacks_resource args) (NoResource ∷ [])) fault mixed in
-    rw one
-    (first_before (bad_names (misread_words args) ++ only_if (is_bad_mix args) (BadMix ∷ [])
-    ++ only_if (lacks_resource args) (NoResource ∷ []))
-    (only_if (lacks_principal args) (NoPrincipal ∷ [])) fault unresourced)
+    rw one (first_before (bad_names (misread_words args)) (refusals args) fault first_is)

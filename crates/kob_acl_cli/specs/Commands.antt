@@ -4,7 +4,7 @@ use Rattle.kob_names.specs.declared.filter.BindingFilter.{BindingFilter}
 use Rattle.kob_names.specs.declared.filter.FilterPattern.TheVariants.{Any}
 use Rattle.kob_acl_cli.specs.Accesses.{accesses}
 use Rattle.kob_acl_cli.specs.Misread.{misread_words, bad_names}
-use Rattle.kob_acl_cli.specs.Mixes.{has_one_action, has_holder, is_bad_mix, lacks_resource, lacks_principal}
+use Rattle.kob_acl_cli.specs.Mixes.{has_one_action, has_holder, refusals}
 use Rattle.kob_acl_cli.specs.Parts.{or_default, parts}
 use Rattle.kob_acl_cli.specs.Rules.{product, draft_of, filter_of}
 use Rattle.kob_acl_cli.specs.Targets.{only_if, targets}
@@ -12,7 +12,7 @@ use Rattle.kob_acl_cli.specs.declared.args.CliArgs.{CliArgs}
 use Rattle.kob_acl_cli.specs.declared.commands.AclCommand.{AclCommand}
 use Rattle.kob_acl_cli.specs.declared.commands.AclCommand.TheVariants.{Create, Delete, Describe}
 use Rattle.kob_acl_cli.specs.declared.fault.CommandFault.{CommandFault}
-use Rattle.kob_acl_cli.specs.declared.fault.CommandFault.TheVariants.{NoAction, BadMix, NoResource, NoPrincipal}
+use Rattle.kob_acl_cli.specs.declared.fault.CommandFault.TheVariants.{NoAction}
 use Rattle.kob_acl_cli.specs.declared.parts.Parts.{Parts}
 use Rattle.kob_acl_cli.specs.declared.rule.Rule.{Rule}
 use Rattle.kob_acl_cli.specs.declared.target.Target.{Target}
@@ -22,9 +22,7 @@ abbrev pub faults : CliArgs → List CommandFault
 faults args =
     only_if (not (has_one_action args)) (NoAction ∷ [])
     ++ bad_names (misread_words args)
-    ++ only_if (is_bad_mix args) (BadMix ∷ [])
-    ++ only_if (lacks_resource args) (NoResource ∷ [])
-    ++ only_if (lacks_principal args) (NoPrincipal ∷ [])
+    ++ refusals args
 
 -- every rule that the line writes
 abbrev pub rules : Parts → CliArgs → List Rule

@@ -1,7 +1,10 @@
 -- Which options may be used together, and what has to be beside them.
-use Rattle.std.specs.Prelude.{◌==◌, ◌&&◌, ◌||◌, not, ℕ, Bool, false, List, [], ◌∷◌, length, nat_lt, count_by, codes, Option, Some, None}
+use Rattle.std.specs.Prelude.{◌==◌, ◌&&◌, ◌||◌, ◌++◌, not, ℕ, Bool, false, List, [], ◌∷◌, length, nat_lt, count_by, codes, Option, Some, None}
 use Rattle.std.specs.Str.{str_eq_ignore_ascii_case}
+use Rattle.kob_acl_cli.specs.Targets.{only_if}
 use Rattle.kob_acl_cli.specs.declared.args.CliArgs.{CliArgs}
+use Rattle.kob_acl_cli.specs.declared.fault.CommandFault.{CommandFault}
+use Rattle.kob_acl_cli.specs.declared.fault.CommandFault.TheVariants.{BadMix, NoResource, NoPrincipal}
 
 abbrev pub is_given : List (List ℕ) → Bool
 is_given texts = nat_lt 0 (length texts)
@@ -114,3 +117,9 @@ lacks_resource args =
 -- --add, --producer or --consumer without a principal
 abbrev pub lacks_principal : CliArgs → Bool
 lacks_principal args = (args.add || has_convenience args) && not (has_holder args)
+
+-- the refusals that apply to options whose words are valid, in their order
+abbrev pub refusals : CliArgs → List CommandFault
+refusals args =
+    only_if (is_bad_mix args) (BadMix ∷ []) ++ only_if (lacks_resource args) (NoResource ∷ [])
+    ++ only_if (lacks_principal args) (NoPrincipal ∷ [])

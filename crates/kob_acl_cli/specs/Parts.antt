@@ -8,7 +8,7 @@ use Rattle.kob_names.specs.declared.kinds.Permission.TheVariants.{Allow, Deny}
 use Rattle.kob_words.specs.Operation.{operation_named}
 use Rattle.kob_words.specs.Pattern.{filter_pattern_named}
 use Rattle.kob_acl_cli.specs.declared.args.CliArgs.{CliArgs}
-use Rattle.kob_acl_cli.specs.declared.holders.Holders.{Holders}
+use Rattle.kob_acl_cli.specs.declared.parts.Holders.{Holders}
 use Rattle.kob_acl_cli.specs.declared.parts.Parts.{Parts}
 
 -- a list, or one item where it is empty

@@ -9,7 +9,7 @@ use Rattle.kob_names.specs.declared.kinds.PatternKind.{PatternKind}
 use Rattle.kob_names.specs.declared.kinds.PatternKind.TheVariants.{Literal, Prefixed}
 use Rattle.kob_names.specs.declared.kinds.Permission.{Permission}
 use Rattle.kob_acl_cli.specs.declared.access.Access.{Access}
-use Rattle.kob_acl_cli.specs.declared.holders.Holders.{Holders}
+use Rattle.kob_acl_cli.specs.declared.parts.Holders.{Holders}
 use Rattle.kob_acl_cli.specs.declared.rule.Rule.{Rule}
 use Rattle.kob_acl_cli.specs.declared.target.Target.{Target}
 

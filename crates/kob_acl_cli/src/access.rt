@@ -11,7 +11,7 @@ use kob_names::{FilterPattern, Items, Operation, PlainValue, ResourceKind};
 use std::alloc::{AllocError, Global};
 
 /// Operations on a resource.
-#[derive(Debug, Drop)]
+#[derive(Drop)]
 pub struct Access {
     pub target: Target,
     pub operations: Items<Operation>,

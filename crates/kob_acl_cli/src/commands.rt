@@ -8,7 +8,7 @@ ghost use Rattle.kob_acl_cli.specs.Mixes as mixes;
 use crate::access::accesses;
 use crate::args::CliArgs;
 use crate::fault::CommandFault;
-use crate::mixes::{has_holder, has_one_action, is_bad_mix, lacks_principal, lacks_resource};
+use crate::mixes::{has_holder, has_one_action, refusal};
 use crate::parts::{Parts, read_parts};
 use crate::rule::{Rule, product};
 use crate::target::{Target, targets};
@@ -41,16 +41,10 @@ pub fn commands_of(alloc: Global, args: &CliArgs) -> Result<Vec<AclCommand>, Com
         return Err(CommandFault::NoAction);
     }
     let parts = read_parts(alloc, args)?;
-    if is_bad_mix(args) {
-        return Err(CommandFault::BadMix);
+    match refusal(args) {
+        None => Ok(commands_by(alloc, args, &parts)?),
+        Some(fault) => Err(fault),
     }
-    if lacks_resource(args) {
-        return Err(CommandFault::NoResource);
-    }
-    if lacks_principal(args) {
-        return Err(CommandFault::NoPrincipal);
-    }
-    Ok(commands_by(alloc, args, &parts)?)
 }
 
 fn commands_by(alloc: Global, args: &CliArgs, parts: &Parts) -> Result<Vec<AclCommand>, AllocError>

@@ -5,7 +5,6 @@ mod access;
 mod args;
 mod commands;
 mod fault;
-mod holders;
 mod line;
 mod misread;
 mod mixes;

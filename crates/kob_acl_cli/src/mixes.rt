@@ -1,9 +1,11 @@
 //! Which options may be used together, and which others they need.
 
-ghost use Rattle.std.specs.Prelude.{◌≡◌};
+ghost use Rattle.std.specs.Prelude.{◌≡◌, [], None, IfSome};
+ghost use Rattle.kob_acl_cli.specs.Misread.{IsFirstFault};
 ghost use Rattle.kob_acl_cli.specs.Mixes as mixes;
 
 use crate::args::CliArgs;
+use crate::fault::CommandFault;
 use kob_names::{Items, Text};
 
 /// Whether exactly one of `--add`, `--remove` and `--list` is given.
@@ -13,15 +15,31 @@ pub fn has_one_action(args: &CliArgs) -> bool
     u8::from(args.add) + u8::from(args.remove) + u8::from(args.list) == 1
 }
 
+/// Why options whose words are valid are refused, by the first rule that they break.
+pub fn refusal(args: &CliArgs) -> Option<CommandFault>
+    ensures first { IfSome result (λ fault. IsFirstFault (mixes.refusals args.now) fault) }
+    ensures none { result ≡ None → mixes.refusals args.now ≡ [] }
+{
+    if is_bad_mix(args) {
+        Some(CommandFault::BadMix)
+    } else if lacks_resource(args) {
+        Some(CommandFault::NoResource)
+    } else if lacks_principal(args) {
+        Some(CommandFault::NoPrincipal)
+    } else {
+        None
+    }
+}
+
 /// Whether options are used together that may not be.
-pub fn is_bad_mix(args: &CliArgs) -> bool
+fn is_bad_mix(args: &CliArgs) -> bool
     ensures { result ≡ mixes.is_bad_mix args.now }
 {
     is_bad_mix_of_holders(args) || is_bad_mix_of_action(args) || is_bad_mix_of_convenience(args)
 }
 
 /// Whether the options need a resource that is not given.
-pub fn lacks_resource(args: &CliArgs) -> bool
+fn lacks_resource(args: &CliArgs) -> bool
     ensures { result ≡ mixes.lacks_resource args.now }
 {
     (args.add || args.remove) && !has_resource(args)
@@ -30,7 +48,7 @@ pub fn lacks_resource(args: &CliArgs) -> bool
 }
 
 /// Whether the options need a principal that is not given.
-pub fn lacks_principal(args: &CliArgs) -> bool
+fn lacks_principal(args: &CliArgs) -> bool
     ensures { result ≡ mixes.lacks_principal args.now }
 {
     (args.add || has_convenience(args)) && !has_holder(args)

@@ -1,6 +1,6 @@
 //! What the words of a line mean.
 
-ghost use Rattle.std.specs.Prelude.{◌≡◌, [], codes, filter, IfErr, OnOk};
+ghost use Rattle.std.specs.Prelude.{◌≡◌, [], codes, filter, IfErr, IfOk, OnOk};
 ghost use Rattle.kob_names.specs.declared.kinds.Operation.TheVariants.{All};
 ghost use Rattle.kob_names.specs.declared.kinds.Permission.TheVariants.{Allow, Deny};
 ghost use Rattle.kob_acl_cli.specs.Misread.{IsFirstFault, Reads, bad_names, is_no_host};
@@ -9,13 +9,20 @@ ghost use Rattle.kob_acl_cli.specs.Parts.{operations_named, or_default, parts};
 
 use crate::args::CliArgs;
 use crate::fault::CommandFault;
-use crate::holders::{Holders, hosts_or_every};
 use crate::misread::{read_hosts, read_operations, read_pattern_type, read_principals};
 use kob_names::{FilterPattern, Host, Items, Operation, Permission, Principal, Text};
-use std::alloc::Global;
+use std::alloc::{AllocError, Global};
+
+/// The principals, on these hosts, that are allowed or denied something.
+#[derive(Drop)]
+pub struct Holders {
+    pub permission: Permission,
+    pub principals: Items<Principal>,
+    pub hosts: Items<Host>,
+}
 
 /// The words of a line, read, with defaults for those that are not given.
-#[derive(Debug, Drop)]
+#[derive(Drop)]
 pub struct Parts {
     pub allowed: Holders,
     pub denied: Holders,
@@ -74,8 +81,18 @@ fn fill_parts(alloc: Global, args: &CliArgs, made: &mut Parts) -> Result<(), Com
 fn read_hosts_or_every(alloc: Global, words: &Items<Text>) -> Result<Items<Host>, CommandFault>
     ensures { Reads (filter is_no_host words.now) (or_default (codes "*") words.now) result }
 {
-    let hosts = read_hosts(alloc, words)?;
-    Ok(hosts_or_every(alloc, hosts)?)
+    if words.len() > 0 {
+        return read_hosts(alloc, words);
+    }
+    let mut every = Vec::new(alloc);
+    every.push(every_host(alloc)?)?;
+    Ok(Items::from_vec(every))
+}
+
+fn every_host(alloc: Global) -> Result<Host, AllocError>
+    ensures { IfOk result (λ made. made ≡ codes "*") }
+{
+    Host::parse(alloc, "*").map_err(|_| AllocError)
 }
 
 /// The operations that the words name, or all if there are none.

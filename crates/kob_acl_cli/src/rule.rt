@@ -4,7 +4,7 @@ ghost use Rattle.std.specs.Prelude.{◌≡◌, ◌++◌, OnOk, IfOk};
 ghost use Rattle.kob_acl_cli.specs.Rules as rules;
 
 use crate::access::Access;
-use crate::holders::Holders;
+use crate::parts::Holders;
 use crate::target::Target;
 use kob_names::{
     BindingFilter, Draft, FilterPattern, Host, Operation, Pattern, PatternKind, Permission,
@@ -13,7 +13,7 @@ use kob_names::{
 use std::alloc::{AllocError, Global};
 
 /// A principal on a host that is allowed or denied an operation on what an option names.
-#[derive(Debug, Drop)]
+#[derive(Drop)]
 pub struct Rule {
     pub permission: Permission,
     pub principal: Principal,

@@ -8,7 +8,7 @@ use kob_names::{FilterPattern, Items, PlainValue, ResourceKind, Text};
 use std::alloc::{AllocError, Global};
 
 /// The resources of a kind that an option names.
-#[derive(Debug, Drop)]
+#[derive(Drop)]
 pub struct Target {
     pub kind: ResourceKind,
     pub name: Text,
