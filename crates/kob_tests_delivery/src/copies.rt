@@ -1,10 +1,13 @@
-//! Copies of what a router and its line keep.
+//! Copies of what services, routers and consumers keep.
 
-use crate::making::default_route;
+use crate::making::{ORDERS, default_route};
+use kob_inbox::Subscription;
 use kob_names::PlainValue;
+use kob_outbox::{Change, OutboxEvent, Row};
 use kob_rights::{Body, Reply, Request};
 use kob_router::{Call, RouteSettings, Target};
 use std::alloc::{AllocError, Global};
+use uuid::Uuid;
 
 fn copies_settings(alloc: Global) -> Result<bool, AllocError> {
     let settings = RouteSettings::by_default(alloc)?;
@@ -25,22 +28,14 @@ fn copies_a_target(alloc: Global) -> Option<bool> {
     Some(copy.partitions == 3)
 }
 
-fn call() -> Call {
-    Call {
+fn copies_a_call(alloc: Global) -> bool {
+    let call = Call {
         request: Request::InitProducerId,
         heard: Some(Reply::Done(Body::Producer { id: 7, epoch: 0 })),
-    }
-}
-
-fn is_same(one: &Call, other: &Call) -> bool {
-    one.request.same(&other.request) && one.heard.same(&other.heard)
-}
-
-fn copies_a_call(alloc: Global) -> bool {
-    let call = call();
+    };
     let copied = call.copy(alloc);
     let holds = match &copied {
-        Ok(copy) => is_same(copy, &call),
+        Ok(copy) => copy.request.same(&call.request) && copy.heard.same(&call.heard),
         Err(_) => false,
     };
     drop(copied);
@@ -48,10 +43,36 @@ fn copies_a_call(alloc: Global) -> bool {
     holds
 }
 
+fn copies_a_subscription(alloc: Global) -> Result<bool, AllocError> {
+    let subscription = Subscription::of(alloc, "mail", ORDERS, 1, 10)?;
+    let copy = subscription.copy(alloc)?;
+    Ok(
+        copy.group.same(&subscription.group)
+            && copy.assignment.same(&subscription.assignment)
+            && copy.max == 10,
+    )
+}
+
+fn copies_a_row(alloc: Global) -> Result<bool, AllocError> {
+    let change = Change::of(alloc, "orders", "42", "paid")?.copy(alloc)?;
+    let event = OutboxEvent::of(alloc, Uuid::from_u128(0xA), &change, "{}")?;
+    let copy = Row { seq: 1, event }.copy(alloc)?;
+    let event = &copy.event;
+    Ok(
+        (copy.seq, event.id) == (1, Uuid::from_u128(0xA))
+            && event.aggregate_type == change.kind
+            && event.aggregate_id == change.id
+            && event.event_type == change.state
+            && event.payload.as_str() == "{}",
+    )
+}
+
 #[test]
-fn settings_targets_and_calls_are_copied(rt: HostRuntime) {
+fn copies_are_equal(rt: HostRuntime) {
     let alloc = rt.alloc();
     assert!(rt; copies_settings(alloc) == Ok(true));
     assert!(rt; copies_a_target(alloc) == Some(true));
     assert!(rt; copies_a_call(alloc));
+    assert!(rt; copies_a_subscription(alloc) == Ok(true));
+    assert!(rt; copies_a_row(alloc) == Ok(true));
 }

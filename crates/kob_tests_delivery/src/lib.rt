@@ -1,12 +1,23 @@
-//! Tests of outboxes and inboxes, of routes, of lines to a broker, of journals that are handed out,
-//! of routers and consumers that run out of memory, and of calls that do not allocate. The results
-//! of steps over a broker are shown by the scenes of `kob_scene`.
+//! Tests of outboxes and inboxes, of routes and lines, of sessions, fleets and pipelines in threads,
+//! of journals that are handed out, of routers and consumers that run out of memory, and of calls
+//! that do not allocate. The results of steps over a broker are shown by the scenes of `kob_scene`.
+//!
+//! They are few functions, since each costs seconds of a check. Brokers, outboxes, journals, ends of
+//! fleets and events are lent, or dropped by `drop`. If such a value is dropped at the end of a
+//! function or by `?`, the proof of the function considers each of its parts again, and costs ten
+//! times as much.
 #![tactic(auto)]
 
 #[cfg(test)]
 mod copies;
 #[cfg(test)]
+mod fleets;
+#[cfg(test)]
+mod gates;
+#[cfg(test)]
 mod inbox;
+#[cfg(test)]
+mod left;
 #[cfg(test)]
 mod lines;
 #[cfg(test)]
@@ -14,12 +25,22 @@ mod making;
 #[cfg(test)]
 mod outbox;
 #[cfg(test)]
+mod pipelines;
+#[cfg(test)]
+mod plans;
+#[cfg(test)]
 mod refused;
+#[cfg(test)]
+mod refused_sessions;
 #[cfg(test)]
 mod relays;
 #[cfg(test)]
-mod rotations;
+mod revoked;
 #[cfg(test)]
 mod routes;
 #[cfg(test)]
+mod sessions;
+#[cfg(test)]
 mod spared;
+#[cfg(test)]
+mod spared_sessions;

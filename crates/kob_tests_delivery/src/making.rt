@@ -1,145 +1,161 @@
-//! Rows, routes, outboxes, brokers and lines that the tests share.
+//! Brokers, requests, scripts, lines and outboxes that the tests share.
 
 ghost use Rattle.std.specs.Prelude.{IfOk, IfSome, ◌≤◌};
 ghost use Rattle.kob_shared.specs.Openings.{IsFresh};
 
 use kob_broker::{Broker, OpenFault, Settings};
 use kob_lines::BrokerLine;
-use kob_names::{Host, Items, Principal, Text};
-use kob_outbox::{Change, Outbox, OutboxEvent, Row};
-use kob_rights::{Event, Reply};
-use kob_router::{Place, Route, RouteBy, RouteFault, RouteSettings};
-use kob_script::{Script, read_script};
-use kob_shared::Recorded;
-use std::alloc::{AllocError, Global};
-use std::test::Fail;
+use kob_names::{Binding, Host, Items, PlainValue, Principal};
+use kob_outbox::{Change, Outbox, OutboxEvent, RecordFault};
+use kob_rights::{Body, Event, Reply, Request};
+use kob_router::{Route, RouteFault, RouteSettings};
+use kob_script::read_script;
+use kob_shared::{Recorded, Script, SharedBroker};
+use std::alloc::Global;
 use uuid::Uuid;
 
 /// The topic of events about orders.
 pub(crate) const ORDERS: &str = "outbox.event.orders";
 
-/// The topic is created.
-const CREATED: &str = "User:root h create-topic outbox.event.orders 1";
+/// It is created, with one partition.
+pub(crate) const CREATE_ORDERS: &str = "User:root h create-topic outbox.event.orders 1";
 
-/// An event of an aggregate of this kind.
-fn event(alloc: Global, id: u128, kind: &str, aggregate: &str) -> Result<OutboxEvent, AllocError> {
-    Ok(OutboxEvent {
-        id: Uuid::from_u128(id),
-        aggregate_type: String::from_str(alloc, kind)?,
-        aggregate_id: String::from_str(alloc, aggregate)?,
-        event_type: String::from_str(alloc, "OrderPaid")?,
-        payload: String::from_str(alloc, "{}")?,
-    })
+/// The topic `t` with one partition is created.
+pub(crate) const CREATE: &str = "User:root h create-topic t 1";
+
+/// One record is written to it.
+pub(crate) const WRITE: &str = "User:root h produce t 0 - v";
+
+/// All topics are asked for.
+pub(crate) const METADATA: &str = "User:root h metadata";
+
+/// The size of the allocation by which `.ci/refuse` knows that all that come after it are to be
+/// refused.
+const CUE: usize = 7_654_321;
+
+/// Nothing is allocated from here on. If `.ci/refuse` runs the test, each allocation from here on
+/// is refused.
+pub(crate) fn spare(alloc: Global) -> bool {
+    Vec::<u8>::with_capacity(alloc, CUE).is_ok()
 }
 
-/// A row with such an event, whose id is 10.
-pub(crate) fn row(alloc: Global, kind: &str, aggregate: &str) -> Result<Row, AllocError> {
-    let event = event(alloc, 0xA, kind, aggregate)?;
-    Ok(Row { seq: 1, event })
-}
-
-/// A route by the aggregate's type.
-pub(crate) fn route(
-    alloc: Global,
-    replacement: &str,
-    placement: &str,
-) -> Result<Route, RouteFault> {
-    let replacement = Text::copied(alloc, replacement)?;
-    let placement = Text::copied(alloc, placement)?;
-    route_by(
-        alloc,
-        RouteSettings {
-            by: RouteBy::AggregateType,
-            replacement,
-            placement,
-        },
-    )
-}
-
-/// The default route.
-pub(crate) fn default_route(alloc: Global) -> Result<Route, RouteFault> {
-    route_by(alloc, RouteSettings::by_default(alloc)?)
-}
-
-fn route_by(alloc: Global, settings: RouteSettings) -> Result<Route, RouteFault> {
-    let route = Route::new(alloc, &settings);
-    drop(settings);
-    route
-}
-
-fn change(alloc: Global) -> Result<Change, AllocError> {
-    Ok(Change {
-        kind: String::from_str(alloc, "order")?,
-        id: String::from_str(alloc, "42")?,
-        state: String::from_str(alloc, "paid")?,
-    })
-}
-
-/// An outbox with this number of events about orders, whose ids are 1, 2 and so on.
-pub(crate) fn outbox(alloc: Global, count: u128) -> Result<Outbox, Fail> {
-    let mut outbox = Outbox::open_in_memory(alloc)?;
-    match record_all(alloc, &mut outbox, count) {
-        Ok(()) => Ok(outbox),
-        Err(fail) => {
-            drop(outbox);
-            Err(fail)
-        }
-    }
-}
-
-fn record_all(alloc: Global, outbox: &mut Outbox, count: u128) -> Result<(), Fail> {
-    let change = change(alloc)?;
-    for id in 0..count {
-        outbox.record(&change, &event(alloc, id.wrapping_add(1), "orders", "42")?)?;
-    }
-    Ok(())
+/// The events of a script.
+pub(crate) fn events_of(alloc: Global, lines: &str) -> Option<Vec<Event>> {
+    let script = read_script(alloc, lines.as_bytes()).ok()?;
+    drop(script.settings);
+    Some(script.events.into_vec())
 }
 
 /// The one event of a script's line.
 pub(crate) fn event_of(alloc: Global, line: &str) -> Option<Event> {
-    read_script(alloc, line.as_bytes())
-        .ok()?
-        .events
-        .into_vec()
-        .pop()
+    events_of(alloc, line)?.pop()
 }
 
-fn open(alloc: Global, settings: Settings) -> Result<Broker, OpenFault>
+/// The request of a script's line.
+pub(crate) fn request_of(alloc: Global, line: &str) -> Option<Request> {
+    let event = event_of(alloc, line)?;
+    drop(event.principal);
+    drop(event.host);
+    Some(event.request)
+}
+
+fn put_times(
+    alloc: Global,
+    requests: &mut Vec<Request>,
+    request: &Request,
+    times: usize,
+) -> Option<()> {
+    for _ in 0..times {
+        let copy = request.copy(alloc).ok()?;
+        requests.push(copy).ok()?;
+    }
+    Some(())
+}
+
+/// This number of copies of the request of a line, by the principal of the line.
+pub(crate) fn script(alloc: Global, line: &str, times: usize) -> Option<Script> {
+    let Event {
+        principal,
+        host,
+        request,
+    } = event_of(alloc, line)?;
+    let mut script = Script {
+        principal,
+        host,
+        requests: Vec::new(alloc),
+    };
+    let put = put_times(alloc, &mut script.requests, &request, times);
+    drop(request);
+    if put.is_none() {
+        drop(script);
+        return None;
+    }
+    Some(script)
+}
+
+/// This number of such scripts.
+pub(crate) fn scripts_of(
+    alloc: Global,
+    line: &str,
+    workers: usize,
+    times: usize,
+) -> Option<Vec<Script>> {
+    let mut scripts = Vec::new(alloc);
+    for _ in 0..workers {
+        let script = script(alloc, line, times)?;
+        scripts.push(script).ok()?;
+    }
+    Some(scripts)
+}
+
+/// A new broker.
+fn opened(alloc: Global, settings: Settings) -> Result<Broker, OpenFault>
     ensures { IfOk result IsFresh }
 {
     Broker::open(alloc, settings)
 }
 
-/// A new broker, whose one super user is `User:root`.
-pub(crate) fn opened(alloc: Global) -> Option<Broker>
+/// A broker whose one super user is `User:root`, with these bindings in force.
+pub(crate) fn broker(alloc: Global, opening: Vec<Binding>) -> Option<Broker>
     ensures { IfSome result IsFresh }
 {
-    let Script { settings, events } = read_script(alloc, b"super User:root").ok()?;
-    drop(events);
-    open(alloc, settings).ok()
+    let Ok(script) = read_script(alloc, b"super User:root") else {
+        drop(opening);
+        return None;
+    };
+    drop(script.events);
+    let mut settings = script.settings;
+    settings.opening = Items::from_vec(opening);
+    opened(alloc, settings).ok()
 }
 
-/// Such a broker with a journal of at most this number of entries.
+/// Such a broker, without bindings, with a journal of at most this number of entries.
 pub(crate) fn recorded(alloc: Global, limit: usize) -> Option<Recorded>
     requires { limit ≤ 1000000 }
 {
-    let broker = opened(alloc)?;
+    let broker = broker(alloc, Vec::new(alloc))?;
     Recorded::open(alloc, broker, limit).ok()
 }
 
+/// Such a broker and journal under a lock.
+pub(crate) fn shared(alloc: Global, limit: usize) -> Option<SharedBroker>
+    requires { limit ≤ 1000000 }
+{
+    let recorded = recorded(alloc, limit)?;
+    Some(SharedBroker::open(recorded))
+}
+
 /// Such a broker with the topic of orders.
-pub(crate) fn broker(alloc: Global) -> Result<Broker, Fail> {
-    let mut broker = opened(alloc).ok_or("memory")?;
-    match answer(alloc, &mut broker, CREATED) {
-        Some(reply) => {
-            drop(reply);
-            Ok(broker)
-        }
-        None => {
-            drop(broker);
-            Err(Fail::from("memory"))
-        }
+pub(crate) fn broker_of_orders(alloc: Global) -> Option<Broker> {
+    let mut broker = broker(alloc, Vec::new(alloc))?;
+    let created = answer(alloc, &mut broker, CREATE_ORDERS);
+    let is_created = created.is_some();
+    drop(created);
+    if is_created {
+        return Some(broker);
     }
+    drop(broker);
+    None
 }
 
 /// The reply to a line of a script, or `None` if memory is refused.
@@ -150,28 +166,61 @@ pub(crate) fn answer(alloc: Global, broker: &mut Broker, line: &str) -> Option<R
     reply
 }
 
-/// The super user, and the host `h`.
-pub(crate) fn asker(alloc: Global) -> Option<(Principal, Host)> {
-    let principal = Principal::parse(alloc, "User:root").ok()?;
+/// The offset in the reply.
+pub(crate) fn offset_of(reply: &Reply) -> Option<u64> {
+    match reply {
+        Reply::Done(Body::Offset(offset)) => Some(*offset),
+        _ => None,
+    }
+}
+
+/// A principal, and the host `h`.
+pub(crate) fn asker(alloc: Global, who: &str) -> Option<(Principal, Host)> {
+    let principal = Principal::parse(alloc, who).ok()?;
     Some((principal, Host::parse(alloc, "h").ok()?))
 }
 
 /// A line of the super user.
 pub(crate) fn line_to(alloc: Global, broker: &mut Broker) -> Option<BrokerLine<'_>> {
-    let (principal, host) = asker(alloc)?;
+    let (principal, host) = asker(alloc, "User:root")?;
     Some(BrokerLine::open(alloc, broker, principal, host))
 }
 
-/// The group `g`, and the topic's one partition.
-pub(crate) fn group_and_assignment(alloc: Global) -> Option<(Text, Items<Place>)> {
-    let group = Text::copied(alloc, "g").ok()?;
-    let mut places = Vec::new(alloc);
-    let topic = Text::copied(alloc, ORDERS).ok()?;
-    places
-        .push(Place {
-            topic,
-            partition: 0,
-        })
-        .ok()?;
-    Some((group, Items::from_vec(places)))
+/// The default route.
+pub(crate) fn default_route(alloc: Global) -> Result<Route, RouteFault> {
+    let settings = RouteSettings::by_default(alloc)?;
+    let route = Route::new(alloc, &settings);
+    drop(settings);
+    route
+}
+
+/// Records that the order 42 has this state, with an event of this id.
+pub(crate) fn record(
+    alloc: Global,
+    outbox: &mut Outbox,
+    id: u128,
+    state: &str,
+) -> Result<u64, RecordFault> {
+    let Ok(change) = Change::of(alloc, "orders", "42", state) else {
+        return Err(RecordFault::Memory);
+    };
+    let Ok(event) = OutboxEvent::of(alloc, Uuid::from_u128(id), &change, "{}") else {
+        return Err(RecordFault::Memory);
+    };
+    outbox.record(&change, &event)
+}
+
+/// An outbox with this number of events about orders, whose ids are 1, 2 and so on.
+pub(crate) fn outbox(alloc: Global, count: u128) -> Option<Outbox> {
+    let mut outbox = Outbox::open_in_memory(alloc).ok()?;
+    let mut is_filled = true;
+    for id in 0..count {
+        let recorded = record(alloc, &mut outbox, id.wrapping_add(1), "paid");
+        is_filled = is_filled && recorded.is_ok();
+    }
+    if is_filled {
+        return Some(outbox);
+    }
+    drop(outbox);
+    None
 }

@@ -4,12 +4,13 @@
 ghost use Rattle.std.specs.Prelude.{option_map};
 ghost use Rattle.kob_router.specs.Tick.{IsFirst, hand_of};
 
-use crate::making::{ORDERS, answer, broker, default_route, group_and_assignment, line_to, outbox};
+use crate::making::{
+    ORDERS, answer, broker_of_orders, default_route, line_to, offset_of, outbox, record,
+};
 use kob_broker::Broker;
-use kob_inbox::{Consumer, Inbox};
+use kob_inbox::{Consumer, Inbox, Subscription};
 use kob_lines::BrokerLine;
 use kob_outbox::Outbox;
-use kob_rights::{Body, Reply};
 use kob_router::{Line, Router};
 use std::alloc::Global;
 use std::test::Fail;
@@ -101,15 +102,18 @@ fn came_to_the_end(came: &[Came; TICKS]) -> bool {
         && (came[TICKS - 2] == Came::Idle || came[TICKS - 1] == Came::Idle)
 }
 
-/// Whether a router sends all that waits in an outbox.
-fn sends_all(alloc: Global, outbox: &mut Outbox, broker: &mut Broker) -> Result<bool, Fail> {
-    let route = default_route(alloc)?;
-    let mut line = line_to(alloc, broker).ok_or("memory")?;
+/// Whether a router sends all that waits in an outbox, by a line whose calls are kept. `None` if it
+/// could not be made.
+fn sends_all(alloc: Global, outbox: &mut Outbox, broker: &mut Broker) -> Option<bool> {
+    let route = default_route(alloc).ok()?;
+    let mut line = line_to(alloc, broker)?;
     let mut router = Router::new(alloc, route, 1);
     let came = router_ticks(alloc, outbox, &mut router, &mut line);
-    drop(line);
     drop(router);
-    Ok(came_to_the_end(&came))
+    let calls = line.close();
+    let made = calls.len();
+    drop(calls);
+    Some(made > 0 && came_to_the_end(&came))
 }
 
 /// How many records the topic has.
@@ -119,106 +123,93 @@ fn end(alloc: Global, broker: &mut Broker) -> Option<u64> {
         broker,
         "User:root h list-offsets outbox.event.orders 0 -1",
     )?;
-    let end = match &reply {
-        Reply::Done(Body::Offset(end)) => Some(*end),
-        _ => None,
-    };
+    let end = offset_of(&reply);
     drop(reply);
     end
 }
 
 /// Whether two events are in the topic and before the mark. What could not be read for lack of
 /// memory is read again.
-fn sends_two(alloc: Global, outbox: &mut Outbox, broker: &mut Broker) -> Result<bool, Fail> {
-    let sent = sends_all(alloc, outbox, broker)?;
-    let mark = match outbox.mark() {
-        Ok(mark) => mark,
-        Err(_) => outbox.mark()?,
+fn makes_up(alloc: Global, outbox: &mut Outbox) -> Option<bool> {
+    let mut broker = broker_of_orders(alloc)?;
+    let sent = sends_all(alloc, outbox, &mut broker);
+    let end = match end(alloc, &mut broker) {
+        None => end(alloc, &mut broker),
+        end => end,
     };
-    let has_two = end(alloc, broker) == Some(2) || end(alloc, broker) == Some(2);
-    Ok(sent && mark == 2 && has_two)
-}
-
-fn makes_up(alloc: Global, outbox: &mut Outbox) -> Result<bool, Fail> {
-    let mut broker = broker(alloc)?;
-    let sent = sends_two(alloc, outbox, &mut broker);
     drop(broker);
-    sent
+    let mark = outbox.mark();
+    Some(sent? && mark == Ok(2) && end == Some(2))
 }
 
 /// If any one allocation is refused, the ticks that follow finish the work.
 #[test]
 fn a_router_makes_up(rt: HostRuntime) -> Result<(), Fail> {
-    let mut outbox = outbox(rt.alloc(), 2)?;
+    let mut outbox = outbox(rt.alloc(), 2).ok_or("memory")?;
     let sent = makes_up(rt.alloc(), &mut outbox);
     drop(outbox);
-    assert!(rt; sent?);
+    assert!(rt; sent.ok_or("memory")?);
     Ok(())
 }
 
-/// Whether a consumer takes in all that the topic holds.
-fn takes_all(alloc: Global, inbox: &mut Inbox, broker: &mut Broker) -> Result<bool, Fail> {
-    let (group, assignment) = group_and_assignment(alloc).ok_or("memory")?;
-    let mut line = line_to(alloc, broker).ok_or("memory")?;
+/// Whether a consumer takes in all that the topic holds. `None` if it could not be made.
+fn takes_all(alloc: Global, inbox: &mut Inbox, broker: &mut Broker) -> Option<bool> {
+    let Subscription {
+        group,
+        assignment,
+        max: _,
+    } = Subscription::of(alloc, "g", ORDERS, 1, 2).ok()?;
+    let mut line = line_to(alloc, broker)?;
     let mut consumer = Consumer::new(alloc, group, assignment, 2);
     let came = consumer_ticks(alloc, inbox, &mut consumer, &mut line);
     drop(line);
     drop(consumer);
-    Ok(came_to_the_end(&came))
+    Some(came_to_the_end(&came))
 }
 
 /// Whether the records of the inbox's two rows stood at 0 and 2. What could not be read for lack of
 /// memory is read again.
-fn has_two(inbox: &mut Inbox) -> Result<bool, Fail> {
+fn has_two(inbox: &mut Inbox) -> Option<bool> {
     let rows = match inbox.taken() {
         Ok(rows) => rows,
-        Err(_) => inbox.taken()?,
+        Err(_) => inbox.taken().ok()?,
     };
     let has_two = match rows.as_slice() {
         [one, two] => one.offset == 0 && two.offset == 2,
         _ => false,
     };
     drop(rows);
-    Ok(has_two)
+    Some(has_two)
 }
 
-/// Sends the last of this number of events.
-fn sends_last(alloc: Global, broker: &mut Broker, count: u64) -> Result<bool, Fail> {
-    let mut outbox = outbox(alloc, count as u128)?;
-    let sent = match outbox.set_mark(count.wrapping_sub(1)) {
-        Ok(()) => sends_all(alloc, &mut outbox, broker),
-        Err(fault) => Err(Fail::from(fault)),
-    };
-    drop(outbox);
-    sent
-}
-
-/// Sends one event, appends a record without an event id, and sends another event.
-fn fills(alloc: Global, broker: &mut Broker) -> Result<bool, Fail> {
-    let sent = sends_last(alloc, broker, 1)?;
+/// Sends one event, appends a record without an event id, and sends another event. `None` if memory
+/// is refused.
+fn fills(alloc: Global, broker: &mut Broker) -> Option<bool> {
+    let mut outbox = outbox(alloc, 1)?;
+    let sent = sends_all(alloc, &mut outbox, broker);
     let appended = answer(
         alloc,
         broker,
         "User:root h produce outbox.event.orders 0 - none",
     );
-    let is_appended = appended.is_some();
+    let offset = match &appended {
+        Some(reply) => offset_of(reply),
+        None => None,
+    };
     drop(appended);
-    let sent_again = sends_last(alloc, broker, 2)?;
-    Ok(sent && is_appended && sent_again)
+    let recorded = record(alloc, &mut outbox, 2, "paid").ok();
+    let sent_again = sends_all(alloc, &mut outbox, broker);
+    drop(outbox);
+    Some(sent? && offset? == 1 && recorded? == 2 && sent_again?)
 }
 
 /// Whether two events around a record without an event id are taken in, each once.
-fn takes_two(alloc: Global, inbox: &mut Inbox, broker: &mut Broker) -> Result<bool, Fail> {
-    let filled = fills(alloc, broker)?;
-    let taken = takes_all(alloc, inbox, broker)?;
-    Ok(filled && taken && has_two(inbox)?)
-}
-
-fn fills_and_takes(alloc: Global, inbox: &mut Inbox) -> Result<bool, Fail> {
-    let mut broker = broker(alloc)?;
-    let taken = takes_two(alloc, inbox, &mut broker);
+fn fills_and_takes(alloc: Global, inbox: &mut Inbox) -> Option<bool> {
+    let mut broker = broker_of_orders(alloc)?;
+    let filled = fills(alloc, &mut broker);
+    let taken = takes_all(alloc, inbox, &mut broker);
     drop(broker);
-    taken
+    Some(filled? && taken? && has_two(inbox)?)
 }
 
 /// If any one allocation is refused, the ticks that follow finish the work.
@@ -227,6 +218,6 @@ fn a_consumer_makes_up(rt: HostRuntime) -> Result<(), Fail> {
     let mut inbox = Inbox::open_in_memory(rt.alloc())?;
     let taken = fills_and_takes(rt.alloc(), &mut inbox);
     drop(inbox);
-    assert!(rt; taken?);
+    assert!(rt; taken.ok_or("memory")?);
     Ok(())
 }

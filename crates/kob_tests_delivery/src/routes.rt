@@ -1,83 +1,75 @@
 //! What routes make of rows, at their limits, and the partitions of keys.
 
-use crate::making::{default_route, route, row};
-use kob_names::{Bytes, Header, Items, PlainValue, Record, Text};
-use kob_router::{RecordFault, Route, RouteFault, Routed, event_id, partition_of, record_of};
+use kob_names::{Header, Record, Text};
+use kob_outbox::{Change, OutboxEvent, Row};
+use kob_router::{Route, RouteBy, RouteFault, RouteSettings, event_id, partition_of, record_of};
 use std::alloc::{AllocError, Global};
 use std::test::Fail;
+use uuid::Uuid;
 
-/// The header of the rows' id.
+/// A route by the aggregate's type.
+fn route(alloc: Global, replacement: &str, placement: &str) -> Result<Route, RouteFault> {
+    let replacement = Text::copied(alloc, replacement)?;
+    let placement = Text::copied(alloc, placement)?;
+    Route::new(
+        alloc,
+        &RouteSettings {
+            by: RouteBy::AggregateType,
+            replacement,
+            placement,
+        },
+    )
+}
+
+/// The row of the event that the customer 42 moved.
+fn row(alloc: Global) -> Result<Row, AllocError> {
+    let change = Change::of(alloc, "customers", "42", "Moved")?;
+    let event = OutboxEvent::of(alloc, Uuid::from_u128(0xA), &change, "{}")?;
+    Ok(Row { seq: 1, event })
+}
+
+/// The header of the row's id.
 const ID: (&str, &str) = ("id", "00000000-0000-0000-0000-00000000000a");
 
-/// The record of a row of this kind, with this aggregate id.
-fn routed(
-    alloc: Global,
-    route: &Route,
-    kind: &str,
-    aggregate: &str,
-) -> Result<Routed, RecordFault> {
-    let row = row(alloc, kind, aggregate)?;
-    let routed = record_of(alloc, route, &row);
-    drop(row);
-    routed
+/// Whether these are the headers, in their order.
+fn are_headers(headers: &[Header], due: &[(&str, &str)]) -> bool {
+    for (header, (name, value)) in headers.iter().zip(due) {
+        if header.name.as_str() != *name || header.value.as_slice() != value.as_bytes() {
+            return false;
+        }
+    }
+    headers.len() == due.len()
 }
 
-/// Whether a record goes to this topic, with the headers of another.
-fn is_due(routed: &Routed, topic: &str, due: &Record) -> bool {
-    let message = &routed.message;
-    routed.topic.as_str() == topic
-        && message.headers.same(&due.headers)
-        && message.value.as_slice() == "{}".as_bytes()
-        && is_key(message, "42")
-        && number_of(message) == Some(0xA)
+/// Whether a record has these headers, and the row's payload, key and id.
+fn is_due(message: &Record, headers: &[(&str, &str)]) -> bool {
+    let is_keyed = match &message.key {
+        Some(key) => key.as_slice() == b"42".as_slice(),
+        None => false,
+    };
+    is_keyed
+        && are_headers(message.headers.as_slice(), headers)
+        && message.value.as_slice() == b"{}".as_slice()
+        && event_id(message) == Some(Uuid::from_u128(0xA))
 }
 
-/// Whether a row of the kind `customers` goes to this topic, and its record has these headers.
-fn sends(
-    alloc: Global,
-    route: &Route,
-    topic: &str,
-    headers: &[(&str, &str)],
-) -> Result<bool, Fail> {
-    let routed = routed(alloc, route, "customers", "42")?;
-    let due = with_headers(alloc, headers)?;
-    let holds = is_due(&routed, topic, &due);
-    drop(routed);
-    drop(due);
-    Ok(holds)
+/// Whether the row goes to the topic `events.customers` by the route with this placement, and its
+/// record has these headers.
+fn sends(alloc: Global, placement: &str, headers: &[(&str, &str)]) -> Result<bool, Fail> {
+    let route = route(alloc, "events.${routedByValue}", placement)?;
+    let row = row(alloc)?;
+    let routed = record_of(alloc, &route, &row)?;
+    Ok(routed.topic.as_str() == "events.customers" && is_due(&routed.message, headers))
 }
-
-#[test]
-fn route_names_and_ids(rt: HostRuntime) -> Result<(), Fail> {
-    let alloc = rt.alloc();
-    let route = default_route(alloc)?;
-    let refused = routed(alloc, &route, "customer orders", "42").err();
-    let holds = sends(alloc, &route, "outbox.event.customers", &[ID]);
-    drop(route);
-    assert!(rt; refused == Some(RecordFault::BadTopic));
-    assert!(rt; holds?);
-    Ok(())
-}
-
-/// The same, of the route by this placement to the topic `events`.
-fn sends_placed(alloc: Global, placement: &str, headers: &[(&str, &str)]) -> Result<bool, Fail> {
-    let route = route(alloc, "events", placement)?;
-    let holds = sends(alloc, &route, "events", headers);
-    drop(route);
-    holds
-}
-
-const NAMED: [(&str, &str); 3] = [ID, ("eventType", "OrderPaid"), ("aggregateid", "42")];
-
-const NAMED_ID: [(&str, &str); 2] = [ID, ("id", "customers")];
 
 #[test]
 fn placement_headers(rt: HostRuntime) -> Result<(), Fail> {
     let alloc = rt.alloc();
     let placement = "type:header:eventType,aggregateid:header";
-    assert!(rt; sends_placed(alloc, placement, &NAMED)?);
-    assert!(rt; sends_placed(alloc, "", &[ID])?);
-    assert!(rt; sends_placed(alloc, "aggregatetype:header:id", &NAMED_ID)?);
+    let named = [ID, ("eventType", "Moved"), ("aggregateid", "42")];
+    assert!(rt; sends(alloc, placement, &named)?);
+    assert!(rt; sends(alloc, "", &[ID])?);
+    assert!(rt; sends(alloc, "aggregatetype:header:id", &[ID, ("id", "customers")])?);
     Ok(())
 }
 
@@ -102,26 +94,14 @@ const SETTINGS: [(&str, &str, Option<RouteFault>); 13] = [
     ("${routedByValue}.${routedByValue}", "type:header", None),
 ];
 
-#[test]
-fn bad_placements_and_templates(rt: HostRuntime) -> Result<(), Fail> {
-    let alloc = rt.alloc();
-    for (replacement, placement, fault) in SETTINGS {
-        assert!(rt; route(alloc, replacement, placement).err() == fault);
-    }
-    Ok(())
-}
-
 /// The fault of a placement of this number of entries, whose aliases have this number of letters.
 fn fault_at(alloc: Global, entries: usize, alias: usize) -> Result<Option<RouteFault>, AllocError> {
-    let alias = "a".repeat(alloc, alias)?;
+    let entry = "type:header:a,".repeat(alloc, entries.saturating_sub(1))?;
+    let last = "a".repeat(alloc, alias)?;
     let mut placement = String::new(alloc);
-    for place in 0..entries {
-        if place > 0 {
-            placement.push(',')?;
-        }
-        placement.push_str("type:header:")?;
-        placement.push_str(&alias)?;
-    }
+    placement.push_str(&entry)?;
+    placement.push_str("type:header:")?;
+    placement.push_str(&last)?;
     Ok(route(alloc, "events", &placement).err())
 }
 
@@ -134,107 +114,15 @@ const LIMITS: [(usize, usize, Option<RouteFault>); 4] = [
 ];
 
 #[test]
-fn placements_at_their_limits(rt: HostRuntime) -> Result<(), Fail> {
+fn bad_placements_and_templates(rt: HostRuntime) -> Result<(), Fail> {
     let alloc = rt.alloc();
+    for (replacement, placement, fault) in SETTINGS {
+        assert!(rt; route(alloc, replacement, placement).err() == fault);
+    }
     for (entries, alias, fault) in LIMITS {
         assert!(rt; fault_at(alloc, entries, alias)? == fault);
     }
     Ok(())
-}
-
-fn header(alloc: Global, name: &str, value: &str) -> Result<Header, AllocError> {
-    let name = Text::copied(alloc, name)?;
-    let value = Bytes::copied(alloc, value.as_bytes())?;
-    Ok(Header { name, value })
-}
-
-/// A record with these headers.
-fn with_headers(alloc: Global, headers: &[(&str, &str)]) -> Result<Record, AllocError> {
-    let mut made = Vec::new(alloc);
-    for (name, value) in headers {
-        made.push(header(alloc, name, value)?)?;
-    }
-    Ok(Record {
-        key: None,
-        value: Bytes::from_vec(Vec::new(alloc)),
-        headers: Items::from_vec(made),
-    })
-}
-
-/// The event id of a record, as a number.
-fn number_of(sent: &Record) -> Option<u128> {
-    event_id(sent).map(|id| id.as_u128())
-}
-
-/// The event id of a record with these headers, as a number.
-fn id_of(alloc: Global, headers: &[(&str, &str)]) -> Result<Option<u128>, AllocError> {
-    let sent = with_headers(alloc, headers)?;
-    let id = number_of(&sent);
-    drop(sent);
-    Ok(id)
-}
-
-/// The event ids of four records with this text in a header `id` or `ID`.
-fn ids_of(alloc: Global, form: &str) -> Result<[Option<u128>; 4], AllocError> {
-    let alone = id_of(alloc, &[("id", form)])?;
-    let after_another = id_of(alloc, &[("a", "42"), ("id", form)])?;
-    let second = id_of(alloc, &[("id", "42"), ("id", form)])?;
-    let in_capitals = id_of(alloc, &[("ID", form)])?;
-    Ok([alone, after_another, second, in_capitals])
-}
-
-const FORMS: [&str; 5] = [
-    "00000000-0000-0000-0000-00000000000a",
-    "00000000-0000-0000-0000-00000000000A",
-    "0000000000000000000000000000000a",
-    "urn:uuid:00000000-0000-0000-0000-00000000000a",
-    "{00000000-0000-0000-0000-00000000000a}",
-];
-
-#[test]
-fn event_ids_in_every_form(rt: HostRuntime) -> Result<(), Fail> {
-    let alloc = rt.alloc();
-    for form in FORMS {
-        assert!(rt; ids_of(alloc, form)? == [Some(10), Some(10), None, None]);
-    }
-    Ok(())
-}
-
-/// A text of every character up to U+00BF but the zero byte: 255 bytes.
-fn all_bytes(alloc: Global) -> Result<String, AllocError> {
-    let mut text = String::new(alloc);
-    for byte in 1..0xC0_u8 {
-        text.push(char::from(byte))?;
-    }
-    Ok(text)
-}
-
-/// Whether a row's record has its aggregate id as the key.
-fn keeps_key(alloc: Global, aggregate: &str) -> Result<bool, Fail> {
-    let route = default_route(alloc)?;
-    let routed = routed(alloc, &route, "orders", aggregate);
-    drop(route);
-    let routed = routed?;
-    let holds = is_key(&routed.message, aggregate);
-    drop(routed);
-    Ok(holds)
-}
-
-#[test]
-fn a_key_of_any_bytes(rt: HostRuntime) -> Result<(), Fail> {
-    let aggregate = all_bytes(rt.alloc())?;
-    let holds = keeps_key(rt.alloc(), &aggregate);
-    assert!(rt; aggregate.len() == 255);
-    drop(aggregate);
-    assert!(rt; holds?);
-    Ok(())
-}
-
-fn is_key(message: &Record, due: &str) -> bool {
-    match &message.key {
-        Some(key) => key.as_slice() == due.as_bytes(),
-        None => false,
-    }
 }
 
 /// Kafka's own vectors: a key, and its murmur2 bitwise and 0x7fffffff.

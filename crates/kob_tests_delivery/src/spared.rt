@@ -1,26 +1,18 @@
 //! Calls on routers, consumers and prepared changes that do not allocate. `.ci/refuse` runs them
 //! with every allocation refused from `spare` on.
 
-use crate::making::{broker, default_route, event_of, group_and_assignment, line_to, outbox};
+use crate::making::{
+    CREATE_ORDERS, ORDERS, broker_of_orders, default_route, event_of, line_to, outbox, spare,
+};
 use crate::refused::{Came, consumer_tick, router_tick};
 use kob_broker::Broker;
-use kob_inbox::{Consumer, Inbox};
+use kob_inbox::{Consumer, Inbox, Subscription};
 use kob_lines::BrokerLine;
 use kob_outbox::Outbox;
 use kob_rights::{Event, Reason, Reply, Request};
 use kob_router::{Call, Line, Router};
 use std::alloc::Global;
 use std::test::Fail;
-
-/// The size of the allocation by which `.ci/refuse` knows that all that come after it are to be
-/// refused.
-const CUE: usize = 7_654_321;
-
-/// Nothing is allocated from here on. If `.ci/refuse` runs the test, each allocation from here on
-/// is refused.
-fn spare(alloc: Global) -> bool {
-    Vec::<u8>::with_capacity(alloc, CUE).is_ok()
-}
 
 /// Whether exactly two calls were made, both with a reply: for a producer id, and for a record.
 fn are_first_two(calls: &[Call]) -> bool {
@@ -36,28 +28,25 @@ fn are_first_two(calls: &[Call]) -> bool {
 }
 
 /// Whether a router that has sent one row starts again, and another is made, without a call.
-fn starts_again(
-    alloc: Global,
-    outbox: &mut Outbox,
-    line: &mut BrokerLine<'_>,
-) -> Result<bool, Fail> {
-    let other = default_route(alloc)?;
-    let route = default_route(alloc)?;
+fn starts_again(alloc: Global, outbox: &mut Outbox, line: &mut BrokerLine<'_>) -> Option<bool> {
+    let other = default_route(alloc).ok()?;
+    let route = default_route(alloc).ok()?;
     let mut router = Router::new(alloc, route, 1);
-    let moved = router_tick(alloc, outbox, &mut router, line) == Came::On;
-    let idle = router_tick(alloc, outbox, &mut router, line) == Came::Idle;
+    let moved = router_tick(alloc, outbox, &mut router, line);
+    let idle = router_tick(alloc, outbox, &mut router, line);
     spare(alloc);
     router.restart();
-    drop(Router::new(alloc, other, 1_000));
     drop(router);
-    Ok(moved && idle && are_first_two(line.made_calls()) && line.unmade_calls() == 0)
+    drop(Router::new(alloc, other, 1_000));
+    let came = (moved, idle) == (Came::On, Came::Idle);
+    Some(came && are_first_two(line.made_calls()) && line.unmade_calls() == 0)
 }
 
-fn router_starts_again(alloc: Global, outbox: &mut Outbox) -> Result<bool, Fail> {
-    let mut broker = broker(alloc)?;
+fn router_starts_again(alloc: Global, outbox: &mut Outbox) -> Option<bool> {
+    let mut broker = broker_of_orders(alloc)?;
     let again = match line_to(alloc, &mut broker) {
         Some(mut line) => starts_again(alloc, outbox, &mut line),
-        None => Err(Fail::from("memory")),
+        None => None,
     };
     drop(broker);
     again
@@ -65,10 +54,10 @@ fn router_starts_again(alloc: Global, outbox: &mut Outbox) -> Result<bool, Fail>
 
 #[test]
 fn a_router_starts_again(rt: HostRuntime) -> Result<(), Fail> {
-    let mut outbox = outbox(rt.alloc(), 1)?;
+    let mut outbox = outbox(rt.alloc(), 1).ok_or("memory")?;
     let again = router_starts_again(rt.alloc(), &mut outbox);
     drop(outbox);
-    assert!(rt; again?);
+    assert!(rt; again == Some(true));
     Ok(())
 }
 
@@ -84,24 +73,25 @@ fn asked_and_fetched(calls: &[Call]) -> bool {
 }
 
 /// Whether a consumer that has asked twice starts again, and another is made, without a call.
-fn begins_again(alloc: Global, inbox: &mut Inbox, line: &mut BrokerLine<'_>) -> Result<bool, Fail> {
-    let other = group_and_assignment(alloc).ok_or("memory")?;
-    let one = group_and_assignment(alloc).ok_or("memory")?;
-    let mut consumer = Consumer::new(alloc, one.0, one.1, 10);
-    let placed = consumer_tick(alloc, inbox, &mut consumer, line) == Came::On;
-    let idle = consumer_tick(alloc, inbox, &mut consumer, line) == Came::Idle;
+fn begins_again(alloc: Global, inbox: &mut Inbox, line: &mut BrokerLine<'_>) -> Option<bool> {
+    let other = Subscription::of(alloc, "g", ORDERS, 1, 10).ok()?;
+    let one = Subscription::of(alloc, "g", ORDERS, 1, 10).ok()?;
+    let mut consumer = Consumer::new(alloc, one.group, one.assignment, 10);
+    let placed = consumer_tick(alloc, inbox, &mut consumer, line);
+    let idle = consumer_tick(alloc, inbox, &mut consumer, line);
     spare(alloc);
     consumer.restart();
-    drop(Consumer::new(alloc, other.0, other.1, 10));
     drop(consumer);
-    Ok(placed && idle && asked_and_fetched(line.made_calls()) && line.unmade_calls() == 0)
+    drop(Consumer::new(alloc, other.group, other.assignment, 10));
+    let came = (placed, idle) == (Came::On, Came::Idle);
+    Some(came && asked_and_fetched(line.made_calls()) && line.unmade_calls() == 0)
 }
 
-fn consumer_begins_again(alloc: Global, inbox: &mut Inbox) -> Result<bool, Fail> {
-    let mut broker = broker(alloc)?;
+fn consumer_begins_again(alloc: Global, inbox: &mut Inbox) -> Option<bool> {
+    let mut broker = broker_of_orders(alloc)?;
     let again = match line_to(alloc, &mut broker) {
         Some(mut line) => begins_again(alloc, inbox, &mut line),
-        None => Err(Fail::from("memory")),
+        None => None,
     };
     drop(broker);
     again
@@ -112,7 +102,7 @@ fn a_consumer_begins_again(rt: HostRuntime) -> Result<(), Fail> {
     let mut inbox = Inbox::open_in_memory(rt.alloc())?;
     let again = consumer_begins_again(rt.alloc(), &mut inbox);
     drop(inbox);
-    assert!(rt; again?);
+    assert!(rt; again == Some(true));
     Ok(())
 }
 
@@ -136,18 +126,21 @@ fn shows_reply(alloc: Global, broker: &mut Broker, event: &Event) -> Option<bool
 }
 
 /// The same for the creation of a topic that exists.
-fn shows_refusal(alloc: Global, broker: &mut Broker) -> Option<bool> {
-    let event = event_of(alloc, "User:root h create-topic outbox.event.orders 1")?;
-    let shown = shows_reply(alloc, broker, &event);
-    drop(event);
+fn shows_refusal(alloc: Global) -> Option<bool> {
+    let mut broker = broker_of_orders(alloc)?;
+    let shown = match event_of(alloc, CREATE_ORDERS) {
+        Some(event) => {
+            let shown = shows_reply(alloc, &mut broker, &event);
+            drop(event);
+            shown
+        }
+        None => None,
+    };
+    drop(broker);
     shown
 }
 
 #[test]
-fn a_prepared_reply_is_told(rt: HostRuntime) -> Result<(), Fail> {
-    let mut broker = broker(rt.alloc())?;
-    let shown = shows_refusal(rt.alloc(), &mut broker);
-    drop(broker);
-    assert!(rt; shown == Some(true));
-    Ok(())
+fn a_prepared_reply_is_told(rt: HostRuntime) {
+    assert!(rt; shows_refusal(rt.alloc()) == Some(true));
 }

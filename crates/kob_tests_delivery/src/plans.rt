@@ -1,17 +1,13 @@
 //! Plans of pipelines that the tests share.
 
-use crate::making::{asker, script};
+use crate::making::{ORDERS, asker, default_route, script};
 use kob_inbox::Subscription;
-use kob_names::{Items, Text};
 use kob_outbox::{Change, OutboxEvent};
 use kob_pipeline::{ConsumerPlan, ConsumerStep, Loss, Plan, Service, ServiceStep};
-use kob_router::{Place, Route, RouteSettings, Target};
+use kob_router::Target;
 use kob_script::read_script;
 use std::alloc::{AllocError, Global};
 use uuid::Uuid;
-
-/// The topic of a service's events, which are about orders.
-const ORDERS: &str = "outbox.event.orders";
 
 /// The settings and the first events of a plan: the topic is created, and the service and the
 /// groups `g` and `g2` get their rights.
@@ -44,30 +40,16 @@ pub(crate) enum Act {
     Sweep,
 }
 
-/// An event about the aggregate `42` of a type.
+pub(crate) const TICK: Act = Act::Tick(Loss::None);
+
+/// Two events, each sent at once.
+pub(crate) const TWO: [Act; 4] = [Act::Note(0xA), TICK, Act::Note(0xB), TICK];
+
+/// The aggregate `42` of a type is paid, with an event of this id.
 fn recording(alloc: Global, kind: &str, id: u128) -> Result<ServiceStep, AllocError> {
-    let change = change(alloc)?;
-    Ok(ServiceStep::Record(change, outbox_event(alloc, kind, id)?))
-}
-
-/// An order is paid.
-pub(crate) fn change(alloc: Global) -> Result<Change, AllocError> {
-    Ok(Change {
-        kind: String::from_str(alloc, "order")?,
-        id: String::from_str(alloc, "42")?,
-        state: String::from_str(alloc, "paid")?,
-    })
-}
-
-/// The event with this id about the aggregate `42` of a type.
-pub(crate) fn outbox_event(alloc: Global, kind: &str, id: u128) -> Result<OutboxEvent, AllocError> {
-    Ok(OutboxEvent {
-        id: Uuid::from_u128(id),
-        aggregate_type: String::from_str(alloc, kind)?,
-        aggregate_id: String::from_str(alloc, "42")?,
-        event_type: String::from_str(alloc, "OrderPaid")?,
-        payload: String::from_str(alloc, "{}")?,
-    })
+    let change = Change::of(alloc, kind, "42", "paid")?;
+    let event = OutboxEvent::of(alloc, Uuid::from_u128(id), &change, "{}")?;
+    Ok(ServiceStep::Record(change, event))
 }
 
 fn step(alloc: Global, act: Act) -> Result<ServiceStep, AllocError> {
@@ -89,28 +71,16 @@ fn push_steps(alloc: Global, steps: &mut Vec<ServiceStep>, acts: &[Act]) -> Opti
     Some(())
 }
 
-/// The default route.
-pub(crate) fn route(alloc: Global) -> Option<Route> {
-    let settings = RouteSettings::by_default(alloc).ok()?;
-    let route = Route::new(alloc, &settings);
-    drop(settings);
-    route.ok()
-}
-
-fn target(alloc: Global) -> Option<Target> {
-    Some(Target {
-        route: route(alloc)?,
-        partitions: 1,
-    })
-}
-
 fn push_service(alloc: Global, services: &mut Vec<Service>, acts: &[Act]) -> Option<()> {
-    let (principal, host) = asker(alloc, "User:svc", "h")?;
-    let target = target(alloc)?;
+    let (principal, host) = asker(alloc, "User:svc")?;
+    let route = default_route(alloc).ok()?;
     let mut service = Service {
         principal,
         host,
-        target,
+        target: Target {
+            route,
+            partitions: 1,
+        },
         steps: Vec::new(alloc),
     };
     if push_steps(alloc, &mut service.steps, acts).is_none() {
@@ -120,28 +90,14 @@ fn push_service(alloc: Global, services: &mut Vec<Service>, acts: &[Act]) -> Opt
     services.push(service).ok()
 }
 
-/// How a group reads the topic's one partition.
-fn subscription(alloc: Global, group: &str) -> Result<Subscription, AllocError> {
-    let group = Text::copied(alloc, group)?;
-    let mut assignment = Vec::new(alloc);
-    assignment.push(Place {
-        topic: Text::copied(alloc, ORDERS)?,
-        partition: 0,
-    })?;
-    Ok(Subscription {
-        group,
-        assignment: Items::from_vec(assignment),
-        max: 10,
-    })
-}
-
-fn consumer(alloc: Global, group: &str, steps: &[ConsumerStep]) -> Option<ConsumerPlan> {
-    let steps = Vec::from_slice(alloc, steps).ok()?;
-    let (principal, host) = asker(alloc, "User:con", "h")?;
+/// A consumer of the topic's one partition for this group, which makes three steps.
+fn consumer(alloc: Global, group: &str) -> Option<ConsumerPlan> {
+    let steps = vec![in alloc; ConsumerStep::Tick(Loss::None); 3].ok()?;
+    let (principal, host) = asker(alloc, "User:con")?;
     Some(ConsumerPlan {
         principal,
         host,
-        subscription: subscription(alloc, group).ok()?,
+        subscription: Subscription::of(alloc, group, ORDERS, 1, 10).ok()?,
         steps,
     })
 }
@@ -151,7 +107,6 @@ fn consumer(alloc: Global, group: &str, steps: &[ConsumerStep]) -> Option<Consum
 pub(crate) struct Cast<'t> {
     pub(crate) service: &'t [Act],
     pub(crate) groups: &'t [&'t str],
-    pub(crate) consumer: &'t [ConsumerStep],
     /// Whether `User:root` revokes the consumer's right to the group `g`.
     pub(crate) revoked: bool,
 }
@@ -159,7 +114,7 @@ pub(crate) struct Cast<'t> {
 fn push_workers(alloc: Global, plan: &mut Plan, cast: Cast<'_>) -> Option<()> {
     push_service(alloc, &mut plan.services, cast.service)?;
     for group in cast.groups {
-        let consumer = consumer(alloc, group, cast.consumer)?;
+        let consumer = consumer(alloc, group)?;
         plan.consumers.push(consumer).ok()?;
     }
     if cast.revoked {
@@ -186,14 +141,11 @@ pub(crate) fn plan(alloc: Global, cast: Cast<'_>) -> Option<Plan> {
     Some(plan)
 }
 
-/// A plan with a service that sweeps 500,000 times, and this number of consumers.
-pub(crate) fn sweeping(alloc: Global, count: usize) -> Option<Plan> {
-    let sweeps = vec![in alloc; Act::Sweep; 500_000].ok()?;
-    let groups = vec![in alloc; "g"; count].ok()?;
+/// A plan with a service that sends two events at once, and one consumer.
+pub(crate) fn plan_of_two(alloc: Global) -> Option<Plan> {
     let cast = Cast {
-        service: &sweeps,
-        groups: &groups,
-        consumer: &[],
+        service: &TWO,
+        groups: &["g"],
         revoked: false,
     };
     plan(alloc, cast)

@@ -2,22 +2,22 @@
 
 ghost use Rattle.std.specs.Prelude.{◌≤◌};
 
-use crate::gates::{Meeting, Open};
+use crate::gates::Holding;
 use crate::making::{CREATE, METADATA, WRITE, broker, events_of, offset_of, scripts_of};
 use kob_names::Binding;
 use kob_rights::Event;
-use kob_shared::{FleetEnd, FleetFault, Gate, Script, Transcript, run_scripts};
+use kob_shared::{FleetEnd, FleetFault, Script, Transcript, run_scripts};
 use std::alloc::Global;
 use std::sync::Wait;
 use std::thread::Threads;
 
 /// What the scripts come to on a new broker with these bindings, after the first events.
-pub(crate) fn ended<R: Threads + Wait + Sync, G: Gate + Sync>(
+pub(crate) fn ended<R: Threads + Wait + Sync>(
     rt: &R,
     opening: Vec<Binding>,
     first: Vec<Event>,
     scripts: Vec<Script>,
-    gate: &G,
+    gate: &Holding<'_>,
     alloc: Global,
 ) -> Option<Result<FleetEnd, FleetFault>> {
     match broker(alloc, opening) {
@@ -31,12 +31,12 @@ pub(crate) fn ended<R: Threads + Wait + Sync, G: Gate + Sync>(
 }
 
 /// Runs them to the end.
-pub(crate) fn run<R: Threads + Wait + Sync, G: Gate + Sync>(
+pub(crate) fn run<R: Threads + Wait + Sync>(
     rt: &R,
     opening: Vec<Binding>,
     first: Vec<Event>,
     scripts: Vec<Script>,
-    gate: &G,
+    gate: &Holding<'_>,
     alloc: Global,
 ) -> Option<FleetEnd> {
     ended(rt, opening, first, scripts, gate, alloc)?.ok()
@@ -56,70 +56,44 @@ pub(crate) fn tells_two_each(end: &FleetEnd, workers: usize) -> bool
 
 /// Whether this number of workers are served, two requests each. Each is held at its second request
 /// until all have come to theirs.
-fn serves_two_each<R: Threads + Wait + Sync>(
-    rt: &R,
-    alloc: Global,
-    workers: usize,
-    gate: &Meeting,
-) -> Option<bool>
+fn serves_at_once<R: Threads + Wait + Sync>(rt: &R, alloc: Global, workers: usize) -> Option<bool>
     requires { workers ≤ 64 }
 {
+    let gate = Holding::at(&[], workers as u64);
     let scripts = scripts_of(alloc, METADATA, workers, 2)?;
-    let end = run(rt, Vec::new(alloc), Vec::new(alloc), scripts, gate, alloc)?;
+    let end = run(rt, Vec::new(alloc), Vec::new(alloc), scripts, &gate, alloc)?;
     let told = tells_two_each(&end, workers);
     drop(end);
-    Some(told)
-}
-
-/// Whether this number of workers meet, and all are served.
-fn serves_at_once<R: Threads + Wait + Sync>(rt: &R, alloc: Global, workers: usize) -> bool
-    requires { workers ≤ 64 }
-{
-    let gate = Meeting::of(workers as u64);
-    serves_two_each(rt, alloc, workers, &gate) == Some(true) && gate.all_came()
+    Some(told && gate.all_came())
 }
 
 #[test]
 fn two_workers_at_once(rt: HostRuntime) {
-    assert!(rt; serves_at_once(&rt, rt.alloc(), 2));
+    assert!(rt; serves_at_once(&rt, rt.alloc(), 2) == Some(true));
 }
 
 #[test]
 fn sixty_four_workers(rt: HostRuntime) {
-    assert!(rt; serves_at_once(&rt, rt.alloc(), 64));
-}
-
-/// Notes that an offset was received, and returns whether it is new.
-fn note(offset: u64, seen: &mut [bool; 200]) -> bool {
-    match seen.get_mut(offset as usize) {
-        Some(slot) => {
-            let is_new = !*slot;
-            *slot = true;
-            is_new
-        }
-        None => false,
-    }
+    assert!(rt; serves_at_once(&rt, rt.alloc(), 64) == Some(true));
 }
 
 /// Notes a worker's offsets: whether they rise, and no other worker received them.
 fn are_new(told: &Transcript, seen: &mut [bool; 200]) -> bool {
     let mut next = 0;
     for receipt in told.receipts() {
-        match offset_of(&receipt.reply) {
-            Some(offset) => {
-                if offset < next || offset >= 200 || !note(offset, seen) {
-                    return false;
-                }
-                next = offset + 1;
-            }
-            None => return false,
+        let Some(offset) = offset_of(&receipt.reply) else {
+            return false;
+        };
+        let Some(slot) = seen.get_mut(offset as usize) else {
+            return false;
+        };
+        if *slot || offset < next {
+            return false;
         }
+        *slot = true;
+        next = offset.wrapping_add(1);
     }
     true
-}
-
-fn all_true(seen: &[bool; 200]) -> bool {
-    seen.iter().all(|told| *told)
 }
 
 /// Whether each offset below 200 was received once.
@@ -130,12 +104,16 @@ fn tells_all_once(end: &FleetEnd) -> bool {
             return false;
         }
     }
-    all_true(&seen)
+    !seen.contains(&false)
 }
 
 /// Whether two workers who write a hundred records each to one partition receive each offset once,
 /// and nothing else happens.
-fn serves_writers<R: Threads + Wait + Sync>(rt: &R, alloc: Global, gate: &Open) -> Option<bool> {
+fn serves_writers<R: Threads + Wait + Sync>(
+    rt: &R,
+    alloc: Global,
+    gate: &Holding<'_>,
+) -> Option<bool> {
     let first = events_of(alloc, CREATE)?;
     let scripts = scripts_of(alloc, WRITE, 2, 100)?;
     let end = run(rt, Vec::new(alloc), first, scripts, gate, alloc)?;
@@ -147,37 +125,26 @@ fn serves_writers<R: Threads + Wait + Sync>(rt: &R, alloc: Global, gate: &Open) 
 /// The gate is called before each request and after each worker's last.
 #[test]
 fn two_hundred_produces(rt: HostRuntime) {
-    let gate = Open::new();
+    let gate = Holding::at(&[], 0);
     assert!(rt; serves_writers(&rt, rt.alloc(), &gate) == Some(true));
     assert!(rt; gate.calls() == 202);
 }
 
-/// The count for which a fleet was refused.
-#[derive(Clone, Copy)]
-enum Refusal {
-    Workers,
-    Entries,
-    Neither,
-}
-
-fn refusal_in(ended: &Result<FleetEnd, FleetFault>) -> Refusal {
-    match ended {
-        Err(FleetFault::TooManyWorkers) => Refusal::Workers,
-        Err(FleetFault::JournalFull) => Refusal::Entries,
-        _ => Refusal::Neither,
-    }
-}
-
-/// The reason to refuse this number of scripts with this number of requests each.
+/// How this number of scripts with this number of requests each are refused: 1 if there are too
+/// many workers, 2 if the journal has no room, otherwise 0.
 fn refusal_to<R: Threads + Wait + Sync>(
     rt: &R,
     alloc: Global,
     (workers, requests): (usize, usize),
-    gate: &Open,
-) -> Option<Refusal> {
+    gate: &Holding<'_>,
+) -> Option<u8> {
     let scripts = scripts_of(alloc, METADATA, workers, requests)?;
     let ended = ended(rt, Vec::new(alloc), Vec::new(alloc), scripts, gate, alloc)?;
-    let refusal = refusal_in(&ended);
+    let refusal = match &ended {
+        Err(FleetFault::TooManyWorkers) => 1,
+        Err(FleetFault::JournalFull) => 2,
+        _ => 0,
+    };
     drop(ended);
     Some(refusal)
 }
@@ -185,10 +152,8 @@ fn refusal_to<R: Threads + Wait + Sync>(
 /// 65 workers are refused, and a script longer than a journal, before any gate is called.
 #[test]
 fn too_many_workers_or_entries(rt: HostRuntime) {
-    let gate = Open::new();
-    let many = refusal_to(&rt, rt.alloc(), (65, 1), &gate);
-    assert!(rt; matches!(many, Some(Refusal::Workers)));
-    let long = refusal_to(&rt, rt.alloc(), (1, 1_000_001), &gate);
-    assert!(rt; matches!(long, Some(Refusal::Entries)));
+    let gate = Holding::at(&[], 0);
+    assert!(rt; refusal_to(&rt, rt.alloc(), (65, 1), &gate) == Some(1));
+    assert!(rt; refusal_to(&rt, rt.alloc(), (1, 1_000_001), &gate) == Some(2));
     assert!(rt; gate.calls() == 0);
 }
