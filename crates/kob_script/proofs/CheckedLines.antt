@@ -1,6 +1,6 @@
 -- The lines of blocks; what a line asks for, when it is checked and when it is read again, and what is
 -- left after it; and that a script without `acl` lines has one reading.
-use Rattle.std.proofs.Common.{◌≡◌, ◌∙◌, ◌≤◌, ◌<◌, ◌+◌, ℕ, List, [], ◌∷◌, ◌++◌, length, drop, take, map, get_or, sym, ap, refl, arith, length-take-le, suc, drop-drop, ◌&&◌, Bool, true, false, if◌then◌else◌, nat_lt, Option, Some, None, Result, Ok, Err, MatchOption, append_assoc, append-nil, ◌-◌, ◌==◌, slice_index_or, is_some, eqb-true, subst, is_none}
+use Rattle.std.proofs.Common.{◌≡◌, ◌∙◌, ◌≤◌, ◌<◌, ◌+◌, ℕ, List, [], ◌∷◌, ◌++◌, length, drop, take, map, get_or, sym, ap, refl, arith, length-take-le, suc, drop-drop, Bool, true, false, if◌then◌else◌, nat_lt, Option, Some, None, Result, Ok, Err, MatchOption, append_assoc, append-nil, ◌-◌, ◌==◌, slice_index_or, is_some, eqb-true, subst, is_none}
 use Rattle.std.proofs.lemmas.List.{drop_more}
 use Rattle.std.specs.List.{concat, list_all}
 use Rattle.std.specs.Result.{result_unwrap_or}
@@ -10,6 +10,7 @@ use Rattle.bstr.specs.Text.{line_len, lines_of, without_terminator}
 use Rattle.kob_acl_cli.specs.declared.args.CliArgs.{CliArgs}
 use Rattle.kob_names.specs.declared.settings.Settings.{Settings}
 use Rattle.kob_rights.specs.declared.event.Event.{Event}
+use Rattle.kob_script.proofs.Choices.{both}
 use Rattle.kob_script.specs.Checks.{fault_at, kept_answer, ChecksLine, ChecksNext, script_so_far}
 use Rattle.kob_script.specs.CommandLines.{asked_by, events_of, line_fault}
 use Rattle.kob_script.specs.Reading.{◌>>=◌, Fails, unless_found, LateSetting, FaultKind, Memory, Fault, LineError}
@@ -160,10 +161,6 @@ pub line_read : (text : List ℕ) (lines left later last : List (List ℕ)) (ans
     → requests_in (lines ++ later) answers ≡ events ++ requests_in (left ++ last) kept
 unfolding requests_in
 line_read text lines left later last answers kept events split same is used = rw (split, same, is, used) refl
-
-both : (a b : Bool) → (a && b) ≡ true → (a ≡ true) × (b ≡ true)
-both true b e = (refl, e)
-both false b e = absurd cc
 
 -- a line that is no `acl` line is read in one way, as clap's answer tells nothing of it
 line_alike : (answer : Option CliArgs) (s : Script) (line : Result (List Word) FaultKind) → is_plain line ≡ true

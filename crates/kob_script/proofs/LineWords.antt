@@ -1,60 +1,83 @@
--- The words of a line, cut off one after another. A word is read byte by byte, one without a percent sign
+-- The words of a line. A word is read byte by byte, one without a percent sign
 -- stands for itself, and a cut at a byte that is neither a percent sign nor a hexadecimal digit leaves
 -- each escape whole. And the seven words of a row.
-use Rattle.std.proofs.Common.{◌≡◌, ◌∙◌, ◌<◌, ◌≤◌, ◌+◌, get_or, ℕ, true, false, List, [], ◌∷◌, filter, length, take, drop, nat_lt, slice_index, refl, sym, ap, subst, arith, zero, suc, length-take-le, lt-ltb, ◌==◌, ◌++◌, Option, Some, None, Bool, append_assoc, append-nil, if◌then◌else◌, option_map, ◌&&◌, is_some}
-use Rattle.std.proofs.lemmas.Grind.{get_or_default_zero}
-use Rattle.std.proofs.lemmas.List.Splits.{slice_split_first, slice_split_none}
-use Rattle.std.proofs.lemmas.List.Sums.{position_or_len_is}
+use Rattle.std.proofs.Common.{◌≡◌, ◌∙◌, ◌<◌, ◌≤◌, get_or, ℕ, true, false, List, [], ◌∷◌, filter, length, drop, nat_lt, refl, sym, ap, arith, zero, suc, lt-ltb, not, ◌==◌, ◌++◌, Option, Some, None, Bool, append_assoc, append-nil, if◌then◌else◌, option_map, ◌&&◌, is_some, MatchBool}
+use Rattle.std.specs.Bool.{⊤}
 use Rattle.std.specs.Char.{digit_value}
-use Rattle.std.specs.List.{position_or_len, slice_split}
-use Rattle.kob_script.proofs.Choices.{chosen_true, false_from, chosen_false}
-use Rattle.kob_script.specs.Words.{is_blank, raw_words, before, byte_at, escaped, unescaped, unescaped_from, has_whole_escapes, hexadecimal, LeavesWhole, Word}
-use Rattle.memchr.specs.Find.{is_byte2, NoneBefore, Nowhere, Passes, is_byte}
-
-not_blank : (bytes : List ℕ) (k : ℕ) → (Passes (is_byte2 32 9) bytes k → ⊥) → is_blank (slice_index bytes k) ≡ false
-not_blank bytes k refuted = false_from (is_blank (slice_index bytes k)) (λ blank. blank) refuted
+use Rattle.std.specs.List.{find, list_all, onto_first, slice_split}
+use Rattle.kob_script.proofs.Choices.{both, chosen_true, chosen_false}
+use Rattle.kob_script.specs.Words.{is_blank, is_literal, is_skipped, raw_words, before, byte_at, escaped, unescaped, unescaped_from, has_whole_escapes, hexadecimal, LeavesWhole, Word}
+use Rattle.memchr.specs.Find.{Nowhere, Passes, is_byte}
 
 kept_first : (word : List ℕ) (words : List (List ℕ)) → 0 < length word
     → filter (λ w. nat_lt 0 (length w)) (word ∷ words) ≡ word ∷ filter (λ w. nat_lt 0 (length w)) words
 kept_first word words some = chosen_true (nat_lt 0 (length word)) _ _ (lt-ltb 0 (length word) some)
 
--- a word to the end
-pub word_ends : (bytes : List ℕ) → 0 < length bytes → Nowhere (Passes (is_byte2 32 9) bytes) 0 (length bytes)
-    → raw_words bytes ≡ bytes ∷ raw_words []
-word_ends bytes some nowhere =
-    ap (filter (λ word. nat_lt 0 (length word)))
-    (slice_split_none is_blank bytes (λ k d within.
-    subst (λ (byte : ℕ). is_blank byte ≡ false) (sym (get_or_default_zero bytes k d within))
-    (not_blank bytes k (nowhere k (omega arith) within))))
-    ∙ kept_first bytes [] some
+-- those of the parts between blanks that are not empty
+abbrev words_in : List (List ℕ) → List (List ℕ)
+words_in parts = filter (λ word. nat_lt 0 (length word)) parts
 
--- a word before a blank
-module _ (bytes : List ℕ) (end : ℕ) (first : NoneBefore (Passes (is_byte2 32 9) bytes) 0 (length bytes) end)
-    (blank : Passes (is_byte2 32 9) bytes end) where
-  ends_at : position_or_len is_blank bytes ≡ end
-  ends_at =
-      position_or_len_is is_blank bytes end 0 (omega (arith, first.high))
-      (λ k before. not_blank bytes k (first.before k (omega arith) before)) (λ within. blank)
+-- the byte of a line that is no blank and comes first tells whether the line is skipped
+abbrev skipped_by : Option ℕ → Bool
+skipped_by None = true
+skipped_by (Some byte) = byte == 35
 
-  some_before : is_blank (slice_index bytes 0) ≡ false → 0 < end
-  some_before begins = above end refl
-    where
-      above : (at : ℕ) → end ≡ at → 0 < at
-      above zero is =
-          let both : true ≡ false = sym (subst (λ (k : ℕ). is_blank (slice_index bytes k) ≡ true) is blank) ∙ begins in
-          absurd (cc both)
-      above (suc at) is = omega arith
+first_byte : (line : List ℕ) → is_skipped (raw_words line) ≡ skipped_by (find (λ byte. not (is_blank byte)) line)
+first_byte [] = refl
+first_byte (byte ∷ rest) = by (is_blank byte) (slice_split is_blank rest) (first_byte rest)
+  where
+    by : (blank : Bool) (more : List (List ℕ)) → is_skipped (words_in more) ≡ skipped_by (find (λ b. not (is_blank b)) rest)
+        → is_skipped (words_in (if blank then [] ∷ more else onto_first byte more))
+        ≡ skipped_by (if not blank then Some byte else find (λ b. not (is_blank b)) rest)
+    by true more behind = behind
+    by false [] behind = refl
+    by false (part ∷ more) behind = ap is_skipped (kept_first (byte ∷ part) more (omega arith))
 
-  pub word_cut : is_blank (slice_index bytes 0) ≡ false
-      → raw_words bytes ≡ take end bytes ∷ raw_words (drop (end + 1) bytes)
-  word_cut begins =
-      let within : position_or_len is_blank bytes < length bytes = omega (arith, ends_at, first.high) in
-      let long : length (take end bytes) ≡ end = length-take-le end bytes (omega (arith, first.high)) in
-      ap (filter (λ word. nat_lt 0 (length word)))
-      (slice_split_first is_blank bytes 0 within
-      ∙ ap (λ at. take at bytes ∷ slice_split is_blank (drop (at + 1) bytes)) ends_at)
-      ∙ kept_first (take end bytes) (slice_split is_blank (drop (end + 1) bytes))
-      (omega (arith, long, some_before begins))
+pub first_tells : (line : List ℕ) (found : Option ℕ) → found ≡ find (λ byte. not (is_blank byte)) line
+    → is_skipped (raw_words line) ≡ skipped_by found
+first_tells line found is = first_byte line ∙ ap skipped_by (sym is)
+
+-- bytes without a percent sign
+pub none_is_literal : (word : List ℕ) → Nowhere (Passes (is_byte 37) word) 0 (length word) → is_literal word ≡ true
+none_is_literal [] nowhere = refl
+none_is_literal (byte ∷ rest) nowhere =
+    by (byte == 37) (nowhere 0 (omega arith) (omega arith))
+    (none_is_literal rest (λ k low below. nowhere (suc k) (omega arith) (omega (arith, below))))
+  where
+    by : (percent : Bool) → (percent ≡ true → ⊥) → is_literal rest ≡ true → (not percent && is_literal rest) ≡ true
+    by true none behind = absurd (none refl)
+    by false none behind = behind
+
+-- each word of them has none
+literal_parts : (line : List ℕ) → is_literal line ≡ true → list_all is_literal (slice_split is_blank line) ≡ true
+literal_parts [] literal = refl
+literal_parts (byte ∷ rest) literal =
+    let (other, others) = both (not (byte == 37)) (is_literal rest) literal in
+    by (is_blank byte) other (slice_split is_blank rest) (literal_parts rest others)
+  where
+    by : (blank : Bool) → not (byte == 37) ≡ true → (more : List (List ℕ)) → list_all is_literal more ≡ true
+        → list_all is_literal (if blank then [] ∷ more else onto_first byte more) ≡ true
+    by true is more behind = behind
+    by false is [] behind = rw is refl
+    by false is (part ∷ more) behind = rw is behind
+
+literal_words : (parts : List (List ℕ)) → list_all is_literal parts ≡ true → list_all is_literal (words_in parts) ≡ true
+literal_words [] literal = refl
+literal_words (part ∷ more) literal =
+    let (one, others) = both (is_literal part) (list_all is_literal more) literal in
+    by (nat_lt 0 (length part)) one (literal_words more others)
+  where
+    by : (kept : Bool) → is_literal part ≡ true → list_all is_literal (words_in more) ≡ true
+        → list_all is_literal (if kept then part ∷ words_in more else words_in more) ≡ true
+    by true one others = rw one others
+    by false one others = others
+
+literal_at : (all : List (List ℕ)) (n : ℕ) (part : List ℕ) → list_all is_literal all ≡ true → n < length all
+    → part ≡ get_or all n part → is_literal part ≡ true
+literal_at (first ∷ more) zero part literal within is = rw is (both (is_literal first) (list_all is_literal more) literal).0
+literal_at (first ∷ more) (suc n) part literal within is =
+    literal_at more n part (both (is_literal first) (list_all is_literal more) literal).1 (omega (arith, within)) is
+literal_at [] n part literal within is = absurd (omega (arith, within))
 
 -- the byte at the front, and then what the rest stands for
 abbrev then_rest : Option (ℕ × List ℕ) → Option (List ℕ)
@@ -79,18 +102,26 @@ step byte rest = by (byte == 37) (escaped rest)
     by false digits = refl
 
 -- a word without a percent sign stands for itself
-pub unescaped_plain : (word : List ℕ) → Nowhere (Passes (is_byte 37) word) 0 (length word) → unescaped word ≡ Some word
+pub literal_stands : (word : List ℕ) → is_literal word ≡ true → unescaped word ≡ Some word
 unfolding unescaped_from
-unescaped_plain [] nowhere = refl
-unescaped_plain (byte ∷ rest) nowhere =
-    by (byte == 37) (nowhere 0 (omega arith) (omega arith))
-    (unescaped_plain rest (λ k low below. nowhere (suc k) (omega arith) (omega (arith, below))))
+literal_stands [] literal = refl
+literal_stands (byte ∷ rest) literal =
+    by (byte == 37) literal (λ others. literal_stands rest others)
   where
-    by : (percent : Bool) → (percent ≡ true → ⊥) → unescaped rest ≡ Some rest
+    by : (percent : Bool) → (not percent && is_literal rest) ≡ true → (is_literal rest ≡ true → unescaped rest ≡ Some rest)
         → (if percent then before (escaped rest) (unescaped_from 2 rest) else before (Some byte) (unescaped rest))
         ≡ Some (byte ∷ rest)
-    by true none behind = absurd (none refl)
-    by false none behind = ap (before (Some byte)) behind
+    by true literal behind = absurd cc
+    by false literal behind = ap (before (Some byte)) (behind literal)
+
+-- a word of a line stands for itself, if the line has no percent sign
+pub word_stands : (line : List ℕ) (escapes : Bool) (n : ℕ) (word : List ℕ) → MatchBool escapes ⊤ (is_literal line ≡ true)
+    → n < length (raw_words line) → word ≡ get_or (raw_words line) n word
+    → MatchBool escapes ⊤ (unescaped word ≡ Some word)
+word_stands line true n word literal within is = tt
+word_stands line false n word literal within is =
+    literal_stands word
+    (literal_at (raw_words line) n word (literal_words (slice_split is_blank line) (literal_parts line literal)) within is)
 
 -- bytes that were read, and then what the rest stands for
 abbrev pub with_rest : List ℕ → Option (List ℕ) → Option (List ℕ)

@@ -1,19 +1,12 @@
--- Which words write numbers.
-use Rattle.std.proofs.Common.{◌≡◌, ◌≢◌, ◌∙◌, ◌^◌, ◌<◌, ℕ, List, [], ◌∷◌, length, true, false, Result, Ok, Err, sym, ap, subst, nat_eq, arith, get_or, MatchResult, IsUtf8}
-use Rattle.std.specs.List.{starts_with}
-use Rattle.std.specs.Result.{OkIff}
+-- Which words write numbers, by the digits that are left.
+use Rattle.std.proofs.Common.{◌≡◌, ◌∙◌, ◌^◌, ◌<◌, ◌≤◌, ◌+◌, ◌*◌, ℕ, List, [], ◌∷◌, length, true, false, ◌==◌, Ok, Err, sym, ap, arith, ◌&&◌}
+use Rattle.std.specs.Char.{digit_value, is_ascii_digit}
 use Rattle.std.specs.Str.{all_ascii_digits}
-use Rattle.std.specs.Str.Parse.{digits_value, ParsesUnsigned}
+use Rattle.std.specs.Str.Parse.{digits_value, digits_value_after}
 use Rattle.std.proofs.lemmas.Bool.Decides.{Decides-and, Decides-ltb}
-use Rattle.std.proofs.lemmas.Fmt.{IsAscii-from_digits}
-use Rattle.std.proofs.lemmas.Str.{IsUtf8-from_ascii}
-use Rattle.std.proofs.lemmas.Str.Parse.{IsNumeralModel, numerals_by_value, tells_all_ascii_digits, parse_plain}
 use Rattle.kob_script.specs.Values.{is_number, number_in}
-use Rattle.kob_script.proofs.Choices.{chosen_true, chosen_false, false_from}
+use Rattle.kob_script.proofs.Choices.{both, chosen_true, chosen_false, false_from}
 use Rattle.kob_script.specs.Reading.{BadNumber}
-
-pub own : IsNumeralModel (λ ds. all_ascii_digits ds ≡ true) (digits_value 10)
-own = numerals_by_value _ tells_all_ascii_digits
 
 abbrev pub WritesNumber : List ℕ → Type 0
 WritesNumber ds = (all_ascii_digits ds ≡ true) × (0 < length ds) × (digits_value 10 ds < 2 ^ 64)
@@ -28,22 +21,33 @@ decides ds =
 number_refused : (ds : List ℕ) → (WritesNumber ds → ⊥) → number_in ds ≡ Err BadNumber
 number_refused ds refuted = chosen_false (is_number ds) _ _ (false_from (is_number ds) (decides ds).0 refuted)
 
--- what is not text writes no number
-pub number_not_text : (ds : List ℕ) → (IsUtf8 ds → ⊥) → number_in ds ≡ Err BadNumber
-number_not_text ds refuted =
-    number_refused ds (λ w. refuted (IsUtf8-from_ascii ds (IsAscii-from_digits ds (own.to ds w.0))))
+grows : (n : ℕ) (ds : List ℕ) → n ≤ digits_value_after 10 n ds
+grows n [] = omega arith
+grows n (digit ∷ ds) = let more = grows (n * 10 + digit_value digit) ds in omega (arith, more)
 
--- what `parse` returns of digits without a sign
-pub number_parsed : {E : Type 0} (ds : List ℕ) (r : Result ℕ E) → ParsesUnsigned 64 10 ds r → get_or ds 0 0 ≢ 43
-    → MatchResult r (λ n. number_in ds ≡ Ok n) (λ _. number_in ds ≡ Err BadNumber)
-number_parsed ds r h plain = parsed r (parse_plain own 64 ds r h plain)
-  where
-    parsed : {E : Type 0} (r : Result ℕ E) → OkIff r (WritesNumber ds) (digits_value 10 ds)
-        → MatchResult r (λ n. number_in ds ≡ Ok n) (λ _. number_in ds ≡ Err BadNumber)
-    parsed (Ok n) h = chosen_true (is_number ds) _ _ ((decides ds).1 h.0) ∙ ap Ok (sym h.1)
-    parsed (Err e) h = number_refused ds h
+-- The digits before those that are left write a number, and those that are left go on with it.
+abbrev pub GoesOn : List ℕ → ℕ → List ℕ → Type 0
+GoesOn ds n left =
+    (digits_value_after 10 n left ≡ digits_value 10 ds) × (all_ascii_digits left ≡ all_ascii_digits ds)
 
-pub no_sign : (ds : List ℕ) → starts_with nat_eq ds (43 ∷ []) ≡ false → get_or ds 0 0 ≢ 43
-no_sign [] e = λ h. absurd (omega (arith, h))
-no_sign (c ∷ cs) e =
-    λ h. let found : true ≡ false = subst (λ (x : ℕ). starts_with nat_eq (x ∷ cs) (43 ∷ []) ≡ false) h e in cc
+module _ (ds left more : List ℕ) (n digit : ℕ) (kept : GoesOn ds n left) (split : left ≡ digit ∷ more) where
+  pub digit_read : (longer : ℕ) → is_ascii_digit digit ≡ true → longer ≡ n * 10 + digit_value digit
+      → GoesOn ds longer more
+  digit_read longer is sum =
+      rw sum (rw split at kept.0, sym (ap (λ test. test && all_ascii_digits more) is) ∙ (rw split at kept.1))
+
+  pub digit_refused : (is_ascii_digit digit ≡ true → 2 ^ 64 ≤ n * 10 + digit_value digit)
+      → number_in ds ≡ Err BadNumber
+  digit_refused long =
+      number_refused ds (λ w.
+      let digits : all_ascii_digits (digit ∷ more) ≡ true = (rw split at kept.1) ∙ w.0 in
+      let value : digits_value_after 10 (n * 10 + digit_value digit) more ≡ digits_value 10 ds = rw split at kept.0 in
+      omega (arith, long (both _ _ digits).0, grows (n * 10 + digit_value digit) more, value, w.2))
+
+pub digits_end : (ds left : List ℕ) (n : ℕ) → GoesOn ds n left → left ≡ [] → n < 2 ^ 64 → (length ds == 0) ≡ false
+    → number_in ds ≡ Ok n
+digits_end [] left n kept none few some = absurd cc
+digits_end (digit ∷ ds) left n kept none few some =
+    let value : n ≡ digits_value 10 (digit ∷ ds) = rw none at kept.0 in
+    chosen_true (is_number (digit ∷ ds)) _ _
+    ((decides (digit ∷ ds)).1 (sym (rw none at kept.1), omega arith, omega (arith, value, few))) ∙ ap Ok (sym value)

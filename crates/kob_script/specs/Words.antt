@@ -1,7 +1,7 @@
 -- The words of a line, and the bytes that they stand for.
 use Rattle.std.specs.Char.{digit_value}
-use Rattle.std.specs.List.{slice_split}
-use Rattle.std.specs.Prelude.{◌≡◌, ◌+◌, ◌*◌, ◌==◌, ◌&&◌, ℕ, zero, suc, Bool, true, List, [], ◌∷◌, ◌++◌, drop, Option, Some, None, is_some, nat_lt, unwrap_or, if◌then◌else◌, Result, Ok, ◌||◌, filter, length, slice_index, option_map}
+use Rattle.std.specs.List.{list_all, slice_split}
+use Rattle.std.specs.Prelude.{◌≡◌, ◌+◌, ◌*◌, ◌==◌, ◌&&◌, ℕ, zero, suc, Bool, true, List, [], ◌∷◌, ◌++◌, drop, Option, Some, None, is_some, nat_lt, unwrap_or, if◌then◌else◌, Result, Ok, ◌||◌, filter, length, slice_index, option_map, not}
 use Rattle.kob_script.specs.Reading.{◌>>=◌, each, found_or, BadEscape, FaultKind}
 
 -- two hexadecimal digits
@@ -45,6 +45,10 @@ unescaped word = unescaped_from 0 word
 -- the bytes that a part of a word stands for; the part itself if its escapes are not whole
 abbrev pub bytes_of : List ℕ → List ℕ
 bytes_of part = unwrap_or (unescaped part) part
+
+-- no byte is a percent sign
+abbrev pub is_literal : List ℕ → Bool
+is_literal bytes = list_all (λ byte. not (byte == 37)) bytes
 
 -- two hexadecimal digits follow each percent sign
 abbrev pub has_whole_escapes : List ℕ → Bool

@@ -24,6 +24,7 @@ use kob_words::{operation_named, pattern_named, permission_named, resource_named
 use std::alloc::Global;
 
 /// What a command asks for.
+#[inline(always)]
 pub fn request_of(alloc: Global, command: Command, words: &[Word<'_>]) -> Result<Request, LineError>
     ensures { IfOk result (λ made. made ≡ request_of command words.now) }
 {

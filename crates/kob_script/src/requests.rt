@@ -112,6 +112,7 @@ fn read_on(
 }
 
 // What a line without a fault asks for. If clap was asked about it, its answer is removed.
+#[inline(always)]
 fn read_again(
     alloc: Global,
     line: &[u8],
@@ -148,6 +149,7 @@ fn asked_first(
     requests_of(alloc, words, answers.front().unwrap_or(&unasked))
 }
 
+#[inline(always)]
 fn requests_of(
     alloc: Global,
     words: &[Word<'_>],

@@ -2,7 +2,8 @@
 //! batch.
 
 ghost use Rattle.std.specs.List.{slice_split};
-ghost use Rattle.std.specs.Prelude.{◌≡◌, ◌==◌, IfOk, map};
+ghost use Rattle.std.specs.Char.{digit_value, is_ascii_digit};
+ghost use Rattle.std.specs.Prelude.{◌≡◌, ◌==◌, ◌≤◌, ◌+◌, ◌*◌, ◌^◌, true, IfOk, MatchOption, map};
 ghost use Rattle.kob_script.specs.CommandLines.{filter_pattern_of};
 ghost use Rattle.kob_script.specs.Reading.{Gives, GivesSeen, each, found_or};
 ghost use Rattle.kob_script.specs.Values.{before_of, host_of, idem_of, named_host, named_principal};
@@ -101,16 +102,30 @@ pub fn number_of(word: &Word<'_>) -> Result<u64, LineError>
 pub fn number_in(digits: &[u8]) -> Result<u64, LineError>
     ensures { Gives result (number_in digits.now) }
 {
-    if digits.starts_with(b"+") {
+    let mut number: u64 = 0;
+    for digit in digits {
+        match with_digit(number, *digit) {
+            Some(longer) => number = longer,
+            None => return Err(LineError::Fault(FaultKind::BadNumber)),
+        }
+    }
+    if digits.is_empty() {
         return Err(LineError::Fault(FaultKind::BadNumber));
     }
-    match digits.to_str() {
-        Ok(text) => match text.parse::<u64>() {
-            Ok(number) => Ok(number),
-            Err(_) => Err(LineError::Fault(FaultKind::BadNumber)),
-        },
-        Err(_) => Err(LineError::Fault(FaultKind::BadNumber)),
+    Ok(number)
+}
+
+// A number with a decimal digit more, if it is of 64 bits.
+fn with_digit(number: u64, digit: u8) -> Option<u64>
+    ensures { MatchOption result
+        (is_ascii_digit digit ≡ true → 2 ^ 64 ≤ number * 10 + digit_value digit) (λ longer.
+        (is_ascii_digit digit ≡ true) × (longer ≡ number * 10 + digit_value digit)) }
+{
+    if !digit.is_ascii_digit() {
+        return None;
     }
+    let tens = number.checked_mul(10)?;
+    tens.checked_add((digit - b'0') as u64)
 }
 
 /// The start for `-2`, the end for `-1`. The fault is `BadLine`.

@@ -1,15 +1,16 @@
 //! The words of a line, in which `%` and two hexadecimal digits stand for one byte.
 
-ghost use Rattle.std.specs.Prelude.{◌≡◌, ◌≤◌, ◌<◌, ◌∷◌, [], codes, length, slice_index, false};
-ghost use Rattle.std.specs.Prelude.{Some, IfOk, IfSome, MatchOption, if◌then◌else◌, option_map, ⊤};
-ghost use Rattle.std.specs.Prelude.{bytes_eq, MatchBool};
+ghost use Rattle.std.specs.Option.{option_copied};
+ghost use Rattle.std.specs.Prelude.{◌≡◌, ◌≤◌, codes, length, bytes_eq, true, Some, IfOk, IfSome};
+ghost use Rattle.std.specs.Prelude.{MatchBool, if◌then◌else◌, find, not, option_map, ⊤};
 ghost use Rattle.kob_script.specs.Reading.{Gives, GivesSeen, each};
 ghost use Rattle.kob_script.specs.Words.{are_hexadecimal, byte_at, bytes_of, hexadecimal, is_blank};
-ghost use Rattle.kob_script.specs.Words.{raw_words, unescaped, word_of, words_of};
+ghost use Rattle.kob_script.specs.Words.{is_literal, is_skipped, raw_words, unescaped, word_of};
+ghost use Rattle.kob_script.specs.Words.{words_of};
 
 use crate::fault::{FaultKind, LineError};
 use kob_names::Bytes;
-use memchr::{memchr, memchr2};
+use memchr::memchr;
 use std::alloc::{AllocError, Global};
 use std::marker::Model;
 
@@ -87,46 +88,56 @@ const MANY_WORDS: usize = 8;
 pub fn words_of(alloc: Global, line: &[u8]) -> Result<Vec<Word<'_>>, LineError>
     ensures { GivesSeen (λ words. words.items) result (words_of line.now) }
 {
-    match next_word(line) {
-        Some(cut) if cut.word.first() != Some(&b'#') => each_read(alloc, line),
-        _ => Ok(Vec::new(alloc)),
+    if is_skipped(line) {
+        return Ok(Vec::new(alloc));
     }
+    each_read(alloc, line)
+}
+
+// Whether a line is skipped: by its first byte that is no blank, with which a word begins.
+fn is_skipped(line: &[u8]) -> bool
+    ensures { result ≡ is_skipped (raw_words line.now) }
+{
+    match first_not_blank(line) {
+        Some(byte) => *byte == b'#',
+        None => true,
+    }
+}
+
+fn first_not_blank(line: &[u8]) -> Option<&u8>
+    ensures { option_copied result ≡ find (λ byte. not (is_blank byte)) line.entry.now }
+{
+    line.iter().find(|byte| !is_blank(**byte))
 }
 
 fn each_read(alloc: Global, line: &[u8]) -> Result<Vec<Word<'_>>, LineError>
     ensures { GivesSeen (λ words. words.items) result (each word_of (raw_words line.entry.now)) }
 {
+    let escapes = may_have_escapes(line);
     let mut words = Vec::with_capacity(alloc, MANY_WORDS)?;
-    let mut rest = line;
-    while let Some(cut) = next_word(rest) {
-        let word = Word::read(alloc, cut.word)?;
+    for raw in line
+        .split(|byte| is_blank(*byte))
+        .filter(|part| part.len() > 0)
+    {
+        let word = word_in(alloc, raw, escapes)?;
         words.push(word)?;
-        rest = cut.rest;
     }
     Ok(words)
 }
 
-/// A word, and the bytes after the blank that ends it.
-#[derive(Clone, Copy)]
-struct Cut<'a> {
-    word: &'a [u8],
-    rest: &'a [u8],
-}
-
-// The first word of bytes, if there is one.
-fn next_word(bytes: &[u8]) -> Option<Cut<'_>>
-    ensures { MatchOption result (raw_words bytes.entry.now ≡ []) (λ cut.
-        (raw_words bytes.entry.now ≡ cut.word.now ∷ raw_words cut.rest.now)
-        × (length cut.rest.now < length bytes.entry.now)) }
+// A word of a line that has escapes or has none.
+fn word_in(alloc: Global, raw: &[u8], escapes: bool) -> Result<Word<'_>, LineError>
+    requires { MatchBool escapes ⊤ (unescaped raw.now ≡ Some raw.now) }
+    ensures { Gives result (word_of raw.entry.now) }
 {
-    let mut rest = bytes;
-    while let Some((byte, others)) = rest.split_first() {
-        if !is_blank(*byte) {
-            return Some(cut_word(rest));
-        }
-        rest = others;
+    if escapes {
+        Word::read(alloc, raw)
+    } else {
+        Ok(Word {
+            raw,
+            replaced: None,
+        })
     }
-    None
 }
 
 fn is_blank(byte: u8) -> bool
@@ -135,29 +146,11 @@ fn is_blank(byte: u8) -> bool
     byte == b' ' || byte == b'\t'
 }
 
-// Cuts bytes after the word that they begin with.
-fn cut_word(bytes: &[u8]) -> Cut<'_>
-    requires some { 0 < length bytes.now }
-    requires begins { is_blank (slice_index bytes.now 0) ≡ false }
-    ensures word { raw_words bytes.entry.now ≡ result.word.now ∷ raw_words result.rest.now }
-    ensures shorter { length result.rest.now < length bytes.entry.now }
-{
-    match memchr2(b' ', b'\t', bytes) {
-        Some(end) => Cut {
-            word: &bytes[..end],
-            rest: &bytes[end + 1..],
-        },
-        None => Cut {
-            word: bytes,
-            rest: &[],
-        },
-    }
-}
-
-/// Whether a word may have escapes. A word without escapes stands for itself.
-#[tactic(auto, using(crate::proofs::LineWords::unescaped_plain))]
+/// Whether bytes may have escapes. A word without escapes stands for itself.
+#[tactic(auto, using(crate::proofs::LineWords::none_is_literal, crate::proofs::LineWords::literal_stands))]
 pub fn may_have_escapes(word: &[u8]) -> bool
-    ensures { MatchBool result ⊤ (unescaped word.now ≡ Some word.now) }
+    ensures bytes { MatchBool result ⊤ (is_literal word.now ≡ true) }
+    ensures stands { MatchBool result ⊤ (unescaped word.now ≡ Some word.now) }
 {
     match memchr(b'%', word) {
         Some(_) => true,

@@ -1,21 +1,15 @@
-use Rattle.std.proofs.Common.{◌∙◌, sym}
-use Rattle.std.proofs.lemmas.Result.{MatchResult-at_ok, MatchResult-at_err}
-use Rattle.kob_script.proofs.Numbers.{no_sign, number_not_text, number_parsed}
+use Rattle.std.proofs.Common.{◌∙◌, arith, drop_of_length-le, sym}
+use Rattle.std.proofs.lemmas.List.{drop_more}
+use Rattle.kob_script.proofs.Numbers.{digit_refused, digits_end}
 use Rattle.kob_script.proofs.values.number_in.Goals as goal
 
-pub returns-in-Ok-parse : goal.returns-in-Ok-parse
-returns-in-Ok-parse c =
-    let plain = no_sign c.args.digits.now (sym c.starts_with.ensures.value ∙ c.if-starts_with.false) in
-    rw (← c.in-Ok.ensures.cases.0)
-    (MatchResult-at_ok _ _ _ c.in-Ok-parse.is
-    (number_parsed c.in-Ok.text.now c.parse.result c.parse.ensures.value.0 (rw c.in-Ok.ensures.cases.0 plain)))
+pub returns-in-None : goal.returns-in-None
+returns-in-None c =
+    digit_refused c.args.digits.now _ _ c.loop-digit.number _ c.loop-digit.invariant.0
+    (drop_more c.args.digits.now c.loop-digit.digit-index 0 (omega arith)) c.in-None.ensures
 
-pub returns-in-Err-parse : goal.returns-in-Err-parse
-returns-in-Err-parse c =
-    let plain = no_sign c.args.digits.now (sym c.starts_with.ensures.value ∙ c.if-starts_with.false) in
-    rw (← c.in-Ok.ensures.cases.0)
-    (MatchResult-at_err _ _ _ c.in-Err-parse.is
-    (number_parsed c.in-Ok.text.now c.parse.result c.parse.ensures.value.0 (rw c.in-Ok.ensures.cases.0 plain)))
-
-pub returns-in-Err : goal.returns-in-Err
-returns-in-Err c = number_not_text _ c.in-Err.ensures.cases.0
+pub returns : goal.returns
+returns c =
+    digits_end c.args.digits.now _ c.loop-digit.number c.loop-digit.invariant.0
+    (drop_of_length-le c.args.digits.now {i = c.loop-digit.digit-index} (omega arith)) c.loop-digit.invariant.1
+    (sym c.is_empty.ensures ∙ c.if-is_empty.false)

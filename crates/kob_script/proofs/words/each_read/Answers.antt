@@ -1,18 +1,51 @@
+use Rattle.std.proofs.Common.{rules, tests, arith, length, nat_lt}
+use Rattle.std.proofs.lemmas.Iterator.Consumers.{YieldsList-end, YieldsList-from_filter, YieldsList-turn}
+use Rattle.std.proofs.lemmas.Iterator.Splits.{YieldsList-from_slice_split}
+use Rattle.std.proofs.lemmas.List.{length_push}
 use Rattle.std.proofs.lemmas.Result.{err_from_is_err_and}
-use Rattle.kob_script.specs.Words.{word_of}
-use Rattle.kob_script.proofs.Each.{front_ends, front_fails, front_keeps}
+use Rattle.kob_script.specs.Words.{is_blank, raw_words, word_of}
+use Rattle.kob_script.proofs.Each.{each_ends, each_fails, each_keeps}
+use Rattle.kob_script.proofs.LineWords.{word_stands}
 use Rattle.kob_script.proofs.words.each_read.Goals as goal
+
+pub word_in-requires : goal.word_in-requires
+word_in-requires c =
+    let turn =
+    YieldsList-turn (YieldsList-from_filter {s = c.into_iter-raw-iterator.result} _ (λ part. nat_lt 0 (length part))
+    (YieldsList-from_slice_split _ is_blank c.args.line.now (search rules) (search rules) (search rules)
+    (λ x b q k. search (rules, tests))) (search rules) (λ x b q k. search (rules, tests)))
+    c.loop-raw.yielded _ c.loop-raw.yielded_by _ _ c.in-Some.raw c.in-Some.is c.next.ensures.steps in
+    word_stands c.args.line.now c.may_have_escapes-escapes.result _ c.in-Some.raw.now c.may_have_escapes-escapes.ensures.bytes
+    turn.0 turn.1
 
 pub returns-in_err-word : goal.returns-in_err-word
 returns-in_err-word c =
+    let turn =
+    YieldsList-turn (YieldsList-from_filter {s = c.into_iter-raw-iterator.result} _ (λ part. nat_lt 0 (length part))
+    (YieldsList-from_slice_split _ is_blank c.args.line.now (search rules) (search rules) (search rules)
+    (λ x b q k. search (rules, tests))) (search rules) (λ x b q k. search (rules, tests)))
+    c.loop-raw.yielded _ c.loop-raw.yielded_by _ _ c.in-Some.raw c.in-Some.is c.next.ensures.steps in
     let p = err_from_is_err_and c.from_residual-in_err-word.result c.from_residual-in_err-word.ensures.1 in
     rw (p.1, p.2)
-    (front_fails word_of _ _ _ _ c.loop-cut.words.items c.loop-cut.invariant c.in-Some.ensures.0 _ c.in_err-word.ensures)
+    (each_fails word_of (raw_words c.args.line.now) (length c.loop-raw.yielded) _ _ _ _ c.loop-raw.invariant turn.0 turn.1
+    c.in_err-word.ensures)
 
-pub loop-cut-preserved : goal.loop-cut-preserved
-loop-cut-preserved c =
-    rw c.in_ok-push.ensures.items
-    (front_keeps word_of _ _ _ _ c.loop-cut.words.items c.loop-cut.invariant c.in-Some.ensures.0 _ c.in_ok-word.ensures)
+pub loop-raw-preserved : goal.loop-raw-preserved
+loop-raw-preserved c =
+    let turn =
+    YieldsList-turn (YieldsList-from_filter {s = c.into_iter-raw-iterator.result} _ (λ part. nat_lt 0 (length part))
+    (YieldsList-from_slice_split _ is_blank c.args.line.now (search rules) (search rules) (search rules)
+    (λ x b q k. search (rules, tests))) (search rules) (λ x b q k. search (rules, tests)))
+    c.loop-raw.yielded _ c.loop-raw.yielded_by _ _ c.in-Some.raw c.in-Some.is c.next.ensures.steps in
+    rw (c.in_ok-push.ensures.items, length_push c.loop-raw.yielded c.in-Some.raw)
+    (each_keeps word_of (raw_words c.args.line.now) (length c.loop-raw.yielded) _ _ _ _ c.loop-raw.invariant turn.0 turn.1
+    c.in_ok-word.ensures)
 
 pub returns : goal.returns
-returns c = front_ends word_of _ _ c.loop-cut.words.items c.loop-cut.invariant c.in_default.ensures
+returns c =
+    let end =
+    YieldsList-end (YieldsList-from_filter {s = c.into_iter-raw-iterator.result} _ (λ part. nat_lt 0 (length part))
+    (YieldsList-from_slice_split _ is_blank c.args.line.now (search rules) (search rules) (search rules)
+    (λ x b q k. search (rules, tests))) (search rules) (λ x b q k. search (rules, tests)))
+    c.loop-raw.yielded _ c.loop-raw.yielded_by _ _ c.in-None.is c.next.ensures.steps in
+    each_ends word_of (raw_words c.args.line.now) (length c.loop-raw.yielded) _ c.loop-raw.invariant (omega (arith, end.1))
