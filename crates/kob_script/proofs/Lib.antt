@@ -1,3 +1,4 @@
+pub mod Askers
 pub mod CheckedLines
 pub mod Choices
 pub mod Each

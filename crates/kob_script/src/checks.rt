@@ -34,6 +34,7 @@ struct Checking {
     supers: Vec<Principal>,
     everyone: bool,
     requests: u64,
+    last: Option<Principal>,
 }
 
 /// Checks a script in blocks of whole lines, with fewer than 2^63 bytes, in time linear in its
@@ -52,6 +53,7 @@ pub fn check_script(alloc: Global, blocks: Vec<Bytes>) -> Result<CheckedScript, 
         supers: Vec::new(alloc),
         everyone: false,
         requests: 0,
+        last: None,
     };
     let mut answers = Vec::new(alloc);
     let mut number: u64 = 0;
@@ -68,6 +70,7 @@ pub fn check_script(alloc: Global, blocks: Vec<Bytes>) -> Result<CheckedScript, 
         supers,
         everyone,
         requests,
+        ..
     } = checking;
     Ok(CheckedScript {
         settings: Settings {
@@ -171,7 +174,7 @@ fn count_requests(
         → ChecksNext checking.new result
         (with_events answer.now (script_so_far checking.old events) words.now) }
 {
-    let asked = count_of(alloc, words, answer)?;
+    let asked = count_of(alloc, &mut checking.last, words, answer)?;
     match checking.requests.checked_add(asked) {
         Some(requests) => checking.requests = requests,
         None => return Err(LineError::Memory),

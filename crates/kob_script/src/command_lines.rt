@@ -8,12 +8,13 @@ ghost use Rattle.kob_script.specs.Reading.{Gives, GivesSeen, counted};
 ghost use Rattle.kob_script.specs.Requests.{asks_clap};
 ghost use Rattle.kob_script.specs.Script.{after_acl, IsAnswerTo};
 
+use crate::asker::asker_of;
 use crate::checks::is_setting;
 use crate::command::command_named;
 use crate::fault::{FaultKind, LineError};
 use crate::faults::check_line;
 use crate::request::request_of;
-use crate::values::{named_host, named_principal, texts_of};
+use crate::values::{named_host, texts_of};
 use crate::words::Word;
 use kob_acl_cli::{AclCommand, CliArgs, CommandFault, LineFault, commands_of, read_line};
 use kob_names::{Host, PlainValue, Principal};
@@ -56,12 +57,13 @@ impl Asked {
 #[tactic(auto, using(crate::proofs::LineFaults::line_counted, crate::proofs::LineFaults::count_fails))]
 pub fn count_of(
     alloc: Global,
+    last: &mut Option<Principal>,
     words: &[Word<'_>],
     answer: &Option<CliArgs>,
 ) -> Result<u64, LineError>
     ensures { Gives result (counted (events_of answer.now words.now)) }
 {
-    check_line(alloc, words)?;
+    check_line(alloc, last, words)?;
     if asks_by_acl(words) {
         let commands = acl_commands(alloc, answer)?;
         return Ok(commands.len() as u64);
@@ -78,8 +80,9 @@ pub fn events_of(
 ) -> Result<Asked, LineError>
     ensures { Gives result (events_of answer.now words.now) }
 {
-    count_of(alloc, words, answer)?;
-    match events_in(alloc, words, answer) {
+    let mut last = None;
+    count_of(alloc, &mut last, words, answer)?;
+    match events_in(alloc, &mut last, words, answer) {
         Ok(asked) => Ok(asked),
         Err(_) => Err(LineError::Memory),
     }
@@ -89,6 +92,7 @@ pub fn events_of(
 #[tactic(auto, unfolding(crate::specs::CommandLines::asked_by))]
 pub fn events_in(
     alloc: Global,
+    last: &mut Option<Principal>,
     words: &[Word<'_>],
     answer: &Option<CliArgs>,
 ) -> Result<Asked, LineError>
@@ -98,7 +102,7 @@ pub fn events_in(
         return Err(LineError::Fault(FaultKind::BadLine));
     };
     if command.decoded() == b"acl".as_slice() {
-        let events = acl_events(alloc, principal, host, answer)?;
+        let events = acl_events(alloc, last, principal, host, answer)?;
         return Ok(Asked {
             first: None,
             others: VecDeque::from(events),
@@ -107,7 +111,7 @@ pub fn events_in(
     let Some(command) = command_named(command.decoded()) else {
         return Err(LineError::Fault(FaultKind::BadLine));
     };
-    let principal = named_principal(alloc, principal)?;
+    let principal = asker_of(alloc, last, principal)?;
     let host = named_host(alloc, host)?;
     let request = request_of(alloc, command, arguments)?;
     let event = Event {
@@ -129,6 +133,7 @@ fn asks_by_acl(words: &[Word<'_>]) -> bool
 
 fn acl_events(
     alloc: Global,
+    last: &mut Option<Principal>,
     principal: &Word<'_>,
     host: &Word<'_>,
     answer: &Option<CliArgs>,
@@ -137,7 +142,7 @@ fn acl_events(
         asking principal.now host.now (acl_requests answer.now) ≡ Ok events.items) }
 {
     let commands = acl_commands(alloc, answer)?;
-    let principal = named_principal(alloc, principal)?;
+    let principal = asker_of(alloc, last, principal)?;
     let host = named_host(alloc, host)?;
     Ok(events_by(alloc, &principal, &host, commands)?)
 }

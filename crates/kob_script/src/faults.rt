@@ -7,6 +7,7 @@ ghost use Rattle.kob_script.specs.Reading.{Finds, Gives, earlier, earlier_kind, 
 ghost use Rattle.kob_script.specs.Reading.{first_kind};
 ghost use Rattle.kob_script.specs.declared.fault.FaultKind as kinds;
 
+use crate::asker::check_asker;
 use crate::command::{Place, Slot, row_named};
 use crate::fault::{FaultKind, LineError};
 use crate::values::{
@@ -14,11 +15,16 @@ use crate::values::{
     number_of, texts_of, which_of,
 };
 use crate::words::Word;
+use kob_names::Principal;
 use kob_words::{operation_named, pattern_named, permission_named, resource_named};
 use std::alloc::Global;
 
-/// Checks the words of a line.
-pub fn check_line(alloc: Global, words: &[Word<'_>]) -> Result<(), LineError>
+/// Checks the words of a line, of which `last` is the principal that was read last.
+pub fn check_line(
+    alloc: Global,
+    last: &mut Option<Principal>,
+    words: &[Word<'_>],
+) -> Result<(), LineError>
     ensures { Finds result (line_fault words.now) }
 {
     let [principal, host, command, arguments @ ..] = words else {
@@ -29,10 +35,7 @@ pub fn check_line(alloc: Global, words: &[Word<'_>]) -> Result<(), LineError>
     };
     let others = check_words(alloc, places, arguments);
     let after_principal = first_error(check_slot(alloc, Slot::Host, host), others);
-    first_error(
-        check_slot(alloc, Slot::Principal, principal),
-        after_principal,
-    )
+    first_error(check_asker(alloc, last, principal), after_principal)
 }
 
 // Checks words by the places of a row. Recursive: a row has at most seven.

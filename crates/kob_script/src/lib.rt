@@ -1,6 +1,7 @@
 //! The reader of scripts and the printer of replies.
 #![tactic(auto)]
 
+mod asker;
 mod blocks;
 mod checks;
 mod command;

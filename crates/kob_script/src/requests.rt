@@ -10,7 +10,7 @@ use crate::checks::is_setting;
 use crate::command_lines::{Asked, asks_clap, events_in};
 use crate::words::{Word, words_of};
 use kob_acl_cli::CliArgs;
-use kob_names::Bytes;
+use kob_names::{Bytes, Principal};
 use kob_rights::Event;
 use std::alloc::{AllocError, Global};
 use std::collections::VecDeque;
@@ -26,6 +26,8 @@ pub struct Requests {
     /// What the line read last asks for.
     asked: VecDeque<Event>,
     left: u64,
+    /// The principal that was read last.
+    last: Option<Principal>,
 }
 
 impl Model for Requests {
@@ -57,6 +59,7 @@ impl Requests {
             answers: VecDeque::from(answers),
             asked: VecDeque::new(alloc),
             left: count,
+            last: None,
         }
     }
 
@@ -75,7 +78,7 @@ impl Requests {
         ensures same { OnErr result (self.new ≡ self.old) }
     {
         while self.asked.is_empty() {
-            let asked = read_on(alloc, &mut self.blocks, &mut self.answers)?;
+            let asked = read_on(alloc, &mut self.last, &mut self.blocks, &mut self.answers)?;
             let Asked { first, others } = asked;
             self.asked = others;
             if let Some(event) = first {
@@ -91,6 +94,7 @@ impl Requests {
 // Reads a line and returns what it asks for, or moves to the next block.
 fn read_on(
     alloc: Global,
+    last: &mut Option<Principal>,
     blocks: &mut Blocks,
     answers: &mut VecDeque<Option<CliArgs>>,
 ) -> Result<Asked, AllocError>
@@ -106,7 +110,7 @@ fn read_on(
         return Ok(Asked::nothing(alloc));
     };
     let size = line.size;
-    let asked = read_again(alloc, line.text, answers)?;
+    let asked = read_again(alloc, last, line.text, answers)?;
     blocks.pass(size);
     Ok(asked)
 }
@@ -115,6 +119,7 @@ fn read_on(
 #[inline(always)]
 fn read_again(
     alloc: Global,
+    last: &mut Option<Principal>,
     line: &[u8],
     answers: &mut VecDeque<Option<CliArgs>>,
 ) -> Result<Asked, AllocError>
@@ -129,9 +134,9 @@ fn read_again(
         return Err(AllocError);
     };
     if !asks_clap(&words) {
-        return requests_of(alloc, &words, &None);
+        return requests_of(alloc, last, &words, &None);
     }
-    let asked = asked_first(alloc, &words, answers)?;
+    let asked = asked_first(alloc, last, &words, answers)?;
     answers.pop_front();
     Ok(asked)
 }
@@ -139,6 +144,7 @@ fn read_again(
 // What words ask for, by the first answer.
 fn asked_first(
     alloc: Global,
+    last: &mut Option<Principal>,
     words: &[Word<'_>],
     answers: &VecDeque<Option<CliArgs>>,
 ) -> Result<Asked, AllocError>
@@ -146,12 +152,13 @@ fn asked_first(
         ≡ requests_of (slice_index_or answers.now.items 0 None) words.now) }
 {
     let unasked = None;
-    requests_of(alloc, words, answers.front().unwrap_or(&unasked))
+    requests_of(alloc, last, words, answers.front().unwrap_or(&unasked))
 }
 
 #[inline(always)]
 fn requests_of(
     alloc: Global,
+    last: &mut Option<Principal>,
     words: &[Word<'_>],
     answer: &Option<CliArgs>,
 ) -> Result<Asked, AllocError>
@@ -160,7 +167,7 @@ fn requests_of(
     match words {
         [] => Ok(Asked::nothing(alloc)),
         [first, ..] if is_setting(first) => Ok(Asked::nothing(alloc)),
-        _ => match events_in(alloc, words, answer) {
+        _ => match events_in(alloc, last, words, answer) {
             Ok(asked) => Ok(asked),
             Err(_) => Err(AllocError),
         },
