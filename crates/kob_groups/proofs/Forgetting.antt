@@ -5,7 +5,9 @@ use Rattle.std.specs.List.{AllByRecursion, IsDistinct}
 use Rattle.std.specs.Map.{keys_of, lookup, set_value}
 use Rattle.std.proofs.lemmas.Map.Keys.{IsDistinct-head, IsDistinct-tail}
 use Rattle.kob_names.specs.Same.{same_text}
+use Rattle.kob_ordered.proofs.Entries.{none_of, removed_absent}
 use Rattle.kob_ordered.proofs.Places.{equal_names}
+use Rattle.kob_ordered.proofs.Seen.{removed_others}
 use Rattle.kob_groups.specs.Groups.{Commits, Groups, without_offsets, without_topic}
 use Rattle.kob_groups.specs.Listed.{AreListed, has_commits, is_listed}
 use Rattle.kob_groups.specs.Views.{commits_in, groups_in, without_topic_at}
@@ -18,16 +20,11 @@ abbrev pub Entries : Type 0
 Entries = List (List ℕ × CommitsKept)
 
 -- commits of which none are on the topic
-absent_stay : (topic : List ℕ) (commits : Commits) → has_commits topic commits ≡ false
+absent_stay : (topic : List ℕ) (commits : Commits) → lookup (same_text topic) commits ≡ None
     → without_offsets topic commits ≡ commits
-absent_stay topic [] none = refl
-absent_stay topic (on ∷ commits) none = by (same_text topic on.0) none (absent_stay topic commits)
-  where
-    by : (hit : Bool) → is_some (cond hit (Some on.1) (lookup (same_text topic) commits)) ≡ false
-        → (has_commits topic commits ≡ false → without_offsets topic commits ≡ commits)
-        → cond (not hit) (on ∷ without_offsets topic commits) (without_offsets topic commits) ≡ on ∷ commits
-    by true none rest = cc
-    by false none rest = ap (λ cs. on ∷ cs) (rest none)
+absent_stay topic commits none =
+    let same = removed_absent topic commits none in
+    sym (removed_others (same_text topic) commits (ap (lookup (same_text topic)) same ∙ none)) ∙ same
 
 gone_stay : (topic : List ℕ) (commits : Commits)
     → without_offsets topic (without_offsets topic commits) ≡ without_offsets topic commits
@@ -151,7 +148,7 @@ forgotten_all passes topic (group ∷ groups) all =
     by : (hit : Bool) → passes group.0 ≡ hit → (some : Bool) → has_commits topic group.1 ≡ some
         → cond hit (without_offsets topic group.1) group.1 ≡ without_offsets topic group.1
     by true is some has = refl
-    by false is false has = sym (absent_stay topic group.1 has)
+    by false is false has = sym (absent_stay topic group.1 (none_of (lookup (same_text topic) group.1) has))
     by false is true has = let passed = all 0 group refl has in cc
 
 -- where those pass that are listed for the topic

@@ -2,3 +2,4 @@ pub mod Forgetting
 pub mod Listings
 pub mod Maps
 pub mod Names
+pub mod CommitReads

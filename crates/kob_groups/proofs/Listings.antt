@@ -1,56 +1,27 @@
 -- How each change of the groups keeps those listed for a topic that have commits on it.
-use Rattle.std.proofs.Common.{◌≡◌, ℕ, zero, suc, Bool, true, false, cond, not, ◌&&◌, ◌||◌, filter, List, [], ◌∷◌, Option, Some, None, is_some, option_map, nat_eq, slice_get, unwrap_or, refl, sym, ap, subst, ◌∙◌}
+use Rattle.std.proofs.Common.{◌≡◌, ℕ, zero, suc, Bool, true, false, cond, not, ◌&&◌, ◌||◌, List, [], ◌∷◌, Option, Some, None, is_some, option_map, nat_eq, slice_get, unwrap_or, refl, sym, ap, subst, ◌∙◌}
 use Rattle.std.specs.Cmp.Lexicographic.{nat_list_eq_equiv}
 use Rattle.std.specs.List.{AllByRecursion, IsDistinct}
 use Rattle.std.specs.Map.{keys_of, lookup}
-use Rattle.std.proofs.lemmas.Map.Entries.{lookup-filter-keys}
 use Rattle.std.proofs.lemmas.Map.Keys.{IsDistinct-head, IsDistinct-tail}
 use Rattle.std.proofs.lemmas.Map.Made.{lookup-map_values}
 use Rattle.indexmap.specs.IndexMap.{insert_entry}
 use Rattle.kob_names.specs.Same.{same_text}
 use Rattle.kob_ordered.proofs.Places.{equal_names, same_name}
+use Rattle.kob_ordered.proofs.Seen.{lookup_without}
 use Rattle.kob_groups.specs.Groups.{CommitPlace, Commits, Groups, commits_of, offsets_on, with_commit, with_offset, without_group, without_offsets, without_topic}
 use Rattle.kob_groups.specs.Listed.{AreListed, has_commits, is_listed, is_pair}
 use Rattle.kob_groups.specs.declared.lists.GroupsByTopic.{GroupsByTopic}
-use Rattle.kob_groups.proofs.Maps.{inserted_new, written_inserted}
-use Rattle.kob_groups.proofs.Names.{changes_pushed, changes_written}
+use Rattle.kob_groups.proofs.Maps.{found_inserted}
 
 abbrev pub Group : Type 0
 Group = List ℕ × Commits
-
--- what is found after an entry was put in
-found_inserted : {X : Type 0} (entries : List (List ℕ × X)) (key q : List ℕ) (value : X)
-    → lookup (same_text q) (insert_entry same_text entries key value)
-    ≡ cond (same_text key q) (Some value) (lookup (same_text q) entries)
-found_inserted {X} entries key q value = by (lookup (same_text key) entries) refl
-  where
-    by : (found : Option X) → lookup (same_text key) entries ≡ found
-        → lookup (same_text q) (insert_entry same_text entries key value)
-        ≡ cond (same_text key q) (Some value) (lookup (same_text q) entries)
-    by None is =
-        ap (lookup (same_text q)) (sym (inserted_new same_text entries key value is)) ∙ changes_pushed key value entries is q
-    by (Some old) is =
-        ap (lookup (same_text q)) (sym (written_inserted same_text entries key old value is))
-        ∙ changes_written key old value entries is q
-
--- what is found after the entries of a name went
-found_without : {X : Type 0} (entries : List (List ℕ × X)) (name q : List ℕ)
-    → lookup (same_text q) (filter (λ e. not (same_text name e.0)) entries)
-    ≡ cond (same_text name q) None (lookup (same_text q) entries)
-found_without {X} entries name q =
-    lookup-filter-keys (same_text q) (λ key. not (same_text name key)) (not (same_text name q))
-    (λ key is. ap (λ n. not (same_text name n)) (sym (equal_names q key is))) entries
-    ∙ by (same_text name q)
-  where
-    by : (b : Bool) → cond (not b) (lookup (same_text q) entries) None ≡ cond b None (lookup (same_text q) entries)
-    by true = refl
-    by false = refl
 
 -- commits after an offset is put in
 put_commits : (topic t : List ℕ) (partition offset : ℕ) (commits : Commits)
     → has_commits t (with_offset topic partition offset commits) ≡ (same_text topic t || has_commits t commits)
 put_commits topic t partition offset commits =
-    ap is_some (found_inserted commits topic t (insert_entry nat_eq (offsets_on topic commits) partition offset))
+    ap is_some (found_inserted nat_list_eq_equiv commits topic t (insert_entry nat_eq (offsets_on topic commits) partition offset))
     ∙ by (same_text topic t)
   where
     by : (b : Bool)
@@ -67,7 +38,7 @@ pub listed_committed : (groups : Groups) (old new : GroupsByTopic) (place : Comm
 listed_committed groups old new place offset listed put topic group =
     put topic group ∙ ap (λ b. is_pair place.topic place.group topic group || b) (listed topic group)
     ∙ sym (ap (λ found. has_commits topic (unwrap_or found []))
-    (found_inserted groups place.group group made) ∙ by (same_text place.group group) refl)
+    (found_inserted nat_list_eq_equiv groups place.group group made) ∙ by (same_text place.group group) refl)
   where
     made : Commits
     made = with_offset place.topic place.partition offset (commits_of place.group groups)
@@ -101,7 +72,7 @@ listed_removed groups old new name listed left topic group =
     left topic group
     ∙ ap (λ b. b && not (same_text name group && has_commits topic (commits_of name groups))) (listed topic group)
     ∙ by (same_text name group) refl
-    ∙ sym (ap (λ found. has_commits topic (unwrap_or found [])) (found_without groups name group))
+    ∙ sym (ap (λ found. has_commits topic (unwrap_or found [])) (lookup_without name group groups))
   where
     none : (b : Bool) → (b && not (true && b)) ≡ false
     none true = refl
@@ -130,7 +101,7 @@ listed_forgotten groups old new topic listed left t g =
   where
     fewer : (commits : Commits)
         → (not (same_text topic t) && has_commits t commits) ≡ has_commits t (without_offsets topic commits)
-    fewer commits = one (same_text topic t) ∙ sym (ap is_some (found_without commits topic t))
+    fewer commits = one (same_text topic t) ∙ sym (ap is_some (lookup_without topic t commits))
       where
         one : (b : Bool) → (not b && has_commits t commits) ≡ is_some (cond b None (lookup (same_text t) commits))
         one true = refl

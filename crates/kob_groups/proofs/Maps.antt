@@ -1,11 +1,15 @@
 -- What a map shows whose values are seen by a part of them: the same for groups and for topics.
-use Rattle.std.proofs.Common.{◌≡◌, Bool, true, false, cond, not, filter, List, [], ◌∷◌, ◌++◌, Option, Some, None, is_some, length, map, unwrap_or, refl, sym, ap, ◌∙◌}
+use Rattle.std.proofs.Common.{◌≡◌, Bool, true, false, cond, not, filter, List, [], ◌∷◌, ◌++◌, Some, None, is_some, length, map, unwrap_or, refl, sym, ap, ◌∙◌, inl, inr}
 use Rattle.std.specs.Prelude.{Err, Ok, OnErr, Result}
+use Rattle.std.specs.Cmp.{IsEquivalence}
+use Rattle.std.proofs.lemmas.Bool.{cases_Bool}
 use Rattle.std.specs.Map.{keys_of, lookup, remove_entry, set_value}
 use Rattle.std.specs.Option.{option_map}
 use Rattle.std.proofs.lemmas.List.{length-map}
-use Rattle.std.proofs.lemmas.Map.Made.{lookup-map_values}
+use Rattle.std.proofs.lemmas.Map.Made.{keys_of-map_values, lookup-map_values}
+use Rattle.std.proofs.lemmas.Map.Steps.{set_value_same}
 use Rattle.indexmap.specs.IndexMap.{insert_entry}
+use Rattle.kob_ordered.proofs.Seen.{map_filter, removed_others, set_value_mapped, some_mapped}
 
 module _ {K X : Type 0} (same : K → K → Bool) where
   -- a write of a key that is there is an insertion
@@ -35,9 +39,22 @@ module _ {K X : Type 0} (same : K → K → Bool) where
       by true none rest = cc
       by false none rest = ap (λ es. entry ∷ es) (rest none)
 
-part_some : {X Y : Type 0} (part : X → Y) (found : Option X) → is_some (option_map part found) ≡ is_some found
-part_some part None = refl
-part_some part (Some x) = refl
+-- what is found after a key was put in
+pub found_inserted : {K X : Type 0} {same : K → K → Bool} → IsEquivalence same → (entries : List (K × X)) (key q : K) (x : X)
+    → lookup (same q) (insert_entry same entries key x) ≡ cond (same key q) (Some x) (lookup (same q) entries)
+found_inserted laws [] key q x = rw (laws.symm q key) refl
+found_inserted {same = same} laws (e ∷ es) key q x =
+    elim (cases_Bool (same key e.0)) [
+      | inl hit ↦
+          rw (hit, laws.congr key e.0 q hit, laws.symm q e.0)
+          (elim (cases_Bool (same e.0 q)) [ inl on ↦ rw on refl | inr off ↦ rw off refl ])
+      | inr miss ↦
+          rw (miss, found_inserted laws es key q x)
+          (elim (cases_Bool (same key q)) [
+            | inl on ↦ rw (on, ← laws.congr key q e.0 on, miss) refl
+            | inr off ↦ rw off refl
+          ])
+    ]
 
 module _ {K X Y : Type 0} (part : X → Y) where
   abbrev pub seen : List (K × X) → List (K × Y)
@@ -54,8 +71,7 @@ module _ {K X Y : Type 0} (part : X → Y) where
       ap (λ o. unwrap_or o none) (lookup-map_values part test entries ∙ ap (option_map part) absent)
 
   pub seen_keys : (entries : List (K × X)) → keys_of (seen entries) ≡ keys_of entries
-  seen_keys [] = refl
-  seen_keys (entry ∷ entries) = ap (λ keys. entry.0 ∷ keys) (seen_keys entries)
+  seen_keys entries = keys_of-map_values part entries
 
   pub seen_length : (entries : List (K × X)) → length (seen entries) ≡ length entries
   seen_length entries = length-map entries (λ entry. (entry.0, part entry.1))
@@ -63,7 +79,7 @@ module _ {K X Y : Type 0} (part : X → Y) where
   -- whether a key is there
   pub seen_has : (test : K → Bool) (entries : List (K × X))
       → is_some (lookup test (seen entries)) ≡ is_some (lookup test entries)
-  seen_has test entries = ap is_some (lookup-map_values part test entries) ∙ part_some part (lookup test entries)
+  seen_has test entries = ap is_some (lookup-map_values part test entries) ∙ some_mapped part (lookup test entries)
 
   -- a value that is put in
   pub seen_inserted : (same : K → K → Bool) (entries : List (K × X)) (key : K) (x : X)
@@ -103,48 +119,17 @@ module _ {K X Y : Type 0} (part : X → Y) where
   -- a value that is written and seen as before
   pub seen_written : (test : K → Bool) (entries : List (K × X)) (old x : X) → lookup test entries ≡ Some old
       → part x ≡ part old → seen (set_value test entries x) ≡ seen entries
-  seen_written test [] old x found same = refl
-  seen_written test (entry ∷ entries) old x found same =
-      by (test entry.0) found (λ later. seen_written test entries old x later same)
-    where
-      by : (hit : Bool) → cond hit (Some entry.1) (lookup test entries) ≡ Some old
-          → (lookup test entries ≡ Some old → seen (set_value test entries x) ≡ seen entries)
-          → seen (cond hit ((entry.0, x) ∷ entries) (entry ∷ set_value test entries x)) ≡ seen (entry ∷ entries)
-      by true here rest = ap (λ y. (entry.0, y) ∷ seen entries) (same ∙ ap (λ o. part (unwrap_or o old)) (sym here))
-      by false later rest = ap (λ es. (entry.0, part entry.1) ∷ es) (rest later)
-
-  absent_kept : (test : K → Bool) (entries : List (K × X)) → lookup test entries ≡ None
-      → seen entries ≡ filter (λ entry. not (test entry.0)) (seen entries)
-  absent_kept test [] none = refl
-  absent_kept test (entry ∷ entries) none = by (test entry.0) none (absent_kept test entries)
-    where
-      kept : List (K × Y)
-      kept = filter (λ e. not (test e.0)) (seen entries)
-
-      by : (hit : Bool) → cond hit (Some entry.1) (lookup test entries) ≡ None
-          → (lookup test entries ≡ None → seen entries ≡ kept)
-          → seen (entry ∷ entries) ≡ cond (not hit) ((entry.0, part entry.1) ∷ kept) kept
-      by true none rest = cc
-      by false none rest = ap (λ es. (entry.0, part entry.1) ∷ es) (rest none)
+  seen_written test entries old x found same =
+      set_value_mapped test part entries x ∙ ap (λ y. set_value test (seen entries) y) same
+      ∙ set_value_same test (seen entries) (part old)
+      (lookup-map_values part test entries ∙ ap (option_map part) found)
 
   -- a key that is taken out, of which there was no other
   pub seen_removed : (test : K → Bool) (entries : List (K × X)) → lookup test (remove_entry test entries) ≡ None
       → seen (remove_entry test entries) ≡ filter (λ entry. not (test entry.0)) (seen entries)
-  seen_removed test [] gone = refl
-  seen_removed test (entry ∷ entries) gone = by (test entry.0) refl gone (seen_removed test entries)
-    where
-      kept : List (K × Y)
-      kept = filter (λ e. not (test e.0)) (seen entries)
-
-      by : (hit : Bool) → test entry.0 ≡ hit
-          → lookup test (cond hit entries (entry ∷ remove_entry test entries)) ≡ None
-          → (lookup test (remove_entry test entries) ≡ None → seen (remove_entry test entries) ≡ kept)
-          → seen (cond hit entries (entry ∷ remove_entry test entries))
-          ≡ cond (not hit) ((entry.0, part entry.1) ∷ kept) kept
-      by true is gone rest = absent_kept test entries gone
-      by false is gone rest =
-          ap (λ es. (entry.0, part entry.1) ∷ es)
-          (rest (sym (ap (λ b. cond b (Some entry.1) (lookup test (remove_entry test entries))) is) ∙ gone))
+  seen_removed test entries gone =
+      ap seen (removed_others test entries gone)
+      ∙ map_filter (λ (entry : K × X). (entry.0, part entry.1)) (λ (entry : K × Y). not (test entry.0)) entries
 
 -- what holds after any error
 pub on_err : {T E P : Type 0} (r : Result T E) → P → OnErr r P

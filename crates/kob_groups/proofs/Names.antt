@@ -7,6 +7,8 @@ use Rattle.kob_names.specs.Same.{same_text}
 use Rattle.kob_ordered.specs.Ordered.{Ordered}
 use Rattle.kob_ordered.proofs.Entries.{none_of, one_name}
 use Rattle.kob_ordered.proofs.Places.{equal_names}
+use Rattle.kob_ordered.proofs.Seen.{lookup_without, removed_others}
+use Rattle.kob_groups.proofs.Maps.{found_inserted, inserted_new}
 use Rattle.kob_groups.specs.Filled.{AreFilled, is_among}
 use Rattle.kob_groups.specs.Listed.{is_pair}
 
@@ -29,56 +31,14 @@ module _ {X : Type 0} where
 
   pub changes_pushed : (name : List ℕ) (x : X) (es : List (List ℕ × X)) → lookup (same_text name) es ≡ None
       → ChangesAt name (Some x) es (es ++ (name, x) ∷ [])
-  changes_pushed name x es none q = by (same_text name q) refl
-    where
-      other : (es : List (List ℕ × X)) → same_text q name ≡ false
-          → lookup (same_text q) (es ++ (name, x) ∷ []) ≡ lookup (same_text q) es
-      other [] is = ap (λ b. cond b (Some x) None) is
-      other (e ∷ es) is = ap (λ o. cond (same_text q e.0) (Some e.1) o) (other es is)
-
-      last : (es : List (List ℕ × X)) → lookup (same_text name) es ≡ None
-          → lookup (same_text name) (es ++ (name, x) ∷ []) ≡ Some x
-      last [] none = ap (λ b. cond b (Some x) None) (nat_list_eq_equiv.refl name)
-      last (e ∷ es) none = one (same_text name e.0) none (last es)
-        where
-          one : (b : Bool) → cond b (Some e.1) (lookup (same_text name) es) ≡ None
-              → (lookup (same_text name) es ≡ None → lookup (same_text name) (es ++ (name, x) ∷ []) ≡ Some x)
-              → cond b (Some e.1) (lookup (same_text name) (es ++ (name, x) ∷ [])) ≡ Some x
-          one true none rest = cc
-          one false none rest = rest none
-
-      by : (b : Bool) → same_text name q ≡ b
-          → lookup (same_text q) (es ++ (name, x) ∷ []) ≡ cond b (Some x) (lookup (same_text q) es)
-      by true is =
-          subst (λ n. lookup (same_text n) (es ++ (name, x) ∷ []) ≡ Some x) (equal_names name q is) (last es none)
-      by false is = other es (nat_list_eq_equiv.symm q name ∙ is)
+  changes_pushed name x es none q =
+      ap (lookup (same_text q)) (inserted_new same_text es name x none) ∙ found_inserted nat_list_eq_equiv es name q x
 
   changes_removed : (name : List ℕ) (es : List (List ℕ × X))
       → lookup (same_text name) (remove_entry (same_text name) es) ≡ None
       → ChangesAt name None es (remove_entry (same_text name) es)
-  changes_removed name es gone q = by (same_text name q) refl
-    where
-      other : (es : List (List ℕ × X)) → same_text name q ≡ false
-          → lookup (same_text q) (remove_entry (same_text name) es) ≡ lookup (same_text q) es
-      other [] is = refl
-      other (e ∷ es) is = one (same_text name e.0) refl (same_text q e.0) refl (other es is)
-        where
-          one : (hit : Bool) → same_text name e.0 ≡ hit → (here : Bool) → same_text q e.0 ≡ here
-              → lookup (same_text q) (remove_entry (same_text name) es) ≡ lookup (same_text q) es
-              → lookup (same_text q) (cond hit es (e ∷ remove_entry (same_text name) es))
-              ≡ cond here (Some e.1) (lookup (same_text q) es)
-          one true key true found rest =
-              let same = ap (same_text name) (equal_names q e.0 found) ∙ key in cc
-          one true key false found rest = refl
-          one false key here found rest =
-              ap (λ b. cond b (Some e.1) (lookup (same_text q) (remove_entry (same_text name) es))) found
-              ∙ ap (λ o. cond here (Some e.1) o) rest
-
-      by : (b : Bool) → same_text name q ≡ b
-          → lookup (same_text q) (remove_entry (same_text name) es) ≡ cond b None (lookup (same_text q) es)
-      by true is =
-          subst (λ n. lookup (same_text n) (remove_entry (same_text name) es) ≡ None) (equal_names name q is) gone
-      by false is = other es is
+  changes_removed name es gone q =
+      ap (lookup (same_text q)) (removed_others (same_text name) es gone) ∙ lookup_without name q es
 
   pub changes_to : (name : List ℕ) (x : X) (es new : List (List ℕ × X)) → new ≡ es ++ (name, x) ∷ []
       → lookup (same_text name) es ≡ None → ChangesAt name (Some x) es new

@@ -5,3 +5,4 @@ pub mod Places
 pub mod Search
 pub mod Sound
 pub mod Standing
+pub mod Seen

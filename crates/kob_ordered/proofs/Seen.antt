@@ -1,0 +1,80 @@
+-- What entries show whose values are seen by a part of them, and what is read of them without a name.
+use Rattle.std.proofs.Common.{◌≡◌, Bool, true, false, cond, not, ℕ, filter, List, [], ◌∷◌, Option, Some, None, is_some, map, option_map, refl, sym, ap, ◌∙◌}
+use Rattle.std.proofs.lemmas.Map.Entries.{lookup-filter-keys}
+use Rattle.std.specs.Map.{lookup, remove_entry, set_value}
+use Rattle.kob_names.specs.Same.{same_text}
+use Rattle.kob_ordered.proofs.Places.{equal_names}
+
+-- a test of what the items show leaves what is shown of the items that pass it
+pub map_filter : {A B : Type 0} (f : A → B) (test : B → Bool) (xs : List A)
+    → map f (filter (λ x. test (f x)) xs) ≡ filter test (map f xs)
+map_filter f test [] = refl
+map_filter f test (x ∷ xs) = by (test (f x)) (map_filter f test xs)
+  where
+    by : (b : Bool) → map f (filter (λ x. test (f x)) xs) ≡ filter test (map f xs)
+        → map f (cond b (x ∷ filter (λ x. test (f x)) xs) (filter (λ x. test (f x)) xs))
+        ≡ cond b (f x ∷ filter test (map f xs)) (filter test (map f xs))
+    by true rest = ap (λ ys. f x ∷ ys) rest
+    by false rest = rest
+
+pub some_mapped : {X Y : Type 0} (f : X → Y) (found : Option X) → is_some (option_map f found) ≡ is_some found
+some_mapped f None = refl
+some_mapped f (Some x) = refl
+
+module _ {K X : Type 0} (test : K → Bool) where
+  pub set_value_mapped : {Y : Type 0} (f : X → Y) (entries : List (K × X)) (x : X)
+      → map (λ entry. (entry.0, f entry.1)) (set_value test entries x)
+      ≡ set_value test (map (λ entry. (entry.0, f entry.1)) entries) (f x)
+  set_value_mapped f [] x = refl
+  set_value_mapped f (entry ∷ entries) x = by (test entry.0) (set_value_mapped f entries x)
+    where
+      by : (hit : Bool) → map (λ e. (e.0, f e.1)) (set_value test entries x)
+          ≡ set_value test (map (λ e. (e.0, f e.1)) entries) (f x)
+          → map (λ e. (e.0, f e.1)) (cond hit ((entry.0, x) ∷ entries) (entry ∷ set_value test entries x))
+          ≡ cond hit ((entry.0, f x) ∷ map (λ e. (e.0, f e.1)) entries)
+          ((entry.0, f entry.1) ∷ set_value test (map (λ e. (e.0, f e.1)) entries) (f x))
+      by true rest = refl
+      by false rest = ap (λ es. (entry.0, f entry.1) ∷ es) rest
+
+  abbrev others : List (K × X) → List (K × X)
+  others entries = filter (λ entry. not (test entry.0)) entries
+
+  absent_kept : (entries : List (K × X)) → lookup test entries ≡ None → entries ≡ others entries
+  absent_kept [] none = refl
+  absent_kept (entry ∷ entries) none = by (test entry.0) none (absent_kept entries)
+    where
+      by : (hit : Bool) → cond hit (Some entry.1) (lookup test entries) ≡ None
+          → (lookup test entries ≡ None → entries ≡ others entries)
+          → entry ∷ entries ≡ cond (not hit) (entry ∷ others entries) (others entries)
+      by true none rest = cc
+      by false none rest = ap (λ es. entry ∷ es) (rest none)
+
+  -- an entry that is taken out, of whose name there was no other
+  pub removed_others : (entries : List (K × X)) → lookup test (remove_entry test entries) ≡ None
+      → remove_entry test entries ≡ filter (λ entry. not (test entry.0)) entries
+  removed_others [] gone = refl
+  removed_others (entry ∷ entries) gone = by (test entry.0) refl gone (removed_others entries)
+    where
+      by : (hit : Bool) → test entry.0 ≡ hit
+          → lookup test (cond hit entries (entry ∷ remove_entry test entries)) ≡ None
+          → (lookup test (remove_entry test entries) ≡ None → remove_entry test entries ≡ others entries)
+          → cond hit entries (entry ∷ remove_entry test entries)
+          ≡ cond (not hit) (entry ∷ others entries) (others entries)
+      by true is gone rest = absent_kept entries gone
+      by false is gone rest =
+          ap (λ es. entry ∷ es)
+          (rest (sym (ap (λ b. cond b (Some entry.1) (lookup test (remove_entry test entries))) is) ∙ gone))
+
+-- what is found among the entries without those of a name
+pub lookup_without : {X : Type 0} (name other : List ℕ) (entries : List (List ℕ × X))
+    → lookup (same_text other) (filter (λ entry. not (same_text name entry.0)) entries)
+    ≡ cond (same_text name other) None (lookup (same_text other) entries)
+lookup_without name other entries =
+    lookup-filter-keys (same_text other) (λ k. not (same_text name k)) (not (same_text name other))
+    (λ k hit. ap (λ n. not (same_text name n)) (sym (equal_names other k hit))) entries
+    ∙ by (same_text name other)
+  where
+    by : (b : Bool) → cond (not b) (lookup (same_text other) entries) None
+        ≡ cond b None (lookup (same_text other) entries)
+    by true = refl
+    by false = refl
