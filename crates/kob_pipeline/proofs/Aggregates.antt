@@ -1,38 +1,21 @@
 -- Ids that read back from records, and the rows of an aggregate among all rows, and among those of a place.
-use Rattle.std.proofs.Common.{◌≡◌, ℕ, zero, suc, ◌/◌, ◌%◌, ◌<◌, ◌==◌, All, List, Bool, true, false, cond, refl, sym, ap, ◌∙◌, inl, slice_index, arith, if◌then◌else◌, [], ◌∷◌, ◌++◌, inr, subst}
-use Rattle.std.specs.Prelude.{Option, Some, None, option_map, filter, bytes_eq}
+use Rattle.kob_pipeline.proofs.Words.{All, All-from_recursion, AllByRecursion, AreServed, Bool, Dispatching, Entry, IsRouterRun, List, None, Option, Place, Recorded, Some, Swept, Target, Took, [], after_record, and_parts, ap, append-nil, arith, bytes_eq, cases_Bool, cond, dispatch_of, false, filter, goes_to, id_text, ids_of, if◌then◌else◌, inl, inr, is_of_aggregate, list_any, map_push, nat_tests, next_seq, option_map, place_of, refl, same_place, served_to, slice_index, stored_event, subst, suc, sym, told_id, true, zero, ℕ, ◌%◌, ◌&&◌, ◌++◌, ◌/◌, ◌<◌, ◌==◌, ◌∙◌, ◌∷◌, ◌≡◌}
 use Rattle.std.specs.Option.{is_some}
-use Rattle.std.proofs.lemmas.Bool.Decides.{nat_tests}
-use Rattle.std.proofs.lemmas.List.Elements.{All-from_recursion}
-use Rattle.std.specs.List.{AllByRecursion, list_any}
 use Rattle.uuid.specs.Text.{by_index, digit_place, hex_digit, hyphen, is_hyphen_place, lower, nibble, parsed}
 use Rattle.uuid.proofs.RoundTrips.{parses_hyphenated}
 use Rattle.uuid.proofs.TextLemmas.{by_index_at, by_index_cong, by_index_length}
 use Rattle.kob_names.specs.TopicRules.{topic_fault}
 use Rattle.kob_names.specs.declared.record.Record.{Record}
 use Rattle.kob_outbox.specs.Contents.{Event, Contents}
-use Rattle.kob_outbox.specs.Events.{id_text, stored_event}
-use Rattle.kob_router.specs.Dispatches.{dispatch_of, Dispatching, place_of}
 use Rattle.kob_router.specs.Partitioner.{partition_of}
 use Rattle.kob_router.specs.Route.{key_of, message_of, topic_of}
 use Rattle.kob_router.specs.declared.dispatch.Dispatch.{Dispatch}
-use Rattle.kob_router.specs.declared.dispatch.Target.{Target}
 use Rattle.kob_router.specs.declared.routed.Routed.{Routed}
-use Rattle.kob_pipeline.specs.Delivery.{told_id, goes_to, ids_of}
-use Rattle.kob_pipeline.proofs.Lists.{or_false, all_last, any_last, bytes_are, bytes_turned, filter_last, filter_not_last, none_in_filter, same_bytes, same_here}
+use Rattle.kob_pipeline.proofs.Lists.{all_last, all_weaker, any_last, bytes_are, bytes_turned, filter_last, filter_not_last, none_in_filter, same_bytes, same_here, same_some}
 use Rattle.kob_pipeline.proofs.RouterKept.{TellsIds, TellsItsId}
-use Rattle.std.proofs.lemmas.Bool.{and_parts, cases_Bool, or_parts}
-use Rattle.std.proofs.lemmas.List.{append-nil, map_push}
 use Rattle.std.proofs.lemmas.List.Folds.{list_any-append}
-use Rattle.kob_outbox.specs.Recording.{next_seq, after_record}
-use Rattle.kob_router.specs.Places.{same_place}
-use Rattle.kob_router.specs.Run.{IsRouterRun, May, Move, State, after, calls_of, events_of, start}
-use Rattle.kob_router.specs.Run.Move.{Called, Recorded, Restarted, Swept, Took}
-use Rattle.kob_router.specs.declared.place.Place.{Place}
-use Rattle.kob_shared.specs.declared.journal.Entry.{Entry}
-use Rattle.kob_pipeline.specs.Reaching.{is_of_aggregate}
-use Rattle.kob_router.specs.Served.{AreServed}
-use Rattle.kob_pipeline.specs.Served.{served_to}
+use Rattle.kob_router.specs.Run.{May, Move, State, after, calls_of, events_of, start}
+use Rattle.kob_router.specs.Run.Move.{Called, Restarted}
 use Rattle.kob_pipeline.proofs.Logged.{is_fresh}
 use Rattle.kob_pipeline.proofs.Rows.{call_of, called_ids, kept_by_router, recorded}
 use Rattle.kob_pipeline.proofs.ServedRuns.{IsOf, IsUnheard, all_pass}
@@ -91,14 +74,7 @@ message_is : (bad : Bool) (topic key : List ℕ) (partitions : ℕ) (message : R
     (if bad then None else Some (record { topic = topic; message = message })) ≡ Some d
     → message ≡ d.message
 message_is true topic key partitions message d h = cc
-message_is false topic key partitions message d h = go h
-  where
-    go : {x : Dispatch} → Some x ≡ Some d → x.message ≡ d.message
-    go e = ap (λ (o : Option Dispatch). message_in o) e
-      where
-        message_in : Option Dispatch → Record
-        message_in None = message
-        message_in (Some y) = y.message
+message_is false topic key partitions message d h = ap (λ (x : Dispatch). x.message) (same_some _ d h)
 
 pub sent_message : (target : Target) (row : Event) (d : Dispatch) → dispatch_of target row ≡ Some d
     → message_of target.route row ≡ d.message
@@ -132,13 +108,17 @@ module _ (test : Event → Bool) where
       → AllByRecursion (λ (x : Event). list_any (bytes_eq x.id) (ids_of (filter test more) ++ row.id ∷ []) ≡ test x)
       rows
   older [] more row new h = tt
-  older (x ∷ xs) more row new h =
-      let parts = or_parts (bytes_eq row.id x.id) (list_any (bytes_eq row.id) (ids_of xs)) new in
-      let ids : List (List ℕ) = ids_of (filter test more) in (
-        rw (list_any-append (bytes_eq x.id) ids (row.id ∷ []), bytes_turned x.id row.id, parts.0)
-            (or_false (list_any (bytes_eq x.id) ids) ∙ h.0),
-        older xs more row parts.1 h.1,
-      )
+  older (x ∷ xs) more row new h = (
+    grind (
+      arith,
+      nat_tests,
+      list_any-append (bytes_eq x.id) (ids_of (filter test more)) (row.id ∷ []),
+      bytes_turned x.id row.id,
+      new,
+      h.0,
+    ),
+    older xs more row (grind (arith, nat_tests, new)) h.1,
+  )
 
   told_more : (rows : List Event) (row : Event) → list_any (bytes_eq row.id) (ids_of rows) ≡ false
       → AllByRecursion (IsToldById test rows) rows → AllByRecursion (IsToldById test (rows ++ row ∷ []))
@@ -147,20 +127,21 @@ module _ (test : Event → Bool) where
       let ids : List (List ℕ) = ids_of (filter test rows) in
       elim (cases_Bool (test row)) [
         | inl on ↦
-            let more : ids_of (filter test (rows ++ row ∷ [])) ≡ ids ++ row.id ∷ [] =
-            ap ids_of (filter_last test rows row on) ∙ map_push (λ (r : Event). r.id) (filter test rows) row in
-            subst (λ (xs : List (List ℕ)). AllByRecursion (λ (x : Event). list_any (bytes_eq x.id) xs ≡ test x)
-            (rows ++ row ∷ [])) (sym more)
-            (all_last (λ (x : Event). list_any (bytes_eq x.id) (ids ++ row.id ∷ []) ≡ test x) rows row
-            (older rows rows row new h)
-            (any_last (bytes_eq row.id) ids row.id (same_bytes row.id) ∙ sym on))
+            of_ids (ids ++ row.id ∷ [])
+            (ap ids_of (filter_last test rows row on) ∙ map_push (λ (r : Event). r.id) (filter test rows) row)
+            (older rows rows row new h) (any_last (bytes_eq row.id) ids row.id (same_bytes row.id) ∙ sym on)
         | inr off ↦
-            let same : ids_of (filter test (rows ++ row ∷ [])) ≡ ids = ap ids_of (filter_not_last test rows row off) in
-            subst (λ (xs : List (List ℕ)). AllByRecursion (λ (x : Event). list_any (bytes_eq x.id) xs ≡ test x)
-            (rows ++ row ∷ [])) (sym same)
-            (all_last (λ (x : Event). list_any (bytes_eq x.id) ids ≡ test x) rows row h
-            (none_in_filter (bytes_eq row.id) (λ (r : Event). r.id) test rows new ∙ sym off))
+            of_ids ids (ap ids_of (filter_not_last test rows row off)) h
+            (none_in_filter (bytes_eq row.id) (λ (r : Event). r.id) test rows new ∙ sym off)
       ]
+    where
+      of_ids : (ids : List (List ℕ)) → ids_of (filter test (rows ++ row ∷ [])) ≡ ids
+          → AllByRecursion (λ (x : Event). list_any (bytes_eq x.id) ids ≡ test x) rows
+          → list_any (bytes_eq row.id) ids ≡ test row
+          → AllByRecursion (IsToldById test (rows ++ row ∷ [])) (rows ++ row ∷ [])
+      of_ids ids is old one =
+          subst (λ xs. AllByRecursion (λ (x : Event). list_any (bytes_eq x.id) xs ≡ test x) (rows ++ row ∷ [])) (sym is)
+          (all_last (λ (x : Event). list_any (bytes_eq x.id) ids ≡ test x) rows row old one)
 
   -- what is kept along a run: the ids are those of the rows
   abbrev IsTold : List Event → State → Unit {0} → Type 0
@@ -189,56 +170,30 @@ module _ (test : Event → Bool) where
       (λ c marks rows s e b d may by own there k. (called_ids s c marks ∙ k.0, k.1))
       (λ rows s e b d other there k. k) moves final journal tt tt run served (all_pass journal) (refl, tt)).1
 
--- the rows of a place whose ids pass are those of the aggregate
-pub filter_both : (p r s : Event → Bool) (rows : List Event)
-    → AllByRecursion (λ (x : Event). cond (r x) (p x) false ≡ s x) rows
-    → filter p (filter r rows) ≡ filter s rows
-filter_both p r s [] h = refl
-filter_both p r s (x ∷ rows) h =
-    elim (cases_Bool (r x)) [
-      | inl on ↦
-          let same : p x ≡ s x = rw on at h.0 in
-          rw (on, same) (ap (λ (ys : List Event). cond (s x) (x ∷ ys) ys) (filter_both p r s rows h.1))
-      | inr off ↦
-          let same : s x ≡ false = sym (rw off at h.0) in
-          rw (off, same) (filter_both p r s rows h.1)
-    ]
-
-same_aggregate : (kind id : List ℕ) (row : Event) → is_of_aggregate kind id row ≡ true → (row.aggregate_type ≡ kind)
-    × (row.aggregate_id ≡ id)
-same_aggregate kind id row h =
-    let parts = and_parts (bytes_eq row.aggregate_type kind) (bytes_eq row.aggregate_id id) h in
-    (bytes_are row.aggregate_type kind parts.0, bytes_are row.aggregate_id id parts.1)
-
 module _ (target : Target) (kind id : List ℕ) where
   -- an aggregate has one place
   pub one_place : (a b : Event) → is_of_aggregate kind id a ≡ true → is_of_aggregate kind id b ≡ true
       → place_of (dispatch_of target a) ≡ place_of (dispatch_of target b)
   one_place a b h k =
-      let x = same_aggregate kind id a h in
-      let y = same_aggregate kind id b k in
-      lawful.one_place target a b (x.0 ∙ sym y.0) (x.1 ∙ sym y.1)
+      let (kind_a, id_a) = and_parts (bytes_eq a.aggregate_type kind) (bytes_eq a.aggregate_id id) h in
+      let (kind_b, id_b) = and_parts (bytes_eq b.aggregate_type kind) (bytes_eq b.aggregate_id id) k in
+      lawful.one_place target a b
+      (bytes_are a.aggregate_type kind kind_a ∙ sym (bytes_are b.aggregate_type kind kind_b))
+      (bytes_are a.aggregate_id id id_a ∙ sym (bytes_are b.aggregate_id id id_b))
 
   goes_there : (o : Option Dispatch) (q : Place) → place_of o ≡ Some q → goes_to q o ≡ true
   goes_there None q e = cc
   goes_there (Some d) q e = let same : d.place ≡ q = cc in ap (same_place q) same ∙ same_here q
 
-  fails_too : (b : Bool) (p : Bool) → p ≡ false → cond b p false ≡ false
-  fails_too true p e = e
-  fails_too false p e = refl
-
   pub passes_as : (q : Place) (row : Event) → is_of_aggregate kind id row ≡ true
       → place_of (dispatch_of target row) ≡ Some q
       → (test : List ℕ → Bool) (rows : List Event) → AllByRecursion
       (λ (x : Event). test x.id ≡ is_of_aggregate kind id x) rows
-      → AllByRecursion (λ (x : Event). cond (goes_to q (dispatch_of target x)) (test x.id) false ≡ is_of_aggregate kind
-      id x) rows
-  passes_as q row is at test [] h = tt
-  passes_as q row is at test (x ∷ rows) h = (one, passes_as q row is at test rows h.1)
-    where
-      one : cond (goes_to q (dispatch_of target x)) (test x.id) false ≡ is_of_aggregate kind id x
-      one =
-          elim (cases_Bool (is_of_aggregate kind id x)) [
-            | inl on ↦ rw (goes_there (dispatch_of target x) q (one_place x row on is ∙ at)) h.0
-            | inr off ↦ fails_too (goes_to q (dispatch_of target x)) (test x.id) (h.0 ∙ off) ∙ sym off
-          ]
+      → AllByRecursion (λ (x : Event). (goes_to q (dispatch_of target x) && test x.id) ≡ is_of_aggregate kind id x) rows
+  passes_as q row is at test rows h =
+      all_weaker (λ (x : Event). test x.id ≡ is_of_aggregate kind id x)
+      (λ (x : Event). (goes_to q (dispatch_of target x) && test x.id) ≡ is_of_aggregate kind id x)
+      (λ x same. elim (cases_Bool (is_of_aggregate kind id x)) [
+        | inl on ↦ rw (goes_there (dispatch_of target x) q (one_place x row on is ∙ at)) same
+        | inr off ↦ grind (arith, nat_tests, same, off)
+      ]) rows h

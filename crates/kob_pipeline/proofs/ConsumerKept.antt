@@ -1,63 +1,23 @@
 -- Offsets that are taken in order, and what a run of a consumer keeps, of one partition.
-use Rattle.std.proofs.Common.{◌≡◌, ℕ, zero, suc, ◌+◌, ◌≤◌, min, List, [], ◌∷◌, ◌++◌, refl, sym, ap, ◌∙◌, inl, inr, subst, take, drop, arith, true, false, cond}
-use Rattle.std.specs.Prelude.{Some, map, nat_eq, slice_get, Option, None}
-use Rattle.std.specs.List.{AllByRecursion, enumerate_from}
-use Rattle.std.proofs.lemmas.Bool.{cases_lt, cases_Bool}
-use Rattle.std.proofs.lemmas.List.{append-nil, map-append}
+use Rattle.kob_pipeline.proofs.Words.{AllByRecursion, Arrival, List, None, Option, Place, Some, [], ap, append-nil, arith, arrivals, behind, cursor_of, drop, enumerate_from, false, filter-append, firsts, fold, fold-append, from_place, inl, inr, length, map, map-append, max, min, nat_eq, nat_tests, range_with_len, read_from, refl, same_place, slice_get, subst, suc, sym, take, true, with_cursor, with_new, with_progress, zero, ℕ, ◌++◌, ◌+◌, ◌∙◌, ◌∷◌, ◌≡◌, ◌≤◌}
+use Rattle.std.proofs.lemmas.Simd.{map-map}
 use Rattle.kob_names.specs.declared.record.Record.{Record}
 use Rattle.kob_partition.specs.Limits.{fetch_limit}
-use Rattle.kob_inbox.specs.Run.{behind}
-use Rattle.kob_pipeline.specs.Firsts.{numbers_below, with_each_new, with_new, firsts}
-use Rattle.kob_pipeline.specs.View.{read_from}
 use Rattle.kob_pipeline.proofs.Lists.{all_append, all_weaker, get_front, place_cases, places_are, same_here}
-use Rattle.kob_pipeline.proofs.Once.{numbers_again, numbers_beyond, each_new_append}
-use Rattle.std.proofs.lemmas.List.Elements.{filter-append}
-use Rattle.kob_router.specs.Places.{same_place}
-use Rattle.kob_router.specs.declared.place.Place.{Place}
-use Rattle.kob_inbox.specs.Cursors.{with_progress, cursor_of, with_cursor}
-use Rattle.kob_inbox.specs.Intake.{Arrival, arrivals}
+use Rattle.kob_pipeline.proofs.Once.{numbers_on}
 use Rattle.kob_inbox.specs.declared.cursors.Cursor.{Cursor}
-use Rattle.kob_pipeline.specs.Taking.{from_place}
 
 -- these offsets follow one another, and the records stand there
 abbrev pub AreRead : List Record → ℕ → List (ℕ × Record) → Type 0
 AreRead records n [] = Unit {0}
 AreRead records n (x ∷ xs) = (x.0 ≡ n) × (slice_get records x.0 ≡ Some x.1) × AreRead records (n + 1) xs
 
--- offsets that go on from a position up to a bound
-pub record Reached (bound position : ℕ) (xs : List (ℕ × Record)) : Type 0 where
-  pub reach : ℕ
-  pub offsets : with_each_new nat_eq (numbers_below bound) (map (λ (x : ℕ × Record). x.0) xs) ≡ numbers_below reach
-  pub within : behind position xs ≤ reach
-  pub no_less : bound ≤ reach
-
-pub reached : (records : List Record) (bound position : ℕ) (xs : List (ℕ × Record)) → position ≤ bound
-    → AreRead records position xs → Reached bound position xs
-reached records bound position [] l c = record { reach = bound; offsets = refl; within = l; no_less = omega arith }
-reached records bound position (x ∷ xs) l c =
-    elim (cases_lt position bound) [
-      | inl lt ↦
-          let r = reached records bound (position + 1) xs (omega arith) c.2 in
-          record {
-            reach = r.reach;
-            offsets = rw (c.0, numbers_again bound position lt) r.offsets;
-            within = rw c.0 r.within;
-            no_less = r.no_less;
-          }
-      | inr ge ↦
-          let r = reached records (suc bound) (position + 1) xs (omega arith) c.2 in
-          let at : position ≡ bound = omega arith in
-          let offsets : List ℕ = map (λ (y : ℕ × Record). y.0) xs in
-          record {
-            reach = r.reach;
-            offsets =
-                ap (λ (k : ℕ). with_each_new nat_eq (with_new nat_eq (numbers_below bound) k) offsets) (c.0 ∙ at)
-                ∙ ap (λ (ks : List ℕ). with_each_new nat_eq ks offsets) (numbers_beyond bound bound (omega arith))
-                ∙ r.offsets;
-            within = rw c.0 r.within;
-            no_less = omega (arith, r.no_less);
-          }
-    ]
+offsets_read : (records : List Record) (n : ℕ) (xs : List (ℕ × Record)) → AreRead records n xs
+    → (map (λ (x : ℕ × Record). x.0) xs ≡ range_with_len n (length xs)) × (behind n xs ≡ n + length xs)
+offsets_read records n [] c = (refl, omega arith)
+offsets_read records n (x ∷ xs) c =
+    let (offsets, end) = offsets_read records (n + 1) xs c.2 in
+    (rw c.0 (ap (λ (ns : List ℕ). n ∷ ns) offsets), rw c.0 (end ∙ omega arith))
 
 -- what a list is from some place on
 drop_at : (n : ℕ) (xs : List Record) (x : Record) (rest : List Record) → drop n xs ≡ x ∷ rest
@@ -67,27 +27,21 @@ drop_at zero (y ∷ ys) x rest e = (cc, cc)
 drop_at (suc n) [] x rest e = cc
 drop_at (suc n) (y ∷ ys) x rest e = drop_at n ys x rest e
 
-read_some : (records : List Record) (n k : ℕ) (rest : List Record) → drop n records ≡ rest
-    → AreRead records n (enumerate_from n (take k rest))
-read_some records n zero rest e = tt
-read_some records n (suc k) [] e = tt
-read_some records n (suc k) (x ∷ rest) e =
+read_some : (records : List Record) (n j k : ℕ) (rest : List Record) → drop n records ≡ rest
+    → AreRead records n (take j (enumerate_from n (take k rest)))
+read_some records n zero k rest e = tt
+read_some records n (suc j) zero rest e = tt
+read_some records n (suc j) (suc k) [] e = tt
+read_some records n (suc j) (suc k) (x ∷ rest) e =
     let d = drop_at n records x rest e in
     let next : n + 1 ≡ suc n = omega arith in
-    (refl, d.0, read_some records (n + 1) k rest (ap (λ (m : ℕ). drop m records) next ∙ d.1))
-
-read_take : (records : List Record) (k n : ℕ) (xs : List (ℕ × Record)) → AreRead records n xs
-    → AreRead records n (take k xs)
-read_take records zero n xs c = tt
-read_take records (suc k) n [] c = tt
-read_take records (suc k) n (x ∷ xs) c = (c.0, c.1, read_take records k (n + 1) xs c.2)
+    (refl, d.0, read_some records (n + 1) j k rest (ap (λ (m : ℕ). drop m records) next ∙ d.1))
 
 -- so it is of the first of what a FETCH reads
 pub read_in_order : (records : List Record) (offset max count : ℕ)
     → AreRead records offset (take count (read_from records offset max))
 read_in_order records offset max count =
-    read_take records count offset (read_from records offset max)
-    (read_some records offset (min max fetch_limit) (drop offset records) refl)
+    read_some records offset count (min max fetch_limit) (drop offset records) refl
 
 -- ---- what a run of a consumer keeps, of one partition
 
@@ -108,24 +62,15 @@ offset_of a = a.offset
 
 cursor_moved : (cs : List Cursor) (c : Cursor) → cursor_of (with_cursor cs c) c.place ≡ Some c
 cursor_moved [] c = rw (same_here c.place) refl
-cursor_moved (x ∷ cs) c =
-    elim (cases_Bool (same_place x.place c.place)) [
-      | inl hit ↦ rw (hit, same_here c.place) refl
-      | inr miss ↦ rw (miss, miss) (cursor_moved cs c)
-    ]
+cursor_moved (x ∷ cs) c = grind (arith, nat_tests, same_here c.place, cursor_moved cs c)
 
 cursor_elsewhere : (cs : List Cursor) (c : Cursor) (q : Place) → same_place c.place q ≡ false
     → cursor_of (with_cursor cs c) q ≡ cursor_of cs q
 cursor_elsewhere [] c q h = rw h refl
 cursor_elsewhere (x ∷ cs) c q h =
-    elim (cases_Bool (same_place x.place c.place)) [
-      | inl hit ↦
-          let miss : same_place x.place q ≡ false = ap (λ (y : Place). same_place y q) (places_are x.place c.place hit)
-          ∙ h in
-          rw (hit, h, miss) refl
-      | inr other ↦ rw other (ap (λ (o : Option Cursor). cond (same_place x.place q) (Some x) o)
-          (cursor_elsewhere cs c q h))
-    ]
+    let here : same_place x.place c.place ≡ true → same_place x.place q ≡ false =
+    λ hit. ap (λ (y : Place). same_place y q) (places_are x.place c.place hit) ∙ h in
+    grind (arith, nat_tests, here, h, cursor_elsewhere cs c q h)
 
 -- a cursor that moves within the bound
 within_moved : (cs : List Cursor) (c : Cursor) (q : Place) (bound : ℕ) → WithinCursor bound (cursor_of cs q)
@@ -142,18 +87,11 @@ within_more (Some x) m n l w = omega arith
 
 here_all : (q : Place) (xs : List (ℕ × Record)) → from_place q (arrivals q xs) ≡ arrivals q xs
 here_all q [] = refl
-here_all q (x ∷ xs) =
-    rw (same_here q) (ap (λ (ys : List Arrival). record { place = q; offset = x.0; message = x.1 } ∷ ys)
-    (here_all q xs))
+here_all q (x ∷ xs) = grind (arith, nat_tests, same_here q, here_all q xs)
 
 here_none : (p q : Place) → same_place p q ≡ false → (xs : List (ℕ × Record)) → from_place q (arrivals p xs) ≡ []
 here_none p q h [] = refl
-here_none p q h (x ∷ xs) = rw h (here_none p q h xs)
-
-offsets_arrived : (q : Place) (xs : List (ℕ × Record)) → map offset_of (arrivals q xs) ≡ map (λ (x : ℕ × Record). x.0)
-    xs
-offsets_arrived q [] = refl
-offsets_arrived q (x ∷ xs) = ap (λ (ns : List ℕ). x.0 ∷ ns) (offsets_arrived q xs)
+here_none p q h (x ∷ xs) = grind (arith, nat_tests, here_none p q h xs)
 
 contents_arrived : (records : List Record) (p : Place) (n : ℕ) (xs : List (ℕ × Record)) → AreRead records n xs
     → AllByRecursion (IsContent records) (arrivals p xs)
@@ -169,7 +107,7 @@ module _ (q : Place) where
   pub record Taking (records : List Record) (committed : Option ℕ) (cursors : List Cursor) (arrived : List Arrival) :
       Type 0 where
     pub bound : ℕ
-    pub offsets : firsts nat_eq (map offset_of (from_place q arrived)) ≡ numbers_below bound
+    pub offsets : firsts nat_eq (map offset_of (from_place q arrived)) ≡ range_with_len 0 bound
     pub contents : AllByRecursion (IsContent records) (from_place q arrived)
     pub cursor : WithinCursor bound (cursor_of cursors q)
     pub commit : WithinOffset bound committed
@@ -227,25 +165,26 @@ module _ (q : Place) where
       → AreRead records position xs
       → Taking records committed (with_cursor cursors (cursor_behind q position xs)) (arrived ++ arrivals q xs)
   taking_here {records} {committed} {cursors} {arrived} position xs k l c =
-      let r : Reached k.bound position xs = reached records k.bound position xs l c in
+      let read = offsets_read records position xs c in
       let more : from_place q (arrived ++ arrivals q xs) ≡ from_place q arrived ++ arrivals q xs =
       filter-append (λ (a : Arrival). same_place a.place q) arrived (arrivals q xs)
       ∙ ap (λ (ys : List Arrival). from_place q arrived ++ ys) (here_all q xs) in
       record {
-        bound = r.reach;
+        bound = max k.bound (position + length xs);
         offsets =
             ap (λ (ys : List Arrival). firsts nat_eq (map offset_of ys)) more
             ∙ ap (firsts nat_eq) (map-append offset_of (from_place q arrived) (arrivals q xs))
-            ∙ each_new_append nat_eq [] (map offset_of (from_place q arrived)) (map offset_of (arrivals q xs))
-            ∙ ap (λ (ns : List ℕ). with_each_new nat_eq ns (map offset_of (arrivals q xs))) k.offsets
-            ∙ ap (with_each_new nat_eq (numbers_below k.bound)) (offsets_arrived q xs)
-            ∙ r.offsets;
+            ∙ fold-append (with_new nat_eq) [] (map offset_of (from_place q arrived)) (map offset_of (arrivals q xs))
+            ∙ ap (λ (ns : List ℕ). fold (with_new nat_eq) ns (map offset_of (arrivals q xs))) k.offsets
+            ∙ ap (fold (with_new nat_eq) (range_with_len 0 k.bound))
+            (map-map offset_of (λ (x : ℕ × Record). record { place = q; offset = x.0; message = x.1 }) xs ∙ read.0)
+            ∙ numbers_on k.bound position (length xs) l;
         contents =
             rw more
             (all_append (IsContent records) (from_place q arrived) (arrivals q xs) k.contents
             (contents_arrived records q position xs c));
-        cursor = rw (cursor_moved cursors (cursor_behind q position xs)) r.within;
-        commit = within_more committed k.bound r.reach r.no_less k.commit;
+        cursor = rw (cursor_moved cursors (cursor_behind q position xs)) (omega (arith, read.1));
+        commit = within_more committed k.bound (max k.bound (position + length xs)) (omega arith) k.commit;
       }
 
   -- records of another place

@@ -1,39 +1,19 @@
 -- What each call of a consumer keeps, served or not, and what its run takes in of a partition.
-use Rattle.std.proofs.Common.{◌≡◌, ℕ, ◌≤◌, List, [], ◌++◌, Bool, true, false, ◌&&◌, cond, refl, sym, ap, ◌∙◌, inl, inr, subst, take, arith, if◌then◌else◌, ◌⊎◌, ◌∷◌}
-use Rattle.std.specs.Prelude.{Option, Some, None, unwrap_or, bytes_eq}
-use Rattle.std.proofs.lemmas.Bool.{and_parts}
+use Rattle.kob_pipeline.proofs.Words.{AreServed, Arrival, Body, Bool, Call, Denied, Done, Entry, Fetch, IsConsumerRun, IsDue, IsHistory, IsNeverDeleted, IsNoDeletion, IsOwnCommit, IsSoleCommitter, IsTakenInOrder, List, None, OffsetCommit, OffsetFetch, Option, Place, Refused, Reply, Request, Some, Step, Subscription, View, [], after_answer, and_parts, ap, arith, bytes_eq, cond, cursor_of, due, false, filter_map, if◌then◌else◌, inl, inr, opening_view, place_at, read_from, records_of, refl, same_place, served_to, subst, sym, take, taken_by, taken_of, true, unwrap_or, with_commit, ℕ, ◌&&◌, ◌++◌, ◌∙◌, ◌∷◌, ◌≡◌, ◌≤◌, ◌⊎◌}
 use Rattle.kob_names.specs.declared.record.Record.{Record}
-use Rattle.kob_partition.specs.Batches.{records_of}
 use Rattle.kob_rights.specs.declared.on_groups.OffsetCommit.{OffsetCommit as CommitRequest}
 use Rattle.kob_rights.specs.declared.on_groups.OffsetFetch.{OffsetFetch as PositionRequest}
 use Rattle.kob_rights.specs.declared.on_partitions.Fetch.{Fetch as FetchRequest}
-use Rattle.kob_rights.specs.declared.reply.Body.{Body}
-use Rattle.kob_rights.specs.declared.reply.Reply.{Reply}
-use Rattle.kob_rights.specs.declared.reply.Reply.TheVariants.{Denied, Refused, Done}
-use Rattle.kob_rights.specs.declared.request.Request.{Request}
-use Rattle.kob_rights.specs.declared.request.Request.TheVariants.{Fetch, OffsetCommit, OffsetFetch}
-use Rattle.kob_router.specs.Places.{same_place}
-use Rattle.kob_router.specs.declared.place.Place.{Place}
-use Rattle.kob_inbox.specs.Cursors.{cursor_of, standing}
-use Rattle.kob_inbox.specs.Intake.{Arrival}
-use Rattle.kob_inbox.specs.Run.{IsDue, State, after_answer, due, place_at, taken_by, IsConsumerRun, May, Move, after, calls_of, start, taken_of}
+use Rattle.kob_inbox.specs.Cursors.{standing}
+use Rattle.kob_inbox.specs.Run.{State, May, Move, after, calls_of, start}
 use Rattle.kob_inbox.specs.declared.cursors.Cursor.{Cursor}
 use Rattle.kob_inbox.specs.declared.cursors.Standing.{Standing}
-use Rattle.kob_inbox.specs.declared.fetcher.Subscription.{Subscription}
-use Rattle.kob_pipeline.specs.View.{Step, View, read_from, with_commit, IsHistory, opening_view}
 use Rattle.kob_pipeline.proofs.ConsumerKept.{AreRead, Fits, Taking, WithinCursor, WithinOffset, taking_after_fetch, taking_after_move, taking_nothing, taking_with_commit, taking_after_restart, taking_first, taking_later, read_in_order}
-use Rattle.kob_pipeline.proofs.Lists.{all_both, places_are}
+use Rattle.kob_pipeline.proofs.Lists.{all_both, places_are, same_some}
 use Rattle.kob_pipeline.proofs.RouterRun.{NotDone, heard_no_done, heard_none}
 use Rattle.kob_pipeline.proofs.ServedRuns.{Hears, IsRun, IsServedBy, IsUnheard, StepsAs, added, history_passes, kept_by_run}
-use Rattle.std.specs.List.{filter_map}
-use Rattle.kob_router.specs.declared.line.Call.{Call}
 use Rattle.kob_inbox.specs.Run.Move.{Called, Restarted}
-use Rattle.kob_shared.specs.declared.journal.Entry.{Entry}
-use Rattle.kob_pipeline.specs.Taking.{IsTakenInOrder}
-use Rattle.kob_pipeline.specs.Premises.{IsNeverDeleted, IsNoDeletion, IsOwnCommit, IsSoleCommitter}
-use Rattle.kob_router.specs.Served.{AreServed}
-use Rattle.kob_pipeline.specs.Served.{served_to}
-use Rattle.kob_pipeline.proofs.Logged.{records_more}
+use Rattle.kob_partition.proofs.Keeping.{records_of_append}
 use Rattle.kob_pipeline.proofs.OtherSteps.{Leaves, leaves}
 use Rattle.kob_rights.specs.declared.reply.Body.TheVariants as bodies
 
@@ -73,13 +53,7 @@ is_due_as t s request d =
 standing_within : (o : Option Cursor) (c : Standing) (bound : ℕ) → standing o ≡ Some c → WithinCursor bound o
     → c.position ≤ bound
 standing_within None c bound at w = cc
-standing_within (Some x) c bound at w =
-    let e : x.position ≡ c.position = ap position_in at in
-    omega (arith, e, w)
-  where
-    position_in : Option Standing → ℕ
-    position_in None = 0
-    position_in (Some y) = y.position
+standing_within (Some x) c bound at w = rw (← ap (λ (y : Standing). y.position) (same_some _ c at)) w
 
 position_within : (cs : List Cursor) (p q : Place) (c : Standing) (bound : ℕ) → standing (cursor_of cs p) ≡ Some c
     → WithinCursor bound (cursor_of cs q) → p ≡ q → c.position ≤ bound
@@ -99,19 +73,12 @@ commit_or_not true n bound o h w = h refl
 commit_or_not false n bound o h w = w
 
 -- with no Done heard nothing changes
-answered_unheard : (t : Subscription) (s : State) (request : Request) (heard : Option Reply) (count : ℕ) → NotDone heard
-    → after_answer t s request heard count ≡ s
-answered_unheard t s request None count n = refl
-answered_unheard t s request (Some (Denied code verdicts)) count n = refl
-answered_unheard t s request (Some (Refused code reason)) count n = refl
-answered_unheard t s request (Some (Done body)) count n = absurd n
-
-taken_unheard : (request : Request) (heard : Option Reply) (count : ℕ) → NotDone heard
-    → taken_by request heard count ≡ []
-taken_unheard request None count n = refl
-taken_unheard request (Some (Denied code verdicts)) count n = refl
-taken_unheard request (Some (Refused code reason)) count n = refl
-taken_unheard request (Some (Done body)) count n = absurd n
+unheard : (t : Subscription) (s : State) (request : Request) (heard : Option Reply) (count : ℕ) → NotDone heard
+    → (after_answer t s request heard count ≡ s) × (taken_by request heard count ≡ [])
+unheard t s request None count n = (refl, refl)
+unheard t s request (Some (Denied code verdicts)) count n = (refl, refl)
+unheard t s request (Some (Refused code reason)) count n = (refl, refl)
+unheard t s request (Some (Done body)) count n = absurd n
 
 module _ (t : Subscription) (q : Place) where
   abbrev pub TakingIn : State → View → List Arrival → Type 0
@@ -125,7 +92,7 @@ module _ (t : Subscription) (q : Place) where
   pub taking_silent : (s : State) (v : View) (arrived : List Arrival) (request : Request) (heard : Option Reply)
       (count : ℕ) → NotDone heard → TakingIn s v arrived → After s v arrived request heard count
   taking_silent s v arrived request heard count n k =
-      rw (answered_unheard t s request heard count n, taken_unheard request heard count n) (taking_nothing q k)
+      let (same, none) = unheard t s request heard count n in rw (same, none) (taking_nothing q k)
 
   -- OFFSET_FETCH that was heard
   placed : (s : State) (v : View) (arrived : List Arrival) (asked : PositionRequest) (body : Body)
@@ -260,9 +227,9 @@ is_run : (t : Subscription) (moves : List Move) (s final : State) → IsConsumer
 is_run t [] s final run = run
 is_run t (move ∷ moves) s final run = (run.0, is_run t moves (after t s move) final run.1)
 
-within_left : (bound : ℕ) (o n : Option ℕ) → (n ≡ o) ⊎ (n ≡ None) → WithinOffset bound o → WithinOffset bound n
-within_left bound o n (inl e) w = subst (WithinOffset bound) (sym e) w
-within_left bound o n (inr e) w = subst (WithinOffset bound) (sym e) tt
+within_left : (bound : ℕ) (o n : Option ℕ) → (n ≡ None) ⊎ (n ≡ o) → WithinOffset bound o → WithinOffset bound n
+within_left bound o n (inl e) w = rw e tt
+within_left bound o n (inr e) w = rw e w
 
 module _ (t : Subscription) (q : Place) (worker : ℕ) (end : View) where
   -- an OFFSET_COMMIT of the group that was done is the worker's, and nobody deletes the topic
@@ -292,7 +259,7 @@ module _ (t : Subscription) (q : Place) (worker : ℕ) (end : View) where
       let by : Leaves t.group q v w e.event.request e.reply =
       leaves t.group q v w e.event.request e.reply never step in
       let log : records_of (v.log q) ++ records_of by.more ≡ records_of (w.log q) =
-      sym (ap records_of by.log ∙ records_more (v.log q) by.more) in
+      sym (ap records_of by.log ∙ records_of_append (v.log q) by.more) in
       let grown : Taking q (records_of (w.log q)) (v.committed t.group q) s.cursors arrived =
       subst (λ (rs : List Record). Taking q rs (v.committed t.group q) s.cursors arrived) log
       (taking_later q (records_of by.more) k) in

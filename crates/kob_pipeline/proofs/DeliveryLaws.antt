@@ -1,18 +1,8 @@
 -- What reaches an inbox, of the parts that workers have in a journal.
-use Rattle.std.proofs.Common.{ℕ, List}
-use Rattle.std.specs.Prelude.{Contains}
-use Rattle.kob_outbox.specs.Contents.{Event, empty}
-use Rattle.kob_partition.specs.Batches.{records_of}
-use Rattle.kob_router.specs.Dispatches.{dispatch_of}
-use Rattle.kob_router.specs.declared.dispatch.Target.{Target}
+use Rattle.kob_pipeline.proofs.Words.{ArePrivate, Contains, Entry, IsHistory, List, ReachesInOrder, Subscription, Target, View, dispatch_of, empty, is_of_aggregate, opening_view, records_of, rows_of, ℕ}
+use Rattle.kob_outbox.specs.Contents.{Event}
 use Rattle.kob_inbox.proofs.Running.{run_takes_in}
-use Rattle.kob_inbox.specs.declared.fetcher.Subscription.{Subscription}
-use Rattle.kob_shared.specs.declared.journal.Entry.{Entry}
-use Rattle.kob_pipeline.specs.Delivery.{rows_of}
 use Rattle.kob_pipeline.specs.Parts.{IsConsumerPart, IsServicePart}
-use Rattle.kob_pipeline.specs.Premises.{ArePrivate}
-use Rattle.kob_pipeline.specs.Reaching.{ReachesInOrder, is_of_aggregate}
-use Rattle.kob_pipeline.specs.View.{IsHistory, View, opening_view}
 use Rattle.kob_pipeline.proofs.Aggregates.{rows_tell, told_all, target_tells}
 use Rattle.kob_pipeline.proofs.Arriving.{all_assigned}
 use Rattle.kob_pipeline.proofs.ConsumerRun.{is_taken_in_order}

@@ -1,28 +1,19 @@
 -- How many workers there are, and what is left where the journal is what was noted.
-use Rattle.std.proofs.Common.{◌≡◌, List, [], ◌∷◌, ◌++◌, length, length-append, sym, ap, ◌∙◌, map, arith, subst}
-use Rattle.std.specs.List.{All, AllByRecursion, AllZip}
-use Rattle.std.proofs.lemmas.List.{length-map}
-use Rattle.std.proofs.lemmas.List.Elements.{recursion_from_All}
+use Rattle.kob_pipeline.proofs.Words.{All, AllByRecursion, AllZip, HasEnded, IsAsNoted, IsKeptByStore, IsLeft, IsLegal, IsWhole, List, Noted, Planned, Settings, [], ap, arith, events_in, length, length-append, length-map, map, notes_of, opened_by, planned_as, planned_workers, recursion_from_All, settings_of, subst, sym, told_in, ◌++◌, ◌∙◌, ◌∷◌, ◌≡◌}
 use Rattle.kob_broker.specs.Change.{state_of}
-use Rattle.kob_broker.specs.State.{settings_of}
-use Rattle.kob_names.specs.declared.settings.Settings.{Settings}
 use Rattle.kob_rights.specs.declared.event.Event.{Event}
 use Rattle.kob_shared.specs.Fleets.{EachIsAnswered, Follows, IsAnswered}
-use Rattle.kob_shared.specs.Journals.{IsLegal, Record}
-use Rattle.kob_shared.specs.Noted.{Noted}
-use Rattle.kob_shared.specs.Openings.{opened_by}
-use Rattle.kob_shared.specs.Runs.{IsAsNoted, events_in, notes_of, told_in}
+use Rattle.kob_shared.specs.Journals.{Record}
 use Rattle.kob_shared.specs.declared.work.Done.{Done}
 use Rattle.kob_shared.proofs.Beginnings.{begins_with}
 use Rattle.kob_shared.proofs.Openings.{opened_again}
 use Rattle.kob_pipeline.specs.declared.end.PipelineEnd.{PipelineEnd}
 use Rattle.kob_pipeline.specs.declared.end.WorkerEnd.{WorkerEnd}
-use Rattle.kob_pipeline.specs.declared.end.WorkerEnd.TheVariants.{Outbox, Inbox, Nothing, StoreRefused}
+use Rattle.kob_pipeline.specs.declared.end.WorkerEnd.TheVariants.{StoreRefused}
 use Rattle.kob_pipeline.specs.declared.plan.Plan.{Plan}
 use Rattle.kob_pipeline.specs.declared.worker.Worker.{Worker}
 use Rattle.kob_pipeline.specs.Counts.{workers_planned}
 use Rattle.kob_pipeline.specs.Pipelines.{IsEnd, IsPipeline}
-use Rattle.kob_pipeline.specs.Workers.{HasEnded, IsKeptByStore, IsLeft, IsWhole, Planned, planned_as, planned_workers}
 use Rattle.kob_pipeline.specs.Workers.Planned.{Serving, Consuming, Administering}
 
 -- how many workers there are
@@ -42,10 +33,8 @@ workers_counted plan workers same =
 -- who was not refused came to its end
 has_ended : (worker : Planned) (noted : Noted) (end : WorkerEnd) → IsLeft worker noted end → IsKeptByStore end
     → HasEnded worker noted end
-has_ended worker noted (Outbox left) is kept = is
-has_ended worker noted (Inbox left) is kept = is
-has_ended worker noted Nothing is kept = is
 has_ended worker noted StoreRefused is kept = absurd kept
+has_ended worker noted _ is kept = is
 
 all_ended : (workers : List Worker) (done : List (Done WorkerEnd)) → AllByRecursion IsWhole done
     → AllZip (λ w d. IsLeft (planned_as w) d.notes d.end) workers done

@@ -1,3 +1,4 @@
+mod Words
 mod Lists
 pub mod Once
 mod Sending

@@ -1,28 +1,9 @@
 -- What the outbox of a service keeps of the rows that were recorded, and a partition's log of those routed there.
-use Rattle.std.proofs.Common.{◌≡◌, ℕ, ◌+◌, ◌<◌, ◌≤◌, List, [], ◌∷◌, ◌++◌, true, false, refl, sym, ap, ◌∙◌, length, append_assoc, arith, length-append}
-use Rattle.std.specs.Prelude.{filter, nat_lt, bytes_eq, Contains, Option, Some, None}
-use Rattle.std.specs.List.{list_any, AllByRecursion, filter_map}
-use Rattle.std.proofs.lemmas.Bool.{ltb-true, lt-ltb, le-ltb}
-use Rattle.std.proofs.lemmas.List.{append-nil, map_push, map-append, length_push, length-map}
-use Rattle.kob_outbox.specs.Contents.{Contents, Event, empty}
-use Rattle.kob_outbox.specs.Events.{id_text, stored_event}
-use Rattle.kob_outbox.specs.Reading.{later_than, without_sent}
-use Rattle.kob_outbox.specs.Recording.{next_seq, after_record}
-use Rattle.kob_outbox.specs.declared.change.Change.{Change}
-use Rattle.kob_outbox.specs.declared.event.OutboxEvent.{OutboxEvent}
-use Rattle.kob_router.specs.Run.{IsRecordable}
-use Rattle.kob_pipeline.specs.Delivery.{ids_of, IsRecordOf, goes_to, routed_to, told_id}
+use Rattle.kob_pipeline.proofs.Words.{AllByRecursion, Batch, Change, Contains, Contains-append_left, Dispatching, Idem, IsGiven, IsRecordOf, IsRecordable, List, None, Option, OutboxEvent, Place, Some, [], after_record, ap, append-nil, append_assoc, arith, bytes_eq, empty, false, filter, filter_map, filter_map-append, firsts, fold-append, goes_to, id_text, ids_of, later_than, le-ltb, length, length-append, length-map, length_push, list_any, lt-ltb, ltb-true, map-append, map_push, nat_lt, next_seq, records_of, refl, routed_to, stored_event, sym, told_id, true, with_new, without_sent, ℕ, ◌++◌, ◌+◌, ◌<◌, ◌∙◌, ◌∷◌, ◌≡◌, ◌≤◌}
+use Rattle.kob_outbox.specs.Contents.{Contents, Event}
 use Rattle.kob_pipeline.proofs.Lists.{any_same, bytes_turned, filter_twice, filter_all, filter_last, all_last, all_weaker, any_last, filter_not_last, none_in_filter, same_bytes, same_here}
-use Rattle.std.proofs.lemmas.List.Elements.{filter_map-append, Contains-append_left}
-use Rattle.kob_names.specs.declared.batch.Batch.{Batch}
-use Rattle.kob_names.specs.declared.batch.Idem.{Idem}
 use Rattle.kob_names.specs.declared.record.Record.{Record}
-use Rattle.kob_partition.specs.Batches.{records_of}
-use Rattle.kob_router.specs.Dispatches.{Dispatching}
-use Rattle.kob_router.specs.declared.place.Place.{Place}
-use Rattle.kob_pipeline.specs.Firsts.{firsts, with_new}
-use Rattle.kob_pipeline.specs.View.{IsGiven}
-use Rattle.kob_pipeline.proofs.Once.{each_new_append}
+use Rattle.kob_partition.proofs.Keeping.{records_of_push}
 
 -- numbered from n + 1 on, and none with an id that was seen before
 abbrev pub InOrder : ℕ → List (List ℕ) → List Event → Type 0
@@ -121,16 +102,9 @@ kept_marked {c = c} {sent = sent} {rest = rest} {r = r} k =
 
 -- ---- what a partition's log holds of the rows that are routed there
 
-pub records_more : (log more : List Batch) → records_of (log ++ more) ≡ records_of log ++ records_of more
-records_more [] more = refl
-records_more (b ∷ log) more =
-    ap (λ (rs : List Record). b.records ++ rs) (records_more log more)
-    ∙ sym (append_assoc b.records (records_of log) (records_of more))
-
 records_last : (log : List Batch) (b : Batch) (x : Record) → b.records ≡ x ∷ []
     → records_of (log ++ b ∷ []) ≡ records_of log ++ x ∷ []
-records_last log b x e =
-    records_more log (b ∷ []) ∙ ap (λ xs. records_of log ++ xs) (append-nil b.records ∙ e)
+records_last log b x e = records_of_push log b ∙ ap (λ xs. records_of log ++ xs) e
 
 ids_last : (xs : List Record) (x : Record) (id : List ℕ) → told_id x ≡ Some id
     → filter_map told_id (xs ++ x ∷ []) ≡ filter_map told_id xs ++ id ∷ []
@@ -195,7 +169,7 @@ module _ (route : Dispatching) (q : Place) where
         delivered =
             ap (λ xs. firsts bytes_eq (filter_map told_id xs)) (records_last log b x is.single)
             ∙ ap (firsts bytes_eq) (ids_last (records_of log) x row.id is.tells)
-            ∙ each_new_append bytes_eq [] (filter_map told_id (records_of log)) (row.id ∷ [])
+            ∙ fold-append (with_new bytes_eq) [] (filter_map told_id (records_of log)) (row.id ∷ [])
             ∙ ap (λ xs. with_new bytes_eq xs row.id) k.delivered
             ∙ e;
         each =

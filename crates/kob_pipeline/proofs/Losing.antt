@@ -1,19 +1,8 @@
 -- One call at a desk, and those of a tick.
-use Rattle.std.proofs.Common.{◌≡◌, ℕ, ◌-◌, get_or, length, List, [], ◌∷◌, ◌++◌, Option, None, Some, refl, sym, ap, ◌∙◌, subst, arith}
-use Rattle.std.specs.Prelude.{IfNone, IfSome}
-use Rattle.std.proofs.lemmas.List.{append_cancel_left, append-nil, get_or_push, length-append}
-use Rattle.std.proofs.lemmas.List.Elements.{All-cons, All-nil}
+use Rattle.kob_pipeline.proofs.Words.{All-cons, All-nil, AreMade, AreNoted, AreServedByLoss, AtDesk, Call, IfNone, IfSome, IsEventOf, IsHeard, List, Loss, None, Option, Reply, Request, Served, Some, [], ap, append-nil, append_cancel_left, arith, event_at, get_or, get_or_push, length, length-append, losses_of, refl, served_by_notes, subst, sym, ℕ, ◌++◌, ◌-◌, ◌∙◌, ◌∷◌, ◌≡◌}
 use Rattle.kob_rights.specs.declared.event.Event.{Event}
-use Rattle.kob_rights.specs.declared.reply.Reply.{Reply}
-use Rattle.kob_rights.specs.declared.request.Request.{Request}
-use Rattle.kob_router.specs.Served.{Served}
-use Rattle.kob_router.specs.declared.line.Call.{Call}
-use Rattle.kob_shared.specs.Noted.{AtDesk, IsHeard, event_at}
 use Rattle.kob_shared.specs.declared.faults.CallFault.{CallFault}
 use Rattle.kob_shared.specs.declared.journal.Receipt.{Receipt}
-use Rattle.kob_pipeline.specs.Losses.{AreMade, AreNoted, AreServedByLoss, IsEventOf, losses_of}
-use Rattle.kob_pipeline.specs.Served.{served_by_notes}
-use Rattle.kob_lines.specs.declared.lossy.Loss.{Loss}
 use Rattle.kob_lines.specs.declared.lossy.Loss.TheVariants as lost
 
 -- one more event with its receipt

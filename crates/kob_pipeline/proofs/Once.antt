@@ -1,36 +1,39 @@
--- Lists with each element once, their filters and beginnings, and numbers in order.
-use Rattle.std.proofs.Common.{◌≡◌, ℕ, zero, suc, ◌+◌, ◌<◌, ◌≤◌, List, [], ◌∷◌, ◌++◌, Bool, true, false, refl, sym, ap, ◌∙◌, inl, inr, length, length-append, get_or, take, arith, append_assoc, true≢false}
-use Rattle.std.specs.Prelude.{Option, Some, None, filter, map, nat_eq, slice_get, bytes_eq}
-use Rattle.std.specs.List.{list_any, IsDistinct, filter_map, cons_option}
-use Rattle.std.proofs.lemmas.Bool.{cases_Bool, cases_eq, eq-eqb, ne_eqb, or_cases, or_from, or_left, or_right}
+-- Lists with each element at its first place, beginnings of lists, and numbers in order.
+use Rattle.kob_pipeline.proofs.Words.{Bool, IsPrefixOf, List, None, Option, Some, [], ap, append-nil, append_assoc, arith, bytes_eq, cases_Bool, cond, cons_option, drop, eqb-true, filter, filter-append, filter_map, filter_map-append, firsts, fold, fold-append, inl, inr, list_any, max, nat_eq, nat_lt, nat_tests, option_and_then, range_with_len, refl, slice_get, suc, sym, take, take-append-drop, true, with_new, zero, ℕ, ◌++◌, ◌+◌, ◌||◌, ◌∙◌, ◌∷◌, ◌≡◌, ◌≤◌}
+use Rattle.std.specs.List.{IsDistinct}
 use Rattle.std.proofs.lemmas.Cmp.{nat_list_eq_equiv}
-use Rattle.std.proofs.lemmas.List.{append-nil, get_or_append_left, get_or_at, get_or_push, length_push}
-use Rattle.std.proofs.lemmas.List.Elements.{filter-append}
 use Rattle.std.proofs.lemmas.List.Folds.{list_any-append}
 use Rattle.std.proofs.lemmas.Map.Keys.{IsDistinct-push}
 use Rattle.std.proofs.lemmas.Map.Views.{any-filter_same}
-use Rattle.kob_names.specs.declared.record.Record.{Record}
-use Rattle.kob_pipeline.specs.Firsts.{IsPrefixOf, firsts, numbers_below, with_each_new, with_new}
-use Rattle.kob_pipeline.proofs.Lists.{any_last, bytes_are, filter_last, filter_not_last, same_bytes}
+use Rattle.kob_pipeline.proofs.Lists.{bytes_are, same_bytes}
 
--- one after another
-pub each_new_append : {A : Type 0} (same : A → A → Bool) (xs ys zs : List A)
-    → with_each_new same xs (ys ++ zs) ≡ with_each_new same (with_each_new same xs ys) zs
-each_new_append same xs [] zs = refl
-each_new_append same xs (y ∷ ys) zs = each_new_append same (with_new same xs y) ys zs
+-- beginnings
+
+pub prefix_filter : {A : Type 0} (test : A → Bool) (xs ys : List A) → IsPrefixOf xs ys
+    → IsPrefixOf (filter test xs) (filter test ys)
+prefix_filter test xs ys p = (filter test p.0, sym (filter-append test xs p.0) ∙ ap (filter test) p.1)
+
+pub prefix_on : {A : Type 0} (xs ys zs : List A) → IsPrefixOf xs ys → IsPrefixOf ys zs → IsPrefixOf xs zs
+prefix_on xs ys zs p q = (p.0 ++ q.0, sym (append_assoc xs p.0 q.0) ∙ ap (λ ws. ws ++ q.0) p.1 ∙ q.1)
 
 -- only new elements are put behind
-pub each_new_more : {A : Type 0} (same : A → A → Bool) (xs ys : List A) → (rest : List A)
-    × (with_each_new same xs ys ≡ xs ++ rest)
-each_new_more same xs [] = ([], sym (append-nil xs))
-each_new_more same xs (y ∷ ys) =
+new_behind : {A : Type 0} (same : A → A → Bool) (xs ys : List A) → IsPrefixOf xs (fold (with_new same) xs ys)
+new_behind same xs [] = ([], append-nil xs)
+new_behind same xs (y ∷ ys) =
     elim (cases_Bool (list_any (same y) xs)) [
-      | inl old ↦ let r = each_new_more same xs ys in (r.0, rw old r.1)
-      | inr new ↦ let r = each_new_more same (xs ++ y ∷ []) ys in (y ∷ r.0, rw new r.1 ∙ append_assoc xs (y ∷ []) r.0)
+      | inl old ↦ rw old (new_behind same xs ys)
+      | inr new ↦
+          let (rest, is) = new_behind same (xs ++ y ∷ []) ys in
+          rw new (y ∷ rest, sym (append_assoc xs (y ∷ []) rest) ∙ is)
     ]
 
+-- the firsts of a front begin the firsts of all
+pub prefix_firsts : {A : Type 0} (same : A → A → Bool) (xs ys : List A)
+    → IsPrefixOf (firsts same xs) (firsts same (xs ++ ys))
+prefix_firsts same xs ys = rw (fold-append (with_new same) [] xs ys) (new_behind same (firsts same xs) ys)
+
 -- no element is there twice
-distinct_each : (xs ys : List (List ℕ)) → IsDistinct bytes_eq xs → IsDistinct bytes_eq (with_each_new bytes_eq xs ys)
+distinct_each : (xs ys : List (List ℕ)) → IsDistinct bytes_eq xs → IsDistinct bytes_eq (fold (with_new bytes_eq) xs ys)
 distinct_each xs [] d = d
 distinct_each xs (y ∷ ys) d =
     elim (cases_Bool (list_any (bytes_eq y) xs)) [
@@ -44,165 +47,133 @@ firsts_distinct xs = distinct_each [] xs tt
 
 -- filters of firsts
 
--- an element that passes is found among those that pass
-any_passing : (test : List ℕ → Bool) (y : List ℕ) → test y ≡ true → (xs : List (List ℕ))
-    → list_any (bytes_eq y) (filter test xs) ≡ list_any (bytes_eq y) xs
-any_passing test y h xs = any-filter_same (bytes_eq y) test true (λ x e. ap test (sym (bytes_are y x e)) ∙ h) xs
+filter_new : (test : List ℕ → Bool) (xs : List (List ℕ)) (y : List ℕ)
+    → filter test (with_new bytes_eq xs y) ≡ cond (test y) (with_new bytes_eq (filter test xs) y) (filter test xs)
+filter_new test xs y =
+    grind (
+      arith,
+      nat_tests,
+      any-filter_same (bytes_eq y) test (test y) (λ x e. ap test (sym (bytes_are y x e))) xs,
+      filter-append test xs (y ∷ []),
+      append-nil (filter test xs),
+    )
 
-filter_new : (test : List ℕ → Bool) (xs : List (List ℕ)) (y : List ℕ) → test y ≡ true
-    → filter test (with_new bytes_eq xs y) ≡ with_new bytes_eq (filter test xs) y
-filter_new test xs y h =
-    rw (any_passing test y h xs)
-    (elim (cases_Bool (list_any (bytes_eq y) xs)) [
-      | inl old ↦ rw old refl
-      | inr new ↦ rw new (filter_last test xs y h)
-    ])
-
-filter_not_new : (test : List ℕ → Bool) (xs : List (List ℕ)) (y : List ℕ) → test y ≡ false
-    → filter test (with_new bytes_eq xs y) ≡ filter test xs
-filter_not_new test xs y h =
-    elim (cases_Bool (list_any (bytes_eq y) xs)) [
-      | inl old ↦ rw old refl
-      | inr new ↦ rw new (filter_not_last test xs y h)
-    ]
-
-filter_each_new : (test : List ℕ → Bool) (xs ys : List (List ℕ))
-    → filter test (with_each_new bytes_eq xs ys) ≡ with_each_new bytes_eq (filter test xs) (filter test ys)
-filter_each_new test xs [] = refl
-filter_each_new test xs (y ∷ ys) =
-    let rest = filter_each_new test (with_new bytes_eq xs y) ys in
-    elim (cases_Bool (test y)) [
-      | inl on ↦
-          rest ∙ ap (λ zs. with_each_new bytes_eq zs (filter test ys)) (filter_new test xs y on) ∙ rw on refl
-      | inr off ↦
-          rest ∙ ap (λ zs. with_each_new bytes_eq zs (filter test ys)) (filter_not_new test xs y off) ∙ rw off refl
-    ]
+filter_each : (test : List ℕ → Bool) (xs ys : List (List ℕ))
+    → filter test (fold (with_new bytes_eq) xs ys) ≡ fold (with_new bytes_eq) (filter test xs) (filter test ys)
+filter_each test xs [] = refl
+filter_each test xs (y ∷ ys) =
+    filter_each test (with_new bytes_eq xs y) ys
+    ∙ ap (λ zs. fold (with_new bytes_eq) zs (filter test ys)) (filter_new test xs y)
+    ∙ grind (arith, nat_tests)
 
 pub filter_firsts : (test : List ℕ → Bool) (xs : List (List ℕ))
     → filter test (firsts bytes_eq xs) ≡ firsts bytes_eq (filter test xs)
-filter_firsts test xs = filter_each_new test [] xs
-
-pub filter_map_turned : {A B : Type 0} (f : A → B) (test : B → Bool) (xs : List A)
-    → filter test (map f xs) ≡ map f (filter (λ x. test (f x)) xs)
-filter_map_turned f test [] = refl
-filter_map_turned {A} {B} f test (x ∷ xs) =
-    elim (cases_Bool (test (f x))) [
-      | inl on ↦ rw on (ap (λ ys. f x ∷ ys) (filter_map_turned f test xs))
-      | inr off ↦ rw off (filter_map_turned f test xs)
-    ]
-
--- beginnings
-
-pub prefix_filter : {A : Type 0} (test : A → Bool) (xs ys : List A) → IsPrefixOf xs ys
-    → IsPrefixOf (filter test xs) (filter test ys)
-prefix_filter test xs ys p = (filter test p.0, sym (filter-append test xs p.0) ∙ ap (filter test) p.1)
-
-pub prefix_on : {A : Type 0} (xs ys zs : List A) → IsPrefixOf xs ys → IsPrefixOf ys zs → IsPrefixOf xs zs
-prefix_on xs ys zs p q = (p.0 ++ q.0, sym (append_assoc xs p.0 q.0) ∙ ap (λ ws. ws ++ q.0) p.1 ∙ q.1)
-
--- the firsts of a front begin the firsts of all
-pub prefix_firsts : {A : Type 0} (same : A → A → Bool) (xs ys : List A)
-    → IsPrefixOf (firsts same xs) (firsts same (xs ++ ys))
-prefix_firsts same xs ys =
-    let m = each_new_more same (firsts same xs) ys in
-    (m.0, sym (each_new_append same [] xs ys ∙ m.1))
+filter_firsts test = filter_each test []
 
 -- numbers
 
-pub length_numbers : (n : ℕ) → length (numbers_below n) ≡ n
-length_numbers zero = refl
-length_numbers (suc n) =
-    length_push (numbers_below n) n ∙ ap (λ (k : ℕ). k + 1) (length_numbers n) ∙ omega arith
+is_below : (a n k : ℕ) → list_any (nat_eq (a + k)) (range_with_len a n) ≡ nat_lt k n
+is_below a zero k = grind (arith, nat_tests)
+is_below a (suc n) zero = grind (arith, nat_tests)
+is_below a (suc n) (suc k) = let next : a + suc k ≡ a + 1 + k = omega arith in grind (arith, nat_tests, is_below (a + 1) n k, next)
 
-get_number : (m i : ℕ) → i < m → get_or (numbers_below m) i 0 ≡ i
-get_number zero i h = absurd (omega arith)
-get_number (suc m) i h =
-    elim (cases_eq i m) [
-      | inl e ↦ get_or_push (numbers_below m) m 0 i (length_numbers m ∙ sym e) ∙ sym e
-      | inr ne ↦
-          get_or_append_left (numbers_below m) (m ∷ []) 0 i (omega (arith, length_numbers m))
-          ∙ get_number m i (omega arith)
+range_more : (a n : ℕ) → range_with_len a n ++ (a + n) ∷ [] ≡ range_with_len a (n + 1)
+range_more a zero = grind arith
+range_more a (suc n) = grind (arith, range_more (a + 1) n)
+
+new_number : (bound n : ℕ) → n ≤ bound
+    → with_new nat_eq (range_with_len 0 bound) n ≡ range_with_len 0 (max bound (n + 1))
+new_number bound n within = grind (arith, nat_tests, is_below 0 bound n, range_more 0 bound)
+
+-- numbers that go on from one that is not beyond a bound, after those below it
+pub numbers_on : (bound position n : ℕ) → position ≤ bound
+    → fold (with_new nat_eq) (range_with_len 0 bound) (range_with_len position n)
+    ≡ range_with_len 0 (max bound (position + n))
+numbers_on bound position zero within = ap (range_with_len 0) (omega arith)
+numbers_on bound position (suc n) within =
+    ap (λ ks. fold (with_new nat_eq) ks (range_with_len (position + 1) n)) (new_number bound position within)
+    ∙ numbers_on (max bound (position + 1)) (position + 1) n (omega arith)
+    ∙ ap (range_with_len 0) (omega arith)
+
+-- what keys tell, each at its first place
+
+any_each : (x : List ℕ) (xs ys : List (List ℕ))
+    → list_any (bytes_eq x) (fold (with_new bytes_eq) xs ys) ≡ (list_any (bytes_eq x) xs || list_any (bytes_eq x) ys)
+any_each x xs [] = grind (arith, nat_tests)
+any_each x xs (y ∷ ys) =
+    any_each x (with_new bytes_eq xs y) ys
+    ∙ grind (arith, nat_tests, list_any-append (bytes_eq x) xs (y ∷ []), bytes_are x y)
+
+any_option : (x : List ℕ) (o : Option (List ℕ)) (xs : List (List ℕ)) → list_any (bytes_eq x) xs ≡ true
+    → list_any (bytes_eq x) (cons_option o xs) ≡ true
+any_option x None xs h = h
+any_option x (Some y) xs h = grind (arith, nat_tests)
+
+-- what one of some keys tells is told
+any_told : (tell : ℕ → Option (List ℕ)) (ks : List ℕ) (k : ℕ) (id : List ℕ) → list_any (nat_eq k) ks ≡ true
+    → tell k ≡ Some id → list_any (bytes_eq id) (filter_map tell ks) ≡ true
+any_told tell [] k id is e = cc
+any_told tell (x ∷ ks) k id is e =
+    elim (cases_Bool (nat_eq k x)) [
+      | inl same ↦ let e' = ap tell (sym (eqb-true k x same)) ∙ e in grind (arith, nat_tests, e', same_bytes id)
+      | inr apart ↦ any_option id (tell x) (filter_map tell ks) (grind (arith, nat_tests, any_told tell ks k id, apart))
     ]
 
--- the number after n numbers
-pub next_number : (n m k : ℕ) (rest : List ℕ) → numbers_below n ++ k ∷ rest ≡ numbers_below m → k ≡ n
-next_number n m k rest e =
-    let lengths : n + suc (length rest) ≡ m =
-    ap (λ (x : ℕ). x + suc (length rest)) (sym (length_numbers n))
-    ∙ sym (length-append (numbers_below n) (k ∷ rest))
-    ∙ ap length e
-    ∙ length_numbers m in
-    sym (get_or_at (numbers_below n) k rest 0 n (length_numbers n))
-    ∙ ap (λ (xs : List ℕ). get_or xs n 0) e
-    ∙ get_number m n (omega arith)
+told_again : (tell : ℕ → Option (List ℕ)) (ks : List ℕ) (k : ℕ) (o : Option (List ℕ)) → list_any (nat_eq k) ks ≡ true
+    → tell k ≡ o
+    → fold (with_new bytes_eq) (firsts bytes_eq (filter_map tell ks)) (cons_option o []) ≡ firsts bytes_eq (filter_map tell ks)
+told_again tell ks k None is e = refl
+told_again tell ks k (Some id) is e = rw (any_each id [] (filter_map tell ks) ∙ any_told tell ks k id is e) refl
 
--- a number is among those below a bound where it is below
-below_is_in : (n k : ℕ) → k < n → list_any (nat_eq k) (numbers_below n) ≡ true
-below_is_in zero k h = absurd (omega arith)
-below_is_in (suc n) k h =
-    elim (cases_eq k n) [
-      | inl e ↦ any_last (nat_eq k) (numbers_below n) n (eq-eqb k n e)
-      | inr ne ↦
-          list_any-append (nat_eq k) (numbers_below n) (n ∷ []) ∙ or_left _ _ (below_is_in n k (omega arith))
+one_then_all : (o : Option (List ℕ)) (xs ids : List (List ℕ))
+    → fold (with_new bytes_eq) xs (cons_option o ids)
+    ≡ fold (with_new bytes_eq) (fold (with_new bytes_eq) xs (cons_option o [])) ids
+one_then_all None xs ids = refl
+one_then_all (Some id) xs ids = refl
+
+told_by_each : (tell : ℕ → Option (List ℕ)) (ks more : List ℕ)
+    → fold (with_new bytes_eq) (firsts bytes_eq (filter_map tell ks)) (filter_map tell more)
+    ≡ firsts bytes_eq (filter_map tell (fold (with_new nat_eq) ks more))
+told_by_each tell ks [] = refl
+told_by_each tell ks (k ∷ more) =
+    let told : List (List ℕ) = firsts bytes_eq (filter_map tell ks) in
+    let one : List (List ℕ) = cons_option (tell k) [] in
+    one_then_all (tell k) told (filter_map tell more)
+    ∙ elim (cases_Bool (list_any (nat_eq k) ks)) [
+      | inl old ↦ rw old (rw (told_again tell ks k (tell k) old refl) (told_by_each tell ks more))
+      | inr new ↦
+          let longer : firsts bytes_eq (filter_map tell (ks ++ k ∷ [])) ≡ fold (with_new bytes_eq) told one =
+          ap (firsts bytes_eq) (filter_map-append tell ks (k ∷ []))
+          ∙ fold-append (with_new bytes_eq) [] (filter_map tell ks) one in
+          rw new (rw (← longer) (told_by_each tell (ks ++ k ∷ []) more))
     ]
 
-beyond_is_out : (n k : ℕ) → n ≤ k → list_any (nat_eq k) (numbers_below n) ≡ false
-beyond_is_out zero k h = refl
-beyond_is_out (suc n) k h =
-    list_any-append (nat_eq k) (numbers_below n) (n ∷ [])
-    ∙ or_from _ _ (beyond_is_out n k (omega arith)) (or_from (nat_eq k n) false (ne_eqb k n (λ e. omega arith)) refl)
+pub told_by_firsts : (tell : ℕ → Option (List ℕ)) (ks : List ℕ)
+    → firsts bytes_eq (filter_map tell ks) ≡ firsts bytes_eq (filter_map tell (firsts nat_eq ks))
+told_by_firsts tell ks = told_by_each tell [] ks
 
-pub numbers_again : (n k : ℕ) → k < n → with_new nat_eq (numbers_below n) k ≡ numbers_below n
-numbers_again n k h = rw (below_is_in n k h) refl
+module _ {A : Type 0} (tell : A → Option (List ℕ)) where
+  -- what the element at a place tells
+  abbrev pub told_at : List A → ℕ → Option (List ℕ)
+  told_at xs k = option_and_then tell (slice_get xs k)
 
-pub numbers_beyond : (n k : ℕ) → n ≤ k → with_new nat_eq (numbers_below n) k ≡ numbers_below n ++ k ∷ []
-numbers_beyond n k h = rw (beyond_is_out n k h) refl
+  told_after : (x : A) (xs : List A) (a n : ℕ)
+      → filter_map (told_at (x ∷ xs)) (range_with_len (suc a) n) ≡ filter_map (told_at xs) (range_with_len a n)
+  told_after x xs a zero = refl
+  told_after x xs a (suc n) = ap (cons_option (told_at xs a)) (let next : suc a + 1 ≡ suc (a + 1) = omega arith in rw next (told_after x xs (a + 1) n))
 
--- fronts of records
+  none_told : (a n : ℕ) → filter_map (told_at []) (range_with_len a n) ≡ []
+  none_told a zero = refl
+  none_told a (suc n) = none_told (a + 1) n
 
-pub take_one_more : (records : List Record) (n : ℕ) (x : Record) → slice_get records n ≡ Some x
-    → take (suc n) records ≡ take n records ++ x ∷ []
-take_one_more [] n x h = cc
-take_one_more (r ∷ rs) zero x h = let e : r ≡ x = cc in ap (λ (y : Record). y ∷ []) e
-take_one_more (r ∷ rs) (suc n) x h = ap (λ (ys : List Record). r ∷ ys) (take_one_more rs n x h)
+  -- the elements of a front tell what their places tell
+  pub told_by_front : (xs : List A) (n : ℕ) → filter_map (told_at xs) (range_with_len 0 n) ≡ filter_map tell (take n xs)
+  told_by_front xs zero = refl
+  told_by_front [] (suc n) = none_told 0 (suc n)
+  told_by_front (x ∷ xs) (suc n) = ap (cons_option (tell x)) (told_after x xs 0 n ∙ told_by_front xs n)
 
-any_behind : (id : List ℕ) (o : Option (List ℕ)) (xs : List (List ℕ)) → list_any (bytes_eq id) xs ≡ true
-    → list_any (bytes_eq id) (cons_option o xs) ≡ true
-any_behind id None xs h = h
-any_behind id (Some y) xs h = or_right (bytes_eq id y) (list_any (bytes_eq id) xs) h
-
--- a record of a front tells one of the front's ids
-pub front_has : (told : Record → Option (List ℕ)) (records : List Record) (n k : ℕ) (x : Record) (id : List ℕ) → k < n
-    → slice_get records k ≡ Some x → told x ≡ Some id → list_any (bytes_eq id) (filter_map told (take n records)) ≡ true
-front_has told [] n k x id l at e = cc
-front_has told (r ∷ rs) zero k x id l at e = absurd (omega arith)
-front_has told (r ∷ rs) (suc n) zero x id l at e =
-    let same : r ≡ x = cc in
-    let it : told r ≡ Some id = ap told same ∙ e in
-    rw it (or_left (bytes_eq id id) (list_any (bytes_eq id) (filter_map told (take n rs))) (same_bytes id))
-front_has told (r ∷ rs) (suc n) (suc k) x id l at e =
-    any_behind id (told r) (filter_map told (take n rs)) (front_has told rs n k x id (omega arith) at e)
-
--- what is there stays, and what is in a list is among its firsts
-
-any_stays : (x : List ℕ) (xs ys : List (List ℕ)) → list_any (bytes_eq x) xs ≡ true
-    → list_any (bytes_eq x) (with_each_new bytes_eq xs ys) ≡ true
-any_stays x xs ys h =
-    let m = each_new_more bytes_eq xs ys in
-    ap (list_any (bytes_eq x)) m.1 ∙ list_any-append (bytes_eq x) xs m.0 ∙ or_left _ _ h
-
-is_there_then : (x : List ℕ) (xs : List (List ℕ)) → list_any (bytes_eq x) (with_new bytes_eq xs x) ≡ true
-is_there_then x xs =
-    elim (cases_Bool (list_any (bytes_eq x) xs)) [
-      | inl old ↦ rw old old
-      | inr new ↦ rw new (any_last (bytes_eq x) xs x (same_bytes x))
-    ]
-
-pub any_first : (x : List ℕ) (xs ys : List (List ℕ)) → list_any (bytes_eq x) ys ≡ true
-    → list_any (bytes_eq x) (with_each_new bytes_eq xs ys) ≡ true
-any_first x xs [] h = absurd (true≢false (sym h))
-any_first x xs (y ∷ ys) h =
-    elim (or_cases (bytes_eq x y) (list_any (bytes_eq x) ys) h) [
-      | inl e ↦ any_stays x (with_new bytes_eq xs y) ys (rw (← bytes_are x y e) (is_there_then x xs))
-      | inr rest ↦ any_first x (with_new bytes_eq xs y) ys rest
-    ]
+  pub front_begins : (xs : List A) (n : ℕ)
+      → IsPrefixOf (firsts bytes_eq (filter_map tell (take n xs))) (firsts bytes_eq (filter_map tell xs))
+  front_begins xs n =
+      let whole = ap (filter_map tell) (sym (take-append-drop n xs)) ∙ filter_map-append tell (take n xs) (drop n xs) in
+      rw whole (prefix_firsts bytes_eq (filter_map tell (take n xs)) (filter_map tell (drop n xs)))

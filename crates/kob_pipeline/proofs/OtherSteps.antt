@@ -1,19 +1,5 @@
 -- What an entry leaves of one partition, and of what a group committed there.
-use Rattle.std.proofs.Common.{◌≡◌, ◌⊎◌, ℕ, ◌≤◌, List, [], ◌∷◌, ◌++◌, Bool, ◌&&◌, refl, sym, ap, ◌∙◌, inl, inr, length, append-nil, arith}
-use Rattle.std.specs.Prelude.{None, Some, bytes_eq}
-use Rattle.std.proofs.lemmas.Bool.{and_parts, cases_Bool, cond-false, cond-true}
-use Rattle.kob_names.specs.declared.batch.Batch.{Batch}
-use Rattle.kob_producers.specs.declared.judge.Judgement.{Judgement}
-use Rattle.kob_producers.specs.declared.judge.Judgement.TheVariants.{Next, OldEpoch, OutOfOrder, Repeat}
-use Rattle.kob_rights.specs.declared.reply.Reply.{Reply}
-use Rattle.kob_rights.specs.declared.reply.Reply.TheVariants.{Denied, Done, Refused}
-use Rattle.kob_rights.specs.declared.request.Request.{Request}
-use Rattle.kob_rights.specs.declared.request.Request.TheVariants.{DeleteGroups, DeleteTopics, Fetch, InitProducerId, OffsetCommit, OffsetFetch, Produce}
-use Rattle.kob_router.specs.Places.{same_place}
-use Rattle.kob_router.specs.declared.place.Place.{Place}
-use Rattle.kob_inbox.specs.Run.{place_at}
-use Rattle.kob_pipeline.specs.Premises.{Commits, Deletes, Produces}
-use Rattle.kob_pipeline.specs.View.{Accepts, IsSameView, Step, View, judged_in, with_batch}
+use Rattle.kob_pipeline.proofs.Words.{Accepts, Batch, Bool, Commits, DeleteGroups, DeleteTopics, Deletes, Denied, Done, Fetch, InitProducerId, IsSameView, Judgement, List, Next, None, OffsetCommit, OffsetFetch, OldEpoch, OutOfOrder, Place, Produce, Produces, Refused, Repeat, Reply, Request, Some, Step, View, [], and_parts, ap, append-nil, arith, bytes_eq, cases_Bool, cases_cond, cond, cond-false, inl, inr, judged_in, length, place_at, refl, same_place, sym, with_batch, ℕ, ◌&&◌, ◌++◌, ◌∙◌, ◌∷◌, ◌≡◌, ◌≤◌, ◌⊎◌}
 use Rattle.kob_pipeline.proofs.Lists.{bytes_are, place_cases, places_are, same_here}
 
 module _ (group : List ℕ) (q : Place) where
@@ -23,7 +9,7 @@ module _ (group : List ℕ) (q : Place) where
     pub log : w.log q ≡ v.log q ++ more
     pub grows : (Produces q.topic request reply → ⊥) → more ≡ []
     pub commit : (Commits group q.topic request reply → ⊥)
-        → (w.committed group q ≡ v.committed group q) ⊎ (w.committed group q ≡ None)
+        → (w.committed group q ≡ None) ⊎ (w.committed group q ≡ v.committed group q)
     pub later : v.next_producer ≤ w.next_producer
 
   -- the same by what the new view shows
@@ -41,13 +27,13 @@ module _ (group : List ℕ) (q : Place) where
   -- nothing is appended there
   no_batch : {v x : View} {request : Request} {reply : Reply} → x.log q ≡ v.log q
       → ((Commits group q.topic request reply → ⊥)
-      → (x.committed group q ≡ v.committed group q) ⊎ (x.committed group q ≡ None))
+      → (x.committed group q ≡ None) ⊎ (x.committed group q ≡ v.committed group q))
       → v.next_producer ≤ x.next_producer → Leaves v x request reply
   no_batch {v} log commit later =
       record { more = []; log = log ∙ sym (append-nil (v.log q)); grows = λ _. refl; commit = commit; later = later }
 
   leaves_all : {v w : View} {request : Request} {reply : Reply} → IsSameView w v → Leaves v w request reply
-  leaves_all same = leaves_as same (no_batch refl (λ _. inl refl) (omega arith))
+  leaves_all same = leaves_as same (no_batch refl (λ _. inr refl) (omega arith))
 
   appended : (v : View) (place : Place) (b : Batch) {request : Request} {reply : Reply}
       → (place.topic ≡ q.topic → Produces q.topic request reply)
@@ -59,11 +45,11 @@ module _ (group : List ℕ) (q : Place) where
               more = b ∷ [];
               log = rw (is, same_here q) refl;
               grows = λ no. absurd (no (produces (ap (λ (p : Place). p.topic) is)));
-              commit = λ _. inl refl;
+              commit = λ _. inr refl;
               later = omega arith;
             }
         | inr apart ↦
-            no_batch (cond-false (same_place place q) (v.log q ++ b ∷ []) (v.log q) apart) (λ _. inl refl)
+            no_batch (cond-false (same_place place q) (v.log q ++ b ∷ []) (v.log q) apart) (λ _. inr refl)
             (omega arith)
       ]
 
@@ -78,7 +64,7 @@ module _ (group : List ℕ) (q : Place) where
       → Step v request reply w → Leaves v w request reply
   leaves v w request (Denied code verdicts) kept step = leaves_all step
   leaves v w request (Refused code reason) kept step = leaves_all step
-  leaves v w InitProducerId (Done body) kept step = leaves_as step.1 (no_batch refl (λ _. inl refl) (omega arith))
+  leaves v w InitProducerId (Done body) kept step = leaves_as step.1 (no_batch refl (λ _. inr refl) (omega arith))
   leaves v w (Produce asked) (Done body) kept step =
       let p : Place = place_at asked.topic asked.partition in
       accepted p asked.batch (judged_in (v.log p) asked.batch.idem (length asked.batch.records)) (λ is. is) step.1
@@ -93,21 +79,19 @@ module _ (group : List ℕ) (q : Place) where
         | inl on ↦
             let parts = and_parts (bytes_eq asked.group group) (same_place p q) on in
             absurd (no (bytes_are asked.group group parts.0, ap (λ (x : Place). x.topic) (places_are p q parts.1)))
-        | inr off ↦ inl (cond-false is (Some asked.offset) (v.committed group q) off)
+        | inr off ↦ inr (cond-false is (Some asked.offset) (v.committed group q) off)
       ]) (omega arith))
   leaves v w (DeleteGroups asked) (Done body) kept step =
       leaves_as step
       (no_batch refl
-      (λ _. elim (cases_Bool (bytes_eq asked.group group)) [
-        | inl on ↦ inr (cond-true (bytes_eq asked.group group) None (v.committed group q) on)
-        | inr off ↦ inl (cond-false (bytes_eq asked.group group) None (v.committed group q) off)
-      ]) (omega arith))
+      (λ _. cases_cond (bytes_eq asked.group group) None (v.committed group q)
+      (cond (bytes_eq asked.group group) None (v.committed group q)) refl) (omega arith))
   leaves v w (DeleteTopics asked) (Done body) kept step =
       elim (cases_Bool (bytes_eq asked.name q.topic)) [
         | inl on ↦ absurd (kept (bytes_are asked.name q.topic on))
         | inr off ↦
             leaves_as step
             (no_batch (cond-false (bytes_eq asked.name q.topic) [] (v.log q) off)
-            (λ _. inl (cond-false (bytes_eq asked.name q.topic) None (v.committed group q) off)) (omega arith))
+            (λ _. inr (cond-false (bytes_eq asked.name q.topic) None (v.committed group q) off)) (omega arith))
       ]
   leaves v w _ (Done body) kept step = leaves_all step

@@ -1,8 +1,7 @@
 -- The faults of a pipeline.
-use Rattle.std.proofs.Common.{◌≡◌, ℕ, zero, suc, ◌≤◌, ◌<◌, arith, refl}
+use Rattle.kob_pipeline.proofs.Words.{IsFullOnlyPast, IsNamedWithin, arith, refl, suc, zero, ℕ, ◌<◌, ◌≡◌, ◌≤◌}
 use Rattle.kob_shared.specs.declared.fleet_stop.FleetStop.{FleetStop}
 use Rattle.kob_shared.specs.declared.fleet_stop.FleetStop.TheVariants.{NotBegun, Stale, Full}
-use Rattle.kob_shared.specs.Runs.{IsFullOnlyPast, IsNamedWithin}
 use Rattle.kob_pipeline.specs.Faults.{IsLater, NamesWorkerWithin, as_fault}
 
 pub later_stopped : (s : FleetStop) → IsLater (as_fault s)

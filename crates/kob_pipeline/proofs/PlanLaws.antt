@@ -1,39 +1,20 @@
 -- The laws of delivery, of a pipeline's plan and what it leaves.
-use Rattle.std.proofs.Common.{◌≡◌, ◌<◌, ◌+◌, ℕ, zero, suc, Bool, true, false, cond, List, [], ◌∷◌, ◌++◌, Some, option_map, length, map, nat_eq, slice_get, slice_index_or, refl, ap, sym, ◌∙◌, arith, subst, inl, inr}
-use Rattle.std.proofs.lemmas.List.{get_or-map, length-map}
-use Rattle.std.proofs.lemmas.Option.{get_or_from_slice_get, slice_get-map, slice_get_within}
+use Rattle.kob_pipeline.proofs.Words.{AllByRecursion, AllZip, ArePrivate, Contains, Entry, HasEnded, Intake, IsDelivered, IsHistory, IsNeverDeleted, IsServiceRun, IsSoleCommitter, IsSoleProducer, List, Noted, Place, Planned, ReachesInOrder, Served, Some, [], ap, arith, dispatch_of, enumerate_from, events_in, get_or-map, get_or_from_slice_get, inl, inr, length, length-map, map, nat_tests, opening_view, option_map, planned_workers, refl, served_by_notes, served_in, served_to, slice_get, slice_get-map, slice_get_within, slice_index_or, subst, suc, sym, told_in, zero, ℕ, ◌++◌, ◌+◌, ◌<◌, ◌∙◌, ◌∷◌, ◌≡◌}
 use Rattle.kob_rights.specs.declared.event.Event.{Event as Asked}
 use Rattle.kob_shared.specs.Fleets.{IsKept, claims, mine_from}
-use Rattle.kob_shared.specs.Noted.{Noted}
-use Rattle.kob_shared.specs.Runs.{events_in, told_in}
-use Rattle.kob_shared.specs.declared.journal.Entry.{Entry}
 use Rattle.kob_shared.specs.declared.journal.Receipt.{Receipt}
-use Rattle.kob_router.specs.Served.{Served}
-use Rattle.kob_pipeline.specs.Served.{served_by_notes, served_in, served_to}
 use Rattle.kob_shared.specs.declared.work.Done.{Done}
 use Rattle.kob_pipeline.specs.Consumers.{IsConsumption}
-use Rattle.kob_pipeline.specs.Services.{IsServiceRun}
-use Rattle.kob_pipeline.specs.Workers.{HasEnded, Planned, planned_workers}
 use Rattle.kob_pipeline.specs.Workers.Planned.{Administering, Consuming, Serving}
 use Rattle.std.proofs.lemmas.Simd.{map-map}
-use Rattle.std.specs.List.{AllByRecursion, AllZip, enumerate_from}
-use Rattle.std.specs.Prelude.{Contains}
 use Rattle.kob_broker.specs.Change.{state_of}
 use Rattle.kob_outbox.specs.Contents.{Event}
-use Rattle.kob_router.specs.Dispatches.{dispatch_of}
-use Rattle.kob_router.specs.declared.place.Place.{Place}
 use Rattle.kob_inbox.proofs.Running.{run_takes_in}
-use Rattle.kob_inbox.specs.Contents.{Intake}
 use Rattle.kob_inbox.specs.Rows.{placed_intake}
 use Rattle.kob_pipeline.specs.BrokerView.{view_after}
-use Rattle.kob_pipeline.specs.Delivery.{IsDelivered}
-use Rattle.kob_pipeline.specs.Parts.{IsConsumerPart, IsServicePart}
 use Rattle.kob_pipeline.specs.Pipelines.{HasDone, HasLeft, IsPipeline, consumer_number, consumer_place, notes_in, service_number}
 use Rattle.kob_pipeline.specs.PlanEnds.{TakesInOrder, inbox_in, outbox_in, records_at}
 use Rattle.kob_pipeline.specs.PlanRows.{rows_of_service}
-use Rattle.kob_pipeline.specs.Premises.{ArePrivate, IsNeverDeleted, IsSoleCommitter, IsSoleProducer}
-use Rattle.kob_pipeline.specs.Reaching.{ReachesInOrder}
-use Rattle.kob_pipeline.specs.View.{IsHistory, opening_view}
 use Rattle.kob_pipeline.specs.Waiting.{IsWaitingOrSent}
 use Rattle.kob_pipeline.specs.declared.end.InboxEnd.{InboxEnd}
 use Rattle.kob_pipeline.specs.declared.end.OutboxEnd.{OutboxEnd}
@@ -62,15 +43,7 @@ served_of entries = map (λ (x : ℕ × Entry). served_in x.1) entries
 of_journal : (worker place : ℕ) (journal : List Entry) → served_of (mine_from place worker journal)
     ≡ served_to worker journal
 of_journal worker place [] = refl
-of_journal worker place (e ∷ journal) = by (of_journal worker (place + 1) journal) (nat_eq e.worker worker)
-  where
-    by : served_of (mine_from (place + 1) worker journal) ≡ served_to worker journal
-        → (own : Bool)
-        → served_of
-        (cond own ((place, e) ∷ mine_from (place + 1) worker journal) (mine_from (place + 1) worker journal))
-        ≡ cond own (served_in e ∷ served_to worker journal) (served_to worker journal)
-    by rest true = ap (λ served. served_in e ∷ served) rest
-    by rest false = rest
+of_journal worker place (e ∷ journal) = grind (arith, nat_tests, of_journal worker (place + 1) journal)
 
 of_claims : (worker : ℕ) (events : List Asked) (told : List Receipt) → served_of (claims worker events told)
     ≡ served_by_notes events told
@@ -137,90 +110,70 @@ module _ (plan : Plan) (end : PipelineEnd) (of : IsPipeline plan end) where
   history : IsHistory opening_view end.journal (view_after plan.settings end.journal)
   history = legal_is_history plan.settings end.journal (state_of end.broker) of.legal
 
-  -- what the worker at a place noted and left, and what the journal says that it was served
-  record At (place : ℕ) (worker : Planned) : Type 0 where
-    noted : Noted
-    left : WorkerEnd
-    done : HasDone end place noted left
-    ended : HasEnded worker noted left
-    served : served_by_notes noted.events noted.told ≡ served_to (place + 1) end.journal
+  -- what a worker of a kind noted and left, and what the journal says that it was served
+  record Ended {A B : Type 0} (ends : B → WorkerEnd) (Run : A → Noted → B → Type 0) (place : ℕ) (worker : A) : Type 0
+    where
+      noted : Noted
+      left : B
+      done : HasDone end place noted (ends left)
+      run : Run worker noted left
+      served : served_by_notes noted.events noted.told ≡ served_to (place + 1) end.journal
 
-  at_place : (place : ℕ) (worker : Planned) → slice_get (planned_workers plan) place ≡ Some worker → At place worker
-  at_place place worker there =
-      let at = zip_at (λ w d. HasEnded w d.notes d.end) (planned_workers plan) end.done.items place worker of.done there in
+  ended_at : {A B : Type 0} {ends : B → WorkerEnd} {Run : A → Noted → B → Type 0} (planned : A → Planned)
+      → ((worker : A) (noted : Noted) (left : WorkerEnd) → HasEnded (planned worker) noted left
+      → (l : B) × (left ≡ ends l) × Run worker noted l)
+      → (place : ℕ) (worker : A) → slice_get (planned_workers plan) place ≡ Some (planned worker)
+      → Ended ends Run place worker
+  ended_at planned how place worker there =
+      let (d, at, is) =
+      zip_at (λ w d. HasEnded w d.notes d.end) (planned_workers plan) end.done.items place (planned worker) of.done there
+      in
+      let (left, same, run) = how worker d.notes d.end is in
       let next : place + 1 ≡ suc place = omega arith in
       record {
-        noted = at.0.notes;
-        left = at.0.end;
-        done = at.1;
-        ended = at.2;
+        noted = d.notes;
+        left = left;
+        done = at ∙ ap (λ (e : WorkerEnd). Some (record { notes = d.notes; end = e })) same;
+        run = run;
         served =
-            served_alike (notes_in end) end.journal (place + 1) at.0.notes of.kept
+            served_alike (notes_in end) end.journal (place + 1) d.notes of.kept
             (ap (slice_get (notes_in end)) next
-            ∙ map_at (λ (d : Done WorkerEnd). d.notes) end.done.items place at.0 at.1);
+            ∙ map_at (λ (x : Done WorkerEnd). x.notes) end.done.items place d at);
       }
 
-  -- what a service noted and left, and its part in the journal
-  record Serves (k : ℕ) (service : Service) : Type 0 where
-    noted : Noted
-    left : OutboxEnd
-    done : HasDone end k noted (Outbox left)
-    run : IsServiceRun service noted left
-    part : IsServicePart service.target (service_number plan k) end.journal run.moves run.state
+  abbrev Serves : ℕ → Service → Type 0
+  Serves = Ended Outbox IsServiceRun
 
   serves : (k : ℕ) (service : Service) → slice_get plan.services.items k ≡ Some service → Serves k service
-  serves k service there = by at.left at.done at.ended
+  serves k service there =
+      ended_at Serving how k service
+      (get_front (map Serving plan.services.items)
+      (map Consuming plan.consumers.items ++ map Administering plan.administrators.items) k (Serving service)
+      (map_at Serving plan.services.items k service there))
     where
-      at : At k (Serving service)
-      at =
-          at_place k (Serving service)
-          (get_front (map Serving plan.services.items)
-          (map Consuming plan.consumers.items ++ map Administering plan.administrators.items) k (Serving service)
-          (map_at Serving plan.services.items k service there))
+      how : (service : Service) (noted : Noted) (left : WorkerEnd) → HasEnded (Serving service) noted left
+          → (l : OutboxEnd) × (left ≡ Outbox l) × IsServiceRun service noted l
+      how service noted (Outbox l) run = (l, refl, run)
+      how service noted _ run = absurd run
 
-      by : (left : WorkerEnd) → HasDone end k at.noted left → HasEnded (Serving service) at.noted left
-          → Serves k service
-      by (Outbox left) done run = record {
-        noted = at.noted;
-        left = left;
-        done = done;
-        run = run;
-        part = record { run = run.run; served = rw (← at.served) run.served };
-      }
-      by _ done run = absurd run
-
-  -- what a consumer noted and left, and its part in the journal
-  record Consumes (k : ℕ) (consumer : ConsumerPlan) : Type 0 where
-    noted : Noted
-    left : InboxEnd
-    done : HasDone end (consumer_place plan k) noted (Inbox left)
-    run : IsConsumption consumer noted left
-    part : IsConsumerPart consumer.subscription (consumer_number plan k) end.journal run.moves run.state
+  abbrev Consumes : ℕ → ConsumerPlan → Type 0
+  Consumes k = Ended Inbox IsConsumption (consumer_place plan k)
 
   consumes : (k : ℕ) (consumer : ConsumerPlan) → slice_get plan.consumers.items k ≡ Some consumer
       → Consumes k consumer
-  consumes k consumer there = by at.left at.done at.ended
+  consumes k consumer there =
+      let front = map Serving plan.services.items in
+      let own = map Consuming plan.consumers.items in
+      let rest = map Administering plan.administrators.items in
+      ended_at Consuming how (consumer_place plan k) consumer
+      (get_behind front (own ++ rest) (consumer_place plan k) k
+      (omega (arith, length-map plan.services.items Serving))
+      ∙ get_front own rest k (Consuming consumer) (map_at Consuming plan.consumers.items k consumer there))
     where
-      at : At (consumer_place plan k) (Consuming consumer)
-      at =
-          let front = map Serving plan.services.items in
-          let own = map Consuming plan.consumers.items in
-          let rest = map Administering plan.administrators.items in
-          at_place (consumer_place plan k) (Consuming consumer)
-          (get_behind front (own ++ rest) (consumer_place plan k) k
-          (omega (arith, length-map plan.services.items Serving))
-          ∙ get_front own rest k (Consuming consumer) (map_at Consuming plan.consumers.items k consumer there))
-
-      by : (left : WorkerEnd) → HasDone end (consumer_place plan k) at.noted left
-          → HasEnded (Consuming consumer) at.noted left → Consumes k consumer
-      by (Inbox left) done run = record {
-        noted = at.noted;
-        left = left;
-        done = done;
-        run = run;
-        part = record { run = run.run; served = rw (← at.served) run.served };
-      }
-      by _ done run = absurd run
+      how : (consumer : ConsumerPlan) (noted : Noted) (left : WorkerEnd) → HasEnded (Consuming consumer) noted left
+          → (l : InboxEnd) × (left ≡ Inbox l) × IsConsumption consumer noted l
+      how consumer noted (Inbox l) run = (l, refl, run)
+      how consumer noted _ run = absurd run
 
   its_rows : (k : ℕ) (service : Service) (by : Serves k service)
       → routers.events_of outboxes.empty by.run.moves ≡ rows_of_service service
@@ -235,8 +188,8 @@ module _ (plan : Plan) (end : PipelineEnd) (of : IsPipeline plan end) where
       let by : Serves k service = serves k service there in
       rw (← its_rows k service by)
       (is_delivered (dispatch_of service.target) place (target_tells service.target) (service_number plan k)
-      (view_after plan.settings end.journal) end.journal by.run.moves by.run.state history by.part.run by.part.served
-      sole never)
+      (view_after plan.settings end.journal) end.journal by.run.moves by.run.state history by.run.run
+      (rw (← by.served) by.run.served) sole never)
 
   pub is_none_lost : (k : ℕ) (service : Service) (left : OutboxEnd) → slice_get plan.services.items k ≡ Some service
       → HasLeft end k (Outbox left)
@@ -264,8 +217,8 @@ module _ (plan : Plan) (end : PipelineEnd) (of : IsPipeline plan end) where
         })
         | inr sent ↦ inr sent
       ]) (routers.events_of outboxes.empty by.run.moves)
-      (all_wait_or_sent route (service_number plan k) end.journal by.run.moves by.run.state by.part.run
-      by.part.served))
+      (all_wait_or_sent route (service_number plan k) end.journal by.run.moves by.run.state by.run.run
+      (rw (← by.served) by.run.served)))
 
   pub takes_its_records : (k : ℕ) (consumer : ConsumerPlan) (place : Place) → slice_get plan.consumers.items k
       ≡ Some consumer
@@ -281,8 +234,8 @@ module _ (plan : Plan) (end : PipelineEnd) (of : IsPipeline plan end) where
         run = by.run;
         order =
             is_taken_in_order consumer.subscription place (consumer_number plan k)
-            (view_after plan.settings end.journal) end.journal by.run.moves by.run.state history by.part.run
-            by.part.served sole never;
+            (view_after plan.settings end.journal) end.journal by.run.moves by.run.state history by.run.run
+            (rw (← by.served) by.run.served) sole never;
         inbox =
             its_inbox consumer by.noted by.left by.run
             ∙ run_takes_in consumer.subscription by.run.moves consumers.start by.run.state by.run.run;
@@ -305,4 +258,5 @@ module _ (plan : Plan) (end : PipelineEnd) (of : IsPipeline plan end) where
       (sym (its_inbox consumer took.noted took.left took.run) ∙ ap inbox_in same)
       (holds_a_prefix service.target consumer.subscription (service_number plan i) (consumer_number plan k) end.journal
       (view_after plan.settings end.journal) sent.run.moves sent.run.state took.run.moves took.run.state kind id history
-      sent.part took.part private))
+      (record { run = sent.run.run; served = rw (← sent.served) sent.run.served })
+      (record { run = took.run.run; served = rw (← took.served) took.run.served }) private))

@@ -1,80 +1,44 @@
 -- What reaches an inbox follows of what was delivered and what was taken in order, as an aggregate has one place.
-use Rattle.std.proofs.Common.{◌≡◌, ℕ, List, [], ◌∷◌, ◌++◌, Bool, true, false, refl, sym, ap, ◌∙◌, inl, inr, subst}
-use Rattle.std.specs.Prelude.{Option, Some, None, Contains, filter, bytes_eq}
-use Rattle.std.specs.List.{list_any, AllByRecursion, IsDistinct, filter_map}
-use Rattle.std.proofs.lemmas.Bool.{cases_Bool}
-use Rattle.std.proofs.lemmas.List.Elements.{All-contains, All-from_recursion}
+use Rattle.kob_pipeline.proofs.Words.{AllByRecursion, Arrival, Bool, Contains, Intake, IsCopy, IsDelivered, IsPrefixOf, IsRecordOf, IsTakenInOrder, List, None, Option, Place, ReachesInOrder, Some, Target, [], ap, arith, bytes_eq, cases_Bool, dispatch_of, filter, filter_map, firsts, from_place, goes_to, ids_of, inl, inr, intake_of, is_of_aggregate, is_there, list_any, place_of, refl, routed_to, rows_of_aggregate, same_place, subst, sym, take, taken_ids, taken_in, taken_of_aggregate, told_id, true, with_record, ℕ, ◌&&◌, ◌∙◌, ◌∷◌, ◌≡◌}
+use Rattle.std.specs.List.{IsDistinct}
 use Rattle.kob_names.specs.declared.record.Record.{Record}
 use Rattle.kob_outbox.specs.Contents.{Event}
-use Rattle.kob_router.specs.Dispatches.{dispatch_of, place_of}
 use Rattle.kob_router.specs.HeaderId.{event_id}
-use Rattle.kob_router.specs.Places.{same_place}
-use Rattle.kob_router.specs.declared.dispatch.Target.{Target}
-use Rattle.kob_router.specs.declared.place.Place.{Place}
-use Rattle.kob_inbox.specs.Contents.{Contents, Intake}
-use Rattle.kob_inbox.specs.Intake.{Arrival, intake_of, is_there, taken_in, with_record}
-use Rattle.kob_pipeline.specs.Taking.{IsTakenInOrder, from_place}
-use Rattle.kob_pipeline.specs.Delivery.{IsDelivered, IsRecordOf, goes_to, ids_of, routed_to, told_id}
-use Rattle.kob_pipeline.specs.Firsts.{IsPrefixOf, firsts}
-use Rattle.kob_pipeline.specs.Reaching.{IsCopy, ReachesInOrder, rows_of_aggregate, taken_of_aggregate, is_of_aggregate, taken_ids}
-use Rattle.kob_pipeline.proofs.Aggregates.{IsToldById, filter_both, one_place, passes_as, sent_message}
-use Rattle.kob_pipeline.proofs.Arriving.{firsts_of_front, front_begins, front_ids, ids_told, inbox_ids, none_passes, one_passes, passes, passes_here, record_told, with_told}
+use Rattle.kob_inbox.specs.Contents.{Contents}
+use Rattle.kob_pipeline.proofs.Aggregates.{IsToldById, one_place, passes_as, sent_message}
+use Rattle.kob_pipeline.proofs.Arriving.{filter_told, firsts_of_front, ids_told, inbox_ids, passes, record_told, told_by, with_told}
 use Rattle.kob_pipeline.proofs.ConsumerKept.{IsContent}
-use Rattle.kob_pipeline.proofs.Lists.{all_at, all_both, all_last, all_passing, all_weaker, keeps, places_are, same_here, same_some}
-use Rattle.kob_pipeline.proofs.Once.{filter_firsts, filter_map_turned, firsts_distinct, prefix_filter, prefix_on}
+use Rattle.kob_pipeline.proofs.Lists.{and_as, all_at, all_contained, all_in, all_last, all_passing, all_weaker, filter_both, filter_map_turned, keeps, kept_by, same_here, same_some}
+use Rattle.kob_pipeline.proofs.Once.{filter_firsts, firsts_distinct, front_begins, prefix_filter, prefix_on}
 use Rattle.kob_pipeline.proofs.RouterKept.{TellsItsId}
 
 module _ (target : Target) (rows : List Event) where
   -- what arrived is what the route makes of a row, from the place where the row is routed
   abbrev IsFromRow : Arrival → Type 0
-  IsFromRow a =
-      (row : Event) × Contains rows row × (dispatch_of target row ≡ Some
-      (record { place = a.place; message = a.message }))
-
-  rows_at : (q : Place) (records : List Record) → AllByRecursion (IsRecordOf (dispatch_of target) q rows) records
-      → (arrived : List Arrival)
-      → AllByRecursion (IsContent records) (from_place q arrived) → AllByRecursion IsFromRow (from_place q arrived)
-  rows_at q records each [] h = tt
-  rows_at q records each (a ∷ arrived) h =
-      elim (cases_Bool (same_place a.place q)) [
-        | inl on ↦
-            let h' : AllByRecursion (IsContent records) (a ∷ from_place q arrived) = rw on at h in
-            let r = all_at (IsRecordOf (dispatch_of target) q rows) records a.offset a.message h'.0 each in
-            let there =
-            ap (λ (p : Place). Some (record { place = p; message = a.message })) (sym (places_are a.place q on))
-            in
-            rw on ((r.0, r.1, r.2 ∙ there), rows_at q records each arrived h'.1)
-        | inr off ↦ rw off (rows_at q records each arrived (rw off at h))
-      ]
+  IsFromRow a = IsRecordOf (dispatch_of target) a.place rows a.message
 
   -- all that arrived, where it is so for each place
-  from_rows : (assigned : Place → Type 0) (arrived : List Arrival)
-      → ((q : Place) → assigned q → AllByRecursion IsFromRow (from_place q arrived))
+  from_rows : (assigned : Place → Type 0) (records : Place → List Record) (arrived : List Arrival)
+      → ((q : Place) → assigned q → AllByRecursion (IsContent (records q)) (from_place q arrived))
+      → ((q : Place) → assigned q → AllByRecursion (IsRecordOf (dispatch_of target) q rows) (records q))
       → AllByRecursion (λ (a : Arrival). assigned a.place) arrived → AllByRecursion IsFromRow arrived
-  from_rows assigned [] f h = tt
-  from_rows assigned (a ∷ arrived) f h =
-      let first : AllByRecursion IsFromRow (a ∷ from_place a.place arrived) =
-      rw (same_here a.place) at (f a.place h.0) in
-      (first.0, from_rows assigned arrived (λ q x. rest q (f q x)) h.1)
-    where
-      rest : (q : Place) → AllByRecursion IsFromRow (from_place q (a ∷ arrived))
-          → AllByRecursion IsFromRow (from_place q arrived)
-      rest q g =
-          elim (cases_Bool (same_place a.place q)) [
-            | inl on ↦ let g' : AllByRecursion IsFromRow (a ∷ from_place q arrived) = rw on at g in g'.1
-            | inr off ↦ rw off at g
-          ]
+  from_rows assigned records arrived contents each places =
+      all_contained IsFromRow arrived
+      (λ a there.
+      let q : Place = a.place in
+      let at = all_in (λ (b : Arrival). assigned b.place) arrived a there places in
+      all_at (IsRecordOf (dispatch_of target) q rows) (records q) a.offset a.message
+      (all_in (IsContent (records q)) (from_place q arrived) a
+      (keeps (λ (b : Arrival). same_place b.place q) arrived a there (same_here q)) (contents q at)) (each q at))
 
   module _ (tell : AllByRecursion (TellsItsId (dispatch_of target)) rows) where
-    tells_of : (a : Arrival) (f : IsFromRow a) → told_id a.message ≡ Some f.0.id
+    tells_of : (a : Arrival) (f : IsFromRow a) → told_by a ≡ Some f.0.id
     tells_of a (row, at, to) =
-        All-contains (TellsItsId (dispatch_of target)) rows row
-        (All-from_recursion (TellsItsId (dispatch_of target)) rows tell) at
-        (record { place = a.place; message = a.message }) to
+        all_in (TellsItsId (dispatch_of target)) rows row at tell (record { place = a.place; message = a.message }) to
 
     -- copies
 
-    copy_of : (a : Arrival) (text : List ℕ) → told_id a.message ≡ Some text → IsFromRow a
+    copy_of : (a : Arrival) (text : List ℕ) → told_by a ≡ Some text → IsFromRow a
         → IsCopy rows (intake_of text a)
     copy_of a text e f =
         let m = sent_message target f.0 (record { place = a.place; message = a.message }) f.2 in
@@ -86,7 +50,7 @@ module _ (target : Target) (rows : List Event) where
           value = ap (λ (x : Record). x.value) (sym m);
         }
 
-    copies_more : (inbox : Contents) (a : Arrival) (o : Option (List ℕ)) → told_id a.message ≡ o → IsFromRow a
+    copies_more : (inbox : Contents) (a : Arrival) (o : Option (List ℕ)) → told_by a ≡ o → IsFromRow a
         → AllByRecursion (IsCopy rows) inbox → AllByRecursion (IsCopy rows) (with_told inbox o a)
     copies_more inbox a None e f h = h
     copies_more inbox a (Some text) e f h =
@@ -102,7 +66,7 @@ module _ (target : Target) (rows : List Event) where
     copies_all inbox [] f h = h
     copies_all inbox (a ∷ arrived) f h =
         copies_all (with_record inbox (event_id a.message) a) arrived f.1
-        (rw (record_told inbox (event_id a.message) a) (copies_more inbox a (told_id a.message) refl f.0 h))
+        (rw (record_told inbox (event_id a.message) a) (copies_more inbox a (told_by a) refl f.0 h))
 
     -- what passes is of a row of the aggregate
     module _ (kind id : List ℕ) (said : AllByRecursion (IsToldById (is_of_aggregate kind id) rows) rows) where
@@ -110,10 +74,7 @@ module _ (target : Target) (rows : List Event) where
       in_aggregate i = list_any (bytes_eq i) (ids_of (rows_of_aggregate rows kind id))
 
       is_said : (row : Event) → Contains rows row → in_aggregate row.id ≡ true → is_of_aggregate kind id row ≡ true
-      is_said row at h =
-          sym (All-contains (IsToldById (is_of_aggregate kind id) rows) rows row
-          (All-from_recursion (IsToldById (is_of_aggregate kind id) rows) rows said) at)
-          ∙ h
+      is_said row at h = sym (all_in (IsToldById (is_of_aggregate kind id) rows) rows row at said) ∙ h
 
       own_copy : (i : Intake) → IsCopy rows i × (in_aggregate i.id ≡ true) → IsCopy (rows_of_aggregate rows kind id) i
       own_copy i (copy, h) =
@@ -133,13 +94,13 @@ module _ (target : Target) (rows : List Event) where
           own_copy
           (taken_of_aggregate inbox rows kind id) (all_passing (IsCopy rows) (λ i. in_aggregate i.id) inbox h)
 
-      row_of_passing : (a : Arrival) → IsFromRow a → passes in_aggregate (told_id a.message) ≡ true
+      row_of_passing : (a : Arrival) → IsFromRow a → passes in_aggregate (told_by a) ≡ true
           → (row : Event) × (is_of_aggregate kind id row ≡ true) × (place_of (dispatch_of target row) ≡ Some a.place)
       row_of_passing a f h =
           (f.0, is_said f.0 f.1 (ap (passes in_aggregate) (sym (tells_of a f)) ∙ h), ap place_of f.2)
 
-      same_place_as : (a b : Arrival) → IsFromRow a → IsFromRow b → passes in_aggregate (told_id a.message) ≡ true
-          → passes in_aggregate (told_id b.message) ≡ true → b.place ≡ a.place
+      same_place_as : (a b : Arrival) → IsFromRow a → IsFromRow b → passes in_aggregate (told_by a) ≡ true
+          → passes in_aggregate (told_by b) ≡ true → b.place ≡ a.place
       same_place_as a b f g pass_a pass_b =
           let x = row_of_passing a f pass_a in
           let y = row_of_passing b g pass_b in
@@ -148,31 +109,38 @@ module _ (target : Target) (rows : List Event) where
       -- the ids that pass, of the one place that they come from
       begins_here : (arrived : List Arrival) (a : Arrival) (records : List Record) → AllByRecursion IsFromRow arrived
           → IsFromRow a
-          → passes in_aggregate (told_id a.message) ≡ true → IsDelivered (dispatch_of target) a.place rows records
+          → passes in_aggregate (told_by a) ≡ true → IsDelivered (dispatch_of target) a.place rows records
           → IsTakenInOrder a.place records arrived
           → IsPrefixOf (firsts bytes_eq (filter in_aggregate (ids_told arrived)))
           (ids_of (rows_of_aggregate rows kind id))
       begins_here arrived a records from f pass delivered order =
-          subst (λ (ids : List (List ℕ)). IsPrefixOf ids (ids_of (rows_of_aggregate rows kind id))) (sym first)
-          (subst (IsPrefixOf (filter in_aggregate (front_ids records order.bound))) whole
-          (prefix_filter in_aggregate (front_ids records order.bound)
-          (ids_of (routed_to (dispatch_of target) a.place rows))
-          (prefix_on (front_ids records order.bound) (firsts bytes_eq (filter_map told_id records))
-          (ids_of (routed_to (dispatch_of target) a.place rows)) (front_begins records order.bound) delivered.ids)))
+          rw (first, ← whole)
+          (prefix_filter in_aggregate front (ids_of (routed_to (dispatch_of target) a.place rows))
+          (prefix_on front (firsts bytes_eq (filter_map told_id records))
+          (ids_of (routed_to (dispatch_of target) a.place rows)) (front_begins told_id records order.bound)
+          delivered.ids))
         where
-          here : AllByRecursion (λ (b : Arrival). passes in_aggregate (told_id b.message) ≡ true → b.place ≡ a.place)
-              arrived
-          here =
-              all_weaker IsFromRow (λ (b : Arrival). passes in_aggregate (told_id b.message) ≡ true → b.place ≡ a.place)
-              (λ b g pass_b. same_place_as a b f g pass pass_b) arrived from
+          front : List (List ℕ)
+          front = firsts bytes_eq (filter_map told_id (take order.bound records))
 
-          first : firsts bytes_eq (filter in_aggregate (ids_told arrived)) ≡ filter in_aggregate
-              (front_ids records order.bound)
+          passing : Arrival → Bool
+          passing b = passes in_aggregate (told_by b)
+
+          first : firsts bytes_eq (filter in_aggregate (ids_told arrived)) ≡ filter in_aggregate front
           first =
-              ap (firsts bytes_eq) (passes_here in_aggregate a.place arrived here)
+              ap (firsts bytes_eq)
+              (filter_told in_aggregate arrived
+              ∙ ap ids_told (sym (filter_both passing (λ b. same_place b.place a.place) passing arrived
+              (all_weaker IsFromRow (λ b. (same_place b.place a.place && passing b) ≡ passing b) here arrived from)))
+              ∙ sym (filter_told in_aggregate (from_place a.place arrived)))
               ∙ sym (filter_firsts in_aggregate (ids_told (from_place a.place arrived)))
               ∙ ap (filter in_aggregate)
-              (firsts_of_front records order.bound (from_place a.place arrived) 0 order.offsets order.contents)
+              (firsts_of_front records order.bound (from_place a.place arrived) order.offsets order.contents)
+            where
+              here : (b : Arrival) → IsFromRow b → (same_place b.place a.place && passing b) ≡ passing b
+              here b g =
+                  and_as (same_place b.place a.place) (passing b)
+                  (λ on. rw (same_place_as a b f g pass on) (same_here a.place))
 
           whole : filter in_aggregate (ids_of (routed_to (dispatch_of target) a.place rows)) ≡ ids_of
               (rows_of_aggregate rows kind id)
@@ -195,8 +163,7 @@ module _ (target : Target) (rows : List Event) where
         where
           from : AllByRecursion IsFromRow arrived
           from =
-              from_rows assigned arrived
-              (λ q a. rows_at q (records q) (delivered q a).each arrived (order q a).contents) all_assigned
+              from_rows assigned records arrived (λ q a. (order q a).contents) (λ q a. (delivered q a).each) all_assigned
 
           ids_are : taken_ids (taken_of_aggregate inbox rows kind id) ≡ firsts bytes_eq
               (filter in_aggregate (ids_told arrived))
@@ -211,24 +178,17 @@ module _ (target : Target) (rows : List Event) where
           once : IsDistinct bytes_eq (taken_ids (taken_of_aggregate inbox rows kind id))
           once = subst (IsDistinct bytes_eq) (sym ids_are) (firsts_distinct (filter in_aggregate (ids_told arrived)))
 
-          nothing : AllByRecursion (λ (a : Arrival). passes in_aggregate (told_id a.message) ≡ false) arrived
+          by : (passing : List Arrival) → filter (λ a. passes in_aggregate (told_by a)) arrived ≡ passing
               → IsPrefixOf (firsts bytes_eq (filter in_aggregate (ids_told arrived)))
               (ids_of (rows_of_aggregate rows kind id))
-          nothing none = (
-            ids_of (rows_of_aggregate rows kind id),
-            ap (λ (xs : List (List ℕ)). firsts bytes_eq xs ++ ids_of
-                (rows_of_aggregate rows kind id)) (none_passes in_aggregate arrived none),
-          )
+          by [] is =
+              (ids_of (rows_of_aggregate rows kind id), rw (filter_told in_aggregate arrived, is) refl)
+          by (a ∷ more) is =
+              let (there, pass) = kept_by (λ b. passes in_aggregate (told_by b)) arrived a (rw is (0, omega arith, refl)) in
+              let at = all_in (λ (b : Arrival). assigned b.place) arrived a there all_assigned in
+              begins_here arrived a (records a.place) from (all_in IsFromRow arrived a there from) pass
+              (delivered a.place at) (order a.place at)
 
           begins : IsPrefixOf (taken_ids (taken_of_aggregate inbox rows kind id))
               (ids_of (rows_of_aggregate rows kind id))
-          begins =
-              subst (λ (ids : List (List ℕ)). IsPrefixOf ids (ids_of (rows_of_aggregate rows kind id))) (sym ids_are)
-              (elim (one_passes in_aggregate (λ (a : Arrival). assigned a.place × IsFromRow a) arrived
-              (all_both (λ (a : Arrival). assigned a.place) IsFromRow arrived all_assigned from)) [
-                | inl none ↦ nothing none
-                | inr some ↦
-                    begins_here arrived some.0 (records some.0.place) from some.1.1 some.2
-                    (delivered some.0.place some.1.0)
-                    (order some.0.place some.1.0)
-              ])
+          begins = rw ids_are (by (filter (λ a. passes in_aggregate (told_by a)) arrived) refl)

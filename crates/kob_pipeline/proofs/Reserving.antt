@@ -1,15 +1,11 @@
 -- From the bindings in force to the worker whose entry it is.
-use Rattle.std.proofs.Common.{◌≡◌, ◌⊎◌, ℕ, List, [], ◌∷◌, take, Bool, true, false, ◌&&◌, cond, inl, inr, refl, ap, ◌∙◌, subst}
-use Rattle.std.specs.Prelude.{Option, None, Some, IsTrue, slice_get, filter}
-use Rattle.std.specs.List.{AllByRecursion}
-use Rattle.std.proofs.lemmas.Option.{slice_get-get_or, slice_get_within}
+use Rattle.kob_pipeline.proofs.Words.{AllByRecursion, Body, Bool, Commits, Denied, Done, Entry, Idem, IsLegal, IsSoleCommitter, IsSoleProducer, IsTrue, List, None, Option, Produces, Refused, Reply, Request, Settings, Some, [], ap, arith, false, filter, inl, inr, journaled_replies, opened_by, refl, slice_get, slice_get-get_or, slice_get_within, subst, take, true, ℕ, ◌&&◌, ◌∙◌, ◌∷◌, ◌≡◌, ◌⊎◌}
 use Rattle.kob_names.specs.Granted.{is_granted}
 use Rattle.kob_names.specs.declared.kinds.Operation.{Operation}
 use Rattle.kob_names.specs.declared.kinds.Operation.TheVariants.{Read, Write as WriteTo}
 use Rattle.kob_names.specs.declared.kinds.Permission.TheVariants.{Allow, Deny}
 use Rattle.kob_names.specs.declared.kinds.ResourceKind.{ResourceKind}
 use Rattle.kob_names.specs.declared.kinds.ResourceKind.TheVariants.{Group, Topic}
-use Rattle.kob_names.specs.declared.settings.Settings.{Settings}
 use Rattle.kob_names.specs.Binding.{Binding}
 use Rattle.kob_authorizer.specs.Contents.{Contents}
 use Rattle.kob_authorizer.specs.Decide.{decide, first_serial, hits, is_hit, is_super, is_unmatched, unless_open, verdict_of}
@@ -22,22 +18,14 @@ use Rattle.kob_rights.specs.Check.{on_group, on_topic}
 use Rattle.kob_rights.specs.Writes.{Write, write_of}
 use Rattle.kob_rights.specs.Writes.Write.{AddBindings}
 use Rattle.kob_rights.specs.declared.event.Event.{Event}
-use Rattle.kob_rights.specs.declared.reply.Body.{Body}
-use Rattle.kob_rights.specs.declared.reply.Reply.{Reply}
-use Rattle.kob_rights.specs.declared.reply.Reply.TheVariants.{Denied, Refused, Done}
-use Rattle.kob_rights.specs.declared.request.Request.{Request}
 use Rattle.kob_rights.specs.declared.request.Request.TheVariants as requests
-use Rattle.kob_names.specs.declared.batch.Idem.{Idem}
 use Rattle.kob_rights.specs.Table.{produce_rights, rights}
 use Rattle.kob_broker.specs.Justice.{EachGranted}
 use Rattle.kob_shared.specs.Decided.{bindings_after}
-use Rattle.kob_shared.specs.Journals.{IsLegal, events_of, journaled_replies}
-use Rattle.kob_shared.specs.Openings.{opened_by}
-use Rattle.kob_shared.specs.declared.journal.Entry.{Entry}
+use Rattle.kob_shared.specs.Journals.{events_of}
 use Rattle.kob_shared.proofs.Decided.{entry_is_just}
-use Rattle.kob_pipeline.specs.Premises.{Commits, IsSoleCommitter, IsSoleProducer, Produces}
 use Rattle.kob_pipeline.specs.Reserved.{ActsAlone, IsReserved, IsReservedFor, NoSuperUser}
-use Rattle.kob_pipeline.proofs.Lists.{all_at, all_contained}
+use Rattle.kob_pipeline.proofs.Lists.{all_at, all_contained, all_in, kept_by}
 
 -- ---- super users stay
 
@@ -74,14 +62,9 @@ granted_how false false (Some serial) found granted = absurd (cc)
 -- what holds of an element that passes holds, where one passes
 of_first : {X : Type 0} (test : X → Bool) (P : Type 0) (xs : List X) (x : X) (rest : List X)
     → filter test xs ≡ x ∷ rest → AllByRecursion (λ y. IsTrue (test y) → P) xs → P
-of_first test P [] x rest first all = absurd (cc)
-of_first {X} test P (y ∷ ys) x rest first all =
-    by (λ later. of_first test P ys x rest later all.1) (test y) refl first
-  where
-    by : (filter test ys ≡ x ∷ rest → P) → (t : Bool) → test y ≡ t
-        → cond t (y ∷ filter test ys) (filter test ys) ≡ x ∷ rest → P
-    by further true on here = all.0 on
-    by further false off here = further here
+of_first test P xs x rest first all =
+    let (there, passes) = kept_by test xs x (rw first (0, omega arith, refl)) in
+    all_in (λ y. IsTrue (test y) → P) xs x there all passes
 
 -- so it is the principal, where the name is reserved and no super user asks
 by_reservation : (principal who host : List ℕ) (operation : Operation) (resource : ResourceKind) (name : List ℕ)

@@ -1,34 +1,16 @@
 -- What a run of a router keeps, beside the log of one partition.
-use Rattle.std.proofs.Common.{◌≡◌, ◌⊎◌, ℕ, ◌+◌, ◌<◌, ◌≤◌, List, [], ◌∷◌, ◌++◌, refl, sym, ap, ◌∙◌, inl, inr, length, append_assoc, arith, false, subst}
-use Rattle.std.specs.Prelude.{Option, Some, None, slice_get, Contains}
-use Rattle.std.specs.List.{AllByRecursion}
-use Rattle.kob_names.specs.declared.batch.Batch.{Batch}
+use Rattle.kob_pipeline.proofs.Words.{All-contains, All-from_recursion, AllByRecursion, Batch, Contains, Contains-append_right, Dispatching, Hand, List, Next, None, Option, OutboxEvent, Place, Producer, Recorded, Repeat, Sequence, Some, Swept, Took, [], after_use, ap, append-nil, append_assoc, arith, batch_of, both_ways, false, goes_to, history, inl, inr, judge, length, length_push, nat_tests, next_seq, place_of, refl, same_place, sequence_of, slice_get, stored_event, subst, sym, told_id, with_sequence_for, ℕ, ◌++◌, ◌+◌, ◌<◌, ◌∙◌, ◌∷◌, ◌≡◌, ◌≤◌, ◌⊎◌}
 use Rattle.kob_outbox.specs.Contents.{Contents, Event}
-use Rattle.kob_outbox.specs.Events.{stored_event}
-use Rattle.kob_outbox.specs.Recording.{next_seq}
-use Rattle.kob_outbox.specs.declared.event.OutboxEvent.{OutboxEvent}
-use Rattle.kob_partition.specs.Batches.{history}
 use Rattle.kob_producers.specs.declared.sent.Sent.{Sent}
-use Rattle.kob_router.specs.Dispatches.{Dispatching, place_of}
-use Rattle.kob_router.specs.Places.{with_sequence_for, sequence_of, same_place, after_use}
-use Rattle.kob_router.specs.Run.{Hand, May, Move, State, after, start, batch_of}
-use Rattle.kob_router.specs.Run.Move.{Called, Recorded, Restarted, Swept, Took}
+use Rattle.kob_router.specs.Run.{May, Move, State, after, start}
+use Rattle.kob_router.specs.Run.Move.{Called, Restarted}
 use Rattle.kob_router.specs.declared.dispatch.Dispatch.{Dispatch}
-use Rattle.kob_router.specs.declared.place.Place.{Place}
-use Rattle.kob_router.specs.declared.sender.Producer.{Producer}
-use Rattle.kob_router.specs.declared.sequences.Sequence.{Sequence}
-use Rattle.kob_pipeline.specs.Delivery.{told_id, goes_to}
 use Rattle.kob_pipeline.proofs.Logged.{IsKept, kept_at_start, kept_recorded, kept_swept, kept_marked, IsLogged, logged_later, logged_more_rows, IsBatchOf, logged_again, logged_elsewhere, logged_first}
-use Rattle.kob_pipeline.proofs.Lists.{all_append, get_front, first_is, place_cases, same_here, same_some}
+use Rattle.kob_pipeline.proofs.Lists.{all_append, bytes_turned, get_front, first_is, same_here, same_some}
 use Rattle.kob_pipeline.proofs.Rows.{recorded}
 use Rattle.kob_pipeline.proofs.Sending.{AreCounted, counted_none, no_history, sequence_prepared, wrapped, IsNumber, apart_wrapped, counted_last, history_last, idem_of, next_base, next_wrapped, repeat_base, sequence_used_elsewhere, sequence_used_here}
-use Rattle.std.proofs.lemmas.Bool.{both_ways}
-use Rattle.std.proofs.lemmas.List.{append-nil, length_push}
-use Rattle.std.proofs.lemmas.List.Elements.{All-contains, All-from_recursion, Contains-append_right}
 use Rattle.kob_names.specs.declared.record.Record.{Record}
-use Rattle.kob_producers.specs.Judge.{judge}
 use Rattle.kob_producers.specs.Recent.{sent_batch}
-use Rattle.kob_producers.specs.declared.judge.Judgement.TheVariants.{Next, Repeat}
 
 abbrev pub here : Option Event → List Event
 here None = []
@@ -232,11 +214,7 @@ abbrev pub IsReady : List Sequence → Hand → Place → ℕ → Option Event �
 IsReady ss h q count ahead = (same_place h.place q ≡ false) ⊎ IsPending ss (Some h) q count ahead
 
 apart_back : (p q : Place) → same_place p q ≡ false → same_place q p ≡ false
-apart_back p q h =
-    elim (place_cases q p) [
-      | inl e ↦ absurd (both_ways (same_place p q) h (ap (same_place p) e ∙ same_here p))
-      | inr apart ↦ apart
-    ]
+apart_back p q h = grind (arith, nat_tests, bytes_turned p.topic q.topic, h)
 
 goes_elsewhere : (o : Option Dispatch) (p q : Place) → place_of o ≡ Some p → same_place p q ≡ false
     → goes_to q o ≡ false

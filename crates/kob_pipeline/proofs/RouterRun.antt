@@ -1,40 +1,14 @@
 -- What each call of a router keeps, served or not, and what its run leaves on a partition.
-use Rattle.std.proofs.Common.{◌≡◌, List, [], ◌∷◌, ◌++◌, Bool, true, false, refl, sym, ap, ◌∙◌, inl, inr, subst, arith, ℕ, append_assoc, append-nil}
-use Rattle.std.specs.Prelude.{Option, Some, None, map}
-use Rattle.std.proofs.lemmas.Bool.{true≢false}
-use Rattle.kob_names.specs.declared.batch.Batch.{Batch}
+use Rattle.kob_pipeline.proofs.Words.{Accepts, AreServed, Batch, Body, Bool, Call, Denied, Dispatching, Does, Done, Entry, Hand, InitProducerId, IsDelivered, IsDone, IsHistory, IsNeverDeleted, IsNoDeletion, IsOwnProduce, IsRouterRun, IsSameView, IsSending, IsSoleProducer, Judgement, List, MayCall, Next, None, OldEpoch, Option, OutOfOrder, Place, Produce, Producer, Recorded, Refused, Repeat, Reply, Request, Sequence, Some, Step, Swept, Took, View, [], ap, append-nil, append_assoc, arith, batch_of, false, filter-append, goes_to, history, inl, inr, judge, map, map-append, opening_view, producer_after, records_of, refl, routed_to, same_place, sequence_of, served_to, subst, sym, true, true≢false, with_batch, with_producer, ℕ, ◌++◌, ◌∙◌, ◌∷◌, ◌≡◌}
 use Rattle.kob_names.specs.declared.record.Record.{Record}
 use Rattle.kob_outbox.specs.Contents.{Contents, Event}
-use Rattle.kob_partition.specs.Batches.{history, records_of}
-use Rattle.kob_producers.specs.Judge.{judge}
-use Rattle.kob_producers.specs.declared.judge.Judgement.{Judgement}
-use Rattle.kob_producers.specs.declared.judge.Judgement.TheVariants.{Next, Repeat, OutOfOrder, OldEpoch}
 use Rattle.kob_rights.specs.declared.on_partitions.Produce.{Produce as ProduceRequest}
-use Rattle.kob_rights.specs.declared.reply.Body.{Body}
-use Rattle.kob_rights.specs.declared.reply.Reply.{Reply}
-use Rattle.kob_rights.specs.declared.reply.Reply.TheVariants.{Denied, Refused, Done}
-use Rattle.kob_rights.specs.declared.request.Request.{Request}
-use Rattle.kob_rights.specs.declared.request.Request.TheVariants.{InitProducerId, Produce}
-use Rattle.kob_router.specs.Dispatches.{Dispatching}
-use Rattle.kob_router.specs.Places.{same_place, sequence_of}
-use Rattle.kob_router.specs.Run.{Hand, IsDone, IsSending, MayCall, State, after, batch_of, producer_after, IsRouterRun, May, Move, calls_of, events_of, start}
-use Rattle.kob_router.specs.Run.Move.{Called, Recorded, Restarted, Swept, Took}
-use Rattle.kob_router.specs.declared.place.Place.{Place}
-use Rattle.kob_router.specs.declared.sender.Producer.{Producer}
-use Rattle.kob_router.specs.declared.sequences.Sequence.{Sequence}
-use Rattle.kob_pipeline.specs.View.{Accepts, Does, IsSameView, Step, View, with_batch, with_producer, IsHistory, opening_view}
+use Rattle.kob_router.specs.Run.{State, after, May, Move, calls_of, events_of, start}
+use Rattle.kob_router.specs.Run.Move.{Called, Restarted}
 use Rattle.kob_pipeline.proofs.Lists.{all_both, place_cases, same_here}
 use Rattle.kob_pipeline.proofs.RouterKept.{IsServed, Kept, TellsIds, here, holding, kept_after_batch, kept_after_id, kept_after_mark, kept_by_move, kept_first, kept_later, known_taken, repeat_is_pending}
 use Rattle.kob_pipeline.proofs.Sending.{idem_of}
 use Rattle.kob_pipeline.proofs.ServedRuns.{Hears, IsServedBy, IsUnheard, StepsAs, history_passes}
-use Rattle.std.proofs.lemmas.List.{map-append}
-use Rattle.std.proofs.lemmas.List.Elements.{filter-append}
-use Rattle.kob_router.specs.declared.line.Call.{Call}
-use Rattle.kob_shared.specs.declared.journal.Entry.{Entry}
-use Rattle.kob_pipeline.specs.Delivery.{IsDelivered, goes_to, routed_to}
-use Rattle.kob_pipeline.specs.Premises.{IsNeverDeleted, IsNoDeletion, IsOwnProduce, IsSoleProducer}
-use Rattle.kob_router.specs.Served.{AreServed}
-use Rattle.kob_pipeline.specs.Served.{served_to}
 use Rattle.kob_pipeline.proofs.OtherSteps.{leaves}
 use Rattle.kob_pipeline.proofs.Rows.{call_of, kept_by_router, recorded}
 use Rattle.kob_rights.specs.declared.reply.Body.TheVariants as bodies
@@ -63,19 +37,21 @@ not_both (Some (Denied code verdicts)) n d = d
 not_both (Some (Refused code reason)) n d = d
 not_both (Some (Done body)) n d = n
 
-given_by_produce : (old : Option Producer) (asked : ProduceRequest) (heard : Option Reply)
-    → producer_after old (Produce asked) heard ≡ old
-given_by_produce old asked None = refl
-given_by_produce old asked (Some (Denied code verdicts)) = refl
-given_by_produce old asked (Some (Refused code reason)) = refl
-given_by_produce old asked (Some (Done body)) = refl
+-- a call that was not answered with Done gives no id, and moves no mark
+unanswered : (old : Option Producer) (request : Request) (heard : Option Reply) → NotDone heard
+    → producer_after old request heard ≡ old
+unanswered old InitProducerId None n = refl
+unanswered old InitProducerId (Some (Denied code verdicts)) n = refl
+unanswered old InitProducerId (Some (Refused code reason)) n = refl
+unanswered old InitProducerId (Some (Done body)) n = absurd n
+unanswered old _ heard n = refl
 
-given_unheard : (old : Option Producer) (heard : Option Reply) → NotDone heard
-    → producer_after old InitProducerId heard ≡ old
-given_unheard old None n = refl
-given_unheard old (Some (Denied code verdicts)) n = refl
-given_unheard old (Some (Refused code reason)) n = refl
-given_unheard old (Some (Done body)) n = absurd n
+pub unmarked : (route : Dispatching) (s : State) (request : Request) (heard : Option Reply) (marks : Bool)
+    → MayCall route s request heard marks → NotDone heard → marks ≡ false
+unmarked route s InitProducerId heard marks may n = may.1
+unmarked route s (Produce asked) heard true may n = absurd (not_both heard n (may.1 refl))
+unmarked route s (Produce asked) heard false may n = refl
+unmarked route s _ heard marks may n = absurd may
 
 -- a state with another producer
 abbrev holding_id : State → Option Producer → State
@@ -166,25 +142,22 @@ module _ (route : Dispatching) (q : Place) where
           → KeptIn route q rows (after (holding s.outbox i.producer s.sequences i.hand)
           (Called (record { request = Produce asked; heard = heard }) m)) w
       marked_or_not true x = kept_after_mark route q x.0 x.1
-      marked_or_not false x = rw (given_by_produce (Some i.producer) asked heard) x.0
+      marked_or_not false x = x.0
 
   -- a call that was not answered with Done changes nothing
   pub kept_after_no_answer : (rows : List Event) (s : State) (v : View) (request : Request) (heard : Option Reply)
       (marks : Bool)
       → MayCall route s request heard marks → NotDone heard → KeptIn route q rows s v
       → KeptIn route q rows (after s (Called (record { request = request; heard = heard }) marks)) v
-  kept_after_no_answer rows s v InitProducerId heard true may n k = absurd (true≢false may.1)
-  kept_after_no_answer rows s v InitProducerId heard false may n k = rw (given_unheard s.producer heard n) k
-  kept_after_no_answer rows s v (Produce asked) heard true may n k = absurd (not_both heard n (may.1 refl))
-  kept_after_no_answer rows s v (Produce asked) heard false may n k = rw (given_by_produce s.producer asked heard) k
-  kept_after_no_answer rows s v _ heard marks may n k = absurd may
+  kept_after_no_answer rows s v request heard marks may n k =
+      rw (unmarked route s request heard marks may n, unanswered s.producer request heard n) k
 
   -- an INIT_PRODUCER_ID that was answered
   given_id : (rows : List Event) (s : State) (v : View) (body : Body) (heard : Option Reply)
       → s.producer ≡ None → body ≡ bodies.Producer v.next_producer 0 → Hears heard (Done body) → KeptIn route q rows s v
       → KeptIn route q rows (holding_id s (producer_after s.producer InitProducerId heard)) (with_producer v)
   given_id rows s v body heard none is (inl e) k =
-      rw (given_unheard s.producer heard (heard_none heard e)) (kept_later route q (omega arith) k)
+      rw (unanswered s.producer InitProducerId heard (heard_none heard e)) (kept_later route q (omega arith) k)
   given_id rows s v body heard none is (inr e) k =
       rw (e, is)
       (kept_after_id route q (subst (λ (o : Option Producer). KeptIn route q rows (holding_id s o) v) none k))

@@ -1,31 +1,13 @@
 -- The moves of a router, one at a time: what they record, keep along a journal, and leave of the rows.
-use Rattle.std.proofs.Common.{◌≡◌, ℕ, suc, List, [], ◌∷◌, ◌++◌, Bool, true, false, refl, sym, ap, ◌∙◌, subst, length, append-nil, ◌<◌, arith, ◌⊎◌, ◌^◌, not, ◌&&◌, nat_lt, Option, Some, None, is_none, inl, inr, append_assoc, true≢false}
-use Rattle.std.specs.Prelude.{Option, Some, None, nat_lt}
-use Rattle.std.specs.List.{filter_map, AllByRecursion}
+use Rattle.kob_pipeline.proofs.Words.{All-filter, All-from_recursion, AllByRecursion, AreServed, Bool, Call, Change, Dispatching, Entry, Hand, IsRecordable, IsRouterRun, IsServiceStep, List, Loss, None, Option, OutboxEvent, Recorded, Some, Steps, Swept, Took, [], after_acknowledgement, after_record, ap, append-nil, append_assoc, arith, false, filter_map, id_text, inl, inr, is_none, later_than, length, lt-ltb, nat_lt, nat_tests, next_seq, recursion_from_All, refl, served_to, stored_event, subst, suc, sym, true, ℕ, ◌++◌, ◌<◌, ◌∙◌, ◌∷◌, ◌≡◌, ◌⊎◌}
 use Rattle.kob_outbox.specs.Contents.{Contents, Event}
-use Rattle.kob_outbox.specs.Events.{id_text, stored_event}
-use Rattle.kob_outbox.specs.Recording.{next_seq, after_record, is_recorded}
-use Rattle.kob_router.specs.Dispatches.{Dispatching}
-use Rattle.kob_router.specs.Run.{Hand, IsRouterRun, May, Move, State, after_acknowledgement, after, calls_of, events_of, start, IsRecordable}
-use Rattle.kob_router.specs.Run.Move.{Called, Recorded, Restarted, Swept, Took}
-use Rattle.kob_router.specs.declared.line.Call.{Call}
-use Rattle.kob_shared.specs.declared.journal.Entry.{Entry}
-use Rattle.kob_router.specs.Served.{AreServed}
-use Rattle.kob_pipeline.specs.Served.{served_to}
+use Rattle.kob_router.specs.Run.{May, Move, State, after, calls_of, events_of, start}
+use Rattle.kob_router.specs.Run.Move.{Called, Restarted}
 use Rattle.kob_pipeline.proofs.ServedRuns.{IsRun, IsServedBy, IsUnheard, Passes, added, kept_by_run}
-use Rattle.std.proofs.lemmas.Bool.{lt-ltb, ltb-true}
-use Rattle.std.proofs.lemmas.List.Elements.{All-filter, All-from_recursion, recursion_from_All}
 use Rattle.kob_pipeline.proofs.Lists.{all_last, all_weaker, filter_all}
-use Rattle.kob_outbox.specs.Reading.{later_than}
 use Rattle.kob_outbox.specs.Fields.{first_bad}
-use Rattle.kob_outbox.specs.declared.fields.Column.{Column}
-use Rattle.kob_outbox.specs.declared.change.Change.{Change}
-use Rattle.kob_outbox.specs.declared.event.OutboxEvent.{OutboxEvent}
 use Rattle.kob_router.specs.Tick.{IsOfTick}
 use Rattle.kob_pipeline.specs.PlanRows.{is_accepted, rows_from}
-use Rattle.kob_pipeline.specs.Services.{IsServiceStep}
-use Rattle.kob_pipeline.specs.Steps.{Steps}
-use Rattle.kob_lines.specs.declared.lossy.Loss.{Loss}
 use Rattle.kob_pipeline.specs.declared.plan.ServiceStep.{ServiceStep}
 use Rattle.kob_pipeline.specs.declared.plan.ServiceStep.TheVariants as steps
 
@@ -159,43 +141,31 @@ rows_split route s mid (move ∷ these) those run =
     ∙ ap (λ rows. rows ++ events_of mid.outbox those) (sym (events_behind s move these))
 
 -- a tick records nothing
-none_by_tick : (c : Contents) (moves : List Move) → AllByRecursion IsOfTick moves → events_of c moves ≡ []
-none_by_tick c [] own = refl
-none_by_tick c (Took hand ∷ moves) own = none_by_tick c moves own.1
-none_by_tick c (Called call marks ∷ moves) own = none_by_tick c moves own.1
-none_by_tick c (_ ∷ moves) own = absurd own.0
-
-ids_by_tick : (route : Dispatching) (s new : State) (moves : List Move) → AllByRecursion IsOfTick moves
-    → IsRouterRun route s moves new → new.outbox.ids ≡ s.outbox.ids
-ids_by_tick route s new [] own run = ap (λ (t : State). t.outbox.ids) run
-ids_by_tick route s new (Took hand ∷ moves) own run = ids_by_tick route (after s (Took hand)) new moves own.1 run.1
-ids_by_tick route s new (Called call marks ∷ moves) own run =
-    ids_by_tick route (after s (Called call marks)) new moves own.1 run.1 ∙ called_ids s call marks
-ids_by_tick route s new (_ ∷ moves) own run = absurd own.0
+by_tick : (route : Dispatching) (c : Contents) (s new : State) (moves : List Move) → AllByRecursion IsOfTick moves
+    → IsRouterRun route s moves new → (events_of c moves ≡ []) × (new.outbox.ids ≡ s.outbox.ids)
+by_tick route c s new [] own run = (refl, ap (λ (t : State). t.outbox.ids) run)
+by_tick route c s new (Took hand ∷ moves) own run = by_tick route c (after s (Took hand)) new moves own.1 run.1
+by_tick route c s new (Called call marks ∷ moves) own run =
+    let (none, same) = by_tick route c (after s (Called call marks)) new moves own.1 run.1 in
+    (none, same ∙ called_ids s call marks)
+by_tick route c s new (_ ∷ moves) own run = absurd own.0
 
 -- what an outbox accepts is what may be recorded
 accepted : (c : Contents) (change : Change) (event : OutboxEvent) → IsRecordable c change event
     → is_accepted c.ids change event ≡ true
-accepted c change event may =
-    ap (λ bad. is_none bad && (not (is_recorded c.ids (id_text event.id)) && nat_lt (suc (length c.ids)) (2 ^ 63)))
-    may.fits
-    ∙ ap (λ spent. not spent && nat_lt (suc (length c.ids)) (2 ^ 63)) may.fresh
-    ∙ lt-ltb (suc (length c.ids)) (2 ^ 63) may.room
+accepted c change event may = grind (arith, nat_tests, may.fits, may.fresh, may.room)
+
+none_is : {A : Type 0} (o : Option A) → is_none o ≡ true → o ≡ None
+none_is None is = refl
+none_is (Some x) is = cc
 
 may_record : (c : Contents) (change : Change) (event : OutboxEvent) → is_accepted c.ids change event ≡ true
     → IsRecordable c change event
-may_record c change event is = by (first_bad change event) (is_recorded c.ids (id_text event.id))
-    (nat_lt (suc (length c.ids)) (2 ^ 63)) refl refl refl is
-  where
-    by : (bad : Option Column) (spent room : Bool) → first_bad change event ≡ bad
-        → is_recorded c.ids (id_text event.id) ≡ spent
-        → nat_lt (suc (length c.ids)) (2 ^ 63) ≡ room → is_none bad && (not spent && room) ≡ true
-        → IsRecordable c change event
-    by None false true fits fresh room all =
-        record { fits = fits; fresh = fresh; room = ltb-true (suc (length c.ids)) (2 ^ 63) room }
-    by None false false fits fresh room all = absurd (true≢false (sym all))
-    by None true room fits fresh is' all = absurd (true≢false (sym all))
-    by (Some column) spent room fits fresh is' all = absurd (true≢false (sym all))
+may_record c change event is = record {
+  fits = none_is (first_bad change event) (grind (arith, nat_tests, is));
+  fresh = grind (arith, nat_tests, is);
+  room = grind (arith, nat_tests, is);
+}
 
 -- what is not recorded although it might be
 not_accepted : (c : Contents) (change : Change) (event : OutboxEvent) (accepts : Bool) → is_accepted c.ids change event
@@ -221,8 +191,8 @@ module _ (route : Dispatching) where
           let run : IsRouterRun route s [] mid = rw is.0 at does.run in
           rw (is.0, run, not_accepted s.outbox change event (is_accepted s.outbox.ids change event) refl is.1) refl
   of_step s mid (steps.Tick loss) more these losses does =
-      ap (λ rows. rows ++ rows_from mid.outbox.ids more) (none_by_tick s.outbox these does.own.own)
-      ∙ ap (λ ids. rows_from ids more) (ids_by_tick route s mid these does.own.own does.run)
+      let (none, same) = by_tick route s.outbox s mid these does.own.own does.run in
+      rw (none, same) refl
   of_step s mid steps.Restart more these losses does =
       let run : IsRouterRun route s (Restarted ∷ []) mid = rw does.own.0 at does.run in rw (does.own.0, run.1) refl
   of_step s mid steps.Sweep more these losses does =

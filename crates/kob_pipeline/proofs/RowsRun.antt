@@ -1,29 +1,15 @@
 -- No recorded row is lost.
-use Rattle.std.proofs.Common.{◌≡◌, ℕ, List, [], ◌∷◌, ◌++◌, Bool, true, false, refl, sym, ap, ◌∙◌, inl, inr, subst, append-nil}
-use Rattle.std.specs.Prelude.{Option, Some, None, Contains, nat_lt}
-use Rattle.std.specs.List.{AllByRecursion}
-use Rattle.std.proofs.lemmas.Bool.{ltb-true, true≢false}
-use Rattle.kob_names.specs.declared.batch.Batch.{Batch}
+use Rattle.kob_pipeline.proofs.Words.{AllByRecursion, AreServed, Batch, Body, Bool, Call, Contains, Denied, Dispatching, Done, Entry, Hand, InitProducerId, IsDone, IsRouterRun, IsSending, List, MayCall, None, Option, Produce, Refused, Reply, Request, Some, [], after_acknowledgement, ap, false, inl, inr, ltb-true, nat_lt, refl, served_to, subst, sym, true, true≢false, ℕ, ◌++◌, ◌∙◌, ◌∷◌, ◌≡◌}
 use Rattle.kob_outbox.specs.Contents.{Event}
 use Rattle.kob_rights.specs.declared.on_partitions.Produce.{Produce as ProduceRequest}
-use Rattle.kob_rights.specs.declared.reply.Body.{Body}
-use Rattle.kob_rights.specs.declared.reply.Reply.{Reply}
-use Rattle.kob_rights.specs.declared.reply.Reply.TheVariants.{Denied, Done, Refused}
-use Rattle.kob_rights.specs.declared.request.Request.{Request}
-use Rattle.kob_rights.specs.declared.request.Request.TheVariants.{InitProducerId, Produce}
-use Rattle.kob_router.specs.Dispatches.{Dispatching}
-use Rattle.kob_router.specs.Run.{Hand, IsDone, IsRouterRun, IsSending, May, MayCall, Move, State, after_acknowledgement, after, calls_of, events_of, start}
-use Rattle.kob_router.specs.Run.Move.{Called, Recorded, Restarted, Swept, Took}
-use Rattle.kob_router.specs.declared.line.Call.{Call}
-use Rattle.kob_shared.specs.declared.journal.Entry.{Entry}
-use Rattle.kob_router.specs.Served.{AreServed}
-use Rattle.kob_pipeline.specs.Served.{served_to}
+use Rattle.kob_router.specs.Run.{May, Move, State, after, calls_of, events_of, start}
+use Rattle.kob_router.specs.Run.Move.{Called}
 use Rattle.kob_pipeline.specs.Waiting.{IsSent, IsWaitingOrSent}
 use Rattle.kob_pipeline.proofs.Logged.{kept_at_start}
 use Rattle.kob_pipeline.proofs.Lists.{all_append, all_contained, all_last, all_weaker, kept_by, same_some}
 use Rattle.kob_pipeline.proofs.RouterKept.{IsHeld, IsUnmarked, held_by_move, held_marked}
 use Rattle.kob_pipeline.proofs.Rows.{call_of, kept_by_router, recorded}
-use Rattle.kob_pipeline.proofs.RouterRun.{heard_none, not_both}
+use Rattle.kob_pipeline.proofs.RouterRun.{heard_none, unmarked}
 use Rattle.kob_pipeline.proofs.ServedRuns.{Hears, IsOf, IsServedBy, IsUnheard, all_pass}
 
 -- a Done that was heard is the reply
@@ -98,23 +84,18 @@ module _ (route : Dispatching) (worker : ℕ) (journal : List Entry) where
       (kept_mark rows s i.hand i.has_hand (sent refl asked i refl (may.1 refl)) k)
   kept_call rows s _ heard true may sent k = absurd may
 
-  kept_move : (m : Move) (rows : List Event) (s : State) (b : Unit {0}) → May route s m → IsUnheard (call_of m)
-      → Kept rows s → Kept (rows ++ recorded s m) (after s m)
-  kept_move (Recorded change event) rows s b may u k = kept_unmarked (Recorded change event) rows s may tt k
-  kept_move Swept rows s b may u k = kept_unmarked Swept rows s may tt k
-  kept_move Restarted rows s b may u k = kept_unmarked Restarted rows s may tt k
-  kept_move (Took hand) rows s b may u k = kept_unmarked (Took hand) rows s may tt k
-  kept_move (Called c marks) rows s b may u k =
-      subst (λ (rs : List Event). Kept rs (after s (Called c marks))) (sym (append-nil rows))
-      (kept_call rows s c.request c.heard marks may
-      (λ on asked i is done. absurd (not_both c.heard (heard_none c.heard u) done)) k)
+  unmarked_move : (m : Move) (s : State) → May route s m → IsUnheard (call_of m) → IsUnmarked m
+  unmarked_move (Called c marks) s may u =
+      unmarked route s c.request c.heard marks may (heard_none c.heard u)
+  unmarked_move _ s may u = tt
 
   pub all_wait_or_sent : (moves : List Move) (final : State) → IsRouterRun route start moves final
       → AreServed (calls_of moves) (served_to worker journal)
       → AllByRecursion (IsWaitingOrSent route worker journal final.outbox) (events_of start.outbox moves)
   all_wait_or_sent moves final run served =
       let k : Kept (events_of start.outbox moves) final =
-      kept_by_router route worker (IsOf journal) (λ rows s b. Kept rows s) kept_move
+      kept_by_router route worker (IsOf journal) (λ rows s b. Kept rows s)
+      (λ m rows s b may u k. kept_unmarked m rows s may (unmarked_move m s may u) k)
       (λ c marks rows s e b d may by own there k.
       kept_call rows s c.request c.heard marks may
       (λ on asked i is done. acknowledged s asked c e i is done by own there) k)

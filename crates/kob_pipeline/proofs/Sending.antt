@@ -1,27 +1,11 @@
 -- The sequences of one producer on one partition, and how the broker judges its batches of one record.
-use Rattle.std.proofs.Common.{◌≡◌, ℕ, suc, ◌+◌, ◌-◌, ◌%◌, ◌<◌, ◌≤◌, ◌==◌, ◌&&◌, List, [], ◌∷◌, ◌++◌, Bool, true, false, cond, refl, sym, ap, ◌∙◌, inl, inr, subst, length, get_or, drop, find, arith, append_assoc, eqb-true, nat_lt}
-use Rattle.std.specs.Prelude.{Option, Some, None, slice_get}
-use Rattle.std.specs.List.{AllByRecursion}
-use Rattle.std.proofs.lemmas.Bool.{cases_Bool, cond-false, and_parts, cases_eq, le-ltb, eq-eqb}
-use Rattle.std.proofs.lemmas.List.{append-nil, get_or_append_left, get_or_push, get_or-drop, length-drop, length_push}
-use Rattle.std.proofs.lemmas.Option.{slice_get-get_or}
+use Rattle.kob_pipeline.proofs.Words.{AllByRecursion, Batch, Bool, Contains, Idem, IsGiven, List, Next, None, Option, Place, Producer, Repeat, Sequence, Some, [], after_use, ap, append-nil, append_assoc, arith, batch_of, cases_Bool, cases_eq, drop, eq-eqb, false, find, get_or, get_or-drop, get_or_append_left, get_or_push, history, history_from, inl, inr, is_same, judge, judge_same, le-ltb, length, length-drop, length_push, memory_length, nat_lt, nat_tests, refl, same_place, sent_in, sequence_of, slice_get, slice_get-get_or, subst, sym, true, with_sequence_for, ℕ, ◌%◌, ◌++◌, ◌+◌, ◌-◌, ◌<◌, ◌∙◌, ◌∷◌, ◌≡◌, ◌≤◌}
 use Rattle.circular_buffer.specs.Buffer.{keep_last, last_item}
-use Rattle.kob_names.specs.declared.batch.Batch.{Batch}
-use Rattle.kob_names.specs.declared.batch.Idem.{Idem}
 use Rattle.kob_names.specs.declared.record.Record.{Record}
-use Rattle.kob_producers.specs.Judge.{is_same, judge, judge_same, memory_length}
 use Rattle.kob_producers.specs.Recent.{sent_batch}
 use Rattle.kob_producers.specs.Sequence.{last_of, next_sequence}
-use Rattle.kob_producers.specs.declared.judge.Judgement.TheVariants.{Next, Repeat, OutOfOrder}
 use Rattle.kob_producers.specs.declared.sent.Sent.{Sent}
-use Rattle.kob_partition.specs.Batches.{history, history_from, sent_in}
-use Rattle.kob_router.specs.Places.{with_sequence_for, same_place, sequence_of, after_use}
-use Rattle.kob_router.specs.Run.{batch_of}
-use Rattle.kob_router.specs.declared.place.Place.{Place}
-use Rattle.kob_router.specs.declared.sender.Producer.{Producer}
-use Rattle.kob_router.specs.declared.sequences.Sequence.{Sequence}
-use Rattle.kob_pipeline.specs.View.{IsGiven}
-use Rattle.kob_pipeline.proofs.Lists.{same_here, places_are}
+use Rattle.kob_pipeline.proofs.Lists.{contains_more, places_are, same_here, same_some}
 
 -- the sequence of a producer's n-th record on a partition
 abbrev pub wrapped : ℕ → ℕ
@@ -65,22 +49,10 @@ last_is x xs = slice_get-get_or (x ∷ xs) (length xs) x (omega arith)
 abbrev pub idem_of : Producer → ℕ → Idem
 idem_of p base = record { id = p.id; epoch = p.epoch; base = base }
 
-first_base : (base : ℕ) (b : Bool) → (base == 0) ≡ b → cond b Next OutOfOrder ≡ Next → base ≡ 0
-first_base base true is h = eqb-true base 0 is
-first_base base false is h = cc
-
-later_base : (n : ℕ) (base : ℕ) (l : Sent) (p : Producer) (b : Bool) → IsNumber p n l
-    → (base == next_sequence (last_of l.base l.count)) ≡ b → cond b Next OutOfOrder ≡ Next → base ≡ wrapped (n + 1)
-later_base n base l p true num is h =
-    let next : next_sequence (last_of (wrapped n) 1) ≡ wrapped (n + 1) = omega arith in
-    eqb-true base (next_sequence (last_of l.base l.count)) is ∙ rw (num.base, num.single) next
-later_base n base l p false num is h = cc
-
-same_base : (n : ℕ) (base : ℕ) (l : Sent) (p : Producer) (o : Option Sent) → IsNumber p n l → judge_same o base l ≡ Next
-    → base ≡ wrapped (n + 1)
-same_base n base l p (Some s) num h = cc
-same_base n base l p None num h =
-    later_base n base l p (base == next_sequence (last_of l.base l.count)) num refl h
+next_of_last : (base : ℕ) (l : Sent) (o : Option Sent) → judge_same o base l ≡ Next
+    → base ≡ next_sequence (last_of l.base l.count)
+next_of_last base l (Some s) h = cc
+next_of_last base l None h = grind (arith, nat_tests, h)
 
 -- the judgement where the last batch has the producer's epoch
 judged_same : (p : Producer) (base : ℕ) (x : Sent) (xs : List Sent) (n : ℕ) (l : Sent)
@@ -100,46 +72,35 @@ judged_same p base x xs n l at same =
 pub next_base : (p : Producer) (sents : List Sent) (base : ℕ) → AreCounted p sents
     → judge sents (idem_of p base) 1 ≡ Next
     → base ≡ wrapped (length sents)
-next_base p [] base h next = first_base base (base == 0) refl next ∙ refl
+next_base p [] base h next = grind (arith, nat_tests, next)
 next_base p (x ∷ xs) base h next =
     let l : Sent = get_or (x ∷ xs) (length xs) x in
     let num : IsNumber p (length xs) l = h (length xs) x (omega arith) in
     let e = judged_same p base x xs (length xs) l (last_is x xs) num.epoch in
-    same_base (length xs) base l p (find (is_same (idem_of p base) 1) (keep_last memory_length (x ∷ xs))) num
-    (sym e ∙ next)
-    ∙ ap wrapped (omega arith)
+    let after : next_sequence (last_of (wrapped (length xs)) 1) ≡ wrapped (length (x ∷ xs)) = omega arith in
+    next_of_last base l (find (is_same (idem_of p base) 1) (keep_last memory_length (x ∷ xs))) (sym e ∙ next)
+    ∙ rw (num.base, num.single) after
 
 -- what is found passes, and stands somewhere
 found_at : {A : Type 0} (test : A → Bool) (xs : List A) (y : A) → find test xs ≡ Some y
-    → (k : ℕ) × (k < length xs) × (get_or xs k y ≡ y) × (test y ≡ true)
+    → Contains xs y × (test y ≡ true)
 found_at test [] y h = cc
 found_at test (x ∷ xs) y h =
     elim (cases_Bool (test x)) [
-      | inl on ↦
-          let some : Some x ≡ Some y = rw on at h in
-          let e : x ≡ y = cc in
-          (0, omega arith, e, ap test (sym e) ∙ on)
-      | inr off ↦ let r = found_at test xs y (rw off at h) in (suc r.0, omega (arith, r.1), r.2, r.3)
+      | inl on ↦ let e : x ≡ y = same_some x y (rw on at h) in ((0, omega arith, e), ap test (sym e) ∙ on)
+      | inr off ↦ let r = found_at test xs y (rw off at h) in (contains_more xs x y r.0, r.1)
     ]
 
 repeat_found : (o : Option Sent) (base offset : ℕ) (l : Sent) → judge_same o base l ≡ Repeat offset → (s : Sent)
     × (o ≡ Some s)
 repeat_found (Some s) base offset l h = (s, refl)
-repeat_found None base offset l h = not_repeat (base == next_sequence (last_of l.base l.count)) h
-  where
-    not_repeat : (b : Bool) → cond b Next OutOfOrder ≡ Repeat offset → (s : Sent) × (None ≡ Some s)
-    not_repeat true e = cc
-    not_repeat false e = cc
-
-not_first : (b : Bool) (offset : ℕ) → cond b Next OutOfOrder ≡ Repeat offset → ⊥
-not_first true offset e = cc
-not_first false offset e = cc
+repeat_found None base offset l h = absurd (grind (arith, nat_tests, h))
 
 -- a repeat has the sequence of one of the last five
 pub repeat_base : (p : Producer) (sents : List Sent) (base offset : ℕ) → AreCounted p sents
     → judge sents (idem_of p base) 1 ≡ Repeat offset
     → (j : ℕ) × (j < length sents) × (length sents ≤ j + 5) × (base ≡ wrapped j)
-repeat_base p [] base offset h again = absurd (not_first (base == 0) offset again)
+repeat_base p [] base offset h again = absurd (grind (arith, nat_tests, again))
 repeat_base p (x ∷ xs) base offset h again =
     let l : Sent = get_or (x ∷ xs) (length xs) x in
     let num : IsNumber p (length xs) l = h (length xs) x (omega arith) in
@@ -147,14 +108,13 @@ repeat_base p (x ∷ xs) base offset h again =
     let f = repeat_found (find (is_same (idem_of p base) 1) (keep_last memory_length (x ∷ xs))) base offset l
     (sym same ∙ again) in
     let m : ℕ = length (x ∷ xs) - 5 in
-    let r = found_at (is_same (idem_of p base) 1) (drop m (x ∷ xs)) f.0 f.1 in
-    let within : m + r.0 < length (x ∷ xs) = omega (arith, r.1, length-drop m (x ∷ xs)) in
-    let read : get_or (x ∷ xs) (m + r.0) f.0 ≡ f.0 = sym (get_or-drop m (x ∷ xs) r.0 f.0) ∙ r.2 in
-    let number : IsNumber p (m + r.0) f.0 = subst (λ (s : Sent). IsNumber p (m + r.0) s) read (h (m + r.0) f.0 within)
-    in
-    let parts = and_parts (f.0.epoch == p.epoch) (f.0.base == base && f.0.count == 1) r.3 in
-    let bases : f.0.base ≡ base = eqb-true f.0.base base (and_parts (f.0.base == base) (f.0.count == 1) parts.1).0 in
-    (m + r.0, within, omega arith, sym bases ∙ number.base)
+    let (there, passes) = found_at (is_same (idem_of p base) 1) (drop m (x ∷ xs)) f.0 f.1 in
+    let (k, below, at) = there in
+    let within : m + k < length (x ∷ xs) = omega (arith, below, length-drop m (x ∷ xs)) in
+    let read : get_or (x ∷ xs) (m + k) f.0 ≡ f.0 = sym (get_or-drop m (x ∷ xs) k f.0) ∙ at in
+    let number : IsNumber p (m + k) f.0 = subst (λ (s : Sent). IsNumber p (m + k) s) read (h (m + k) f.0 within) in
+    let base_is : f.0.base ≡ base = grind (arith, nat_tests, passes) in
+    (m + k, within, omega arith, sym base_is ∙ number.base)
 
 -- the history with one more batch of the producer
 history_last_from : (id start : ℕ) (log : List Batch) (b : Batch)
@@ -179,11 +139,7 @@ history_last p log base message =
 
 not_its : (id next offset count : ℕ) → next ≤ id → (o : Option Idem) → IsGiven next o → sent_in id offset count o ≡ []
 not_its id next offset count l None h = refl
-not_its id next offset count l (Some idem) h =
-    elim (cases_Bool (id == idem.id)) [
-      | inl e ↦ let same : id ≡ idem.id = eqb-true id idem.id e in absurd (omega (arith, same, h))
-      | inr e ↦ cond-false (id == idem.id) (sent_batch idem count offset ∷ []) [] e
-    ]
+not_its id next offset count l (Some idem) h = grind (arith, nat_tests, h, l)
 
 -- a producer whose id was not given yet has sent nothing
 pub no_history : (id next : ℕ) → next ≤ id → (log : List Batch)
@@ -202,27 +158,16 @@ no_history id next l log h = go 0 log h
 pub sequence_used_here : (ss : List Sequence) (q : Place)
     → sequence_of (after_use ss q) q ≡ next_sequence (sequence_of ss q)
 sequence_used_here [] q = rw (same_here q) refl
-sequence_used_here (s ∷ ss) q =
-    elim (cases_Bool (same_place s.place q)) [
-      | inl hit ↦ rw (hit, hit) refl
-      | inr miss ↦ rw (miss, miss) (sequence_used_here ss q)
-    ]
+sequence_used_here (s ∷ ss) q = grind (arith, nat_tests, sequence_used_here ss q)
 
 pub sequence_used_elsewhere : (ss : List Sequence) (p q : Place) → same_place p q ≡ false
     → sequence_of (after_use ss p) q ≡ sequence_of ss q
 sequence_used_elsewhere [] p q h = rw h refl
 sequence_used_elsewhere (s ∷ ss) p q h =
-    elim (cases_Bool (same_place s.place p)) [
-      | inl hit ↦
-          let miss : same_place s.place q ≡ false = ap (λ (x : Place). same_place x q) (places_are s.place p hit) ∙ h in
-          rw (hit, miss) refl
-      | inr other ↦ rw other (ap (λ (k : ℕ). cond (same_place s.place q) s.next k) (sequence_used_elsewhere ss p q h))
-    ]
+    let here : same_place s.place p ≡ true → same_place s.place q ≡ false =
+    λ hit. ap (λ (x : Place). same_place x q) (places_are s.place p hit) ∙ h in
+    grind (arith, nat_tests, here, sequence_used_elsewhere ss p q h)
 
 pub sequence_prepared : (ss : List Sequence) (p q : Place) → sequence_of (with_sequence_for ss p) q ≡ sequence_of ss q
-sequence_prepared [] p q = elim (cases_Bool (same_place p q)) [ inl on ↦ rw on refl | inr off ↦ rw off refl ]
-sequence_prepared (s ∷ ss) p q =
-    elim (cases_Bool (same_place s.place p)) [
-      | inl hit ↦ rw hit refl
-      | inr other ↦ rw other (ap (λ (k : ℕ). cond (same_place s.place q) s.next k) (sequence_prepared ss p q))
-    ]
+sequence_prepared [] p q = grind (arith, nat_tests)
+sequence_prepared (s ∷ ss) p q = grind (arith, nat_tests, sequence_prepared ss p q)

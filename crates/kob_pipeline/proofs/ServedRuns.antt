@@ -1,15 +1,6 @@
 -- A run of a worker whose calls a journal served, along the journal: its moves and the entries, each at its pace.
-use Rattle.std.proofs.Common.{◌≡◌, ◌⊎◌, ℕ, ◌==◌, List, [], ◌∷◌, ◌++◌, inl, inr, refl, sym, subst, append_assoc, append-nil}
-use Rattle.std.specs.Prelude.{Contains, Option, Some, None}
-use Rattle.std.specs.List.{AllByRecursion, cons_option, filter_map}
-use Rattle.std.proofs.lemmas.Bool.{cases_Bool, eqb-false, eqb-true}
-use Rattle.kob_rights.specs.declared.reply.Reply.{Reply}
-use Rattle.kob_router.specs.declared.line.Call.{Call}
-use Rattle.kob_shared.specs.declared.journal.Entry.{Entry}
-use Rattle.kob_router.specs.Served.{AreServed, Served}
-use Rattle.kob_pipeline.specs.Served.{served_in, served_to}
+use Rattle.kob_pipeline.proofs.Words.{AllByRecursion, AreServed, Call, Contains, Entry, IsHistory, IsSameView, List, None, Option, Reply, Served, Some, Step, View, [], append-nil, append_assoc, cases_Bool, cons_option, eqb-false, eqb-true, filter_map, inl, inr, refl, served_in, served_to, subst, sym, ℕ, ◌++◌, ◌==◌, ◌∷◌, ◌≡◌, ◌⊎◌}
 use Rattle.kob_pipeline.proofs.Lists.{all_contained}
-use Rattle.kob_pipeline.specs.View.{IsHistory, IsSameView, Step, View}
 
 -- what was heard of a reply
 abbrev pub Hears : Option Reply → Reply → Type 0

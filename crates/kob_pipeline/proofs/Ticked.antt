@@ -1,24 +1,17 @@
 -- A tick over a line at a desk is a step of its worker.
-use Rattle.std.proofs.Common.{◌≡◌, ℕ, List, refl, subst}
-use Rattle.std.specs.Prelude.{Option}
-use Rattle.kob_inbox.specs.declared.fetcher.Subscription.{Subscription}
+use Rattle.kob_pipeline.proofs.Words.{AreMade, AtDesk, Call, Dispatching, Leads, List, Loss, Option, Subscription, losses_of, refl, subst, ℕ, ◌≡◌}
 use Rattle.kob_inbox.specs.declared.tick.Tick.{Tick as ConsumerAnswer}
 use Rattle.kob_inbox.specs.Run as consumers
 use Rattle.kob_inbox.specs.Tick as consumer_ticks
-use Rattle.kob_router.specs.Dispatches.{Dispatching}
 use Rattle.kob_router.specs.Run as routers
 use Rattle.kob_router.specs.Tick as router_ticks
-use Rattle.kob_router.specs.declared.line.Call.{Call}
 use Rattle.kob_router.specs.declared.tick.Tick.{Tick as RouterAnswer}
-use Rattle.kob_shared.specs.Noted.{AtDesk}
 use Rattle.kob_shared.specs.declared.faults.CallFault.{CallFault}
 use Rattle.kob_pipeline.specs.declared.plan.ConsumerStep.TheVariants as consumer_steps
-use Rattle.kob_lines.specs.declared.lossy.Loss.{Loss}
 use Rattle.kob_pipeline.specs.declared.plan.ServiceStep.TheVariants as service_steps
 use Rattle.kob_pipeline.specs.Consumers as consuming
-use Rattle.kob_pipeline.specs.Losses.{AreMade, losses_of}
 use Rattle.kob_pipeline.specs.Services as serving
-use Rattle.kob_pipeline.specs.Steps.{Leads, standing}
+use Rattle.kob_pipeline.specs.Steps.{standing}
 use Rattle.kob_pipeline.proofs.Losing.{calls_of_a_tick}
 
 abbrev pub router_scene : routers.State → List Call → ℕ → router_ticks.Scene

@@ -1,33 +1,19 @@
 -- What a worker's steps, its losses and its notes make together.
-use Rattle.std.proofs.Common.{◌≡◌, List, [], ◌∷◌, ◌++◌, refl, ap, subst, ℕ, ◌+◌, ◌<◌, length, take, get_or, sym, ◌∙◌, append_assoc, append-nil, inl, inr, map, Result, Ok, Err, IfOk}
-use Rattle.kob_router.specs.declared.line.Call.{Call}
-use Rattle.kob_inbox.specs.declared.fetcher.Subscription.{Subscription}
+use Rattle.kob_pipeline.proofs.Words.{All, AreNoted, AreServed, AreServedByLoss, AtDesk, Call, Change, Dispatching, Doing, Err, IfOk, IsEventOf, IsInboxLeft, IsOutboxLeft, IsServiceRun, IsServiceStep, Leads, List, Loss, Ok, OutboxEvent, Result, Served, Standing, Steps, Subscription, [], ap, append-nil, append_assoc, dispatch_of, get_or, inl, inr, later_than, length, map, nothing, refl, served_by_notes, stored_row, subst, sym, take, take_more, ℕ, ◌++◌, ◌+◌, ◌<◌, ◌∙◌, ◌∷◌, ◌≡◌}
 use Rattle.kob_inbox.specs.Run.{Move, calls_of}
 use Rattle.kob_inbox.specs.Run.Move.{Called, Restarted}
-use Rattle.std.proofs.lemmas.List.{take_more}
-use Rattle.kob_lines.specs.declared.lossy.Loss.{Loss}
-use Rattle.kob_pipeline.specs.Steps.{Doing, Leads, Standing, Steps, standing}
-use Rattle.std.specs.List.{All}
-use Rattle.kob_outbox.specs.Events.{stored_row}
-use Rattle.kob_outbox.specs.Reading.{later_than}
-use Rattle.kob_router.specs.Dispatches.{Dispatching, dispatch_of}
+use Rattle.kob_pipeline.specs.Steps.{standing}
 use Rattle.kob_router.proofs.Runs.{run_append}
 use Rattle.kob_lines.proofs.ConsumerCourses.{joined}
-use Rattle.kob_rights.specs.declared.event.Event.{Event}
-use Rattle.kob_shared.specs.Noted.{AtDesk, Noted, nothing}
 use Rattle.kob_pipeline.specs.declared.end.InboxEnd.{InboxEnd}
 use Rattle.kob_pipeline.specs.declared.end.OutboxEnd.{OutboxEnd}
 use Rattle.kob_pipeline.specs.declared.plan.ConsumerPlan.{ConsumerPlan}
 use Rattle.kob_pipeline.specs.declared.plan.ConsumerStep.{ConsumerStep}
 use Rattle.kob_pipeline.specs.declared.plan.Service.{Service}
 use Rattle.kob_pipeline.specs.declared.plan.ServiceStep.{ServiceStep}
+use Rattle.kob_pipeline.specs.declared.plan.ServiceStep.TheVariants.{Record}
 use Rattle.kob_pipeline.specs.Consumers.{IsConsumerStep, IsConsumption}
-use Rattle.kob_pipeline.specs.Losses.{AreNoted, AreServedByLoss, IsEventOf}
 use Rattle.kob_pipeline.specs.Noting.{noted_append, nothing_is_noted}
-use Rattle.kob_router.specs.Served.{AreServed, Served}
-use Rattle.kob_pipeline.specs.Served.{served_by_notes}
-use Rattle.kob_pipeline.specs.Services.{IsServiceRun, IsServiceStep}
-use Rattle.kob_pipeline.specs.Workers.{IsInboxLeft, IsOutboxLeft}
 use Rattle.kob_pipeline.proofs.Rows.{all_later, run_numbered}
 use Rattle.kob_inbox.specs.Run as consumers
 use Rattle.kob_router.specs.Run as routers
@@ -125,6 +111,12 @@ leads_still {desk = desk} moves none here = record {
   noted = subst (λ (cs : List Call). AreNoted [] cs desk desk) (sym none) (nothing_is_noted desk);
 }
 
+-- an event that may not be recorded is not
+pub not_recorded : {route : Dispatching} {old new : routers.State} {change : Change} {event : OutboxEvent}
+    (desk : AtDesk) → new ≡ old → (routers.IsRecordable old.outbox change event → ⊥)
+    → Leads (IsServiceStep route) routers.calls_of (standing old desk) (Record change event) (standing new desk)
+not_recorded desk same never = leads_still [] refl (record { run = same; own = (inr (refl, never), refl) })
+
 -- what holds of each step's moves, and of moves one after another, holds of all
 pub steps_run : {S T M : Type 0} (does : S → T → List M → List Loss → S → Type 0) (Run : S → List M → S → Type 0)
     → ((s t : S) → t ≡ s → Run s [] t)
@@ -169,18 +161,13 @@ consumer_run t old new steps moves ls all =
 -- what was noted from nothing on is all
 all_noted : (ls : List Loss) (cs : List Call) (begun desk : AtDesk) → begun.noted ≡ nothing
     → AreNoted ls cs begun desk → AreServedByLoss ls cs (served_by_notes desk.noted.events desk.noted.told)
-all_noted ls cs begun desk none is =
-    let all = is.noted ∙ ap (λ (n : Noted). served_by_notes n.events n.told ++ is.served) none in
-    subst (λ (ss : List Served). AreServedByLoss ls cs ss) (sym all) is.by_loss
+all_noted ls cs begun desk none is = rw (is.noted, none) is.by_loss
 
 all_own : (ls : List Loss) (cs : List Call) (principal host : List ℕ) (begun desk : AtDesk) → begun.noted ≡ nothing
     → begun.seat.principal ≡ principal → begun.seat.host ≡ host → AreNoted ls cs begun desk
     → All (IsEventOf principal host) desk.noted.events
 all_own ls cs principal host begun desk none same_principal same_host is =
-    let all = is.added ∙ ap (λ (n : Noted). n.events ++ is.events) none in
-    subst (λ (es : List Event). All (IsEventOf principal host) es) (sym all)
-    (subst (λ p. All (IsEventOf p host) is.events) same_principal
-    (subst (λ h. All (IsEventOf begun.seat.principal h) is.events) same_host is.own))
+    rw (is.added, none, ← same_principal, ← same_host) is.own
 
 pub service_run_of : (s : Service) (begun desk : AtDesk) (left : OutboxEnd) → begun.noted ≡ nothing
     → begun.seat.principal ≡ s.principal → begun.seat.host ≡ s.host → IsOutboxLeft s begun desk left

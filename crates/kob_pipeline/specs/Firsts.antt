@@ -1,6 +1,6 @@
 -- Lists with each element at its first place, and beginnings of lists.
-use Rattle.std.specs.Prelude.{◌≡◌, ℕ, zero, suc, List, [], ◌∷◌, ◌++◌, Bool, if◌then◌else◌}
-use Rattle.std.specs.List.{list_any}
+use Rattle.std.specs.Prelude.{◌≡◌, List, [], ◌∷◌, ◌++◌, Bool, if◌then◌else◌}
+use Rattle.std.specs.List.{fold, list_any}
 
 -- the first list begins the second
 abbrev pub IsPrefixOf : {A : Type 0} → List A → List A → Type 0
@@ -10,16 +10,6 @@ IsPrefixOf {A} xs ys = (rest : List A) × (xs ++ rest ≡ ys)
 abbrev pub with_new : {A : Type 0} → (A → A → Bool) → List A → A → List A
 with_new same xs x = if list_any (same x) xs then xs else xs ++ x ∷ []
 
--- the elements go to the end, one after another, where nothing is the same
-abbrev pub with_each_new : {A : Type 0} → (A → A → Bool) → List A → List A → List A
-with_each_new same xs [] = xs
-with_each_new same xs (y ∷ ys) = with_each_new same (with_new same xs y) ys
-
 -- each element at its first place
 abbrev pub firsts : {A : Type 0} → (A → A → Bool) → List A → List A
-firsts same xs = with_each_new same [] xs
-
--- the numbers below a bound, in order
-abbrev pub numbers_below : ℕ → List ℕ
-numbers_below zero = []
-numbers_below (suc n) = numbers_below n ++ n ∷ []
+firsts same xs = fold (with_new same) [] xs

@@ -1,6 +1,7 @@
 -- Each premise is needed: a law without it is false, by a journal of a few entries.
-use Rattle.std.proofs.Common.{◌≡◌, ℕ, List, [], ◌∷◌, refl, inr, arith}
+use Rattle.std.proofs.Common.{◌≡◌, ℕ, zero, suc, List, [], ◌∷◌, refl, inr, ap, get_or, arith}
 use Rattle.std.specs.Prelude.{None, Some, codes, slice_get}
+use Rattle.std.specs.List.{range_with_len}
 use Rattle.kob_names.specs.declared.batch.Batch.{Batch}
 use Rattle.kob_names.specs.declared.record.Record.{Record}
 use Rattle.kob_partition.specs.Batches.{records_of}
@@ -21,7 +22,6 @@ use Rattle.kob_pipeline.specs.Premises.{IsNeverDeleted, IsSoleCommitter}
 use Rattle.kob_pipeline.specs.Taking.{IsTakenInOrder}
 use Rattle.kob_pipeline.specs.View.{IsHistory, View, opening_view, with_batch, with_commit, without_topic}
 use Rattle.kob_service.proofs.Example.{call, entry, position, same, subscription, taken_all}
-use Rattle.kob_pipeline.proofs.Once.{next_number}
 use Rattle.kob_service.proofs.Samples.{here, message, target}
 
 -- a stranger sends these without a producer id
@@ -117,8 +117,11 @@ needs_a_sole_committer law =
     let order =
     law subscription 2 past_one committed_one takes_one (taken_all consumer.start takes_one) here other_commits
     one_part (λ p. p, (λ p. p, (λ p. p, (λ p. p, tt)))) in
-    let first : 1 ≡ 0 = next_number 0 order.bound 1 [] order.offsets in
-    absurd (omega (arith, first))
+    begins_at_0 order.bound order.offsets
+  where
+    begins_at_0 : (bound : ℕ) → 1 ∷ [] ≡ range_with_len 0 bound → ⊥
+    begins_at_0 zero same = cc
+    begins_at_0 (suc bound) same = let first : 1 ≡ 0 = ap (λ ns. get_or ns 0 0) same in absurd (omega (arith, first))
 
 -- where a topic may be deleted, what was taken in may stand there no more
 

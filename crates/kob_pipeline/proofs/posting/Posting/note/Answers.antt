@@ -1,10 +1,10 @@
-use Rattle.std.proofs.Common.{[], ◌∷◌, inl, inr, refl, sym, ap, subst}
+use Rattle.std.proofs.Common.{[], ◌∷◌, inl, refl, sym, ap, subst}
 use Rattle.std.specs.Prelude.{Err, option_map}
 use Rattle.kob_router.specs.Run.Move.{Recorded}
 use Rattle.kob_router.specs.Tick.{IsFirst, hand_of, state_of}
 use Rattle.kob_outbox.specs.Fields.{first_bad}
 use Rattle.kob_pipeline.proofs.Outboxes.{first_recorded, fits_unless}
-use Rattle.kob_pipeline.proofs.Worked.{leads_still}
+use Rattle.kob_pipeline.proofs.Worked.{leads_still, not_recorded}
 use Rattle.kob_pipeline.proofs.posting.Posting.note.Goals as goal
 
 pub returns-in-Ok-clause-first : goal.returns-in-Ok-clause-first
@@ -28,18 +28,10 @@ returns-in-Ok-clause-done c = λ desk.
 
 pub returns-in-Err-BadField-clause-done : goal.returns-in-Err-BadField-clause-done
 returns-in-Err-BadField-clause-done c = λ desk.
-    leads_still [] refl
-    (record {
-      run = ap (state_of c.args.self.now.router) c.in-Err-BadField.ensures.err;
-      own = (
-        inr (
-          refl,
-          λ may. let bad = (c.in-Err-BadField.ensures.bad c.in-Err-BadField.field-0-0).0
-              (ap Err c.in-Err-BadField.field-0-is) in let good = may.fits in absurd (cc),
-        ),
-        refl,
-      );
-    })
+    let was = c.in-Err-BadField.ensures in
+    not_recorded desk (ap (state_of c.args.self.now.router) was.err) (λ may.
+    let bad = (was.bad c.in-Err-BadField.field-0-0).0 (ap Err c.in-Err-BadField.field-0-is) in
+    let good = may.fits in absurd (cc))
 
 pub returns-in-Err-Memory-clause-fits : goal.returns-in-Err-Memory-clause-fits
 returns-in-Err-Memory-clause-fits c =
@@ -54,15 +46,6 @@ returns-in-Err-Store-clause-fresh c = λ stored. (c.in-Err-Store.ensures.store (
 
 pub returns-in-Err-DuplicateId-clause-done : goal.returns-in-Err-DuplicateId-clause-done
 returns-in-Err-DuplicateId-clause-done c = λ desk.
-    let made = c.in-Err-DuplicateId.ensures in
-    leads_still [] refl
-    (record {
-      run = ap (state_of c.args.self.now.router) made.err;
-      own = (
-        inr (
-          refl,
-          λ may. let spent = (made.duplicate (ap Err c.in-Err-DuplicateId.field-0-is)).1 in let fresh = may.fresh in absurd (cc),
-        ),
-        refl,
-      );
-    })
+    let was = c.in-Err-DuplicateId.ensures in
+    not_recorded desk (ap (state_of c.args.self.now.router) was.err) (λ may.
+    let spent = (was.duplicate (ap Err c.in-Err-DuplicateId.field-0-is)).1 in let fresh = may.fresh in absurd (cc))
