@@ -7,21 +7,17 @@ use Rattle.std.specs.Result.{result_unwrap_or}
 use Rattle.bstr.proofs.lemmas.LengthLemmas.{length-lines}
 use Rattle.bstr.proofs.lemmas.LineLemmas.{lines-nil, lines-step, line_len-bounds}
 use Rattle.bstr.specs.Text.{line_len, lines_of, without_terminator}
-use Rattle.kob_acl_cli.specs.declared.args.CliArgs.{CliArgs}
 use Rattle.kob_names.specs.declared.settings.Settings.{Settings}
-use Rattle.kob_rights.specs.declared.event.Event.{Event}
 use Rattle.kob_script.proofs.Choices.{both}
 use Rattle.kob_script.specs.Checks.{fault_at, kept_answer, ChecksLine, ChecksNext, script_so_far}
-use Rattle.kob_script.specs.CommandLines.{asked_by, events_of, line_fault}
+use Rattle.kob_script.specs.CommandLines.{CliArgs, Event, asked_by, events_of, line_fault}
 use Rattle.kob_script.specs.Reading.{◌>>=◌, Fails, unless_found, LateSetting, FaultKind, Memory, Fault, LineError}
 use Rattle.kob_script.specs.Requests.{AreWholeLines, lines_in_blocks, first_answer, line_words, requests_in, requests_of, answers_after}
-use Rattle.kob_script.specs.Script.{after_acl, lines_in, with_line, with_words, empty_script, lines_from, script_of, then_lines, HasNoAclLine, is_plain, LinesFrom, MayRead, Reads, ReadsAs, ThenLines, IsAnswerTo, IsAnswerToLine, is_setting, settings_with}
+use Rattle.kob_script.specs.Script.{Script, ScriptError, after_acl, lines_in, with_line, with_words, empty_script, lines_from, script_of, then_lines, HasNoAclLine, is_plain, LinesFrom, MayRead, Reads, ReadsAs, ThenLines, IsAnswerTo, IsAnswerToLine, is_setting, settings_with}
 use Rattle.kob_script.specs.Words.{Word, words_of}
 use Rattle.kob_script.specs.declared.checks.Checking.{Checking}
 use Rattle.kob_script.specs.declared.fault.Fault as fault
 use Rattle.kob_script.specs.declared.fault.ScriptError.TheVariants as script_error
-use Rattle.kob_script.specs.declared.fault.ScriptError.{ScriptError}
-use Rattle.kob_script.specs.declared.script.Script.{Script}
 
 pub no_lines : lines_in [] ≡ []
 no_lines = ap (map without_terminator) lines-nil

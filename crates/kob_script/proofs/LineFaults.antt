@@ -2,15 +2,10 @@
 -- for; the faults of options, and what they stand for in a script.
 use Rattle.std.proofs.Common.{inl, inr, List, [], ◌∷◌, refl, ◌≡◌, ◌≤◌, Bool, true, false, if◌then◌else◌, nat_lt, arith, Option, Some, None, ap, ℕ, ◌∙◌, length, map, Result, Ok, Err, codes, ltb-false, ltb-true, option_map, bytes_eq}
 use Rattle.std.proofs.lemmas.List.{length-map}
-use Rattle.kob_acl_cli.specs.declared.args.CliArgs.{CliArgs}
-use Rattle.kob_acl_cli.specs.declared.commands.AclCommand.{AclCommand}
-use Rattle.kob_acl_cli.specs.declared.fault.CommandFault.{CommandFault}
 use Rattle.kob_acl_cli.specs.declared.fault.CommandFault.TheVariants as options
 use Rattle.kob_acl_cli.specs.Misread.{IsFirstFault}
-use Rattle.kob_rights.specs.declared.event.Event.{Event}
-use Rattle.kob_script.specs.CommandLines.{error_of, unless_faults, acl_commands, acl_request, acl_requests, asked_by, asked_row, asking, asks_by_acl, events_of, line_fault, request_of, command_named, row, row_fault}
+use Rattle.kob_script.specs.CommandLines.{CliArgs, AclCommand, CommandFault, Event, Command, error_of, unless_faults, acl_commands, acl_request, acl_requests, asked_by, asked_row, asking, asks_by_acl, events_of, line_fault, request_of, command_named, row, row_fault}
 use Rattle.kob_script.specs.Reading.{Fails, IsAmong, earlier, first_kind, rank, Finds, ◌>>=◌, counted, found_or, unless_found, FaultKind, BadLine, LineError, Memory, Fault}
-use Rattle.kob_script.specs.declared.command.Command.{Command}
 use Rattle.kob_script.specs.declared.command.Place.TheVariants.{Texts}
 use Rattle.kob_script.specs.Words.{Word}
 use Rattle.kob_script.proofs.Choices.{chosen_false}

@@ -1,16 +1,12 @@
 -- A script as it is checked, line by line.
 use Rattle.std.specs.Prelude.{◌≡◌, ℕ, List, [], ◌∷◌, ◌++◌, Option, Result, Ok, Err, length, if◌then◌else◌}
-use Rattle.kob_acl_cli.specs.declared.args.CliArgs.{CliArgs}
-use Rattle.kob_rights.specs.declared.event.Event.{Event}
 use Rattle.kob_script.specs.declared.checks.CheckedScript.{CheckedScript}
 use Rattle.kob_script.specs.declared.checks.Checking.{Checking}
 use Rattle.kob_script.specs.declared.fault.LineError.TheVariants as line_error
-use Rattle.kob_script.specs.declared.fault.ScriptError.{ScriptError}
 use Rattle.kob_script.specs.declared.fault.ScriptError.TheVariants as script_error
-use Rattle.kob_script.specs.declared.script.Script.{Script}
 use Rattle.kob_script.specs.Reading.{Fails, FaultKind, LineError}
-use Rattle.kob_script.specs.Requests.{asks_clap, line_words}
-use Rattle.kob_script.specs.Script.{with_line, IsAnswerToLine, LineReadsAs}
+use Rattle.kob_script.specs.Requests.{asks_clap, line_words, CliArgs, Event}
+use Rattle.kob_script.specs.Script.{with_line, IsAnswerToLine, LineReadsAs, Script, ScriptError}
 use Rattle.kob_script.specs.Words.{Word, words_of}
 
 -- the script so far, without opening bindings, which asks for these events

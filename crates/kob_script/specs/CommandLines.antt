@@ -3,11 +3,11 @@
 use Rattle.std.specs.Prelude.{ℕ, List, Option, Result, Ok, codes, if◌then◌else◌, [], ◌∷◌, Some, None, Err, drop, map, Bool, false, find, option_map, bytes_eq}
 use Rattle.std.specs.Result.{result_ok, result_unwrap_or}
 use Rattle.kob_acl_cli.specs.Commands.{commands, faults}
-use Rattle.kob_acl_cli.specs.declared.args.CliArgs.{CliArgs}
+pub use Rattle.kob_acl_cli.specs.declared.args.CliArgs.{CliArgs}
 use Rattle.kob_acl_cli.specs.declared.commands.AclCommand.TheVariants.{Create, Delete, Describe}
-use Rattle.kob_acl_cli.specs.declared.commands.AclCommand.{AclCommand}
+pub use Rattle.kob_acl_cli.specs.declared.commands.AclCommand.{AclCommand}
 use Rattle.kob_acl_cli.specs.declared.fault.CommandFault.TheVariants as options
-use Rattle.kob_acl_cli.specs.declared.fault.CommandFault.{CommandFault}
+pub use Rattle.kob_acl_cli.specs.declared.fault.CommandFault.{CommandFault}
 use Rattle.kob_names.specs.declared.filter.BindingFilter.{BindingFilter}
 use Rattle.kob_names.specs.declared.filter.FilterPattern.TheVariants.{Any}
 use Rattle.kob_names.specs.declared.filter.FilterPattern.{FilterPattern}
@@ -15,7 +15,7 @@ use Rattle.kob_names.specs.declared.kinds.Operation.TheVariants.{All}
 use Rattle.kob_names.specs.declared.kinds.PatternKind.TheVariants.{Literal}
 use Rattle.kob_names.specs.declared.kinds.Permission.TheVariants.{Allow}
 use Rattle.kob_names.specs.declared.kinds.ResourceKind.TheVariants.{Topic}
-use Rattle.kob_rights.specs.declared.event.Event.{Event}
+pub use Rattle.kob_rights.specs.declared.event.Event.{Event}
 use Rattle.kob_rights.specs.declared.on_partitions.Before.TheVariants as befores
 use Rattle.kob_rights.specs.declared.on_partitions.Which.TheVariants.{End}
 use Rattle.kob_rights.specs.declared.request.Request.TheVariants as ask
@@ -24,7 +24,7 @@ use Rattle.kob_script.specs.Values.{idem_of, record_of, number_of, which_of, bef
 use Rattle.kob_script.specs.Reading.{found_or, first_kind, each, fault_in, unless_found, ◌>>=◌, BadWord, BadLine, Usage, NoAction, BadName, BadMix, NoResource, NoPrincipal, FaultKind, LineError}
 use Rattle.kob_script.specs.Words.{Word}
 use Rattle.kob_script.specs.declared.command.Command.TheVariants.{CreateTopic, DeleteTopic, Metadata, Produce, Fetch, ListOffsets, DeleteRecords, InitProducer, Commit, Committed, Groups, DeleteGroup, CreateAcl, DescribeAcls, DeleteAcls}
-use Rattle.kob_script.specs.declared.command.Command.{Command}
+pub use Rattle.kob_script.specs.declared.command.Command.{Command}
 use Rattle.kob_script.specs.declared.command.Place.TheVariants.{One, OrDash, OrNone, Records, Texts}
 use Rattle.kob_script.specs.declared.command.Place.{Place}
 use Rattle.kob_script.specs.declared.command.Slot.TheVariants as slot

@@ -3,10 +3,8 @@
 use Rattle.std.specs.List.{concat}
 use Rattle.std.specs.Result.{result_unwrap_or}
 use Rattle.std.specs.Prelude.{◌≡◌, ◌+◌, ℕ, List, [], ◌∷◌, ◌++◌, drop, length, Bool, Option, None, if◌then◌else◌, slice_index_or, is_some}
-use Rattle.kob_acl_cli.specs.declared.args.CliArgs.{CliArgs}
-use Rattle.kob_rights.specs.declared.event.Event.{Event}
 use Rattle.kob_script.specs.Script.{after_acl, lines_in, is_setting}
-use Rattle.kob_script.specs.CommandLines.{asked_by}
+pub use Rattle.kob_script.specs.CommandLines.{asked_by, CliArgs, Event}
 use Rattle.kob_script.specs.Words.{Word, words_of}
 use Rattle.kob_script.specs.declared.blocks.Blocks.{Blocks}
 use Rattle.kob_script.specs.declared.requests.Requests.TheInside.{Inside}

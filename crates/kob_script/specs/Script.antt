@@ -4,16 +4,15 @@ use Rattle.std.specs.List.{list_all}
 use Rattle.std.specs.Prelude.{IfOk, MatchOption, ℕ, Bool, true, false, ◌||◌, List, [], ◌∷◌, ◌++◌, Result, Ok, Err, codes, if◌then◌else◌, bytes_eq, ◌+◌, Option, None, map, nat_lt, length, ◌≡◌, ◌&&◌, not, Some, is_none}
 use Rattle.bstr.specs.Text.{lines_of, without_terminator}
 use Rattle.kob_acl_cli.specs.Lines.{IsReadOf, is_taken, refusals, rows_of_line}
-use Rattle.kob_acl_cli.specs.declared.args.CliArgs.{CliArgs}
 use Rattle.kob_names.specs.declared.settings.Settings.{Settings}
-use Rattle.kob_script.specs.CommandLines.{events_of}
+use Rattle.kob_script.specs.CommandLines.{events_of, CliArgs}
 use Rattle.kob_script.specs.Reading.{◌>>=◌, each, BadLine, LateSetting, FaultKind}
 use Rattle.kob_script.specs.Values.{text_of, principal_of}
 use Rattle.kob_script.specs.Words.{Word, words_of}
 use Rattle.kob_script.specs.declared.fault.Fault.{Fault}
 use Rattle.kob_script.specs.declared.fault.ScriptError.TheVariants as script_error
-use Rattle.kob_script.specs.declared.fault.ScriptError.{ScriptError}
-use Rattle.kob_script.specs.declared.script.Script.{Script}
+pub use Rattle.kob_script.specs.declared.fault.ScriptError.{ScriptError}
+pub use Rattle.kob_script.specs.declared.script.Script.{Script}
 
 -- the word that begins a line with a super user
 abbrev pub is_super : Word → Bool

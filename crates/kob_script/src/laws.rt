@@ -1,15 +1,12 @@
 //! What follows from the definitions.
 
 ghost use Rattle.std.specs.Prelude.{◌≡◌, ◌≤◌, ℕ, List, Option, Some, None, Result, Ok, Err, false};
-ghost use Rattle.kob_acl_cli.specs.declared.args.CliArgs.{CliArgs};
 ghost use Rattle.kob_script.specs.CommandLines.{asks_by_acl, events_of, line_fault, faults_in};
-ghost use Rattle.kob_script.specs.CommandLines.{row_fault};
+ghost use Rattle.kob_script.specs.CommandLines.{row_fault, CliArgs};
 ghost use Rattle.kob_script.specs.Words.{LeavesWhole, Word};
-ghost use Rattle.kob_script.specs.Reading.{IsAmong, rank, counted};
-ghost use Rattle.kob_script.specs.Script.{script_of, HasNoAclLine, ReadsAs};
+ghost use Rattle.kob_script.specs.Reading.{FaultKind, IsAmong, rank, counted};
+ghost use Rattle.kob_script.specs.Script.{script_of, HasNoAclLine, ReadsAs, Script};
 ghost use Rattle.kob_script.specs.declared.fault.Fault.{Fault};
-ghost use Rattle.kob_script.specs.declared.fault.FaultKind.{FaultKind};
-ghost use Rattle.kob_script.specs.declared.script.Script.{Script};
 ghost use Rattle.kob_script.specs.declared.command.Place.{Place};
 
 /// A script without `acl` lines has only one reading.

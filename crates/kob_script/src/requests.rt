@@ -32,8 +32,7 @@ pub struct Requests {
 
 impl Model for Requests {
     ghost use Rattle.std.specs.Prelude.{List};
-    ghost use Rattle.kob_rights.specs.declared.event.Event.{Event};
-    ghost use Rattle.kob_script.specs.Requests.{AreCounted, requests_left};
+    ghost use Rattle.kob_script.specs.Requests.{AreCounted, Event, requests_left};
 
     ghost Value = { List Event };
 

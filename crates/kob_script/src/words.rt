@@ -35,12 +35,13 @@ impl<'a> Model for Word<'a> {
 }
 
 impl<'a> Word<'a> {
-    /// The word that these bytes of a line are. The fault is `BadEscape`. Does not allocate for a
-    /// word without a percent sign.
-    pub fn read(alloc: Global, raw: &'a [u8]) -> Result<Word<'a>, LineError>
+    /// The word that these bytes of a line are, which has escapes only if the line has. The fault is
+    /// `BadEscape`. Does not allocate for a word without a percent sign.
+    fn read(alloc: Global, raw: &'a [u8], escapes: bool) -> Result<Word<'a>, LineError>
+        requires { MatchBool escapes ⊤ (unescaped raw.now ≡ Some raw.now) }
         ensures { Gives result (word_of raw.now) }
     {
-        if !may_have_escapes(raw) {
+        if !escapes || !may_have_escapes(raw) {
             return Ok(Word {
                 raw,
                 replaced: None,
@@ -119,25 +120,10 @@ fn each_read(alloc: Global, line: &[u8]) -> Result<Vec<Word<'_>>, LineError>
         .split(|byte| is_blank(*byte))
         .filter(|part| part.len() > 0)
     {
-        let word = word_in(alloc, raw, escapes)?;
+        let word = Word::read(alloc, raw, escapes)?;
         words.push(word)?;
     }
     Ok(words)
-}
-
-// A word of a line that has escapes or has none.
-fn word_in(alloc: Global, raw: &[u8], escapes: bool) -> Result<Word<'_>, LineError>
-    requires { MatchBool escapes ⊤ (unescaped raw.now ≡ Some raw.now) }
-    ensures { Gives result (word_of raw.entry.now) }
-{
-    if escapes {
-        Word::read(alloc, raw)
-    } else {
-        Ok(Word {
-            raw,
-            replaced: None,
-        })
-    }
 }
 
 fn is_blank(byte: u8) -> bool

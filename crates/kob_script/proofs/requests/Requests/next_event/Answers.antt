@@ -1,8 +1,7 @@
 use Rattle.std.proofs.Common.{◌∙◌, List, ◌++◌, ap, arith, length, sym}
 use Rattle.std.proofs.lemmas.Result.{err_from_is_err_and}
-use Rattle.kob_rights.specs.declared.event.Event.{Event}
 use Rattle.kob_script.proofs.CheckedLines.{nothing_at_zero, one_fewer, some_lines}
-use Rattle.kob_script.specs.Requests.{lines_left, requests_in}
+use Rattle.kob_script.specs.Requests.{Event, lines_left, requests_in}
 use Rattle.kob_script.proofs.requests.Requests.next_event.Goals as goal
 
 pub loop-alloc-init : goal.loop-alloc-init
