@@ -3,3 +3,4 @@ pub mod Listings
 pub mod Maps
 pub mod Names
 pub mod CommitReads
+pub mod Found

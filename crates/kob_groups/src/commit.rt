@@ -41,6 +41,7 @@ pub(crate) enum GroupEntry {
 
 /// Reserves capacity for a commit among those of the groups, and copies the names that are new. The
 /// groups are unchanged, also after an error, which is out of memory.
+#[tactic(auto, using(crate::proofs::Found::reserving))]
 pub(crate) fn reserve_commit(
     groups: &mut OrderedMap<Commits>,
     alloc: Global,

@@ -41,6 +41,7 @@ impl Commits {
     }
 
     /// The offset that was committed on a partition.
+    #[tactic(auto, using(crate::proofs::Found::offsets_found))]
     pub(crate) fn fetch(&self, topic: &Text, partition: u64) -> Option<u64>
         ensures { result
             ≡ lookup (nat_eq partition) (offsets_on topic.now (commits_in self.now)) }
@@ -50,6 +51,7 @@ impl Commits {
 
     /// Reserves capacity for an offset, unless the partition has one, and copies the name of a
     /// topic that is new. The commits are unchanged, also after an error, which is out of memory.
+    #[tactic(auto, using(crate::proofs::Found::reserving))]
     pub(crate) fn reserve(
         &mut self,
         alloc: Global,

@@ -44,6 +44,7 @@ impl Groups {
     }
 
     /// The offset that a group committed on a partition of a topic. Does not allocate.
+    #[tactic(auto, using(crate::proofs::Found::commits_found))]
     pub fn fetch(&self, group: &Text, topic: &Text, partition: u64) -> Option<u64>
         ensures { result
             ≡ committed_at (place_of group.now topic.now partition) (groups_of self.now) }
@@ -52,6 +53,7 @@ impl Groups {
     }
 
     /// Whether the group is a new one, and there is no room for one more.
+    #[tactic(auto, using(crate::proofs::Found::has_found, crate::proofs::Found::count_found))]
     fn is_full_for(&self, group: &Text) -> bool
         ensures { result ≡ is_full_for group.now (groups_of self.now) }
     {
@@ -167,6 +169,7 @@ impl Groups {
     }
 
     /// Whether there is a group of that name. Does not allocate.
+    #[tactic(auto, using(crate::proofs::Found::has_found))]
     pub fn contains(&self, name: &Text) -> bool
         ensures { result ≡ has_group name.now (groups_of self.now) }
     {
@@ -174,6 +177,7 @@ impl Groups {
     }
 
     /// Removes a group, with its commits. Does not allocate.
+    #[tactic(auto, using(crate::proofs::Found::has_found, crate::proofs::Found::groups_removed, kob_ordered::proofs::Entries::removed_absent))]
     pub fn remove(&mut self, name: &Text) -> Result<(), GroupNotFound>
         ensures found { OnOk result (has_group name.now (groups_of self.old) ≡ true) }
         ensures removed { OnOk result

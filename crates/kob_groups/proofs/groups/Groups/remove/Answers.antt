@@ -1,4 +1,4 @@
-use Rattle.std.proofs.Common.{◌≡◌, ◌&&◌, [], ap, is_some, not, sym, subst, ◌∙◌}
+use Rattle.std.proofs.Common.{◌≡◌, ◌&&◌, [], ap, not, sym, subst, ◌∙◌}
 use Rattle.std.specs.Map.{lookup}
 use Rattle.kob_names.specs.Same.{same_text}
 use Rattle.kob_ordered.proofs.Entries.{removed_absent}
@@ -7,7 +7,7 @@ use Rattle.kob_groups.specs.Kept.{groups_of}
 use Rattle.kob_groups.specs.Listed.{AreListed, has_commits, is_listed}
 use Rattle.kob_groups.specs.Views.{commits_in, groups_in}
 use Rattle.kob_groups.proofs.Listings.{listed_removed}
-use Rattle.kob_groups.proofs.Maps.{seen_has, seen_removed, seen_some}
+use Rattle.kob_groups.proofs.Maps.{seen_removed, seen_some}
 use Rattle.kob_groups.proofs.groups.Groups.remove.Goals as goal
 
 pub invariant_of-self : goal.invariant_of-self
@@ -17,17 +17,6 @@ invariant_of-self c =
     ∙ removed_absent name entries (sym c.remove.ensures.value ∙ c.in_default.is) in record {
       listed = subst (λ es. AreListed (groups_in es) c.args.self.now.lists) (sym same) c.args.self.now.listed;
     }
-
-pub returns-in_default-clause-absent : goal.returns-in_default-clause-absent
-returns-in_default-clause-absent c =
-    seen_has commits_in (same_text c.args.name.now) c.args.self.now.by_name.entries
-    ∙ ap is_some (sym c.remove.ensures.value ∙ c.in_default.is)
-
-pub returns-in_default-clause-kept : goal.returns-in_default-clause-kept
-returns-in_default-clause-kept c =
-    let name = c.args.name.now in let entries = c.args.self.now.by_name.entries in
-    ap groups_in (c.remove.ensures.entries
-    ∙ removed_absent name entries (sym c.remove.ensures.value ∙ c.in_default.is))
 
 pub invariant_of-self-2 : goal.invariant_of-self-2
 invariant_of-self-2 c =
@@ -42,14 +31,3 @@ invariant_of-self-2 c =
           c.args.self.now.listed (λ t g. c.leave_lists.ensures t g
           ∙ ap (λ cs. is_listed t g c.args.self.now.lists && not (same_text name g && has_commits t cs)) (sym gone)));
     }
-
-pub returns-clause-found : goal.returns-clause-found
-returns-clause-found c =
-    seen_has commits_in (same_text c.args.name.now) c.args.self.now.by_name.entries
-    ∙ ap is_some (sym c.remove.ensures.value ∙ c.in-Some.is)
-
-pub returns-clause-removed : goal.returns-clause-removed
-returns-clause-removed c =
-    let name = c.args.name.now in let entries = c.args.self.now.by_name.entries in
-    ap groups_in c.remove.ensures.entries ∙ seen_removed commits_in (same_text name) entries
-    (ap (lookup (same_text name)) (sym c.remove.ensures.entries) ∙ c.remove.ensures.gone)

@@ -1,0 +1,61 @@
+-- What is found in what the maps of the groups show.
+use Rattle.std.proofs.Common.{◌≡◌, ℕ, true, cond, [], List, None, Some, length, option_map, unwrap_or, ap, is_some, ◌∙◌}
+use Rattle.std.proofs.lemmas.List.{length-map}
+use Rattle.std.proofs.lemmas.Map.Made.{lookup-map_values}
+use Rattle.std.proofs.lemmas.Cmp.{nat_list_eq_equiv}
+use Rattle.std.proofs.lemmas.Map.{lookup-set_value}
+use Rattle.std.proofs.lemmas.Map.Steps.{set_value_same}
+use Rattle.std.specs.Map.{lookup, remove_entry, set_value}
+use Rattle.kob_names.specs.Same.{same_text}
+use Rattle.kob_ordered.proofs.Entries.{one_name}
+use Rattle.kob_ordered.proofs.Standing.{name_is, stands_there}
+use Rattle.kob_ordered.proofs.Seen.{set_value_mapped, some_mapped}
+use Rattle.kob_groups.specs.Groups.{commits_of, has_group, offsets_on, without_group}
+use Rattle.kob_groups.specs.Views.{commits_in, groups_in, offsets_in}
+use Rattle.kob_groups.proofs.Maps.{seen_removed}
+use Rattle.kob_groups.specs.declared.commits.Commits.{Commits as CommitsKept}
+
+pub has_found : (name : List ℕ) (entries : List (List ℕ × CommitsKept))
+    → has_group name (groups_in entries) ≡ is_some (lookup (same_text name) entries)
+has_found name entries =
+    ap is_some (lookup-map_values commits_in (same_text name) entries)
+    ∙ some_mapped commits_in (lookup (same_text name) entries)
+
+pub count_found : (entries : List (List ℕ × CommitsKept)) → length (groups_in entries) ≡ length entries
+count_found entries = length-map entries (λ group. (group.0, commits_in group.1))
+
+pub commits_found : (name : List ℕ) (entries : List (List ℕ × CommitsKept))
+    → commits_of name (groups_in entries) ≡ unwrap_or (option_map commits_in (lookup (same_text name) entries)) []
+commits_found name entries = ap (λ found. unwrap_or found []) (lookup-map_values commits_in (same_text name) entries)
+
+pub offsets_found : (topic : List ℕ) (commits : CommitsKept)
+    → offsets_on topic (commits_in commits)
+    ≡ unwrap_or (option_map offsets_in (lookup (same_text topic) commits.by_topic.entries)) []
+offsets_found topic commits =
+    ap (λ found. unwrap_or found []) (lookup-map_values offsets_in (same_text topic) commits.by_topic.entries)
+
+-- a value written that is seen as before
+pub groups_as_before : (name : List ℕ) (entries : List (List ℕ × CommitsKept)) (commits : CommitsKept)
+    → option_map commits_in (lookup (same_text name) entries) ≡ Some (commits_in commits)
+    → groups_in (set_value (same_text name) entries commits) ≡ groups_in entries
+groups_as_before name entries commits same =
+    set_value_mapped (same_text name) commits_in entries commits
+    ∙ set_value_same (same_text name) (groups_in entries) (commits_in commits)
+    (lookup-map_values commits_in (same_text name) entries ∙ same)
+
+-- a value written is found
+pub written_found : {X : Type 0} (name : List ℕ) (entries : List (List ℕ × X)) (x : X)
+    → is_some (lookup (same_text name) entries) ≡ true
+    → lookup (same_text name) (set_value (same_text name) entries x) ≡ Some x
+written_found name entries x there =
+    lookup-set_value nat_list_eq_equiv (same_text name) (one_name name) name x entries there
+    ∙ ap (λ b. cond b (Some x) (lookup (same_text name) entries)) (nat_list_eq_equiv.refl name)
+
+-- a name taken out, of which there was no other
+pub groups_removed : (name : List ℕ) (entries : List (List ℕ × CommitsKept))
+    → lookup (same_text name) (remove_entry (same_text name) entries) ≡ None
+    → groups_in (remove_entry (same_text name) entries) ≡ without_group name (groups_in entries)
+groups_removed name entries gone = seen_removed commits_in (same_text name) entries gone
+
+-- what a commit is reserved by
+pub ruleset reserving = (commits_found, offsets_found, groups_as_before, written_found, name_is, stands_there)
