@@ -1,12 +1,17 @@
 -- What holds of each partition of a broker, through what is read of its topics and written to them.
-use Rattle.std.proofs.Common.{ℕ, zero, suc, List, [], ◌∷◌, Option, Some, None, IfSome, All, option_map, take, drop, slice_get, slice_set}
-use Rattle.std.proofs.lemmas.List.Elements.{All-append, All-drop, All-head, All-nil, All-push, All-replicate, All-set, All-tail, All-take}
+use Rattle.std.proofs.Common.{ℕ, zero, suc, Bool, List, [], ◌∷◌, Option, Some, None, IfSome, All, option_map, slice_get, slice_set, unwrap_or}
+use Rattle.std.proofs.lemmas.Bool.{cond_both}
+use Rattle.std.proofs.lemmas.List.Elements.{All-cons, All-filter, All-head, All-nil, All-push, All-replicate, All-set, All-tail}
+use Rattle.std.proofs.lemmas.Map.Entries.{All-lookup}
+use Rattle.std.specs.Map.{lookup, set_value}
+use Rattle.indexmap.specs.IndexMap.{insert_entry}
+use Rattle.kob_names.specs.Same.{same_text}
 use Rattle.kob_catalog.specs.Creation.{new_topic}
-use Rattle.kob_catalog.specs.Topics.{Topic, partition_at, place_of, topic_at, with_partition, with_partition_found, without_topic_found}
+use Rattle.kob_catalog.specs.Topics.{Topic, partitions_of, with_partition}
 use Rattle.kob_partition.specs.Append.{after_batch, batch_judged, unless_repeat}
 use Rattle.kob_partition.specs.Meaning.{Meaning}
 use Rattle.kob_producers.specs.declared.judge.Judgement.{Judgement}
-use Rattle.kob_producers.specs.declared.judge.Judgement.TheVariants.{Next, Repeat, OutOfOrder, OldEpoch}
+use Rattle.kob_producers.specs.declared.judge.Judgement.TheVariants.{Repeat}
 use Rattle.kob_rights.specs.Partitions.{partition_named}
 use Rattle.kob_rights.specs.Writes.{Write, Append, AddTopic, RemoveTopic, AdvanceStart}
 use Rattle.kob_rights.specs.declared.on_partitions.Produce.{Produce}
@@ -15,62 +20,82 @@ use Rattle.kob_broker.specs.DeleteRecords.{offset_before}
 use Rattle.kob_broker.specs.Effect.{after_write, named, partition_in}
 use Rattle.kob_broker.specs.State.{State}
 
+-- a repeat has the old, and any other batch the new
+pub unless_alike : {X Y : Type 0} (Alike : X → Y → Type 0) (judgement : Judgement) (old new : X) (was now : Y)
+    → Alike old was → Alike new now → Alike (unless_repeat judgement old new) (unless_repeat judgement was now)
+unless_alike Alike (Repeat offset) old new was now one two = one
+unless_alike Alike _ old new was now one two = two
+
+-- what fits each value fits each after one is put in or written, and the one that is read, or none
+module _ {K X : Type 0} (Fits : X → Type 0) where
+  abbrev pub EachFits : List (K × X) → Type 0
+  EachFits entries = All (λ (entry : K × X). Fits entry.1) entries
+
+  pub put_in : (same : K → K → Bool) (entries : List (K × X)) (key : K) (x : X) → Fits x → EachFits entries
+      → EachFits (insert_entry same entries key x)
+  put_in same [] key x fits all =
+      All-cons (λ (e : K × X). Fits e.1) (key, x) [] fits (All-nil (λ (e : K × X). Fits e.1))
+  put_in same (entry ∷ entries) key x fits all =
+      let rest = All-tail (λ (e : K × X). Fits e.1) entry entries all in
+      cond_both (same key entry.0) ((entry.0, x) ∷ entries) (entry ∷ insert_entry same entries key x) EachFits
+      (λ _. All-cons (λ (e : K × X). Fits e.1) (entry.0, x) entries fits rest)
+      (λ _. All-cons (λ (e : K × X). Fits e.1) entry (insert_entry same entries key x)
+      (All-head (λ (e : K × X). Fits e.1) entry entries all) (put_in same entries key x fits rest))
+
+  written_in : (test : K → Bool) (entries : List (K × X)) (x : X) → Fits x → EachFits entries
+      → EachFits (set_value test entries x)
+  written_in test [] x fits all = all
+  written_in test (entry ∷ entries) x fits all =
+      let rest = All-tail (λ (e : K × X). Fits e.1) entry entries all in
+      cond_both (test entry.0) ((entry.0, x) ∷ entries) (entry ∷ set_value test entries x) EachFits
+      (λ _. All-cons (λ (e : K × X). Fits e.1) (entry.0, x) entries fits rest)
+      (λ _. All-cons (λ (e : K × X). Fits e.1) entry (set_value test entries x)
+      (All-head (λ (e : K × X). Fits e.1) entry entries all) (written_in test entries x fits rest))
+
+  pub read : (test : K → Bool) (entries : List (K × X)) (none : X) → Fits none → EachFits entries
+      → Fits (unwrap_or (lookup test entries) none)
+  read test entries none fits all = or_none (lookup test entries) (All-lookup Fits test entries all)
+    where
+      or_none : (found : Option X) → IfSome found Fits → Fits (unwrap_or found none)
+      or_none None at = fits
+      or_none (Some x) at = at
+
 module _ {P : Type 0} (Holds : P → Type 0) where
   -- it holds of each partition of the topic
   abbrev pub EachOf : Topic P → Type 0
-  EachOf topic = All Holds topic.partitions
+  EachOf topic = All Holds topic.1
 
   got : (partitions : List P) (i : ℕ) → All Holds partitions → IfSome (slice_get partitions i) Holds
   got [] i all = tt
   got (partition ∷ partitions) zero all = All-head Holds partition partitions all
   got (partition ∷ partitions) (suc i) all = got partitions i (All-tail Holds partition partitions all)
 
-  at_place : (topics : List (Topic P)) (place : ℕ) → All EachOf topics → EachOf (topic_at topics place)
-  at_place [] place all = All-nil Holds
-  at_place (topic ∷ topics) zero all = All-head EachOf topic topics all
-  at_place (topic ∷ topics) (suc place) all = at_place topics place (All-tail EachOf topic topics all)
-
-  found_at : (topics : List (Topic P)) (place : Option ℕ) (partition : ℕ) → All EachOf topics
-      → IfSome (partition_at topics place partition) Holds
-  found_at topics None partition all = tt
-  found_at topics (Some place) partition all =
-      got (topic_at topics place).partitions partition (at_place topics place all)
+  of_topic : (name : List ℕ) (topics : List (Topic P)) → All EachOf topics → All Holds (partitions_of name topics)
+  of_topic name topics all = read (All Holds) (same_text name) topics [] (All-nil Holds) all
 
   in_topics : (topics : List (Topic P)) (name : Option (List ℕ × ℕ)) → All EachOf topics
       → IfSome (partition_in topics name) Holds
   in_topics topics None all = tt
-  in_topics topics (Some name) all = found_at topics (place_of name.0 topics) name.1 all
+  in_topics topics (Some name) all = got (partitions_of name.0 topics) name.1 (of_topic name.0 topics all)
 
   -- the partition that a request names
   pub of_request : (s : State P) (request : Request) → All EachOf s.topics → IfSome (named s request) Holds
   of_request s request all = in_topics s.topics (partition_named request) all
 
-  once_written : (place : Option ℕ) (number : ℕ) (partition : P) (topics : List (Topic P)) → Holds partition
-      → All EachOf topics → All EachOf (with_partition_found place number partition topics)
-  once_written None number partition topics holds all = all
-  once_written (Some place) number partition topics holds all =
-      let topic = topic_at topics place in
-      All-set EachOf topics place (record topic { partitions = slice_set topic.partitions number partition })
-      (All-set Holds topic.partitions number partition holds (at_place topics place all)) all
-
-  once_removed : (place : Option ℕ) (topics : List (Topic P)) → All EachOf topics
-      → All EachOf (without_topic_found place topics)
-  once_removed None topics all = all
-  once_removed (Some place) topics all =
-      All-append EachOf (take place topics) (drop (suc place) topics) (All-take EachOf place topics all)
-      (All-drop EachOf (suc place) topics all)
+  once_written : (name : List ℕ) (number : ℕ) (partition : P) (topics : List (Topic P)) → Holds partition
+      → All EachOf topics → All EachOf (with_partition name number partition topics)
+  once_written name number partition topics holds all =
+      written_in (All Holds) (same_text name) topics (slice_set (partitions_of name topics) number partition)
+      (All-set Holds (partitions_of name topics) number partition holds (of_topic name topics all)) all
 
   once_put : (judgement : Judgement) (old put : P) (produce : Produce) (topics : List (Topic P))
       → Holds (unless_repeat judgement old put) → All EachOf topics
       → All EachOf (unless_repeat judgement topics
       (with_partition produce.topic produce.partition put topics))
-  once_put (Repeat offset) old put produce topics holds all = all
-  once_put Next old put produce topics holds all =
-      once_written (place_of produce.topic topics) produce.partition put topics holds all
-  once_put OutOfOrder old put produce topics holds all =
-      once_written (place_of produce.topic topics) produce.partition put topics holds all
-  once_put OldEpoch old put produce topics holds all =
-      once_written (place_of produce.topic topics) produce.partition put topics holds all
+  once_put judgement old put produce topics holds all =
+      unless_alike (λ (p : P) (ts : List (Topic P)). Holds p → All EachOf ts) judgement old put topics
+      (with_partition produce.topic produce.partition put topics) (λ _. all)
+      (λ h. once_written produce.topic produce.partition put topics h all) holds
 
 module _ {P : Type 0} (m : Meaning P) where
   -- what a write makes of the partition that is found, if it writes to one
@@ -87,12 +112,12 @@ module _ {P : Type 0} (m : Meaning P) where
   each_after Holds s (Some p) (Some (Append produce)) empty holds all =
       once_put Holds (batch_judged m p produce.batch) p (m.append p produce.batch) produce s.topics holds all
   each_after Holds s (Some p) (Some (AdvanceStart delete)) empty holds all =
-      once_written Holds (place_of delete.topic s.topics) delete.partition _ s.topics holds all
+      once_written Holds delete.topic delete.partition _ s.topics holds all
   each_after Holds s found (Some (AddTopic create)) empty holds all =
       All-push (EachOf Holds) s.topics (new_topic m create.name create.partitions) all
       (All-replicate Holds create.partitions m.empty empty)
   each_after Holds s found (Some (RemoveTopic delete)) empty holds all =
-      once_removed Holds (place_of delete.name s.topics) s.topics all
+      All-filter _ (EachOf Holds) s.topics all
   each_after Holds s None (Some (Append produce)) empty holds all = all
   each_after Holds s None (Some (AdvanceStart delete)) empty holds all = all
   each_after Holds s found _ empty holds all = all

@@ -3,20 +3,17 @@ use Rattle.std.proofs.Common.{◌≡◌, ℕ, zero, suc, List, [], ◌∷◌, �
 use Rattle.std.specs.Prelude.{option_map, is_some}
 use Rattle.std.proofs.lemmas.List.{map-append, length-map}
 use Rattle.kob_authorizer.specs.Contents.{Contents}
-use Rattle.kob_catalog.proofs.Listings.{listed_mapped}
-use Rattle.kob_catalog.proofs.Places.{partition_count_mapped, partition_of_mapped, place_of_mapped, with_partition_mapped, without_topic_mapped}
+use Rattle.kob_catalog.proofs.Mapped.{has_topic_mapped, listed_mapped, partition_count_mapped, partition_of_mapped, with_partition_mapped, without_topic_mapped}
 use Rattle.kob_catalog.specs.Creation.{new_topic}
 use Rattle.kob_catalog.specs.Topics.{Topic, topic_map, topics_map, with_partition}
 use Rattle.kob_groups.specs.Groups as groups
 use Rattle.kob_names.specs.declared.batch.Batch.{Batch}
 use Rattle.kob_names.specs.declared.batch.Idem.{Idem}
 use Rattle.kob_partition.proofs.Keeping.{retaining_carries}
-use Rattle.kob_partition.specs.Append.{judged, unless_repeat}
+use Rattle.kob_partition.specs.Append.{judged}
 use Rattle.kob_partition.specs.Batches.{Plain}
 use Rattle.kob_partition.specs.Meaning.{Meaning, Carries}
 use Rattle.kob_partition.specs.Retained.{Retained, plain_meaning, retained_of, retained_meaning}
-use Rattle.kob_producers.specs.declared.judge.Judgement.{Judgement}
-use Rattle.kob_producers.specs.declared.judge.Judgement.TheVariants.{Next, Repeat, OutOfOrder, OldEpoch}
 use Rattle.kob_rights.specs.Partitions.{partition_named}
 use Rattle.kob_rights.specs.Writes.{Write, write_of}
 use Rattle.kob_rights.specs.Writes as writes
@@ -34,6 +31,7 @@ use Rattle.kob_rights.specs.declared.reply.Reply.{Reply}
 use Rattle.kob_rights.specs.declared.reply.Reply.TheVariants.{Done}
 use Rattle.kob_rights.specs.declared.request.Request.{Request}
 use Rattle.kob_rights.specs.declared.request.Request.TheVariants.{Produce, Fetch, ListOffsets, Metadata, OffsetCommit, CreateTopics, DeleteTopics, DeleteRecords}
+use Rattle.kob_broker.proofs.EachPartition.{unless_alike}
 use Rattle.kob_broker.specs.DeleteRecords.{offset_before, start_after, with_start}
 use Rattle.kob_broker.specs.Denial.{denial_of}
 use Rattle.kob_broker.specs.Effect.{Outcome, named, partition_in, reasons_against, body, after_write, refusal, effect_by, effect}
@@ -56,14 +54,6 @@ module _ {P Q : Type 0} (f : P → Q) where
   replicate_map zero p = refl
   replicate_map (suc n) p = ap (λ ps. f p ∷ ps) (replicate_map n p)
 
-  unless_repeat_map : (judgement : Judgement) (old new : List (Topic P)) (written : List (Topic Q))
-      → written ≡ topics_map f new
-      → unless_repeat judgement (topics_map f old) written ≡ topics_map f (unless_repeat judgement old new)
-  unless_repeat_map Next old new written is = is
-  unless_repeat_map (Repeat offset) old new written is = refl
-  unless_repeat_map OutOfOrder old new written is = is
-  unless_repeat_map OldEpoch old new written is = is
-
   metadata_map : (access : Contents) (event : Event) (topics : List (Topic P)) (asked : Option (List ℕ))
       → metadata_of access event (topics_map f topics) asked ≡ metadata_of access event topics asked
   metadata_map access event topics None = listed_mapped f _ topics
@@ -72,7 +62,7 @@ module _ {P Q : Type 0} (f : P → Q) where
   metadata_reasons_map : (topics : List (Topic P)) (asked : Option (List ℕ))
       → metadata_reasons (topics_map f topics) asked ≡ metadata_reasons topics asked
   metadata_reasons_map topics None = refl
-  metadata_reasons_map topics (Some name) = rw (place_of_mapped f name topics) refl
+  metadata_reasons_map topics (Some name) = rw (has_topic_mapped f name topics) refl
 
   abbrev pub outcome_map : Outcome P → Outcome Q
   outcome_map o = record { reply = o.reply; state = state_map f o.state }
@@ -137,7 +127,8 @@ module _ {P Q : Type 0} (m : Meaning P) (n : Meaning Q) (f : P → Q) (c : Carri
   with_batch_alike (Some p) produce topics =
       let written = with_partition produce.topic produce.partition (m.append p produce.batch) topics in
       rw (judged_at_alike (Some p) produce.batch, ← c.append p produce.batch)
-      (unless_repeat_map f (judged_at m (Some p) produce.batch) topics written _
+      (unless_alike (λ (seen : List (Topic Q)) (ts : List (Topic P)). seen ≡ topics_map f ts)
+      (judged_at m (Some p) produce.batch) (topics_map f topics) _ topics written refl
       (sym (with_partition_mapped f produce.topic produce.partition (m.append p produce.batch) topics)))
 
   in_alike : (topics : List (Topic P)) (name : Option (List ℕ × ℕ))
@@ -152,22 +143,22 @@ module _ {P Q : Type 0} (m : Meaning P) (n : Meaning Q) (f : P → Q) (c : Carri
       → reasons_against n (state_map f s) (option_map f found) request ≡ reasons_against m s found request
   reasons_alike s found (Produce produce) =
       rw (
-        place_of_mapped f produce.topic s.topics,
+        has_topic_mapped f produce.topic s.topics,
         is_some_map f found,
         judged_at_alike found produce.batch,
         end_at_alike found,
       ) refl
   reasons_alike s found (Fetch fetch) =
-      rw (place_of_mapped f fetch.topic s.topics, is_some_map f found, out_of_range_alike found fetch.offset) refl
-  reasons_alike s found (ListOffsets asked) = rw (place_of_mapped f asked.topic s.topics, is_some_map f found) refl
+      rw (has_topic_mapped f fetch.topic s.topics, is_some_map f found, out_of_range_alike found fetch.offset) refl
+  reasons_alike s found (ListOffsets asked) = rw (has_topic_mapped f asked.topic s.topics, is_some_map f found) refl
   reasons_alike s found (Metadata asked) = metadata_reasons_map f s.topics asked.topic
-  reasons_alike s found (OffsetCommit commit) = rw (place_of_mapped f commit.topic s.topics, is_some_map f found) refl
+  reasons_alike s found (OffsetCommit commit) = rw (has_topic_mapped f commit.topic s.topics, is_some_map f found) refl
   reasons_alike s found (CreateTopics create) =
-      rw (place_of_mapped f create.name s.topics, length-map s.topics (topic_map f)) refl
-  reasons_alike s found (DeleteTopics delete) = rw (place_of_mapped f delete.name s.topics) refl
+      rw (has_topic_mapped f create.name s.topics, length-map s.topics (topic_map f)) refl
+  reasons_alike s found (DeleteTopics delete) = rw (has_topic_mapped f delete.name s.topics) refl
   reasons_alike s found (DeleteRecords delete) =
       rw (
-        place_of_mapped f delete.topic s.topics,
+        has_topic_mapped f delete.topic s.topics,
         is_some_map f found,
         end_at_alike found,
         before_alike found delete.before,
@@ -186,11 +177,8 @@ module _ {P Q : Type 0} (m : Meaning P) (n : Meaning Q) (f : P → Q) (c : Carri
   new_topic_alike : (name : List ℕ) (partitions : ℕ)
       → new_topic n name partitions ≡ topic_map f (new_topic m name partitions)
   new_topic_alike name partitions =
-      λ i. record {
-        name = name;
-        partitions =
-            (ap (replicate partitions) (sym c.empty) ∙ replicate_map f partitions m.empty) i;
-      }
+      ap (λ (ps : List Q). (name, ps))
+      (ap (replicate partitions) (sym c.empty) ∙ replicate_map f partitions m.empty)
 
   write_alike : (s : State P) (found : Option P) (write : Option Write)
       → after_write n (state_map f s) (option_map f found) write ≡ state_map f (after_write m s found write)

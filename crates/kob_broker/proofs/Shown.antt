@@ -1,5 +1,5 @@
 -- What a filter leaves stands in the list and passes the test, in the list's order.
-use Rattle.std.proofs.Common.{◌≡◌, ◌↔◌, ℕ, Bool, true, false, cond, filter, List, [], ◌∷◌, map, take, refl, sym, ap, subst, ◌∙◌, inl, inr}
+use Rattle.std.proofs.Common.{◌≡◌, ◌↔◌, ℕ, Bool, true, false, cond, filter, List, [], ◌∷◌, map, take, refl, sym, subst, ◌∙◌, inl, inr}
 use Rattle.std.specs.Prelude.{IsTrue, ◌⊎◌}
 use Rattle.kob_groups.specs.Groups.{group_names}
 use Rattle.kob_catalog.specs.Topics.{Topic, listed, listed_where}
@@ -75,25 +75,11 @@ module _ {A : Type 0} (shown : A → Type 0) where
 abbrev Pair : Type 0
 Pair = List ℕ × ℕ
 
--- a test of what the items show leaves what is shown of the items that pass it
-map_filter : {A B : Type 0} (f : A → B) (test : B → Bool) (xs : List A)
-    → map f (filter (λ x. test (f x)) xs) ≡ filter test (map f xs)
-map_filter f test [] = refl
-map_filter f test (x ∷ xs) = by (test (f x)) (map_filter f test xs)
-  where
-    by : (b : Bool) → map f (filter (λ x. test (f x)) xs) ≡ filter test (map f xs)
-        → map f (cond b (x ∷ filter (λ x. test (f x)) xs) (filter (λ x. test (f x)) xs))
-        ≡ cond b (f x ∷ filter test (map f xs)) (filter test (map f xs))
-    by true rest = ap (λ ys. f x ∷ ys) rest
-    by false rest = rest
-
 topics_listed : {P : Type 0} (granted : List ℕ → Bool) (topics : List (Topic P))
     → Lists (λ (p : Pair). IsTrue (granted p.0)) (listed_where granted topics) (map listed topics)
 topics_listed granted topics =
-    subst (λ ps. Lists (λ (p : Pair). IsTrue (granted p.0)) ps (map listed topics))
-    (sym (map_filter listed (λ (p : Pair). granted p.0) topics))
-    (lists_passing (λ (p : Pair). IsTrue (granted p.0)) (λ (p : Pair). granted p.0) (λ p is. is) (λ p is. is)
-    (map listed topics))
+    lists_passing (λ (p : Pair). IsTrue (granted p.0)) (λ (p : Pair). granted p.0) (λ p is. is) (λ p is. is)
+    (map listed topics)
 
 groups_listed : (cluster : Bool) (granted : List ℕ → Bool) (names : List (List ℕ))
     → Lists (λ name. IsTrue cluster ⊎ IsTrue (granted name)) (cond cluster names (filter granted names)) names

@@ -17,7 +17,6 @@ use Rattle.kob_partition.specs.Append.{batch_judged, unless_repeat}
 use Rattle.kob_partition.specs.Retained.{Retained, plain_meaning, retained_meaning}
 use Rattle.kob_partition.specs.Limits.{offset_limit}
 use Rattle.kob_producers.specs.declared.judge.Judgement.{Judgement}
-use Rattle.kob_producers.specs.declared.judge.Judgement.TheVariants.{Next, Repeat, OutOfOrder, OldEpoch}
 use Rattle.kob_rights.specs.Writes.{Write, write_of}
 use Rattle.kob_rights.specs.Writes as writes
 use Rattle.kob_rights.specs.declared.event.Event.{Event}
@@ -33,7 +32,7 @@ use Rattle.kob_broker.specs.Reasons.{first_reason}
 use Rattle.kob_broker.specs.Spending.{SaysNothingSpent, asked_by, asked_in, asked_of, is_spent}
 use Rattle.kob_broker.specs.State.{State, open_state}
 use Rattle.kob_broker.specs.Step.{replies_of, step}
-use Rattle.kob_broker.proofs.EachPartition.{EachOf, each_after, of_request, written}
+use Rattle.kob_broker.proofs.EachPartition.{EachOf, each_after, of_request, unless_alike, written}
 use Rattle.kob_broker.proofs.Lifting.{runs_alike}
 use Rattle.kob_broker.proofs.Steps.{replies_keep, step_fits}
 
@@ -69,7 +68,7 @@ pub record StateHasFor (more : ℕ) (s : State Retained) : Type 0 where
 fewer : (n more : ℕ) (s : State Retained) → StateHasFor (n + more) s → StateHasFor more s
 fewer n more s has = record {
   topics = All-weaker (EachOf (HasFor (n + more))) (EachOf (HasFor more))
-      (λ topic. All-weaker (HasFor (n + more)) (HasFor more) (λ kept short. omega arith) topic.partitions) s.topics
+      (λ topic. All-weaker (HasFor (n + more)) (HasFor more) (λ kept short. omega arith) topic.1) s.topics
       has.topics;
   producers = omega (arith, has.producers);
   serials = omega (arith, has.serials);
@@ -140,10 +139,9 @@ request_spends more s found _ has at = refl
 batch_has : (judgement : Judgement) (kept : Retained) (batch : Batch) (more : ℕ)
     → HasFor (length batch.records + more) kept
     → HasFor more (unless_repeat judgement kept (retained_meaning.append kept batch))
-batch_has (Repeat offset) kept batch more has = omega (arith, has)
-batch_has Next kept batch more has = omega (arith, has)
-batch_has OutOfOrder kept batch more has = omega (arith, has)
-batch_has OldEpoch kept batch more has = omega (arith, has)
+batch_has judgement kept batch more has =
+    unless_alike (λ (k _ : Retained). HasFor more k) judgement kept (retained_meaning.append kept batch) kept kept
+    (omega (arith, has)) (omega (arith, has))
 
 written_has : (more : ℕ) (found : Option Retained) (write : Option Write) → IfSome found (HasFor (asked_of write + more))
     → IfSome (written retained_meaning found write) (HasFor more)

@@ -245,6 +245,7 @@ impl Broker {
     }
 
     /// Removes a topic, and the commits on it.
+    #[tactic(auto, using(kob_catalog::proofs::TopicReads::unknown_stays))]
     fn remove_topic(&mut self, name: &Text)
         ensures { state_of self.new ≡ delete_topics_after (state_of self.old) name.now }
     {

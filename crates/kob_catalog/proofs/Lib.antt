@@ -1,4 +1,4 @@
-pub mod Places
-pub mod Lent
+pub mod Mapped
 pub mod Listings
-pub mod Looked
+pub mod TopicReads
+pub mod Lent

@@ -22,9 +22,9 @@ create_fault topics name partitions =
 
 -- a topic of that name with empty partitions
 abbrev pub new_topic : {P : Type 0} → Meaning P → List ℕ → ℕ → Topic P
-new_topic m name partitions = record { name = name; partitions = replicate partitions m.empty }
+new_topic m name partitions = (name, replicate partitions m.empty)
 
 -- there is room for the topic, and no other of its name
 pub record CanAdd (made : Topic LogKept) (kept : CatalogKept) : Type 0 where
   pub room : 0 < kept.room
-  pub fresh : has_topic made.name (topics_of kept) ≡ false
+  pub fresh : has_topic made.0 (topics_of kept) ≡ false

@@ -1,11 +1,9 @@
 -- What a catalog shows.
-use Rattle.std.specs.Prelude.{ℕ, List, refl, false}
+use Rattle.std.specs.Prelude.{ℕ, List, refl, false, unwrap_or}
 use Rattle.std.specs.Coded.{Coded, code_by, coded×, coded_list, coded_ℕ}
-use Rattle.std.specs.Option.{unwrap_or}
 use Rattle.kob_partition.specs.Codes.{log_code}
 use Rattle.kob_partition.specs.Log.{LogKept}
 use Rattle.kob_partition.specs.Retained.{Retained, retained_meaning}
-use Rattle.kob_catalog.specs.Codes.{topic_code}
 use Rattle.kob_catalog.specs.Topics.{Topic, partition_of, topics_map, with_partition}
 
 -- the topics, each partition with its room, and for how many more topics there is room
@@ -13,9 +11,12 @@ pub record CatalogKept : Type 0 where
   pub logs : List (Topic LogKept)
   pub room : ℕ
 
+abbrev pub topic_code : Coded (Topic LogKept)
+topic_code = coded× (coded_list coded_ℕ) (coded_list log_code)
+
 abbrev pub catalog_code : Coded CatalogKept
 catalog_code =
-    code_by (List (Topic LogKept) × ℕ) (coded× (coded_list (topic_code log_code)) coded_ℕ)
+    code_by (List (Topic LogKept) × ℕ) (coded× (coded_list topic_code) coded_ℕ)
     (λ c. (c.logs, c.room)) (λ p. record { logs = p.0; room = p.1 }) (λ _. refl)
 
 -- what a log keeps, without its room

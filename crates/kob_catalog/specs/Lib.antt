@@ -1,8 +1,6 @@
 pub mod Limits
 pub mod Topics
-pub mod Codes
 pub mod Kept
-pub mod Entries
 pub mod Creation
 pub mod TopicLends
 pub mod CatalogLends

@@ -1,7 +1,6 @@
 //! The topics in order of creation, each with the logs of its partitions.
 #![tactic(auto)]
 
-mod advance;
 mod catalog;
 mod decider;
 mod fault;

@@ -14,29 +14,28 @@ pub struct PreparedTopic {
 }
 
 impl Model for PreparedTopic {
-    ghost use Rattle.kob_catalog.specs.Codes.{topic_code};
+    ghost use Rattle.kob_catalog.specs.Kept.{topic_code};
     ghost use Rattle.kob_catalog.specs.Topics.{Topic};
-    ghost use Rattle.kob_partition.specs.Codes.{log_code};
     ghost use Rattle.kob_partition.specs.Log.{LogKept};
 
     ghost Value = { Topic LogKept };
 
-    ghost coded = { topic_code log_code };
+    ghost coded = { topic_code };
 
-    ghost view = { λ made. record { name = made.name; partitions = made.topic } };
+    ghost view = { λ made. (made.name, made.topic) };
 }
 
 impl PreparedTopic {
     pub(crate) fn new(name: Text, topic: Topic) -> PreparedTopic
-        ensures name { result.name ≡ name }
-        ensures partitions { result.partitions ≡ topic }
+        ensures name { result.0 ≡ name }
+        ensures partitions { result.1 ≡ topic }
     {
         PreparedTopic { name, topic }
     }
 
     pub(crate) fn into_parts(self) -> (Text, Topic)
-        ensures name { result.0 ≡ self.name }
-        ensures partitions { result.1 ≡ self.partitions }
+        ensures name { result.0 ≡ self.0 }
+        ensures partitions { result.1 ≡ self.1 }
     {
         (self.name, self.topic)
     }

@@ -14,8 +14,6 @@ mod Arriving
 mod Aggregates
 mod Reaching
 pub mod DeliveryLaws
-pub mod TopicReads
-pub mod CommitReads
 pub mod Breaches
 pub mod BrokerSteps
 pub mod Ended

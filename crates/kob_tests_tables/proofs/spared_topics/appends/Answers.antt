@@ -1,7 +1,7 @@
 use Rattle.std.proofs.Common.{◌∙◌, ap, is_some, option_map, subst, sym}
 use Rattle.std.specs.Option.{unwrap_or}
-use Rattle.kob_catalog.proofs.Lent.{written_is_read}
-use Rattle.kob_catalog.proofs.Places.{partition_of_mapped}
+use Rattle.kob_catalog.proofs.Mapped.{partition_of_mapped}
+use Rattle.kob_catalog.proofs.TopicReads.{written_is_read}
 use Rattle.kob_catalog.specs.Kept.{empty_log, kept_of, with_log}
 use Rattle.kob_partition.specs.Log.{CanAppend, CanCommit, LogKept}
 use Rattle.kob_tests_tables.proofs.spared_topics.appends.Goals as goal

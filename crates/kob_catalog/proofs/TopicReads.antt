@@ -1,0 +1,140 @@
+-- What is read of topics after one was written, made or taken away.
+use Rattle.std.proofs.Common.{◌≡◌, ℕ, zero, suc, Bool, true, false, cond, ◌&&◌, nat_eq, List, [], ◌∷◌, ◌++◌, Option, Some, None, is_some, replicate, slice_get, slice_set, unwrap_or, refl, ap, subst, sym, ◌∙◌, inl, inr}
+use Rattle.std.proofs.lemmas.Bool.{cases_Bool, eqb-true, eqb-false}
+use Rattle.std.proofs.lemmas.Cmp.{nat_eq_equiv, nat_list_eq_equiv}
+use Rattle.std.proofs.lemmas.Map.{lookup-set_value}
+use Rattle.std.proofs.lemmas.Map.Steps.{set_value_same}
+use Rattle.std.specs.Map.{lookup, set_value}
+use Rattle.kob_names.specs.Same.{same_text}
+use Rattle.kob_ordered.proofs.Entries.{none_of, one_name, removed_absent}
+use Rattle.kob_ordered.proofs.Places.{equal_names}
+use Rattle.kob_ordered.proofs.Seen.{lookup_without, removed_others}
+use Rattle.kob_catalog.specs.Topics.{Topic, has_topic, partition_of, partitions_of, with_partition, without_topic}
+
+module _ {X : Type 0} where
+  set_as_it_was : (xs : List X) (i : ℕ) (x : X) → slice_get xs i ≡ Some x → slice_set xs i x ≡ xs
+  set_as_it_was [] i x is = refl
+  set_as_it_was (y ∷ xs) zero x is = cc
+  set_as_it_was (y ∷ xs) (suc i) x is = ap (λ rest. y ∷ rest) (set_as_it_was xs i x is)
+
+  elsewhere : (xs : List X) (i j : ℕ) (y : X) → (i ≡ j → ⊥) → slice_get (slice_set xs i y) j ≡ slice_get xs j
+  elsewhere [] i j y other = refl
+  elsewhere (x ∷ xs) zero zero y other = absurd (other refl)
+  elsewhere (x ∷ xs) zero (suc j) y other = refl
+  elsewhere (x ∷ xs) (suc i) zero y other = refl
+  elsewhere (x ∷ xs) (suc i) (suc j) y other = elsewhere xs i j y (λ same. other (ap suc same))
+
+  right_there : (xs : List X) (i : ℕ) (x y : X) → slice_get xs i ≡ Some x → slice_get (slice_set xs i y) i ≡ Some y
+  right_there [] i x y there = cc
+  right_there (z ∷ xs) zero x y there = refl
+  right_there (z ∷ xs) (suc i) x y there = right_there xs i x y there
+
+  written_in : (xs : List X) (i j : ℕ) (p written : X) → slice_get xs i ≡ Some p
+      → slice_get (slice_set xs i written) j ≡ cond (nat_eq i j) (Some written) (slice_get xs j)
+  written_in xs i j p written there =
+      elim (cases_Bool (nat_eq i j)) [
+        | inl hit ↦ rw (hit, ← eqb-true i j hit) (right_there xs i p written there)
+        | inr miss ↦ rw miss (elsewhere xs i j written (eqb-false i j miss))
+      ]
+
+module _ {P : Type 0} where
+  -- a topic of which a partition is there is there
+  found_there : (name : List ℕ) (partition : ℕ) (topics : List (Topic P)) (p : P)
+      → partition_of name partition topics ≡ Some p
+      → lookup (same_text name) topics ≡ Some (partitions_of name topics)
+  found_there name partition topics p there = by (lookup (same_text name) topics) there
+    where
+      by : (found : Option (List P)) → slice_get (unwrap_or found []) partition ≡ Some p
+          → found ≡ Some (unwrap_or found [])
+      by None is = cc
+      by (Some partitions) is = refl
+
+  pub has_there : (name : List ℕ) (partition : ℕ) (topics : List (Topic P)) (p : P)
+      → partition_of name partition topics ≡ Some p → has_topic name topics ≡ true
+  has_there name partition topics p there = ap is_some (found_there name partition topics p there)
+
+  -- a partition written as it is leaves the topics
+  pub written_as_it_was : (name : List ℕ) (partition : ℕ) (p : P) (topics : List (Topic P))
+      → partition_of name partition topics ≡ Some p → with_partition name partition p topics ≡ topics
+  written_as_it_was name partition p topics is =
+      ap (λ partitions. set_value (same_text name) topics partitions)
+      (set_as_it_was (partitions_of name topics) partition p is)
+      ∙ set_value_same (same_text name) topics (partitions_of name topics) (found_there name partition topics p is)
+
+  -- a partition that was written is read as written, and all others as they were
+  pub read_written : (name : List ℕ) (i : ℕ) (p written : P) (topics : List (Topic P)) (other : List ℕ) (j : ℕ)
+      → partition_of name i topics ≡ Some p
+      → partition_of other j (with_partition name i written topics)
+      ≡ cond (same_text name other && nat_eq i j) (Some written) (partition_of other j topics)
+  read_written name i p written topics other j there =
+      ap (λ found. slice_get (unwrap_or found []) j)
+      (lookup-set_value nat_list_eq_equiv (same_text name) (one_name name) other
+      (slice_set (partitions_of name topics) i written) topics (has_there name i topics p there))
+      ∙ by (same_text name other) refl
+    where
+      by : (b : Bool) → same_text name other ≡ b
+          → slice_get
+          (unwrap_or (cond b (Some (slice_set (partitions_of name topics) i written))
+          (lookup (same_text other) topics)) []) j
+          ≡ cond (b && nat_eq i j) (Some written) (partition_of other j topics)
+      by true is =
+          subst (λ n. slice_get (slice_set (partitions_of name topics) i written) j
+          ≡ cond (nat_eq i j) (Some written) (partition_of n j topics)) (equal_names name other is)
+          (written_in (partitions_of name topics) i j p written there)
+      by false is = refl
+
+  pub written_is_read : (name : List ℕ) (partition : ℕ) (p old : P) (topics : List (Topic P))
+      → partition_of name partition topics ≡ Some old
+      → partition_of name partition (with_partition name partition p topics) ≡ Some p
+  written_is_read name partition p old topics is =
+      read_written name partition old p topics name partition is
+      ∙ ap (λ b. cond b (Some p) (partition_of name partition topics)) (same_place name partition)
+    where
+      same_place : (name : List ℕ) (n : ℕ) → (same_text name name && nat_eq n n) ≡ true
+      same_place name n = rw (nat_list_eq_equiv.refl name, nat_eq_equiv.refl n) refl
+
+  -- the partitions of a topic that was taken away are gone, and all others stay
+  pub read_without : (name : List ℕ) (topics : List (Topic P)) (other : List ℕ) (j : ℕ)
+      → partition_of other j (without_topic name topics)
+      ≡ cond (same_text name other) None (partition_of other j topics)
+  read_without name topics other j =
+      ap (λ found. slice_get (unwrap_or found []) j) (lookup_without name other topics) ∙ by (same_text name other)
+    where
+      by : (b : Bool) → slice_get (unwrap_or (cond b None (lookup (same_text other) topics)) []) j
+          ≡ cond b None (partition_of other j topics)
+      by true = refl
+      by false = refl
+
+  -- an unknown topic that is taken away leaves the topics
+  pub unknown_stays : (name : List ℕ) (topics : List (Topic P)) → has_topic name topics ≡ false
+      → without_topic name topics ≡ topics
+  unknown_stays name topics unknown =
+      let none = none_of (lookup (same_text name) topics) unknown in
+      let same = removed_absent name topics none in
+      sym (removed_others (same_text name) topics (ap (lookup (same_text name)) same ∙ none)) ∙ same
+
+  -- what is read of a topic put last is what is read of an empty partition, or of none
+  module _ {X : Type 0} (read : Option P → X) (empty : P) (nothing : read (Some empty) ≡ read None) where
+    of_empty : (count j : ℕ) → read (slice_get (replicate count empty) j) ≡ read None
+    of_empty zero j = refl
+    of_empty (suc count) zero = nothing
+    of_empty (suc count) (suc j) = of_empty count j
+
+    pub read_added : (name : List ℕ) (j : ℕ) (topics : List (Topic P)) (made : List ℕ) (count : ℕ)
+        → read (partition_of name j (topics ++ (made, replicate count empty) ∷ []))
+        ≡ read (partition_of name j topics)
+    read_added name j [] made count = by (same_text name made)
+      where
+        by : (b : Bool) → read (slice_get (unwrap_or (cond b (Some (replicate count empty)) None) []) j) ≡ read None
+        by true = of_empty count j
+        by false = refl
+    read_added name j (topic ∷ topics) made count = by (same_text name topic.0) (read_added name j topics made count)
+      where
+        by : (b : Bool)
+            → read (partition_of name j (topics ++ (made, replicate count empty) ∷ []))
+            ≡ read (partition_of name j topics)
+            → read (slice_get (unwrap_or (cond b (Some topic.1)
+            (lookup (same_text name) (topics ++ (made, replicate count empty) ∷ []))) []) j)
+            ≡ read (slice_get (unwrap_or (cond b (Some topic.1) (lookup (same_text name) topics)) []) j)
+        by true rest = refl
+        by false rest = rest
