@@ -5,7 +5,7 @@
 use kob_embedding::{
     ConsumerEnd, RunningConsumer, RunningService, ServiceEnd, opened, reaches_in_order,
 };
-use kob_inbox::{Inbox, Subscription};
+use kob_inbox::{Inbox, InboxRow, Subscription};
 use kob_lines::{Loss, Lossy, ProgramFault, RecordedLine};
 use kob_names::{Host, Principal};
 use kob_outbox::{Change, Outbox, OutboxEvent};
@@ -31,29 +31,42 @@ fn main(rt: HostRuntime) -> Result<(), ProgramFault> {
         |_| ProgramFault::BadText,
     )?;
     let mut recorded = opened(alloc, settings, events.as_slice(), ENTRY_LIMIT)?;
-    let played = play(alloc, &mut rt.stdout(), &mut recorded);
+    let played = play(alloc, &mut recorded);
     drop(recorded);
-    played
+    let (holds, rows) = played?;
+    let printed = print(&mut rt.stdout(), holds, &rows);
+    drop(rows);
+    printed
 }
 
-/// Delivers the orders, and prints the inbox and whether the law of delivery holds of it.
-fn play<W: Write>(alloc: Global, out: &mut W, recorded: &mut Recorded) -> Result<(), ProgramFault> {
+/// Delivers the orders. Returns whether the law of delivery holds of the inbox, and its rows.
+fn play(alloc: Global, recorded: &mut Recorded) -> Result<(bool, Vec<InboxRow>), ProgramFault> {
     let sent = send(alloc, recorded)?;
-    let taken = take(alloc, recorded);
-    print(out, recorded, &sent, taken)
+    let mut taken = take(alloc, recorded);
+    let told = told(recorded, &sent, &mut taken);
+    drop(sent);
+    drop(taken);
+    told
 }
 
-fn print<W: Write>(
-    out: &mut W,
+/// The same of both ends. They are lent, since what is dropped at `?` makes a proof long.
+fn told(
     recorded: &Recorded,
     sent: &ServiceEnd,
-    taken: Result<ConsumerEnd, ProgramFault>,
-) -> Result<(), ProgramFault> {
-    let mut taken = taken?;
-    let holds = reaches_in_order(recorded, sent, &taken);
-    let rows = taken.taken();
-    drop(taken);
-    for row in &rows? {
+    taken: &mut Result<ConsumerEnd, ProgramFault>,
+) -> Result<(bool, Vec<InboxRow>), ProgramFault> {
+    match taken {
+        Ok(taken) => {
+            let holds = reaches_in_order(recorded, sent, taken);
+            Ok((holds, taken.taken()?))
+        }
+        Err(fault) => Err(*fault),
+    }
+}
+
+/// Prints the inbox, and whether the law of delivery holds of it.
+fn print<W: Write>(out: &mut W, holds: bool, rows: &[InboxRow]) -> Result<(), ProgramFault> {
+    for row in rows {
         let value = std::str::from_utf8(row.value.as_slice()).unwrap_or("?");
         writeln!(out, "{}: {value}", row.place)?;
     }

@@ -5,12 +5,14 @@
 use kob_embedding::{
     ConsumerEnd, RunningConsumer, RunningService, ServiceEnd, opened, reaches_in_order, session_of,
 };
-use kob_inbox::{Inbox, Subscription};
+use kob_inbox::{Inbox, InboxRow, Subscription};
 use kob_lines::{ProgramFault, SessionLine};
+use kob_names::PlainValue;
 use kob_outbox::{Change, Outbox, OutboxEvent};
+use kob_rights::Event;
 use kob_router::{Line, Route, RouteSettings};
 use kob_script::{Script, read_script};
-use kob_shared::{ENTRY_LIMIT, Recorded, SharedBroker};
+use kob_shared::{ENTRY_LIMIT, Recorded, Session, SharedBroker};
 use std::alloc::Global;
 use std::io::Write;
 use std::sync::Wait;
@@ -48,8 +50,14 @@ fn main(rt: HostRuntime) -> Worked<()> {
         ),
     );
     let recorded = shared.finish();
-    let printed = print(&mut rt.stdout(), &recorded, sent, taken);
+    let mut taken = taken;
+    let told = told(&recorded, &sent, &mut taken);
+    drop(sent);
+    drop(taken);
     drop(recorded);
+    let (holds, rows) = told?;
+    let printed = print(&mut rt.stdout(), holds, &rows);
+    drop(rows);
     printed?;
     changed
 }
@@ -58,20 +66,26 @@ fn script(alloc: Global, text: &str) -> Worked<Script> {
     read_script(alloc, text.as_bytes()).map_err(|_| ProgramFault::BadText)
 }
 
-/// Prints the inbox, and whether the law of delivery holds of it.
-fn print<W: Write>(
-    out: &mut W,
+/// Whether the law of delivery holds of the inbox, and its rows. The parts are lent, since what is
+/// dropped at `?` makes a proof long.
+fn told(
     recorded: &Recorded,
-    sent: Worked<ServiceEnd>,
-    taken: Worked<ConsumerEnd>,
-) -> Worked<()> {
-    let mut taken = taken?;
-    let sent = sent?;
-    let holds = reaches_in_order(recorded, &sent, &taken);
-    drop(sent);
-    let rows = taken.taken();
-    drop(taken);
-    for row in &rows? {
+    sent: &Worked<ServiceEnd>,
+    taken: &mut Worked<ConsumerEnd>,
+) -> Worked<(bool, Vec<InboxRow>)> {
+    match (taken, sent) {
+        (Ok(taken), Ok(sent)) => {
+            let holds = reaches_in_order(recorded, sent, taken);
+            Ok((holds, taken.taken()?))
+        }
+        (Err(fault), _) => Err(*fault),
+        (_, Err(fault)) => Err(*fault),
+    }
+}
+
+/// Prints the inbox, and whether the law of delivery holds of it.
+fn print<W: Write>(out: &mut W, holds: bool, rows: &[InboxRow]) -> Worked<()> {
+    for row in rows {
         let value = std::str::from_utf8(row.value.as_slice()).unwrap_or("?");
         writeln!(out, "{}: {value}", row.place)?;
     }
@@ -81,9 +95,10 @@ fn print<W: Write>(
 
 /// Worker 1 sends two orders, also while its right is revoked.
 fn serve<R: Wait>(rt: &R, alloc: Global, shared: &SharedBroker) -> Worked<ServiceEnd> {
+    let session = session_of(alloc, shared, 1, "User:orders", "h")?;
     let route = Route::new(alloc, &RouteSettings::by_default(alloc)?)?;
     let outbox = Outbox::open_in_memory(alloc)?;
-    let line = SessionLine::open(rt, alloc, session_of(alloc, shared, 1, "User:orders", "h")?);
+    let line = SessionLine::open(rt, alloc, session);
     let mut service = RunningService::new(alloc, outbox, route, 1, line);
     let sent = send(alloc, &mut service);
     service.end(1, sent)
@@ -101,9 +116,10 @@ fn send<L: Line>(alloc: Global, service: &mut RunningService<L>) -> Worked<()> {
 
 /// Worker 2 takes the events in until both are there.
 fn consume<R: Wait>(rt: &R, alloc: Global, shared: &SharedBroker) -> Worked<ConsumerEnd> {
+    let session = session_of(alloc, shared, 2, "User:mail", "h")?;
     let subscription = Subscription::of(alloc, "mail", "outbox.event.order", 1, 10)?;
     let inbox = Inbox::open_in_memory(alloc)?;
-    let line = SessionLine::open(rt, alloc, session_of(alloc, shared, 2, "User:mail", "h")?);
+    let line = SessionLine::open(rt, alloc, session);
     let mut consumer = RunningConsumer::new(alloc, inbox, subscription, line);
     let taken = consumer.take_rows(alloc, 2, u32::MAX);
     consumer.end(2, taken)
@@ -112,8 +128,22 @@ fn consume<R: Wait>(rt: &R, alloc: Global, shared: &SharedBroker) -> Worked<Cons
 /// Worker 3 revokes the service's right to write, and grants it again.
 fn administer<R: Wait>(rt: &R, alloc: Global, shared: &SharedBroker) -> Worked<()> {
     let mut session = session_of(alloc, shared, 3, "User:root", "h")?;
-    for event in script(alloc, CHANGES)?.events.into_vec() {
-        drop(session.call(rt, alloc, event.request)?);
+    let Script { settings, events } = script(alloc, CHANGES)?;
+    drop(settings);
+    let changed = call_all(rt, alloc, &mut session, events.as_slice());
+    drop(events);
+    changed
+}
+
+fn call_all<R: Wait>(
+    rt: &R,
+    alloc: Global,
+    session: &mut Session<'_>,
+    events: &[Event],
+) -> Worked<()> {
+    for event in events {
+        let request = event.request.copy(alloc)?;
+        drop(session.call(rt, alloc, request)?);
     }
     Ok(())
 }
