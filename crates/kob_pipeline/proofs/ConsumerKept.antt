@@ -115,112 +115,100 @@ module _ (q : Place) where
   pub taking_first : Taking [] None [] []
   taking_first = record { bound = 0; offsets = refl; contents = tt; cursor = tt; commit = tt }
 
-  -- the log grew
-  pub taking_later : {records : List Record} {committed : Option ℕ} {cursors : List Cursor} {arrived : List Arrival}
-      (more : List Record) → Taking records committed cursors arrived
-      → Taking (records ++ more) committed cursors arrived
-  taking_later {records = records} {arrived = arrived} more k =
-      record {
-        bound = k.bound;
-        offsets = k.offsets;
-        contents = all_weaker (IsContent records) (IsContent (records ++ more))
-            (λ a h. get_front records more a.offset a.message h) (from_place q arrived) k.contents;
-        cursor = k.cursor;
-        commit = k.commit;
-      }
-
-  pub taking_after_restart : {records : List Record} {committed : Option ℕ} {cursors : List Cursor}
-      {arrived : List Arrival} → Taking records committed cursors arrived → Taking records committed [] arrived
-  taking_after_restart k =
-      record { bound = k.bound; offsets = k.offsets; contents = k.contents; cursor = tt; commit = k.commit }
-
-  -- the cursor of some place moves
-  pub taking_after_move : {records : List Record} {committed : Option ℕ} {cursors : List Cursor}
-      {arrived : List Arrival} (c : Cursor) (k : Taking records committed cursors arrived)
-      → (c.place ≡ q → c.position ≤ k.bound) → Taking records committed (with_cursor cursors c) arrived
-  taking_after_move {cursors = cursors} c k new =
-      record {
-        bound = k.bound;
-        offsets = k.offsets;
-        contents = k.contents;
-        cursor = within_moved cursors c q k.bound k.cursor new;
-        commit = k.commit;
-      }
-
-  -- what is committed changes, within the bound
-  abbrev pub taking_with_commit : {records : List Record} {old new : Option ℕ} {cursors : List Cursor}
-      {arrived : List Arrival} (k : Taking records old cursors arrived) → WithinOffset k.bound new
-      → Taking records new cursors arrived
-  taking_with_commit k w =
-      record { bound = k.bound; offsets = k.offsets; contents = k.contents; cursor = k.cursor; commit = w }
-
-  pub taking_nothing : {records : List Record} {committed : Option ℕ} {cursors : List Cursor}
-      {arrived : List Arrival} → Taking records committed cursors arrived
-      → Taking records committed cursors (arrived ++ [])
-  taking_nothing {arrived = arrived} k = rw (append-nil arrived) k
-
-  -- records are taken in from the position on
-  taking_here : {records : List Record} {committed : Option ℕ} {cursors : List Cursor} {arrived : List Arrival}
-      (position : ℕ) (xs : List (ℕ × Record)) (k : Taking records committed cursors arrived) → position ≤ k.bound
-      → AreRead records position xs
-      → Taking records committed (with_cursor cursors (cursor_behind q position xs)) (arrived ++ arrivals q xs)
-  taking_here {records} {committed} {cursors} {arrived} position xs k l c =
-      let read = offsets_read records position xs c in
-      let more : from_place q (arrived ++ arrivals q xs) ≡ from_place q arrived ++ arrivals q xs =
-      filter-append (λ (a : Arrival). same_place a.place q) arrived (arrivals q xs)
-      ∙ ap (λ (ys : List Arrival). from_place q arrived ++ ys) (here_all q xs) in
-      record {
-        bound = max k.bound (position + length xs);
-        offsets =
-            ap (λ (ys : List Arrival). firsts nat_eq (map offset_of ys)) more
-            ∙ ap (firsts nat_eq) (map-append offset_of (from_place q arrived) (arrivals q xs))
-            ∙ fold-append (with_new nat_eq) [] (map offset_of (from_place q arrived)) (map offset_of (arrivals q xs))
-            ∙ ap (λ (ns : List ℕ). fold (with_new nat_eq) ns (map offset_of (arrivals q xs))) k.offsets
-            ∙ ap (fold (with_new nat_eq) (range_with_len 0 k.bound))
-            (map-map offset_of (λ (x : ℕ × Record). record { place = q; offset = x.0; message = x.1 }) xs ∙ read.0)
-            ∙ numbers_on k.bound position (length xs) l;
-        contents =
-            rw more
-            (all_append (IsContent records) (from_place q arrived) (arrivals q xs) k.contents
-            (contents_arrived records q position xs c));
-        cursor = rw (cursor_moved cursors (cursor_behind q position xs)) (omega (arith, read.1));
-        commit = within_more committed k.bound (max k.bound (position + length xs)) (omega arith) k.commit;
-      }
-
-  -- records of another place
-  taking_elsewhere : {records : List Record} {committed : Option ℕ} {cursors : List Cursor} {arrived : List Arrival}
-      (p : Place) (position : ℕ) (xs : List (ℕ × Record)) → same_place p q ≡ false
-      → Taking records committed cursors arrived
-      → Taking records committed (with_cursor cursors (cursor_behind p position xs)) (arrived ++ arrivals p xs)
-  taking_elsewhere {records} {committed} {cursors} {arrived} p position xs apart k =
-      let more : from_place q (arrived ++ arrivals p xs) ≡ from_place q arrived =
-      filter-append (λ (a : Arrival). same_place a.place q) arrived (arrivals p xs)
-      ∙ ap (λ (ys : List Arrival). from_place q arrived ++ ys) (here_none p q apart xs)
-      ∙ append-nil (from_place q arrived) in
-      record {
-        bound = k.bound;
-        offsets = ap (λ (ys : List Arrival). firsts nat_eq (map offset_of ys)) more ∙ k.offsets;
-        contents = rw more k.contents;
-        cursor = rw (cursor_elsewhere cursors (cursor_behind p position xs) q apart) k.cursor;
-        commit = k.commit;
-      }
-
   -- what records have to be that are taken in from the position on
   abbrev pub Fits : List Record → ℕ → ℕ → List (ℕ × Record) → Type 0
   Fits records bound position xs = (position ≤ bound) × AreRead records position xs
 
-  -- so many of the records that were heard are taken in
-  pub taking_after_fetch : {records : List Record} {committed : Option ℕ} {cursors : List Cursor}
-      {arrived : List Arrival} (p : Place) (position count : ℕ) (xs : List (ℕ × Record))
-      (k : Taking records committed cursors arrived) → (count ≡ 0 → xs ≡ [])
-      → (p ≡ q → Fits records k.bound position xs)
-      → Taking records committed (with_progress cursors p count (behind position xs)) (arrived ++ arrivals p xs)
-  taking_after_fetch p position zero xs k none fits = rw (none refl) (taking_nothing k)
-  taking_after_fetch {records} {committed} {cursors} {arrived} p position (suc count) xs k none fits =
-      elim (place_cases p q) [
-        | inl e ↦
-            let f = fits e in
-            subst (λ (y : Place). Taking records committed (with_cursor cursors (cursor_behind y position xs))
-            (arrived ++ arrivals y xs)) (sym e) (taking_here position xs k f.0 f.1)
-        | inr apart ↦ taking_elsewhere p position xs apart k
-      ]
+  module _ {records : List Record} {committed : Option ℕ} {cursors : List Cursor} {arrived : List Arrival} where
+    -- the log grew
+    pub taking_later : (more : List Record) → Taking records committed cursors arrived
+        → Taking (records ++ more) committed cursors arrived
+    taking_later more k =
+        record {
+          bound = k.bound;
+          offsets = k.offsets;
+          contents = all_weaker (IsContent records) (IsContent (records ++ more))
+              (λ a h. get_front records more a.offset a.message h) (from_place q arrived) k.contents;
+          cursor = k.cursor;
+          commit = k.commit;
+        }
+
+    -- the cursors and what is committed change, within the bound
+    abbrev taking_as : {new : Option ℕ} {moved : List Cursor} (k : Taking records committed cursors arrived)
+        → WithinCursor k.bound (cursor_of moved q) → WithinOffset k.bound new → Taking records new moved arrived
+    taking_as k cursor commit =
+        record { bound = k.bound; offsets = k.offsets; contents = k.contents; cursor = cursor; commit = commit }
+
+    pub taking_after_restart : Taking records committed cursors arrived → Taking records committed [] arrived
+    taking_after_restart k = taking_as k tt k.commit
+
+    -- the cursor of some place moves
+    pub taking_after_move : (c : Cursor) (k : Taking records committed cursors arrived)
+        → (c.place ≡ q → c.position ≤ k.bound) → Taking records committed (with_cursor cursors c) arrived
+    taking_after_move c k new = taking_as k (within_moved cursors c q k.bound k.cursor new) k.commit
+
+    -- what is committed changes, within the bound
+    abbrev pub taking_with_commit : {new : Option ℕ} (k : Taking records committed cursors arrived)
+        → WithinOffset k.bound new → Taking records new cursors arrived
+    taking_with_commit k w = taking_as k k.cursor w
+
+    pub taking_nothing : Taking records committed cursors arrived → Taking records committed cursors (arrived ++ [])
+    taking_nothing k = rw (append-nil arrived) k
+
+    -- records are taken in from the position on
+    taking_here : (position : ℕ) (xs : List (ℕ × Record)) (k : Taking records committed cursors arrived)
+        → Fits records k.bound position xs
+        → Taking records committed (with_cursor cursors (cursor_behind q position xs)) (arrived ++ arrivals q xs)
+    taking_here position xs k (l, c) =
+        let read = offsets_read records position xs c in
+        let more : from_place q (arrived ++ arrivals q xs) ≡ from_place q arrived ++ arrivals q xs =
+        filter-append (λ (a : Arrival). same_place a.place q) arrived (arrivals q xs)
+        ∙ ap (λ (ys : List Arrival). from_place q arrived ++ ys) (here_all q xs) in
+        record {
+          bound = max k.bound (position + length xs);
+          offsets =
+              ap (λ (ys : List Arrival). firsts nat_eq (map offset_of ys)) more
+              ∙ ap (firsts nat_eq) (map-append offset_of (from_place q arrived) (arrivals q xs))
+              ∙ fold-append (with_new nat_eq) [] (map offset_of (from_place q arrived)) (map offset_of (arrivals q xs))
+              ∙ ap (λ (ns : List ℕ). fold (with_new nat_eq) ns (map offset_of (arrivals q xs))) k.offsets
+              ∙ ap (fold (with_new nat_eq) (range_with_len 0 k.bound))
+              (map-map offset_of (λ (x : ℕ × Record). record { place = q; offset = x.0; message = x.1 }) xs ∙ read.0)
+              ∙ numbers_on k.bound position (length xs) l;
+          contents =
+              rw more
+              (all_append (IsContent records) (from_place q arrived) (arrivals q xs) k.contents
+              (contents_arrived records q position xs c));
+          cursor = rw (cursor_moved cursors (cursor_behind q position xs)) (omega (arith, read.1));
+          commit = within_more committed k.bound (max k.bound (position + length xs)) (omega arith) k.commit;
+        }
+
+    -- records of another place
+    taking_elsewhere : (p : Place) (position : ℕ) (xs : List (ℕ × Record)) → same_place p q ≡ false
+        → Taking records committed cursors arrived
+        → Taking records committed (with_cursor cursors (cursor_behind p position xs)) (arrived ++ arrivals p xs)
+    taking_elsewhere p position xs apart k =
+        let more : from_place q (arrived ++ arrivals p xs) ≡ from_place q arrived =
+        filter-append (λ (a : Arrival). same_place a.place q) arrived (arrivals p xs)
+        ∙ ap (λ (ys : List Arrival). from_place q arrived ++ ys) (here_none p q apart xs)
+        ∙ append-nil (from_place q arrived) in
+        record {
+          bound = k.bound;
+          offsets = ap (λ (ys : List Arrival). firsts nat_eq (map offset_of ys)) more ∙ k.offsets;
+          contents = rw more k.contents;
+          cursor = rw (cursor_elsewhere cursors (cursor_behind p position xs) q apart) k.cursor;
+          commit = k.commit;
+        }
+
+    -- so many of the records that were heard are taken in
+    pub taking_after_fetch : (p : Place) (position count : ℕ) (xs : List (ℕ × Record))
+        (k : Taking records committed cursors arrived) → (count ≡ 0 → xs ≡ [])
+        → (p ≡ q → Fits records k.bound position xs)
+        → Taking records committed (with_progress cursors p count (behind position xs)) (arrived ++ arrivals p xs)
+    taking_after_fetch p position zero xs k none fits = rw (none refl) (taking_nothing k)
+    taking_after_fetch p position (suc count) xs k none fits =
+        elim (place_cases p q) [
+          | inl e ↦
+              subst (λ (y : Place). Taking records committed (with_cursor cursors (cursor_behind y position xs))
+              (arrived ++ arrivals y xs)) (sym e) (taking_here position xs k (fits e))
+          | inr apart ↦ taking_elsewhere p position xs apart k
+        ]

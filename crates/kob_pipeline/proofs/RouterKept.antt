@@ -52,14 +52,11 @@ held_by_move {route = route} {wait = wait} s (Recorded change event) may u h = r
   kept = kept_recorded change event may h.kept;
   holds = in_hand_more route s.hand wait (stored_event (next_seq s.outbox) event) h.holds;
 }
-held_by_move {rows = rows} {wait = wait} s Swept may u h =
-    rw (append-nil rows, append-nil wait) (record { kept = kept_swept h.kept; holds = h.holds })
-held_by_move {rows = rows} {wait = wait} s Restarted may u h =
-    rw (append-nil rows, append-nil wait) (record { kept = h.kept; holds = tt })
-held_by_move {rows = rows} {wait = wait} s (Took hand) may u h =
-    rw (append-nil rows, append-nil wait)
-    (record { kept = h.kept; holds = (rw h.kept.waits at may.1, may.2) })
-held_by_move {rows = rows} {wait = wait} s (Called call marks) may u h = rw (u, append-nil rows, append-nil wait) h
+held_by_move s Swept may u h = rw (append-nil, append-nil) (record { kept = kept_swept h.kept; holds = h.holds })
+held_by_move s Restarted may u h = rw (append-nil, append-nil) (record { kept = h.kept; holds = tt })
+held_by_move s (Took hand) may u h =
+    rw (append-nil, append-nil) (record { kept = h.kept; holds = (rw h.kept.waits at may.1, may.2) })
+held_by_move s (Called call marks) may u h = rw (u, append-nil, append-nil) h
 
 -- what is in hand counts as sent
 pub held_marked : {route : Dispatching} {rows : List Event} {c : Contents} {sent wait : List Event} (hand : Hand)

@@ -1,5 +1,5 @@
 -- What each call of a router keeps, served or not, and what its run leaves on a partition.
-use Rattle.kob_pipeline.proofs.Words.{Accepts, AreServed, Batch, Body, Bool, Call, Denied, Dispatching, Does, Done, Entry, Hand, InitProducerId, IsDelivered, IsDone, IsHistory, IsNeverDeleted, IsNoDeletion, IsOwnProduce, IsRouterRun, IsSameView, IsSending, IsSoleProducer, Judgement, List, MayCall, Next, None, OldEpoch, Option, OutOfOrder, Place, Produce, Producer, Recorded, Refused, Repeat, Reply, Request, Sequence, Some, Step, Swept, Took, View, [], ap, append-nil, append_assoc, arith, batch_of, false, filter-append, goes_to, history, inl, inr, judge, map, map-append, opening_view, producer_after, records_of, refl, routed_to, same_place, sequence_of, served_to, subst, sym, true, true≢false, with_batch, with_producer, ℕ, ◌++◌, ◌∙◌, ◌∷◌, ◌≡◌}
+use Rattle.kob_pipeline.proofs.Words.{Accepts, AreServed, Batch, Body, Bool, Call, Denied, Dispatching, Does, Done, Entry, Hand, InitProducerId, IsDelivered, IsDone, IsHistory, IsNeverDeleted, IsNoDeletion, IsOwnProduce, IsRouterRun, IsSameView, IsSending, IsSoleProducer, Judgement, List, MayCall, Next, None, OldEpoch, Option, OutOfOrder, Place, Produce, Producer, Recorded, Refused, Repeat, Reply, Request, Sequence, Some, Step, Swept, Took, View, [], ap, append-nil, append_assoc, arith, batch_of, false, filter-append, goes_to, history, inl, inr, judge, map, map-append, opening_view, producer_after, records_of, refl, routed_to, sequence_of, served_to, subst, sym, true, true≢false, with_batch, with_producer, ℕ, ◌++◌, ◌∙◌, ◌∷◌, ◌≡◌}
 use Rattle.kob_names.specs.declared.record.Record.{Record}
 use Rattle.kob_outbox.specs.Contents.{Contents, Event}
 use Rattle.kob_rights.specs.declared.on_partitions.Produce.{Produce as ProduceRequest}
@@ -75,48 +75,34 @@ module _ (route : Dispatching) where
   abbrev pub ServedIn : Place → List Event → Contents → Producer → List Sequence → Hand → View → Type 0
   ServedIn q rows c p ss h v = IsServed route q rows c p ss h (v.log q) v.next_producer
 
-  accepted_there : (rows : List Event) (c : Contents) (p : Producer) (ss : List Sequence) (h : Hand) (v w : View)
-      (x : Record) (j : Judgement) → KeptIn h.place rows (holding c p ss h) v
+  accepted : (q : Place) (rows : List Event) (c : Contents) (p : Producer) (ss : List Sequence) (h : Hand) (v w : View)
+      (x : Record) (j : Judgement) → KeptIn q rows (holding c p ss h) v
       → route h.event ≡ Some (record { place = h.place; message = x })
       → judge (history p.id (v.log h.place)) (idem_of p (sequence_of ss h.place)) 1 ≡ j
       → Accepts j v h.place (batch_in_hand p ss h x) w
-      → ServedIn h.place rows c p ss h w
-  accepted_there rows c p ss h v w x Next k to judged a =
-      let e : (with_batch v h.place (batch_in_hand p ss h x)).log h.place
-      ≡ v.log h.place ++ batch_in_hand p ss h x ∷ [] = rw (same_here h.place) refl in
-      rw (a.log h.place, a.next_producer, e)
-      (kept_after_batch route rows c p ss h (v.log h.place) v.next_producer x k to judged)
-  accepted_there rows c p ss h v w x (Repeat offset) k to judged a =
-      rw (a.log h.place, a.next_producer)
-      (k, repeat_is_pending route rows c p ss h (v.log h.place) v.next_producer offset k judged)
-  accepted_there rows c p ss h v w x OutOfOrder k to judged a = absurd a
-  accepted_there rows c p ss h v w x OldEpoch k to judged a = absurd a
-
-  accepted_elsewhere : (q : Place) (rows : List Event) (c : Contents) (p : Producer) (ss : List Sequence) (h : Hand)
-      (v w : View) (b : Batch) (j : Judgement) → KeptIn q rows (holding c p ss h) v → same_place h.place q ≡ false
-      → Accepts j v h.place b w → ServedIn q rows c p ss h w
-  accepted_elsewhere q rows c p ss h v w b Next k apart a =
-      let e : (with_batch v h.place b).log q ≡ v.log q = rw apart refl in
-      rw (a.log q, a.next_producer, e) (k, inl apart)
-  accepted_elsewhere q rows c p ss h v w b (Repeat offset) k apart a = rw (a.log q, a.next_producer) (k, inl apart)
-  accepted_elsewhere q rows c p ss h v w b OutOfOrder k apart a = absurd a
-  accepted_elsewhere q rows c p ss h v w b OldEpoch k apart a = absurd a
-
-  accepted : (q : Place) (rows : List Event) (c : Contents) (p : Producer) (ss : List Sequence) (h : Hand) (v w : View)
-      (x : Record)
-      → KeptIn q rows (holding c p ss h) v → route h.event ≡ Some (record { place = h.place; message = x })
-      → Accepts (judge (history p.id (v.log h.place)) (idem_of p (sequence_of ss h.place)) 1) v h.place
-      (batch_in_hand p ss h x) w
       → ServedIn q rows c p ss h w
-  accepted q rows c p ss h v w x k to a =
-      let j : Judgement = judge (history p.id (v.log h.place)) (idem_of p (sequence_of ss h.place)) 1 in
-      elim (place_cases h.place q) [
+  accepted q rows c p ss h v w x Next k to judged a =
+      rw (a.log q, a.next_producer)
+      (elim (place_cases h.place q) [
         | inl e ↦
-            subst (λ (y : Place). ServedIn y rows c p ss h w) e
-            (accepted_there rows c p ss h v w x j (subst (λ (y : Place). KeptIn y rows (holding c p ss h) v) (sym e) k)
-            to refl a)
-        | inr apart ↦ accepted_elsewhere q rows c p ss h v w (batch_in_hand p ss h x) j k apart a
-      ]
+            let b : Batch = batch_in_hand p ss h x in
+            let longer : (with_batch v h.place b).log h.place ≡ v.log h.place ++ b ∷ [] = rw (same_here h.place) refl in
+            rw (← e, longer)
+            (kept_after_batch route rows c p ss h (v.log h.place) v.next_producer x (rw (← e) at k) to judged)
+        | inr apart ↦
+            let same : (with_batch v h.place (batch_in_hand p ss h x)).log q ≡ v.log q = rw apart refl in
+            rw same (k, inl apart)
+      ])
+  accepted q rows c p ss h v w x (Repeat offset) k to judged a =
+      rw (a.log q, a.next_producer)
+      (elim (place_cases h.place q) [
+        | inl e ↦
+            let k' : KeptIn h.place rows (holding c p ss h) v = rw (← e) at k in
+            rw (← e) (k', repeat_is_pending route rows c p ss h (v.log h.place) v.next_producer offset k' judged)
+        | inr apart ↦ (k, inl apart)
+      ])
+  accepted q rows c p ss h v w x OutOfOrder k to judged a = absurd a
+  accepted q rows c p ss h v w x OldEpoch k to judged a = absurd a
 
 module _ (route : Dispatching) (q : Place) where
   -- what is in hand was sent, and that this is done was heard, or was not
@@ -134,8 +120,8 @@ module _ (route : Dispatching) (q : Place) where
 
       done : ServedIn route q rows s.outbox i.producer s.sequences i.hand w
       done =
-          accepted route q rows s.outbox i.producer s.sequences i.hand v w i.message
-          (subst (λ (y : State). KeptIn route q rows y v) same k) i.routed
+          accepted route q rows s.outbox i.producer s.sequences i.hand v w i.message _
+          (subst (λ (y : State). KeptIn route q rows y v) same k) i.routed refl
           (rw (i.same_topic, i.same_partition, i.same_batch) at d.1)
 
       marked_or_not : (m : Bool) → ServedIn route q rows s.outbox i.producer s.sequences i.hand w

@@ -21,19 +21,19 @@ abbrev pub consumer_scene : consumers.State → List Call → ℕ → consumer_t
 consumer_scene state calls unmade = record { state = state; calls = calls; unmade = unmade }
 
 -- the line is the worker's, whose loss was set
-module _ (loss set then_loss : Loss) (fault : Option CallFault) (calls then_calls : List Call) (unmade then_unmade : ℕ)
-    (before begun desk : AtDesk) (is_set : set ≡ loss) (same : begun ≡ before) (none : unmade ≡ 0)
+module _ {loss set then_loss : Loss} {fault : Option CallFault} {calls then_calls : List Call} {unmade then_unmade : ℕ}
+    {before begun desk : AtDesk} (is_set : set ≡ loss) (same : begun ≡ before) (none : unmade ≡ 0)
     (still_none : then_unmade ≡ 0) (made : AreMade fault set then_loss calls then_calls begun desk) where
   here : AreMade fault loss then_loss calls then_calls before desk
   here = subst (λ l. AreMade fault l then_loss calls then_calls before desk) is_set
       (subst (λ d. AreMade fault set then_loss calls then_calls d desk) same made)
 
-  pub service_ticked : (route : Dispatching) (old new : routers.State) (tick : RouterAnswer) → serving.GoesOn tick
+  pub service_ticked : {route : Dispatching} {old new : routers.State} {tick : RouterAnswer} → serving.GoesOn tick
       → router_ticks.Ticks router_ticks.IsOneTick route (router_scene old calls unmade)
       (router_scene new then_calls then_unmade) tick
       → Leads (serving.IsServiceStep route) routers.calls_of (standing old before) (service_steps.Tick loss)
       (standing new desk)
-  service_ticked route old new tick goes_on ticks = record {
+  service_ticked {route} {new = new} {tick = tick} goes_on ticks = record {
     moves = ticks.moves;
     losses = losses_of loss (routers.calls_of ticks.moves);
     done = record {
@@ -54,11 +54,11 @@ module _ (loss set then_loss : Loss) (fault : Option CallFault) (calls then_call
         ticks.calls;
   }
 
-  pub consumer_ticked : (t : Subscription) (old new : consumers.State) (tick : ConsumerAnswer) → consuming.GoesOn tick
+  pub consumer_ticked : {t : Subscription} {old new : consumers.State} {tick : ConsumerAnswer} → consuming.GoesOn tick
       → consumer_ticks.Ticks t (consumer_scene old calls unmade) (consumer_scene new then_calls then_unmade) tick
       → Leads (consuming.IsConsumerStep t) consumers.calls_of (standing old before) (consumer_steps.Tick loss)
       (standing new desk)
-  consumer_ticked t old new tick goes_on ticks = record {
+  consumer_ticked {tick = tick} goes_on ticks = record {
     moves = ticks.moves;
     losses = losses_of loss (consumers.calls_of ticks.moves);
     done = record {

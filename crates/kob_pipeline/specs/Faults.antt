@@ -6,7 +6,7 @@ use Rattle.kob_shared.specs.declared.fleet_stop.FleetStop.TheVariants as stops
 use Rattle.kob_shared.specs.Fleets.{EachIsAnswered, IsTornAt, IsWorkerWithin}
 use Rattle.kob_shared.specs.Runs.{events_in, notes_of, told_in}
 use Rattle.kob_pipeline.specs.declared.fault.PipelineFault.{PipelineFault}
-use Rattle.kob_pipeline.specs.declared.fault.PipelineFault.TheVariants.{TooManyWorkers, JournalFull, NotBegun, Memory, Stale, Full, Store, Torn}
+use Rattle.kob_pipeline.specs.declared.fault.PipelineFault.TheVariants.{TooManyWorkers, JournalFull, NotBegun, Memory, Stale, Full, Torn}
 
 -- what stops a fleet is a fault of the pipeline
 abbrev pub as_fault : FleetStop → PipelineFault
@@ -37,9 +37,3 @@ abbrev pub NamesWorkerWithin : ℕ → PipelineFault → Type 0
 NamesWorkerWithin count (Stale worker length) = IsWorkerWithin count worker
 NamesWorkerWithin count (Full worker) = IsWorkerWithin count worker
 NamesWorkerWithin count fault = Unit {0}
-
--- a fault of putting together what was left: out of memory, or a database that refused
-abbrev pub IsOther : PipelineFault → Type 0
-IsOther Memory = Unit {0}
-IsOther Store = Unit {0}
-IsOther fault = ⊥

@@ -15,6 +15,7 @@ ghost use Rattle.kob_pipeline.specs.Reserved.{ActsAlone, IsReserved, NoSuperUser
 /// A worker is the only producer of a topic under three conditions. At each place of a legal
 /// journal the bindings in force let only one principal write to the topic. Only this worker acts
 /// as that principal. No super user writes to the topic.
+#[tactic(auto, using(crate::proofs::Reserving::sole_producer))]
 pub fn bindings_leave_one_producer()
     ensures { (opening : Settings) (journal : List Entry) (now : State Retained) (worker : ℕ)
         (principal topic : List ℕ)
@@ -30,6 +31,7 @@ pub fn bindings_leave_one_producer()
 /// A worker is the only one that commits for a group on a topic under three conditions. At each
 /// place of a legal journal the bindings in force let only one principal read the group. Only this
 /// worker acts as that principal. No super user commits for the group on the topic.
+#[tactic(auto, using(crate::proofs::Reserving::sole_committer))]
 pub fn bindings_leave_one_committer()
     ensures { (opening : Settings) (journal : List Entry) (now : State Retained) (worker : ℕ)
         (principal group topic : List ℕ)

@@ -28,6 +28,7 @@ use crate::plan::Plan;
 /// of its record was done.
 ///
 /// It makes no call and does not allocate. The condition is what `pipeline` returns.
+#[tactic(auto, using(crate::proofs::PlanLaws::is_none_lost))]
 pub fn router_law(plan: &Plan, end: &PipelineEnd)
     requires { IsPipeline plan.now end.now }
     ensures delivered { (k : ℕ) (service : ServicePlan) (place : PlaceValue)
@@ -46,6 +47,7 @@ pub fn router_law(plan: &Plan, end: &PipelineEnd)
 /// each for the first time after all lower ones, with their records.
 ///
 /// It makes no call and does not allocate. The condition is what `pipeline` returns.
+#[tactic(auto, using(crate::proofs::PlanLaws::takes_its_records))]
 pub fn consumer_law(plan: &Plan, end: &PipelineEnd)
     requires { IsPipeline plan.now end.now }
     ensures { (k : ℕ) (consumer : Consumer) (place : PlaceValue)
@@ -66,6 +68,7 @@ pub fn consumer_law(plan: &Plan, end: &PipelineEnd)
 /// No recorded row is lost, as `router_law` says.
 ///
 /// It makes no call and does not allocate. The condition is what `pipeline` returns.
+#[tactic(auto, using(crate::proofs::PlanLaws::is_none_lost))]
 pub fn pipeline_law(plan: &Plan, end: &PipelineEnd)
     requires { IsPipeline plan.now end.now }
     ensures reached { (i k : ℕ) (service : ServicePlan) (consumer : Consumer) (left : InboxLeft)

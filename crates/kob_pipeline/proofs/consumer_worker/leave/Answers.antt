@@ -1,10 +1,8 @@
-use Rattle.std.proofs.Common.{◌≡◌, map}
-use Rattle.std.specs.List.{enumerate_from}
+use Rattle.kob_pipeline.proofs.Words.{IsInboxLeft, enumerate_from, map, ◌≡◌}
 use Rattle.std.proofs.lemmas.Result.{IfOk-weaker}
 use Rattle.kob_inbox.specs.Rows.{placed_intake}
 use Rattle.kob_inbox.specs.Tick.{state_of}
 use Rattle.kob_pipeline.specs.declared.end.InboxEnd.{InboxEnd}
-use Rattle.kob_pipeline.specs.Workers.{IsInboxLeft}
 use Rattle.kob_pipeline.proofs.consumer_worker.leave.Goals as goal
 
 pub returns : goal.returns

@@ -1,8 +1,6 @@
-use Rattle.std.proofs.Common.{arith, subst}
-use Rattle.std.specs.List.{All}
+use Rattle.kob_pipeline.proofs.Words.{All, IsWhole, arith, subst}
 use Rattle.std.proofs.lemmas.List.{take_all}
 use Rattle.std.proofs.lemmas.List.Elements.{All-more}
-use Rattle.kob_pipeline.specs.Workers.{IsWhole}
 use Rattle.kob_pipeline.proofs.pipelines.are_whole.Goals as goal
 
 pub loop-one-preserved : goal.loop-one-preserved

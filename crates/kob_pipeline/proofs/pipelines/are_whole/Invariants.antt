@@ -1,6 +1,4 @@
-use Rattle.std.proofs.Common.{take}
-use Rattle.std.specs.List.{All}
-use Rattle.kob_pipeline.specs.Workers.{IsWhole}
+use Rattle.kob_pipeline.proofs.Words.{All, IsWhole, take}
 use Rattle.kob_pipeline.proofs.pipelines.are_whole.Given as goal
 
 abbrev pub invariant-loop-one : goal.invariant-loop-one

@@ -1,6 +1,4 @@
-use Rattle.std.proofs.Common.{subst}
-use Rattle.std.specs.List.{All}
-use Rattle.kob_pipeline.specs.Workers.{IsWhole}
+use Rattle.kob_pipeline.proofs.Words.{All, IsWhole, subst}
 use Rattle.kob_pipeline.proofs.Ended.{each_answered, ended}
 use Rattle.kob_pipeline.proofs.pipelines.end_of.Goals as goal
 

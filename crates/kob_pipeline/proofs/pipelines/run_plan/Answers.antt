@@ -1,10 +1,9 @@
+use Rattle.kob_pipeline.proofs.Words.{opened_by, planned_as}
 use Rattle.std.proofs.Common.{◌≤◌, arith, length, map, ap, ◌∙◌, vec_len}
 use Rattle.std.proofs.lemmas.Result.{IfOk-weaker, err_from_is_err_and}
 use Rattle.kob_shared.specs.Limits.{entry_limit}
 use Rattle.kob_pipeline.specs.Counts.{workers_planned}
-use Rattle.kob_shared.specs.Openings.{opened_by}
 use Rattle.kob_pipeline.specs.Pipelines.{IsEnd, IsPipeline}
-use Rattle.kob_pipeline.specs.Workers.{planned_as}
 use Rattle.kob_pipeline.proofs.Ended.{as_planned, workers_counted}
 use Rattle.kob_pipeline.proofs.PipelineFaults.{named_fleet}
 use Rattle.kob_pipeline.proofs.pipelines.run_plan.Goals as goal

@@ -1,7 +1,5 @@
-use Rattle.std.proofs.Common.{◌++◌, ap, drop, refl, sym, ◌∙◌}
-use Rattle.std.proofs.lemmas.List.{take-append-drop}
+use Rattle.kob_pipeline.proofs.Words.{ap, drop, first_after, later_than, refl, sym, take-append-drop, ◌++◌, ◌∙◌}
 use Rattle.kob_outbox.specs.Contents.{Contents}
-use Rattle.kob_outbox.specs.Reading.{first_after, later_than}
 use Rattle.kob_pipeline.proofs.posting.rows_of.Goals as goal
 
 pub loop-rows-init : goal.loop-rows-init

@@ -1,8 +1,5 @@
 -- What was read stands first.
-use Rattle.std.proofs.Common.{◌≡◌, ◌-◌, length, map}
-use Rattle.kob_outbox.specs.Events.{stored_row}
-use Rattle.kob_outbox.specs.Reading.{later_than}
-use Rattle.kob_pipeline.specs.Firsts.{IsPrefixOf}
+use Rattle.kob_pipeline.proofs.Words.{IsPrefixOf, later_than, length, map, stored_row, ◌-◌, ◌≡◌}
 use Rattle.kob_pipeline.proofs.posting.rows_of.Given as goal
 
 abbrev pub invariant-loop-rows : goal.invariant-loop-rows

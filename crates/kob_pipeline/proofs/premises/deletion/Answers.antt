@@ -1,5 +1,4 @@
-use Rattle.std.proofs.Common.{◌+◌, arith}
-use Rattle.kob_pipeline.specs.Premises.{IsNoDeletion}
+use Rattle.kob_pipeline.proofs.Words.{IsNoDeletion, arith, ◌+◌}
 use Rattle.kob_pipeline.proofs.Breaches.{kept_more}
 use Rattle.kob_pipeline.proofs.premises.deletion.Goals as goal
 

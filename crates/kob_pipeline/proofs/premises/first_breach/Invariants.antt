@@ -1,5 +1,4 @@
-use Rattle.std.proofs.Common.{take}
-use Rattle.std.specs.List.{AllByRecursion}
+use Rattle.kob_pipeline.proofs.Words.{AllByRecursion, take}
 use Rattle.kob_pipeline.specs.Premises.{IsPrivate}
 use Rattle.kob_pipeline.proofs.premises.first_breach.Given as goal
 

@@ -1,6 +1,4 @@
-use Rattle.std.proofs.Common.{take}
-use Rattle.std.specs.List.{AllByRecursion}
-use Rattle.kob_pipeline.specs.Premises.{IsOwnProduce}
+use Rattle.kob_pipeline.proofs.Words.{AllByRecursion, IsOwnProduce, take}
 use Rattle.kob_pipeline.proofs.premises.other_producer.Given as goal
 
 abbrev pub invariant-loop-place : goal.invariant-loop-place

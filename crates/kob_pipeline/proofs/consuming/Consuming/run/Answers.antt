@@ -1,5 +1,4 @@
-use Rattle.std.proofs.Common.{length, get_or, ◌<◌, arith, refl, sym, ◌∙◌}
-use Rattle.std.proofs.lemmas.Option.{get_or_from_slice_get, slice_get-get_or}
+use Rattle.kob_pipeline.proofs.Words.{arith, get_or, get_or_from_slice_get, length, refl, slice_get-get_or, sym, ◌<◌, ◌∙◌}
 use Rattle.kob_pipeline.specs.declared.plan.ConsumerStep.TheVariants.{Tick}
 use Rattle.kob_lines.specs.declared.lossy.Loss.TheVariants.{None}
 use Rattle.kob_pipeline.proofs.Worked.{consumer_calls_append, leads_more, no_step}

@@ -1,5 +1,4 @@
-use Rattle.std.proofs.Common.{◌≤◌, take}
-use Rattle.std.specs.List.{All}
+use Rattle.kob_pipeline.proofs.Words.{All, take, ◌≤◌}
 use Rattle.kob_pipeline.proofs.plan.Plan.is_runnable.Given as goal
 
 abbrev pub invariant-loop-service : goal.invariant-loop-service

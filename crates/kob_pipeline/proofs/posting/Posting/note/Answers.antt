@@ -1,6 +1,4 @@
-use Rattle.std.proofs.Common.{[], ◌∷◌, inl, refl, sym, ap, subst}
-use Rattle.std.specs.Prelude.{Err, option_map}
-use Rattle.kob_router.specs.Run.Move.{Recorded}
+use Rattle.kob_pipeline.proofs.Words.{Err, Recorded, [], ap, inl, option_map, refl, subst, sym, ◌∷◌}
 use Rattle.kob_router.specs.Tick.{IsFirst, hand_of, state_of}
 use Rattle.kob_outbox.specs.Fields.{first_bad}
 use Rattle.kob_pipeline.proofs.Outboxes.{first_recorded, fits_unless}

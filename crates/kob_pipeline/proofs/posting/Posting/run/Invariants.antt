@@ -1,9 +1,6 @@
-use Rattle.std.proofs.Common.{◌≡◌, take}
-use Rattle.std.specs.Prelude.{option_map}
-use Rattle.kob_router.specs.Dispatches.{dispatch_of}
+use Rattle.kob_pipeline.proofs.Words.{IsServiceStep, dispatch_of, option_map, take, ◌≡◌}
 use Rattle.kob_router.specs.Run.{calls_of}
 use Rattle.kob_router.specs.Tick.{IsFirst, hand_of, state_of}
-use Rattle.kob_pipeline.specs.Services.{IsServiceStep}
 use Rattle.kob_pipeline.specs.Steps.{Leads, Steps, standing}
 use Rattle.kob_pipeline.proofs.posting.Posting.run.Given as goal
 

@@ -1,6 +1,4 @@
-use Rattle.std.proofs.Common.{[], ◌∷◌, refl, sym, ap, subst}
-use Rattle.std.specs.Prelude.{option_map}
-use Rattle.kob_router.specs.Run.Move.{Swept}
+use Rattle.kob_pipeline.proofs.Words.{Swept, [], ap, option_map, refl, subst, sym, ◌∷◌}
 use Rattle.kob_router.specs.Tick.{IsFirst, hand_of, state_of}
 use Rattle.kob_pipeline.proofs.Outboxes.{first_swept}
 use Rattle.kob_pipeline.proofs.Worked.{leads_still}

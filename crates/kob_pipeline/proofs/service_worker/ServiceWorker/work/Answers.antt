@@ -1,7 +1,5 @@
-use Rattle.std.proofs.Common.{sym, ap, ◌∙◌, subst}
-use Rattle.kob_shared.specs.Noted.{AtDesk, Noted}
+use Rattle.kob_pipeline.proofs.Words.{AtDesk, IsServiceRun, Noted, ap, subst, sym, ◌∙◌}
 use Rattle.kob_pipeline.specs.declared.plan.Service.{Service}
-use Rattle.kob_pipeline.specs.Services.{IsServiceRun}
 use Rattle.kob_pipeline.proofs.Worked.{service_run_of}
 use Rattle.kob_pipeline.proofs.service_worker.ServiceWorker.work.Goals as goal
 
