@@ -1,22 +1,10 @@
 -- Each entry of a legal journal is just, and is one step.
-use Rattle.std.proofs.Common.{◌≡◌, List, [], Some, take, ap, sym, subst, ℕ, ◌∙◌, arith, option_map, slice_get}
-use Rattle.std.proofs.lemmas.List.{take-map}
-use Rattle.std.proofs.lemmas.Option.{slice_get-map}
+use Rattle.kob_shared.proofs.Words.{Entry, Event, IsLegal, List, Reply, Retained, Settings, Some, State, [], ap, arith, events_of, opened_by, option_map, replies_of, reply_at, retained_meaning, slice_get, slice_get-map, state_after, step, subst, sym, take, take-map, ℕ, ◌∙◌, ◌≡◌}
 use Rattle.kob_authorizer.proofs.InTurn.{added_rises}
 use Rattle.kob_broker.proofs.Just.{run_just}
-use Rattle.kob_broker.proofs.Runs.{reply_at}
 use Rattle.kob_broker.specs.InForce.{in_force}
 use Rattle.kob_broker.specs.Justice.{IsJust}
-use Rattle.kob_broker.specs.State.{State}
-use Rattle.kob_broker.specs.Step.{replies_of, state_after, step}
-use Rattle.kob_names.specs.declared.settings.Settings.{Settings}
-use Rattle.kob_partition.specs.Retained.{Retained, retained_meaning}
-use Rattle.kob_rights.specs.declared.event.Event.{Event}
-use Rattle.kob_rights.specs.declared.reply.Reply.{Reply}
 use Rattle.kob_shared.specs.Decided.{EachEntryIsJust, EachEntryIsOneStep}
-use Rattle.kob_shared.specs.Journals.{IsLegal, events_of}
-use Rattle.kob_shared.specs.Openings.{opened_by}
-use Rattle.kob_shared.specs.declared.journal.Entry.{Entry}
 
 -- the entry's event and reply, in the run that the journal is
 stands_at : (opening : Settings) (journal : List Entry) (now : State Retained)

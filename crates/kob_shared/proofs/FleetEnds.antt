@@ -1,22 +1,9 @@
 -- What a fleet leaves.
-use Rattle.std.proofs.Common.{◌≡◌, List, [], ◌∷◌, arith, sym, subst}
-use Rattle.std.specs.Prelude.{slice_get, IfSome}
-use Rattle.kob_rights.specs.declared.event.Event.{Event}
-use Rattle.std.specs.List.{AllZip}
-use Rattle.kob_partition.specs.Retained.{Retained}
-use Rattle.kob_broker.specs.State.{State}
-use Rattle.kob_shared.specs.declared.script.Script.{Script}
-use Rattle.kob_names.specs.declared.settings.Settings.{Settings}
+use Rattle.kob_shared.proofs.Words.{AllZip, EachIsAnswered, Entry, Event, Follows, IfSome, IsAsNoted, IsFleet, IsKept, IsLegal, IsTaken, IsTear, IsTornAt, List, Receipt, Record, Retained, Script, Settings, State, [], arith, asked_of_all, events_in, events_of_script, notes_of, opened_by, slice_get, subst, sym, ◌∷◌, ◌≡◌}
 use Rattle.kob_shared.specs.declared.compare.Difference.{Difference}
 use Rattle.kob_shared.specs.declared.work.Done.{Done}
 use Rattle.kob_shared.specs.Noted.{Noted}
-use Rattle.kob_shared.specs.Openings.{opened_by}
-use Rattle.kob_shared.specs.Runs.{IsAsNoted, IsTaken, IsTear, events_in, notes_of}
 use Rattle.kob_shared.proofs.Noted.{asked_scripts, told_taken}
-use Rattle.kob_shared.specs.declared.journal.Entry.{Entry}
-use Rattle.kob_shared.specs.declared.journal.Receipt.{Receipt}
-use Rattle.kob_shared.specs.Journals.{IsLegal, Record}
-use Rattle.kob_shared.specs.Fleets.{IsFleet, IsKept, EachIsAnswered, Follows, IsTornAt, asked_of_all, events_of_script}
 use Rattle.kob_shared.proofs.Beginnings.{begins_with}
 use Rattle.kob_shared.proofs.Counted.{length_kept}
 

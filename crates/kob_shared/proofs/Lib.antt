@@ -1,3 +1,4 @@
+pub mod Words
 pub mod Openings
 pub mod Replay
 pub mod Bodies

@@ -1,9 +1,5 @@
 -- The entries of events that one worker was told of.
-use Rattle.std.proofs.Common.{◌≡◌, ℕ, ◌+◌, ◌<◌, List, [], ◌∷◌, ◌++◌, length, take, get_or, add-one, take-suc, arith, refl, sym, ap, ◌∙◌}
-use Rattle.kob_rights.specs.declared.event.Event.{Event}
-use Rattle.kob_shared.specs.Fleets.{entries_told}
-use Rattle.kob_shared.specs.Journals.{entry}
-use Rattle.kob_shared.specs.declared.journal.Receipt.{Receipt}
+use Rattle.kob_shared.proofs.Words.{Event, List, Receipt, [], add-one, ap, arith, entries_told, entry, get_or, length, refl, sym, take, take-suc, ℕ, ◌++◌, ◌+◌, ◌<◌, ◌∙◌, ◌∷◌, ◌≡◌}
 
 entries_told_push : (worker : ℕ) (es : List Event) (rs : List Receipt) (e : Event) (r : Receipt) → length rs ≡ length es
     → entries_told worker (es ++ e ∷ []) (rs ++ r ∷ []) ≡ entries_told worker es rs ++ entry worker e r.reply ∷ []

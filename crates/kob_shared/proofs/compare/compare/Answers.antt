@@ -1,6 +1,4 @@
-use Rattle.std.proofs.Common.{◌+◌, arith, length, refl}
-use Rattle.std.proofs.lemmas.Option.{slice_get_read}
-use Rattle.kob_shared.specs.Runs.{events_in, notes_of, told_in}
+use Rattle.kob_shared.proofs.Words.{arith, events_in, length, notes_of, refl, slice_get_read, told_in, ◌+◌}
 use Rattle.kob_shared.proofs.Compared.{kept_or_stranger}
 use Rattle.kob_shared.proofs.Noted.{differ_done, length_events, mine_done}
 use Rattle.kob_shared.proofs.compare.compare.Goals as goal

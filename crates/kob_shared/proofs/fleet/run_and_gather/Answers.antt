@@ -1,18 +1,16 @@
-use Rattle.std.proofs.Common.{◌≡◌, arith, length, map, Ok, IfOk}
-use Rattle.std.specs.List.{AllZip}
+use Rattle.kob_shared.proofs.Words.{AllZip, IfOk, NamesFirstFault, Ok, arith, as_fault, length, map, ◌≡◌}
 use Rattle.std.proofs.lemmas.Result.{IfErr-weaker, IfOk-weaker}
-use Rattle.kob_shared.specs.Runs.{NamesFirstFault, as_fault}
 use Rattle.kob_shared.specs.Tears.{NamesWorkerWithin}
 use Rattle.kob_shared.proofs.NamedWorkers.{within_first, within_more, within_none}
 use Rattle.kob_shared.proofs.Noted.{kept_done}
-use Rattle.kob_shared.proofs.Zips.{length_all_zip}
+use Rattle.std.proofs.lemmas.Slice.Zip.{AllZip-long}
 use Rattle.kob_shared.proofs.fleet.run_and_gather.Goals as goal
 
 pub gather-requires : goal.gather-requires
 gather-requires g c =
     let results = c.in-Ok.results in
     let same =
-    length_all_zip (λ w r. IfOk r (λ d. g.W.Work.keeps w d.notes d.end)) c.args.works.now results.items
+    AllZip-long (λ w r. IfOk r (λ d. g.W.Work.keeps w d.notes d.end)) c.args.works.now results.items
     c.in-Ok.ensures.each in
     record { empty = c.requires.empty; room = omega (arith, same, results.ok.0, c.requires.room) }
 
@@ -30,7 +28,7 @@ returns-in-Ok-clause-named g c =
     let works = c.args.works.now in
     let results = c.in-Ok.results.items in
     let same =
-    length_all_zip (λ w r. IfOk r (λ d. g.W.Work.keeps w d.notes d.end)) works results c.in-Ok.ensures.each in
+    AllZip-long (λ w r. IfOk r (λ d. g.W.Work.keeps w d.notes d.end)) works results c.in-Ok.ensures.each in
     IfErr-weaker c.gather.result (NamesFirstFault results)
     (λ f. NamesWorkerWithin (length works) (as_fault f))
     (λ f named.

@@ -1,8 +1,6 @@
-use Rattle.std.proofs.Common.{◌≡◌, arith, length, subst, sym, vec_len}
+use Rattle.kob_shared.proofs.Words.{Follows, IsFullOnlyPast, IsNamedWithin, arith, as_fault, length, subst, sym, vec_len, ◌≡◌}
 use Rattle.std.proofs.lemmas.Result.{IfErr-weaker, IfOk-weaker}
-use Rattle.kob_shared.specs.Fleets.{Follows}
 use Rattle.kob_shared.specs.Limits.{entry_limit}
-use Rattle.kob_shared.specs.Runs.{IsFullOnlyPast, IsNamedWithin, as_fault}
 use Rattle.kob_shared.specs.Tears.{NamesWorkerWithin}
 use Rattle.kob_shared.proofs.NamedWorkers.{full_within, named_more, named_within}
 use Rattle.kob_shared.proofs.fleet.run_fleet.Goals as goal
