@@ -1,5 +1,5 @@
 -- Ids that read back from records, and the rows of an aggregate among all rows, and among those of a place.
-use Rattle.kob_pipeline.proofs.Words.{All, All-from_recursion, AllByRecursion, AreServed, Bool, Dispatching, Entry, IsRouterRun, List, None, Option, Place, Recorded, Some, Swept, Target, Took, [], after_record, and_parts, ap, append-nil, arith, bytes_eq, cases_Bool, cond, dispatch_of, false, filter, goes_to, id_text, ids_of, if◌then◌else◌, inl, inr, is_of_aggregate, list_any, map_push, nat_tests, next_seq, option_map, place_of, refl, same_place, served_to, slice_index, stored_event, subst, suc, sym, told_id, true, zero, ℕ, ◌%◌, ◌&&◌, ◌++◌, ◌/◌, ◌<◌, ◌==◌, ◌∙◌, ◌∷◌, ◌≡◌}
+use Rattle.kob_pipeline.proofs.Words.{All, All-from_recursion, AllByRecursion, AreServed, Bool, Dispatch, Dispatching, Entry, IsRouterRun, List, None, Option, Place, Recorded, Some, Swept, Target, Took, [], after_record, and_parts, ap, append-nil, arith, bytes_eq, cases_Bool, cond, dispatch_of, false, filter, goes_to, id_text, ids_of, if◌then◌else◌, inl, inr, is_of_aggregate, list_any, list_any-append, map_push, nat_tests, next_seq, option_map, place_of, refl, same_place, served_to, slice_index, stored_event, subst, suc, sym, told_id, true, zero, ℕ, ◌%◌, ◌&&◌, ◌++◌, ◌/◌, ◌<◌, ◌==◌, ◌∙◌, ◌∷◌, ◌≡◌}
 use Rattle.std.specs.Option.{is_some}
 use Rattle.uuid.specs.Text.{by_index, digit_place, hex_digit, hyphen, is_hyphen_place, lower, nibble, parsed}
 use Rattle.uuid.proofs.RoundTrips.{parses_hyphenated}
@@ -9,11 +9,9 @@ use Rattle.kob_names.specs.declared.record.Record.{Record}
 use Rattle.kob_outbox.specs.Contents.{Event, Contents}
 use Rattle.kob_router.specs.Partitioner.{partition_of}
 use Rattle.kob_router.specs.Route.{key_of, message_of, topic_of}
-use Rattle.kob_router.specs.declared.dispatch.Dispatch.{Dispatch}
 use Rattle.kob_router.specs.declared.routed.Routed.{Routed}
 use Rattle.kob_pipeline.proofs.Lists.{all_last, all_weaker, any_last, bytes_are, bytes_turned, filter_last, filter_not_last, none_in_filter, same_bytes, same_here, same_some}
 use Rattle.kob_pipeline.proofs.RouterKept.{TellsIds, TellsItsId}
-use Rattle.std.proofs.lemmas.List.Folds.{list_any-append}
 use Rattle.kob_router.specs.Run.{May, Move, State, after, calls_of, events_of, start}
 use Rattle.kob_router.specs.Run.Move.{Called, Restarted}
 use Rattle.kob_pipeline.proofs.Logged.{is_fresh}

@@ -1,19 +1,17 @@
 -- What each call of a consumer keeps, served or not, and what its run takes in of a partition.
-use Rattle.kob_pipeline.proofs.Words.{AreServed, Arrival, Body, Bool, Call, Denied, Done, Entry, Fetch, IsConsumerRun, IsDue, IsHistory, IsNeverDeleted, IsNoDeletion, IsOwnCommit, IsSoleCommitter, IsTakenInOrder, List, None, OffsetCommit, OffsetFetch, Option, Place, Refused, Reply, Request, Some, Step, Subscription, View, [], after_answer, and_parts, ap, arith, bytes_eq, cond, cursor_of, due, false, filter_map, if◌then◌else◌, inl, inr, opening_view, place_at, read_from, records_of, refl, same_place, served_to, subst, sym, take, taken_by, taken_of, true, unwrap_or, with_commit, ℕ, ◌&&◌, ◌++◌, ◌∙◌, ◌∷◌, ◌≡◌, ◌≤◌, ◌⊎◌}
+use Rattle.kob_pipeline.proofs.Words.{AreServed, Arrival, Body, Bool, Call, Cursor, Denied, Done, Entry, Fetch, IsConsumerRun, IsDue, IsHistory, IsNeverDeleted, IsNoDeletion, IsOwnCommit, IsSoleCommitter, IsTakenInOrder, List, None, OffsetCommit, OffsetFetch, Option, Place, Refused, Reply, Request, Some, Step, Subscription, View, [], after_answer, and_parts, ap, arith, bytes_eq, cond, cursor_of, due, false, filter_map, if◌then◌else◌, inl, inr, opening_view, place_at, read_from, records_of, records_of_append, refl, same_place, served_to, subst, sym, take, taken_by, taken_of, true, unwrap_or, with_commit, ℕ, ◌&&◌, ◌++◌, ◌∙◌, ◌∷◌, ◌≡◌, ◌≤◌, ◌⊎◌}
 use Rattle.kob_names.specs.declared.record.Record.{Record}
 use Rattle.kob_rights.specs.declared.on_groups.OffsetCommit.{OffsetCommit as CommitRequest}
 use Rattle.kob_rights.specs.declared.on_groups.OffsetFetch.{OffsetFetch as PositionRequest}
 use Rattle.kob_rights.specs.declared.on_partitions.Fetch.{Fetch as FetchRequest}
 use Rattle.kob_inbox.specs.Cursors.{standing}
 use Rattle.kob_inbox.specs.Run.{State, May, Move, after, calls_of, start}
-use Rattle.kob_inbox.specs.declared.cursors.Cursor.{Cursor}
 use Rattle.kob_inbox.specs.declared.cursors.Standing.{Standing}
 use Rattle.kob_pipeline.proofs.ConsumerKept.{AreRead, Fits, Taking, WithinCursor, WithinOffset, taking_after_fetch, taking_after_move, taking_nothing, taking_with_commit, taking_after_restart, taking_first, taking_later, read_in_order}
 use Rattle.kob_pipeline.proofs.Lists.{all_both, places_are, same_some}
 use Rattle.kob_pipeline.proofs.RouterRun.{NotDone, heard_no_done, heard_none}
 use Rattle.kob_pipeline.proofs.ServedRuns.{Hears, IsRun, IsServedBy, IsUnheard, StepsAs, added, history_passes, kept_by_run}
 use Rattle.kob_inbox.specs.Run.Move.{Called, Restarted}
-use Rattle.kob_partition.proofs.Keeping.{records_of_append}
 use Rattle.kob_pipeline.proofs.OtherSteps.{Leaves, leaves}
 use Rattle.kob_rights.specs.declared.reply.Body.TheVariants as bodies
 

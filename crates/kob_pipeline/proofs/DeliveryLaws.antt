@@ -1,7 +1,6 @@
 -- What reaches an inbox, of the parts that workers have in a journal.
-use Rattle.kob_pipeline.proofs.Words.{ArePrivate, Contains, Entry, IsHistory, List, ReachesInOrder, Subscription, Target, View, dispatch_of, empty, is_of_aggregate, opening_view, records_of, rows_of, ℕ}
+use Rattle.kob_pipeline.proofs.Words.{ArePrivate, Contains, Entry, IsHistory, List, ReachesInOrder, Subscription, Target, View, dispatch_of, empty, is_of_aggregate, opening_view, records_of, rows_of, run_takes_in, ℕ}
 use Rattle.kob_outbox.specs.Contents.{Event}
-use Rattle.kob_inbox.proofs.Running.{run_takes_in}
 use Rattle.kob_pipeline.specs.Parts.{IsConsumerPart, IsServicePart}
 use Rattle.kob_pipeline.proofs.Aggregates.{rows_tell, told_all, target_tells}
 use Rattle.kob_pipeline.proofs.Arriving.{all_assigned}

@@ -1,20 +1,12 @@
 -- How many workers there are, and what is left where the journal is what was noted.
-use Rattle.kob_pipeline.proofs.Words.{All, AllByRecursion, AllZip, HasEnded, IsAsNoted, IsKeptByStore, IsLeft, IsLegal, IsWhole, List, Noted, Planned, Settings, [], ap, arith, events_in, length, length-append, length-map, map, notes_of, opened_by, planned_as, planned_workers, recursion_from_All, settings_of, subst, sym, told_in, ◌++◌, ◌∙◌, ◌∷◌, ◌≡◌}
-use Rattle.kob_broker.specs.Change.{state_of}
+use Rattle.kob_pipeline.proofs.Words.{Administering, All, AllByRecursion, AllZip, Consuming, EachIsAnswered, Follows, HasEnded, IsAnswered, IsAsNoted, IsEnd, IsKeptByStore, IsLeft, IsLegal, IsPipeline, IsWhole, List, Noted, PipelineEnd, Plan, Planned, Serving, Settings, StoreRefused, WorkerEnd, [], ap, arith, events_in, length, length-append, length-map, map, notes_of, opened_by, planned_as, planned_workers, recursion_from_All, settings_of, state_of, subst, sym, told_in, ◌++◌, ◌∙◌, ◌∷◌, ◌≡◌}
 use Rattle.kob_rights.specs.declared.event.Event.{Event}
-use Rattle.kob_shared.specs.Fleets.{EachIsAnswered, Follows, IsAnswered}
 use Rattle.kob_shared.specs.Journals.{Record}
 use Rattle.kob_shared.specs.declared.work.Done.{Done}
 use Rattle.kob_shared.proofs.Beginnings.{begins_with}
 use Rattle.kob_shared.proofs.Openings.{opened_again}
-use Rattle.kob_pipeline.specs.declared.end.PipelineEnd.{PipelineEnd}
-use Rattle.kob_pipeline.specs.declared.end.WorkerEnd.{WorkerEnd}
-use Rattle.kob_pipeline.specs.declared.end.WorkerEnd.TheVariants.{StoreRefused}
-use Rattle.kob_pipeline.specs.declared.plan.Plan.{Plan}
 use Rattle.kob_pipeline.specs.declared.worker.Worker.{Worker}
 use Rattle.kob_pipeline.specs.Counts.{workers_planned}
-use Rattle.kob_pipeline.specs.Pipelines.{IsEnd, IsPipeline}
-use Rattle.kob_pipeline.specs.Workers.Planned.{Serving, Consuming, Administering}
 
 -- how many workers there are
 pub workers_counted : (plan : Plan) (workers : List Worker) → map planned_as workers ≡ planned_workers plan

@@ -1,7 +1,6 @@
 -- Lemmas on lists and places.
-use Rattle.kob_pipeline.proofs.Words.{All-contains, All-contains_itself, All-filter, All-from_recursion, AllByRecursion, Bool, Contains, List, Place, Some, [], and_from, and_parts, ap, append-nil, arith, bytes_eq, cases_Bool, eq-eqb, eqb-true, false, filter, filter-append, filter_passes, get_or_from_slice_get, inl, inr, length, list_any, map, nat_tests, recursion_from_All, refl, same_place, slice_get, slice_get_within, suc, true, zero, ℕ, ◌&&◌, ◌++◌, ◌+◌, ◌||◌, ◌∙◌, ◌∷◌, ◌≡◌, ◌⊎◌}
+use Rattle.kob_pipeline.proofs.Words.{All-contains, All-contains_itself, All-filter, All-from_recursion, AllByRecursion, Bool, Contains, List, Place, Some, [], and_from, and_parts, ap, append-nil, arith, bytes_eq, cases_Bool, eq-eqb, eqb-true, false, filter, filter-append, filter_passes, get_or_from_slice_get, inl, inr, length, list_any, map, nat_list_eq_equiv, nat_tests, recursion_from_All, refl, same_place, slice_get, slice_get_within, suc, true, zero, ℕ, ◌&&◌, ◌++◌, ◌+◌, ◌||◌, ◌∙◌, ◌∷◌, ◌≡◌, ◌⊎◌}
 use Rattle.std.proofs.lemmas.Slice.Eq.{bytes_eq-Decides}
-use Rattle.std.proofs.lemmas.Cmp.{nat_list_eq_equiv}
 
 pub same_bytes : (xs : List ℕ) → bytes_eq xs xs ≡ true
 same_bytes xs = (bytes_eq-Decides xs xs).1 refl

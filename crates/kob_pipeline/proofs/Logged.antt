@@ -1,9 +1,8 @@
 -- What the outbox of a service keeps of the rows that were recorded, and a partition's log of those routed there.
-use Rattle.kob_pipeline.proofs.Words.{AllByRecursion, Batch, Change, Contains, Contains-append_left, Dispatching, Idem, IsGiven, IsRecordOf, IsRecordable, List, None, Option, OutboxEvent, Place, Some, [], after_record, ap, append-nil, append_assoc, arith, bytes_eq, empty, false, filter, filter_map, filter_map-append, firsts, fold-append, goes_to, id_text, ids_of, later_than, le-ltb, length, length-append, length-map, length_push, list_any, lt-ltb, ltb-true, map-append, map_push, nat_lt, next_seq, records_of, refl, routed_to, stored_event, sym, told_id, true, with_new, without_sent, ℕ, ◌++◌, ◌+◌, ◌<◌, ◌∙◌, ◌∷◌, ◌≡◌, ◌≤◌}
+use Rattle.kob_pipeline.proofs.Words.{AllByRecursion, Batch, Change, Contains, Contains-append_left, Dispatching, Idem, IsGiven, IsRecordOf, IsRecordable, List, None, Option, OutboxEvent, Place, Some, [], after_record, ap, append-nil, append_assoc, arith, bytes_eq, empty, false, filter, filter_map, filter_map-append, firsts, fold-append, goes_to, id_text, ids_of, later_than, le-ltb, length, length-append, length-map, length_push, list_any, lt-ltb, ltb-true, map-append, map_push, nat_lt, next_seq, records_of, records_of_push, refl, routed_to, stored_event, sym, told_id, true, with_new, without_sent, ℕ, ◌++◌, ◌+◌, ◌<◌, ◌∙◌, ◌∷◌, ◌≡◌, ◌≤◌}
 use Rattle.kob_outbox.specs.Contents.{Contents, Event}
 use Rattle.kob_pipeline.proofs.Lists.{any_same, bytes_turned, filter_twice, filter_all, filter_last, all_last, all_weaker, any_last, filter_not_last, none_in_filter, same_bytes, same_here}
 use Rattle.kob_names.specs.declared.record.Record.{Record}
-use Rattle.kob_partition.proofs.Keeping.{records_of_push}
 
 -- numbered from n + 1 on, and none with an id that was seen before
 abbrev pub InOrder : ℕ → List (List ℕ) → List Event → Type 0

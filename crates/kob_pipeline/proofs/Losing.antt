@@ -1,8 +1,6 @@
 -- One call at a desk, and those of a tick.
-use Rattle.kob_pipeline.proofs.Words.{All-cons, All-nil, AreMade, AreNoted, AreServedByLoss, AtDesk, Call, IfNone, IfSome, IsEventOf, IsHeard, List, Loss, None, Option, Reply, Request, Served, Some, [], ap, append-nil, append_cancel_left, arith, event_at, get_or, get_or_push, length, length-append, losses_of, refl, served_by_notes, subst, sym, ℕ, ◌++◌, ◌-◌, ◌∙◌, ◌∷◌, ◌≡◌}
+use Rattle.kob_pipeline.proofs.Words.{All-cons, All-nil, AreMade, AreNoted, AreServedByLoss, AtDesk, Call, CallFault, IfNone, IfSome, IsEventOf, IsHeard, List, Loss, None, Option, Receipt, Reply, Request, Served, Some, [], ap, append-nil, append_cancel_left, arith, event_at, get_or, get_or_push, length, length-append, losses_of, refl, served_by_notes, subst, sym, ℕ, ◌++◌, ◌-◌, ◌∙◌, ◌∷◌, ◌≡◌}
 use Rattle.kob_rights.specs.declared.event.Event.{Event}
-use Rattle.kob_shared.specs.declared.faults.CallFault.{CallFault}
-use Rattle.kob_shared.specs.declared.journal.Receipt.{Receipt}
 use Rattle.kob_lines.specs.declared.lossy.Loss.TheVariants as lost
 
 -- one more event with its receipt

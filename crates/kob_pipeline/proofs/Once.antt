@@ -1,8 +1,6 @@
 -- Lists with each element at its first place, beginnings of lists, and numbers in order.
-use Rattle.kob_pipeline.proofs.Words.{Bool, IsPrefixOf, List, None, Option, Some, [], ap, append-nil, append_assoc, arith, bytes_eq, cases_Bool, cond, cons_option, drop, eqb-true, filter, filter-append, filter_map, filter_map-append, firsts, fold, fold-append, inl, inr, list_any, max, nat_eq, nat_lt, nat_tests, option_and_then, range_with_len, refl, slice_get, suc, sym, take, take-append-drop, true, with_new, zero, ℕ, ◌++◌, ◌+◌, ◌||◌, ◌∙◌, ◌∷◌, ◌≡◌, ◌≤◌}
+use Rattle.kob_pipeline.proofs.Words.{Bool, IsPrefixOf, List, None, Option, Some, [], ap, append-nil, append_assoc, arith, bytes_eq, cases_Bool, cond, cons_option, drop, eqb-true, filter, filter-append, filter_map, filter_map-append, firsts, fold, fold-append, inl, inr, list_any, list_any-append, max, nat_eq, nat_list_eq_equiv, nat_lt, nat_tests, option_and_then, range_with_len, refl, slice_get, suc, sym, take, take-append-drop, true, with_new, zero, ℕ, ◌++◌, ◌+◌, ◌||◌, ◌∙◌, ◌∷◌, ◌≡◌, ◌≤◌}
 use Rattle.std.specs.List.{IsDistinct}
-use Rattle.std.proofs.lemmas.Cmp.{nat_list_eq_equiv}
-use Rattle.std.proofs.lemmas.List.Folds.{list_any-append}
 use Rattle.std.proofs.lemmas.Map.Keys.{IsDistinct-push}
 use Rattle.std.proofs.lemmas.Map.Views.{any-filter_same}
 use Rattle.kob_pipeline.proofs.Lists.{bytes_are, same_bytes}

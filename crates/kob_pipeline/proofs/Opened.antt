@@ -1,10 +1,9 @@
 -- Few opening bindings pass no limit.
-use Rattle.kob_pipeline.proofs.Words.{nat_tests, Bool, List, Some, [], arith, cond, fold, length, length-append, sym, ℕ, ◌++◌, ◌+◌, ◌∙◌, ◌∷◌, ◌≡◌, ◌≤◌}
+use Rattle.kob_pipeline.proofs.Words.{Binding, Bool, List, Some, [], arith, cond, fold, length, length-append, nat_tests, sym, ℕ, ◌++◌, ◌+◌, ◌∙◌, ◌∷◌, ◌≡◌, ◌≤◌}
 use Rattle.kob_authorizer.specs.AtOnce.{is_known, new_bindings, with_new}
 use Rattle.kob_authorizer.specs.Passing.{create_fault, limit_fault}
 use Rattle.kob_authorizer.specs.declared.fault.CreateFault.TheVariants.{TooMany}
 use Rattle.kob_authorizer.proofs.InTurn.{fault_by_count}
-use Rattle.kob_names.specs.Binding.{Binding}
 
 one_more : (known : Bool) (fresh : List Binding) (b : Binding)
     → length (cond known fresh (fresh ++ b ∷ [])) ≤ length fresh + 1

@@ -1,29 +1,10 @@
 -- The laws of delivery, of a pipeline's plan and what it leaves.
-use Rattle.kob_pipeline.proofs.Words.{AllByRecursion, AllZip, ArePrivate, Contains, Entry, HasEnded, Intake, IsDelivered, IsHistory, IsNeverDeleted, IsServiceRun, IsSoleCommitter, IsSoleProducer, List, Noted, Place, Planned, ReachesInOrder, Served, Some, [], ap, arith, dispatch_of, enumerate_from, events_in, get_or-map, get_or_from_slice_get, inl, inr, length, length-map, map, nat_tests, opening_view, option_map, planned_workers, refl, served_by_notes, served_in, served_to, slice_get, slice_get-map, slice_get_within, slice_index_or, subst, suc, sym, told_in, zero, ℕ, ◌++◌, ◌+◌, ◌<◌, ◌∙◌, ◌∷◌, ◌≡◌}
+use Rattle.kob_pipeline.proofs.Words.{Administering, AllByRecursion, AllZip, ArePrivate, ConsumerPlan, Consuming, Contains, Entry, HasDone, HasEnded, HasLeft, Inbox, InboxEnd, Intake, IsConsumption, IsDelivered, IsHistory, IsKept, IsNeverDeleted, IsPipeline, IsServiceRun, IsSoleCommitter, IsSoleProducer, IsWaitingOrSent, List, Noted, Outbox, OutboxEnd, PipelineEnd, Place, Plan, Planned, ReachesInOrder, Receipt, Served, Service, Serving, Some, WorkerEnd, [], ap, arith, claims, consumer_number, consumer_place, dispatch_of, enumerate_from, events_in, get_or-map, get_or_from_slice_get, inl, inr, length, length-map, map, map-map, mine_from, nat_tests, notes_in, opening_view, option_map, planned_workers, refl, rows_of_service, run_takes_in, served_by_notes, served_in, served_to, service_number, slice_get, slice_get-map, slice_get_within, slice_index_or, state_of, subst, suc, sym, told_in, view_after, zero, ℕ, ◌++◌, ◌+◌, ◌<◌, ◌∙◌, ◌∷◌, ◌≡◌}
 use Rattle.kob_rights.specs.declared.event.Event.{Event as Asked}
-use Rattle.kob_shared.specs.Fleets.{IsKept, claims, mine_from}
-use Rattle.kob_shared.specs.declared.journal.Receipt.{Receipt}
 use Rattle.kob_shared.specs.declared.work.Done.{Done}
-use Rattle.kob_pipeline.specs.Consumers.{IsConsumption}
-use Rattle.kob_pipeline.specs.Workers.Planned.{Administering, Consuming, Serving}
-use Rattle.std.proofs.lemmas.Simd.{map-map}
-use Rattle.kob_broker.specs.Change.{state_of}
 use Rattle.kob_outbox.specs.Contents.{Event}
-use Rattle.kob_inbox.proofs.Running.{run_takes_in}
 use Rattle.kob_inbox.specs.Rows.{placed_intake}
-use Rattle.kob_pipeline.specs.BrokerView.{view_after}
-use Rattle.kob_pipeline.specs.Pipelines.{HasDone, HasLeft, IsPipeline, consumer_number, consumer_place, notes_in, service_number}
 use Rattle.kob_pipeline.specs.PlanEnds.{TakesInOrder, inbox_in, outbox_in, records_at}
-use Rattle.kob_pipeline.specs.PlanRows.{rows_of_service}
-use Rattle.kob_pipeline.specs.Waiting.{IsWaitingOrSent}
-use Rattle.kob_pipeline.specs.declared.end.InboxEnd.{InboxEnd}
-use Rattle.kob_pipeline.specs.declared.end.OutboxEnd.{OutboxEnd}
-use Rattle.kob_pipeline.specs.declared.end.PipelineEnd.{PipelineEnd}
-use Rattle.kob_pipeline.specs.declared.end.WorkerEnd.{WorkerEnd}
-use Rattle.kob_pipeline.specs.declared.end.WorkerEnd.TheVariants.{Inbox, Outbox}
-use Rattle.kob_pipeline.specs.declared.plan.ConsumerPlan.{ConsumerPlan}
-use Rattle.kob_pipeline.specs.declared.plan.Plan.{Plan}
-use Rattle.kob_pipeline.specs.declared.plan.Service.{Service}
 use Rattle.kob_pipeline.proofs.BrokerSteps.{legal_is_history}
 use Rattle.kob_pipeline.proofs.Aggregates.{target_tells}
 use Rattle.kob_pipeline.proofs.ConsumerRun.{is_taken_in_order}

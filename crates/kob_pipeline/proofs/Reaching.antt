@@ -1,9 +1,8 @@
 -- What reaches an inbox follows of what was delivered and what was taken in order, as an aggregate has one place.
-use Rattle.kob_pipeline.proofs.Words.{AllByRecursion, Arrival, Bool, Contains, Intake, IsCopy, IsDelivered, IsPrefixOf, IsRecordOf, IsTakenInOrder, List, None, Option, Place, ReachesInOrder, Some, Target, [], ap, arith, bytes_eq, cases_Bool, dispatch_of, filter, filter_map, firsts, from_place, goes_to, ids_of, inl, inr, intake_of, is_of_aggregate, is_there, list_any, place_of, refl, routed_to, rows_of_aggregate, same_place, subst, sym, take, taken_ids, taken_in, taken_of_aggregate, told_id, true, with_record, ℕ, ◌&&◌, ◌∙◌, ◌∷◌, ◌≡◌}
+use Rattle.kob_pipeline.proofs.Words.{AllByRecursion, Arrival, Bool, Contains, Intake, IsCopy, IsDelivered, IsPrefixOf, IsRecordOf, IsTakenInOrder, List, None, Option, Place, ReachesInOrder, Some, Target, [], ap, arith, bytes_eq, cases_Bool, dispatch_of, event_id, filter, filter_map, firsts, from_place, goes_to, ids_of, inl, inr, intake_of, is_of_aggregate, is_there, list_any, place_of, refl, routed_to, rows_of_aggregate, same_place, subst, sym, take, taken_ids, taken_in, taken_of_aggregate, told_id, true, with_record, ℕ, ◌&&◌, ◌∙◌, ◌∷◌, ◌≡◌}
 use Rattle.std.specs.List.{IsDistinct}
 use Rattle.kob_names.specs.declared.record.Record.{Record}
 use Rattle.kob_outbox.specs.Contents.{Event}
-use Rattle.kob_router.specs.HeaderId.{event_id}
 use Rattle.kob_inbox.specs.Contents.{Contents}
 use Rattle.kob_pipeline.proofs.Aggregates.{IsToldById, one_place, passes_as, sent_message}
 use Rattle.kob_pipeline.proofs.Arriving.{filter_told, firsts_of_front, ids_told, inbox_ids, passes, record_told, told_by, with_told}

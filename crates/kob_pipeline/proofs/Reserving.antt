@@ -1,25 +1,21 @@
 -- From the bindings in force to the worker whose entry it is.
-use Rattle.kob_pipeline.proofs.Words.{AllByRecursion, Body, Bool, Commits, Denied, Done, Entry, Idem, IsLegal, IsSoleCommitter, IsSoleProducer, IsTrue, List, None, Option, Produces, Refused, Reply, Request, Settings, Some, [], ap, arith, false, filter, inl, inr, journaled_replies, opened_by, refl, slice_get, slice_get-get_or, slice_get_within, subst, take, true, ℕ, ◌&&◌, ◌∙◌, ◌∷◌, ◌≡◌, ◌⊎◌}
+use Rattle.kob_pipeline.proofs.Words.{AllByRecursion, Binding, Body, Bool, Commits, Denied, Done, Entry, Idem, IsLegal, IsSoleCommitter, IsSoleProducer, IsTrue, List, None, Option, Produces, Refused, Reply, Request, Retained, Settings, Some, [], ap, arith, false, filter, inl, inr, journaled_replies, on_group, on_topic, opened_by, produce_rights, refl, rights, slice_get, slice_get-get_or, slice_get_within, subst, take, true, ℕ, ◌&&◌, ◌∙◌, ◌∷◌, ◌≡◌, ◌⊎◌}
 use Rattle.kob_names.specs.Granted.{is_granted}
 use Rattle.kob_names.specs.declared.kinds.Operation.{Operation}
 use Rattle.kob_names.specs.declared.kinds.Operation.TheVariants.{Read, Write as WriteTo}
 use Rattle.kob_names.specs.declared.kinds.Permission.TheVariants.{Allow, Deny}
 use Rattle.kob_names.specs.declared.kinds.ResourceKind.{ResourceKind}
 use Rattle.kob_names.specs.declared.kinds.ResourceKind.TheVariants.{Group, Topic}
-use Rattle.kob_names.specs.Binding.{Binding}
 use Rattle.kob_authorizer.specs.Contents.{Contents}
 use Rattle.kob_authorizer.specs.Decide.{decide, first_serial, hits, is_hit, is_super, is_unmatched, unless_open, verdict_of}
 use Rattle.kob_authorizer.specs.Question.{question_of}
 use Rattle.kob_broker.specs.InForce.{access_after, changed_access, in_force}
 use Rattle.kob_broker.specs.Justice.{Grants, IsJust}
-use Rattle.kob_partition.specs.Retained.{Retained}
 use Rattle.kob_broker.specs.State.{State}
-use Rattle.kob_rights.specs.Check.{on_group, on_topic}
 use Rattle.kob_rights.specs.Writes.{Write, write_of}
 use Rattle.kob_rights.specs.Writes.Write.{AddBindings}
 use Rattle.kob_rights.specs.declared.event.Event.{Event}
 use Rattle.kob_rights.specs.declared.request.Request.TheVariants as requests
-use Rattle.kob_rights.specs.Table.{produce_rights, rights}
 use Rattle.kob_broker.specs.Justice.{EachGranted}
 use Rattle.kob_shared.specs.Decided.{bindings_after}
 use Rattle.kob_shared.specs.Journals.{events_of}

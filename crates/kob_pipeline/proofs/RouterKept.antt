@@ -1,16 +1,13 @@
 -- What a run of a router keeps, beside the log of one partition.
-use Rattle.kob_pipeline.proofs.Words.{All-contains, All-from_recursion, AllByRecursion, Batch, Contains, Contains-append_right, Dispatching, Hand, List, Next, None, Option, OutboxEvent, Place, Producer, Recorded, Repeat, Sequence, Some, Swept, Took, [], after_use, ap, append-nil, append_assoc, arith, batch_of, both_ways, false, goes_to, history, inl, inr, judge, length, length_push, nat_tests, next_seq, place_of, refl, same_place, sequence_of, slice_get, stored_event, subst, sym, told_id, with_sequence_for, ℕ, ◌++◌, ◌+◌, ◌<◌, ◌∙◌, ◌∷◌, ◌≡◌, ◌≤◌, ◌⊎◌}
+use Rattle.kob_pipeline.proofs.Words.{All-contains, All-from_recursion, AllByRecursion, Batch, Contains, Contains-append_right, Dispatch, Dispatching, Hand, List, Next, None, Option, OutboxEvent, Place, Producer, Recorded, Repeat, Sent, Sequence, Some, Swept, Took, [], after_use, ap, append-nil, append_assoc, arith, batch_of, both_ways, false, goes_to, history, inl, inr, judge, length, length_push, nat_tests, next_seq, place_of, refl, same_place, sent_batch, sequence_of, slice_get, stored_event, subst, sym, told_id, with_sequence_for, ℕ, ◌++◌, ◌+◌, ◌<◌, ◌∙◌, ◌∷◌, ◌≡◌, ◌≤◌, ◌⊎◌}
 use Rattle.kob_outbox.specs.Contents.{Contents, Event}
-use Rattle.kob_producers.specs.declared.sent.Sent.{Sent}
 use Rattle.kob_router.specs.Run.{May, Move, State, after, start}
 use Rattle.kob_router.specs.Run.Move.{Called, Restarted}
-use Rattle.kob_router.specs.declared.dispatch.Dispatch.{Dispatch}
 use Rattle.kob_pipeline.proofs.Logged.{IsKept, kept_at_start, kept_recorded, kept_swept, kept_marked, IsLogged, logged_later, logged_more_rows, IsBatchOf, logged_again, logged_elsewhere, logged_first}
 use Rattle.kob_pipeline.proofs.Lists.{all_append, bytes_turned, get_front, first_is, same_here, same_some}
 use Rattle.kob_pipeline.proofs.Rows.{recorded}
 use Rattle.kob_pipeline.proofs.Sending.{AreCounted, counted_none, no_history, sequence_prepared, wrapped, IsNumber, apart_wrapped, counted_last, history_last, idem_of, next_base, next_wrapped, repeat_base, sequence_used_elsewhere, sequence_used_here}
 use Rattle.kob_names.specs.declared.record.Record.{Record}
-use Rattle.kob_producers.specs.Recent.{sent_batch}
 
 abbrev pub here : Option Event → List Event
 here None = []

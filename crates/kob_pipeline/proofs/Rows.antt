@@ -1,14 +1,11 @@
 -- The moves of a router, one at a time: what they record, keep along a journal, and leave of the rows.
-use Rattle.kob_pipeline.proofs.Words.{All-filter, All-from_recursion, AllByRecursion, AreServed, Bool, Call, Change, Dispatching, Entry, Hand, IsRecordable, IsRouterRun, IsServiceStep, List, Loss, None, Option, OutboxEvent, Recorded, Some, Steps, Swept, Took, [], after_acknowledgement, after_record, ap, append-nil, append_assoc, arith, false, filter_map, id_text, inl, inr, is_none, later_than, length, lt-ltb, nat_lt, nat_tests, next_seq, recursion_from_All, refl, served_to, stored_event, subst, suc, sym, true, ℕ, ◌++◌, ◌<◌, ◌∙◌, ◌∷◌, ◌≡◌, ◌⊎◌}
+use Rattle.kob_pipeline.proofs.Words.{All-filter, All-from_recursion, AllByRecursion, AreServed, Bool, Call, Change, Dispatching, Entry, Hand, IsOfTick, IsRecordable, IsRouterRun, IsServiceStep, List, Loss, None, Option, OutboxEvent, Recorded, ServiceStep, Some, Steps, Swept, Took, [], after_acknowledgement, after_record, ap, append-nil, append_assoc, arith, false, filter_map, id_text, inl, inr, is_accepted, is_none, later_than, length, lt-ltb, nat_lt, nat_tests, next_seq, recursion_from_All, refl, rows_from, served_to, stored_event, subst, suc, sym, true, ℕ, ◌++◌, ◌<◌, ◌∙◌, ◌∷◌, ◌≡◌, ◌⊎◌}
 use Rattle.kob_outbox.specs.Contents.{Contents, Event}
 use Rattle.kob_router.specs.Run.{May, Move, State, after, calls_of, events_of, start}
 use Rattle.kob_router.specs.Run.Move.{Called, Restarted}
 use Rattle.kob_pipeline.proofs.ServedRuns.{IsRun, IsServedBy, IsUnheard, Passes, added, kept_by_run}
 use Rattle.kob_pipeline.proofs.Lists.{all_last, all_weaker, filter_all}
 use Rattle.kob_outbox.specs.Fields.{first_bad}
-use Rattle.kob_router.specs.Tick.{IsOfTick}
-use Rattle.kob_pipeline.specs.PlanRows.{is_accepted, rows_from}
-use Rattle.kob_pipeline.specs.declared.plan.ServiceStep.{ServiceStep}
 use Rattle.kob_pipeline.specs.declared.plan.ServiceStep.TheVariants as steps
 
 abbrev pub call_of : Move → Option Call

@@ -1,10 +1,9 @@
 -- No recorded row is lost.
-use Rattle.kob_pipeline.proofs.Words.{AllByRecursion, AreServed, Batch, Body, Bool, Call, Contains, Denied, Dispatching, Done, Entry, Hand, InitProducerId, IsDone, IsRouterRun, IsSending, List, MayCall, None, Option, Produce, Refused, Reply, Request, Some, [], after_acknowledgement, ap, false, inl, inr, ltb-true, nat_lt, refl, served_to, subst, sym, true, true≢false, ℕ, ◌++◌, ◌∙◌, ◌∷◌, ◌≡◌}
+use Rattle.kob_pipeline.proofs.Words.{AllByRecursion, AreServed, Batch, Body, Bool, Call, Contains, Denied, Dispatching, Done, Entry, Hand, InitProducerId, IsDone, IsRouterRun, IsSending, IsSent, IsWaitingOrSent, List, MayCall, None, Option, Produce, Refused, Reply, Request, Some, [], after_acknowledgement, ap, false, inl, inr, ltb-true, nat_lt, refl, served_to, subst, sym, true, true≢false, ℕ, ◌++◌, ◌∙◌, ◌∷◌, ◌≡◌}
 use Rattle.kob_outbox.specs.Contents.{Event}
 use Rattle.kob_rights.specs.declared.on_partitions.Produce.{Produce as ProduceRequest}
 use Rattle.kob_router.specs.Run.{May, Move, State, after, calls_of, events_of, start}
 use Rattle.kob_router.specs.Run.Move.{Called}
-use Rattle.kob_pipeline.specs.Waiting.{IsSent, IsWaitingOrSent}
 use Rattle.kob_pipeline.proofs.Logged.{kept_at_start}
 use Rattle.kob_pipeline.proofs.Lists.{all_append, all_contained, all_last, all_weaker, kept_by, same_some}
 use Rattle.kob_pipeline.proofs.RouterKept.{IsHeld, IsUnmarked, held_by_move, held_marked}

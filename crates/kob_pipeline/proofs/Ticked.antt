@@ -1,12 +1,11 @@
 -- A tick over a line at a desk is a step of its worker.
-use Rattle.kob_pipeline.proofs.Words.{AreMade, AtDesk, Call, Dispatching, Leads, List, Loss, Option, Subscription, losses_of, refl, subst, ℕ, ◌≡◌}
+use Rattle.kob_pipeline.proofs.Words.{AreMade, AtDesk, Call, CallFault, Dispatching, Leads, List, Loss, Option, Subscription, losses_of, refl, subst, ℕ, ◌≡◌}
 use Rattle.kob_inbox.specs.declared.tick.Tick.{Tick as ConsumerAnswer}
 use Rattle.kob_inbox.specs.Run as consumers
 use Rattle.kob_inbox.specs.Tick as consumer_ticks
 use Rattle.kob_router.specs.Run as routers
 use Rattle.kob_router.specs.Tick as router_ticks
 use Rattle.kob_router.specs.declared.tick.Tick.{Tick as RouterAnswer}
-use Rattle.kob_shared.specs.declared.faults.CallFault.{CallFault}
 use Rattle.kob_pipeline.specs.declared.plan.ConsumerStep.TheVariants as consumer_steps
 use Rattle.kob_pipeline.specs.declared.plan.ServiceStep.TheVariants as service_steps
 use Rattle.kob_pipeline.specs.Consumers as consuming

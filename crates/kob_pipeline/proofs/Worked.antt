@@ -1,18 +1,12 @@
 -- What a worker's steps, its losses and its notes make together.
-use Rattle.kob_pipeline.proofs.Words.{All, AreNoted, AreServed, AreServedByLoss, AtDesk, Call, Change, Dispatching, Doing, Err, IfOk, IsEventOf, IsInboxLeft, IsOutboxLeft, IsServiceRun, IsServiceStep, Leads, List, Loss, Ok, OutboxEvent, Result, Served, Standing, Steps, Subscription, [], ap, append-nil, append_assoc, dispatch_of, get_or, inl, inr, later_than, length, map, nothing, refl, served_by_notes, stored_row, subst, sym, take, take_more, ℕ, ◌++◌, ◌+◌, ◌<◌, ◌∙◌, ◌∷◌, ◌≡◌}
+use Rattle.kob_pipeline.proofs.Words.{All, AreNoted, AreServed, AreServedByLoss, AtDesk, Call, Change, ConsumerPlan, Dispatching, Doing, Err, IfOk, InboxEnd, IsConsumerStep, IsConsumption, IsEventOf, IsInboxLeft, IsOutboxLeft, IsServiceRun, IsServiceStep, Leads, List, Loss, Ok, OutboxEnd, OutboxEvent, Result, Served, Service, ServiceStep, Standing, Steps, Subscription, [], ap, append-nil, append_assoc, dispatch_of, get_or, inl, inr, later_than, length, map, nothing, refl, served_by_notes, stored_row, subst, sym, take, take_more, ℕ, ◌++◌, ◌+◌, ◌<◌, ◌∙◌, ◌∷◌, ◌≡◌}
 use Rattle.kob_inbox.specs.Run.{Move, calls_of}
 use Rattle.kob_inbox.specs.Run.Move.{Called, Restarted}
 use Rattle.kob_pipeline.specs.Steps.{standing}
 use Rattle.kob_router.proofs.Runs.{run_append}
 use Rattle.kob_lines.proofs.ConsumerCourses.{joined}
-use Rattle.kob_pipeline.specs.declared.end.InboxEnd.{InboxEnd}
-use Rattle.kob_pipeline.specs.declared.end.OutboxEnd.{OutboxEnd}
-use Rattle.kob_pipeline.specs.declared.plan.ConsumerPlan.{ConsumerPlan}
 use Rattle.kob_pipeline.specs.declared.plan.ConsumerStep.{ConsumerStep}
-use Rattle.kob_pipeline.specs.declared.plan.Service.{Service}
-use Rattle.kob_pipeline.specs.declared.plan.ServiceStep.{ServiceStep}
 use Rattle.kob_pipeline.specs.declared.plan.ServiceStep.TheVariants.{Record}
-use Rattle.kob_pipeline.specs.Consumers.{IsConsumerStep, IsConsumption}
 use Rattle.kob_pipeline.specs.Noting.{noted_append, nothing_is_noted}
 use Rattle.kob_pipeline.proofs.Rows.{all_later, run_numbered}
 use Rattle.kob_inbox.specs.Run as consumers
