@@ -1,11 +1,14 @@
 -- The words of a line. A word is read byte by byte, one without a percent sign
 -- stands for itself, and a cut at a byte that is neither a percent sign nor a hexadecimal digit leaves
 -- each escape whole. And the seven words of a row.
-use Rattle.std.proofs.Common.{◌≡◌, ◌∙◌, ◌<◌, ◌≤◌, get_or, ℕ, true, false, List, [], ◌∷◌, filter, length, drop, nat_lt, refl, sym, ap, arith, zero, suc, lt-ltb, not, ◌==◌, ◌++◌, Option, Some, None, Bool, append_assoc, append-nil, if◌then◌else◌, option_map, ◌&&◌, is_some, MatchBool}
+use Rattle.std.proofs.Common.{slice_index, subst, ◌≡◌, ◌∙◌, ◌<◌, ◌≤◌, get_or, ℕ, true, false, List, [], ◌∷◌, filter, length, drop, nat_lt, refl, sym, ap, arith, lt-ltb, not, ◌==◌, ◌++◌, Option, Some, None, Bool, append_assoc, append-nil, if◌then◌else◌, option_map, ◌&&◌, is_some, MatchBool}
 use Rattle.std.specs.Bool.{⊤}
 use Rattle.std.specs.Char.{digit_value}
+use Rattle.std.proofs.lemmas.Grind.{get_or_default_zero}
+use Rattle.std.proofs.lemmas.List.Elements.{All-filter, All-get_or}
+use Rattle.std.proofs.lemmas.List.Sums.{AllPass-from_list_all, list_all-from_AllPass}
 use Rattle.std.specs.List.{find, list_all, onto_first, slice_split}
-use Rattle.kob_script.proofs.Choices.{both, chosen_true, chosen_false}
+use Rattle.kob_script.proofs.Choices.{both, chosen_true, chosen_false, false_from}
 use Rattle.kob_script.specs.Words.{is_blank, is_literal, is_skipped, raw_words, before, byte_at, escaped, unescaped, unescaped_from, has_whole_escapes, hexadecimal, LeavesWhole, Word}
 use Rattle.memchr.specs.Find.{Nowhere, Passes, is_byte}
 
@@ -39,16 +42,12 @@ first_tells line found is = first_byte line ∙ ap skipped_by (sym is)
 
 -- bytes without a percent sign
 pub none_is_literal : (word : List ℕ) → Nowhere (Passes (is_byte 37) word) 0 (length word) → is_literal word ≡ true
-none_is_literal [] nowhere = refl
-none_is_literal (byte ∷ rest) nowhere =
-    by (byte == 37) (nowhere 0 (omega arith) (omega arith))
-    (none_is_literal rest (λ k low below. nowhere (suc k) (omega arith) (omega (arith, below))))
-  where
-    by : (percent : Bool) → (percent ≡ true → ⊥) → is_literal rest ≡ true → (not percent && is_literal rest) ≡ true
-    by true none behind = absurd (none refl)
-    by false none behind = behind
+none_is_literal word nowhere =
+    list_all-from_AllPass (λ byte. not (byte == 37)) word (λ k d within.
+    subst (λ (byte : ℕ). not (byte == 37) ≡ true) (sym (get_or_default_zero word k d within))
+    (ap not (false_from (slice_index word k == 37) (λ percent. percent) (nowhere k (omega arith) within))))
 
--- each word of them has none
+-- each part between blanks has none
 literal_parts : (line : List ℕ) → is_literal line ≡ true → list_all is_literal (slice_split is_blank line) ≡ true
 literal_parts [] literal = refl
 literal_parts (byte ∷ rest) literal =
@@ -60,24 +59,6 @@ literal_parts (byte ∷ rest) literal =
     by true is more behind = behind
     by false is [] behind = rw is refl
     by false is (part ∷ more) behind = rw is behind
-
-literal_words : (parts : List (List ℕ)) → list_all is_literal parts ≡ true → list_all is_literal (words_in parts) ≡ true
-literal_words [] literal = refl
-literal_words (part ∷ more) literal =
-    let (one, others) = both (is_literal part) (list_all is_literal more) literal in
-    by (nat_lt 0 (length part)) one (literal_words more others)
-  where
-    by : (kept : Bool) → is_literal part ≡ true → list_all is_literal (words_in more) ≡ true
-        → list_all is_literal (if kept then part ∷ words_in more else words_in more) ≡ true
-    by true one others = rw one others
-    by false one others = others
-
-literal_at : (all : List (List ℕ)) (n : ℕ) (part : List ℕ) → list_all is_literal all ≡ true → n < length all
-    → part ≡ get_or all n part → is_literal part ≡ true
-literal_at (first ∷ more) zero part literal within is = rw is (both (is_literal first) (list_all is_literal more) literal).0
-literal_at (first ∷ more) (suc n) part literal within is =
-    literal_at more n part (both (is_literal first) (list_all is_literal more) literal).1 (omega (arith, within)) is
-literal_at [] n part literal within is = absurd (omega (arith, within))
 
 -- the byte at the front, and then what the rest stands for
 abbrev then_rest : Option (ℕ × List ℕ) → Option (List ℕ)
@@ -120,8 +101,9 @@ pub word_stands : (line : List ℕ) (escapes : Bool) (n : ℕ) (word : List ℕ)
     → MatchBool escapes ⊤ (unescaped word ≡ Some word)
 word_stands line true n word literal within is = tt
 word_stands line false n word literal within is =
-    literal_stands word
-    (literal_at (raw_words line) n word (literal_words (slice_split is_blank line) (literal_parts line literal)) within is)
+    let parts = AllPass-from_list_all is_literal (slice_split is_blank line) (literal_parts line literal) in
+    let words = All-filter (λ part. nat_lt 0 (length part)) (λ (part : List ℕ). is_literal part ≡ true) _ parts in
+    literal_stands word (rw is (All-get_or (λ (w : List ℕ). is_literal w ≡ true) (raw_words line) n word within words))
 
 -- bytes that were read, and then what the rest stands for
 abbrev pub with_rest : List ℕ → Option (List ℕ) → Option (List ℕ)
