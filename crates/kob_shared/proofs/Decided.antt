@@ -1,6 +1,5 @@
 -- Each entry of a legal journal is just, and is one step.
-use Rattle.kob_shared.proofs.Words.{Entry, Event, IsLegal, List, Reply, Retained, Settings, Some, State, [], ap, arith, events_of, opened_by, option_map, replies_of, reply_at, retained_meaning, slice_get, slice_get-map, state_after, step, subst, sym, take, take-map, ℕ, ◌∙◌, ◌≡◌}
-use Rattle.kob_authorizer.proofs.InTurn.{added_rises}
+use Rattle.kob_shared.proofs.Words.{Entry, Event, IsLegal, List, Reply, Retained, Settings, Some, State, [], added_rises, ap, arith, events_of, opened_by, option_map, replies_of, reply_at, retained_meaning, slice_get, slice_get-map, state_after, step, subst, sym, take, take-map, ℕ, ◌∙◌, ◌≡◌}
 use Rattle.kob_broker.proofs.Just.{run_just}
 use Rattle.kob_broker.specs.InForce.{in_force}
 use Rattle.kob_broker.specs.Justice.{IsJust}

@@ -1,8 +1,5 @@
 -- The faults of a fleet.
-use Rattle.kob_shared.proofs.Words.{Event, IsFullOnlyPast, IsNamedWithin, List, Settings, arith, as_fault, refl, suc, zero, ℕ, ◌≤◌}
-use Rattle.kob_shared.specs.declared.fleet_stop.FleetStop.{FleetStop}
-use Rattle.kob_shared.specs.declared.fleet_stop.FleetStop.TheVariants.{NotBegun, Stale, Full}
-use Rattle.kob_shared.specs.Tears.{IsTornOnlyWhere, IsLater, NamesWorkerWithin}
+use Rattle.kob_shared.proofs.Words.{Event, FleetStop, Full, IsFullOnlyPast, IsLater, IsNamedWithin, IsTornOnlyWhere, List, NamesWorkerWithin, NotBegun, Settings, Stale, arith, as_fault, refl, suc, zero, ℕ, ◌≤◌}
 
 pub later_stopped : (s : FleetStop) → IsLater (as_fault s)
 later_stopped NotBegun = tt

@@ -1,8 +1,5 @@
 -- What a fleet leaves.
-use Rattle.kob_shared.proofs.Words.{AllZip, EachIsAnswered, Entry, Event, Follows, IfSome, IsAsNoted, IsFleet, IsKept, IsLegal, IsTaken, IsTear, IsTornAt, List, Receipt, Record, Retained, Script, Settings, State, [], arith, asked_of_all, events_in, events_of_script, notes_of, opened_by, slice_get, subst, sym, ◌∷◌, ◌≡◌}
-use Rattle.kob_shared.specs.declared.compare.Difference.{Difference}
-use Rattle.kob_shared.specs.declared.work.Done.{Done}
-use Rattle.kob_shared.specs.Noted.{Noted}
+use Rattle.kob_shared.proofs.Words.{AllZip, Difference, Done, EachIsAnswered, Entry, Event, Follows, IfSome, IsAsNoted, IsFleet, IsKept, IsLegal, IsTaken, IsTear, IsTornAt, List, Noted, Receipt, Record, Retained, Script, Settings, State, [], arith, asked_of_all, events_in, events_of_script, notes_of, opened_by, slice_get, subst, sym, ◌∷◌, ◌≡◌}
 use Rattle.kob_shared.proofs.Noted.{asked_scripts, told_taken}
 use Rattle.kob_shared.proofs.Beginnings.{begins_with}
 use Rattle.kob_shared.proofs.Counted.{length_kept}
