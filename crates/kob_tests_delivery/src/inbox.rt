@@ -49,8 +49,8 @@ const VALUE: &[u8] = &[0, 255];
 
 const GREATEST: u64 = 9_223_372_036_854_775_807;
 
-/// A record's topic with its partition, its value and its headers, and the result of the intake: the
-/// id in all its forms, the greatest partition and the one after it, and texts that are empty.
+/// A record's topic with its partition, its value and its headers, and the result of the intake:
+/// the id in all its forms, the greatest partition and the one after it, and texts that are empty.
 const FORMS: [(
     (&str, u64),
     &[u8],
@@ -100,8 +100,8 @@ fn takes_each_form(alloc: Global, inbox: &mut Inbox) -> Option<bool> {
     Some(true)
 }
 
-/// Whether a row has this place, partition, offset and topic, the event id that ends in this number,
-/// this value, and an empty key if the value is empty, or else none.
+/// Whether a row has this place, partition, offset and topic, the event id that ends in this
+/// number, this value, and an empty key if the value is empty, or else none.
 fn is_row(row: &InboxRow, place: (u64, u64, u64), (topic, id, value): (&str, u128, &[u8])) -> bool {
     let is_keyed = match &row.key {
         Some(key) => key.len() == 0 && value.len() == 0,

@@ -117,8 +117,8 @@ const PLAYED: [Played<'_>; 6] = [
             commit: Some(2),
         },
     },
-    // The broker has the second batch already. It is sent again under a new producer id, and so gets
-    // a second offset; the consumer skips the repeat.
+    // The broker has the second batch already. It is sent again under a new producer id, and so
+    // gets a second offset; the consumer skips the repeat.
     Played {
         name: "reply_lost_then_restart",
         cast: Cast {

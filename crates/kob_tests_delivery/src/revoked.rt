@@ -96,8 +96,8 @@ fn is_revoked(end: &FleetEnd, number: usize) -> bool {
 }
 
 /// Whether a right that is revoked before the service's request of this number, from 1, is gone
-/// from there on. Worker 2 is held until worker 1 has come to that request, and worker 1 there until
-/// worker 2 is done.
+/// from there on. Worker 2 is held until worker 1 has come to that request, and worker 1 there
+/// until worker 2 is done.
 fn is_gone_from<R: Threads + Wait + Sync>(rt: &R, alloc: Global, number: usize) -> Option<bool> {
     let holds = [
         Hold {
