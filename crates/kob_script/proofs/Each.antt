@@ -14,28 +14,45 @@ abbrev pub one_more : {A B : Type 0} → (A → Result B FaultKind) → List A �
     → Result (List B) FaultKind
 one_more read rest r = r >>= λ first. each read rest >>= λ others. Ok (first ∷ others)
 
--- a loop that reads the values by their index
-module _ {A B : Type 0} (read : A → Result B FaultKind) (xs : List A) (i : ℕ) (d x : A) (front : List B)
-    (kept : with_front front (each read (drop i xs)) ≡ each read xs) (below : i < length xs) (is : x ≡ get_or xs i d) where
-  split : drop i xs ≡ x ∷ drop (i + 1) xs
-  split = drop_more xs i d below ∙ ap (λ y. y ∷ drop (i + 1) xs) (sym is)
-
-  front_is : with_front front (one_more read (drop (i + 1) xs) (read x)) ≡ each read xs
+-- a loop that takes what is left apart
+module _ {A B : Type 0} (read : A → Result B FaultKind) (all : Result (List B) FaultKind) (xs more : List A) (x : A)
+    (front : List B) (kept : with_front front (each read xs) ≡ all) (split : xs ≡ x ∷ more) where
+  front_is : with_front front (one_more read more (read x)) ≡ all
   unfolding each
-  front_is = sym (ap (λ rest. with_front front (each read rest)) split) ∙ kept
+  front_is = rw split at kept
 
-  pub each_fails : (e : LineError) → Fails e (read x) → Fails e (each read xs)
-  each_fails Memory fails = tt
-  each_fails (Fault kind) fails = sym (rw fails at front_is)
+  pub front_fails : (e : LineError) → Fails e (read x) → Fails e all
+  front_fails Memory fails = tt
+  front_fails (Fault kind) fails = sym (rw fails at front_is)
 
-  pub each_keeps : (y : B) → read x ≡ Ok y → with_front (front ++ y ∷ []) (each read (drop (i + 1) xs)) ≡ each read xs
-  each_keeps y gives = with_front_more front y (each read (drop (i + 1) xs)) ∙ (rw gives at front_is)
+  pub front_keeps : (y : B) → read x ≡ Ok y → with_front (front ++ y ∷ []) (each read more) ≡ all
+  front_keeps y gives = with_front_more front y (each read more) ∙ (rw gives at front_is)
+
+pub front_ends : {A B : Type 0} (read : A → Result B FaultKind) (all : Result (List B) FaultKind) (xs : List A)
+    (front : List B) → with_front front (each read xs) ≡ all → xs ≡ [] → all ≡ Ok front
+unfolding each
+front_ends read all xs front kept none =
+    sym kept ∙ ap (λ rest. with_front front (each read rest)) none ∙ ap Ok (append-nil front)
+
+-- the same by an index
+value_at : {A : Type 0} (xs : List A) (i : ℕ) (d x : A) → i < length xs → x ≡ get_or xs i d
+    → drop i xs ≡ x ∷ drop (i + 1) xs
+value_at xs i d x below is = drop_more xs i d below ∙ ap (λ y. y ∷ drop (i + 1) xs) (sym is)
+
+pub each_fails : {A B : Type 0} (read : A → Result B FaultKind) (xs : List A) (i : ℕ) (d x : A) (front : List B)
+    (e : LineError)
+    → with_front front (each read (drop i xs)) ≡ each read xs → i < length xs → x ≡ get_or xs i d → Fails e (read x)
+    → Fails e (each read xs)
+each_fails read xs i d x front e kept below is = front_fails read _ _ _ x front kept (value_at xs i d x below is) e
+
+pub each_keeps : {A B : Type 0} (read : A → Result B FaultKind) (xs : List A) (i : ℕ) (d x : A) (front : List B) (y : B)
+    → with_front front (each read (drop i xs)) ≡ each read xs → i < length xs → x ≡ get_or xs i d → read x ≡ Ok y
+    → with_front (front ++ y ∷ []) (each read (drop (i + 1) xs)) ≡ each read xs
+each_keeps read xs i d x front y kept below is = front_keeps read _ _ _ x front kept (value_at xs i d x below is) y
 
 pub each_ends : {A B : Type 0} (read : A → Result B FaultKind) (xs : List A) (i : ℕ) (front : List B)
     → with_front front (each read (drop i xs)) ≡ each read xs → length xs ≤ i → each read xs ≡ Ok front
-unfolding each
-each_ends read xs i front kept past =
-    sym kept ∙ ap (λ rest. with_front front (each read rest)) (drop_of_length-le xs past) ∙ ap Ok (append-nil front)
+each_ends read xs i front kept past = front_ends read _ _ front kept (drop_of_length-le xs past)
 
 -- what is read of values that are seen by a view
 pub each_map : {X A B : Type 0} (read : A → Result B FaultKind) (view : X → A) (xs : List X)

@@ -27,7 +27,7 @@ returns-in_err-word c =
     c.loop-raw.yielded _ c.loop-raw.yielded_by _ _ c.in-Some.raw c.in-Some.is c.next.ensures.steps in
     let p = err_from_is_err_and c.from_residual-in_err-word.result c.from_residual-in_err-word.ensures.1 in
     rw (p.1, p.2)
-    (each_fails word_of (raw_words c.args.line.now) (length c.loop-raw.yielded) _ _ _ c.loop-raw.invariant turn.0 turn.1 _
+    (each_fails word_of (raw_words c.args.line.now) (length c.loop-raw.yielded) _ _ _ _ c.loop-raw.invariant turn.0 turn.1
     c.in_err-word.ensures)
 
 pub loop-raw-preserved : goal.loop-raw-preserved
@@ -38,7 +38,7 @@ loop-raw-preserved c =
     (λ x b q k. search (rules, tests))) (search rules) (λ x b q k. search (rules, tests)))
     c.loop-raw.yielded _ c.loop-raw.yielded_by _ _ c.in-Some.raw c.in-Some.is c.next.ensures.steps in
     rw (c.in_ok-push.ensures.items, length_push c.loop-raw.yielded c.in-Some.raw)
-    (each_keeps word_of (raw_words c.args.line.now) (length c.loop-raw.yielded) _ _ _ c.loop-raw.invariant turn.0 turn.1 _
+    (each_keeps word_of (raw_words c.args.line.now) (length c.loop-raw.yielded) _ _ _ _ c.loop-raw.invariant turn.0 turn.1
     c.in_ok-word.ensures)
 
 pub returns : goal.returns
