@@ -35,9 +35,16 @@ impl<'a> Model for Word<'a> {
 }
 
 impl<'a> Word<'a> {
-    /// The word that these bytes of a line are, which has escapes only if the line has. The fault is
-    /// `BadEscape`. Does not allocate for a word without a percent sign.
-    fn read(alloc: Global, raw: &'a [u8], escapes: bool) -> Result<Word<'a>, LineError>
+    /// The word that these bytes of a line are. The fault is `BadEscape`. Does not allocate for a
+    /// word without a percent sign.
+    pub fn read(alloc: Global, raw: &'a [u8]) -> Result<Word<'a>, LineError>
+        ensures { Gives result (word_of raw.now) }
+    {
+        Word::read_in(alloc, raw, true)
+    }
+
+    // The same in a line that may have escapes or has none.
+    fn read_in(alloc: Global, raw: &'a [u8], escapes: bool) -> Result<Word<'a>, LineError>
         requires { MatchBool escapes ⊤ (unescaped raw.now ≡ Some raw.now) }
         ensures { Gives result (word_of raw.now) }
     {
@@ -120,7 +127,7 @@ fn each_read(alloc: Global, line: &[u8]) -> Result<Vec<Word<'_>>, LineError>
         .split(|byte| is_blank(*byte))
         .filter(|part| part.len() > 0)
     {
-        let word = Word::read(alloc, raw, escapes)?;
+        let word = Word::read_in(alloc, raw, escapes)?;
         words.push(word)?;
     }
     Ok(words)

@@ -8,8 +8,8 @@ use Rattle.kob_script.proofs.Each.{each_ends, each_fails, each_keeps}
 use Rattle.kob_script.proofs.LineWords.{word_stands}
 use Rattle.kob_script.proofs.words.each_read.Goals as goal
 
-pub read-requires : goal.read-requires
-read-requires c =
+pub read_in-requires : goal.read_in-requires
+read_in-requires c =
     let turn =
     YieldsList-turn (YieldsList-from_filter {s = c.into_iter-raw-iterator.result} _ (λ part. nat_lt 0 (length part))
     (YieldsList-from_slice_split _ is_blank c.args.line.now (search rules) (search rules) (search rules)
