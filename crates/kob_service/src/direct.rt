@@ -1,7 +1,7 @@
 //! Without threads: a service records two orders, its router sends their events, and a consumer takes
 //! them in.
 
-use crate::{Delivered, Worked, broker, delivered, send};
+use crate::{Delivered, Worked, broker, reached, send};
 use kob_embedding::{ConsumerEnd, RunningConsumer, RunningService, ServiceEnd};
 use kob_inbox::{Inbox, Subscription};
 use kob_lines::{Loss, Lossy, RecordedLine};
@@ -16,7 +16,7 @@ pub(crate) fn deliver(alloc: Global) -> Worked<Delivered> {
     let mut recorded = broker(alloc)?;
     let sent = serve(alloc, &mut recorded);
     let mut taken = consume(alloc, &mut recorded);
-    let delivered = delivered(&recorded, &sent, &mut taken);
+    let delivered = reached(&recorded, &sent, &mut taken);
     drop(sent);
     drop(taken);
     drop(recorded);

@@ -77,9 +77,9 @@ fn send<L: Line>(alloc: Global, service: &mut RunningService<L>) -> Worked<()> {
     service.send_all(alloc, u32::MAX)
 }
 
-/// What the service and the consumer have delivered. Their ends are borrowed, since a value that is
-/// dropped at `?` makes a proof long.
-fn delivered(
+/// What has reached the inbox. The ends are borrowed, since a value that is dropped at `?` makes a
+/// proof long.
+fn reached(
     recorded: &Recorded,
     sent: &Worked<ServiceEnd>,
     taken: &mut Worked<ConsumerEnd>,

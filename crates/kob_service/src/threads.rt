@@ -1,6 +1,6 @@
 //! In threads: a service, a consumer and an administrator share a broker.
 
-use crate::{Delivered, Worked, broker, delivered, script, send};
+use crate::{Delivered, Worked, broker, reached, script, send};
 use kob_embedding::{ConsumerEnd, RunningConsumer, RunningService, ServiceEnd, session_of};
 use kob_inbox::{Inbox, Subscription};
 use kob_lines::SessionLine;
@@ -33,7 +33,7 @@ pub(crate) fn deliver<R: Threads + Wait + Sync>(rt: &R, alloc: Global) -> Worked
     );
     let recorded = shared.finish();
     let mut taken = taken;
-    let delivered = delivered(&recorded, &sent, &mut taken);
+    let delivered = reached(&recorded, &sent, &mut taken);
     drop(sent);
     drop(taken);
     drop(recorded);
