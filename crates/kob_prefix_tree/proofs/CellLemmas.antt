@@ -1,5 +1,5 @@
 -- Lists of serials, joined and read.
-use Rattle.std.proofs.Common.{◌≡◌, ◌∷◌, ◌++◌, refl, sym, ap, ◌∙◌, subst}
+use Rattle.std.proofs.Common.{◌≡◌, ◌∷◌, ◌++◌, refl, sym, ap, ◌∙◌, subst, arith}
 use denote.RawPtr.{Ptr}
 use Rattle.kob_prefix_tree.specs.Tree.{Tree, leaf, node}
 use Rattle.kob_prefix_tree.specs.Nodes.{Leads, tree_of, if_none, last_of, with_others}
@@ -25,9 +25,7 @@ joined_leads (node item heap c below n after) l leads e = subst is_node (sym e) 
 pub last_joined : {X : Type 0} (t : Tree X) (l : Link X) (p : Ptr) → Leads l.nodes
     → last_of (with_others t l) (if_none t l.first p) ≡ last_of l.nodes l.first
 last_joined leaf l p leads = refl
-last_joined (node item heap c below n after) l p leads =
-    some_there (with_others after l) p (last_of (with_others after l) (if_none after l.first n))
-    (joined_leads after l leads) ∙ last_joined after l n leads
+last_joined (node item heap c below n after) l p leads = grind (arith, last_joined after l n leads)
 
 -- what a list knows of its end when another was joined to it, where both have something in them
 module _ (self others made : Link Serial) (n now : Node Serial (Link Serial) (Link Serial)) (some : Leads self.nodes)
@@ -35,12 +33,7 @@ module _ (self others made : Link Serial) (n now : Node Serial (Link Serial) (Li
     (joined_is : made.nodes ≡ with_others self.nodes others) (now_is : made.nodes ≡ tree_of now) where
   pub end_joined : made.first ≡ self.first → KnowsEnd others.nodes others.first → others.nodes ≡ tree_of n
       → n.item.last ≡ last_of (tree_of now) made.first
-  end_joined starts knows n_is =
-      let known : n.item.last ≡ last_of (tree_of n) others.first = subst (λ t. KnowsEnd t others.first) n_is knows in
-      known ∙ ap (λ t. last_of t others.first) (sym n_is) ∙ sym (last_joined self.nodes others self.first more)
-      ∙ ap (λ p. last_of (with_others self.nodes others) p)
-      (some_there self.nodes others.first self.first some ∙ sym starts)
-      ∙ ap (λ t. last_of t made.first) (sym joined_is ∙ now_is)
+  end_joined starts knows n_is = grind (arith, last_joined self.nodes others self.first more)
 
   pub values_are : values_of (tree_of now) ≡ values_of self.nodes ++ values_of others.nodes
   values_are = ap values_of (sym now_is ∙ joined_is) ∙ values_joined self.nodes others

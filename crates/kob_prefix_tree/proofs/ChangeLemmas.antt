@@ -1,22 +1,15 @@
 -- A place of the tree whose contents change at one key.
-use Rattle.std.proofs.Common.{◌≡◌, ◌≢◌, ℕ, ◌==◌, true, false, List, [], ◌∷◌, ◌++◌, Option, None, Some, Result, Ok, Err, OnOk, OnErr, unwrap_or, refl, sym, ap, ◌∙◌, subst}
-use Rattle.std.proofs.lemmas.Bool.{eqb-true}
+use Rattle.std.proofs.Common.{◌≡◌, ◌≢◌, ℕ, List, [], ◌∷◌, ◌++◌, Option, None, Some, Result, Ok, Err, OnOk, OnErr, unwrap_or, refl, ap, ◌∙◌, arith}
 use Rattle.kob_prefix_tree.specs.Trie.{Trie, void, Contents, bare, led_by}
 use Rattle.kob_prefix_tree.specs.Held.{Held, nothing}
 use Rattle.kob_prefix_tree.specs.Siblings.{siblings, value_at, without, behind_one, held_in, IsNeat}
 use Rattle.kob_prefix_tree.specs.Change.{ChangedAt}
-use Rattle.kob_prefix_tree.proofs.SiblingLemmas.{AllNeat, neat_list, neat_tree, neat_without, at_first, at_past, at_without, at_without_other, differ}
+use Rattle.kob_prefix_tree.proofs.SiblingLemmas.{neat_list, neat_tree, neat_without, at_without, at_without_other}
+use Rattle.std.proofs.lemmas.Bool.Decides.{nat_tests}
 
 -- the serials of the place itself
 pub changed_here : (f : Held → Held) (h : Held) (t : Trie) → IsNeat t → ChangedAt [] f (h, t) (f h, t)
-changed_here f h t neat = record {
-  neat = neat;
-  at = refl;
-  elsewhere = λ other. elim other as (λ k. k ≢ [] → held_in k (f h, t) ≡ held_in k (h, t)) [
-    | [] ↦ λ ne. absurd (ne refl)
-    | byte ∷ key ↦ λ ne. refl
-  ];
-}
+changed_here f h t neat = record { neat = neat; at = refl; elsewhere = λ other. elim other as (λ k. k ≢ [] → held_in k (f h, t) ≡ held_in k (h, t)) [ [] ↦ λ ne. absurd (ne refl) | byte ∷ key ↦ λ ne. refl ] }
 
 pub held_in_bare : (key : List ℕ) → held_in key bare ≡ nothing
 held_in_bare [] = refl
@@ -39,15 +32,7 @@ module _ (f : Held → Held) (byte : ℕ) (rest : List ℕ) (h : Held) (t t' : T
     at = at;
     elsewhere = λ other. elim other as (λ k. k ≢ byte ∷ rest → held_in k (h, t') ≡ held_in k (h, t)) [
       | [] ↦ λ ne. refl
-      | b ∷ key ↦ λ ne. elim (b == byte) as
-          (λ e. b == byte ≡ e → held_in (b ∷ key) (h, t') ≡ held_in (b ∷ key) (h, t)) [
-            | true ↦ λ e.
-                let same = eqb-true b byte e in
-                subst (λ x. behind_one (held_in key) (value_at x (siblings t'))
-                ≡ behind_one (held_in key) (value_at x (siblings t))) (sym same)
-                (beside key (λ is. ne (λ i. same i ∷ is i)))
-            | false ↦ λ e. ap (behind_one (held_in key)) (others b (differ b byte e))
-          ] refl
+      | b ∷ key ↦ λ ne. grind (arith, nat_tests, beside key, others b)
     ];
   }
 
@@ -60,38 +45,22 @@ module _ (f : Held → Held) (byte : ℕ) (rest : List ℕ) (h : Held) (t t' : T
     pub stands : IsNeat t' → value_at byte (siblings t') ≡ Some d
         → ((b : ℕ) → b ≢ byte → value_at b (siblings t') ≡ value_at b (siblings t))
         → ChangedAt (byte ∷ rest) f (h, t) (h, t')
-    stands neat' is others = changed_below neat'
-        (ap (behind_one (held_in rest)) is ∙ done.at ∙ ap f (had rest))
-        (λ key ne. ap (behind_one (held_in key)) is ∙ done.elsewhere key ne ∙ had key) others
+    stands neat' is others = grind (arith, changed_below, had)
 
     pub linked_front : value_at byte (siblings t) ≡ None → d ≢ bare → siblings t' ≡ (byte, d) ∷ siblings t
         → ChangedAt (byte ∷ rest) f (h, t) (h, t')
-    linked_front none some is = stands
-        (neat_tree t' (subst AllNeat (sym is) (none, (some, (done.neat, neat_list t neat)))))
-        (ap (value_at byte) is ∙ at_first byte d (siblings t))
-        (λ b ne. ap (value_at b) is ∙ at_past b byte d (siblings t) (λ same. ne (sym same)))
+    linked_front none some is = grind (arith, stands, neat_tree, neat_list)
 
     pub taken_out : d ≡ bare → siblings t' ≡ without byte (siblings t) → ChangedAt (byte ∷ rest) f (h, t) (h, t')
-    taken_out none is =
-        let gone : value_at byte (siblings t') ≡ None =
-        ap (value_at byte) is ∙ at_without byte (siblings t) (neat_list t neat) in
-        let left : (key : List ℕ) → behind_one (held_in key) (value_at byte (siblings t')) ≡ held_in key d =
-        λ key. ap (behind_one (held_in key)) gone ∙ sym (held_in_bare key) ∙ ap (held_in key) (sym none) in
-        changed_below
-        (neat_tree t' (subst AllNeat (sym is) (neat_without byte (siblings t) (neat_list t neat))))
-        (left rest ∙ done.at ∙ ap f (had rest))
-        (λ key ne. left key ∙ done.elsewhere key ne ∙ had key)
-        (λ b ne. ap (value_at b) is ∙ at_without_other byte b (siblings t) ne)
+    taken_out none is = grind (arith, at_without, neat_list, held_in_bare, changed_below, neat_tree, neat_without, at_without_other)
 
 -- what was put in where nothing was, behind more bytes
 pub behind_tail : (f : Held → Held) (tail rest : List ℕ) {d : Contents} → ChangedAt rest f bare d → d ≢ bare
     → ChangedAt (tail ++ rest) f bare (led_by tail d) × (led_by tail d ≢ bare)
 behind_tail f [] rest done some = (done, some)
 behind_tail f (byte ∷ tail) rest {d} done some =
-    let (inner, kept) = behind_tail f tail rest done some in (
-      linked_front f byte (tail ++ rest) nothing void (led_by (byte ∷ tail) d).1 tt refl inner refl kept refl,
-      λ e. let e' : (led_by (byte ∷ tail) d).1 ≡ void = ap (λ (x : Contents). x.1) e in cc,
-    )
+    let (inner, kept) = behind_tail f tail rest done some in
+    (linked_front f byte (tail ++ rest) nothing void (led_by (byte ∷ tail) d).1 tt refl inner refl kept refl, grind arith)
 
 module _ {A E : Type 0} where
   pub on_ok : {P Q : Type 0} (r : Result A E) → (P → Q) → OnOk r P → OnOk r Q

@@ -7,7 +7,7 @@
 --     along_has_prefixed, along_has_literal   a walk of a name has the prefixed serials of each key that the name
 -- begins with, and its literal ones, in the whole tree and in a part of it
 --     walk_only                               and in the tree no others
-use Rattle.std.proofs.Common.{◌≡◌, ◌≢◌, ◌⊎◌, inl, inr, arith, ℕ, true, false, cond, List, [], ◌∷◌, ◌++◌, map as each, None, Some, refl, sym, ap, ◌∙◌, subst}
+use Rattle.std.proofs.Common.{append-nil, ◌≡◌, ◌≢◌, ◌⊎◌, inl, inr, arith, ℕ, true, false, cond, List, [], ◌∷◌, ◌++◌, map as each, None, Some, refl, sym, ap, subst}
 use Rattle.std.specs.Option.{unwrap_or}
 use Rattle.std.specs.List.{Contains, flat_map}
 use Rattle.std.specs.Ordering.{nat_cmp}
@@ -20,15 +20,13 @@ use Rattle.std.proofs.lemmas.List.Folds.{flat_map-map}
 use Rattle.kob_prefix_tree.specs.Walked.{prefixes, serials_along}
 use Rattle.kob_prefix_tree.specs.PrefixMap.{PrefixMap, held, added, removed, removed_all, walk_of}
 use Rattle.kob_prefix_tree.proofs.WalkLemmas.{prefixes_longer}
-use Rattle.kob_prefix_tree.proofs.MapLemmas.{bytes, bytes_decide, same_bytes, is_nothing_true}
+use Rattle.kob_prefix_tree.proofs.MapLemmas.{bytes, bytes_decide, is_nothing_true}
 
 itself : (key : List ℕ) → bytes key key ≡ true
 itself key = (bytes_decide key key).1 refl
 
 apart : (other key : List ℕ) → other ≢ key → bytes other key ≡ false
-apart other key ne =
-    elim (bytes other key) as (λ b. bytes other key ≡ b
-    → b ≡ false) [ true ↦ λ e. absurd (ne (same_bytes other key e)) | false ↦ λ e. refl ] refl
+apart other key ne = grind (arith, bytes_decide other key)
 
 pub held_empty : (key : List ℕ) → held map.empty key ≡ nothing
 held_empty key = ap (λ o. unwrap_or o nothing) (map.get-empty (slice_cmp nat_cmp) key)
@@ -46,34 +44,17 @@ module _ (m : PrefixMap) (key : List ℕ) where
   leaving left = cond (is_nothing left) (map.remove m key) (map.insert m key left)
 
   left_same : (left : Held) → held (leaving left) key ≡ left
-  left_same left =
-      elim (is_nothing left) as (λ b. is_nothing left ≡ b
-      → held (cond b (map.remove m key) (map.insert m key left)) key ≡ left) [
-        | true ↦ λ e. gone key ∙ ap (λ b. unwrap_or (cond b None (map.get m key)) nothing) (itself key)
-            ∙ sym (is_nothing_true left e)
-        | false ↦ λ e. inserted left key ∙ ap (λ b. unwrap_or (cond b (Some left) (map.get m key)) nothing) (itself key)
-      ] refl
+  left_same left = grind (arith, gone, itself, is_nothing_true, inserted)
 
   left_other : (left : Held) (other : List ℕ) → other ≢ key → held (leaving left) other ≡ held m other
-  left_other left other ne =
-      elim (is_nothing left) as (λ b. held (cond b (map.remove m key) (map.insert m key left)) other ≡ held m other) [
-        | true ↦ gone other ∙ ap (λ b. unwrap_or (cond b None (map.get m other)) nothing) (apart other key ne)
-        | false ↦ inserted left other ∙ ap (λ b. unwrap_or (cond b (Some left) (map.get m other)) nothing)
-            (apart other key ne)
-      ]
+  left_other left other ne = grind (arith, gone, apart, inserted)
 
   module _ (kind : PatternKind) (serial : ℕ) where
     pub held_added_same : held (added m key kind serial) key ≡ with_serial kind serial (held m key)
-    held_added_same =
-        inserted (with_serial kind serial (held m key)) key
-        ∙ ap (λ b. unwrap_or (cond b (Some (with_serial kind serial (held m key))) (map.get m key)) nothing)
-        (itself key)
+    held_added_same = grind (arith, inserted, itself)
 
     pub held_added_other : (other : List ℕ) → other ≢ key → held (added m key kind serial) other ≡ held m other
-    held_added_other other ne =
-        inserted (with_serial kind serial (held m key)) other
-        ∙ ap (λ b. unwrap_or (cond b (Some (with_serial kind serial (held m key))) (map.get m other)) nothing)
-        (apart other key ne)
+    held_added_other other ne = grind (arith, inserted, apart)
 
     pub held_removed_same : held (removed m key kind serial) key ≡ without_serial kind serial (held m key)
     held_removed_same = left_same (without_serial kind serial (held m key))
@@ -95,9 +76,13 @@ has_beginning : (f : List ℕ → List ℕ) (begin rest : List ℕ) (x : ℕ) �
 has_beginning f [] rest x has =
     subst (λ ps. Contains (flat_map f ps) x) (sym (prefixes_longer rest)) (Contains-append_left (f []) _ x has)
 has_beginning f (byte ∷ begin) rest x has =
-    Contains-append_right (f []) _ x (subst (λ ys. Contains ys x)
-    (sym (flat_map-map f (λ prefix. byte ∷ prefix) (prefixes (begin ++ rest))))
-    (has_beginning (λ prefix. f (byte ∷ prefix)) begin rest x has))
+    let later = has_beginning (λ prefix. f (byte ∷ prefix)) begin rest x has in
+    grind (
+      arith,
+      Contains-append_right (f []) (flat_map f (each (λ prefix. byte ∷ prefix) (prefixes (begin ++ rest)))) x,
+      flat_map-map f (λ prefix. byte ∷ prefix) (prefixes (begin ++ rest)),
+      later,
+    )
 
 -- a beginning of a name for which a function gives a value
 abbrev pub BeginningWith : (List ℕ → List ℕ) → List ℕ → ℕ → Type 0
@@ -105,14 +90,7 @@ BeginningWith f name x = (begin : List ℕ) × ((rest : List ℕ) × ((begin ++ 
 
 only_beginnings : (f : List ℕ → List ℕ) (name : List ℕ) (x : ℕ) → Contains (flat_map f (prefixes name)) x
     → BeginningWith f name x
-only_beginnings f [] x has =
-    elim (Contains-append_cases (f []) [] x has) as (λ _. BeginningWith f [] x) [
-      | inl here ↦ ([], ([], (refl, here)))
-      | inr there ↦ absurd (nothing_there there)
-    ]
-  where
-    nothing_there : Contains [] x → ⊥
-    nothing_there (k, below, _) = omega (arith, below)
+only_beginnings f [] x has = ([], ([], (refl, subst (λ ys. Contains ys x) (append-nil (f [])) has)))
 only_beginnings f (byte ∷ name) x has =
     elim (Contains-append_cases (f []) (flat_map f (each (λ prefix. byte ∷ prefix) (prefixes name))) x has) as
     (λ _. BeginningWith f (byte ∷ name) x) [
@@ -127,14 +105,11 @@ only_beginnings f (byte ∷ name) x has =
 module _ (held_at : List ℕ → Held) (serial : ℕ) where
   pub along_has_prefixed : (key rest : List ℕ) → Contains (held_at key).1 serial
       → Contains (serials_along held_at (key ++ rest)) serial
-  along_has_prefixed key rest has =
-      Contains-append_left (flat_map (λ prefix. (held_at prefix).1) (prefixes (key ++ rest))) _ serial
-      (has_beginning (λ prefix. (held_at prefix).1) key rest serial has)
+  along_has_prefixed key rest has = grind (arith, Contains-append_left, has_beginning)
 
   pub along_has_literal : (name : List ℕ) → Contains (held_at name).0 serial
       → Contains (serials_along held_at name) serial
-  along_has_literal name has =
-      Contains-append_right (flat_map (λ prefix. (held_at prefix).1) (prefixes name)) (held_at name).0 serial has
+  along_has_literal name has = grind (arith, Contains-append_right)
 
 module _ (m : PrefixMap) (serial : ℕ) where
   abbrev prefixed : List ℕ → List ℕ

@@ -2,7 +2,6 @@ pub mod Blocks
 pub mod CellLemmas
 pub mod ChangeLemmas
 pub mod Ends
-pub mod EntriesLemmas
 pub mod Firsts
 pub mod HeldLaws
 pub mod LevelsLemmas
@@ -11,7 +10,6 @@ pub mod MapLemmas
 pub mod Moves
 pub mod PartLemmas
 pub mod PartsLemmas
-pub mod PlaceLemmas
 pub mod Read
 pub mod SiblingLemmas
 pub mod TailLemmas

@@ -1,75 +1,29 @@
--- The tree's entries as a finite map, before and after a change.
-use Rattle.std.proofs.Common.{◌≡◌, ◌≢◌, ℕ, ◌+◌, length, Bool, true, false, cond, List, [], ◌∷◌, ◌++◌, Option, None, Some, refl, sym, ap, ◌∙◌, subst, arith}
-use Rattle.std.proofs.Math.Bool.{true≢false}
-use Rattle.std.proofs.lemmas.Bool.{eqb-true}
+-- The tree as a finite map, before and after a change.
+use Rattle.std.proofs.Common.{◌≡◌, ◌≢◌, ℕ, ◌==◌, Bool, true, cond, List, [], ◌∷◌, ◌++◌, Option, None, Some, refl, sym, ap, ◌∙◌, subst, arith}
+use Rattle.std.proofs.lemmas.Bool.Decides.{nat_tests}
 use Rattle.std.proofs.lemmas.List.{nil_from_length}
 use Rattle.std.proofs.lemmas.Map.Text.{is_eq-slice_cmp}
 use Rattle.std.proofs.lemmas.Slice.Eq.{bytes_eq-Decides}
 use Rattle.std.specs.Bool.{Decides}
-use Rattle.std.specs.Option.{unwrap_or}
+use Rattle.std.specs.Option.{option_or}
 use Rattle.std.specs.Ordering.{nat_cmp, eq_by_cmp}
 use Rattle.std.specs.Cmp.Lexicographic.{slice_cmp, nat_list_cmp_total}
 use Rattle.std.specs.FinMap as map
 use Rattle.std.specs.FinMap.{find, nat_cmp-IsAntisymmetric, slice_cmp-IsAntisymmetric}
 use Rattle.kob_prefix_tree.specs.declared.kind.PatternKind.{PatternKind}
 use Rattle.kob_prefix_tree.specs.declared.kind.PatternKind.TheVariants.{Literal, Prefixed}
-use Rattle.kob_prefix_tree.specs.Held.{Held, nothing, is_nothing, with_serial}
-use Rattle.kob_prefix_tree.specs.Entries.{Entries, held_at, AllInUse}
-use Rattle.kob_prefix_tree.specs.PrefixMap.{PrefixMap, held}
-
-abbrev pub bytes : List ℕ → List ℕ → Bool
-bytes x y = eq_by_cmp (slice_cmp nat_cmp) x y
-
--- what a map keeps of it
-abbrev kept : Held → Option Held
-kept held = cond (is_nothing held) None (Some held)
+use Rattle.kob_prefix_tree.specs.Held.{Held, nothing, is_nothing, with_serial, without_serial, without_serials}
+use Rattle.kob_prefix_tree.specs.Lists.{without_first, without_in_turn}
+use Rattle.kob_prefix_tree.specs.Trie.{Trie, void, sibling, Contents}
+use Rattle.kob_prefix_tree.specs.Siblings.{siblings, value_at, held_in, IsNeat}
+use Rattle.kob_prefix_tree.specs.Change.{ChangedAt}
+use Rattle.kob_prefix_tree.specs.Entries.{Entries, behind, entries_below, entries_in}
+use Rattle.kob_prefix_tree.specs.Walked.{IsLongestInUse}
+use Rattle.kob_prefix_tree.specs.PrefixMap.{PrefixMap, held, added, removed, removed_all}
+use Rattle.kob_prefix_tree.proofs.SiblingLemmas.{neat_at, neat_list}
 
 pub is_nothing_true : (h : Held) → is_nothing h ≡ true → h ≡ nothing
-is_nothing_true h e =
-    let sum : length h.0 + length h.1 ≡ 0 = eqb-true (length h.0 + length h.1) 0 e in
-    λ i. (nil_from_length h.0 (omega (arith, sum)) i, nil_from_length h.1 (omega (arith, sum)) i)
-
-pub something : (h : Held) → h ≢ nothing → is_nothing h ≡ false
-something h some = elim (is_nothing h) as (λ b. is_nothing h ≡ b → b ≡ false)
-    [ true ↦ λ e. absurd (some (is_nothing_true h e)) | false ↦ λ e. refl ] refl
-
-kept_some : (h : Held) → h ≢ nothing → kept h ≡ Some h
-kept_some h some = ap (λ b. cond b None (Some h)) (something h some)
-
-found_of_held : (key : List ℕ) (es : Entries) → AllInUse es → find (slice_cmp nat_cmp) key es ≡ kept (held_at es key)
-found_of_held key [] in_use = refl
-found_of_held key (e ∷ es) in_use =
-    let rest = found_of_held key es in_use.1 in
-    elim (bytes key e.0) as (λ b. cond b (Some e.1) (find (slice_cmp nat_cmp) key es)
-    ≡ kept (unwrap_or (cond b (Some e.1) (find (slice_cmp nat_cmp) key es)) nothing)) [
-      | true ↦ sym (kept_some e.1 in_use.0)
-      | false ↦ rest
-    ]
-
--- the map of the entries
-abbrev pub map_of : Entries → PrefixMap
-map_of es = map.from_entries es
-
-get_of : (es : Entries) (key : List ℕ) → map.get (map_of es) key ≡ find (slice_cmp nat_cmp) key es
-get_of es key = map.get-from_entries nat_list_cmp_total es key
-
-pub held_of : (es : Entries) (key : List ℕ) → held (map_of es) key ≡ held_at es key
-held_of es key = ap (λ o. unwrap_or o nothing) (get_of es key)
-
-pub bytes_decide : (x y : List ℕ) → Decides (bytes x y) (x ≡ y)
-bytes_decide x y = subst (λ b. Decides b (x ≡ y)) (sym (is_eq-slice_cmp x y)) (bytes_eq-Decides x y)
-
-pub same_bytes : (x y : List ℕ) → bytes x y ≡ true → x ≡ y
-same_bytes x y = (bytes_decide x y).0
-
-other_bytes : (x y : List ℕ) → bytes x y ≡ false → x ≢ y
-other_bytes x y e same = true≢false (sym ((bytes_decide x y).1 same) ∙ e)
-
-same_map : (es : Entries) (m : PrefixMap) → ((key : List ℕ) → find (slice_cmp nat_cmp) key es ≡ map.get m key)
-    → map_of es ≡ m
-same_map es m is =
-    map.same_map nat_list_cmp_total (slice_cmp-IsAntisymmetric nat_cmp-IsAntisymmetric) (map_of es) m
-    (λ key. get_of es key ∙ is key)
+is_nothing_true h e = grind (arith, nat_tests, nil_from_length)
 
 some_behind : (xs : List ℕ) (x : ℕ) → xs ++ x ∷ [] ≢ []
 some_behind [] x e = cc
@@ -80,41 +34,109 @@ pub with_some : (kind : PatternKind) (serial : ℕ) (h : Held) → with_serial k
 with_some Literal serial h e = some_behind h.0 serial (ap (λ x. x.0) e)
 with_some Prefixed serial h e = some_behind h.1 serial (ap (λ x. x.1) e)
 
--- entries of which one key holds something else now, or nothing
-pub map_left : (es new : Entries) (key : List ℕ) (left : Held) → AllInUse es → AllInUse new
-    → held_at new key ≡ left → ((k : List ℕ) → k ≢ key → held_at new k ≡ held_at es k)
-    → map_of new ≡ cond (is_nothing left) (map.remove (map_of es) key) (map.insert (map_of es) key left)
-map_left es new key left used new_used taken elsewhere =
-    same_map new now (λ k. found_of_held k new new_used ∙ at k ∙ sym (get_now k))
+abbrev pub bytes : List ℕ → List ℕ → Bool
+bytes x y = eq_by_cmp (slice_cmp nat_cmp) x y
+
+pub bytes_decide : (x y : List ℕ) → Decides (bytes x y) (x ≡ y)
+bytes_decide x y = subst (λ b. Decides b (x ≡ y)) (sym (is_eq-slice_cmp x y)) (bytes_eq-Decides x y)
+
+abbrev found : List ℕ → Entries → Option Held
+found key es = find (slice_cmp nat_cmp) key es
+
+-- what a map keeps of it
+abbrev kept : Held → Option Held
+kept held = cond (is_nothing held) None (Some held)
+
+found_append : (key : List ℕ) (es fs : Entries) → found key (es ++ fs) ≡ option_or (found key es) (found key fs)
+found_append key [] fs = refl
+found_append key (e ∷ es) fs = grind (arith, found_append key es fs)
+
+found_behind_empty : (byte : ℕ) (es : Entries) → found [] (behind byte es) ≡ None
+found_behind_empty byte [] = refl
+found_behind_empty byte (e ∷ es) = found_behind_empty byte es
+
+found_behind : (a b : ℕ) (key : List ℕ) (es : Entries)
+    → found (a ∷ key) (behind b es) ≡ cond (b == a) (found key es) None
+found_behind a b key [] = grind (arith, nat_tests)
+found_behind a b key (e ∷ es) = grind (arith, nat_tests, found_behind a b key es)
+
+found_below_empty : (t : Trie) → found [] (entries_below t) ≡ None
+found_below_empty void = refl
+found_below_empty (sibling byte h below after) = grind (arith, found_below_empty after, found_append, found_behind_empty)
+
+abbrev found_at : List ℕ → Option Contents → Option Held
+found_at key None = None
+found_at key (Some c) = found key (entries_in c)
+
+found_below : (byte : ℕ) (key : List ℕ) (t : Trie) → IsNeat t
+    → found (byte ∷ key) (entries_below t) ≡ found_at key (value_at byte (siblings t))
+found_below byte key void neat = refl
+found_below byte key (sibling first h below after) neat =
+    grind (arith, nat_tests, found_below byte key after neat.1.1.1, found_append, found_behind)
+
+found_in_place : (key : List ℕ) (c : Contents) → IsNeat c.1 → found key (entries_in c) ≡ kept (held_in key c)
+found_in_place [] c neat = grind (arith, found_append, found_below_empty)
+found_in_place (byte ∷ key) c neat =
+    grind (arith, found_in_place key, found_append, found_below byte key c.1 neat, neat_at, neat_list)
+
+-- the map of a place
+abbrev pub map_at : Contents → PrefixMap
+map_at c = map.from_entries (entries_in c)
+
+get_at : (c : Contents) (key : List ℕ) → IsNeat c.1 → map.get (map_at c) key ≡ kept (held_in key c)
+get_at c key neat = map.get-from_entries nat_list_cmp_total (entries_in c) key ∙ found_in_place key c neat
+
+pub held_of_map : (key : List ℕ) (c : Contents) → IsNeat c.1 → held (map_at c) key ≡ held_in key c
+held_of_map key c neat = grind (arith, get_at, is_nothing_true)
+
+pub held_everywhere : (c : Contents) → IsNeat c.1 → (λ key. held_in key c) ≡ held (map_at c)
+held_everywhere c neat = sym (λ i key. held_of_map key c neat i)
+
+pub longest_of_place : (c : Contents) (name : List ℕ) (n : ℕ) → IsNeat c.1
+    → IsLongestInUse (λ key. held_in key c) name n → IsLongestInUse (held (map_at c)) name n
+longest_of_place c name n neat longest = subst (λ f. IsLongestInUse f name n) (held_everywhere c neat) longest
+
+is_map : (c : Contents) (m : PrefixMap) → IsNeat c.1 → ((key : List ℕ) → map.get m key ≡ kept (held_in key c))
+    → map_at c ≡ m
+is_map c m neat is = map.same_map nat_list_cmp_total (slice_cmp-IsAntisymmetric nat_cmp-IsAntisymmetric) (map_at c) m
+    (λ key. get_at c key neat ∙ sym (is key))
+
+without_one_of : (y : ℕ) (xs : List ℕ) → without_in_turn (y ∷ []) xs ≡ without_first (λ x. x == y) xs
+without_one_of y [] = refl
+without_one_of y (x ∷ xs) = grind (arith, nat_tests, without_one_of y xs, all_left)
   where
-    now : PrefixMap
-    now = cond (is_nothing left) (map.remove (map_of es) key) (map.insert (map_of es) key left)
+    all_left : (zs : List ℕ) → without_in_turn [] zs ≡ zs
+    all_left [] = refl
+    all_left (z ∷ zs) = refl
 
-    get_now : (k : List ℕ) → map.get now k ≡ cond (bytes k key) (kept left) (map.get (map_of es) k)
-    get_now k =
-        elim (is_nothing left) as (λ b. map.get
-        (cond b (map.remove (map_of es) key) (map.insert (map_of es) key left)) k
-        ≡ cond (bytes k key) (cond b None (Some left)) (map.get (map_of es) k)) [
-          | true ↦ map.get-remove nat_list_cmp_total (map_of es) key k
-          | false ↦ map.get-insert nat_list_cmp_total (map_of es) key left k
-        ]
+without_one : (kind : PatternKind) (serial : ℕ) (h : Held)
+    → without_serials kind (serial ∷ []) h ≡ without_serial kind serial h
+without_one Literal serial h i = (without_one_of serial h.0 i, h.1)
+without_one Prefixed serial h i = (h.0, without_one_of serial h.1 i)
 
-    at : (k : List ℕ) → kept (held_at new k) ≡ cond (bytes k key) (kept left) (map.get (map_of es) k)
-    at k = elim (bytes k key) as (λ b. bytes k key ≡ b
-        → kept (held_at new k) ≡ cond b (kept left) (map.get (map_of es) k)) [
-          | true ↦ λ e. ap kept (ap (held_at new) (same_bytes k key e) ∙ taken)
-          | false ↦ λ e. ap kept (elsewhere k (other_bytes k key e)) ∙ sym (found_of_held k es used) ∙ sym (get_of es k)
-        ] refl
+module _ (old new : Contents) (key : List ℕ) (neat : IsNeat old.1) where
+  module _ (f : Held → Held) (done : ChangedAt key f old new) where
+    left_get : (k : List ℕ) → map.get (cond (is_nothing (f (held (map_at old) key))) (map.remove (map_at old) key)
+        (map.insert (map_at old) key (f (held (map_at old) key)))) k ≡ kept (held_in k new)
+    left_get k = grind (arith, map.get-remove nat_list_cmp_total (map_at old) key k, map.get-insert nat_list_cmp_total (map_at old) key, bytes_decide k key, get_at old k neat, held_of_map key old neat, done.at, done.elsewhere k)
 
--- entries that hold at each key what others hold
-pub map_same : (es new : Entries) (key : List ℕ) → AllInUse es → AllInUse new → held_at new key ≡ held_at es key
-    → ((k : List ℕ) → k ≢ key → held_at new k ≡ held_at es k) → map_of new ≡ map_of es
-map_same es new key used new_used same elsewhere =
-    same_map new (map_of es) (λ k. found_of_held k new new_used ∙ ap kept (at k) ∙ sym (found_of_held k es used)
-    ∙ sym (get_of es k))
-  where
-    at : (k : List ℕ) → held_at new k ≡ held_at es k
-    at k = elim (bytes k key) as (λ b. bytes k key ≡ b → held_at new k ≡ held_at es k) [
-      | true ↦ λ e. subst (λ x. held_at new x ≡ held_at es x) (sym (same_bytes k key e)) same
-      | false ↦ λ e. elsewhere k (other_bytes k key e)
-    ] refl
+    left_of : map_at new ≡ cond (is_nothing (f (held (map_at old) key))) (map.remove (map_at old) key)
+        (map.insert (map_at old) key (f (held (map_at old) key)))
+    left_of = is_map new _ done.neat left_get
+
+  pub same_of : ChangedAt key (λ held. held) old new → map_at new ≡ map_at old
+  same_of done = is_map new (map_at old) done.neat (λ k. grind (arith, get_at, bytes_decide k key, done.at, done.elsewhere k))
+
+  module _ (kind : PatternKind) where
+    pub added_of : (serial : ℕ) → ChangedAt key (with_serial kind serial) old new
+        → map_at new ≡ added (map_at old) key kind serial
+    added_of serial done =
+        grind (arith, left_of (with_serial kind serial) done, with_some kind serial (held (map_at old) key), is_nothing_true)
+
+    pub removed_all_of : (serials : List ℕ) → ChangedAt key (without_serials kind serials) old new
+        → map_at new ≡ removed_all (map_at old) key kind serials
+    removed_all_of serials done = left_of (without_serials kind serials) done
+
+    pub removed_of : (serial : ℕ) → ChangedAt key (without_serials kind (serial ∷ [])) old new
+        → map_at new ≡ removed (map_at old) key kind serial
+    removed_of serial done = grind (arith, left_of, without_one kind serial (held (map_at old) key))

@@ -1,33 +1,23 @@
 -- How many bytes a tail and a key have in common at their beginning, and what stands behind them.
-use Rattle.std.proofs.Common.{◌≡◌, ◌≢◌, ◌<◌, ◌≤◌, ◌+◌, ℕ, suc, false, List, [], ◌∷◌, ◌++◌, take, drop, length, refl, sym, ap, ◌∙◌, subst, arith}
-use Rattle.std.proofs.lemmas.List.{length-drop, nil_from_length, take-append-drop, take_all}
+use Rattle.std.proofs.Common.{◌≡◌, ◌≢◌, ◌<◌, ◌+◌, ℕ, false, List, [], ◌∷◌, ◌++◌, take, drop, length, refl, sym, subst, arith}
+use Rattle.std.proofs.lemmas.List.{length-drop, take-append-drop, take_all}
 use Rattle.kob_prefix_tree.specs.declared.branch.Branch.{Branch}
 use Rattle.kob_prefix_tree.specs.declared.kind.PatternKind.{PatternKind}
 use Rattle.kob_prefix_tree.specs.Held.{Held, nothing, has_serials, without_serials}
 use Rattle.kob_prefix_tree.specs.Trie.{Contents, led_by}
-use Rattle.kob_prefix_tree.specs.Siblings.{behind_one, held_in, IsNeat}
+use Rattle.kob_prefix_tree.specs.Siblings.{held_in, IsNeat}
 use Rattle.kob_prefix_tree.specs.Contents.{contents, end_of}
 use Rattle.kob_prefix_tree.specs.Path.{Parts}
 use Rattle.kob_prefix_tree.specs.Change.{ChangedAt}
 use Rattle.kob_prefix_tree.specs.Way.{LeadsNowhere, EndsAt, kept_behind}
-use Rattle.kob_prefix_tree.proofs.SiblingLemmas.{at_past}
 use Rattle.kob_prefix_tree.proofs.ChangeLemmas.{changed_here}
 use Rattle.kob_prefix_tree.proofs.TailLemmas.{none_found, none_taken}
 use Rattle.kob_prefix_tree.proofs.WayLemmas.{held_inside, neat_inside, through}
+use Rattle.std.proofs.lemmas.Bool.Decides.{nat_tests}
 
 pub one_more : {x : ℕ} {tail key xs ys rest : List ℕ} (n : ℕ) → tail ≡ x ∷ xs → key ≡ x ∷ ys → Parts xs ys n rest
     → Parts tail key (n + 1) rest
-one_more {x} {tail} {key} {xs} {ys} {rest} n tail_is key_is parts =
-    let on : suc n ≡ n + 1 = omega arith in
-    subst (λ m. Parts tail key m rest) on
-    (subst (λ t. Parts t key (suc n) rest) (sym tail_is) (subst (λ k. Parts (x ∷ xs) k (suc n) rest) (sym key_is) both))
-  where
-    both : Parts (x ∷ xs) (x ∷ ys) (suc n) rest
-    both = record {
-      within = let least = parts.within in omega arith;
-      key_is = ap (λ bytes. x ∷ bytes) parts.key_is;
-      apart = parts.apart;
-    }
+one_more {x} {tail} {key} {xs} {ys} {rest} n tail_is key_is parts = grind arith
 
 -- a place where a tail and a key part
 module _ (was now : Branch) (key rest : List ℕ) (count : ℕ) (tail_is : now.tail ≡ was.tail)
@@ -35,44 +25,42 @@ module _ (was now : Branch) (key rest : List ℕ) (count : ℕ) (tail_is : now.t
     (none : count ≡ length was.tail → LeadsNowhere rest (end_of was)) where
   pub ends : EndsAt count rest now
   ends = record {
-    neat = subst (λ (c : Contents). IsNeat c.1) (λ i. led_by (sym tail_is i) (sym end_is i)) neat;
-    within = subst (λ bytes. count ≤ length bytes) (sym tail_is) parts.within;
+    neat = grind (arith, neat, tail_is, end_is);
+    within = grind (arith, parts.within, tail_is);
     nowhere = subst (LeadsNowhere rest) (λ i. led_by (drop count (sym tail_is i)) (sym end_is i))
-        (at (drop count was.tail) rest parts.apart (λ all. none (all_bytes all)));
+        (at (drop count was.tail) rest parts.apart (λ all. none (grind (arith, length-drop count was.tail, parts.within))));
   }
     where
-      all_bytes : drop count was.tail ≡ [] → count ≡ length was.tail
-      all_bytes all =
-          let left = sym (length-drop count was.tail) ∙ ap length all in let least = parts.within in omega arith
-
       at : (bytes rest : List ℕ)
           → ((b : ℕ) (more : List ℕ) → bytes ≡ b ∷ more → (byte : ℕ) (others : List ℕ) → rest ≡ byte ∷ others → byte ≢ b)
           → (bytes ≡ [] → LeadsNowhere rest (end_of was)) → LeadsNowhere rest (led_by bytes (end_of was))
       at [] rest apart none = none refl
       at (b ∷ bytes) [] apart none = tt
-      at (b ∷ bytes) (byte ∷ rest) apart none =
-          at_past byte b (led_by bytes (end_of was)) [] (λ same. apart b bytes refl byte rest refl (sym same))
+      at (b ∷ bytes) (byte ∷ rest) apart none = grind (arith, nat_tests, apart b bytes refl byte rest refl)
 
 -- the bytes of a tail in two parts
 pub led_by_both : (xs ys : List ℕ) (c : Contents) → led_by (xs ++ ys) c ≡ led_by xs (led_by ys c)
 led_by_both [] ys c = refl
-led_by_both (x ∷ xs) ys c = ap (λ (d : Contents). led_by (x ∷ []) d) (led_by_both xs ys c)
+led_by_both (x ∷ xs) ys c = cc (led_by_both xs ys c)
 
 pub led_by_parts : (n : ℕ) (tail : List ℕ) (c : Contents) → led_by tail c ≡ led_by (take n tail) (led_by (drop n tail) c)
-led_by_parts n tail c =
-    ap (λ bytes. led_by bytes c) (sym (take-append-drop n tail)) ∙ led_by_both (take n tail) (drop n tail) c
+led_by_parts n tail c = grind (arith, take-append-drop n tail, led_by_both (take n tail) (drop n tail) c)
 
 -- at a key that leads nowhere, or within the bytes of a tail, nothing is held
 pub nothing_at : (n : ℕ) (tail rest : List ℕ) (c : Contents) → LeadsNowhere rest (led_by (drop n tail) c)
     → (length rest ≡ 0 → n < length tail) → held_in (take n tail ++ rest) (led_by tail c) ≡ nothing
 nothing_at n tail rest c nowhere short =
-    ap (held_in (take n tail ++ rest)) (led_by_parts n tail c)
-    ∙ sym (held_inside (take n tail) rest (led_by (drop n tail) c))
-    ∙ at (drop n tail) rest nowhere (λ e. let less = short e in let left = length-drop n tail in omega arith)
+    grind (
+      arith,
+      led_by_parts n tail c,
+      held_inside (take n tail) rest (led_by (drop n tail) c),
+      at (drop n tail) rest nowhere,
+      length-drop n tail,
+    )
   where
     at : (bytes rest : List ℕ) → LeadsNowhere rest (led_by bytes c) → (length rest ≡ 0 → 0 < length bytes)
         → held_in rest (led_by bytes c) ≡ nothing
-    at bytes (byte ∷ rest) nowhere some = ap (behind_one (held_in rest)) nowhere
+    at bytes (byte ∷ rest) nowhere some = grind (arith, nowhere)
     at (b ∷ bytes) [] nowhere some = refl
     at [] [] nowhere some = absurd (let none = some refl in omega arith)
 
@@ -84,31 +72,22 @@ module _ (count : ℕ) (rest : List ℕ) (here : Branch) (end : EndsAt count res
   pub none_here : (kind : PatternKind) (serials : List ℕ) → (length rest ≡ 0 → count < length here.tail)
       → (false ≡ has_serials kind serials (held_in key (contents here)))
       × ChangedAt key (without_serials kind serials) (contents here) (contents here)
-  none_here kind serials short =
-      let none = nothing_at count here.tail rest (end_of here) end.nowhere short in (
-        none_found kind serials ∙ ap (has_serials kind serials) (sym none),
-        record {
-          neat = end.neat;
-          at = none ∙ none_taken kind serials ∙ ap (without_serials kind serials) (sym none);
-          elsewhere = λ other ne. refl;
-        },
-      )
+  none_here kind serials short = grind (arith, nat_tests, nothing_at count here.tail rest (end_of here) end.nowhere short, none_found kind serials, none_taken kind serials)
 
   -- the key ends with the bytes of the branch
   at_end : length rest ≡ 0 → count ≡ length here.tail → key ≡ here.tail ++ []
-  at_end none all =
-      (λ i. take_all count here.tail (omega arith) i ++ nil_from_length rest none i)
+  at_end none all = grind (arith, take_all)
 
   pub held_at_end : length rest ≡ 0 → count ≡ length here.tail → held_in key (contents here) ≡ (end_of here).0
-  held_at_end none all =
-      ap (λ k. held_in k (contents here)) (at_end none all) ∙ sym (held_inside here.tail [] (end_of here))
+  held_at_end none all = grind (arith, at_end, held_inside)
 
   pub changed_at_end : (f : Held → Held) {bytes : List ℕ} {after now : Contents} → length rest ≡ 0
       → count ≡ length here.tail → bytes ≡ here.tail → after ≡ (f (end_of here).0, (end_of here).1)
       → now ≡ kept_behind bytes after → ChangedAt key f (contents here) now
   changed_at_end f none all bytes_are after_is now_is =
-      let done = changed_here f (end_of here).0 (end_of here).1 (neat_inside here.tail (end_of here) end.neat) in
-      subst (ChangedAt key f (contents here)) (sym (now_is ∙ (λ i. kept_behind (bytes_are i) (after_is i))))
-      (subst (λ k. ChangedAt k f (contents here) (kept_behind here.tail (f (end_of here).0, (end_of here).1)))
-      (sym (at_end none all))
-      (through f here.tail [] (end_of here) (f (end_of here).0, (end_of here).1) end.neat done))
+      grind (
+        arith,
+        at_end none all,
+        through f here.tail [] (end_of here) (f (end_of here).0, (end_of here).1) end.neat,
+        changed_here f (end_of here).0 (end_of here).1 (neat_inside here.tail (end_of here) end.neat),
+      )

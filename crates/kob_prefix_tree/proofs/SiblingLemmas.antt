@@ -1,7 +1,7 @@
 -- Siblings, when one is changed, taken out or put in.
-use Rattle.std.proofs.Common.{◌≡◌, ◌≢◌, ℕ, ◌==◌, true, false, cond, List, [], ◌∷◌, None, Some, refl, sym, ap, ◌∙◌, subst}
+use Rattle.std.proofs.Common.{◌≡◌, ◌≢◌, ℕ, ◌==◌, false, cond, List, [], ◌∷◌, None, Some, refl, sym, ap, ◌∙◌, arith}
 use Rattle.std.proofs.Math.Bool.{true≢false}
-use Rattle.std.proofs.lemmas.Bool.{eqb-true, eq-eqb, ne_eqb}
+use Rattle.std.proofs.lemmas.Bool.{eq-eqb, ne_eqb}
 use Rattle.kob_prefix_tree.specs.Trie.{Trie, void, sibling, Contents, bare}
 use Rattle.kob_prefix_tree.specs.Siblings.{siblings, value_at, without, IsNeat}
 
@@ -22,13 +22,7 @@ module _ {A : Type 0} where
   pub at_without_other : (byte other : ℕ) (xs : List (ℕ × A)) → other ≢ byte
       → value_at other (without byte xs) ≡ value_at other xs
   at_without_other byte other [] ne = refl
-  at_without_other byte other (x ∷ xs) ne =
-      let rest = at_without_other byte other xs ne in
-      elim (x.0 == byte) as (λ b. x.0 == byte ≡ b
-      → value_at other (cond b xs (x ∷ without byte xs)) ≡ value_at other (x ∷ xs)) [
-        | true ↦ λ e. sym (at_past other x.0 x.1 xs (λ same. ne (sym same ∙ eqb-true x.0 byte e)))
-        | false ↦ λ e. ap (λ o. cond (x.0 == other) (Some x.1) o) rest
-      ] refl
+  at_without_other byte other (x ∷ xs) ne = grind (arith, at_without_other byte other xs ne)
 
 -- neat siblings, as a list
 abbrev pub AllNeat : List (ℕ × Contents) → Type 0
@@ -45,29 +39,14 @@ neat_tree (sibling first h below after) neat = (neat.0, (neat.1.0, (neat.1.1.0, 
 
 pub neat_without : (byte : ℕ) (ss : List (ℕ × Contents)) → AllNeat ss → AllNeat (without byte ss)
 neat_without byte [] neat = tt
-neat_without byte (s ∷ ss) neat =
-    let rest = neat_without byte ss neat.1.1.1 in
-    elim (s.0 == byte) as (λ b. s.0 == byte ≡ b → AllNeat (cond b ss (s ∷ without byte ss))) [
-      | true ↦ λ e. neat.1.1.1
-      | false ↦ λ e. (at_without_other byte s.0 ss (differ s.0 byte e) ∙ neat.0, (neat.1.0, (neat.1.1.0, rest)))
-    ] refl
+neat_without byte (s ∷ ss) neat = grind (arith, neat_without byte ss neat.1.1.1, at_without_other)
 
 -- the sibling taken out is gone
 pub at_without : (byte : ℕ) (ss : List (ℕ × Contents)) → AllNeat ss → value_at byte (without byte ss) ≡ None
 at_without byte [] neat = refl
-at_without byte (s ∷ ss) neat =
-    let rest = at_without byte ss neat.1.1.1 in
-    elim (s.0 == byte) as (λ b. s.0 == byte ≡ b → value_at byte (cond b ss (s ∷ without byte ss)) ≡ None) [
-      | true ↦ λ e. subst (λ b. value_at b ss ≡ None) (eqb-true s.0 byte e) neat.0
-      | false ↦ λ e. ap (λ b. cond b (Some s.1) (value_at byte (without byte ss))) e ∙ rest
-    ] refl
+at_without byte (s ∷ ss) neat = grind (arith, at_without byte ss neat.1.1.1)
 
 pub neat_at : (byte : ℕ) (v : Contents) (ss : List (ℕ × Contents)) → AllNeat ss → value_at byte ss ≡ Some v
     → (v ≢ bare) × IsNeat v.1
 neat_at byte v [] neat is = absurd (some_not_none v (sym is))
-neat_at byte v (s ∷ ss) neat is =
-    let rest = neat_at byte v ss neat.1.1.1 in
-    elim (s.0 == byte) as (λ b. cond b (Some s.1) (value_at byte ss) ≡ Some v → (v ≢ bare) × IsNeat v.1) [
-      | true ↦ λ e. let same : s.1 ≡ v = cc in subst (λ x. (x ≢ bare) × IsNeat x.1) same (neat.1.0, neat.1.1.0)
-      | false ↦ λ e. rest e
-    ] is
+neat_at byte v (s ∷ ss) neat is = grind (arith, neat_at byte v ss neat.1.1.1)

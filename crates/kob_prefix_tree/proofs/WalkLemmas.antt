@@ -1,5 +1,5 @@
 -- A walk, step by step.
-use Rattle.std.proofs.Common.{◌≡◌, ℕ, ◌+◌, List, [], ◌∷◌, ◌++◌, length, Option, None, Some, refl, ap, ◌∙◌, append_assoc}
+use Rattle.std.proofs.Common.{◌≡◌, ℕ, ◌+◌, List, [], ◌∷◌, ◌++◌, length, Option, None, Some, refl, ap, ◌∙◌, append_assoc, arith}
 use Rattle.std.specs.List.{flat_map}
 use Rattle.std.proofs.lemmas.List.Folds.{flat_map-map}
 use Rattle.kob_prefix_tree.specs.declared.serials.Unread.{Unread}
@@ -25,18 +25,13 @@ prefixes_longer (byte ∷ name) = refl
 pub serials_along_first : (held : List ℕ → Held) (name : List ℕ)
     → serials_along held name ≡ (held []).1
     ++ (flat_map (λ prefix. (held prefix).1) (longer_prefixes name) ++ (held name).0)
-serials_along_first held name =
-    ap (λ ps. flat_map (λ prefix. (held prefix).1) ps ++ (held name).0) (prefixes_longer name)
-    ∙ append_assoc (held []).1 (flat_map (λ prefix. (held prefix).1) (longer_prefixes name)) (held name).0
+serials_along_first held name = grind (arith, append_assoc)
 
 -- a child goes on
 pub serials_beyond_child : (held child : List ℕ → Held) (byte : ℕ) (name : List ℕ)
     → ((key : List ℕ) → held (byte ∷ key) ≡ child key)
     → serials_beyond held (byte ∷ name) ≡ (child []).1 ++ serials_beyond child name
-serials_beyond_child held child byte name is =
-    (λ i. flat_map-map (λ prefix. (held prefix).1) (λ prefix. byte ∷ prefix) (prefixes name) i ++ (is name i).0)
-    ∙ (λ i. flat_map (λ prefix. (is prefix i).1) (prefixes name) ++ (child name).0)
-    ∙ serials_along_first child name
+serials_beyond_child held child byte name is = grind (arith, serials_along_first child name, flat_map-map)
 
 nothing_along : (f : List ℕ → List ℕ) (ps : List (List ℕ)) → ((p : List ℕ) → f p ≡ []) → flat_map f ps ≡ []
 nothing_along f [] none = refl
@@ -44,16 +39,12 @@ nothing_along f (p ∷ ps) none = ap (λ ys. ys ++ flat_map f ps) (none p) ∙ n
 
 -- where nothing is held nothing is given
 pub serials_along_nothing : (name : List ℕ) → serials_along (λ key. nothing) name ≡ []
-serials_along_nothing name =
-    ap (λ ys. ys ++ []) (nothing_along (λ prefix. []) (prefixes name) (λ prefix. refl))
+serials_along_nothing name = grind (arith, nothing_along)
 
 -- without a child there is nothing more
 pub serials_beyond_none : (held : List ℕ → Held) (byte : ℕ) (name : List ℕ)
     → ((key : List ℕ) → held (byte ∷ key) ≡ nothing) → serials_beyond held (byte ∷ name) ≡ []
-serials_beyond_none held byte name none =
-    (λ i. flat_map-map (λ prefix. (held prefix).1) (λ prefix. byte ∷ prefix) (prefixes name) i ++ (none name i).0)
-    ∙ ap (λ ys. ys ++ []) (nothing_along (λ prefix. (held (byte ∷ prefix)).1) (prefixes name)
-    (λ p. ap (λ (h : Held). h.1) (none p)))
+serials_beyond_none held byte name none = grind (arith, flat_map-map, nothing_along)
 
 -- a walk whose list is used up, at a byte that leads nowhere, and at one that leads to a child
 module _ (serials : Unread) (ahead : Option Ahead) (a : Ahead) (byte : ℕ) (rest : List ℕ)
