@@ -1,4 +1,5 @@
 -- What stands in a list after one element is put in or taken out.
+use Rattle.std.proofs.lemmas.Bool.Decides.{nat_tests}
 use Rattle.std.proofs.Common.{◌≡◌, ◌⊎◌, ℕ, zero, suc, ◌≤◌, ◌<◌, List, [], ◌∷◌, Some, length, slice_get, refl, ap, inl, inr, arith}
 use Rattle.std.specs.List.{insert, remove}
 
@@ -15,13 +16,7 @@ module _ {X : Type 0} where
   inserted (head ∷ xs) zero x (suc k) y le there = inr (inr (k, refl, omega arith, there))
   inserted (head ∷ xs) (suc i) x zero y le there = inl (omega arith, there)
   inserted (head ∷ xs) (suc i) x (suc k) y le there =
-      elim (inserted xs i x k y (omega (arith, le)) there) [
-        | inl before ↦ inl (omega (arith, before.0), before.1)
-        | inr later ↦ (elim later [
-          | inl here ↦ inr (inl (ap suc here.0, here.1))
-          | inr after ↦ inr (inr (suc after.0, ap suc after.1, omega (arith, after.2), after.3))
-        ])
-      ]
+      grind (arith, nat_tests, inserted xs i x k y (omega (arith, le)) there)
 
   pub inserted_here : (xs : List X) (i : ℕ) (x : X) → i ≤ length xs → slice_get (insert xs i x) i ≡ Some x
   inserted_here [] zero x le = refl
@@ -44,11 +39,7 @@ module _ {X : Type 0} where
   removed_from [] (suc i) k y there = cc
   removed_from (head ∷ xs) zero k y there = inr (omega arith, there)
   removed_from (head ∷ xs) (suc i) zero y there = inl (omega arith, there)
-  removed_from (head ∷ xs) (suc i) (suc k) y there =
-      elim (removed_from xs i k y there) [
-        | inl before ↦ inl (omega (arith, before.0), before.1)
-        | inr after ↦ inr (omega (arith, after.0), after.1)
-      ]
+  removed_from (head ∷ xs) (suc i) (suc k) y there = grind (arith, nat_tests, removed_from xs i k y there)
 
   pub stays : (xs : List X) (i k : ℕ) (y : X) → (k ≡ i → ⊥) → slice_get xs k ≡ Some y
       → (p : ℕ) × (slice_get (remove xs i) p ≡ Some y)

@@ -1,4 +1,5 @@
 -- What entries are after a change, and that the names of no two are the same.
+use Rattle.std.proofs.lemmas.Bool.Decides.{nat_tests}
 use Rattle.std.proofs.Common.{◌≡◌, ℕ, suc, ◌+◌, ◌<◌, Bool, true, false, cond, List, [], ◌∷◌, Option, Some, None, is_some, length, set, slice_get, refl, ap, subst, ◌∙◌, arith, zero}
 use Rattle.std.specs.Cmp.Lexicographic.{nat_list_eq_equiv}
 use Rattle.std.specs.List.{AllByRecursion, IsDistinct}
@@ -17,8 +18,7 @@ pub one_name : (name x y : List ℕ) → same_text name x ≡ true → same_text
 one_name name x y is = ap (λ n. same_text n y) (equal_names name x is)
 
 pub none_of : {X : Type 0} (o : Option X) → is_some o ≡ false → o ≡ None
-none_of None is = refl
-none_of (Some x) is = cc
+none_of x0 is = grind (arith, nat_tests)
 
 pub hole_at : {V : Type 0} (slots : List (Slot V)) (place : ℕ) → place < length slots
     → slice_get (set slots place Hole) place ≡ Some Hole
@@ -30,13 +30,7 @@ hole_at (slot ∷ slots) (suc place) lt = hole_at slots place (omega (arith, lt)
 pub removed_absent : {V : Type 0} (name : List ℕ) (es : List (List ℕ × V)) → lookup (same_text name) es ≡ None
     → remove_entry (same_text name) es ≡ es
 removed_absent name [] none = refl
-removed_absent name (e ∷ es) none = by (same_text name e.0) none (removed_absent name es)
-  where
-    by : (hit : Bool) → cond hit (Some e.1) (lookup (same_text name) es) ≡ None
-        → (lookup (same_text name) es ≡ None → remove_entry (same_text name) es ≡ es)
-        → cond hit es (e ∷ remove_entry (same_text name) es) ≡ e ∷ es
-    by true none rest = cc
-    by false none rest = ap (λ fs. e ∷ fs) (rest none)
+removed_absent name (e ∷ es) none = grind (arith, nat_tests, removed_absent name es)
 
 -- a name that was taken away
 pub gone : {V : Type 0} (name : List ℕ) (es : List (List ℕ × V)) → IsDistinct same_text (keys_of es)
@@ -48,13 +42,7 @@ gone name es distinct =
 pub length_removed : {V : Type 0} (name : List ℕ) (es : List (List ℕ × V)) (value : V)
     → lookup (same_text name) es ≡ Some value → length (remove_entry (same_text name) es) + 1 ≡ length es
 length_removed name [] value found = cc
-length_removed name (e ∷ es) value found = by (same_text name e.0) found (length_removed name es value)
-  where
-    by : (hit : Bool) → cond hit (Some e.1) (lookup (same_text name) es) ≡ Some value
-        → (lookup (same_text name) es ≡ Some value → length (remove_entry (same_text name) es) + 1 ≡ length es)
-        → length (cond hit es (e ∷ remove_entry (same_text name) es)) + 1 ≡ length (e ∷ es)
-    by true here rest = omega arith
-    by false later rest = omega (arith, rest later)
+length_removed name (e ∷ es) value found = grind (arith, nat_tests, length_removed name es value)
 
 all_removed : {V : Type 0} (name : List ℕ) (P : List ℕ → Type 0) (es : List (List ℕ × V))
     → AllByRecursion P (keys_of es) → AllByRecursion P (keys_of (remove_entry (same_text name) es))

@@ -1,5 +1,6 @@
 -- How names compare.
-use Rattle.std.proofs.Common.{◌≡◌, ℕ, ◌≤◌, true, List, refl, sym, ap, subst, ◌∙◌, arith}
+use Rattle.std.proofs.lemmas.Bool.Decides.{nat_tests}
+use Rattle.std.proofs.Common.{◌≡◌, ℕ, ◌≤◌, List, refl, sym, ap, subst, ◌∙◌, arith}
 use Rattle.std.specs.Cmp.Lexicographic.{nat_list_cmp_total}
 use Rattle.std.specs.declared.cmp.Ordering.{Ordering}
 use Rattle.std.specs.declared.cmp.Ordering.TheVariants.{Less, Equal, Greater}
@@ -12,12 +13,7 @@ pub equal_from_order : (n m : List ℕ) → name_order n m ≡ Equal → n ≡ m
 equal_from_order n m is = equal_names n m (sym (is_eq-slice_cmp n m) ∙ ap is_eq is)
 
 pub order_of_equal : (n : List ℕ) → name_order n n ≡ Equal
-order_of_equal n = by (name_order n n) (is_eq-slice_cmp n n ∙ same_name n n refl)
-  where
-    by : (o : Ordering) → is_eq o ≡ true → o ≡ Equal
-    by Less is = cc
-    by Equal is = refl
-    by Greater is = cc
+order_of_equal n = grind (arith, nat_tests, is_eq-slice_cmp n n, same_name n n refl)
 
 pub not_before_itself : (n : List ℕ) → name_order n n ≡ Less → ⊥
 not_before_itself n less = let same = order_of_equal n in cc

@@ -1,4 +1,5 @@
 -- Where the entries of slots stand, and what a change of one slot does to them.
+use Rattle.std.proofs.lemmas.Bool.Decides.{nat_tests}
 use Rattle.std.proofs.Common.{◌≡◌, ◌⊎◌, ℕ, zero, suc, Bool, true, false, cond, List, [], ◌∷◌, ◌++◌, Some, IsSome, is_some, filter, length, set, slice_get, refl, sym, ap, ◌∙◌, inl, inr, arith}
 use Rattle.std.specs.Map.{lookup, remove_entry, set_value}
 use Rattle.std.proofs.lemmas.Slice.Eq.{bytes_eq-Decides}
@@ -54,10 +55,7 @@ module _ {V : Type 0} where
       → lookup (same_text name) (entries_in slots) ≡ Some value
   found_at [] name place value there only = cc
   found_at (Hole ∷ slots) name zero value there only = cc
-  found_at (Entry head other ∷ slots) name zero value there only =
-      let same : head ≡ name = cc in let is : other ≡ value = cc in
-      ap (λ b. cond b (Some other) (lookup (same_text name) (entries_in slots))) (same_name name head (sym same))
-      ∙ ap Some is
+  found_at (Entry head other ∷ slots) name zero value there only = grind (arith, nat_tests, same_name)
   found_at (Hole ∷ slots) name (suc place) value there only =
       found_at slots name place value there (only_later Hole slots name place only)
   found_at (Entry head other ∷ slots) name (suc place) value there only =
@@ -71,17 +69,17 @@ module _ {V : Type 0} where
       → entries_in (set slots place Hole) ≡ remove_entry (same_text name) (entries_in slots)
   holed_at [] name place value there only = cc
   holed_at (Hole ∷ slots) name zero value there only = cc
-  holed_at (Entry head other ∷ slots) name zero value there only =
-      let same : head ≡ name = cc in
-      sym (ap (λ b. cond b (entries_in slots) ((head, other) ∷ remove_entry (same_text name) (entries_in slots)))
-      (same_name name head (sym same)))
+  holed_at (Entry head other ∷ slots) name zero value there only = grind (arith, nat_tests, same_name)
   holed_at (Hole ∷ slots) name (suc place) value there only =
       holed_at slots name place value there (only_later Hole slots name place only)
   holed_at (Entry head other ∷ slots) name (suc place) value there only =
-      ap (λ es. (head, other) ∷ es)
-      (holed_at slots name place value there (only_later (Entry head other) slots name place only))
-      ∙ sym (ap (λ b. cond b (entries_in slots) ((head, other) ∷ remove_entry (same_text name) (entries_in slots)))
-      (other_name head other slots name place only))
+      grind (
+        arith,
+        nat_tests,
+        holed_at slots name place value there (only_later (Entry head other) slots name place only),
+        only_later (Entry head other) slots name place only,
+        other_name head other slots name place only,
+      )
 
   -- another value in the place of an entry's
   pub written_at : (slots : List (Slot V)) (name : List ℕ) (place : ℕ) (value w : V)
@@ -89,20 +87,17 @@ module _ {V : Type 0} where
       → entries_in (set slots place (Entry name w)) ≡ set_value (same_text name) (entries_in slots) w
   written_at [] name place value w there only = cc
   written_at (Hole ∷ slots) name zero value w there only = cc
-  written_at (Entry head other ∷ slots) name zero value w there only =
-      let same : head ≡ name = cc in
-      ap (λ n. (n, w) ∷ entries_in slots) (sym same)
-      ∙ sym (ap (λ b. cond b ((head, w) ∷ entries_in slots)
-      ((head, other) ∷ set_value (same_text name) (entries_in slots) w))
-      (same_name name head (sym same)))
+  written_at (Entry head other ∷ slots) name zero value w there only = grind (arith, nat_tests, same_name)
   written_at (Hole ∷ slots) name (suc place) value w there only =
       written_at slots name place value w there (only_later Hole slots name place only)
   written_at (Entry head other ∷ slots) name (suc place) value w there only =
-      ap (λ es. (head, other) ∷ es)
-      (written_at slots name place value w there (only_later (Entry head other) slots name place only))
-      ∙ sym (ap (λ b. cond b ((head, w) ∷ entries_in slots)
-      ((head, other) ∷ set_value (same_text name) (entries_in slots) w))
-      (other_name head other slots name place only))
+      grind (
+        arith,
+        nat_tests,
+        written_at slots name place value w there (only_later (Entry head other) slots name place only),
+        only_later (Entry head other) slots name place only,
+        other_name head other slots name place only,
+      )
 
   -- an entry put last
   pub pushed : (slots : List (Slot V)) (name : List ℕ) (value : V)
@@ -117,11 +112,7 @@ module _ {V : Type 0} where
   pushed_slot [] slot zero x there = inr (refl, cc)
   pushed_slot [] slot (suc place) x there = cc
   pushed_slot (head ∷ slots) slot zero x there = inl there
-  pushed_slot (head ∷ slots) slot (suc place) x there =
-      elim (pushed_slot slots slot place x there) [
-        | inl before ↦ inl before
-        | inr last ↦ inr (ap suc last.0, last.1)
-      ]
+  pushed_slot (head ∷ slots) slot (suc place) x there = grind (arith, nat_tests, pushed_slot slots slot place x there)
 
   -- the entry where a name stands
   pub entry_at : (slots : List (Slot V)) (place : ℕ) (name : List ℕ)
@@ -130,15 +121,13 @@ module _ {V : Type 0} where
   entry_at (Hole ∷ slots) zero name is = cc
   entry_at (Entry head value ∷ slots) zero name is =
       let same : head ≡ name = cc in record { value = value; there = ap (λ n. Some (Entry n value)) same }
-  entry_at (head ∷ slots) (suc place) name is =
-      let later = entry_at slots place name is in record { value = later.value; there = later.there }
+  entry_at (head ∷ slots) (suc place) name is = grind (arith, nat_tests, entry_at slots place name is)
 
   pub names_written : (slots : List (Slot V)) (place : ℕ) (name : List ℕ) (value w : V)
       → slice_get slots place ≡ Some (Entry name value)
       → names_in (set slots place (Entry name w)) ≡ names_in slots
   names_written [] place name value w there = cc
-  names_written (head ∷ slots) zero name value w there =
-      let same : head ≡ Entry name value = cc in ap (λ s. named s ∷ names_in slots) (sym same)
+  names_written (head ∷ slots) zero name value w there = grind (arith, nat_tests)
   names_written (head ∷ slots) (suc place) name value w there =
       ap (λ ns. named head ∷ ns) (names_written slots place name value w there)
 
@@ -156,7 +145,4 @@ module _ {V : Type 0} where
   slot_after_write (head ∷ slots) zero slot (suc other) x there = inl there
   slot_after_write (head ∷ slots) (suc place) slot zero x there = inl there
   slot_after_write (head ∷ slots) (suc place) slot (suc other) x there =
-      elim (slot_after_write slots place slot other x there) [
-        | inl before ↦ inl before
-        | inr here ↦ inr (ap suc here.0, here.1)
-      ]
+      grind (arith, nat_tests, slot_after_write slots place slot other x there)

@@ -1,4 +1,5 @@
 -- What a search among the places in order of their names has found.
+use Rattle.std.proofs.lemmas.Bool.Decides.{nat_tests}
 use Rattle.std.proofs.Common.{◌≡◌, ℕ, ◌<◌, ◌≤◌, Bool, true, false, List, Some, IfOk, IfErr, Result, Ok, Err, is_ok, is_some, length, get_or, slice_get, refl, sym, ap, subst, ◌∙◌, inl, inr, arith}
 use Rattle.std.specs.List.Sorted.{IsBinarySearchResult, IsNonDecreasingBy, IsSearchInRange}
 use Rattle.std.specs.Map.{lookup}
@@ -21,14 +22,10 @@ module _ {V : Type 0} (slots : List (Slot V)) (by_name : List ℕ) (name : List 
 
   compared_at : (k d : ℕ) (n : List ℕ) (v : V) → Nth slots by_name k n v
       → compared (get_or by_name k d) ≡ name_order n name
-  compared_at k d n v nth =
-      ap compared (get_or_from_slice_get by_name k nth.place d nth.listed) ∙ ap (order_of name) nth.stands
+  compared_at k d n v nth = grind (arith, nat_tests, get_or_from_slice_get)
 
   nth_of : (k : ℕ) → k < length by_name → (n : List ℕ) × (v : V) × Nth slots by_name k n v
-  nth_of k lt =
-      let listed = slice_get-get_or by_name k 0 lt in
-      let entry = sound.stand k (get_or by_name k 0) listed in
-      (entry.0, entry.1, record { place = get_or by_name k 0; listed = listed; stands = entry.2 })
+  nth_of k lt = grind (arith, nat_tests, slice_get-get_or by_name k 0 lt)
 
   non_decreasing : IsNonDecreasingBy (λ place. ordering_index (compared place)) by_name
   non_decreasing i j d le lt = by (nth_of i (omega (arith, le, lt))) (nth_of j lt)
@@ -106,14 +103,5 @@ pub record Taken {V : Type 0} (slots : List (Slot V)) (by_name : List ℕ) (name
 pub taken_at : {V : Type 0} (slots read : List (Slot V)) (by_name names : List ℕ) (name : List ℕ) (i place : ℕ)
     → read ≡ slots → names ≡ by_name → IsAt read names name i → place ≡ get_or by_name i place
     → Taken slots by_name name i place
-taken_at {V} slots read by_name names name i place same_slots same_names at is = record {
-  value = here.value;
-  listed = here.nth.listed ∙ ap Some (sym same);
-  there = ap (slice_get slots) same ∙ here.nth.stands;
-}
-  where
-    here : IsAt slots by_name name i
-    here = subst (λ ns. IsAt slots ns name i) same_names (subst (λ xs. IsAt xs names name i) same_slots at)
-
-    same : place ≡ here.nth.place
-    same = is ∙ get_or_from_slice_get by_name i here.nth.place place here.nth.listed
+taken_at {V} slots read by_name names name i place same_slots same_names at is =
+    grind (arith, nat_tests, get_or_from_slice_get)

@@ -1,5 +1,7 @@
 -- What entries show whose values are seen by a part of them, and what is read of them without a name.
-use Rattle.std.proofs.Common.{◌≡◌, Bool, true, false, cond, not, ℕ, filter, List, [], ◌∷◌, Option, Some, None, is_some, map, option_map, refl, sym, ap, ◌∙◌}
+use Rattle.std.proofs.Common.{arith}
+use Rattle.std.proofs.lemmas.Bool.Decides.{nat_tests}
+use Rattle.std.proofs.Common.{◌≡◌, Bool, true, false, cond, not, ℕ, filter, List, [], ◌∷◌, Option, None, is_some, map, option_map, refl, sym, ap, ◌∙◌}
 use Rattle.std.proofs.lemmas.Map.Entries.{lookup-filter-keys}
 use Rattle.std.specs.Map.{lookup, remove_entry, set_value}
 use Rattle.kob_names.specs.Same.{same_text}
@@ -9,61 +11,30 @@ use Rattle.kob_ordered.proofs.Places.{equal_names}
 pub map_filter : {A B : Type 0} (f : A → B) (test : B → Bool) (xs : List A)
     → map f (filter (λ x. test (f x)) xs) ≡ filter test (map f xs)
 map_filter f test [] = refl
-map_filter f test (x ∷ xs) = by (test (f x)) (map_filter f test xs)
-  where
-    by : (b : Bool) → map f (filter (λ x. test (f x)) xs) ≡ filter test (map f xs)
-        → map f (cond b (x ∷ filter (λ x. test (f x)) xs) (filter (λ x. test (f x)) xs))
-        ≡ cond b (f x ∷ filter test (map f xs)) (filter test (map f xs))
-    by true rest = ap (λ ys. f x ∷ ys) rest
-    by false rest = rest
+map_filter f test (x ∷ xs) = grind (arith, nat_tests, map_filter f test xs)
 
 pub some_mapped : {X Y : Type 0} (f : X → Y) (found : Option X) → is_some (option_map f found) ≡ is_some found
-some_mapped f None = refl
-some_mapped f (Some x) = refl
+some_mapped f x1 = grind (arith, nat_tests)
 
 module _ {K X : Type 0} (test : K → Bool) where
   pub set_value_mapped : {Y : Type 0} (f : X → Y) (entries : List (K × X)) (x : X)
       → map (λ entry. (entry.0, f entry.1)) (set_value test entries x)
       ≡ set_value test (map (λ entry. (entry.0, f entry.1)) entries) (f x)
   set_value_mapped f [] x = refl
-  set_value_mapped f (entry ∷ entries) x = by (test entry.0) (set_value_mapped f entries x)
-    where
-      by : (hit : Bool) → map (λ e. (e.0, f e.1)) (set_value test entries x)
-          ≡ set_value test (map (λ e. (e.0, f e.1)) entries) (f x)
-          → map (λ e. (e.0, f e.1)) (cond hit ((entry.0, x) ∷ entries) (entry ∷ set_value test entries x))
-          ≡ cond hit ((entry.0, f x) ∷ map (λ e. (e.0, f e.1)) entries)
-          ((entry.0, f entry.1) ∷ set_value test (map (λ e. (e.0, f e.1)) entries) (f x))
-      by true rest = refl
-      by false rest = ap (λ es. (entry.0, f entry.1) ∷ es) rest
+  set_value_mapped f (entry ∷ entries) x = grind (arith, nat_tests, set_value_mapped f entries x)
 
   abbrev others : List (K × X) → List (K × X)
   others entries = filter (λ entry. not (test entry.0)) entries
 
   absent_kept : (entries : List (K × X)) → lookup test entries ≡ None → entries ≡ others entries
   absent_kept [] none = refl
-  absent_kept (entry ∷ entries) none = by (test entry.0) none (absent_kept entries)
-    where
-      by : (hit : Bool) → cond hit (Some entry.1) (lookup test entries) ≡ None
-          → (lookup test entries ≡ None → entries ≡ others entries)
-          → entry ∷ entries ≡ cond (not hit) (entry ∷ others entries) (others entries)
-      by true none rest = cc
-      by false none rest = ap (λ es. entry ∷ es) (rest none)
+  absent_kept (entry ∷ entries) none = grind (arith, nat_tests, absent_kept entries)
 
   -- an entry that is taken out, of whose name there was no other
   pub removed_others : (entries : List (K × X)) → lookup test (remove_entry test entries) ≡ None
       → remove_entry test entries ≡ filter (λ entry. not (test entry.0)) entries
   removed_others [] gone = refl
-  removed_others (entry ∷ entries) gone = by (test entry.0) refl gone (removed_others entries)
-    where
-      by : (hit : Bool) → test entry.0 ≡ hit
-          → lookup test (cond hit entries (entry ∷ remove_entry test entries)) ≡ None
-          → (lookup test (remove_entry test entries) ≡ None → remove_entry test entries ≡ others entries)
-          → cond hit entries (entry ∷ remove_entry test entries)
-          ≡ cond (not hit) (entry ∷ others entries) (others entries)
-      by true is gone rest = absent_kept entries gone
-      by false is gone rest =
-          ap (λ es. entry ∷ es)
-          (rest (sym (ap (λ b. cond b (Some entry.1) (lookup test (remove_entry test entries))) is) ∙ gone))
+  removed_others (entry ∷ entries) gone = grind (arith, nat_tests, removed_others entries, absent_kept)
 
 -- what is found among the entries without those of a name
 pub lookup_without : {X : Type 0} (name other : List ℕ) (entries : List (List ℕ × X))

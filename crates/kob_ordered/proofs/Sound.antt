@@ -1,4 +1,5 @@
 -- How each change keeps the places of the entries in order of their names.
+use Rattle.std.proofs.lemmas.Bool.Decides.{nat_tests}
 use Rattle.std.proofs.Common.{◌≡◌, ◌⊎◌, ℕ, zero, suc, ◌+◌, ◌<◌, ◌≤◌, cond, List, [], ◌∷◌, ◌++◌, Some, None, filter, length, set, slice_get, slice_index_or, take, is_some, refl, sym, ap, subst, ◌∙◌, inl, inr, arith, length-append}
 use Rattle.std.specs.Cmp.Lexicographic.{nat_list_eq_equiv}
 use Rattle.std.specs.List.{IsDistinct, insert, remove}
@@ -49,13 +50,7 @@ unfolding IsDistinct
 none_twice = tt
 
 pub sound_empty : {V : Type 0} → IsSound {V = V} [] []
-sound_empty = record {
-  rising = λ i j n m v w lt first second. let isnt = first.listed in cc;
-  stand = λ i place at. cc;
-  all = λ place name value there. cc;
-  distinct = none_twice;
-  counted = refl;
-}
+sound_empty = grind (arith, nat_tests, none_twice)
 
 module _ {V : Type 0} where
   old_slot : (slots : List (Slot V)) (slot : Slot V) (place : ℕ) (x y : Slot V) → slice_get slots place ≡ Some y
@@ -90,12 +85,7 @@ module _ {V : Type 0} (slots : List (Slot V)) (by_name : List ℕ) (sound : IsSo
 
     was : (k p : ℕ) (n : List ℕ) (v : V) → slice_get by_name k ≡ Some p → slice_get more p ≡ Some (Entry n v)
         → Nth slots by_name k n v
-    was k p n v at there =
-        let entry = sound.stand k p at in record {
-          place = p;
-          listed = at;
-          stands = old_slot slots (Entry name value) p (Entry n v) (Entry entry.0 entry.1) entry.2 there;
-        }
+    was k p n v at there = grind (arith, nat_tests, old_slot)
 
     abbrev Was : ℕ → List ℕ → V → Type 0
     Was k n v = ((k < i) × Nth slots by_name k n v) ⊎ (((k ≡ i) × (n ≡ name))
@@ -103,17 +93,7 @@ module _ {V : Type 0} (slots : List (Slot V)) (by_name : List ℕ) (sound : IsSo
 
     nth_before : (k : ℕ) (n : List ℕ) (v : V) → Nth more listed k n v → Was k n v
     nth_before k n v nth =
-        elim (inserted by_name i (length slots) k nth.place gap.within nth.listed) [
-          | inl before ↦ inl (before.0, was k nth.place n v before.1 nth.stands)
-          | inr later ↦ (elim later [
-            | inl here ↦ inr (inl (
-              here.0,
-              last_name slots name n value v
-                  (subst (λ p. slice_get more p ≡ Some (Entry n v)) here.1 nth.stands),
-            ))
-            | inr after ↦ inr (inr (after.0, after.1, after.2, was after.0 nth.place n v after.3 nth.stands))
-          ])
-        ]
+        grind (arith, nat_tests, inserted by_name i (length slots) k nth.place gap.within nth.listed, was, last_name)
 
     above : (p : ℕ) (n m : List ℕ) (w : V) → n ≡ name → i ≤ p → Nth slots by_name p m w → name_order n m ≡ Less
     above p n m w is le nth = subst (λ k. name_order k m ≡ Less) (sym is) (gap.after p m w le nth)
@@ -142,9 +122,7 @@ module _ {V : Type 0} (slots : List (Slot V)) (by_name : List ℕ) (sound : IsSo
     Stood p = (n : List ℕ) × (v : V) × (slice_get more p ≡ Some (Entry n v))
 
     stand_more : (k p : ℕ) → slice_get by_name k ≡ Some p → Stood p
-    stand_more k p at =
-        let entry = sound.stand k p at in
-        (entry.0, entry.1, still_slot slots (Entry name value) p (Entry entry.0 entry.1) entry.2)
+    stand_more k p at = grind (arith, nat_tests, still_slot)
 
     stand : (k p : ℕ) → slice_get listed k ≡ Some p → Stood p
     stand k p at =
@@ -191,16 +169,10 @@ module _ {V : Type 0} (slots : List (Slot V)) (by_name : List ℕ) (sound : IsSo
 
     was_slot : (p : ℕ) (n : List ℕ) (v : V) → slice_get holed p ≡ Some (Entry n v)
         → slice_get slots p ≡ Some (Entry n v)
-    was_slot p n v found =
-        elim (slot_after_write slots place Hole p (Entry n v) found) [
-          | inl before ↦ before
-          | inr here ↦ (let isnt = here.1 in cc)
-        ]
+    was_slot p n v found = grind (arith, nat_tests, slot_after_write)
 
     elsewhere : (p : ℕ) (n : List ℕ) (v : V) → slice_get holed p ≡ Some (Entry n v) → p ≡ place → ⊥
-    elsewhere p n v found same =
-        let hole = hole_at slots place (slice_get_within slots place (Entry name value) there) in
-        let filled = subst (λ q. slice_get holed q ≡ Some (Entry n v)) same found in cc
+    elsewhere p n v found same = grind (arith, nat_tests, hole_at, slice_get_within)
 
     other_slot : (xs : List (Slot V)) (p q : ℕ) (x : Slot V) → (p ≡ q → ⊥) → slice_get xs p ≡ Some x
         → slice_get (set xs q Hole) p ≡ Some x
@@ -217,32 +189,10 @@ module _ {V : Type 0} (slots : List (Slot V)) (by_name : List ℕ) (sound : IsSo
     nth_was : (k : ℕ) (n : List ℕ) (v : V) → Nth holed fewer k n v
         → (old : ℕ) × moved k old × Nth slots by_name old n v
     nth_was k n v nth =
-        elim (removed_from by_name i k nth.place nth.listed) [
-          | inl before ↦ (
-            k,
-            inl (before.0, refl),
-            record {
-              place = nth.place;
-              listed = before.1;
-              stands = was_slot nth.place n v nth.stands;
-            },
-          )
-          | inr after ↦ (
-            suc k,
-            inr (after.0, refl),
-            record {
-              place = nth.place;
-              listed = after.1;
-              stands = was_slot nth.place n v nth.stands;
-            },
-          )
-        ]
+        grind (arith, nat_tests, removed_from by_name i k nth.place nth.listed, was_slot nth.place n v nth.stands)
 
     kept_order : (j k a b : ℕ) → j < k → moved j a → moved k b → a < b
-    kept_order j k a b lt (inl x) (inl y) = omega (arith, lt, x.1, y.1)
-    kept_order j k a b lt (inl x) (inr y) = omega (arith, lt, x.1, y.1)
-    kept_order j k a b lt (inr x) (inl y) = absurd (omega (arith, lt, x.0, y.0))
-    kept_order j k a b lt (inr x) (inr y) = omega (arith, lt, x.1, y.1)
+    kept_order j k a b lt x5 x6 = grind (arith, nat_tests)
 
     rising_fewer : (j k : ℕ) (n m : List ℕ) (v w : V) → j < k → Nth holed fewer j n v → Nth holed fewer k m w
         → name_order n m ≡ Less
@@ -252,21 +202,7 @@ module _ {V : Type 0} (slots : List (Slot V)) (by_name : List ℕ) (sound : IsSo
 
     stand_fewer : (k p : ℕ) → slice_get fewer k ≡ Some p
         → (n : List ℕ) × (v : V) × (slice_get holed p ≡ Some (Entry n v))
-    stand_fewer k p found =
-        elim (removed_from by_name i k p found) [
-          | inl before ↦ by k (λ same. omega (arith, same, before.0)) before.1
-          | inr after ↦ by (suc k) (λ same. omega (arith, same, after.0)) after.1
-        ]
-      where
-        by : (old : ℕ) → (old ≡ i → ⊥) → slice_get by_name old ≡ Some p
-            → (n : List ℕ) × (v : V) × (slice_get holed p ≡ Some (Entry n v))
-        by old other listed =
-            let entry = sound.stand old p listed in (
-              entry.0,
-              entry.1,
-              other_slot slots p place (Entry entry.0 entry.1)
-                  (λ same. other (listed_once slots by_name sound old i p listed (at ∙ ap Some (sym same)))) entry.2,
-            )
+    stand_fewer k p found = grind (arith, nat_tests, removed_from by_name i k p found, other_slot, listed_once)
 
     all_fewer : (p : ℕ) (n : List ℕ) (v : V) → slice_get holed p ≡ Some (Entry n v)
         → (k : ℕ) × (slice_get fewer k ≡ Some p)
@@ -305,12 +241,7 @@ module _ {V : Type 0} (slots : List (Slot V)) (by_name : List ℕ) (sound : IsSo
 
     old_entry : (p : ℕ) (n : List ℕ) (v : V) → slice_get wrote p ≡ Some (Entry n v)
         → (u : V) × (slice_get slots p ≡ Some (Entry n u))
-    old_entry p n v found =
-        elim (slot_after_write slots place (Entry name w) p (Entry n v) found) [
-          | inl before ↦ (v, before)
-          | inr here ↦ (let same : n ≡ name = let is = here.1 in cc in
-              (value, ap (slice_get slots) here.0 ∙ there ∙ ap (λ q. Some (Entry q value)) (sym same)))
-        ]
+    old_entry p n v found = grind (arith, nat_tests, slot_after_write)
 
     new_entry : (xs : List (Slot V)) (p q : ℕ) (n : List ℕ) (v u : V) → slice_get xs q ≡ Some (Entry name u)
         → slice_get xs p ≡ Some (Entry n v) → (x : V) × (slice_get (set xs q (Entry name w)) p ≡ Some (Entry n x))
@@ -322,9 +253,7 @@ module _ {V : Type 0} (slots : List (Slot V)) (by_name : List ℕ) (sound : IsSo
     new_entry (head ∷ xs) (suc p) (suc q) n v u here found = new_entry xs p q n v u here found
 
     old_nth : (k : ℕ) (n : List ℕ) (v : V) → Nth wrote by_name k n v → (u : V) × Nth slots by_name k n u
-    old_nth k n v nth =
-        let old = old_entry nth.place n v nth.stands in
-        (old.0, record { place = nth.place; listed = nth.listed; stands = old.1 })
+    old_nth k n v nth = grind (arith, nat_tests, old_entry)
 
     pub written : entries_in (set slots place (Entry name w)) ≡ set_value (same_text name) (entries_in slots) w
     written = written_at slots name place value w there (only_one slots by_name sound name place value there)
@@ -346,9 +275,7 @@ module _ {V : Type 0} (slots : List (Slot V)) (by_name : List ℕ) (sound : IsSo
 -- a listed place has a slot
 pub within_slots : {V : Type 0} (slots : List (Slot V)) (by_name : List ℕ) → IsSound slots by_name
     → (k : ℕ) → k < length by_name → slice_index_or by_name k 0 < length slots
-within_slots slots by_name sound k lt =
-    let entry = sound.stand k (slice_index_or by_name k 0) (slice_get-get_or by_name k 0 lt) in
-    slice_get_within slots (slice_index_or by_name k 0) (Entry entry.0 entry.1) entry.2
+within_slots slots by_name sound k lt = grind (arith, nat_tests, slice_get-get_or, slice_get_within)
 
 -- the holes taken away
 module _ {V : Type 0} where
@@ -374,26 +301,22 @@ module _ {V : Type 0} where
 pub rank_next : {V : Type 0} (slots : List (Slot V)) (i : ℕ) (x : Slot V) → slice_get slots i ≡ Some x
     → rank slots (i + 1) ≡ cond (is_entry x) (rank slots i + 1) (rank slots i)
 rank_next {V} slots i x there =
-    ap (λ xs. length (filter is_entry xs)) (take_more slots i x (slice_get_within slots i x there)
-    ∙ ap (λ y. take i slots ++ y ∷ []) (get_or_from_slice_get slots i x x there))
-    ∙ ap length (filter-append is_entry (take i slots) (x ∷ []))
-    ∙ length-append (filter is_entry (take i slots)) (filter is_entry (x ∷ [])) ∙ by x
-  where
-    by : (x : Slot V) → rank slots i + length (filter is_entry (x ∷ [])) ≡ cond (is_entry x) (rank slots i + 1) (rank slots i)
-    by Hole = omega arith
-    by (Entry name value) = refl
+    grind (
+      arith,
+      nat_tests,
+      take_more slots i x (slice_get_within slots i x there),
+      slice_get_within slots i x there,
+      get_or_from_slice_get slots i x x there,
+      filter-append is_entry (take i slots) (x ∷ []),
+      length-append (filter is_entry (take i slots)) (filter is_entry (x ∷ [])),
+    )
 
 -- one more rank put last
 pub ranked_more : {V : Type 0} (slots : List (Slot V)) (ranks : List ℕ) (i r : ℕ) → length ranks ≡ i
     → r ≡ rank slots i → ((place : ℕ) → place < i → slice_index_or ranks place 0 ≡ rank slots place)
     → (place : ℕ) → place < i + 1 → slice_index_or (ranks ++ r ∷ []) place 0 ≡ rank slots place
 ranked_more slots ranks i r size here before place lt =
-    elim (cases_lt place i) [
-      | inl lower ↦ get_or_append_left ranks (r ∷ []) 0 place (subst (λ n. place < n) (sym size) lower)
-          ∙ before place lower
-      | inr past ↦ (let same : place ≡ i = omega (arith, lt, past) in
-          ap (λ k. slice_index_or (ranks ++ r ∷ []) k 0) same ∙ get_or_push ranks r 0 i size ∙ here ∙ ap (rank slots) (sym same))
-    ]
+    grind (arith, nat_tests, cases_lt, get_or_append_left, ranks, get_or_push)
 
 pub read_at : (xs : List ℕ) (k p : ℕ) → slice_get xs k ≡ Some p → slice_index_or xs k 0 ≡ p
 read_at xs k p there = get_or_from_slice_get xs k p 0 there
@@ -421,10 +344,7 @@ module _ {V : Type 0} (slots : List (Slot V)) (by_name ranked : List ℕ) (sound
     (told : (k : ℕ) → k < length by_name → slice_index_or ranked k 0 ≡ rank slots (slice_index_or by_name k 0))
   where
     ranks : (k p : ℕ) → slice_get by_name k ≡ Some p → slice_get ranked k ≡ Some (rank slots p)
-    ranks k p at =
-        let lt = slice_get_within by_name k p at in
-        slice_get-get_or ranked k 0 (subst (λ n. k < n) (sym size) lt)
-        ∙ ap Some (told k lt ∙ ap (rank slots) (read_at by_name k p at))
+    ranks k p at = grind (arith, nat_tests, slice_get_within, slice_get-get_or, read_at)
 
     unranked : (k q : ℕ) → slice_get ranked k ≡ Some q
         → (p : ℕ) × (slice_get by_name k ≡ Some p) × (q ≡ rank slots p)
@@ -435,13 +355,7 @@ module _ {V : Type 0} (slots : List (Slot V)) (by_name ranked : List ℕ) (sound
 
     nth_unpacked : (k : ℕ) (n : List ℕ) (v : V) → Nth (filter is_entry slots) ranked k n v
         → Nth slots by_name k n v
-    nth_unpacked k n v nth =
-        let old = unranked k nth.place nth.listed in
-        let entry = sound.stand k old.0 old.1 in
-        let kept = kept_at slots old.0 entry.0 entry.1 entry.2 in
-        let found = subst (λ q. slice_get (filter is_entry slots) q ≡ Some (Entry n v)) old.2 nth.stands in
-        let same : Some (Entry entry.0 entry.1) ≡ Some (Entry n v) = sym kept ∙ found in
-        record { place = old.0; listed = old.1; stands = entry.2 ∙ same }
+    nth_unpacked k n v nth = grind (arith, nat_tests, unranked, kept_at)
 
     pub sound_packed : IsSound (filter is_entry slots) ranked
     sound_packed = record {
