@@ -3,25 +3,10 @@
 -- open_first    such a pointer leads to a block, where the node lies; with it come the right to free the block, and
 -- that the pointer may be compared with null
 --     close_first   with these three it is such a pointer again, whatever node lies there now
-use Rattle.std.proofs.Common.{◌≡◌, ℕ, List, [], ◌∷◌, refl}
-use seplogic.Ra.Ura.{Ura}
-use base.Fml.{Fml}
-use base.Fraction.{full_share}
-use base.Logic.{fst∗, never}
+use Rattle.kob_prefix_tree.proofs.Words.{Fml, Global, Goal, Item, Link, List, Logic, Node, Ptr, RattleType, Seq, Step, Ura, [], block_ptr, box_owns, fjoin, fsplit, fst∗, full_share, in_a_block, linked_row, lone, low, move, never, nodes_own, null_ptr, param, part_at, refl, rewrite, sem, split, step, tree_of, use1, use2, ‵, ℕ, ◌$◌, ◌∷◌, ◌≡◌, ◌⊛◌}
 use mir.Raw.{raw as bare}
-use types.Logic.{Logic, sem}
-use types.Kit.{Goal, Item, Seq, Step, step, ‵, ◌⊛◌, ◌$◌, fjoin, fsplit, move, rewrite, split, use1, use2}
-use denote.Memory.{lone, part_at, part_of}
-use denote.Param.{param}
-use denote.RattleType.{RattleType}
-use denote.RawPtr.{Ptr, block_ptr, in_a_block, null_ptr}
-use Rattle.std.specs.declared.alloc.Global.{Global}
+use denote.Memory.{part_of}
 use Rattle.std.specs.contracts.impls.GlobalAllocator.TheImpl.{ghosts as heap_rights}
-use Rattle.std_alloc.specs.Box.Ownership.{box_owns}
-use Rattle.kob_prefix_tree.specs.Nodes.{linked_row, tree_of}
-use Rattle.kob_prefix_tree.specs.Owned.{low, nodes_own}
-use Rattle.kob_prefix_tree.specs.declared.link.Link.{Link}
-use Rattle.kob_prefix_tree.specs.declared.node.Node.{Node}
 use Rattle.kob_prefix_tree.proofs.Firsts.{has_first, is_first}
 
 module _ (Y : RattleType) where

@@ -1,12 +1,5 @@
 -- Lists of serials, joined and read.
-use Rattle.std.proofs.Common.{◌≡◌, ◌∷◌, ◌++◌, refl, sym, ap, ◌∙◌, subst, arith}
-use denote.RawPtr.{Ptr}
-use Rattle.kob_prefix_tree.specs.Tree.{Tree, leaf, node}
-use Rattle.kob_prefix_tree.specs.Nodes.{Leads, tree_of, if_none, last_of, with_others}
-use Rattle.kob_prefix_tree.specs.Cells.{values_of, KnowsEnd}
-use Rattle.kob_prefix_tree.specs.declared.link.Link.{Link}
-use Rattle.kob_prefix_tree.specs.declared.node.Node.{Node}
-use Rattle.kob_prefix_tree.specs.declared.cells.Serial.{Serial}
+use Rattle.kob_prefix_tree.proofs.Words.{KnowsEnd, Leads, Link, Node, Ptr, Serial, Tree, ap, arith, if_none, last_of, leaf, node, refl, subst, sym, tree_of, values_of, with_others, ◌++◌, ◌∙◌, ◌∷◌, ◌≡◌}
 use Rattle.kob_prefix_tree.proofs.Firsts.{is_node}
 
 pub values_joined : (t : Tree Serial) (l : Link Serial) → values_of (with_others t l) ≡ values_of t ++ values_of l.nodes

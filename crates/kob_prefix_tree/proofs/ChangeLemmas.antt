@@ -1,11 +1,6 @@
 -- A place of the tree whose contents change at one key.
-use Rattle.std.proofs.Common.{◌≡◌, ◌≢◌, ℕ, List, [], ◌∷◌, ◌++◌, Option, None, Some, Result, Ok, Err, OnOk, OnErr, unwrap_or, refl, ap, ◌∙◌, arith}
-use Rattle.kob_prefix_tree.specs.Trie.{Trie, void, Contents, bare, led_by}
-use Rattle.kob_prefix_tree.specs.Held.{Held, nothing}
-use Rattle.kob_prefix_tree.specs.Siblings.{siblings, value_at, without, behind_one, held_in, IsNeat}
-use Rattle.kob_prefix_tree.specs.Change.{ChangedAt}
+use Rattle.kob_prefix_tree.proofs.Words.{ChangedAt, Contents, Err, Held, IsNeat, List, None, Ok, OnErr, OnOk, Option, Result, Some, Trie, [], ap, arith, bare, behind_one, held_in, led_by, nat_tests, nothing, refl, siblings, unwrap_or, value_at, void, without, ℕ, ◌++◌, ◌∙◌, ◌∷◌, ◌≡◌, ◌≢◌}
 use Rattle.kob_prefix_tree.proofs.SiblingLemmas.{neat_list, neat_tree, neat_without, at_without, at_without_other}
-use Rattle.std.proofs.lemmas.Bool.Decides.{nat_tests}
 
 -- the serials of the place itself
 pub changed_here : (f : Held → Held) (h : Held) (t : Trie) → IsNeat t → ChangedAt [] f (h, t) (f h, t)

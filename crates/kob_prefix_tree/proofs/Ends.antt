@@ -7,35 +7,13 @@
 --     opens_end           the siblings, opened at their end
 --     link_lies           a link by value, whose word lies at a place, lies there
 --     closes_with         with a link at their end the siblings are closed again
-use Rattle.std.proofs.Common.{◌≡◌, ℕ, ◌+◌, List, [], ◌∷◌, refl, sym, ap, subst}
-use seplogic.Ra.Ura.{Ura}
-use base.Fraction.{full_share}
-use base.Logic.{SProp, ent, sep, all, wand, never, fst∗, all_e, apply∗}
-use base.Fml.{Fml, fat}
+use Rattle.kob_prefix_tree.proofs.Words.{ !, Fml, Goal, Item, Lawfuls, Laws, Leads, Link, List, Logic, Member, Node, PartsBack, Ptr, RattleType, SProp, Seq, Step, Tree, Ura, Val, [], align, all, all_e, ap, apply∗, assume, block_ptr, box_owns, done, each, ent, fat, field_back, field_out, fields, fjoin, fsplit, fst∗, full_share, group, if_none, in_a_block, last_of, leaf, linked_row, lone, low, move, never, node, nodes_own, null_ptr, param, param_laws, part_at, part_in, part_out, pick, qed, raw, refl, rest_at, rewrite, rows_of, sem, sep, some, split, step, subst, sym, tree_of, up, use1, use2, use3, vunit, wand, with_others, ‵, ℕ, ◌$◌, ◌+◌, ◌∵◌, ◌∷◌, ◌≡◌, ◌⊛◌}
+use prog.Memory.{size}
+use types.Kit.{drop}
 use mir.Raw.{raw as bare}
-use mir.Val.{Val, vunit}
-use prog.Memory.{size, align, up}
-use types.Logic.{Logic, sem}
-use types.Kit.{ !, qed, done, Goal, Item, Seq, Step, step, ‵, raw, some, ◌⊛◌, ◌$◌, ◌∵◌, move, drop, split, pick, each, assume, rewrite, group, use1, use2, use3, fsplit, fjoin}
-use borrow.Table.OneValue.{part_in, part_out}
-use denote.Laws.{Lawfuls}
-use denote.Memory.{lone, part_at, part_of}
-use denote.Param.{param}
-use denote.Param.Laws.{Laws, param_laws}
-use denote.RattleType.{RattleType}
-use denote.RawPtr.{Ptr, block_ptr, null_ptr, in_a_block}
-use denote.Struct.Declared.{fields}
-use denote.Struct.Members.{Member, rows_of}
-use denote.Struct.Parts.{PartsBack}
-use denote.Struct.Pick.{rest_at, field_out, field_back}
-use Rattle.std_alloc.specs.Box.Ownership.{box_owns}
+use denote.Memory.{part_of}
 use Rattle.std.specs.contracts.impls.GlobalAllocator.TheImpl.{ghosts as heap_rights}
 use Rattle.std.proofs.alloc.Global.TheLaws as heap_laws
-use Rattle.kob_prefix_tree.specs.Tree.{Tree, leaf, node}
-use Rattle.kob_prefix_tree.specs.Owned.{low, nodes_own}
-use Rattle.kob_prefix_tree.specs.Nodes.{Leads, tree_of, linked_row, last_of, with_others, if_none}
-use Rattle.kob_prefix_tree.specs.declared.node.Node.{Node}
-use Rattle.kob_prefix_tree.specs.declared.link.Link.{Link}
 use Rattle.kob_prefix_tree.specs.contracts.link.Link as link
 use Rattle.kob_prefix_tree.specs.contracts.node.Node as block
 use Rattle.kob_prefix_tree.proofs.link.Link.TheLaws as link_laws

@@ -6,43 +6,17 @@
 --     tells_null        what is lent of the nodes tells whether the pointer is null
 --     has_first, is_first     what is owned of the nodes: that the pointer may be compared with null, and the first of
 -- them as a box owns it
-use Rattle.std.proofs.Common.{◌≡◌, List, [], ◌∷◌, ◌++◌, refl, sym, true≢false, ◌∙◌, subst}
-use Rattle.std.specs.Prelude.{IsTrue, ◌↔◌}
-use lib.Dec.{lit<, T as IsFit}
-use mir.Syntax.{Ty, impl, tnil, dnil}
-use Rattle.core.proofs.alloc.Calls.{Al}
-use Rattle.std.specs.declared.alloc.Global.{Global}
+use Rattle.kob_prefix_tree.proofs.Words.{ !, Al, Fml, Global, Goal, InBlock, IsTrue, Item, Laws, Leads, Lft, Link, List, Logic, Node, Ptr, RattleType, SProp, Seq, Step, Testable, Tree, Ty, Typed, Ura, Val, Valss, WT, [], at_block, block_of, block_ptr, box_owns, count_of, dealloc_token-Testable, dnil, done, emp, ent, fact, fact_i, fact_use, feq_i, feq_l, fjoin, flt_l, fpack, fpick, fsplit, has_ty, heard, hidden_shr, hide, id⊢, impl, in_block_says, leaf, lent_at, linked_row, lit<, lone, low, node, nodes_lent, nodes_own, null_ptr, of_list, param, param_laws, ptr_same, ptr_val, qed, raw, refl, sem, sep, shape, split, step, subst, sym, tnil, tree_of, true≢false, use0, use1, vnull, vstruct, within, ‵, ◌$◌, ◌++◌, ◌↔◌, ◌∙◌, ◌∷◌, ◌≡◌, ◌⊛◌}
+use denote.Builtin.{RawPtr}
+use denote.Steps.{nothing}
+use types.Kit.{drop}
+use lib.Dec.{T as IsFit}
 use Rattle.std.specs.contracts.alloc.Global as heap
 use Rattle.std.proofs.alloc.Global.TheLaws as heap_laws
-use Rattle.std.proofs.GlobalToken.{dealloc_token-Testable}
-use denote.Laws.{Typed}
-use denote.Param.Laws.{Laws, param_laws}
 use Rattle.kob_prefix_tree.proofs.node.Node.TheLaws as block_laws
 use Rattle.kob_prefix_tree.proofs.link.Link.TheLaws as link_laws
-use contract.Monad.{fact, fact_i, fact_use}
-use seplogic.Ra.Ura.{Ura}
-use base.Logic.{SProp, ent, sep, emp, id⊢}
-use base.Fml.{Lft, Fml}
-use mir.Val.{Val, vstruct, vnull, of_list, has_ty, ptr_same, WT}
-use types.Logic.{Logic, sem}
-use types.Kit.{ !, qed, done, use0, Item, Goal, Seq, Step, step, ‵, raw, ◌⊛◌, ◌$◌, drop, use1, split, fsplit, fjoin, fpick, fpack, feq_i, feq_l, flt_l}
-use denote.Builtin.{RawPtr}
-use denote.Memory.{hidden_shr, lone, part_of}
-use denote.Opens.{hide}
-use denote.Param.{param}
-use denote.RattleType.{RattleType, Valss}
-use denote.RawPtr.{Ptr, block_ptr, null_ptr, ptr_val, InBlock, Testable, at_block, block_of, count_of}
-use denote.Steps.{nothing, heard}
-use denote.Struct.Lending.{lent_at, in_block_says}
-use denote.Struct.Owning.{shape}
-use denote.Struct.Struct.{within}
-use Rattle.std_alloc.specs.Box.Ownership.{box_owns}
+use denote.Memory.{part_of}
 use Rattle.std.specs.contracts.impls.GlobalAllocator.TheImpl.{ghosts as heap_rights}
-use Rattle.kob_prefix_tree.specs.Tree.{Tree, leaf, node}
-use Rattle.kob_prefix_tree.specs.Owned.{low, nodes_own, nodes_lent}
-use Rattle.kob_prefix_tree.specs.Nodes.{Leads, tree_of, linked_row}
-use Rattle.kob_prefix_tree.specs.declared.node.Node.{Node}
-use Rattle.kob_prefix_tree.specs.declared.link.Link.{Link}
 use Rattle.kob_prefix_tree.specs.contracts.link.Link as link
 
 pub first_of : {X : Type 0} (t : Tree X) → Leads t → (n : Node X (Link X) (Link X)) × (t ≡ tree_of n)

@@ -7,18 +7,10 @@
 --     along_has_prefixed, along_has_literal   a walk of a name has the prefixed serials of each key that the name
 -- begins with, and its literal ones, in the whole tree and in a part of it
 --     walk_only                               and in the tree no others
-use Rattle.std.proofs.Common.{append-nil, ◌≡◌, ◌≢◌, ◌⊎◌, inl, inr, arith, ℕ, true, false, cond, List, [], ◌∷◌, ◌++◌, map as each, None, Some, refl, sym, ap, subst}
-use Rattle.std.specs.Option.{unwrap_or}
-use Rattle.std.specs.List.{Contains, flat_map}
-use Rattle.std.specs.Ordering.{nat_cmp}
-use Rattle.std.specs.Cmp.Lexicographic.{slice_cmp, nat_list_cmp_total}
+use Rattle.kob_prefix_tree.proofs.Words.{Contains, Contains-append_cases, Contains-append_left, Contains-append_right, Held, List, None, PatternKind, PrefixMap, Some, [], added, ap, append-nil, arith, cond, false, flat_map, flat_map-map, held, inl, inr, is_nothing, nat_cmp, nat_list_cmp_total, nothing, prefixes, refl, removed, removed_all, serials_along, slice_cmp, subst, sym, true, unwrap_or, with_serial, without_serial, without_serials, ℕ, ◌++◌, ◌∷◌, ◌≡◌, ◌≢◌, ◌⊎◌}
+use Rattle.kob_prefix_tree.specs.PrefixMap.{walk_of}
+use Rattle.std.proofs.Common.{map as each}
 use Rattle.std.specs.FinMap as map
-use Rattle.kob_prefix_tree.specs.declared.kind.PatternKind.{PatternKind}
-use Rattle.kob_prefix_tree.specs.Held.{Held, nothing, is_nothing, with_serial, without_serial, without_serials}
-use Rattle.std.proofs.lemmas.List.Elements.{Contains-append_left, Contains-append_right, Contains-append_cases}
-use Rattle.std.proofs.lemmas.List.Folds.{flat_map-map}
-use Rattle.kob_prefix_tree.specs.Walked.{prefixes, serials_along}
-use Rattle.kob_prefix_tree.specs.PrefixMap.{PrefixMap, held, added, removed, removed_all, walk_of}
 use Rattle.kob_prefix_tree.proofs.WalkLemmas.{prefixes_longer}
 use Rattle.kob_prefix_tree.proofs.MapLemmas.{bytes, bytes_decide, is_nothing_true}
 

@@ -15,3 +15,4 @@ pub mod SiblingLemmas
 pub mod TailLemmas
 pub mod WalkLemmas
 pub mod WayLemmas
+mod Words

@@ -1,8 +1,5 @@
 -- An element that passes the test is taken out of the second of two lists where the first has none.
-use Rattle.std.proofs.Common.{◌≡◌, Bool, false, List, [], ◌∷◌, ◌++◌, refl, arith}
-use Rattle.std.specs.List.{list_any}
-use Rattle.kob_prefix_tree.specs.Lists.{without_first}
-use Rattle.std.proofs.lemmas.Bool.Decides.{nat_tests}
+use Rattle.kob_prefix_tree.proofs.Words.{Bool, List, [], arith, false, list_any, nat_tests, refl, without_first, ◌++◌, ◌∷◌, ◌≡◌}
 
 module _ {A : Type 0} (test : A → Bool) where
   pub taken_of_second : (xs ys : List A) → list_any test xs ≡ false

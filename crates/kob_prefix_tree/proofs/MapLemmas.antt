@@ -1,25 +1,6 @@
 -- The tree as a finite map, before and after a change.
-use Rattle.std.proofs.Common.{◌≡◌, ◌≢◌, ℕ, ◌==◌, Bool, true, cond, List, [], ◌∷◌, ◌++◌, Option, None, Some, refl, sym, ap, ◌∙◌, subst, arith}
-use Rattle.std.proofs.lemmas.Bool.Decides.{nat_tests}
-use Rattle.std.proofs.lemmas.List.{nil_from_length}
-use Rattle.std.proofs.lemmas.Map.Text.{is_eq-slice_cmp}
-use Rattle.std.proofs.lemmas.Slice.Eq.{bytes_eq-Decides}
-use Rattle.std.specs.Bool.{Decides}
-use Rattle.std.specs.Option.{option_or}
-use Rattle.std.specs.Ordering.{nat_cmp, eq_by_cmp}
-use Rattle.std.specs.Cmp.Lexicographic.{slice_cmp, nat_list_cmp_total}
+use Rattle.kob_prefix_tree.proofs.Words.{Bool, ChangedAt, Contents, Decides, Entries, Held, IsLongestInUse, IsNeat, List, Literal, None, Option, PatternKind, PrefixMap, Prefixed, Some, Trie, [], added, ap, arith, behind, bytes_eq-Decides, cond, entries_below, entries_in, eq_by_cmp, find, held, held_in, is_eq-slice_cmp, is_nothing, nat_cmp, nat_cmp-IsAntisymmetric, nat_list_cmp_total, nat_tests, nil_from_length, nothing, option_or, refl, removed, removed_all, sibling, siblings, slice_cmp, slice_cmp-IsAntisymmetric, subst, sym, true, value_at, void, with_serial, without_first, without_in_turn, without_serial, without_serials, ℕ, ◌++◌, ◌==◌, ◌∙◌, ◌∷◌, ◌≡◌, ◌≢◌}
 use Rattle.std.specs.FinMap as map
-use Rattle.std.specs.FinMap.{find, nat_cmp-IsAntisymmetric, slice_cmp-IsAntisymmetric}
-use Rattle.kob_prefix_tree.specs.declared.kind.PatternKind.{PatternKind}
-use Rattle.kob_prefix_tree.specs.declared.kind.PatternKind.TheVariants.{Literal, Prefixed}
-use Rattle.kob_prefix_tree.specs.Held.{Held, nothing, is_nothing, with_serial, without_serial, without_serials}
-use Rattle.kob_prefix_tree.specs.Lists.{without_first, without_in_turn}
-use Rattle.kob_prefix_tree.specs.Trie.{Trie, void, sibling, Contents}
-use Rattle.kob_prefix_tree.specs.Siblings.{siblings, value_at, held_in, IsNeat}
-use Rattle.kob_prefix_tree.specs.Change.{ChangedAt}
-use Rattle.kob_prefix_tree.specs.Entries.{Entries, behind, entries_below, entries_in}
-use Rattle.kob_prefix_tree.specs.Walked.{IsLongestInUse}
-use Rattle.kob_prefix_tree.specs.PrefixMap.{PrefixMap, held, added, removed, removed_all}
 use Rattle.kob_prefix_tree.proofs.SiblingLemmas.{neat_at, neat_list}
 
 pub is_nothing_true : (h : Held) → is_nothing h ≡ true → h ≡ nothing

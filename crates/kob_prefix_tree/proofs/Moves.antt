@@ -11,24 +11,14 @@
 --     wraps_number     a struct of a constant
 --     heard_last       the last of what is asked, as a fact
 --     nothing_of_one, nothing_of_two, nothing_of_three     what a function has left of parameters that it used up
+use Rattle.kob_prefix_tree.proofs.Words.{Env, Finds, Goal, Item, Logic, Part, Reads, Rv, Seq, Share, Step, Ty, Ura, Val, Width, addr, addr_of, agg, aggregate, and_then, at, bits, copy, deref, fact, fat, field, field_of, fjoin, fld, fsep, ftrue, get, get_in, heard, hop, int, lit, load, look, look_at, look_in, ltb, no_more, nth, of_list, of_opd, place, raw, rv_opd, split, spot_of, step, stop, through, vint, vptr, vstruct, ‵, ◌$◌, ◌⊛◌}
+use denote.Steps.{nothing}
+use mathlib.Core.List.{List, [], ◌∷◌}
 use mathlib.Core.Option.{some}
 use mathlib.Core.Path.{◌≡◌}
+use types.Kit.{drop}
 use Prim.Native.Nat.{ℕ, ◌+◌, ◌^◌}
-use mathlib.Core.List.{List, [], ◌∷◌}
-use seplogic.Ra.Ura.{Ura}
-use base.Fml.{Share, fat, fsep, ftrue}
-use lib.Dec.{T as IsTrue, ltb}
-use contract.Monad.{fact}
-use mir.Syntax.{Ty, Width, addr_of, aggregate, copy, deref, field, int, place, rv_opd}
-use mir.Val.{Val, bits, of_list, vint, vptr, vstruct}
-use prog.Memory.{field_of}
-use prog.Wp.{Env, spot_of}
-use types.Logic.{Logic}
-use types.Kit.{Goal, Item, Seq, Step, step, ‵, ◌⊛◌, nth, ◌$◌, drop, fjoin, raw, split}
-use types.Run.{Finds, Reads, Rv, addr, and_then, fld, hop, lit, load, look, no_more, of_opd, stop}
-use types.Part.{Part, agg, look_in}
-use types.ByLocal.{at, get, get_in, look_at, through}
-use denote.Steps.{heard, nothing}
+use lib.Dec.{T as IsTrue}
 
 module _ {World : Type 1} {ghosts : Ura World} (logic : Logic ghosts) where
   abbrev kind : Env ghosts logic.H → ℕ → Ty

@@ -1,19 +1,8 @@
 -- How many bytes a tail and a key have in common at their beginning, and what stands behind them.
-use Rattle.std.proofs.Common.{◌≡◌, ◌≢◌, ◌<◌, ◌+◌, ℕ, false, List, [], ◌∷◌, ◌++◌, take, drop, length, refl, sym, subst, arith}
-use Rattle.std.proofs.lemmas.List.{length-drop, take-append-drop, take_all}
-use Rattle.kob_prefix_tree.specs.declared.branch.Branch.{Branch}
-use Rattle.kob_prefix_tree.specs.declared.kind.PatternKind.{PatternKind}
-use Rattle.kob_prefix_tree.specs.Held.{Held, nothing, has_serials, without_serials}
-use Rattle.kob_prefix_tree.specs.Trie.{Contents, led_by}
-use Rattle.kob_prefix_tree.specs.Siblings.{held_in, IsNeat}
-use Rattle.kob_prefix_tree.specs.Contents.{contents, end_of}
-use Rattle.kob_prefix_tree.specs.Path.{Parts}
-use Rattle.kob_prefix_tree.specs.Change.{ChangedAt}
-use Rattle.kob_prefix_tree.specs.Way.{LeadsNowhere, EndsAt, kept_behind}
+use Rattle.kob_prefix_tree.proofs.Words.{Branch, ChangedAt, Contents, EndsAt, Held, IsNeat, LeadsNowhere, List, Parts, PatternKind, [], arith, contents, drop, end_of, false, has_serials, held_in, kept_behind, led_by, length, length-drop, nat_tests, nothing, refl, subst, sym, take, take-append-drop, take_all, without_serials, ℕ, ◌++◌, ◌+◌, ◌<◌, ◌∷◌, ◌≡◌, ◌≢◌}
 use Rattle.kob_prefix_tree.proofs.ChangeLemmas.{changed_here}
 use Rattle.kob_prefix_tree.proofs.TailLemmas.{none_found, none_taken}
 use Rattle.kob_prefix_tree.proofs.WayLemmas.{held_inside, neat_inside, through}
-use Rattle.std.proofs.lemmas.Bool.Decides.{nat_tests}
 
 pub one_more : {x : ℕ} {tail key xs ys rest : List ℕ} (n : ℕ) → tail ≡ x ∷ xs → key ≡ x ∷ ys → Parts xs ys n rest
     → Parts tail key (n + 1) rest

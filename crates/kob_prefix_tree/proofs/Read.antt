@@ -5,28 +5,8 @@
 --     enters, ends     what such a function finds, and what it leaves of it
 --     with_pointer     the place of that pointer, open, until it is shut
 --     shut_pointer     shut again
-use Rattle.std.proofs.Common.{◌≡◌, ℕ, ◌+◌, List, [], ◌∷◌, refl, sym}
-use mir.Syntax.{ty_ptr}
-use mir.Val.{Val}
-use seplogic.Ra.Ura.{Ura}
-use base.Fml.{Fml, Lft, Share, fat, feq, flft, fhide, fsep, ftrue}
-use types.Logic.{Logic}
-use types.Kit.{Item, Goal, Soaks, Seq, Step, step, ‵, ◌⊛◌, ◌$◌, move, drop, join, use1, split, fjoin, fsplit, feq_i, feq_l, rewrite}
-use denote.Copied.{plain_Copied}
-use denote.Memory.{cell_at, hidden_shr, part_at}
-use denote.Opens.{Shut, shr_dup, unhide, hide}
-use denote.Param.{param}
-use denote.Param.Laws.{Laws, param_laws}
-use denote.RattleType.{RattleType}
-use denote.RawPtr.{Ptr, RawPtr, coded_ptr, ptr_own, ptr_val, rawptr_pure}
-use denote.Ref.{Bor, shr_vals}
-use denote.Steps.{looks, shuts}
-use denote.Struct.Laws.{RawPtr-laws}
-use denote.Struct.Lending.{lent_out}
-use denote.Struct.Owning.{shape}
-use denote.Struct.Struct.{Struct}
-use Rattle.kob_prefix_tree.specs.Owned.{nodes_lent}
-use Rattle.kob_prefix_tree.specs.declared.link.Link.{Link}
+use Rattle.kob_prefix_tree.proofs.Words.{Bor, Fml, Goal, Item, Laws, Lft, Link, List, Logic, Ptr, RattleType, RawPtr, RawPtr-laws, Seq, Share, Shut, Soaks, Step, Struct, Ura, Val, [], cell_at, coded_ptr, fat, feq, feq_i, feq_l, fhide, fjoin, flft, fsep, fsplit, ftrue, hidden_shr, hide, join, lent_out, looks, move, nodes_lent, param, param_laws, part_at, plain_Copied, ptr_own, ptr_val, rawptr_pure, refl, rewrite, shape, shr_dup, shr_vals, shuts, split, step, sym, ty_ptr, unhide, use1, ‵, ℕ, ◌$◌, ◌+◌, ◌∷◌, ◌≡◌, ◌⊛◌}
+use types.Kit.{drop}
 use Rattle.kob_prefix_tree.specs.contracts.link.Link as link
 use Rattle.kob_prefix_tree.proofs.link.Link.TheLaw.Met as law
 

@@ -1,9 +1,5 @@
 -- Siblings, when one is changed, taken out or put in.
-use Rattle.std.proofs.Common.{◌≡◌, ◌≢◌, ℕ, ◌==◌, false, cond, List, [], ◌∷◌, None, Some, refl, sym, ap, ◌∙◌, arith}
-use Rattle.std.proofs.Math.Bool.{true≢false}
-use Rattle.std.proofs.lemmas.Bool.{eq-eqb, ne_eqb}
-use Rattle.kob_prefix_tree.specs.Trie.{Trie, void, sibling, Contents, bare}
-use Rattle.kob_prefix_tree.specs.Siblings.{siblings, value_at, without, IsNeat}
+use Rattle.kob_prefix_tree.proofs.Words.{Contents, IsNeat, List, None, Some, Trie, [], ap, arith, bare, cond, eq-eqb, false, ne_eqb, refl, sibling, siblings, sym, true≢false, value_at, void, without, ℕ, ◌==◌, ◌∙◌, ◌∷◌, ◌≡◌, ◌≢◌}
 
 pub differ : (a b : ℕ) → a == b ≡ false → a ≢ b
 differ a b e same = true≢false (sym (eq-eqb a b same) ∙ e)

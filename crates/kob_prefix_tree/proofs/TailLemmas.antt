@@ -1,13 +1,6 @@
 -- A place from which some bytes alone lead on.
-use Rattle.std.proofs.Common.{◌≡◌, List, ℕ, [], ◌∷◌, ◌==◌, length, false, arith, refl, ap}
-use Rattle.std.proofs.Math.Bool.{true≢false}
-use Rattle.kob_prefix_tree.specs.declared.kind.PatternKind.{PatternKind}
-use Rattle.kob_prefix_tree.specs.declared.kind.PatternKind.TheVariants.{Literal, Prefixed}
-use Rattle.kob_prefix_tree.specs.Held.{nothing, serials_of, has_serials, without_serials}
-use Rattle.kob_prefix_tree.specs.Tree.{Tree, leaf, node}
+use Rattle.kob_prefix_tree.proofs.Words.{Contents, List, Literal, PatternKind, Prefixed, Tree, [], ap, arith, bare, false, has_serials, leaf, led_by, length, node, nothing, refl, serials_of, trie_of, true≢false, void, without_serials, ℕ, ◌==◌, ◌∷◌, ◌≡◌}
 use Rattle.kob_prefix_tree.specs.declared.siblings.Item.{Item}
-use Rattle.kob_prefix_tree.specs.Trie.{Contents, bare, void, led_by}
-use Rattle.kob_prefix_tree.specs.Contents.{trie_of}
 
 -- behind no byte is the place itself
 pub behind_none : (tail : List ℕ) (c : Contents) → length tail ≡ 0 → led_by tail c ≡ c

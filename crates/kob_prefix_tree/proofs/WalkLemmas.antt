@@ -1,16 +1,5 @@
 -- A walk, step by step.
-use Rattle.std.proofs.Common.{◌≡◌, ℕ, ◌+◌, List, [], ◌∷◌, ◌++◌, length, Option, None, Some, refl, ap, ◌∙◌, append_assoc, arith}
-use Rattle.std.specs.List.{flat_map}
-use Rattle.std.proofs.lemmas.List.Folds.{flat_map-map}
-use Rattle.kob_prefix_tree.specs.declared.serials.Unread.{Unread}
-use Rattle.kob_prefix_tree.specs.declared.walk.Ahead.{Ahead}
-use Rattle.kob_prefix_tree.specs.Held.{Held, nothing}
-use Rattle.kob_prefix_tree.specs.Trie.{Contents}
-use Rattle.kob_prefix_tree.specs.Siblings.{held_in}
-use Rattle.kob_prefix_tree.specs.Contents.{seen}
-use Rattle.kob_prefix_tree.specs.Walked.{prefixes, serials_along}
-use Rattle.kob_prefix_tree.specs.WalkLeft.{longer_prefixes, serials_beyond, ahead_of, left_of}
-use Rattle.kob_prefix_tree.specs.SerialsLeft.{unread_of}
+use Rattle.kob_prefix_tree.proofs.Words.{Ahead, Contents, Held, List, None, Option, Some, Unread, [], ahead_of, ap, append_assoc, arith, flat_map, flat_map-map, held_in, left_of, length, longer_prefixes, nothing, prefixes, refl, seen, serials_along, serials_beyond, unread_of, ℕ, ◌++◌, ◌+◌, ◌∙◌, ◌∷◌, ◌≡◌}
 
 -- how many bytes the walk has still to go, and one more
 abbrev pub steps_ahead : Option Ahead → ℕ

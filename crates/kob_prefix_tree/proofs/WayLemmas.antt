@@ -1,19 +1,10 @@
 -- The way down to one place and up again: what is done there is done to the whole.
-use Rattle.std.proofs.Common.{◌≡◌, ◌≢◌, ℕ, true, false, cond, List, [], ◌∷◌, ◌++◌, Some, unwrap_or, refl, sym, ap, arith}
-use Rattle.std.proofs.Math.Bool.{and-true}
-use Rattle.kob_prefix_tree.specs.declared.kind.PatternKind.{PatternKind}
-use Rattle.kob_prefix_tree.specs.Tree.{Tree, leaf}
+use Rattle.kob_prefix_tree.proofs.Words.{ChangedAt, Contents, Held, IsNeat, IsWay, List, PatternKind, Some, Tree, Trie, [], and-true, ap, arith, bare, cond, false, held_in, is_bare, kept_behind, leaf, led_by, nat_tests, nothing, refl, sibling, siblings, sym, true, unwound, unwrap_or, value_at, void, with_child, with_serial, without, ℕ, ◌++◌, ◌∷◌, ◌≡◌, ◌≢◌}
 use Rattle.kob_prefix_tree.specs.declared.siblings.Item.{Item}
-use Rattle.kob_prefix_tree.specs.Trie.{Trie, void, sibling, Contents, bare, led_by}
-use Rattle.kob_prefix_tree.specs.Held.{Held, nothing, with_serial}
-use Rattle.kob_prefix_tree.specs.Siblings.{siblings, value_at, without, held_in, IsNeat}
-use Rattle.kob_prefix_tree.specs.Change.{ChangedAt}
-use Rattle.kob_prefix_tree.specs.Way.{is_bare, with_child, kept_behind, unwound, IsWay}
 use Rattle.kob_prefix_tree.proofs.MapLemmas.{is_nothing_true, with_some}
 use Rattle.kob_prefix_tree.proofs.SiblingLemmas.{at_first, at_without, neat_at, neat_list, neat_tree, neat_without, at_without_other}
 use Rattle.kob_prefix_tree.proofs.ChangeLemmas.{behind_tail, changed_here, held_in_bare, taken_out, stands}
 use Rattle.kob_prefix_tree.proofs.TailLemmas.{tail_of_bare}
-use Rattle.std.proofs.lemmas.Bool.Decides.{nat_tests}
 
 -- a place where a serial was put is not bare
 pub some_put : (kind : PatternKind) (serial : ℕ) (key : List ℕ) (h : Held) {c : Contents}

@@ -1,4 +1,4 @@
-use Rattle.std.proofs.Common.{◌∷◌, sym, ap, ◌∙◌}
+use Rattle.kob_prefix_tree.proofs.Words.{ap, sym, ◌∙◌, ◌∷◌}
 use Rattle.kob_prefix_tree.proofs.PartsLemmas.{one_more}
 use Rattle.kob_prefix_tree.proofs.path.+parted.Goals as goal
 

@@ -1,4 +1,4 @@
-use Rattle.std.proofs.Common.{length}
+use Rattle.kob_prefix_tree.proofs.Words.{length}
 use Rattle.kob_prefix_tree.proofs.path.+parted.Given as goal
 
 abbrev pub decreases-parted : goal.decreases-parted

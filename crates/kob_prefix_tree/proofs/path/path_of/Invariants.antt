@@ -1,5 +1,4 @@
-use Rattle.std.proofs.Common.{◌≡◌, ◌++◌, length}
-use Rattle.kob_prefix_tree.specs.Path.{ArePacked, key_of}
+use Rattle.kob_prefix_tree.proofs.Words.{ArePacked, key_of, length, ◌++◌, ◌≡◌}
 use Rattle.kob_prefix_tree.proofs.path.path_of.Given as goal
 
 abbrev pub invariant-loop-byte : goal.invariant-loop-byte

@@ -1,7 +1,4 @@
-use Rattle.std.proofs.Common.{◌++◌, take, refl, sym, subst}
-use Rattle.kob_prefix_tree.specs.Contents.{contents}
-use Rattle.kob_prefix_tree.specs.Held.{Held, with_serial}
-use Rattle.kob_prefix_tree.specs.Change.{ChangedAt}
+use Rattle.kob_prefix_tree.proofs.Words.{ChangedAt, Held, contents, refl, subst, sym, take, with_serial, ◌++◌}
 use Rattle.kob_prefix_tree.proofs.ChangeLemmas.{on_ok, on_err}
 use Rattle.kob_prefix_tree.proofs.branch.Branch.add.Goals as goal
 

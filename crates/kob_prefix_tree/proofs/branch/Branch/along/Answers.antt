@@ -1,13 +1,5 @@
-use Rattle.std.proofs.Common.{◌∷◌, ◌++◌, sym, ap, ◌∙◌, subst}
-use Rattle.kob_prefix_tree.specs.declared.branch.Branch.{Branch}
-use Rattle.kob_prefix_tree.specs.declared.link.Link.{Link}
+use Rattle.kob_prefix_tree.proofs.Words.{Branch, ChangedAt, Held, Link, ap, bare, end_of, key_of, led_by, subst, sym, trie_of, unwound, with_serial, ◌++◌, ◌∙◌, ◌∷◌}
 use Rattle.kob_prefix_tree.specs.declared.siblings.Item.{Item}
-use Rattle.kob_prefix_tree.specs.Held.{Held, with_serial}
-use Rattle.kob_prefix_tree.specs.Trie.{bare, led_by}
-use Rattle.kob_prefix_tree.specs.Contents.{end_of, trie_of}
-use Rattle.kob_prefix_tree.specs.Path.{key_of}
-use Rattle.kob_prefix_tree.specs.Change.{ChangedAt}
-use Rattle.kob_prefix_tree.specs.Way.{unwound}
 use Rattle.kob_prefix_tree.proofs.WayLemmas.{some_put}
 use Rattle.kob_prefix_tree.proofs.ChangeLemmas.{behind_tail}
 use Rattle.kob_prefix_tree.proofs.WayLemmas.{along_on, put_alone}

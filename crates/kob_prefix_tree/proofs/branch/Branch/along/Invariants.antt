@@ -1,11 +1,4 @@
-use Rattle.std.proofs.Common.{◌≡◌, ◌≢◌, ◌++◌}
-use Rattle.kob_prefix_tree.specs.Held.{Held}
-use Rattle.kob_prefix_tree.specs.Trie.{Contents, bare, led_by}
-use Rattle.kob_prefix_tree.specs.Contents.{end_of}
-use Rattle.kob_prefix_tree.specs.Siblings.{count}
-use Rattle.kob_prefix_tree.specs.Path.{key_of}
-use Rattle.kob_prefix_tree.specs.Change.{ChangedAt}
-use Rattle.kob_prefix_tree.specs.Way.{unwound}
+use Rattle.kob_prefix_tree.proofs.Words.{ChangedAt, Contents, Held, bare, count, end_of, key_of, led_by, unwound, ◌++◌, ◌≡◌, ◌≢◌}
 use Rattle.kob_prefix_tree.proofs.branch.Branch.along.Given as goal
 
 abbrev pub invariant-loop-path : goal.invariant-loop-path

@@ -1,7 +1,4 @@
-use Rattle.std.proofs.Common.{◌≡◌}
-use Rattle.kob_prefix_tree.specs.Contents.{contents}
-use Rattle.kob_prefix_tree.specs.Siblings.{count}
-use Rattle.kob_prefix_tree.specs.Way.{unwound}
+use Rattle.kob_prefix_tree.proofs.Words.{contents, count, unwound, ◌≡◌}
 use Rattle.kob_prefix_tree.proofs.branch.Branch.ascend.Given as goal
 
 abbrev pub invariant-loop-self : goal.invariant-loop-self

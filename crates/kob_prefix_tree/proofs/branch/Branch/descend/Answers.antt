@@ -1,7 +1,4 @@
-use Rattle.std.proofs.Common.{◌++◌, take, sym, ◌∙◌, subst}
-use Rattle.kob_prefix_tree.specs.Contents.{contents, end_of}
-use Rattle.kob_prefix_tree.specs.Path.{Parts}
-use Rattle.kob_prefix_tree.specs.Way.{IsWay, LeadsNowhere}
+use Rattle.kob_prefix_tree.proofs.Words.{IsWay, LeadsNowhere, Parts, contents, end_of, subst, sym, take, ◌++◌, ◌∙◌}
 use Rattle.kob_prefix_tree.proofs.PartsLemmas.{ends}
 use Rattle.kob_prefix_tree.proofs.branch.Branch.descend.Goals as goal
 

@@ -1,6 +1,4 @@
-use Rattle.std.proofs.Common.{length}
-use Rattle.kob_prefix_tree.specs.Contents.{contents}
-use Rattle.kob_prefix_tree.specs.Way.{IsWay}
+use Rattle.kob_prefix_tree.proofs.Words.{IsWay, contents, length}
 use Rattle.kob_prefix_tree.proofs.branch.Branch.descend.Given as goal
 
 abbrev pub invariant-loop-byte : goal.invariant-loop-byte

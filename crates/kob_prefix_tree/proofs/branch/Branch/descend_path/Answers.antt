@@ -1,7 +1,4 @@
-use Rattle.std.proofs.Common.{◌∷◌, ◌++◌, take, sym, ap, ◌∙◌, subst}
-use Rattle.kob_prefix_tree.specs.Contents.{contents, end_of}
-use Rattle.kob_prefix_tree.specs.Path.{key_of, Parts}
-use Rattle.kob_prefix_tree.specs.Way.{IsWay, LeadsNowhere}
+use Rattle.kob_prefix_tree.proofs.Words.{IsWay, LeadsNowhere, Parts, ap, contents, end_of, key_of, subst, sym, take, ◌++◌, ◌∙◌, ◌∷◌}
 use Rattle.kob_prefix_tree.proofs.PartsLemmas.{ends}
 use Rattle.kob_prefix_tree.proofs.branch.Branch.descend_path.Goals as goal
 

@@ -1,7 +1,4 @@
-use Rattle.std.proofs.Common.{length}
-use Rattle.kob_prefix_tree.specs.Contents.{contents}
-use Rattle.kob_prefix_tree.specs.Path.{key_of}
-use Rattle.kob_prefix_tree.specs.Way.{IsWay}
+use Rattle.kob_prefix_tree.proofs.Words.{IsWay, contents, key_of, length}
 use Rattle.kob_prefix_tree.proofs.branch.Branch.descend_path.Given as goal
 
 abbrev pub invariant-loop-byte : goal.invariant-loop-byte

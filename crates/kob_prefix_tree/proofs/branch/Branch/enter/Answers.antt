@@ -1,8 +1,4 @@
-use Rattle.std.proofs.Common.{◌∷◌, ◌++◌, length, sym, ap, subst, arith}
-use Rattle.std.proofs.lemmas.List.{take_all}
-use Rattle.kob_prefix_tree.specs.declared.branch.Branch.{Branch}
-use Rattle.kob_prefix_tree.specs.Contents.{contents, trie_of}
-use Rattle.kob_prefix_tree.specs.Way.{IsWay}
+use Rattle.kob_prefix_tree.proofs.Words.{Branch, IsWay, ap, arith, contents, length, subst, sym, take_all, trie_of, ◌++◌, ◌∷◌}
 use Rattle.kob_prefix_tree.proofs.WayLemmas.{goes_on}
 use Rattle.kob_prefix_tree.proofs.branch.Branch.enter.Goals as goal
 

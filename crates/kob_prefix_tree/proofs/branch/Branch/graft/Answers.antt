@@ -1,10 +1,4 @@
-use Rattle.std.proofs.Common.{◌++◌, sym, ◌∙◌, subst}
-use Rattle.kob_prefix_tree.specs.Held.{with_serial}
-use Rattle.kob_prefix_tree.specs.Trie.{Contents, led_by}
-use Rattle.kob_prefix_tree.specs.Siblings.{IsNeat}
-use Rattle.kob_prefix_tree.specs.Contents.{contents, end_of}
-use Rattle.kob_prefix_tree.specs.Path.{key_of}
-use Rattle.kob_prefix_tree.specs.Change.{ChangedAt}
+use Rattle.kob_prefix_tree.proofs.Words.{ChangedAt, Contents, IsNeat, contents, end_of, key_of, led_by, subst, sym, with_serial, ◌++◌, ◌∙◌}
 use Rattle.kob_prefix_tree.proofs.PartsLemmas.{led_by_parts}
 use Rattle.kob_prefix_tree.proofs.branch.Branch.graft.Goals as goal
 

@@ -1,8 +1,4 @@
-use Rattle.std.proofs.Common.{sym, subst}
-use Rattle.kob_prefix_tree.specs.Contents.{contents}
-use Rattle.kob_prefix_tree.specs.Held.{with_serial}
-use Rattle.kob_prefix_tree.specs.Path.{key_of}
-use Rattle.kob_prefix_tree.specs.Change.{ChangedAt}
+use Rattle.kob_prefix_tree.proofs.Words.{ChangedAt, contents, key_of, subst, sym, with_serial}
 use Rattle.kob_prefix_tree.proofs.branch.Branch.grow.Goals as goal
 
 pub returns : goal.returns

@@ -1,7 +1,4 @@
-use Rattle.std.proofs.Common.{◌≡◌, [], IsTrue, sym, ap, ◌∙◌, subst}
-use Rattle.std.proofs.Math.Bool.{true≢false}
-use Rattle.kob_prefix_tree.specs.Contents.{end_of, trie_of}
-use Rattle.kob_prefix_tree.specs.Trie.{Contents, bare, led_by}
+use Rattle.kob_prefix_tree.proofs.Words.{Contents, IsTrue, [], ap, bare, end_of, led_by, subst, sym, trie_of, true≢false, ◌∙◌, ◌≡◌}
 use Rattle.kob_prefix_tree.proofs.TailLemmas.{tail_of_bare, no_nodes}
 use Rattle.kob_prefix_tree.proofs.branch.Branch.is_bare.Goals as goal
 use Rattle.kob_prefix_tree.proofs.branch.Branch.is_bare.Goals.{then-is_empty, else-is_empty}

@@ -1,11 +1,4 @@
-use Rattle.std.proofs.Common.{[], ◌∷◌, ◌++◌, unwrap_or, sym, ap, ◌∙◌, subst}
-use Rattle.kob_prefix_tree.specs.Held.{Held, with_serial}
-use Rattle.kob_prefix_tree.specs.Trie.{Contents, bare, led_by}
-use Rattle.kob_prefix_tree.specs.Siblings.{siblings}
-use Rattle.kob_prefix_tree.specs.Contents.{contents, end_of, trie_of}
-use Rattle.kob_prefix_tree.specs.Path.{key_of}
-use Rattle.kob_prefix_tree.specs.Change.{ChangedAt}
-use Rattle.kob_prefix_tree.specs.Way.{LeadsNowhere}
+use Rattle.kob_prefix_tree.proofs.Words.{ChangedAt, Contents, Held, LeadsNowhere, [], ap, bare, contents, end_of, key_of, led_by, siblings, subst, sym, trie_of, unwrap_or, with_serial, ◌++◌, ◌∙◌, ◌∷◌}
 use Rattle.kob_prefix_tree.proofs.ChangeLemmas.{changed_here, linked_front}
 use Rattle.kob_prefix_tree.proofs.WayLemmas.{behind, neat_inside, some_put}
 use Rattle.kob_prefix_tree.proofs.branch.Branch.link.Goals as goal

@@ -1,7 +1,4 @@
-use Rattle.std.proofs.Common.{sym, ap, ◌∙◌, subst}
-use Rattle.kob_prefix_tree.specs.Contents.{contents}
-use Rattle.kob_prefix_tree.specs.Held.{has_serials, without_serials}
-use Rattle.kob_prefix_tree.specs.Change.{ChangedAt}
+use Rattle.kob_prefix_tree.proofs.Words.{ChangedAt, ap, contents, has_serials, subst, sym, without_serials, ◌∙◌}
 use Rattle.kob_prefix_tree.proofs.branch.Branch.remove_all.Goals as goal
 
 pub returns : goal.returns

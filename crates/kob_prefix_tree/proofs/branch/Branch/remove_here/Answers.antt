@@ -1,9 +1,4 @@
-use Rattle.std.proofs.Common.{length, sym, ap, ◌∙◌, arith}
-use Rattle.std.proofs.Math.Bool.{true≢false}
-use Rattle.std.proofs.lemmas.Bool.{eq-eqb, eqb-true}
-use Rattle.kob_prefix_tree.specs.Held.{has_serials, without_serials}
-use Rattle.kob_prefix_tree.specs.Trie.{led_by}
-use Rattle.kob_prefix_tree.specs.Contents.{end_of, trie_of}
+use Rattle.kob_prefix_tree.proofs.Words.{ap, arith, end_of, eq-eqb, eqb-true, has_serials, led_by, length, sym, trie_of, true≢false, without_serials, ◌∙◌}
 use Rattle.kob_prefix_tree.proofs.PartsLemmas.{none_here, held_at_end, changed_at_end}
 use Rattle.kob_prefix_tree.proofs.branch.Branch.remove_here.Goals as goal
 

@@ -1,8 +1,4 @@
-use Rattle.std.proofs.Common.{◌++◌, sym, ap, ◌∙◌}
-use Rattle.std.proofs.Math.Bool.{true≢false}
-use Rattle.kob_prefix_tree.specs.Nodes.{with_others}
-use Rattle.kob_prefix_tree.specs.declared.link.Link.{Link}
-use Rattle.kob_prefix_tree.specs.declared.cells.Serial.{Serial}
+use Rattle.kob_prefix_tree.proofs.Words.{Link, Serial, ap, sym, true≢false, with_others, ◌++◌, ◌∙◌}
 use Rattle.kob_prefix_tree.proofs.CellLemmas.{end_joined, values_are}
 use Rattle.kob_prefix_tree.proofs.cells.Cells.append.Goals as goal
 

@@ -1,5 +1,4 @@
-use Rattle.std.proofs.Common.{◌≡◌, ◌++◌, ◌||◌, length}
-use Rattle.kob_prefix_tree.specs.Lists.{has_in_turn, without_in_turn}
+use Rattle.kob_prefix_tree.proofs.Words.{has_in_turn, length, without_in_turn, ◌++◌, ◌||◌, ◌≡◌}
 use Rattle.kob_prefix_tree.proofs.cells.Cells.remove_all.Given as goal
 
 abbrev pub invariant-loop-next : goal.invariant-loop-next

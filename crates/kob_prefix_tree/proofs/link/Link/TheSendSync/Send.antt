@@ -1,16 +1,7 @@
 -- A link may go to another thread where what its nodes keep may: its nodes lie behind it, and nothing else.
-use base.Shift.{Keyless}
-use denote.Param.Send.{IsSend, owning_send, struct_send, sendable}
-use denote.RattleType.{RattleType}
-use denote.RawPtr.{Ptr}
-use denote.Memory.{lone}
-use denote.Struct.Struct.{exits_of}
-use denote.Struct.Owning.{shape, fields, to, row}
+use Rattle.kob_prefix_tree.proofs.Words.{IsSend, Keyless, NodeOf, Ptr, RattleType, Tree, exits_of, frees, leaf, lies, lone, node, node_of, nodes_own, owning_send, quiet, row, sendable, shape, struct_send, to, way}
+use denote.Struct.Owning.{fields}
 use mir.Raw.{raw}
-use Rattle.std_alloc.proofs.SendSync.{quiet, lies}
-use Rattle.std.proofs.Crossing.{frees}
-use Rattle.kob_prefix_tree.specs.Tree.{Tree, leaf, node}
-use Rattle.kob_prefix_tree.specs.Owned.{NodeOf, node_of, nodes_own, way}
 use Rattle.kob_prefix_tree.specs.contracts.link.Link as link
 use Rattle.kob_prefix_tree.proofs.node.Node.TheSendSync as block
 

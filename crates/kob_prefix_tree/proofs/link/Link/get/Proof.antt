@@ -1,33 +1,10 @@
 -- `get` names the place where the pointer leads. What the link lends of its nodes has the `&` to the node that lies
 -- there.
-use Rattle.std.proofs.Common.{◌≡◌, ◌+◌, List, [], ◌∷◌, refl}
-use Rattle.std.proofs.raw_atomic.Walks.{leaves, proved}
-use Rattle.core.proofs.alloc.Shapes.{after}
-use base.Fml.{flft, ftrue}
-use base.Logic.{emp}
-use contract.BorrowLft.{◌⊑◌}
-use contract.Monad.{fact, fact_i}
-use contract.Running.{tables}
-use denote.Exit.{yes}
-use denote.Param.{layouts, param}
-use denote.RawPtr.{block_of, block_ptr, count_of}
-use denote.Ref.{Bor, shr_Tells, shr_vals}
-use denote.Signature.{plain}
-use denote.Triple.Walked.{Goes-none_ref, Stays, stay_none_ref, walk_of}
-use mir.MapTy.{inst_fn}
-use mir.Syntax.{a_type, named}
-use mir.Val.{Val, vptr}
-use types.ByLocal.{alloc_all, env, free_all, pass_all, sets, sets_last}
-use types.Kit.{◌$◌, ◌∵◌, ◌⊛◌, !, ‵, at_ret, by, feq_i, fjoin, keep, move, qed, raw, rewrite, use0}
-use types.Part.{whole}
-use types.Run.{blocks, enter, exec, first, returns}
+use Rattle.kob_prefix_tree.proofs.Words.{ !, Bor, Goes-none_ref, Leads, List, Stays, Tree, Val, [], a_type, after, alloc_all, at_ret, block_of, block_ptr, blocks, by, count_of, emp, enter, env, exec, fact, fact_i, feq_i, first, fjoin, flft, free_all, ftrue, inst_fn, keep, layouts, leaves, move, named, nodes_lent, param, pass_all, plain, proved, qed, raw, refl, returns, rewrite, sets, sets_last, shr_Tells, shr_vals, stay_none_ref, tables, tree_of, use0, vptr, walk_of, whole, yes, ‵, ◌$◌, ◌+◌, ◌∵◌, ◌∷◌, ◌≡◌, ◌⊑◌, ◌⊛◌}
 use Rattle.kob_prefix_tree.proofs.Blocks.{FirstNode}
 use Rattle.kob_prefix_tree.proofs.Firsts.{first_of, sees_first}
 use Rattle.kob_prefix_tree.proofs.Moves.{heard_last, reaches, read_local, read_result}
 use Rattle.kob_prefix_tree.proofs.Read.{ends, enters, given, shut_pointer, with_pointer}
-use Rattle.kob_prefix_tree.specs.Nodes.{Leads, tree_of}
-use Rattle.kob_prefix_tree.specs.Owned.{nodes_lent}
-use Rattle.kob_prefix_tree.specs.Tree.{Tree}
 use Rattle.kob_prefix_tree.specs.contracts.link.Link as link
 use Rattle.kob_prefix_tree.specs.contracts.link.Link.get as f
 use Rattle.kob_prefix_tree.proofs.link.Link.get.Code as code

@@ -1,29 +1,9 @@
 -- `is_null` compares a copy of the pointer with null. That this may be asked, and what the answer means, is told by
 -- what the link lends of its nodes.
-use Rattle.std.proofs.Common.{◌≡◌, ◌+◌, List, [], ◌∷◌, refl}
-use Rattle.std.proofs.raw_atomic.Walks.{leaves, proved}
-use Rattle.std.specs.Prelude.{Bool, IsTrue, ◌↔◌}
-use Rattle.core.proofs.atomic.Steps.{Ptr-Good}
-use base.Fml.{flft, ftrue}
-use base.Logic.{emp}
-use contract.Monad.{fact, fact_i}
-use contract.Running.{tables}
-use denote.Exit.{yes}
-use denote.Param.{layouts, param}
-use denote.RawPtr.{ptr_val, tests_null}
-use denote.Ref.{shr_Tells, shr_vals}
-use denote.Signature.{plain}
-use denote.Triple.Walked.{Goes-none_ref, Stays, stay_none_ref, walk_of}
-use mir.MapTy.{inst_fn}
-use mir.Syntax.{a_type, named}
-use mir.Val.{Val, ptr_same, vbool, vnull}
-use types.ByLocal.{alloc_all, free_all, get, pass_all, sets}
-use types.Kit.{◌$◌, ◌∵◌, ◌⊛◌, !, ‵, by, feq_i, keep, move, qed, raw, use0}
-use types.Run.{bin, enter, lit, returns}
+use Rattle.kob_prefix_tree.proofs.Words.{ !, Bool, Goes-none_ref, IsTrue, List, Ptr-Good, Stays, Val, [], a_type, alloc_all, bin, by, emp, enter, fact, fact_i, feq_i, flft, free_all, ftrue, get, inst_fn, keep, layouts, leaf, leaves, lit, move, named, param, pass_all, plain, proved, ptr_same, ptr_val, qed, raw, refl, returns, sets, shr_Tells, shr_vals, stay_none_ref, tables, tests_null, use0, vbool, vnull, walk_of, yes, ‵, ◌$◌, ◌+◌, ◌↔◌, ◌∵◌, ◌∷◌, ◌≡◌, ◌⊛◌}
 use Rattle.kob_prefix_tree.proofs.Firsts.{tells_null}
 use Rattle.kob_prefix_tree.proofs.Moves.{read_beyond, read_result}
 use Rattle.kob_prefix_tree.proofs.Read.{ends, enters, given, shut_pointer, with_pointer}
-use Rattle.kob_prefix_tree.specs.Tree.{leaf}
 use Rattle.kob_prefix_tree.specs.contracts.link.Link as link
 use Rattle.kob_prefix_tree.specs.contracts.link.Link.is_null as f
 use Rattle.kob_prefix_tree.proofs.link.Link.is_null.Code as code

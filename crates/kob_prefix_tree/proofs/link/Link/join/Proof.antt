@@ -1,32 +1,9 @@
 -- `join` opens the siblings at their end, stores the other link there, and closes them with it.
-use Rattle.std.proofs.Common.{◌≡◌, ◌+◌, List, [], ◌∷◌, ◌++◌, refl, ap, ◌∙◌}
-use Rattle.std.proofs.raw_atomic.Walks.{leaves, proved_at}
-use Rattle.core.proofs.alloc.Calls.{Goes-blank}
-use Rattle.core.proofs.alloc.Shapes.{after}
-use base.Fml.{flft, ftrue}
-use base.Logic.{SProp, emp}
-use contract.BorrowLft.{◌⊑◌}
-use contract.Monad.{fact, fact_i}
-use contract.Running.{tables}
-use denote.Exit.{no, yes}
-use denote.Param.{layouts, param}
-use denote.RattleType.{RattleType, owns}
-use denote.RawPtr.{Ptr, RawPtr, ptr_val}
-use denote.Signature.{plain, types_at}
-use denote.Triple.Walked.{Goes-dropped, Stays, stay_dropped, walk_of}
-use mir.MapTy.{inst_fn}
-use mir.Syntax.{a_type}
-use mir.Val.{Val, vptr}
-use prog.Wp.{WpFn}
-use types.ByLocal.{alloc_all, env, free_all, pass_all, sets}
-use types.Kit.{◌$◌, ◌∵◌, ◌⊛◌, !, ‵, at_ret, by, drop, feq_l, fsplit, join, keep, move, prop, qed, raw, regoal, split, split3, use0}
-use types.Run.{assigns_last, blocks, enter, exec, first, returns, store}
-use denote.Steps.{heard}
+use Rattle.kob_prefix_tree.proofs.Words.{ !, Goes-blank, Goes-dropped, Leads, Link, List, Ptr, RattleType, RawPtr, SProp, Stays, Val, WpFn, [], a_type, after, alloc_all, ap, assigns_last, at_ret, blocks, by, emp, enter, env, exec, fact, fact_i, feq_l, first, flft, free_all, fsplit, ftrue, heard, inst_fn, join, keep, last_of, layouts, leaves, move, no, owns, param, pass_all, plain, prop, proved_at, ptr_val, qed, raw, refl, regoal, returns, sets, split, split3, stay_dropped, store, tables, types_at, use0, vptr, walk_of, with_others, yes, ‵, ◌$◌, ◌++◌, ◌+◌, ◌∙◌, ◌∵◌, ◌∷◌, ◌≡◌, ◌⊑◌, ◌⊛◌}
+use types.Kit.{drop}
 use Rattle.kob_prefix_tree.proofs.Ends.{closes_with, end_offset, link_lies, opens_end}
 use Rattle.kob_prefix_tree.proofs.Firsts.{apart, together, word, word_fits}
 use Rattle.kob_prefix_tree.proofs.Moves.{leads_to, names_member, nothing_of_three, read_local, read_result}
-use Rattle.kob_prefix_tree.specs.Nodes.{Leads, with_others, last_of}
-use Rattle.kob_prefix_tree.specs.declared.link.Link.{Link}
 use Rattle.kob_prefix_tree.specs.contracts.link.Link as link
 use Rattle.kob_prefix_tree.specs.contracts.link.Link.join as f
 use Rattle.kob_prefix_tree.proofs.link.Link.join.Code as code

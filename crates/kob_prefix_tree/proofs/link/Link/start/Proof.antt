@@ -1,23 +1,5 @@
 -- `start` hands out a copy of the pointer, which it opens and shuts.
-use Rattle.std.proofs.Common.{◌≡◌, ◌+◌, List, [], ◌∷◌, refl}
-use Rattle.std.proofs.raw_atomic.Walks.{leaves, proved}
-use Rattle.core.proofs.atomic.Steps.{Ptr-Good}
-use base.Fml.{flft, ftrue}
-use base.Logic.{emp}
-use contract.Monad.{fact, fact_i}
-use contract.Running.{tables}
-use denote.Exit.{yes}
-use denote.Param.{layouts, param}
-use denote.RawPtr.{ptr_val}
-use denote.Ref.{shr_Tells, shr_vals}
-use denote.Signature.{plain}
-use denote.Triple.Walked.{Goes-none_ref, Stays, stay_none_ref, walk_of}
-use mir.MapTy.{inst_fn}
-use mir.Syntax.{a_type, named}
-use mir.Val.{Val}
-use types.ByLocal.{alloc_all, free_all, pass_all, sets}
-use types.Kit.{◌$◌, ◌∵◌, ◌⊛◌, !, ‵, by, feq_i, keep, move, qed, raw, use0}
-use types.Run.{enter, returns}
+use Rattle.kob_prefix_tree.proofs.Words.{ !, Goes-none_ref, List, Ptr-Good, Stays, Val, [], a_type, alloc_all, by, emp, enter, fact, fact_i, feq_i, flft, free_all, ftrue, inst_fn, keep, layouts, leaves, move, named, param, pass_all, plain, proved, ptr_val, qed, raw, refl, returns, sets, shr_Tells, shr_vals, stay_none_ref, tables, use0, walk_of, yes, ‵, ◌$◌, ◌+◌, ◌∵◌, ◌∷◌, ◌≡◌, ◌⊛◌}
 use Rattle.kob_prefix_tree.proofs.Moves.{read_beyond, read_result}
 use Rattle.kob_prefix_tree.proofs.Read.{ends, enters, given, shut_pointer, with_pointer}
 use Rattle.kob_prefix_tree.specs.contracts.link.Link as link

@@ -1,8 +1,4 @@
-use Rattle.std.proofs.Common.{◌++◌, ap, sym, ◌∙◌, Option}
-use Rattle.kob_prefix_tree.specs.declared.place.Place.{Place}
-use Rattle.kob_prefix_tree.specs.Contents.{seen}
-use Rattle.kob_prefix_tree.specs.Part.{held_from}
-use Rattle.kob_prefix_tree.specs.Siblings.{held_in}
+use Rattle.kob_prefix_tree.proofs.Words.{Option, Place, ap, held_from, held_in, seen, sym, ◌++◌, ◌∙◌}
 use Rattle.kob_prefix_tree.proofs.PartLemmas.{from_match}
 use Rattle.kob_prefix_tree.proofs.part.Part.at.Goals as goal
 

@@ -1,6 +1,4 @@
-use Rattle.std.proofs.Common.{◌∷◌, ◌∙◌}
-use Rattle.kob_prefix_tree.specs.Contents.{seen}
-use Rattle.kob_prefix_tree.specs.Siblings.{held_in}
+use Rattle.kob_prefix_tree.proofs.Words.{held_in, seen, ◌∙◌, ◌∷◌}
 use Rattle.kob_prefix_tree.proofs.PartLemmas.{from_match}
 use Rattle.kob_prefix_tree.proofs.part.Part.behind.Goals as goal
 

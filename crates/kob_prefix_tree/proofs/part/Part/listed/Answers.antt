@@ -1,8 +1,4 @@
-use Rattle.std.proofs.Common.{◌≡◌, refl, ap, ◌∙◌, [], append-nil}
-use Rattle.kob_prefix_tree.specs.Held.{nothing, serials_of}
-use Rattle.kob_prefix_tree.specs.Part.{part_of}
-use Rattle.kob_prefix_tree.specs.declared.kind.PatternKind.{PatternKind}
-use Rattle.kob_prefix_tree.specs.declared.kind.PatternKind.TheVariants.{Literal, Prefixed}
+use Rattle.kob_prefix_tree.proofs.Words.{Literal, PatternKind, Prefixed, [], ap, append-nil, nothing, part_of, refl, serials_of, ◌∙◌, ◌≡◌}
 use Rattle.kob_prefix_tree.proofs.part.Part.listed.Goals as goal
 
 none_of_kind : (kind : PatternKind) → [] ≡ serials_of kind nothing

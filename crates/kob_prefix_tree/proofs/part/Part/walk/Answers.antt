@@ -1,9 +1,4 @@
-use Rattle.std.proofs.Common.{sym, ap, ◌∙◌, Option}
-use Rattle.kob_prefix_tree.specs.declared.place.Place.{Place}
-use Rattle.kob_prefix_tree.specs.Contents.{seen}
-use Rattle.kob_prefix_tree.specs.Part.{held_from}
-use Rattle.kob_prefix_tree.specs.Siblings.{held_in}
-use Rattle.kob_prefix_tree.specs.Walked.{serials_along}
+use Rattle.kob_prefix_tree.proofs.Words.{Option, Place, ap, held_from, held_in, seen, serials_along, sym, ◌∙◌}
 use Rattle.kob_prefix_tree.proofs.WalkLemmas.{serials_along_first, serials_along_nothing}
 use Rattle.kob_prefix_tree.proofs.part.Part.walk.Goals as goal
 

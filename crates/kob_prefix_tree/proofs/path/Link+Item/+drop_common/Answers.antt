@@ -1,4 +1,4 @@
-use Rattle.std.proofs.Common.{◌∷◌, sym, ◌∙◌}
+use Rattle.kob_prefix_tree.proofs.Words.{sym, ◌∙◌, ◌∷◌}
 use Rattle.kob_prefix_tree.proofs.PartsLemmas.{one_more}
 use Rattle.kob_prefix_tree.proofs.path.Link+Item.+drop_common.Goals as goal
 

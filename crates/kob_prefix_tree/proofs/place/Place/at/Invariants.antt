@@ -1,6 +1,4 @@
-use Rattle.std.proofs.Common.{◌≡◌, ◌++◌, length, List, ℕ}
-use Rattle.kob_prefix_tree.specs.Contents.{seen}
-use Rattle.kob_prefix_tree.specs.Siblings.{held_in}
+use Rattle.kob_prefix_tree.proofs.Words.{List, held_in, length, seen, ℕ, ◌++◌, ◌≡◌}
 use Rattle.kob_prefix_tree.proofs.place.Place.at.Given as goal
 
 abbrev pub invariant-loop-byte : goal.invariant-loop-byte

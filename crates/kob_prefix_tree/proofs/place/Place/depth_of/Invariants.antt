@@ -1,7 +1,4 @@
-use Rattle.std.proofs.Common.{◌≡◌, ℕ, ◌+◌, length}
-use Rattle.kob_prefix_tree.specs.Contents.{seen}
-use Rattle.kob_prefix_tree.specs.Siblings.{held_in, IsNeat}
-use Rattle.kob_prefix_tree.specs.Walked.{IsLongestInUse}
+use Rattle.kob_prefix_tree.proofs.Words.{IsLongestInUse, IsNeat, held_in, length, seen, ℕ, ◌+◌, ◌≡◌}
 use Rattle.kob_prefix_tree.proofs.place.Place.depth_of.Given as goal
 
 abbrev pub invariant-loop-byte : goal.invariant-loop-byte

@@ -1,6 +1,4 @@
-use Rattle.std.proofs.Common.{◌≡◌}
-use Rattle.kob_prefix_tree.specs.Siblings.{count, siblings, value_at}
-use Rattle.kob_prefix_tree.specs.Contents.{trie_of}
+use Rattle.kob_prefix_tree.proofs.Words.{count, siblings, trie_of, value_at, ◌≡◌}
 use Rattle.kob_prefix_tree.proofs.siblings.Link+Item.find.Given as goal
 
 abbrev pub invariant-loop-at : goal.invariant-loop-at

@@ -1,4 +1,4 @@
-use Rattle.std.proofs.Common.{◌≡◌, ◌++◌, length}
+use Rattle.kob_prefix_tree.proofs.Words.{length, ◌++◌, ◌≡◌}
 use Rattle.kob_prefix_tree.proofs.tail.Tail.of.Given as goal
 
 abbrev pub invariant-loop-byte : goal.invariant-loop-byte

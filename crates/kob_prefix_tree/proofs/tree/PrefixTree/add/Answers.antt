@@ -1,8 +1,4 @@
-use Rattle.std.proofs.Common.{ap, ◌∙◌, subst}
-use Rattle.kob_prefix_tree.specs.Contents.{contents}
-use Rattle.kob_prefix_tree.specs.Held.{with_serial}
-use Rattle.kob_prefix_tree.specs.Change.{ChangedAt}
-use Rattle.kob_prefix_tree.specs.PrefixMap.{added}
+use Rattle.kob_prefix_tree.proofs.Words.{ChangedAt, added, ap, contents, subst, with_serial, ◌∙◌}
 use Rattle.kob_prefix_tree.proofs.ChangeLemmas.{on_ok, on_err}
 use Rattle.kob_prefix_tree.proofs.MapLemmas.{added_of, same_of}
 use Rattle.kob_prefix_tree.proofs.tree.PrefixTree.add.Goals as goal

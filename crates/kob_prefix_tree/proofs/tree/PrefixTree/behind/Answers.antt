@@ -1,4 +1,4 @@
-use Rattle.std.proofs.Common.{◌∙◌, ◌∷◌, ◌++◌}
+use Rattle.kob_prefix_tree.proofs.Words.{◌++◌, ◌∙◌, ◌∷◌}
 use Rattle.kob_prefix_tree.proofs.tree.PrefixTree.behind.Goals as goal
 
 pub returns : goal.returns

@@ -1,5 +1,4 @@
-use Rattle.std.proofs.Common.{ap, ◌∙◌, List, ℕ}
-use Rattle.kob_prefix_tree.specs.Held.{Held, serials_of}
+use Rattle.kob_prefix_tree.proofs.Words.{Held, List, ap, serials_of, ℕ, ◌∙◌}
 use Rattle.kob_prefix_tree.proofs.tree.PrefixTree.listed.Goals as goal
 
 pub returns : goal.returns

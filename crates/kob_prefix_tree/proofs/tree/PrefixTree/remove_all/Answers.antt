@@ -1,7 +1,4 @@
-use Rattle.std.proofs.Common.{sym, ap, ◌∙◌}
-use Rattle.kob_prefix_tree.specs.Contents.{contents}
-use Rattle.kob_prefix_tree.specs.Held.{has_serials}
-use Rattle.kob_prefix_tree.specs.PrefixMap.{held, removed_all}
+use Rattle.kob_prefix_tree.proofs.Words.{ap, contents, has_serials, held, removed_all, sym, ◌∙◌}
 use Rattle.kob_prefix_tree.proofs.MapLemmas.{held_of_map, removed_all_of}
 use Rattle.kob_prefix_tree.proofs.tree.PrefixTree.remove_all.Goals as goal
 

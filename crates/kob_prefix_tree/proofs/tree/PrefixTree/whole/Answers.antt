@@ -1,7 +1,4 @@
-use Rattle.std.proofs.Common.{ap, ◌∙◌}
-use Rattle.kob_prefix_tree.specs.Contents.{contents}
-use Rattle.kob_prefix_tree.specs.PrefixMap.{held}
-use Rattle.kob_prefix_tree.specs.Siblings.{held_in}
+use Rattle.kob_prefix_tree.proofs.Words.{ap, contents, held, held_in, ◌∙◌}
 use Rattle.kob_prefix_tree.proofs.MapLemmas.{held_everywhere}
 use Rattle.kob_prefix_tree.proofs.tree.PrefixTree.whole.Goals as goal
 

@@ -1,7 +1,4 @@
-use Rattle.std.proofs.Common.{[], ◌++◌, sym, ap, ◌∙◌}
-use Rattle.kob_prefix_tree.specs.WalkLeft.{serials_beyond}
-use Rattle.kob_prefix_tree.specs.Siblings.{held_in}
-use Rattle.kob_prefix_tree.specs.Contents.{seen}
+use Rattle.kob_prefix_tree.proofs.Words.{[], ap, held_in, seen, serials_beyond, sym, ◌++◌, ◌∙◌}
 use Rattle.kob_prefix_tree.proofs.WalkLemmas.{step_none, step_child}
 use Rattle.kob_prefix_tree.proofs.walk.WalkIterator.next.Goals as goal
 

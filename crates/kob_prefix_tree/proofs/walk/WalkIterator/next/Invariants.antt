@@ -1,5 +1,4 @@
-use Rattle.std.proofs.Common.{◌≡◌}
-use Rattle.kob_prefix_tree.specs.WalkLeft.{left_of}
+use Rattle.kob_prefix_tree.proofs.Words.{left_of, ◌≡◌}
 use Rattle.kob_prefix_tree.proofs.WalkLemmas.{steps_ahead}
 use Rattle.kob_prefix_tree.proofs.walk.WalkIterator.next.Given as goal
 
