@@ -1,51 +1,32 @@
--- What stands in a list after one element is put in or taken out.
-use Rattle.std.proofs.lemmas.Bool.Decides.{nat_tests}
-use Rattle.std.proofs.Common.{◌≡◌, ◌⊎◌, ℕ, zero, suc, ◌≤◌, ◌<◌, List, [], ◌∷◌, Some, length, slice_get, refl, ap, inl, inr, arith}
-use Rattle.std.specs.List.{insert, remove}
+-- An element by its place after an edit.
+use Rattle.kob_ordered.proofs.Words.{List, Some, [], arith, cond, insert, length, ltb, nat_tests, option_map, refl, remove, set, slice_get, suc, zero, ℕ, ◌++◌, ◌+◌, ◌-◌, ◌==◌, ◌∷◌, ◌≡◌, ◌≤◌}
 
 module _ {X : Type 0} where
-  -- where an element stood before one was put in
-  pub inserted : (xs : List X) (i : ℕ) (x : X) (k : ℕ) (y : X) → i ≤ length xs
-      → slice_get (insert xs i x) k ≡ Some y
-      → ((k < i) × (slice_get xs k ≡ Some y)) ⊎ (((k ≡ i) × (y ≡ x))
-      ⊎ ((p : ℕ) × (k ≡ suc p) × (i ≤ p) × (slice_get xs p ≡ Some y)))
-  inserted [] zero x zero y le there = inr (inl (refl, cc))
-  inserted [] zero x (suc k) y le there = cc
-  inserted [] (suc i) x k y le there = absurd (omega (arith, le))
-  inserted (head ∷ xs) zero x zero y le there = inr (inl (refl, cc))
-  inserted (head ∷ xs) zero x (suc k) y le there = inr (inr (k, refl, omega arith, there))
-  inserted (head ∷ xs) (suc i) x zero y le there = inl (omega arith, there)
-  inserted (head ∷ xs) (suc i) x (suc k) y le there =
-      grind (arith, nat_tests, inserted xs i x k y (omega (arith, le)) there)
+  pub get_push : (xs : List X) (y : X) (k : ℕ) → slice_get (xs ++ y ∷ []) k ≡ cond (k == length xs) (Some y) (slice_get xs k)
+  get_push [] y zero = refl
+  get_push [] y (suc k) = grind (arith, nat_tests)
+  get_push (x ∷ xs) y zero = grind (arith, nat_tests)
+  get_push (x ∷ xs) y (suc k) = grind (arith, nat_tests, get_push xs y k)
 
-  pub inserted_here : (xs : List X) (i : ℕ) (x : X) → i ≤ length xs → slice_get (insert xs i x) i ≡ Some x
-  inserted_here [] zero x le = refl
-  inserted_here [] (suc i) x le = absurd (omega (arith, le))
-  inserted_here (head ∷ xs) zero x le = refl
-  inserted_here (head ∷ xs) (suc i) x le = inserted_here xs i x (omega (arith, le))
+  pub get_set : (xs : List X) (p : ℕ) (y : X) (k : ℕ)
+      → slice_get (set xs p y) k ≡ cond (k == p) (option_map (λ _. y) (slice_get xs k)) (slice_get xs k)
+  get_set [] p y k = grind (arith, nat_tests)
+  get_set (x ∷ xs) zero y zero = refl
+  get_set (x ∷ xs) zero y (suc k) = grind (arith, nat_tests)
+  get_set (x ∷ xs) (suc p) y zero = grind (arith, nat_tests)
+  get_set (x ∷ xs) (suc p) y (suc k) = grind (arith, nat_tests, get_set xs p y k)
 
-  pub still_there : (xs : List X) (i : ℕ) (x : X) (k : ℕ) (y : X) → slice_get xs k ≡ Some y
-      → (p : ℕ) × (slice_get (insert xs i x) p ≡ Some y)
-  still_there [] i x k y there = cc
-  still_there (head ∷ xs) zero x k y there = (suc k, there)
-  still_there (head ∷ xs) (suc i) x zero y there = (0, there)
-  still_there (head ∷ xs) (suc i) x (suc k) y there =
-      let later = still_there xs i x k y there in (suc later.0, later.1)
+  pub get_insert : (xs : List X) (i : ℕ) (y : X) (k : ℕ) → i ≤ length xs → slice_get (insert xs i y) k
+      ≡ cond (ltb k i) (slice_get xs k) (cond (k == i) (Some y) (slice_get xs (k - 1)))
+  get_insert [] i y k le = grind (arith, nat_tests)
+  get_insert (x ∷ xs) zero y zero le = refl
+  get_insert (x ∷ xs) zero y (suc k) le = grind (arith, nat_tests)
+  get_insert (x ∷ xs) (suc i) y zero le = grind (arith, nat_tests)
+  get_insert (x ∷ xs) (suc i) y (suc k) le = grind (arith, nat_tests, get_insert xs i y k)
 
-  -- where an element stood before one was taken out
-  pub removed_from : (xs : List X) (i k : ℕ) (y : X) → slice_get (remove xs i) k ≡ Some y
-      → ((k < i) × (slice_get xs k ≡ Some y)) ⊎ ((i ≤ k) × (slice_get xs (suc k) ≡ Some y))
-  removed_from [] zero k y there = cc
-  removed_from [] (suc i) k y there = cc
-  removed_from (head ∷ xs) zero k y there = inr (omega arith, there)
-  removed_from (head ∷ xs) (suc i) zero y there = inl (omega arith, there)
-  removed_from (head ∷ xs) (suc i) (suc k) y there = grind (arith, nat_tests, removed_from xs i k y there)
-
-  pub stays : (xs : List X) (i k : ℕ) (y : X) → (k ≡ i → ⊥) → slice_get xs k ≡ Some y
-      → (p : ℕ) × (slice_get (remove xs i) p ≡ Some y)
-  stays [] i k y other there = cc
-  stays (head ∷ xs) zero zero y other there = absurd (other refl)
-  stays (head ∷ xs) zero (suc k) y other there = (k, there)
-  stays (head ∷ xs) (suc i) zero y other there = (0, there)
-  stays (head ∷ xs) (suc i) (suc k) y other there =
-      let later = stays xs i k y (λ same. other (ap suc same)) there in (suc later.0, later.1)
+  pub get_remove : (xs : List X) (i k : ℕ) → slice_get (remove xs i) k ≡ cond (ltb k i) (slice_get xs k) (slice_get xs (k + 1))
+  get_remove [] zero k = grind (arith, nat_tests)
+  get_remove [] (suc i) k = grind (arith, nat_tests)
+  get_remove (x ∷ xs) zero k = grind (arith, nat_tests)
+  get_remove (x ∷ xs) (suc i) zero = grind (arith, nat_tests)
+  get_remove (x ∷ xs) (suc i) (suc k) = grind (arith, nat_tests, get_remove xs i k)

@@ -1,8 +1,10 @@
 pub mod Edits
 pub mod Entries
+pub mod Listed
 pub mod NameOrder
 pub mod Places
 pub mod Search
+pub mod Seen
 pub mod Sound
 pub mod Standing
-pub mod Seen
+mod Words

@@ -1,12 +1,5 @@
 -- How names compare.
-use Rattle.std.proofs.lemmas.Bool.Decides.{nat_tests}
-use Rattle.std.proofs.Common.{◌≡◌, ℕ, ◌≤◌, List, refl, sym, ap, subst, ◌∙◌, arith}
-use Rattle.std.specs.Cmp.Lexicographic.{nat_list_cmp_total}
-use Rattle.std.specs.declared.cmp.Ordering.{Ordering}
-use Rattle.std.specs.declared.cmp.Ordering.TheVariants.{Less, Equal, Greater}
-use Rattle.std.specs.Ordering.{is_eq, ordering_index, ordering_reverse}
-use Rattle.std.proofs.lemmas.Map.Text.{is_eq-slice_cmp}
-use Rattle.kob_ordered.specs.Slots.{name_order}
+use Rattle.kob_ordered.proofs.Words.{Equal, Greater, Less, List, Ordering, ap, arith, is_eq, is_eq-slice_cmp, name_order, nat_list_cmp_total, nat_tests, ordering_index, ordering_reverse, refl, subst, sym, ℕ, ◌∙◌, ◌≡◌, ◌≤◌}
 use Rattle.kob_ordered.proofs.Places.{equal_names, same_name}
 
 pub equal_from_order : (n m : List ℕ) → name_order n m ≡ Equal → n ≡ m

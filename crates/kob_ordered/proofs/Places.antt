@@ -1,12 +1,5 @@
 -- Where the entries of slots stand, and what a change of one slot does to them.
-use Rattle.std.proofs.lemmas.Bool.Decides.{nat_tests}
-use Rattle.std.proofs.Common.{◌≡◌, ◌⊎◌, ℕ, zero, suc, Bool, true, false, cond, List, [], ◌∷◌, ◌++◌, Some, IsSome, is_some, filter, length, set, slice_get, refl, sym, ap, ◌∙◌, inl, inr, arith}
-use Rattle.std.specs.Map.{lookup, remove_entry, set_value}
-use Rattle.std.proofs.lemmas.Slice.Eq.{bytes_eq-Decides}
-use Rattle.kob_names.specs.Same.{same_text}
-use Rattle.kob_ordered.specs.declared.slot.Slot.{Slot}
-use Rattle.kob_ordered.specs.declared.slot.Slot.TheVariants.{Entry, Hole}
-use Rattle.kob_ordered.specs.Slots.{Stands, entries_in, is_entry, named, names_in}
+use Rattle.kob_ordered.proofs.Words.{Bool, Entry, Hole, IsSome, List, Slot, Some, [], ap, arith, bytes_eq-Decides, cond, entries_in, false, filter, is_entry, is_some, lookup, named, names_in, nat_tests, option_map, refl, remove_entry, same_text, set, set_value, slice_get, slice_get-map, suc, sym, true, zero, ℕ, ◌++◌, ◌∙◌, ◌∷◌, ◌≡◌}
 
 pub equal_names : (a b : List ℕ) → same_text a b ≡ true → a ≡ b
 equal_names a b = (bytes_eq-Decides a b).0
@@ -15,30 +8,42 @@ pub same_name : (a b : List ℕ) → a ≡ b → same_text a b ≡ true
 same_name a b = (bytes_eq-Decides a b).1
 
 module _ {V : Type 0} where
+  -- the entry where a name stands
+  pub entry_at : (slots : List (Slot V)) (place : ℕ) (name : List ℕ)
+      → slice_get (names_in slots) place ≡ Some (Some name)
+      → (value : V) × (slice_get slots place ≡ Some (Entry name value))
+  entry_at [] place name is = cc
+  entry_at (Hole ∷ slots) zero name is = cc
+  entry_at (Entry head value ∷ slots) zero name is =
+      let same : head ≡ name = cc in (value, ap (λ n. Some (Entry n value)) same)
+  entry_at (head ∷ slots) (suc place) name is = entry_at slots place name is
+
+  pub name_at : (slots : List (Slot V)) (place : ℕ) (name : List ℕ) (value : V)
+      → slice_get slots place ≡ Some (Entry name value) → slice_get (names_in slots) place ≡ Some (Some name)
+  name_at slots place name value there = slice_get-map named slots place ∙ ap (option_map named) there
+
   -- a name of an entry has a place
   pub stands_in : (name : List ℕ) (slots : List (Slot V)) → IsSome (lookup (same_text name) (entries_in slots))
-      → (place : ℕ) × (value : V) × (slice_get slots place ≡ Some (Entry name value))
+      → (place : ℕ) × (slice_get (names_in slots) place ≡ Some (Some name))
   stands_in name [] some = cc
-  stands_in name (Hole ∷ slots) some = let later = stands_in name slots some in (suc later.0, later.1, later.2)
+  stands_in name (Hole ∷ slots) some = let later = stands_in name slots some in (suc later.0, later.1)
   stands_in name (Entry other value ∷ slots) some = by (same_text name other) refl some (stands_in name slots)
     where
       by : (hit : Bool) → same_text name other ≡ hit
           → is_some (cond hit (Some value) (lookup (same_text name) (entries_in slots))) ≡ true
           → (IsSome (lookup (same_text name) (entries_in slots))
-          → (place : ℕ) × (w : V) × (slice_get slots place ≡ Some (Entry name w)))
-          → (place : ℕ) × (w : V) × (slice_get (Entry other value ∷ slots) place ≡ Some (Entry name w))
-      by true is some rest = (0, value, ap (λ n. Some (Entry n value)) (sym (equal_names name other is)))
-      by false is some rest = let later = rest some in (suc later.0, later.1, later.2)
+          → (place : ℕ) × (slice_get (names_in slots) place ≡ Some (Some name)))
+          → (place : ℕ) × (slice_get (names_in (Entry other value ∷ slots)) place ≡ Some (Some name))
+      by true is some rest = (0, ap (λ n. Some (Some n)) (sym (equal_names name other is)))
+      by false is some rest = let later = rest some in (suc later.0, later.1)
 
-  -- no other slot has an entry of that name
+  -- no other place is that of the name
   abbrev pub IsOnly : List (Slot V) → List ℕ → ℕ → Type 0
-  IsOnly slots name place =
-      (other : ℕ) (value : V) → slice_get slots other ≡ Some (Entry name value) → other ≡ place
+  IsOnly slots name place = (other : ℕ) → slice_get (names_in slots) other ≡ Some (Some name) → other ≡ place
 
   only_later : (slot : Slot V) (slots : List (Slot V)) (name : List ℕ) (place : ℕ)
-      → IsOnly (slot ∷ slots) name (suc place)
-      → IsOnly slots name place
-  only_later slot slots name place only other value there = omega (arith, only (suc other) value there)
+      → IsOnly (slot ∷ slots) name (suc place) → IsOnly slots name place
+  only_later slot slots name place only other there = omega (arith, only (suc other) there)
 
   other_name : (head : List ℕ) (value : V) (slots : List (Slot V)) (name : List ℕ) (place : ℕ)
       → IsOnly (Entry head value ∷ slots) name (suc place) → same_text name head ≡ false
@@ -46,9 +51,7 @@ module _ {V : Type 0} where
     where
       by : (hit : Bool) → same_text name head ≡ hit → hit ≡ false
       by false is = refl
-      by true is =
-          let zero_is = only 0 value (ap (λ n. Some (Entry n value)) (sym (equal_names name head is))) in
-          absurd (omega (arith, zero_is))
+      by true is = let zero_is = only 0 (ap (λ n. Some (Some n)) (sym (equal_names name head is))) in absurd (omega (arith, zero_is))
 
   pub found_at : (slots : List (Slot V)) (name : List ℕ) (place : ℕ) (value : V)
       → slice_get slots place ≡ Some (Entry name value) → IsOnly slots name place
@@ -106,23 +109,6 @@ module _ {V : Type 0} where
   pushed (Hole ∷ slots) name value = pushed slots name value
   pushed (Entry head other ∷ slots) name value = ap (λ es. (head, other) ∷ es) (pushed slots name value)
 
-  pub pushed_slot : (slots : List (Slot V)) (slot : Slot V) (place : ℕ) (x : Slot V)
-      → slice_get (slots ++ slot ∷ []) place ≡ Some x
-      → (slice_get slots place ≡ Some x) ⊎ ((place ≡ length slots) × (x ≡ slot))
-  pushed_slot [] slot zero x there = inr (refl, cc)
-  pushed_slot [] slot (suc place) x there = cc
-  pushed_slot (head ∷ slots) slot zero x there = inl there
-  pushed_slot (head ∷ slots) slot (suc place) x there = grind (arith, nat_tests, pushed_slot slots slot place x there)
-
-  -- the entry where a name stands
-  pub entry_at : (slots : List (Slot V)) (place : ℕ) (name : List ℕ)
-      → slice_get (names_in slots) place ≡ Some (Some name) → Stands slots name place
-  entry_at [] place name is = cc
-  entry_at (Hole ∷ slots) zero name is = cc
-  entry_at (Entry head value ∷ slots) zero name is =
-      let same : head ≡ name = cc in record { value = value; there = ap (λ n. Some (Entry n value)) same }
-  entry_at (head ∷ slots) (suc place) name is = grind (arith, nat_tests, entry_at slots place name is)
-
   pub names_written : (slots : List (Slot V)) (place : ℕ) (name : List ℕ) (value w : V)
       → slice_get slots place ≡ Some (Entry name value)
       → names_in (set slots place (Entry name w)) ≡ names_in slots
@@ -136,13 +122,3 @@ module _ {V : Type 0} where
   packed [] = refl
   packed (Hole ∷ slots) = packed slots
   packed (Entry name value ∷ slots) = ap (λ es. (name, value) ∷ es) (packed slots)
-
-  pub slot_after_write : (slots : List (Slot V)) (place : ℕ) (slot : Slot V) (other : ℕ) (x : Slot V)
-      → slice_get (set slots place slot) other ≡ Some x
-      → (slice_get slots other ≡ Some x) ⊎ ((other ≡ place) × (x ≡ slot))
-  slot_after_write [] place slot other x there = inl there
-  slot_after_write (head ∷ slots) zero slot zero x there = inr (refl, cc)
-  slot_after_write (head ∷ slots) zero slot (suc other) x there = inl there
-  slot_after_write (head ∷ slots) (suc place) slot zero x there = inl there
-  slot_after_write (head ∷ slots) (suc place) slot (suc other) x there =
-      grind (arith, nat_tests, slot_after_write slots place slot other x there)

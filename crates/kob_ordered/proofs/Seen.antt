@@ -1,10 +1,5 @@
 -- What entries show whose values are seen by a part of them, and what is read of them without a name.
-use Rattle.std.proofs.Common.{arith}
-use Rattle.std.proofs.lemmas.Bool.Decides.{nat_tests}
-use Rattle.std.proofs.Common.{◌≡◌, Bool, true, false, cond, not, ℕ, filter, List, [], ◌∷◌, Option, None, is_some, map, option_map, refl, sym, ap, ◌∙◌}
-use Rattle.std.proofs.lemmas.Map.Entries.{lookup-filter-keys}
-use Rattle.std.specs.Map.{lookup, remove_entry, set_value}
-use Rattle.kob_names.specs.Same.{same_text}
+use Rattle.kob_ordered.proofs.Words.{Bool, List, None, Option, [], ap, arith, cond, false, filter, is_some, lookup, lookup-filter-keys, map, nat_tests, not, option_map, refl, remove_entry, same_text, set_value, sym, true, ℕ, ◌∙◌, ◌∷◌, ◌≡◌}
 use Rattle.kob_ordered.proofs.Places.{equal_names}
 
 -- a test of what the items show leaves what is shown of the items that pass it

@@ -1,6 +1,5 @@
 -- Names of entries at places.
-use Rattle.std.proofs.Common.{◌≡◌, ℕ, List, [], None, unwrap_or, sym, ap, subst}
-use Rattle.kob_ordered.specs.Ordered.{Ordered, StandsAt, name_at}
+use Rattle.kob_ordered.proofs.Words.{List, None, Ordered, StandsAt, [], ap, name_at, subst, sym, unwrap_or, ℕ, ◌≡◌}
 
 module _ {V : Type 0} (m : Ordered V) (place : ℕ) (name : List ℕ) (stands : StandsAt m place name) where
   pub name_is : name_at m place ≡ name

@@ -48,46 +48,34 @@ module _ {V : Type 0} where
   order_of name (Some Hole) = Less
   order_of name (Some (Entry other value)) = name_order other name
 
-  -- the i-th of the listed places is that of the entry
-  pub record Nth (slots : List (Slot V)) (by_name : List ℕ) (i : ℕ) (name : List ℕ) (value : V)
-      : Type 0 where
-    pub place : ℕ
-    pub listed : slice_get by_name i ≡ Some place
-    pub stands : slice_get slots place ≡ Some (Entry name value)
-
-  -- the places are those of all entries, each once, in order of their names, no two of which are
-  -- the same
-  pub record IsSound (slots : List (Slot V)) (by_name : List ℕ) : Type 0 where
-    pub rising : (i j : ℕ) (n m : List ℕ) (v w : V) → i < j → Nth slots by_name i n v
-        → Nth slots by_name j m w → name_order n m ≡ Less
-    pub stand : (i place : ℕ) → slice_get by_name i ≡ Some place
-        → (name : List ℕ) × (value : V) × (slice_get slots place ≡ Some (Entry name value))
-    pub all : (place : ℕ) (name : List ℕ) (value : V)
-        → slice_get slots place ≡ Some (Entry name value)
-        → (i : ℕ) × (slice_get by_name i ≡ Some place)
-    pub distinct : IsDistinct same_text (keys_of (entries_in slots))
-    pub counted : length by_name ≡ length (entries_in slots)
-
-  -- the i-th of the listed places is that of the name
-  pub record IsAt (slots : List (Slot V)) (by_name : List ℕ) (name : List ℕ) (i : ℕ)
-      : Type 0 where
-    pub value : V
-    pub nth : Nth slots by_name i name value
-
-  -- the entry of the name stands at the place
-  pub record Stands (slots : List (Slot V)) (name : List ℕ) (place : ℕ) : Type 0 where
-    pub value : V
-    pub there : slice_get slots place ≡ Some (Entry name value)
-
-  -- the name would stand before the i-th of the listed places
-  pub record IsGap (slots : List (Slot V)) (by_name : List ℕ) (name : List ℕ) (i : ℕ)
-      : Type 0 where
-    pub within : i ≤ length by_name
-    pub before : (k : ℕ) (n : List ℕ) (v : V) → k < i → Nth slots by_name k n v
-        → name_order n name ≡ Less
-    pub after : (k : ℕ) (n : List ℕ) (v : V) → i ≤ k → Nth slots by_name k n v
-        → name_order name n ≡ Less
-
   -- how many entries stand before a place
   abbrev pub rank : List (Slot V) → ℕ → ℕ
   rank slots place = length (filter is_entry (take place slots))
+
+-- the i-th of the listed places is that of the name
+pub record Nth (names : List (Option (List ℕ))) (by_name name : List ℕ) (i : ℕ) : Type 0 where
+  pub place : ℕ
+  pub listed : slice_get by_name i ≡ Some place
+  pub stands : slice_get names place ≡ Some (Some name)
+
+-- the places are those of all names, each once, in order of the names, no two of which are the same
+pub record AreListed (names : List (Option (List ℕ))) (by_name : List ℕ) : Type 0 where
+  pub rising :
+      (i j : ℕ) (n m : List ℕ)
+      → i < j → Nth names by_name n i → Nth names by_name m j → name_order n m ≡ Less
+  pub stand : (i place : ℕ) → slice_get by_name i ≡ Some place
+      → (name : List ℕ) × (slice_get names place ≡ Some (Some name))
+  pub all : (place : ℕ) (name : List ℕ) → slice_get names place ≡ Some (Some name)
+      → (i : ℕ) × (slice_get by_name i ≡ Some place)
+
+-- the places of all entries are listed in order of their names
+pub record IsSound {V : Type 0} (slots : List (Slot V)) (by_name : List ℕ) : Type 0 where
+  pub listed : AreListed (names_in slots) by_name
+  pub distinct : IsDistinct same_text (keys_of (entries_in slots))
+  pub counted : length by_name ≡ length (entries_in slots)
+
+-- the name would stand before the i-th of the listed places
+pub record IsGap (names : List (Option (List ℕ))) (by_name name : List ℕ) (i : ℕ) : Type 0 where
+  pub within : i ≤ length by_name
+  pub before : (k : ℕ) (n : List ℕ) → k < i → Nth names by_name n k → name_order n name ≡ Less
+  pub after : (k : ℕ) (n : List ℕ) → i ≤ k → Nth names by_name n k → name_order name n ≡ Less

@@ -1,9 +1,9 @@
 //! The search for a name among the slots, whose places are listed in order of their names.
 
-ghost use Rattle.std.specs.Prelude.{◌≡◌, slice_get, IfErr, IfOk, IfSome, is_ok, is_some};
+ghost use Rattle.std.specs.Prelude.{◌≡◌, slice_get, IfErr, IfOk, IfSome, Some, is_ok, is_some};
 ghost use Rattle.std.specs.Map.{lookup};
 ghost use Rattle.kob_names.specs.Same.{same_text};
-ghost use Rattle.kob_ordered.specs.Slots.{entries_in, order_of, IsAt, IsGap, IsSound, Stands};
+ghost use Rattle.kob_ordered.specs.Slots.{entries_in, names_in, order_of, IsGap, IsSound, Nth};
 
 use crate::slot::Slot;
 use kob_names::Text;
@@ -12,8 +12,8 @@ use std::cmp::Ordering;
 /// Where the place of that name is in the sorted list of places, or where it would be.
 pub(crate) fn find<V>(slots: &[Slot<V>], by_name: &[usize], name: &Text) -> Result<usize, usize>
     requires { IsSound slots.now by_name.now }
-    ensures found { IfOk result (IsAt slots.now by_name.now name.now) }
-    ensures gap { IfErr result (IsGap slots.now by_name.now name.now) }
+    ensures found { IfOk result (Nth (names_in slots.now) by_name.now name.now) }
+    ensures gap { IfErr result (IsGap (names_in slots.now) by_name.now name.now) }
     ensures known { is_ok result ≡ is_some (lookup (same_text name.now) (entries_in slots.now)) }
 {
     by_name.binary_search_by(|place| order_at(slots, *place, name))
@@ -22,7 +22,8 @@ pub(crate) fn find<V>(slots: &[Slot<V>], by_name: &[usize], name: &Text) -> Resu
 /// The place of the entry of that name.
 pub(crate) fn place_of<V>(slots: &[Slot<V>], by_name: &[usize], name: &Text) -> Option<usize>
     requires { IsSound slots.now by_name.now }
-    ensures stands { IfSome result (Stands slots.now name.now) }
+    ensures stands { IfSome result (λ place.
+        slice_get (names_in slots.now) place ≡ Some (Some name.now)) }
     ensures known { is_some result ≡ is_some (lookup (same_text name.now) (entries_in slots.now)) }
 {
     match find(slots, by_name, name) {

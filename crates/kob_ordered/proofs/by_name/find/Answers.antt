@@ -1,6 +1,4 @@
-use Rattle.std.proofs.Common.{rules, of_calls, slice_get}
-use Rattle.std.proofs.lemmas.Fn.{always_returns_same}
-use Rattle.kob_ordered.specs.Slots.{order_of}
+use Rattle.kob_ordered.proofs.Words.{always_returns_same, of_calls, order_of, rules, slice_get}
 use Rattle.kob_ordered.proofs.Search.{found_by}
 use Rattle.kob_ordered.proofs.by_name.find.Goals as goal
 

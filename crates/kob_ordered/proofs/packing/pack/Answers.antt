@@ -1,6 +1,4 @@
-use Rattle.std.proofs.Common.{rules, ℕ, ◌<◌, ap, length, subst, sym, ◌∙◌, slice_index_or}
-use Rattle.std.proofs.lemmas.List.Elements.{filter_from_retain}
-use Rattle.kob_ordered.specs.Slots.{IsSound, entries_in, is_entry, rank}
+use Rattle.kob_ordered.proofs.Words.{IsSound, ap, entries_in, filter_from_retain, is_entry, length, rank, rules, slice_index_or, subst, sym, ℕ, ◌<◌, ◌∙◌}
 use Rattle.kob_ordered.proofs.Places.{packed}
 use Rattle.kob_ordered.proofs.Sound.{none_left, sound_packed, within_slots}
 use Rattle.kob_ordered.proofs.packing.pack.Goals as goal

@@ -1,6 +1,4 @@
-use Rattle.std.proofs.Common.{ℕ, ◌<◌, ◌+◌, ◌∷◌, [], Some, ap, arith, cond, length, slice_index_or, sym, ◌∙◌, length-append}
-use Rattle.std.proofs.lemmas.Option.{slice_get-get_or}
-use Rattle.kob_ordered.specs.Slots.{rank}
+use Rattle.kob_ordered.proofs.Words.{Some, [], ap, arith, cond, length, length-append, rank, slice_get-get_or, slice_index_or, sym, ℕ, ◌+◌, ◌<◌, ◌∙◌, ◌∷◌}
 use Rattle.kob_ordered.proofs.Sound.{rank_next, ranked_more}
 use Rattle.kob_ordered.proofs.packing.ranks_of.Goals as goal
 use Rattle.kob_ordered.proofs.packing.ranks_of.Goals.{then-is_entry, else-is_entry}

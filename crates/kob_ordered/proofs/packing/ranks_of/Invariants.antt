@@ -1,5 +1,4 @@
-use Rattle.std.proofs.Common.{◌≡◌, ◌≤◌, ◌<◌, length, slice_index_or, ℕ}
-use Rattle.kob_ordered.specs.Slots.{rank}
+use Rattle.kob_ordered.proofs.Words.{length, rank, slice_index_or, ℕ, ◌<◌, ◌≡◌, ◌≤◌}
 use Rattle.kob_ordered.proofs.packing.ranks_of.Given as goal
 
 -- the ranks of the slots that were seen

@@ -1,4 +1,4 @@
-use Rattle.std.proofs.Common.{◌≡◌, ◌≤◌, ◌<◌, length, slice_index_or, vec_capacity, ℕ}
+use Rattle.kob_ordered.proofs.Words.{length, slice_index_or, vec_capacity, ℕ, ◌<◌, ◌≡◌, ◌≤◌}
 use Rattle.kob_ordered.proofs.packing.renumber.Given as goal
 
 -- the places before k are replaced, and the others stay

@@ -1,5 +1,4 @@
-use Rattle.std.proofs.Common.{◌≡◌, length}
-use Rattle.kob_ordered.specs.Slots.{entries_in}
+use Rattle.kob_ordered.proofs.Words.{entries_in, length, ◌≡◌}
 use Rattle.kob_ordered.proofs.iter.IterIterator.next.Given as goal
 
 -- only holes were passed over

@@ -1,9 +1,4 @@
-use Rattle.std.proofs.Common.{[], ◌∷◌, ◌++◌, ap, subst, sym, ◌∙◌}
-use Rattle.std.specs.List.{insert}
-use Rattle.std.specs.Map.{lookup}
-use Rattle.kob_names.specs.Same.{same_text}
-use Rattle.kob_ordered.specs.Slots.{IsGap, IsSound, entries_in}
-use Rattle.kob_ordered.specs.declared.slot.Slot.TheVariants.{Entry}
+use Rattle.kob_ordered.proofs.Words.{Entry, IsGap, IsSound, [], ap, entries_in, insert, lookup, names_in, same_text, subst, sym, ◌++◌, ◌∙◌, ◌∷◌}
 use Rattle.kob_ordered.proofs.Places.{pushed}
 use Rattle.kob_ordered.proofs.Sound.{sound_pushed}
 use Rattle.kob_ordered.proofs.ordered_map.OrderedMap.insert.Goals as goal
@@ -14,8 +9,8 @@ invariant_of-self g c =
     let by_name = c.self.inside.by_name.items in let i = c.unwrap_err.result in
     let absent = ap (λ m. lookup (same_text name) m.entries) c.self.view_is ∙ c.requires.absent in
     let gap = rw c.unwrap_err.ensures at c.find-found.ensures.gap in
-    let there = subst (λ xs. IsGap xs by_name name i) c.as_slice.ensures.value
-    (subst (λ ns. IsGap c.as_slice.result.now ns name i) c.as_slice-2.ensures.value gap) in
+    let there = subst (λ xs. IsGap (names_in xs) by_name name i) c.as_slice.ensures.value
+    (subst (λ ns. IsGap (names_in c.as_slice.result.now) ns name i) c.as_slice-2.ensures.value gap) in
     let names = rw c.unwrap.ensures at c.insert.ensures.items in
     let items = rw c.unwrap-2.ensures at c.push.ensures.items in
     subst (λ xs. IsSound xs c.insert.new.self.items) (sym items)

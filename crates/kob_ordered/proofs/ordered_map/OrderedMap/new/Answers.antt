@@ -1,5 +1,4 @@
-use Rattle.std.proofs.Common.{sym, subst, []}
-use Rattle.kob_ordered.specs.Slots.{IsSound}
+use Rattle.kob_ordered.proofs.Words.{IsSound, [], subst, sym}
 use Rattle.kob_ordered.proofs.Sound.{sound_empty}
 use Rattle.kob_ordered.proofs.ordered_map.OrderedMap.new.Goals as goal
 
