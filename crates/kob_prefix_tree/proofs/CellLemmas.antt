@@ -1,18 +1,9 @@
 -- Lists of serials, joined and read.
-use Rattle.kob_prefix_tree.proofs.Words.{KnowsEnd, Leads, Link, Node, Ptr, Serial, Tree, ap, arith, if_none, last_of, leaf, node, refl, subst, sym, tree_of, values_of, with_others, ◌++◌, ◌∙◌, ◌∷◌, ◌≡◌}
-use Rattle.kob_prefix_tree.proofs.Firsts.{is_node}
+use Rattle.kob_prefix_tree.proofs.Words.{KnowsEnd, Leads, Link, Node, Ptr, Serial, Tree, ap, arith, if_none, last_of, leaf, node, refl, sym, tree_of, values_of, with_others, ◌++◌, ◌∙◌, ◌∷◌, ◌≡◌}
 
 pub values_joined : (t : Tree Serial) (l : Link Serial) → values_of (with_others t l) ≡ values_of t ++ values_of l.nodes
 values_joined leaf l = refl
 values_joined (node item heap c below n after) l = ap (λ xs. item.value ∷ xs) (values_joined after l)
-
-some_there : {X : Type 0} {A : Type 0} (t : Tree X) (a b : A) → Leads t → if_none t a b ≡ b
-some_there leaf a b leads = absurd (leads refl)
-some_there (node item heap c below n after) a b leads = refl
-
-joined_leads : {X : Type 0} (t : Tree X) (l : Link X) → Leads l.nodes → Leads (with_others t l)
-joined_leads leaf l leads e = leads e
-joined_leads (node item heap c below n after) l leads e = subst is_node (sym e) tt
 
 -- the last of two lists is the last of the second
 pub last_joined : {X : Type 0} (t : Tree X) (l : Link X) (p : Ptr) → Leads l.nodes

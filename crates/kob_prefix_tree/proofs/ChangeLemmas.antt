@@ -4,7 +4,15 @@ use Rattle.kob_prefix_tree.proofs.SiblingLemmas.{neat_list, neat_tree, neat_with
 
 -- the serials of the place itself
 pub changed_here : (f : Held → Held) (h : Held) (t : Trie) → IsNeat t → ChangedAt [] f (h, t) (f h, t)
-changed_here f h t neat = record { neat = neat; at = refl; elsewhere = λ other. elim other as (λ k. k ≢ [] → held_in k (f h, t) ≡ held_in k (h, t)) [ [] ↦ λ ne. absurd (ne refl) | byte ∷ key ↦ λ ne. refl ] }
+changed_here f h t neat =
+    record {
+      neat = neat;
+      at = refl;
+      elsewhere = λ other. elim other as (λ k. k ≢ [] → held_in k (
+        f h,
+        t,
+      ) ≡ held_in k (h, t)) [ [] ↦ λ ne. absurd (ne refl) | byte ∷ key ↦ λ ne. refl ];
+    }
 
 pub held_in_bare : (key : List ℕ) → held_in key bare ≡ nothing
 held_in_bare [] = refl
@@ -47,7 +55,8 @@ module _ (f : Held → Held) (byte : ℕ) (rest : List ℕ) (h : Held) (t t' : T
     linked_front none some is = grind (arith, stands, neat_tree, neat_list)
 
     pub taken_out : d ≡ bare → siblings t' ≡ without byte (siblings t) → ChangedAt (byte ∷ rest) f (h, t) (h, t')
-    taken_out none is = grind (arith, at_without, neat_list, held_in_bare, changed_below, neat_tree, neat_without, at_without_other)
+    taken_out none is =
+        grind (arith, at_without, neat_list, held_in_bare, changed_below, neat_tree, neat_without, at_without_other)
 
 -- what was put in where nothing was, behind more bytes
 pub behind_tail : (f : Held → Held) (tail rest : List ℕ) {d : Contents} → ChangedAt rest f bare d → d ≢ bare

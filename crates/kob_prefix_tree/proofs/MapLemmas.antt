@@ -43,7 +43,8 @@ found_behind a b key (e ∷ es) = grind (arith, nat_tests, found_behind a b key 
 
 found_below_empty : (t : Trie) → found [] (entries_below t) ≡ None
 found_below_empty void = refl
-found_below_empty (sibling byte h below after) = grind (arith, found_below_empty after, found_append, found_behind_empty)
+found_below_empty (sibling byte h below after) =
+    grind (arith, found_below_empty after, found_append, found_behind_empty)
 
 abbrev found_at : List ℕ → Option Contents → Option Held
 found_at key None = None
@@ -99,7 +100,17 @@ module _ (old new : Contents) (key : List ℕ) (neat : IsNeat old.1) where
   module _ (f : Held → Held) (done : ChangedAt key f old new) where
     left_get : (k : List ℕ) → map.get (cond (is_nothing (f (held (map_at old) key))) (map.remove (map_at old) key)
         (map.insert (map_at old) key (f (held (map_at old) key)))) k ≡ kept (held_in k new)
-    left_get k = grind (arith, map.get-remove nat_list_cmp_total (map_at old) key k, map.get-insert nat_list_cmp_total (map_at old) key, bytes_decide k key, get_at old k neat, held_of_map key old neat, done.at, done.elsewhere k)
+    left_get k =
+        grind (
+          arith,
+          map.get-remove nat_list_cmp_total (map_at old) key k,
+          map.get-insert nat_list_cmp_total (map_at old) key,
+          bytes_decide k key,
+          get_at old k neat,
+          held_of_map key old neat,
+          done.at,
+          done.elsewhere k,
+        )
 
     left_of : map_at new ≡ cond (is_nothing (f (held (map_at old) key))) (map.remove (map_at old) key)
         (map.insert (map_at old) key (f (held (map_at old) key)))

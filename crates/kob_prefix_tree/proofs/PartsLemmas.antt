@@ -61,7 +61,14 @@ module _ (count : ℕ) (rest : List ℕ) (here : Branch) (end : EndsAt count res
   pub none_here : (kind : PatternKind) (serials : List ℕ) → (length rest ≡ 0 → count < length here.tail)
       → (false ≡ has_serials kind serials (held_in key (contents here)))
       × ChangedAt key (without_serials kind serials) (contents here) (contents here)
-  none_here kind serials short = grind (arith, nat_tests, nothing_at count here.tail rest (end_of here) end.nowhere short, none_found kind serials, none_taken kind serials)
+  none_here kind serials short =
+      grind (
+        arith,
+        nat_tests,
+        nothing_at count here.tail rest (end_of here) end.nowhere short,
+        none_found kind serials,
+        none_taken kind serials,
+      )
 
   -- the key ends with the bytes of the branch
   at_end : length rest ≡ 0 → count ≡ length here.tail → key ≡ here.tail ++ []

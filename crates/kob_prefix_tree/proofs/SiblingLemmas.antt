@@ -1,16 +1,9 @@
 -- Siblings, when one is changed, taken out or put in.
-use Rattle.kob_prefix_tree.proofs.Words.{Contents, IsNeat, List, None, Some, Trie, [], ap, arith, bare, cond, eq-eqb, false, ne_eqb, refl, sibling, siblings, sym, true≢false, value_at, void, without, ℕ, ◌==◌, ◌∙◌, ◌∷◌, ◌≡◌, ◌≢◌}
-
-pub differ : (a b : ℕ) → a == b ≡ false → a ≢ b
-differ a b e same = true≢false (sym (eq-eqb a b same) ∙ e)
+use Rattle.kob_prefix_tree.proofs.Words.{Contents, IsNeat, List, None, Some, Trie, [], ap, arith, bare, cond, eq-eqb, refl, sibling, siblings, sym, value_at, void, without, ℕ, ◌∷◌, ◌≡◌, ◌≢◌}
 
 module _ {A : Type 0} where
   pub at_first : (byte : ℕ) (v : A) (xs : List (ℕ × A)) → value_at byte ((byte, v) ∷ xs) ≡ Some v
   at_first byte v xs = ap (λ b. cond b (Some v) (value_at byte xs)) (eq-eqb byte byte refl)
-
-  pub at_past : (byte other : ℕ) (v : A) (xs : List (ℕ × A)) → other ≢ byte
-      → value_at byte ((other, v) ∷ xs) ≡ value_at byte xs
-  at_past byte other v xs ne = ap (λ b. cond b (Some v) (value_at byte xs)) (ne_eqb other byte ne)
 
   pub some_not_none : (v : A) → Some v ≢ None
   some_not_none v e = cc

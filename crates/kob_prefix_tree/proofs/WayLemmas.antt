@@ -116,4 +116,5 @@ module _ (key tail tail' rest : List ℕ) (byte : ℕ) (h : Held) (t : Trie) (ab
 -- one serial alone
 pub put_alone : (kind : PatternKind) (serial : ℕ) {h h' : Held} {t t' : Trie} → (h, t) ≡ bare
     → h' ≡ with_serial kind serial h → t' ≡ t → ChangedAt [] (with_serial kind serial) bare (h', t')
-put_alone kind serial {h} {h'} {t} {t'} none is same = grind (arith, none, is, same, changed_here (with_serial kind serial) nothing void tt)
+put_alone kind serial {h} {h'} {t} {t'} none is same =
+    grind (arith, none, is, same, changed_here (with_serial kind serial) nothing void tt)

@@ -5,7 +5,7 @@ pub use Rattle.core.proofs.atomic.Steps.{Ptr-Good}
 pub use Rattle.kob_prefix_tree.specs.Addition.{Addition}
 pub use Rattle.kob_prefix_tree.specs.Cells.{KnowsEnd, values_of}
 pub use Rattle.kob_prefix_tree.specs.Change.{ChangedAt}
-pub use Rattle.kob_prefix_tree.specs.Contents.{contents, end_of, node_contents, seen, trie_of}
+pub use Rattle.kob_prefix_tree.specs.Contents.{contents, end_of, seen, trie_of}
 pub use Rattle.kob_prefix_tree.specs.Entries.{Entries, behind, entries_below, entries_in}
 pub use Rattle.kob_prefix_tree.specs.Held.{Held, has_serial, has_serials, is_nothing, nothing, serials_of, with_serial, without_serial, without_serials}
 pub use Rattle.kob_prefix_tree.specs.Lists.{has_in_turn, without_first, without_in_turn}

@@ -1,15 +1,16 @@
-use Rattle.kob_prefix_tree.proofs.Words.{IsWay, LeadsNowhere, Parts, contents, end_of, subst, sym, take, ◌++◌, ◌∙◌}
+use Rattle.kob_prefix_tree.proofs.Words.{IsWay, arith, common_steps, contents, subst, take, ◌++◌, ◌∙◌}
 use Rattle.kob_prefix_tree.proofs.PartsLemmas.{ends}
 use Rattle.kob_prefix_tree.proofs.branch.Branch.descend.Goals as goal
 
 pub returns-then-not-enter-clause-end : goal.returns-then-not-enter-clause-end
 returns-then-not-enter-clause-end c =
-    let was = c.loop-byte.self in let key = c.loop-byte.rest.now in let count = c.parted-count.result.0 in
-    let rest = c.parted-count.result.1.now in let stays = c.enter.ensures.stays c.if-not-enter.true in
-    ends was c.enter.new.self key rest count stays.1.0 stays.1.1 c.loop-byte.invariant.neat
-    (subst (λ tail. Parts tail key count rest) c.as_slice.ensures.bytes c.parted-count.ensures)
-    (λ all. subst (λ r. LeadsNowhere r (end_of was)) (sym c.in-Some.ensures.cases.0)
-    (c.enter.ensures.nowhere c.if-not-enter.true all))
+    grind (
+      arith,
+      common_steps,
+      ends c.loop-byte.self c.enter.new.self c.loop-byte.rest.now c.parted-count.result.1.now c.parted-count.result.0,
+      c.enter.ensures.stays,
+      c.enter.ensures.nowhere,
+    )
 
 pub loop-byte-preserved : goal.loop-byte-preserved
 loop-byte-preserved c =

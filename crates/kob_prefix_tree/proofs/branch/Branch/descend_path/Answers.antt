@@ -1,15 +1,16 @@
-use Rattle.kob_prefix_tree.proofs.Words.{IsWay, LeadsNowhere, Parts, ap, contents, end_of, key_of, subst, sym, take, ◌++◌, ◌∙◌, ◌∷◌}
+use Rattle.kob_prefix_tree.proofs.Words.{IsWay, ap, arith, common_steps, contents, key_of, subst, sym, take, ◌++◌, ◌∙◌, ◌∷◌}
 use Rattle.kob_prefix_tree.proofs.PartsLemmas.{ends}
 use Rattle.kob_prefix_tree.proofs.branch.Branch.descend_path.Goals as goal
 
 pub returns-then-not-enter-clause-end : goal.returns-then-not-enter-clause-end
 returns-then-not-enter-clause-end c =
-    let was = c.loop-byte.self in let key = key_of c.loop-byte.path.nodes in let count = c.drop_common-count.result in
-    let rest = key_of c.drop_common-count.new.self.nodes in let stays = c.enter.ensures.stays c.if-not-enter.true in
-    ends was c.enter.new.self key rest count stays.1.0 stays.1.1 c.loop-byte.invariant.neat
-    (subst (λ tail. Parts tail key count rest) c.as_slice.ensures.bytes c.drop_common-count.ensures)
-    (λ all. subst (λ r. LeadsNowhere r (end_of was)) (sym c.in-Some.ensures)
-    (c.enter.ensures.nowhere c.if-not-enter.true all))
+    grind (
+      arith,
+      common_steps,
+      ends c.loop-byte.self c.enter.new.self (key_of c.loop-byte.path.nodes) (key_of c.drop_common-count.new.self.nodes) c.drop_common-count.result,
+      c.enter.ensures.stays,
+      c.enter.ensures.nowhere,
+    )
 
 pub loop-byte-preserved : goal.loop-byte-preserved
 loop-byte-preserved c =

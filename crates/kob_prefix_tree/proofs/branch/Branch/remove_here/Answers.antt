@@ -1,19 +1,23 @@
-use Rattle.kob_prefix_tree.proofs.Words.{ap, arith, end_of, eq-eqb, eqb-true, has_serials, led_by, length, sym, trie_of, true≢false, without_serials, ◌∙◌}
+use Rattle.kob_prefix_tree.proofs.Words.{ap, arith, end_of, eqb-true, has_serials, led_by, length, nat_tests, sym, trie_of, without_serials, ◌∙◌}
 use Rattle.kob_prefix_tree.proofs.PartsLemmas.{none_here, held_at_end, changed_at_end}
 use Rattle.kob_prefix_tree.proofs.branch.Branch.remove_here.Goals as goal
 
 pub returns-then-not-is_empty : goal.returns-then-not-is_empty
 returns-then-not-is_empty c =
-    let both = none_here c.args.count c.args.key.now c.args.self.now c.requires c.args.kind c.args.serials.now
-    (λ none. absurd (true≢false (sym (eq-eqb (length c.args.key.now) 0 none) ∙ sym c.if-not-is_empty.ensures))) in
-    record { found = both.0; taken = both.1 }
+    grind (
+      arith,
+      nat_tests,
+      none_here c.args.count c.args.key.now c.args.self.now c.requires c.args.kind c.args.serials.now,
+    )
 
 pub returns-then-count-as_slice : goal.returns-then-count-as_slice
 returns-then-count-as_slice c =
-    let same = ap length c.as_slice.ensures.bytes in
-    let both = none_here c.args.count c.args.key.now c.args.self.now c.requires c.args.kind c.args.serials.now
-    (λ none. omega (arith, c.requires.within, c.if-count-as_slice.true)) in
-    record { found = both.0; taken = both.1 }
+    grind (
+      arith,
+      nat_tests,
+      none_here c.args.count c.args.key.now c.args.self.now c.requires c.args.kind c.args.serials.now,
+      c.requires.within,
+    )
 
 pub returns : goal.returns
 returns c =

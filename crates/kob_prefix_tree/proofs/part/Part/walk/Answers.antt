@@ -1,4 +1,4 @@
-use Rattle.kob_prefix_tree.proofs.Words.{Option, Place, ap, held_from, held_in, seen, serials_along, sym, ◌∙◌}
+use Rattle.kob_prefix_tree.proofs.Words.{Option, Place, ap, arith, common_steps, held_from, serials_along, sym, ◌∙◌}
 use Rattle.kob_prefix_tree.proofs.WalkLemmas.{serials_along_first, serials_along_nothing}
 use Rattle.kob_prefix_tree.proofs.part.Part.walk.Goals as goal
 
@@ -8,6 +8,4 @@ returns-in-None c =
     ∙ ap (λ (place : Option Place). serials_along (held_from place) c.args.name.now) (sym c.in-None.is)
 
 pub returns-in-Some : goal.returns-in-Some
-returns-in-Some c =
-    c.along.ensures ∙ sym (serials_along_first (λ key. held_in key (seen c.in-Some.place)) c.args.name.now)
-    ∙ ap (λ (place : Option Place). serials_along (held_from place) c.args.name.now) (sym c.in-Some.is)
+returns-in-Some c = grind (arith, common_steps, serials_along_first)
