@@ -33,14 +33,9 @@ module _ (names : List (Option (List ℕ))) (by_name : List ℕ) (sound : AreLis
     came : (k : ℕ) (n : List ℕ) → Nth more listed n k → ((k < i) × Nth names by_name n k)
         ⊎ (((k ≡ i) × (n ≡ name)) ⊎ ((i < k) × Nth names by_name n (k - 1)))
     came k n nth =
-        grind (
-          arith,
-          nat_tests,
-          get_insert by_name i (length names) k gap.within,
-          old k nth.place n,
-          old (k - 1) nth.place n,
-          get_push names (Some name) nth.place,
-        )
+        let first = get_insert by_name i (length names) k gap.within in let second = old k nth.place n in
+        let third = old (k - 1) nth.place n in let fourth = get_push names (Some name) nth.place in
+        grind (arith, nat_tests)
 
     pub listed_pushed : AreListed (names ++ Some name ∷ []) (insert by_name i (length names))
     listed_pushed = record {

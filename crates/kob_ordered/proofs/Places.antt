@@ -76,13 +76,9 @@ module _ {V : Type 0} where
   holed_at (Hole ∷ slots) name (suc place) value there only =
       holed_at slots name place value there (only_later Hole slots name place only)
   holed_at (Entry head other ∷ slots) name (suc place) value there only =
-      grind (
-        arith,
-        nat_tests,
-        holed_at slots name place value there (only_later (Entry head other) slots name place only),
-        only_later (Entry head other) slots name place only,
-        other_name head other slots name place only,
-      )
+      let first = holed_at slots name place value there (only_later (Entry head other) slots name place only) in
+      let second = only_later (Entry head other) slots name place only in
+      let third = other_name head other slots name place only in grind (arith, nat_tests)
 
   -- another value in the place of an entry's
   pub written_at : (slots : List (Slot V)) (name : List ℕ) (place : ℕ) (value w : V)
@@ -94,13 +90,9 @@ module _ {V : Type 0} where
   written_at (Hole ∷ slots) name (suc place) value w there only =
       written_at slots name place value w there (only_later Hole slots name place only)
   written_at (Entry head other ∷ slots) name (suc place) value w there only =
-      grind (
-        arith,
-        nat_tests,
-        written_at slots name place value w there (only_later (Entry head other) slots name place only),
-        only_later (Entry head other) slots name place only,
-        other_name head other slots name place only,
-      )
+      let first = written_at slots name place value w there (only_later (Entry head other) slots name place only) in
+      let second = only_later (Entry head other) slots name place only in
+      let third = other_name head other slots name place only in grind (arith, nat_tests)
 
   -- an entry put last
   pub pushed : (slots : List (Slot V)) (name : List ℕ) (value : V)

@@ -111,15 +111,11 @@ within_slots slots by_name sound k lt =
 pub rank_next : {V : Type 0} (slots : List (Slot V)) (i : ℕ) (x : Slot V) → slice_get slots i ≡ Some x
     → rank slots (i + 1) ≡ cond (is_entry x) (rank slots i + 1) (rank slots i)
 rank_next {V} slots i x there =
-    grind (
-      arith,
-      nat_tests,
-      take_more slots i x (slice_get_within slots i x there),
-      slice_get_within slots i x there,
-      get_or_from_slice_get slots i x x there,
-      filter-append is_entry (take i slots) (x ∷ []),
-      length-append (filter is_entry (take i slots)) (filter is_entry (x ∷ [])),
-    )
+    let first = take_more slots i x (slice_get_within slots i x there) in
+    let second = slice_get_within slots i x there in let third = get_or_from_slice_get slots i x x there in
+    let fourth = filter-append is_entry (take i slots) (x ∷ []) in
+    let fifth = length-append (filter is_entry (take i slots)) (filter is_entry (x ∷ [])) in
+    grind (arith, nat_tests)
 
 -- one more rank put last
 pub ranked_more : {V : Type 0} (slots : List (Slot V)) (ranks : List ℕ) (i r : ℕ) → length ranks ≡ i
