@@ -101,16 +101,10 @@ module _ (old new : Contents) (key : List ℕ) (neat : IsNeat old.1) where
     left_get : (k : List ℕ) → map.get (cond (is_nothing (f (held (map_at old) key))) (map.remove (map_at old) key)
         (map.insert (map_at old) key (f (held (map_at old) key)))) k ≡ kept (held_in k new)
     left_get k =
-        grind (
-          arith,
-          map.get-remove nat_list_cmp_total (map_at old) key k,
-          map.get-insert nat_list_cmp_total (map_at old) key,
-          bytes_decide k key,
-          get_at old k neat,
-          held_of_map key old neat,
-          done.at,
-          done.elsewhere k,
-        )
+        let first = map.get-remove nat_list_cmp_total (map_at old) key k in
+        let second = map.get-insert nat_list_cmp_total (map_at old) key in let third = bytes_decide k key in
+        let fourth = get_at old k neat in let fifth = held_of_map key old neat in let sixth = done.elsewhere k in
+        grind (arith, done.at)
 
     left_of : map_at new ≡ cond (is_nothing (f (held (map_at old) key))) (map.remove (map_at old) key)
         (map.insert (map_at old) key (f (held (map_at old) key)))

@@ -102,16 +102,8 @@ module _ (key tail tail' rest : List ℕ) (byte : ℕ) (h : Held) (t : Trie) (ab
       → (f : Held → Held) (c : Contents) → ChangedAt rest f bare c → c ≢ bare
       → ChangedAt key f bare (unwound above' (led_by tail' c))
   along_on before f c done some =
-      grind (
-        arith,
-        none,
-        on,
-        before f (led_by (byte ∷ tail') c),
-        behind_tail f tail' rest done some,
-        behind_tail f (byte ∷ tail') rest done some,
-        child_put,
-        kept_some,
-      )
+      let first = before f (led_by (byte ∷ tail') c) in let second = behind_tail f tail' rest done some in
+      let third = behind_tail f (byte ∷ tail') rest done some in grind (arith, none, on, child_put, kept_some)
 
 -- one serial alone
 pub put_alone : (kind : PatternKind) (serial : ℕ) {h h' : Held} {t t' : Trie} → (h, t) ≡ bare

@@ -4,13 +4,9 @@ use Rattle.kob_prefix_tree.proofs.branch.Branch.descend.Goals as goal
 
 pub returns-then-not-enter-clause-end : goal.returns-then-not-enter-clause-end
 returns-then-not-enter-clause-end c =
-    grind (
-      arith,
-      common_steps,
-      ends c.loop-byte.self c.enter.new.self c.loop-byte.rest.now c.parted-count.result.1.now c.parted-count.result.0,
-      c.enter.ensures.stays,
-      c.enter.ensures.nowhere,
-    )
+    let end = ends c.loop-byte.self c.enter.new.self c.loop-byte.rest.now c.parted-count.result.1.now
+    c.parted-count.result.0 in
+    grind (arith, common_steps, c.enter.ensures.stays, c.enter.ensures.nowhere)
 
 pub loop-byte-preserved : goal.loop-byte-preserved
 loop-byte-preserved c =

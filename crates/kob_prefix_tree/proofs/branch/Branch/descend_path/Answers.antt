@@ -4,13 +4,9 @@ use Rattle.kob_prefix_tree.proofs.branch.Branch.descend_path.Goals as goal
 
 pub returns-then-not-enter-clause-end : goal.returns-then-not-enter-clause-end
 returns-then-not-enter-clause-end c =
-    grind (
-      arith,
-      common_steps,
-      ends c.loop-byte.self c.enter.new.self (key_of c.loop-byte.path.nodes) (key_of c.drop_common-count.new.self.nodes) c.drop_common-count.result,
-      c.enter.ensures.stays,
-      c.enter.ensures.nowhere,
-    )
+    let end = ends c.loop-byte.self c.enter.new.self (key_of c.loop-byte.path.nodes)
+    (key_of c.drop_common-count.new.self.nodes) c.drop_common-count.result in
+    grind (arith, common_steps, c.enter.ensures.stays, c.enter.ensures.nowhere)
 
 pub loop-byte-preserved : goal.loop-byte-preserved
 loop-byte-preserved c =

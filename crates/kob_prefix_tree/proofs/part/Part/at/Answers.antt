@@ -4,8 +4,6 @@ use Rattle.kob_prefix_tree.proofs.part.Part.at.Goals as goal
 
 pub returns : goal.returns
 returns c more =
-    grind (
-      arith,
-      common_steps,
-      from_match c.at.result (λ others. held_in (c.args.key.now ++ others) (seen c.in_ok-self.field-0)) c.at.ensures more,
-    )
+    let behind = from_match c.at.result (λ others. held_in (c.args.key.now ++ others) (seen c.in_ok-self.field-0))
+    c.at.ensures more in
+    grind (arith, common_steps)
