@@ -8,6 +8,7 @@ pub use Rattle.std.proofs.Common.{Bool, Err, IfErr, IfOk, IsSome, List, None, Ok
 pub use Rattle.std.proofs.lemmas.Bool.{cases_lt}
 pub use Rattle.std.proofs.lemmas.Bool.Decides.{nat_tests}
 pub use Rattle.std.proofs.lemmas.Fn.{always_returns_same}
+pub use Rattle.std.proofs.lemmas.Grind.{common_steps}
 pub use Rattle.std.proofs.lemmas.List.{get_or_append_left, get_or_push, length-map, map-append, map-set, take_more}
 pub use Rattle.std.proofs.lemmas.List.Edits.{length-insert, length-remove}
 pub use Rattle.std.proofs.lemmas.List.Elements.{All-from_recursion, filter-append, filter_from_retain, recursion_from_All}

@@ -1,13 +1,10 @@
-use Rattle.kob_ordered.proofs.Words.{IsSound, ap, entries_in, filter_from_retain, is_entry, length, rank, rules, slice_index_or, subst, sym, ℕ, ◌<◌, ◌∙◌}
+use Rattle.kob_ordered.proofs.Words.{IsSound, ap, arith, common_steps, entries_in, filter_from_retain, is_entry, length, rank, rules, slice_index_or, subst, sym, ℕ, ◌<◌, ◌∙◌}
 use Rattle.kob_ordered.proofs.Places.{packed}
 use Rattle.kob_ordered.proofs.Sound.{none_left, sound_packed, within_slots}
 use Rattle.kob_ordered.proofs.packing.pack.Goals as goal
 
 pub renumber-requires : goal.renumber-requires
-renumber-requires g c =
-    λ k lt. subst (λ n. slice_index_or c.args.by_name.now.items k 0 < n)
-    (sym (ap length c.as_slice-2.ensures.value ∙ c.in_ok-ranks.ensures.size ∙ ap length c.as_slice.ensures.value))
-    (within_slots c.args.slots.now.items c.args.by_name.now.items c.requires k lt)
+renumber-requires g c = λ k lt. grind (arith, common_steps, within_slots c.args.slots.now.items c.args.by_name.now.items c.requires k)
 
 pub returns-clause-sound : goal.returns-clause-sound
 returns-clause-sound g c =

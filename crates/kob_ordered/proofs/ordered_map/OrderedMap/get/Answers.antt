@@ -1,4 +1,4 @@
-use Rattle.kob_ordered.proofs.Words.{Some, ap, get_or_from_slice_get, lookup, names_in, same_text, slice_get, subst, sym, ◌∙◌, ◌≡◌}
+use Rattle.kob_ordered.proofs.Words.{Some, arith, common_steps, get_or_from_slice_get, names_in, slice_get, subst, ◌≡◌}
 use Rattle.kob_ordered.proofs.Places.{entry_at}
 use Rattle.kob_ordered.proofs.Sound.{value_at}
 use Rattle.kob_ordered.proofs.ordered_map.OrderedMap.get.Goals as goal
@@ -9,8 +9,4 @@ returns g c =
     let at = entry_at slots place name (subst (λ xs. slice_get (names_in xs) place ≡ Some (Some name)) c.as_slice.ensures.value
     c.in_ok-place.ensures.stands) in
     let entry = get_or_from_slice_get slots place _ c.index.result.now at.1 in
-    let read = c.index.ensures in let taken = c.in-Entry.is in
-    let same : at.0 ≡ c.in-Entry.value = cc in
-    ap Some (sym same)
-    ∙ sym (value_at slots c.self.inside.by_name.items c.self.invariant name place at.0 at.1)
-    ∙ ap (λ m. lookup (same_text name) m.entries) c.self.view_is
+    let value = value_at slots c.self.inside.by_name.items c.self.invariant name place at.0 at.1 in grind (arith, common_steps)
