@@ -1,9 +1,5 @@
 -- What is so of the elements of a list, of those that a filter keeps, and of what a function gives of them.
-use Rattle.std.proofs.Common.{◌≡◌, ◌⊎◌, inl, inr, refl, sym, ap, ◌∙◌, subst, arith, Bool, true, false, cond, List, [], ◌∷◌, map}
-use Rattle.std.specs.Prelude.{All, Contains}
-use Rattle.std.specs.List.{AllByRecursion, filter, list_any}
-use Rattle.std.proofs.lemmas.List.Elements.{All-contains, All-contains_itself, All-filter, All-from_recursion, All-map, All-weaker, Contains-append_cases, Contains-append_left, Contains-append_right, Contains-push, Contains-push_cases, filter_passes, recursion_from_All}
-use Rattle.std.proofs.lemmas.List.Folds.{Any-from_list_any, list_any-from_Any}
+use Rattle.kob_authorizer.proofs.Words.{All, All-contains, All-contains_itself, All-filter, All-from_recursion, All-map, All-weaker, AllByRecursion, Any-from_list_any, Bool, Contains, Contains-append_left, Contains-append_right, Contains-push, List, [], arith, cond, false, filter, filter_passes, inl, inr, list_any, list_any-from_Any, map, nat_tests, recursion_from_All, refl, subst, true, ◌∷◌, ◌≡◌, ◌⊎◌}
 
 module _ {A : Type 0} where
   -- what holds of all holds of each that is there, and the other way round
@@ -21,12 +17,7 @@ module _ {A : Type 0} where
 
   -- an element of a list is its first one, or in the rest
   first_or_rest : (x : A) (xs : List A) (y : A) → Contains (x ∷ xs) y → (x ≡ y) ⊎ Contains xs y
-  first_or_rest x xs y has =
-      elim (Contains-append_cases (x ∷ []) xs y has) as (λ _. (x ≡ y) ⊎ Contains xs y) [
-        | inl here ↦ elim (Contains-push_cases [] x y here) as
-            (λ _. (x ≡ y) ⊎ Contains xs y) [ inl nowhere ↦ absurd (omega (arith, nowhere.1)) | inr same ↦ inl same ]
-        | inr later ↦ inr later
-      ]
+  first_or_rest x xs y has = grind (arith, nat_tests)
 
   module _ (test : A → Bool) where
     -- a test of any passes where an element passes
@@ -41,10 +32,7 @@ module _ {A : Type 0} where
     kept_by_filter [] y has passes = has
     kept_by_filter (x ∷ xs) y has passes =
         elim (first_or_rest x xs y has) as (λ _. Contains (cond (test x) (x ∷ filter test xs) (filter test xs)) y) [
-          | inl same ↦
-              let x_passes : true ≡ test x = sym passes ∙ ap test (sym same) in
-              subst (λ b. Contains (cond b (x ∷ filter test xs) (filter test xs)) y) x_passes
-              (subst (λ z. Contains (z ∷ filter test xs) y) (sym same) (at_head y (filter test xs)))
+          | inl same ↦ grind (arith, nat_tests, at_head)
           | inr later ↦
               let kept = kept_by_filter xs y later passes in
               elim (test x) as (λ b. Contains (cond b (x ∷ filter test xs) (filter test xs))

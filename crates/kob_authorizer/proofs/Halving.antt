@@ -1,15 +1,6 @@
 -- What a binary search among rising serials finds.
-use Rattle.std.proofs.Common.{◌≡◌, refl, sym, ap, ◌∙◌, arith, Bool, true, false, cond, ◌&&◌, ◌||◌, ◌==◌, ℕ, zero, suc, ◌+◌, ◌<◌, ◌≤◌, length, get_or, List, [], ◌∷◌, Option, Some, None, Result, Ok, Err, MatchResult}
-use Rattle.std.specs.List.Sorted.{IsBinarySearchResult, IsNonDecreasingBy, IsSearchInRange}
-use Rattle.std.specs.Ordering.{nat_cmp, ordering_index}
-use Rattle.std.proofs.lemmas.Bool.{eq-eqb, eqb-true, ne_eqb}
-use Rattle.std.proofs.lemmas.Bool.Decides.{nat_tests}
-use Rattle.std.proofs.lemmas.Cmp.{ranked}
-use Rattle.std.proofs.lemmas.List.Elements.{All-from_recursion}
-use Rattle.kob_names.specs.Binding.{Binding}
+use Rattle.kob_authorizer.proofs.Words.{All-from_recursion, AreRising, Binding, Bool, Err, IsBinarySearchResult, IsNonDecreasingBy, IsRising, IsSearchInRange, List, MatchResult, None, Ok, Option, Result, Some, [], ap, arith, cond, entry_at, eq-eqb, eqb-true, false, get_or, length, nat_cmp, nat_tests, ne_eqb, ordering_index, passes_at, ranked, refl, suc, sym, zero, ℕ, ◌+◌, ◌<◌, ◌==◌, ◌∙◌, ◌∷◌, ◌≡◌, ◌≤◌}
 use Rattle.kob_authorizer.proofs.FirstHit.{none_below}
-use Rattle.kob_authorizer.specs.Contents.{IsRising}
-use Rattle.kob_authorizer.specs.LookUp.{AreRising, entry_at, passes_at}
 
 -- in rising order no serial is below where they begin
 at_least : (low high : ℕ) (entries : List (ℕ × Binding)) (k : ℕ) (d : ℕ × Binding) → IsRising low entries high
@@ -23,8 +14,7 @@ in_order : (low high : ℕ) (entries : List (ℕ × Binding)) (i j : ℕ) (d : �
     → i ≤ j → j < length entries → (get_or entries i d).0 ≤ (get_or entries j d).0
 in_order low high [] i j d rising le below = absurd (omega (arith, below))
 in_order low high (x ∷ xs) zero zero d rising le below = omega arith
-in_order low high (x ∷ xs) zero (suc j) d rising le below =
-    let more = at_least (x.0 + 1) high xs j d rising.1 (omega (arith, below)) in omega (arith, more)
+in_order low high (x ∷ xs) zero (suc j) d rising le below = grind (arith, nat_tests, at_least)
 in_order low high (x ∷ xs) (suc i) zero d rising le below = absurd (omega (arith, le))
 in_order low high (x ∷ xs) (suc i) (suc j) d rising le below =
     in_order (x.0 + 1) high xs i j d rising.1 (omega (arith, le)) (omega (arith, below))
@@ -33,13 +23,18 @@ in_order low high (x ∷ xs) (suc i) (suc j) d rising le below =
 found_at : (low high : ℕ) (entries : List (ℕ × Binding)) (k serial : ℕ) (d : ℕ × Binding) → IsRising low entries high
     → k < length entries → (get_or entries k d).0 ≡ serial → Some (get_or entries k d) ≡ entry_at entries serial
 found_at low high [] k serial d rising below is = absurd (omega (arith, below))
-found_at low high (x ∷ xs) zero serial d rising below is =
-    ap (λ b. cond b (Some x) (entry_at xs serial)) (sym (eq-eqb x.0 serial is))
+found_at low high (x ∷ xs) zero serial d rising below is = grind (arith, nat_tests, eq-eqb)
 found_at low high (x ∷ xs) (suc k) serial d rising below is =
-    let above = at_least (x.0 + 1) high xs k d rising.1 (omega (arith, below)) in
-    let other : (x.0 == serial) ≡ false = ne_eqb x.0 serial (λ same. absurd (omega (arith, above, same, is))) in
-    found_at (x.0 + 1) high xs k serial d rising.1 (omega (arith, below)) is
-    ∙ ap (λ b. cond b (Some x) (entry_at xs serial)) (sym other)
+    grind (
+      arith,
+      nat_tests,
+      at_least,
+      ne_eqb,
+      found_at (x.0 + 1) high xs k serial d rising.1 (omega (
+        arith,
+        below,
+      )) is,
+    )
 
 -- where each serial is another, none is found
 none_found : (entries : List (ℕ × Binding)) (serial : ℕ)
@@ -62,16 +57,8 @@ module _ (entries : List (ℕ × Binding)) (rising : AreRising entries) (serial 
       → IsBinarySearchResult (λ (entry : ℕ × Binding). nat_cmp entry.0 serial) entries r
       → MatchResult r (λ place. (d : ℕ × Binding) → Some (get_or entries place d) ≡ entry_at entries serial)
       (λ _. None ≡ entry_at entries serial)
-  searched (Ok place) below equal =
-      λ d. found_at 0 rising.0 entries place serial d rising.1 below (ranked _ serial _ (sym (equal d)))
-  searched (Err place) below parted = none_found entries serial (λ k d lt same.
-      let before : k < place → ⊥ =
-      λ lower. (let less = ranked _ serial _ (sym ((parted comparisons_rise).0 k d (omega arith) lower)) in
-      omega (arith, less, same)) in
-      let after : place ≤ k → ⊥ =
-      λ higher. (let greater = ranked _ serial _ (sym ((parted comparisons_rise).1 k d higher lt)) in
-      omega (arith, greater, same)) in
-      grind (arith, before, after))
+  searched (Ok place) below equal = grind (arith, nat_tests, found_at, ranked)
+  searched (Err place) below parted = grind (arith, nat_tests, none_found, ranked, comparisons_rise)
 
 -- the test of the entry with a serial, where there is one
 abbrev passing : (ℕ × Binding → Bool) → Option (ℕ × Binding) → Bool
@@ -83,21 +70,13 @@ none_passes : (test : ℕ × Binding → Bool) (low high : ℕ) (entries : List 
     → IsRising low entries high → serial < low → passes_at test entries serial ≡ false
 none_passes test low high [] serial rising lt = refl
 none_passes test low high (x ∷ xs) serial rising lt =
-    let other : (x.0 == serial) ≡ false = ne_eqb x.0 serial (λ same. absurd (omega (arith, lt, same, rising.0))) in
-    ap (λ b. (b && test x) || passes_at test xs serial) other
-    ∙ none_passes test (x.0 + 1) high xs serial rising.1 (omega (arith, lt, rising.0))
+    grind (arith, nat_tests, ne_eqb, none_passes test (x.0 + 1) high xs serial rising.1 (omega (arith, lt, rising.0)))
 
 passes_from : (test : ℕ × Binding → Bool) (low high : ℕ) (entries : List (ℕ × Binding)) (serial : ℕ)
     → IsRising low entries high → passing test (entry_at entries serial) ≡ passes_at test entries serial
 passes_from test low high [] serial rising = refl
 passes_from test low high (x ∷ xs) serial rising =
-    elim (x.0 == serial) as (λ b. (x.0 == serial) ≡ b
-    → passing test (cond b (Some x) (entry_at xs serial)) ≡ ((b && test x) || passes_at test xs serial)) [
-      | true ↦ λ is.
-          let none = none_passes test (x.0 + 1) high xs serial rising.1 (omega (arith, eqb-true x.0 serial is)) in
-          elim (test x) as (λ t. t ≡ ((true && t) || passes_at test xs serial)) [ true ↦ refl | false ↦ sym none ]
-      | false ↦ λ is. passes_from test (x.0 + 1) high xs serial rising.1
-    ] refl
+    grind (arith, nat_tests, none_passes, eqb-true, passes_from test (x.0 + 1) high xs serial rising.1)
 
 -- the entry that was found passes the test where some entry with the serial does, since no two have the same
 pub passes_some : (test : ℕ × Binding → Bool) (entries : List (ℕ × Binding)) (serial : ℕ) (entry : ℕ × Binding)

@@ -1,13 +1,7 @@
 -- What was created is in force under the serials that were answered.
-use Rattle.std.proofs.Common.{◌≡◌, refl, sym, ◌∙◌, subst, ℕ, List, [], ◌∷◌, ◌++◌, append_assoc, append-nil}
-use Rattle.std.specs.Prelude.{Contains, Option, Some, None}
-use Rattle.std.specs.List.{fold}
-use Rattle.std.proofs.lemmas.List.Elements.{Contains-append_left, Contains-push}
+use Rattle.kob_authorizer.proofs.Words.{Added, AreInForce, Binding, Contains, Contains-append_left, Contains-push, List, None, Option, Some, [], add_one, append-nil, append_assoc, arith, fold, is_equal, nat_tests, refl, same_binding_decides, serial_of, subst, with_binding, ℕ, ◌++◌, ◌∙◌, ◌∷◌, ◌≡◌}
+use Rattle.kob_authorizer.specs.Creation.{addition}
 use Rattle.kob_authorizer.proofs.FirstHit.{first_is, first_serial_found}
-use Rattle.kob_authorizer.specs.LookUp.{is_equal}
-use Rattle.kob_authorizer.specs.Creation.{Added, AreInForce, add_one, addition, with_binding, serial_of}
-use Rattle.kob_names.proofs.SameBindings.{same_binding_decides}
-use Rattle.kob_names.specs.Binding.{Binding}
 
 -- a binding whose serial is found is in force under it
 found_in_force : (entries : List (ℕ × Binding)) (binding : Binding) (serial : ℕ)
@@ -40,9 +34,7 @@ step_in_force : (so_far : Added) (before : List Binding) (binding : Binding) (o 
     → serial_of so_far.entries binding ≡ o → AreInForce so_far.entries before so_far.serials
     → AreInForce (with_binding o so_far binding).entries (before ++ binding ∷ [])
     (with_binding o so_far binding).serials
-step_in_force so_far before binding (Some serial) is all =
-    one_more_in_force so_far.entries before so_far.serials binding serial all
-    (found_in_force so_far.entries binding serial is)
+step_in_force so_far before binding (Some serial) is all = grind (arith, nat_tests, one_more_in_force, found_in_force)
 step_in_force so_far before binding None is all =
     let entries : List (ℕ × Binding) = so_far.entries ++ (so_far.next, binding) ∷ [] in
     one_more_in_force entries before so_far.serials binding so_far.next
@@ -52,16 +44,14 @@ step_in_force so_far before binding None is all =
 all_in_force : (bindings : List Binding) (so_far : Added) (before : List Binding)
     → AreInForce so_far.entries before so_far.serials
     → AreInForce (fold add_one so_far bindings).entries (before ++ bindings) (fold add_one so_far bindings).serials
-all_in_force [] so_far before all =
-    subst (λ (bs : List Binding). AreInForce so_far.entries bs so_far.serials) (sym (append-nil before)) all
+all_in_force [] so_far before all = grind (arith, nat_tests, append-nil)
 all_in_force (binding ∷ bindings) so_far before all =
     let after : Added = add_one so_far binding in
     let rest : AreInForce (fold add_one after bindings).entries ((before ++ binding ∷ []) ++ bindings)
     (fold add_one after bindings).serials =
     all_in_force bindings after (before ++ binding ∷ [])
     (step_in_force so_far before binding (serial_of so_far.entries binding) refl all) in
-    subst (λ (bs : List Binding). AreInForce (fold add_one after bindings).entries bs
-    (fold add_one after bindings).serials) (append_assoc before (binding ∷ []) bindings) rest
+    grind (arith, nat_tests, append_assoc)
 
 -- after a creation each of its bindings is in force under the serial answered for it
 pub created_in_force : (entries : List (ℕ × Binding)) (next : ℕ) (bindings : List Binding)

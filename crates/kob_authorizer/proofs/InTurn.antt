@@ -1,18 +1,8 @@
 -- Adding bindings at once is adding them one after another.
-use Rattle.std.proofs.Common.{◌≡◌, refl, ap, subst, sym, ◌∙◌, arith, true, false, cond, ◌||◌, ℕ, ◌+◌, length, List, [], ◌∷◌, ◌++◌, append_assoc, append-nil, length-append}
-use Rattle.std.specs.Prelude.{Option, Some, None, is_some}
-use Rattle.std.specs.List.{enumerate_from, cons_option, fold}
-use Rattle.std.specs.Option.{option_map, option_or}
-use Rattle.std.proofs.lemmas.List.FromFn.{length-enumerate_from}
+use Rattle.kob_authorizer.proofs.Words.{Added, Binding, Creates, IsRising, List, None, OnlyAdds, Option, Some, [], add_one, added_at_once, ap, append-nil, append_assoc, arith, cond, create_fault, creation, enumerate_from, false, fold, is_known, is_some, length, length-append, length-enumerate_from, limit_fault, nat_tests, new_bindings, refl, same_binding_decides, serial_of, serials_in, sym, true, with_binding, with_new, ℕ, ◌++◌, ◌+◌, ◌∙◌, ◌∷◌, ◌≡◌}
+use Rattle.kob_authorizer.specs.Creation.{addition}
 use Rattle.kob_authorizer.proofs.Rising.{rising_append, rising_enumerate_from}
 use Rattle.kob_authorizer.proofs.Serials.{enumerate_from_append, enumerate_from_push, place_among, serial_in_force, serial_of_append, serial_of_append_none, serial_of_append_some}
-use Rattle.kob_authorizer.specs.AtOnce.{added_at_once, creation, is_known, new_bindings, serials_in, with_new}
-use Rattle.kob_authorizer.specs.Creation.{Added, Creates, OnlyAdds, add_one, addition, with_binding, serial_of}
-use Rattle.kob_authorizer.specs.Contents.{IsRising}
-use Rattle.kob_authorizer.specs.Passing.{create_fault, limit_fault}
-use Rattle.kob_names.proofs.SameBindings.{same_binding_decides}
-use Rattle.kob_names.specs.SameBinding.{same_binding}
-use Rattle.kob_names.specs.Binding.{Binding}
 
 -- the entries, and fresh bindings under the serials from n on
 abbrev grown : ℕ → List (ℕ × Binding) → List Binding → List (ℕ × Binding)
@@ -21,14 +11,7 @@ grown n entries fresh = entries ++ enumerate_from n fresh
 -- a binding is known exactly where it has a serial among the entries and the fresh ones
 known_has_serial : (n : ℕ) (entries : List (ℕ × Binding)) (fresh : List Binding) (b : Binding)
     → is_some (serial_of (grown n entries fresh) b) ≡ is_known entries fresh b
-known_has_serial n entries fresh b =
-    ap is_some (serial_of_append b entries (enumerate_from n fresh))
-    ∙ either (serial_of entries b) (serial_of (enumerate_from n fresh) b)
-    ∙ (λ i. serial_in_force entries b i || place_among n fresh b i)
-  where
-    either : (o p : Option ℕ) → is_some (option_or o p) ≡ (is_some o || is_some p)
-    either None p = refl
-    either (Some serial) p = refl
+known_has_serial n entries fresh b = grind (arith, nat_tests, serial_of_append, serial_in_force, place_among)
 
 -- the new bindings so far stay at the front
 fresh_extends : (entries : List (ℕ × Binding)) (fresh bs : List Binding)
@@ -38,8 +21,7 @@ fresh_extends entries fresh (b ∷ bs) =
     elim (is_known entries fresh b) as (λ t. (more : List Binding)
     × (fold (with_new entries) (cond t fresh (fresh ++ b ∷ [])) bs ≡ fresh ++ more)) [
       | true ↦ fresh_extends entries fresh bs
-      | false ↦ (let later = fresh_extends entries (fresh ++ b ∷ []) bs in
-          (b ∷ later.0, later.1 ∙ append_assoc fresh (b ∷ []) later.0))
+      | false ↦ grind (arith, nat_tests, fresh_extends entries (fresh ++ b ∷ []) bs, append_assoc)
     ]
 
 -- a serial that was given stays given
@@ -47,14 +29,14 @@ serial_stays : (n : ℕ) (entries : List (ℕ × Binding)) (fresh bs : List Bind
     → Some serial ≡ serial_of (grown n entries fresh) b
     → Some serial ≡ serial_of (grown n entries (fold (with_new entries) fresh bs)) b
 serial_stays n entries fresh bs b serial given =
-    let later = fresh_extends entries fresh bs in
-    let whole : grown n entries fresh ++ enumerate_from (n + length fresh) later.0
-    ≡ grown n entries (fold (with_new entries) fresh bs) =
-    append_assoc entries (enumerate_from n fresh) (enumerate_from (n + length fresh) later.0)
-    ∙ ap (λ rest. entries ++ rest) (sym (enumerate_from_append n fresh later.0))
-    ∙ ap (λ all. grown n entries all) (sym later.1) in
-    serial_of_append_some b (grown n entries fresh) (enumerate_from (n + length fresh) later.0) serial given
-    ∙ ap (λ all. serial_of all b) whole
+    grind (
+      arith,
+      nat_tests,
+      fresh_extends entries fresh bs,
+      append_assoc,
+      enumerate_from_append,
+      serial_of_append_some,
+    )
 
 -- the state after fresh bindings, with the serials answered so far
 abbrev reached : ℕ → List (ℕ × Binding) → List Binding → List ℕ → Added
@@ -65,26 +47,18 @@ one_more : (n : ℕ) (entries : List (ℕ × Binding)) (all : List Binding) (ser
     (bs : List Binding) (serial : ℕ) → Some serial ≡ serial_of (grown n entries all) b
     → (serials ++ serial ∷ []) ++ serials_in (grown n entries all) bs
     ≡ serials ++ serials_in (grown n entries all) (b ∷ bs)
-one_more n entries all serials b bs serial given =
-    append_assoc serials (serial ∷ []) (serials_in (grown n entries all) bs)
-    ∙ ap (λ o. serials ++ cons_option o (serials_in (grown n entries all) bs)) given
+one_more n entries all serials b bs serial given = grind (arith, nat_tests, append_assoc)
 
 -- a new binding gets the serial that comes next
 new_serial : (n : ℕ) (entries : List (ℕ × Binding)) (fresh : List Binding) (b : Binding)
     → None ≡ serial_of (grown n entries fresh) b
     → Some (n + length fresh) ≡ serial_of (grown n entries fresh ++ (n + length fresh, b) ∷ []) b
-new_serial n entries fresh b none =
-    let itself : same_binding b b ≡ true = (same_binding_decides b b).1 refl in
-    let alone : Some (n + length fresh) ≡ serial_of ((n + length fresh, b) ∷ []) b =
-    ap (λ t. option_map (λ (e : ℕ × Binding). e.0) (cond t (Some (n + length fresh, b)) None)) (sym itself) in
-    alone ∙ serial_of_append_none b (grown n entries fresh) ((n + length fresh, b) ∷ []) none
+new_serial n entries fresh b none = grind (arith, nat_tests, same_binding_decides, serial_of_append_none)
 
 -- the entries with one more fresh binding
 grown_push : (n : ℕ) (entries : List (ℕ × Binding)) (fresh : List Binding) (b : Binding)
     → grown n entries fresh ++ (n + length fresh, b) ∷ [] ≡ grown n entries (fresh ++ b ∷ [])
-grown_push n entries fresh b =
-    append_assoc entries (enumerate_from n fresh) ((n + length fresh, b) ∷ [])
-    ∙ ap (λ rest. entries ++ rest) (sym (enumerate_from_push n fresh b))
+grown_push n entries fresh b = grind (arith, nat_tests, append_assoc, enumerate_from_push)
 
 abbrev state : List (ℕ × Binding) → ℕ → List ℕ → Added
 state entries next serials = record { entries = entries; next = next; serials = serials }
@@ -136,16 +110,7 @@ in_turn_from n entries (b ∷ bs) fresh serials =
 pub in_turn_at_once : (entries : List (ℕ × Binding)) (next : ℕ) (bindings : List Binding)
     → addition entries next bindings ≡ added_at_once entries next bindings
 in_turn_at_once entries next bindings =
-    let all : List Binding = new_bindings entries bindings in
-    let answered : List ℕ = serials_in (grown next entries all) bindings in
-    let zero_more : next ≡ next + 0 = omega arith in
-    let counted : next + length all ≡ next + length (enumerate_from next all) =
-    ap (λ k. next + k) (sym (length-enumerate_from next all)) in
-    let start : state entries next [] ≡ reached next entries [] [] =
-    ap (λ es. state es next []) (sym (append-nil entries)) ∙ ap (λ k. state (entries ++ []) k []) zero_more in
-    ap (λ from. fold add_one from bindings) start
-    ∙ in_turn_from next entries bindings [] []
-    ∙ ap (λ k. state (grown next entries all) k answered) counted
+    grind (arith, nat_tests, length-enumerate_from, append-nil entries, in_turn_from next entries bindings [] [])
 
 -- what is found first and then numbered is a creation of the bindings
 pub creation_creates : (entries : List (ℕ × Binding)) (next : ℕ) (bindings : List Binding)
@@ -156,32 +121,15 @@ creation_creates entries next bindings = in_turn_at_once entries next bindings
 pub fault_by_count : (entries : List (ℕ × Binding)) (next : ℕ) (bindings : List Binding)
     → create_fault entries next bindings ≡ limit_fault (length entries + length (new_bindings entries bindings))
     (next + length (new_bindings entries bindings))
-fault_by_count entries next bindings =
-    let all : List Binding = new_bindings entries bindings in
-    let fresh : length (enumerate_from next all) ≡ length all = length-enumerate_from next all in
-    let whole : length (grown next entries all) ≡ length entries + length all =
-    length-append entries (enumerate_from next all) ∙ ap (λ k. length entries + k) fresh in
-    ap (λ (after : Added). limit_fault (length after.entries) after.next) (in_turn_at_once entries next bindings)
-    ∙ ap (λ k. limit_fault k (next + length (enumerate_from next all))) whole
-    ∙ ap (λ k. limit_fault (length entries + length all) (next + k)) fresh
+fault_by_count entries next bindings = grind (arith, nat_tests, length-enumerate_from, length-append, in_turn_at_once)
 
 -- adding bindings keeps the serials rising
 pub added_rises : (entries : List (ℕ × Binding)) (next : ℕ) (bindings : List Binding) → IsRising 1 entries next
     → IsRising 1 (addition entries next bindings).entries (addition entries next bindings).next
 added_rises entries next bindings rising =
-    let fresh : List Binding = new_bindings entries bindings in
-    subst (λ (after : Added). IsRising 1 after.entries after.next) (sym (in_turn_at_once entries next bindings))
-    (rising_append 1 next (next + length (enumerate_from next fresh)) entries (enumerate_from next fresh) rising
-    (rising_enumerate_from next fresh))
+    grind (arith, nat_tests, in_turn_at_once, rising_append, rising_enumerate_from)
 
 -- adding bindings leaves the entries and gives serials from the next one on
 pub only_adds : (entries : List (ℕ × Binding)) (next : ℕ) (bindings : List Binding)
     → OnlyAdds entries next (addition entries next bindings)
-only_adds entries next bindings =
-    let fresh : List (ℕ × Binding) = enumerate_from next (new_bindings entries bindings) in
-    let at_once : OnlyAdds entries next (added_at_once entries next bindings) = record {
-      fresh = fresh;
-      kept = refl;
-      numbered = rising_enumerate_from next (new_bindings entries bindings);
-    } in
-    subst (λ (after : Added). OnlyAdds entries next after) (sym (in_turn_at_once entries next bindings)) at_once
+only_adds entries next bindings = grind (arith, nat_tests, rising_enumerate_from, in_turn_at_once)

@@ -1,35 +1,18 @@
 -- The least hits of some serials, one by one and list by list.
-use Rattle.std.proofs.Common.{◌≡◌, refl, sym, ap, ◌∙◌, Bool, true, false, cond, ℕ, List, [], ◌∷◌, ◌++◌, min, append-nil, append_assoc}
-use Rattle.std.specs.Bool.{then_some}
-use Rattle.std.specs.List.{fold, reduce}
-use Rattle.kob_names.specs.Binding.{Binding}
-use Rattle.kob_names.specs.declared.kinds.Permission.TheVariants.{Allow, Deny}
+use Rattle.kob_authorizer.proofs.Words.{Binding, Bool, Hits, List, Question, [], ap, append-nil, append_assoc, arith, fold, least_hits, least_passing, lesser_hits, nat_tests, no_hits, passes_at, sym, then_some, ℕ, ◌++◌, ◌∙◌, ◌∷◌, ◌≡◌}
 use Rattle.kob_authorizer.proofs.LeastPassing.{least_of_two}
-use Rattle.kob_authorizer.specs.Decide.{is_hit}
-use Rattle.kob_authorizer.specs.Hits.{lesser_hits, no_hits}
-use Rattle.kob_authorizer.specs.LookUp.{least_hits, least_passing, passes_at}
-use Rattle.kob_authorizer.specs.Question.{Question}
-use Rattle.kob_authorizer.specs.declared.hits.Hits.{Hits}
-
-least_of_one : (passes : Bool) (serial : ℕ) → then_some passes serial ≡ reduce min (cond passes (serial ∷ []) [])
-least_of_one true serial = refl
-least_of_one false serial = refl
 
 -- a serial alone is the least that passes, if it does
 pub passes_alone : (test : ℕ × Binding → Bool) (entries : List (ℕ × Binding)) (serial : ℕ) (passes : Bool)
     → passes ≡ passes_at test entries serial → then_some passes serial ≡ least_passing test entries (serial ∷ [])
-passes_alone test entries serial passes is =
-    least_of_one passes serial ∙ ap (λ b. reduce min (cond b (serial ∷ []) [])) is
+passes_alone test entries serial passes is = grind (arith, nat_tests)
 
 module _ (entries : List (ℕ × Binding)) (question : Question) where
   -- of two lists of serials the least hits are the lesser of theirs
   pub hits_of_two : (xs ys : List ℕ)
       → lesser_hits (least_hits entries question xs) (least_hits entries question ys)
       ≡ least_hits entries question (xs ++ ys)
-  hits_of_two xs ys = λ i. record {
-    deny = least_of_two (is_hit Deny question) entries xs ys i;
-    allow = least_of_two (is_hit Allow question) entries xs ys i;
-  }
+  hits_of_two xs ys = grind (arith, nat_tests, least_of_two)
 
   -- with one more serial looked at
   abbrev pub with_serial : Hits → ℕ → Hits

@@ -1,31 +1,17 @@
 -- The least serial that passes, among serials that lead to every entry that passes, is that of the first entry that
 -- passes.
-use Rattle.std.proofs.Common.{◌≡◌, refl, sym, ap, ◌∙◌, subst, arith, Bool, true, false, cond, ◌&&◌, ◌==◌, ℕ, ◌≤◌, min, List, [], ◌∷◌, ◌++◌, append-nil}
-use Rattle.std.specs.Prelude.{All, Contains, Some, None}
-use Rattle.std.specs.List.{filter, fold, reduce}
-use Rattle.std.proofs.Math.Nat.{le-min, min-le_left, min-le_right}
-use Rattle.std.proofs.lemmas.Bool.{and_from, and_parts, eq-eqb, eqb-true}
-use Rattle.std.proofs.lemmas.List.Elements.{All-cons, All-contains, All-head, All-nil, All-tail, All-weaker, filter-append, filter_passes}
-use Rattle.std.proofs.lemmas.List.Sums.{fold-append}
-use Rattle.kob_names.specs.Binding.{Binding}
+use Rattle.kob_authorizer.proofs.Words.{All, All-head, All-nil, All-tail, All-weaker, AreRising, Binding, Bool, Contains, List, None, Some, [], and_from, and_parts, ap, append-nil, arith, cond, eq-eqb, eqb-true, false, filter, filter-append, filter_passes, first_serial, fold, fold-append, le-min, least_passing, lesser, min, min-le_left, min-le_right, nat_tests, passes_at, reduce, refl, subst, true, ℕ, ◌&&◌, ◌++◌, ◌==◌, ◌∙◌, ◌∷◌, ◌≡◌, ◌≤◌}
 use Rattle.kob_authorizer.proofs.Elements.{any_passes, kept_by_filter, passing}
 use Rattle.kob_authorizer.proofs.FirstHit.{first_is, least_is, none_is}
-use Rattle.kob_authorizer.specs.Decide.{first_serial}
-use Rattle.kob_authorizer.specs.Hits.{lesser}
-use Rattle.kob_authorizer.specs.LookUp.{AreRising, least_passing, passes_at}
 
 fold_at_most : (x : ℕ) (xs : List ℕ) → fold min x xs ≤ x
 fold_at_most x [] = omega arith
-fold_at_most x (y ∷ ys) =
-    let more = fold_at_most (min x y) ys in let less = min-le_left x y in omega (arith, more, less)
+fold_at_most x (y ∷ ys) = grind (arith, nat_tests, fold_at_most (min x y) ys, min-le_left)
 
 -- the least is at most each
 fold_least : (x : ℕ) (xs : List ℕ) → All (λ y. fold min x xs ≤ y) xs
 fold_least x [] = All-nil (λ y. x ≤ y)
-fold_least x (z ∷ zs) =
-    let first : fold min (min x z) zs ≤ z =
-    (let more = fold_at_most (min x z) zs in let less = min-le_right x z in omega (arith, more, less)) in
-    All-cons (λ y. fold min (min x z) zs ≤ y) z zs first (fold_least (min x z) zs)
+fold_least x (z ∷ zs) = grind (arith, nat_tests, fold_at_most, min-le_right, fold_least (min x z) zs)
 
 -- and not below what is at most each
 fold_not_below : (low x : ℕ) (xs : List ℕ) → low ≤ x → All (λ y. low ≤ y) xs → low ≤ fold min x xs
@@ -36,9 +22,7 @@ fold_not_below low x (z ∷ zs) le all =
 least_among : (low : ℕ) (xs : List ℕ) → Contains xs low → All (λ y. low ≤ y) xs → reduce min xs ≡ Some low
 least_among low [] has all = absurd (omega (arith, has.1))
 least_among low (x ∷ xs) has all =
-    let at_most : fold min x xs ≤ low =
-    All-contains (λ y. fold min x xs ≤ y) (x ∷ xs) low
-    (All-cons (λ y. fold min x xs ≤ y) x xs (fold_at_most x xs) (fold_least x xs)) has in
+    let at_most : fold min x xs ≤ low = grind (arith, nat_tests, fold_at_most, fold_least) in
     let at_least = fold_not_below low x xs (All-head (λ y. low ≤ y) x xs all) (All-tail (λ y. low ≤ y) x xs all) in
     let same : fold min x xs ≡ low = omega (arith, at_most, at_least) in
     ap Some same
@@ -46,16 +30,7 @@ least_among low (x ∷ xs) has all =
 -- the least of a list and of one more
 least_with : (x y : ℕ) (ys : List ℕ) → min x (fold min y ys) ≡ fold min (min x y) ys
 least_with x y [] = refl
-least_with x y (z ∷ zs) =
-    let regrouped : min x (min y z) ≡ min (min x y) z = omega arith in
-    least_with x (min y z) zs ∙ ap (λ low. fold min low zs) regrouped
-
--- the least of two lists is the lesser of their least
-lesser_of_two : (xs ys : List ℕ) → lesser (reduce min xs) (reduce min ys) ≡ reduce min (xs ++ ys)
-lesser_of_two [] ys = refl
-lesser_of_two (x ∷ xs) [] = ap (λ zs. Some (fold min x zs)) (sym (append-nil xs))
-lesser_of_two (x ∷ xs) (y ∷ ys) =
-    ap Some (least_with (fold min x xs) y ys ∙ sym (fold-append min x xs (y ∷ ys)))
+least_with x y (z ∷ zs) = grind (arith, nat_tests, least_with x (min y z) zs)
 
 none_kept : (test : ℕ → Bool) (xs : List ℕ) → ((x : ℕ) → test x ≡ false) → filter test xs ≡ []
 none_kept test [] none = refl
@@ -103,6 +78,4 @@ module _ (test : ℕ × Binding → Bool) where
   -- of two lists of serials the least is the lesser of their least
   pub least_of_two : (entries : List (ℕ × Binding)) (xs ys : List ℕ)
       → lesser (least_passing test entries xs) (least_passing test entries ys) ≡ least_passing test entries (xs ++ ys)
-  least_of_two entries xs ys =
-      lesser_of_two (filter (passes_at test entries) xs) (filter (passes_at test entries) ys)
-      ∙ ap (reduce min) (sym (filter-append (passes_at test entries) xs ys))
+  least_of_two entries xs ys = grind (arith, nat_tests, filter-append, append-nil, least_with, fold-append)

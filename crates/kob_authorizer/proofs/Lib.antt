@@ -4,8 +4,8 @@ pub mod FirstHit
 pub mod FreshSteps
 pub mod Halving
 pub mod InForce
-pub mod IndexSteps
 pub mod InTurn
+pub mod IndexSteps
 pub mod Keys
 pub mod LeastHits
 pub mod LeastPassing
@@ -20,3 +20,4 @@ pub mod SuperUsers
 pub mod TreeSteps
 pub mod Unmatched
 pub mod Verdicts
+mod Words

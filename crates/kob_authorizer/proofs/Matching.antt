@@ -1,47 +1,16 @@
 -- The serials that the trees give lead to every binding that is sought.
-use Rattle.std.proofs.Common.{◌≡◌, inl, inr, refl, sym, ◌∙◌, subst, Bool, true, ◌||◌, ℕ, List, ◌++◌, drop, length}
-use Rattle.std.specs.Prelude.{Contains, IsTrue, codes, nat_eq}
-use Rattle.std.specs.List.{filter, starts_with}
-use Rattle.std.proofs.lemmas.Bool.{and_from, and_parts, or_cases}
-use Rattle.std.proofs.lemmas.Bool.Decides.{Decides-eqb}
-use Rattle.std.proofs.lemmas.List.Elements.{Contains-append_left, Contains-append_right}
-use Rattle.std.proofs.lemmas.Slice.Eq.{bytes_eq-Decides, starts_is}
-use Rattle.kob_names.proofs.SameBindings.{resource_decides, same_binding_decides}
-use Rattle.kob_names.specs.Access.{matches, matches_by}
-use Rattle.kob_names.specs.Same.{same_resource, same_text}
-use Rattle.kob_names.specs.Binding.{Binding}
+use Rattle.kob_authorizer.proofs.Words.{AreRising, Binding, Bool, Contains, Contains-append_left, Contains-append_right, Decides-eqb, Held, Index, Indexes, IsIndex, IsTrue, List, Literal, Permission, Place, PrefixMap, Prefixed, Question, ResourceKind, along_has_literal, along_has_prefixed, and_from, and_parts, arith, behind, bytes_eq-Decides, codes, drop, entries_on, filter, first_serial, held, hits, inl, inr, is_equal, is_hit, is_place, key_place, keys_on, kind_in_tree, least_passing, length, matches, matches_by, matching_serials, nat_eq, nat_tests, or_cases, pattern_place, refl, resource_decides, same_binding_decides, same_resource, same_text, serial_of, serials_along, serials_for, serials_from, serials_of, starts_is, starts_with, subst, sym, tree_of, true, ℕ, ◌++◌, ◌||◌, ◌≡◌}
 use Rattle.kob_names.specs.declared.kinds.PatternKind.{PatternKind}
-use Rattle.kob_names.specs.declared.kinds.PatternKind.TheVariants.{Literal, Prefixed}
-use Rattle.kob_names.specs.declared.kinds.Permission.{Permission}
-use Rattle.kob_names.specs.declared.kinds.ResourceKind.{ResourceKind}
-use Rattle.kob_prefix_tree.proofs.HeldLaws.{along_has_literal, along_has_prefixed}
-use Rattle.kob_prefix_tree.specs.Held.{Held, serials_of}
-use Rattle.kob_prefix_tree.specs.PrefixMap.{PrefixMap, held}
-use Rattle.kob_prefix_tree.specs.Walked.{serials_along}
+use Rattle.kob_authorizer.specs.Meaning.{Hits}
 use Rattle.kob_prefix_tree.specs.declared.kind.PatternKind as of_tree
-use Rattle.kob_prefix_tree.specs.declared.kind.PatternKind.TheVariants as in_tree
 use Rattle.kob_authorizer.proofs.FirstHit.{first_serial_found}
 use Rattle.kob_authorizer.proofs.Elements.{among_mapped, kept_by_filter}
 use Rattle.kob_authorizer.proofs.LeastPassing.{LeadToAll, least_is_first}
 use Rattle.kob_authorizer.proofs.Verdicts.{is_hit_decides}
-use Rattle.kob_authorizer.specs.Creation.{serial_of}
-use Rattle.kob_authorizer.specs.Decide.{first_serial, hits, is_hit}
-use Rattle.kob_authorizer.specs.Index.{Indexes, entries_on, tree_of}
 use Rattle.kob_authorizer.specs.Key.{binding_key}
-use Rattle.kob_authorizer.specs.LookUp.{AreRising, behind, is_equal, keys_on, least_passing, matching_serials, serials_for, serials_from}
-use Rattle.kob_authorizer.specs.Meaning.{Hits}
-use Rattle.kob_authorizer.specs.Places.{IsIndex, Place, key_place, is_place, kind_in_tree, pattern_place, same_kind}
-use Rattle.kob_authorizer.specs.Question.{Question}
-use Rattle.kob_authorizer.specs.declared.index.Index.{Index}
-
-same_kind_itself : (kind : of_tree.PatternKind) → same_kind kind kind ≡ true
-same_kind_itself in_tree.Literal = refl
-same_kind_itself in_tree.Prefixed = refl
 
 stands_itself : (place : Place) → is_place place.kind place.key place ≡ true
-stands_itself place =
-    and_from (same_kind place.kind place.kind) (same_text place.key place.key) (same_kind_itself place.kind)
-    ((bytes_eq-Decides place.key place.key).1 refl)
+stands_itself place = grind (arith, nat_tests, and_from, bytes_eq-Decides)
 
 -- the serial of an entry is at its place
 pub at_its_place : (place : Binding → Place) (m : PrefixMap) (entries : List (ℕ × Binding)) (entry : ℕ × Binding)
@@ -141,16 +110,22 @@ least_hit_is_first index entries permission question rising indexed =
 equals_looked_up : (m : PrefixMap) (entries : List (ℕ × Binding)) (binding : Binding) → IsIndex key_place m entries
     → LeadToAll (is_equal binding) entries (serials_of (key_place binding).kind (held m (key_place binding).key))
 equals_looked_up m entries binding indexed entry there is =
-    subst (λ (b : Binding). Contains (serials_of (key_place b).kind (held m (key_place b).key)) entry.0)
-    ((same_binding_decides entry.1 binding).0 is)
-    (at_its_place key_place m entries entry indexed there)
+    grind (
+      arith,
+      nat_tests,
+      same_binding_decides entry.1 binding,
+      at_its_place key_place m entries entry indexed there,
+    )
 
 -- so the least serial of the equal ones that were looked up is that of the first equal one
 pub least_equal_is_first : (m : PrefixMap) (entries : List (ℕ × Binding)) (binding : Binding) → AreRising entries
     → IsIndex key_place m entries → least_passing (is_equal binding) entries
     (serials_of (key_place binding).kind (held m (key_place binding).key)) ≡ serial_of entries binding
 least_equal_is_first m entries binding rising indexed =
-    least_is_first (is_equal binding) entries
-    (serials_of (key_place binding).kind (held m (key_place binding).key)) rising
-    (equals_looked_up m entries binding indexed)
-    ∙ first_serial_found (is_equal binding) entries
+    grind (
+      arith,
+      nat_tests,
+      least_is_first (is_equal binding) entries (serials_of (key_place binding).kind (held m (key_place binding).key)) rising (equals_looked_up m entries binding indexed),
+      equals_looked_up m entries binding indexed,
+      first_serial_found (is_equal binding) entries,
+    )

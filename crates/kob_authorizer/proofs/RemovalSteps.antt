@@ -1,30 +1,8 @@
 -- What a deletion takes out of the trees of the patterns, place by place.
-use Rattle.std.proofs.Common.{◌≡◌, refl, sym, ap, ◌∙◌, Bool, true, false, cond, ◌&&◌, ◌||◌, ℕ, List, [], ◌∷◌, ◌++◌, map, append-nil, append_assoc}
-use Rattle.std.specs.List.{filter, fold, list_any}
-use Rattle.std.proofs.lemmas.Bool.{and_parts, eq-eqb}
-use Rattle.std.proofs.lemmas.Slice.Eq.{bytes_eq-Decides}
-use Rattle.kob_names.proofs.SameBindings.{resource_decides}
-use Rattle.kob_names.specs.Filter.{takes}
-use Rattle.kob_names.specs.Same.{same_resource, same_text}
-use Rattle.kob_names.specs.Binding.{Binding}
-use Rattle.kob_names.specs.declared.filter.BindingFilter.{BindingFilter}
-use Rattle.kob_names.specs.declared.kinds.ResourceKind.{ResourceKind}
-use Rattle.kob_prefix_tree.proofs.HeldLaws.{held_removed_all_other, held_removed_all_same}
-use Rattle.kob_prefix_tree.specs.Held.{Held, serials_of, without_serials}
-use Rattle.kob_prefix_tree.specs.Lists.{without_in_turn}
-use Rattle.kob_prefix_tree.specs.PrefixMap.{PrefixMap, held, removed_all}
-use Rattle.kob_prefix_tree.specs.declared.kind.PatternKind.{PatternKind}
-use Rattle.kob_prefix_tree.specs.declared.kind.PatternKind.TheVariants.{Literal, Prefixed}
+use Rattle.kob_authorizer.proofs.Words.{Binding, BindingFilter, Bool, Held, Index, Indexes, IsRising, List, PatternKind, Patterns, PrefixMap, Removal, ResourceKind, [], addition, and_parts, ap, append-nil, append_assoc, arith, begins_with, bindings_left, bindings_taken, bytes_eq-Decides, cond, eq-eqb, false, filter, fold, held, held_removed_all_other, held_removed_all_same, is_first_there, key_place, list_any, map, nat_tests, patterns_of, refl, removal_of, removals_of, removed_all, resource_decides, same_kind, same_text, serials_beside, serials_of, sym, takes, tree_of, true, with_removal, without_addition, without_in_turn, without_removal, without_serials, ℕ, ◌&&◌, ◌++◌, ◌||◌, ◌∙◌, ◌∷◌, ◌≡◌}
 use Rattle.kob_authorizer.proofs.IndexSteps.{are_patterns, keys_removed, tree_changed}
 use Rattle.kob_authorizer.proofs.Passes.{none_sought, one_more_there, pass_again, pass_leaves, serials_there, stands_at}
 use Rattle.kob_authorizer.proofs.TreeSteps.{after_change}
-use Rattle.kob_authorizer.specs.Contents.{IsRising}
-use Rattle.kob_authorizer.specs.Deletion.{bindings_left, bindings_taken}
-use Rattle.kob_authorizer.specs.Index.{Indexes, patterns_of, tree_of}
-use Rattle.kob_authorizer.specs.Places.{addition, key_place, kind_in_tree, same_kind, without_addition}
-use Rattle.kob_authorizer.specs.Removal.{Removal, begins_with, is_first_there, removal_of, removals_of, serials_beside, with_removal, without_removal}
-use Rattle.kob_authorizer.specs.declared.index.Index.{Index}
-use Rattle.kob_authorizer.specs.declared.patterns.Patterns.{Patterns}
 
 -- the list after a pass, where there is one
 abbrev passed : Bool → List ℕ → List ℕ → List ℕ
@@ -32,10 +10,7 @@ passed here ss xs = cond here (without_in_turn ss xs) xs
 
 pass_of_kind : (kind : PatternKind) (ss : List ℕ) (h : Held) (other : PatternKind)
     → serials_of other (without_serials kind ss h) ≡ passed (same_kind kind other) ss (serials_of other h)
-pass_of_kind Literal ss h Literal = refl
-pass_of_kind Literal ss h Prefixed = refl
-pass_of_kind Prefixed ss h Literal = refl
-pass_of_kind Prefixed ss h Prefixed = refl
+pass_of_kind x0 ss h x3 = grind (arith, nat_tests)
 
 -- a pass changes one list of one key
 after_pass : (m : PrefixMap) (key : List ℕ) (kind : PatternKind) (ss : List ℕ) (other : PatternKind) (name : List ℕ)
@@ -46,26 +21,19 @@ after_pass m key kind ss =
     (λ other. ap (serials_of other) (held_removed_all_same m key kind ss) ∙ pass_of_kind kind ss (held m key) other)
     (held_removed_all_other m key kind ss)
 
-kind_told : (one other : PatternKind) → same_kind one other ≡ true → one ≡ other
-kind_told Literal Literal same = refl
-kind_told Literal Prefixed same = cc
-kind_told Prefixed Literal same = cc
-kind_told Prefixed Prefixed same = refl
-
 -- each place is named where its first entry is met
 named : (patterns : Patterns) (rest : List (ℕ × Binding)) (so_far : List Removal)
     → fold (with_removal patterns) so_far rest
     ≡ so_far ++ map (removal_of patterns) (filter (is_first_there patterns) rest)
 named patterns [] so_far = sym (append-nil so_far)
 named patterns (x ∷ xs) so_far =
-    let firsts : List (ℕ × Binding) = filter (is_first_there patterns) xs in
-    elim (is_first_there patterns x) as (λ b.
-    fold (with_removal patterns) (cond b (so_far ++ removal_of patterns x ∷ []) so_far) xs
-    ≡ so_far ++ map (removal_of patterns) (cond b (x ∷ firsts) firsts)) [
-      | true ↦ named patterns xs (so_far ++ removal_of patterns x ∷ [])
-          ∙ append_assoc so_far (removal_of patterns x ∷ []) (map (removal_of patterns) firsts)
-      | false ↦ named patterns xs so_far
-    ]
+    grind (
+      arith,
+      nat_tests,
+      named patterns xs (so_far ++ removal_of patterns x ∷ []),
+      append_assoc,
+      named patterns xs so_far,
+    )
 
 module _ (resource : ResourceKind) (kind : PatternKind) (key : List ℕ) where
   -- the serials of this place among the patterns
@@ -75,32 +43,7 @@ module _ (resource : ResourceKind) (kind : PatternKind) (key : List ℕ) where
   -- an entry that stands there finds all that do
   beside : (taken : List (ℕ × Binding)) (d : ℕ × Binding) → stands_at resource kind key d ≡ true
       → serials_beside (patterns_of taken) d ≡ serials_there resource kind key taken
-  beside taken d is =
-      let parts = and_parts _ _ is in
-      let places = and_parts _ _ parts.1 in
-      let on = (resource_decides d.1.resource resource).0 parts.0 in
-      let of_kind = kind_told (kind_in_tree d.1.pattern.kind) kind places.0 in
-      let named_so = (bytes_eq-Decides d.1.pattern.name key).0 places.1 in
-      (λ i. serials_of (of_kind i) (held (tree_of (patterns_of taken) (on i)) (named_so i)))
-      ∙ are_patterns taken resource kind key
-
-  after_one : (patterns : Patterns) (removal : Removal)
-      → found_there (without_removal patterns removal)
-      ≡ passed (same_resource removal.resource resource
-      && (same_kind (kind_in_tree removal.pattern.kind) kind && same_text removal.pattern.name key)) removal.serials
-      (found_there patterns)
-  after_one patterns removal =
-      let change : PrefixMap → PrefixMap =
-      λ m. removed_all m removal.pattern.name (kind_in_tree removal.pattern.kind) removal.serials in
-      let same : Bool = same_kind (kind_in_tree removal.pattern.kind) kind && same_text removal.pattern.name key in
-      ap (λ (m : PrefixMap). serials_of kind (held m key)) (tree_changed patterns change removal.resource resource)
-      ∙ elim (same_resource removal.resource resource) as (λ b.
-      serials_of kind (held (cond b (change (tree_of patterns resource)) (tree_of patterns resource)) key)
-      ≡ passed (b && same) removal.serials (found_there patterns)) [
-        | true ↦ after_pass (tree_of patterns resource) removal.pattern.name (kind_in_tree removal.pattern.kind)
-            removal.serials kind key
-        | false ↦ refl
-      ]
+  beside taken d is = grind (arith, nat_tests, and_parts, resource_decides, bytes_eq-Decides, are_patterns)
 
   module _ (taken : List (ℕ × Binding)) (before left : List ℕ)
       (leaves : without_in_turn (serials_there resource kind key taken) before ≡ left)
@@ -114,13 +57,7 @@ module _ (resource : ResourceKind) (kind : PatternKind) (key : List ℕ) where
     after_entry : (patterns : Patterns) (d : ℕ × Binding) (xs : List ℕ) → found_there patterns ≡ xs
         → found_there (without_removal patterns (removal_of (patterns_of taken) d))
         ≡ passed (stands_at resource kind key d) sought xs
-    after_entry patterns d xs is =
-        after_one patterns (removal_of (patterns_of taken) d)
-        ∙ elim (stands_at resource kind key d) as (λ b. stands_at resource kind key d ≡ b
-        → passed b (serials_beside (patterns_of taken) d) (found_there patterns) ≡ passed b sought xs) [
-          | true ↦ λ stands. (λ i. without_in_turn (beside taken d stands i) (is i))
-          | false ↦ λ _. is
-        ] refl
+    after_entry patterns d xs is = grind (arith, nat_tests, beside, tree_changed, after_pass)
 
     -- what a pass has left stays
     left_stays : (ds : List (ℕ × Binding)) (patterns : Patterns) → found_there patterns ≡ left
@@ -137,14 +74,7 @@ module _ (resource : ResourceKind) (kind : PatternKind) (key : List ℕ) where
     after_entries [] patterns is = is
     after_entries (d ∷ ds) patterns is =
         let after : Patterns = without_removal patterns (removal_of (patterns_of taken) d) in
-        elim (stands_at resource kind key d) as (λ b. stands_at resource kind key d ≡ b
-        → found_there (without_places after ds)
-        ≡ cond (b || list_any (stands_at resource kind key) ds) left before) [
-          | true ↦ λ stands. left_stays ds after (after_entry patterns d before is
-              ∙ ap (λ b. passed b sought before) stands ∙ leaves)
-          | false ↦ λ stands. after_entries ds after (after_entry patterns d before is
-              ∙ ap (λ b. passed b sought before) stands)
-        ] refl
+        grind (arith, nat_tests, left_stays, after_entry, after_entries ds after)
 
   -- where some of the entries stand there, one is the first
   some_first : (taken rest : List (ℕ × Binding)) (s : ℕ) (ss : List ℕ) → serials_there resource kind key rest ≡ s ∷ ss
@@ -159,13 +89,7 @@ module _ (resource : ResourceKind) (kind : PatternKind) (key : List ℕ) where
       elim (stands x) as (λ b. stands x ≡ b
       → cond b (x.0 ∷ serials_there resource kind key xs) (serials_there resource kind key xs) ≡ s ∷ ss
       → list_any stands (cond (is_first_there (patterns_of taken) x) (x ∷ firsts) firsts) ≡ true) [
-        | true ↦ λ so here.
-            let number : x.0 ≡ s = cc in
-            let first : is_first_there (patterns_of taken) x ≡ true =
-            ap (λ xs. begins_with xs x.0) (beside taken x so)
-            ∙ ap (begins_with (serials_there resource kind key taken)) number ∙ begins in
-            ap (λ b. list_any stands (cond b (x ∷ firsts) firsts)) first
-            ∙ ap (λ b. b || list_any stands firsts) so
+        | true ↦ grind (arith, nat_tests, beside)
         | false ↦ λ so later.
             let more = some_first taken xs s ss later begins in
             elim (is_first_there (patterns_of taken) x) as (λ b. list_any stands (cond b (x ∷ firsts) firsts) ≡ true)
@@ -208,8 +132,5 @@ pub indexes_deleted : (wanted : BindingFilter) (low high : ℕ) (entries : List 
       patterns = fold without_removal index.patterns (removals_of (bindings_taken wanted entries));
       keys = fold without_addition index.keys (map (addition key_place) (bindings_taken wanted entries));
     }) (bindings_left wanted entries)
-indexes_deleted wanted low high entries index rising is = record {
-  patterns = λ resource kind key.
-      place_after resource kind key wanted low high entries index.patterns rising (is.patterns resource kind key);
-  keys = keys_removed wanted low high entries index.keys [] rising is.keys;
-}
+indexes_deleted wanted low high entries index rising is =
+    grind (arith, nat_tests, place_after, keys_removed wanted low high entries index.keys [] rising is.keys)

@@ -1,25 +1,11 @@
 -- Whether a binding in force matches a resource, by the test and by what it means.
-use Rattle.std.proofs.Common.{◌≡◌, sym, ◌∙◌, true, false, ℕ, List}
-use Rattle.std.specs.Prelude.{Contains}
-use Rattle.std.specs.Bool.{Decides}
-use Rattle.std.specs.List.{list_any}
-use Rattle.std.proofs.lemmas.Bool.Decides.{Decides-and, Decides-like}
-use Rattle.std.proofs.Math.Bool.{true≢false}
-use Rattle.kob_names.proofs.SameBindings.{resource_decides}
-use Rattle.kob_names.specs.Binding.{Binding}
+use Rattle.kob_authorizer.proofs.Words.{Binding, Contains, Decides, List, Matches, NoneMatches, Question, SomeMatches, arith, false, is_match, list_any, nat_tests, resource_decides, sym, true, true≢false, ℕ, ◌∙◌, ◌≡◌}
 use Rattle.kob_authorizer.proofs.Elements.{any_passes, each, of_each, passing}
-use Rattle.kob_authorizer.specs.Decide.{is_match}
-use Rattle.kob_authorizer.specs.Meaning.{Matches, NoneMatches, SomeMatches}
-use Rattle.kob_authorizer.specs.Question.{Question}
 
 -- the test of a match says whether the binding matches
 pub is_match_decides : (question : Question) (entry : ℕ × Binding)
     → Decides (is_match question entry) (Matches question entry)
-is_match_decides question entry =
-    Decides-like (is_match question entry)
-    (λ parts. record { resource = parts.0; name = parts.1 })
-    (λ both. (both.resource, both.name))
-    (Decides-and _ _ (resource_decides entry.1.resource question.resource) ((λ is. is), (λ is. is)))
+is_match_decides question entry = grind (arith, nat_tests, resource_decides)
 
 module _ (question : Question) (entries : List (ℕ × Binding)) where
   -- where the test finds one, a binding matches

@@ -1,23 +1,11 @@
 -- What keeps serials rising.
-use Rattle.std.proofs.Common.{length-append, ◌≡◌, refl, arith, Bool, true, false, not, cond, ℕ, ◌+◌, ◌≤◌, length, List, [], ◌∷◌, ◌++◌}
-use Rattle.std.specs.List.{enumerate_from, filter}
-use Rattle.kob_authorizer.specs.Contents.{IsRising}
-use Rattle.kob_authorizer.specs.Deletion.{bindings_left}
-use Rattle.kob_authorizer.specs.LookUp.{AreRising}
-use Rattle.kob_names.specs.Filter.{takes}
-use Rattle.kob_names.specs.Binding.{Binding}
-use Rattle.kob_names.specs.declared.filter.BindingFilter.{BindingFilter}
+use Rattle.kob_authorizer.proofs.Words.{AreRising, Binding, BindingFilter, Bool, IsRising, List, [], arith, bindings_left, enumerate_from, filter, length, length-append, nat_tests, not, takes, ℕ, ◌++◌, ◌+◌, ◌∷◌, ◌≡◌, ◌≤◌}
 
 -- numbering gives rising serials
 pub rising_enumerate_from : (n : ℕ) (xs : List Binding)
     → IsRising n (enumerate_from n xs) (n + length (enumerate_from n xs))
 rising_enumerate_from n [] = omega arith
-rising_enumerate_from n (x ∷ xs) = (
-  omega arith,
-  (let P : ℕ → Type 0 = λ m. IsRising (n + 1) (enumerate_from (n + 1) xs) m in
-      let more : n + 1 + length (enumerate_from (n + 1) xs) ≡ n + length (enumerate_from n (x ∷ xs)) = omega arith in
-      Rattle.std.proofs.Common.subst P more (rising_enumerate_from (n + 1) xs)),
-)
+rising_enumerate_from n (x ∷ xs) = grind (arith, nat_tests, rising_enumerate_from (n + 1) xs)
 
 -- serials that rise from some bound on rise from a lower one
 pub rising_below : (low middle high : ℕ) (ys : List (ℕ × Binding)) → low ≤ middle → IsRising middle ys high
@@ -41,20 +29,14 @@ pub put_rises : (limit next count : ℕ) (entries fresh : List (ℕ × Binding))
     → length entries + length fresh ≤ limit → IsRising 1 entries next → IsRising next fresh (next + length fresh)
     → (length (entries ++ fresh) ≤ limit) × IsRising 1 (entries ++ fresh) (next + count)
 put_rises limit next count entries fresh is within before after =
-    rw is (
-      omega (arith, length-append entries fresh),
-      rising_append 1 next (next + length fresh) entries fresh before after,
-    )
+    grind (arith, nat_tests, length-append, rising_append)
 
 -- leaving entries out keeps the serials rising
 pub rising_filter : (test : ℕ × Binding → Bool) (low high : ℕ) (xs : List (ℕ × Binding)) → IsRising low xs high
     → IsRising low (filter test xs) high
 rising_filter test low high [] rising = rising
 rising_filter test low high (x ∷ xs) rising =
-    let rest : IsRising (x.0 + 1) (filter test xs) high = rising_filter test (x.0 + 1) high xs rising.1 in
-    let lower : low ≤ x.0 + 1 = omega (arith, rising.0) in
-    elim (test x) as (λ t. IsRising low (cond t (x ∷ filter test xs) (filter test xs)) high)
-    [ true ↦ (rising.0, rest) | false ↦ rising_below low (x.0 + 1) high (filter test xs) lower rest ]
+    grind (arith, nat_tests, rising_filter test (x.0 + 1) high xs rising.1, rising_below)
 
 -- deleting bindings keeps the serials rising
 pub removed_rises : (entries : List (ℕ × Binding)) (next : ℕ) (wanted : BindingFilter) → IsRising 1 entries next

@@ -1,22 +1,10 @@
 -- The tree of the super users' texts holds those that are listed, and no others.
-use Rattle.std.proofs.Math.Bool.{or-false, or-true, or_assoc}
-use Rattle.std.proofs.Common.{◌≡◌, sym, refl, ap, ◌∙◌, true, false, not, ◌||◌, ◌==◌, ℕ, List, [], ◌∷◌, ◌++◌, length, arith}
-use Rattle.std.specs.List.{fold}
-use Rattle.std.specs.FinMap as map
-use Rattle.std.proofs.lemmas.Bool.{ne_eqb}
-use Rattle.std.proofs.lemmas.Slice.Eq.{bytes_eq-Decides}
-use Rattle.kob_names.specs.Same.{same_text}
-use Rattle.kob_prefix_tree.proofs.HeldLaws.{held_added_other, held_added_same, held_empty}
-use Rattle.kob_prefix_tree.specs.Held.{Held}
-use Rattle.kob_prefix_tree.specs.PrefixMap.{PrefixMap, held}
+use Rattle.kob_authorizer.proofs.Words.{Held, List, PrefixMap, [], ap, arith, bytes_eq-Decides, common_steps, false, fold, held, held_added_other, held_added_same, held_empty, holds_text, is_super, length, nat_tests, ne_eqb, not, or-false, or-true, or_assoc, refl, same_text, sym, texts_of, true, with_text, ℕ, ◌++◌, ◌==◌, ◌||◌, ◌∙◌, ◌∷◌, ◌≡◌}
 use Rattle.kob_prefix_tree.specs.declared.kind.PatternKind.TheVariants.{Literal}
-use Rattle.kob_authorizer.specs.Decide.{is_super}
-use Rattle.kob_authorizer.specs.SuperUsers.{holds_text, texts_of, with_text}
 
 -- a list that was added to is not empty
 one_more : (xs : List ℕ) (x : ℕ) → not (length (xs ++ x ∷ []) == 0) ≡ true
-one_more [] x = refl
-one_more (y ∷ xs) x = ap not (ne_eqb (length (y ∷ xs ++ x ∷ [])) 0 (λ none. absurd (omega (arith, none))))
+one_more x0 x = grind (arith, common_steps, ne_eqb)
 
 -- one more user's text is held
 text_added : (texts : PrefixMap) (user text : List ℕ)
@@ -39,11 +27,7 @@ texts_hold_beside : (texts : PrefixMap) (users : List (List ℕ)) (text : List �
     → holds_text (fold with_text texts users) text ≡ (holds_text texts text || is_super users text)
 texts_hold_beside texts [] text = sym (or-false (holds_text texts text))
 texts_hold_beside texts (user ∷ users) text =
-    texts_hold_beside (with_text texts user) users text
-    ∙ ap (λ b. b || is_super users text) (text_added texts user text)
-    ∙ or_assoc (holds_text texts text) (same_text text user) (is_super users text)
+    grind (arith, nat_tests, texts_hold_beside (with_text texts user) users text, text_added, or_assoc)
 
 pub texts_hold : (users : List (List ℕ)) (text : List ℕ) → holds_text (texts_of users) text ≡ is_super users text
-texts_hold users text =
-    texts_hold_beside map.empty users text
-    ∙ ap (λ (h : Held). not (length h.0 == 0) || is_super users text) (held_empty text)
+texts_hold users text = grind (arith, nat_tests, texts_hold_beside, held_empty)

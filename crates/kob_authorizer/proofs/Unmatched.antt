@@ -1,36 +1,12 @@
 -- Where the trees give no serial for a name, no binding matches it, and the other way round.
-use Rattle.std.proofs.Common.{◌≡◌, inl, inr, refl, sym, ap, ◌∙◌, subst, arith, Bool, true, false, not, ◌||◌, ◌==◌, ℕ, length, List, [], ◌∷◌, map}
-use Rattle.std.specs.Prelude.{Contains, codes, nat_eq}
-use Rattle.std.specs.List.{filter, list_any, starts_with}
-use Rattle.std.proofs.lemmas.Bool.{and_parts, ne_eqb}
-use Rattle.std.proofs.lemmas.Bool.Decides.{Decides-eqb}
-use Rattle.std.proofs.lemmas.List.Elements.{Contains-append_cases}
-use Rattle.std.proofs.lemmas.Slice.Eq.{bytes_eq-Decides, starts_is}
-use Rattle.kob_names.proofs.SameBindings.{resource_decides}
-use Rattle.kob_names.specs.Access.{matches_by}
-use Rattle.kob_names.specs.Same.{same_resource, same_text}
-use Rattle.kob_names.specs.Binding.{Binding}
+use Rattle.kob_authorizer.proofs.Words.{Binding, Bool, Contains, Contains-append_cases, Decides-eqb, Index, Indexes, List, Literal, PrefixMap, Prefixed, Question, SomeMatches, [], and_parts, arith, bytes_eq-Decides, codes, entries_on, false, filter, held, inl, inr, is_match, is_place, is_unmatched, kind_in_tree, length, list_any, map, matches_by, matching_serials, nat_eq, nat_tests, ne_eqb, not, pattern_place, refl, resource_decides, same_kind, same_resource, same_text, serials_of, starts_is, starts_with, subst, sym, tree_of, true, walk_of, walk_only, ℕ, ◌==◌, ◌||◌, ◌∷◌, ◌≡◌}
 use Rattle.kob_names.specs.declared.kinds.PatternKind.{PatternKind}
-use Rattle.kob_names.specs.declared.kinds.PatternKind.TheVariants.{Literal, Prefixed}
-use Rattle.kob_prefix_tree.proofs.HeldLaws.{walk_only}
-use Rattle.kob_prefix_tree.specs.Held.{serials_of}
-use Rattle.kob_prefix_tree.specs.PrefixMap.{PrefixMap, held, walk_of}
 use Rattle.kob_authorizer.proofs.Elements.{at_head, given_by, was_kept}
 use Rattle.kob_authorizer.proofs.Matching.{looked_up}
 use Rattle.kob_authorizer.proofs.Resources.{none_among, none_matches, some_matches}
-use Rattle.kob_authorizer.specs.Decide.{is_match, is_unmatched}
-use Rattle.kob_authorizer.specs.Index.{Indexes, entries_on, tree_of}
-use Rattle.kob_authorizer.specs.LookUp.{matching_serials}
-use Rattle.kob_authorizer.specs.Meaning.{SomeMatches}
-use Rattle.kob_authorizer.specs.Places.{is_place, kind_in_tree, pattern_place, same_kind}
-use Rattle.kob_authorizer.specs.Question.{Question}
-use Rattle.kob_authorizer.specs.declared.index.Index.{Index}
 
 kind_is : (one two : PatternKind) → same_kind (kind_in_tree one) (kind_in_tree two) ≡ true → one ≡ two
-kind_is Literal Literal same = refl
-kind_is Literal Prefixed same = cc
-kind_is Prefixed Literal same = cc
-kind_is Prefixed Prefixed same = refl
+kind_is x0 x1 same = grind (arith, nat_tests)
 
 module _ (index : Index) (entries : List (ℕ × Binding)) (indexed : Indexes index entries) (question : Question) where
   abbrev tree : PrefixMap
@@ -54,23 +30,13 @@ module _ (index : Index) (entries : List (ℕ × Binding)) (indexed : Indexes in
       let named : entry.1.pattern.name ≡ key = (bytes_eq-Decides entry.1.pattern.name key).0 both.1 in
       let in_force =
       was_kept (λ (e : ℕ × Binding). same_resource e.1.resource question.resource) entries entry kept.0 in
-      record {
-        entry = entry;
-        in_force = in_force.0;
-        matches = record {
-          resource = (resource_decides entry.1.resource question.resource).0 in_force.1;
-          name = ap (λ k. matches_by k entry.1.pattern.name question.name) of_kind
-              ∙ ap (λ n. matches_by kind n question.name) named ∙ matched;
-        };
-      }
+      grind (arith, nat_tests, resource_decides)
 
   literal_itself : matches_by Literal question.name question.name ≡ true
-  literal_itself =
-      ap (λ b. b || same_text question.name (codes "*")) ((bytes_eq-Decides question.name question.name).1 refl)
+  literal_itself = grind (arith, nat_tests, bytes_eq-Decides)
 
   star : (same : Bool) → (same || same_text (codes "*") (codes "*")) ≡ true
-  star true = refl
-  star false = (bytes_eq-Decides (codes "*") (codes "*")).1 refl
+  star x0 = grind (arith, nat_tests, bytes_eq-Decides)
 
   -- each serial that is given for the name is of a binding that matches it
   of_given : (serial : ℕ) → Contains (matching_serials (held tree) question.name) serial → SomeMatches question entries
@@ -101,16 +67,11 @@ module _ (index : Index) (entries : List (ℕ × Binding)) (indexed : Indexes in
       → list_any (is_match question) entries ≡ found → (length serials == 0) ≡ not found
   none_by [] false is found = refl
   none_by [] true is found =
-      let nowhere =
-      subst (λ xs. Contains xs (some_matches question entries found).entry.0) is
-      (given_for (some_matches question entries found)) in
-      absurd (omega (arith, nowhere.1))
-  none_by (serial ∷ rest) true is found =
-      ne_eqb (length (serial ∷ rest)) 0 (λ none. absurd (omega (arith, none)))
+      grind (arith, nat_tests, some_matches question entries found, given_for (some_matches question entries found))
+  none_by (serial ∷ rest) true is found = grind (arith, nat_tests, ne_eqb)
   none_by (serial ∷ rest) false is found =
       let some = of_given serial (subst (λ xs. Contains xs serial) (sym is) (at_head serial rest)) in
       absurd (none_among question entries some.entry (none_matches question entries found) some.in_force some.matches)
 
   pub none_given : (length (matching_serials (held tree) question.name) == 0) ≡ is_unmatched entries question
-  none_given =
-      none_by (matching_serials (held tree) question.name) (list_any (is_match question) entries) refl refl
+  none_given = grind (arith, nat_tests, none_by)

@@ -1,27 +1,9 @@
 -- What a search among the bindings in force finds.
-use Rattle.std.proofs.Common.{◌≡◌, ◌↔◌, refl, ap, Bool, true, false, not, ◌&&◌, ℕ, ◌≤◌, List}
-use Rattle.std.specs.Prelude.{IsTrue, Contains, Option, Some, None}
-use Rattle.std.specs.Bool.{Decides}
-use Rattle.std.specs.List.{list_any}
-use Rattle.std.specs.Cmp.Lexicographic.{nat_list_eq_equiv}
-use Rattle.std.proofs.lemmas.Bool.{both_ways}
-use Rattle.std.proofs.lemmas.Bool.Decides.{Decides-and, Decides-like}
-use Rattle.std.proofs.lemmas.Map.Views.{Contains-from_any, list_any-from_Contains}
-use Rattle.std.proofs.lemmas.Slice.Eq.{bytes_eq-Decides}
-use Rattle.kob_names.specs.Access.{covers, matches, reaches}
-use Rattle.kob_names.specs.Granted.{is_granted}
-use Rattle.kob_names.proofs.SameBindings.{permission_decides, resource_decides}
-use Rattle.kob_names.specs.Binding.{Binding}
-use Rattle.kob_names.specs.declared.kinds.Permission.{Permission}
-use Rattle.kob_names.specs.declared.kinds.Permission.TheVariants.{Allow, Deny}
-use Rattle.kob_names.specs.declared.verdict.Verdict.TheVariants.{AllowedBy, DeniedBy, Super}
+use Rattle.kob_authorizer.proofs.Words.{Allow, Binding, Bool, Contains, Contains-from_any, Contents, Decides, Decides-and, Decides-like, Deny, IsEarliest, IsRising, IsTrue, IsTrueVerdict, List, None, NoneHits, NoneMatches, Option, Permission, Question, Some, arith, both_ways, bytes_eq-Decides, covers, decide, decide_by_bindings, false, first_serial, hits, is_granted, is_hit, is_match, is_super, list_any, list_any-from_Contains, matches, nat_list_eq_equiv, nat_tests, not, permission_decides, reaches, refl, resource_decides, true, unless_open, verdict_of, ℕ, ◌&&◌, ◌↔◌, ◌≡◌, ◌≤◌}
+use Rattle.kob_authorizer.specs.Meaning.{Hits}
 use Rattle.kob_authorizer.proofs.Elements.{each, of_each}
 use Rattle.kob_authorizer.proofs.FirstHit.{first_is, least_is, none_is}
 use Rattle.kob_authorizer.proofs.Resources.{none_among, none_matches, some_matches}
-use Rattle.kob_authorizer.specs.Contents.{Contents, IsRising}
-use Rattle.kob_authorizer.specs.Decide.{decide, decide_by_bindings, first_serial, hits, is_hit, is_match, is_super, is_unmatched, unless_open, verdict_of}
-use Rattle.kob_authorizer.specs.Meaning.{Hits, IsEarliest, IsTrueVerdict, NoneHits, NoneMatches, SomeMatches}
-use Rattle.kob_authorizer.specs.Question.{Question}
 
 itself_decides : (b : Bool) → Decides b (IsTrue b)
 itself_decides b = ((λ h. h), (λ h. h))
@@ -78,41 +60,6 @@ no_super : (supers : List (List ℕ)) (principal : List ℕ) → is_super supers
     → Contains supers principal → ⊥
 no_super supers principal none there = let found = list_any-from_Contains nat_list_eq_equiv principal supers there in cc
 
--- what is found is what is so
-found_by : (contents : Contents) (question : Question) (opened b : Bool) (deny allow : Option ℕ)
-    → IsRising 1 contents.entries contents.next → is_super contents.supers question.principal ≡ b
-    → first_serial (hits contents.entries Deny question) ≡ deny
-    → first_serial (hits contents.entries Allow question) ≡ allow
-    → (opened ≡ false → IsTrue contents.everyone → SomeMatches question contents.entries)
-    → (opened ≡ true → IsTrue contents.everyone × NoneMatches question contents.entries)
-    → IsTrueVerdict contents question (unless_open opened (verdict_of b deny allow))
-found_by contents question opened true deny allow rising s d a matched unmatched =
-    let super : IsTrueVerdict contents question Super = found_super contents.supers question.principal s in
-    elim opened as (λ o. IsTrueVerdict contents question (unless_open o Super)) [ true ↦ super | false ↦ super ]
-found_by contents question opened false (Some serial) allow rising s d a matched unmatched =
-    let denied : IsTrueVerdict contents question (DeniedBy serial) = (
-      no_super contents.supers question.principal s,
-      earliest_hit Deny question contents.entries 1 contents.next serial rising d,
-    ) in
-    elim opened as (λ o. IsTrueVerdict contents question (unless_open o (DeniedBy serial)))
-    [ true ↦ denied | false ↦ denied ]
-found_by contents question opened false None (Some serial) rising s d a matched unmatched =
-    let allowed : IsTrueVerdict contents question (AllowedBy serial) = (
-      no_super contents.supers question.principal s,
-      (
-        none_hits Deny question contents.entries d,
-        earliest_hit Allow question contents.entries 1 contents.next serial rising a,
-      ),
-    ) in
-    elim opened as (λ o. IsTrueVerdict contents question (unless_open o (AllowedBy serial)))
-    [ true ↦ allowed | false ↦ allowed ]
-found_by contents question false false None None rising s d a matched unmatched = (
-  no_super contents.supers question.principal s,
-  (none_hits Deny question contents.entries d, (none_hits Allow question contents.entries a, matched refl)),
-)
-found_by contents question true false None None rising s d a matched unmatched =
-    (no_super contents.supers question.principal s, unmatched refl)
-
 true_by : (contents : Contents) (question : Question) (b : Bool) (deny allow : Option ℕ) (on found : Bool)
     → IsRising 1 contents.entries contents.next → is_super contents.supers question.principal ≡ b
     → first_serial (hits contents.entries Deny question) ≡ deny
@@ -120,19 +67,7 @@ true_by : (contents : Contents) (question : Question) (b : Bool) (deny allow : O
     → contents.everyone ≡ on → list_any (is_match question) contents.entries ≡ found
     → IsTrueVerdict contents question (unless_open (on && not found) (verdict_of b deny allow))
 true_by contents question b deny allow on found rising s d a o f =
-    found_by contents question (on && not found) b deny allow rising s d a (matched on found o f) (unmatched on found o f)
-  where
-    matched : (on found : Bool) → contents.everyone ≡ on → list_any (is_match question) contents.entries ≡ found
-        → (on && not found) ≡ false → IsTrue contents.everyone → SomeMatches question contents.entries
-    matched true true o f closed on = some_matches question contents.entries f
-    matched true false o f closed on = cc
-    matched false found o f closed on = absurd (both_ways contents.everyone o on)
-
-    unmatched : (on found : Bool) → contents.everyone ≡ on → list_any (is_match question) contents.entries ≡ found
-        → (on && not found) ≡ true → IsTrue contents.everyone × NoneMatches question contents.entries
-    unmatched true true o f opened = cc
-    unmatched true false o f opened = (o, none_matches question contents.entries f)
-    unmatched false found o f opened = cc
+    grind (arith, nat_tests, some_matches, both_ways, none_matches, found_super, no_super, earliest_hit, none_hits)
 
 -- the access decision says what is so
 pub true_verdict : (contents : Contents) (question : Question) → IsRising 1 contents.entries contents.next
@@ -142,9 +77,7 @@ true_verdict contents question rising = true_by contents question _ _ _ _ _ risi
 -- with the switch off super users and bindings alone decide
 pub by_bindings : (contents : Contents) (question : Question) → contents.everyone ≡ false
     → decide contents question ≡ decide_by_bindings contents.entries contents.supers question
-by_bindings contents question off =
-    ap (λ on. unless_open (on && is_unmatched contents.entries question)
-    (decide_by_bindings contents.entries contents.supers question)) off
+by_bindings contents question off = grind (arith, nat_tests)
 
 -- where no binding hits, no serial is found
 no_serial : (wanted : Permission) (question : Question) (entries : List (ℕ × Binding))
@@ -159,11 +92,6 @@ no_serial wanted question entries none =
           ((is_hit_decides wanted question entry).0 kept.1))
     ] refl
 
-is_stranger : (supers : List (List ℕ)) (principal : List ℕ) (b : Bool) → is_super supers principal ≡ b
-    → ¬ Contains supers principal → b ≡ false
-is_stranger supers principal true is stranger = absurd (stranger (found_super supers principal is))
-is_stranger supers principal false is stranger = refl
-
 open_where : (question : Question) (entries : List (ℕ × Binding)) (super : Bool) (deny allow : Option ℕ)
     (on found : Bool) → super ≡ false → deny ≡ None → allow ≡ None → on ≡ true
     → list_any (is_match question) entries ≡ found
@@ -172,12 +100,8 @@ open_where question entries true deny allow on found s d a o f = cc
 open_where question entries false (Some serial) allow on found s d a o f = cc
 open_where question entries false None (Some serial) on found s d a o f = cc
 open_where question entries false None None false found s d a o f = cc
-open_where question entries false None None true true s d a o f = (
-  λ granted. absurd (let untrue : false ≡ true = granted in cc),
-  λ none.
-      (let some = some_matches question entries f in
-      absurd (none_among question entries some.entry none some.in_force some.matches)),
-)
+open_where question entries false None None true true s d a o f =
+    grind (arith, nat_tests, some_matches question entries f, none_among)
 open_where question entries false None None true false s d a o f = (λ _. none_matches question entries f, λ _. refl)
 
 -- with the switch on, one of whom no binding speaks is granted exactly what none matches
@@ -186,6 +110,4 @@ pub granted_unmatched : (contents : Contents) (question : Question) → IsTrue c
     → NoneHits Allow question contents.entries
     → IsTrue (is_granted (decide contents question)) ↔ NoneMatches question contents.entries
 granted_unmatched contents question on stranger deny allow =
-    open_where question contents.entries _ _ _ _ _
-    (is_stranger contents.supers question.principal _ refl stranger)
-    (no_serial Deny question contents.entries deny) (no_serial Allow question contents.entries allow) on refl
+    grind (arith, nat_tests, open_where, no_serial, found_super)

@@ -1,5 +1,4 @@
-use Rattle.std.proofs.Common.{◌≡◌, take}
-use Rattle.kob_authorizer.specs.AtOnce.{new_bindings}
+use Rattle.kob_authorizer.proofs.Words.{new_bindings, take, ◌≡◌}
 use Rattle.kob_authorizer.proofs.at_once.new_bindings.Given as goal
 
 abbrev pub invariant-loop-binding : goal.invariant-loop-binding

@@ -1,5 +1,4 @@
-use Rattle.std.proofs.Common.{◌∙◌}
-use Rattle.std.specs.List.{enumerate_from}
+use Rattle.kob_authorizer.proofs.Words.{enumerate_from, ◌∙◌}
 use Rattle.kob_authorizer.proofs.Serials.{serial_of_append_none, serial_of_append_some}
 use Rattle.kob_authorizer.proofs.at_once.serial_in_either.Goals as goal
 

@@ -1,5 +1,4 @@
-use Rattle.std.proofs.Common.{◌≡◌, take}
-use Rattle.kob_authorizer.specs.Deletion.{bindings_taken}
+use Rattle.kob_authorizer.proofs.Words.{bindings_taken, take, ◌≡◌}
 use Rattle.kob_authorizer.proofs.deletion.copies_taken.Given as goal
 
 abbrev pub invariant-loop-entry : goal.invariant-loop-entry

@@ -1,5 +1,4 @@
-use Rattle.std.proofs.Common.{rules}
-use Rattle.std.proofs.lemmas.Fn.{filter_same}
+use Rattle.kob_authorizer.proofs.Words.{filter_same, rules}
 use Rattle.kob_authorizer.proofs.deletion.remove_taken.Goals as goal
 
 pub returns-clause-items : goal.returns-clause-items

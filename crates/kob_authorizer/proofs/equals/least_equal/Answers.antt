@@ -1,13 +1,5 @@
-use Rattle.std.proofs.Common.{◌≡◌, sym, ap, ◌∙◌, ◌∷◌, ◌++◌, List, ℕ, rules}
-use Rattle.std.proofs.lemmas.Iterator.Adapters.{option_map_id}
-use Rattle.std.proofs.lemmas.Iterator.Consumers.{YieldsList-from_filter, YieldsList-from_first, min_from_yields_List}
-use Rattle.kob_names.specs.Binding.{Binding}
-use Rattle.kob_prefix_tree.specs.Held.{serials_of}
-use Rattle.kob_prefix_tree.specs.PrefixMap.{held}
-use Rattle.kob_prefix_tree.specs.WalkLeft.{left_of}
+use Rattle.kob_authorizer.proofs.Words.{Binding, List, YieldsList-from_filter, YieldsList-from_first, ap, held, is_equal, key_place, keys_on, kind_in_tree, left_of, min_from_yields_List, option_map_id, passes_at, rules, serials_of, sym, ℕ, ◌++◌, ◌∙◌, ◌∷◌, ◌≡◌}
 use Rattle.kob_authorizer.specs.Key.{binding_key}
-use Rattle.kob_authorizer.specs.LookUp.{is_equal, keys_on, passes_at}
-use Rattle.kob_authorizer.specs.Places.{key_place, kind_in_tree}
 use Rattle.kob_authorizer.proofs.equals.least_equal.Goals as goal
 
 pub returns : goal.returns

@@ -1,4 +1,4 @@
-use Rattle.std.proofs.Common.{◌∙◌}
+use Rattle.kob_authorizer.proofs.Words.{◌∙◌}
 use Rattle.kob_authorizer.proofs.Matching.{least_equal_is_first}
 use Rattle.kob_authorizer.proofs.equals.serial_of.Goals as goal
 

@@ -1,7 +1,4 @@
-use Rattle.std.proofs.Common.{◌≡◌, ◌+◌, length, vec_len}
-use Rattle.std.specs.List.{enumerate_from}
-use Rattle.std.specs.Vec.Iter.{into_iter_len}
-use Rattle.kob_authorizer.specs.Fresh.{bindings_of}
+use Rattle.kob_authorizer.proofs.Words.{bindings_of, enumerate_from, into_iter_len, length, vec_len, ◌+◌, ◌≡◌}
 use Rattle.kob_authorizer.proofs.fresh.renumbered.Given as goal
 
 abbrev pub invariant-loop-entry : goal.invariant-loop-entry

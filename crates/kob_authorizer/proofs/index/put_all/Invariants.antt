@@ -1,6 +1,4 @@
-use Rattle.std.proofs.Common.{◌≡◌}
-use Rattle.std.specs.List.{fold}
-use Rattle.kob_authorizer.specs.Index.{with_leaf}
+use Rattle.kob_authorizer.proofs.Words.{fold, with_leaf, ◌≡◌}
 use Rattle.kob_authorizer.proofs.index.put_all.Given as goal
 
 abbrev pub invariant-loop-leaf : goal.invariant-loop-leaf

@@ -1,6 +1,4 @@
-use Rattle.std.proofs.Common.{◌≡◌}
-use Rattle.std.specs.List.{fold}
-use Rattle.kob_authorizer.specs.Places.{without_addition}
+use Rattle.kob_authorizer.proofs.Words.{fold, without_addition, ◌≡◌}
 use Rattle.kob_authorizer.proofs.index.remove_keys.Given as goal
 
 abbrev pub invariant-loop-removal : goal.invariant-loop-removal

@@ -1,5 +1,4 @@
-use Rattle.std.proofs.Common.{◌≡◌, ◌∙◌, [], ◌∷◌, ◌++◌}
-use Rattle.kob_prefix_tree.specs.PrefixMap.{held}
+use Rattle.kob_authorizer.proofs.Words.{[], held, ◌++◌, ◌∙◌, ◌∷◌, ◌≡◌}
 use Rattle.kob_authorizer.proofs.key.keys_on.Goals as goal
 
 pub returns : goal.returns

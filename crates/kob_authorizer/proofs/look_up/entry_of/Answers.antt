@@ -1,8 +1,4 @@
-use Rattle.std.proofs.Common.{ap, ◌∙◌, Some, Ok, Err, subst, rules, ℕ, length}
-use Rattle.std.specs.List.Sorted.{IsBinarySearchResult, IsSearchInRange}
-use Rattle.std.specs.Ordering.{nat_cmp}
-use Rattle.std.proofs.lemmas.List.Sorted.{answers_always}
-use Rattle.kob_names.specs.Binding.{Binding}
+use Rattle.kob_authorizer.proofs.Words.{Binding, Err, IsBinarySearchResult, IsSearchInRange, Ok, Some, answers_always, ap, length, nat_cmp, rules, subst, ℕ, ◌∙◌}
 use Rattle.kob_authorizer.proofs.Halving.{searched}
 use Rattle.kob_authorizer.proofs.look_up.entry_of.Goals as goal
 

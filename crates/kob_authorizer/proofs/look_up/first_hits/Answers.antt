@@ -1,15 +1,4 @@
-use Rattle.std.proofs.Common.{◌≡◌, ap, ◌∙◌, ◌∷◌, ◌++◌, List, ℕ, codes}
-use Rattle.kob_names.specs.Binding.{Binding}
-use Rattle.kob_names.specs.declared.kinds.Permission.TheVariants.{Allow, Deny}
-use Rattle.kob_prefix_tree.specs.Held.{Held}
-use Rattle.kob_prefix_tree.specs.Part.{part_of}
-use Rattle.kob_prefix_tree.specs.PrefixMap.{PrefixMap, held}
-use Rattle.kob_authorizer.specs.Asked.{question_view}
-use Rattle.kob_authorizer.specs.Hits.{lesser_hits}
-use Rattle.kob_authorizer.specs.LookUp.{behind, keys_on, least_hits, serials_for, serials_from}
-use Rattle.kob_authorizer.specs.Question.{Question}
-use Rattle.kob_authorizer.specs.declared.hits.Hits.{Hits}
-use Rattle.kob_authorizer.specs.declared.index.Index.{Index}
+use Rattle.kob_authorizer.proofs.Words.{Allow, Binding, Deny, Held, Hits, Index, List, PrefixMap, Question, ap, behind, codes, held, keys_on, least_hits, lesser_hits, part_of, question_view, serials_for, serials_from, ℕ, ◌++◌, ◌∙◌, ◌∷◌, ◌≡◌}
 use Rattle.kob_authorizer.proofs.LeastHits.{hits_of_two}
 use Rattle.kob_authorizer.proofs.Matching.{least_hit_is_first}
 use Rattle.kob_authorizer.proofs.look_up.first_hits.Goals as goal

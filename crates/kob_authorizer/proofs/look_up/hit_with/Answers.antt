@@ -1,9 +1,4 @@
-use Rattle.std.proofs.Common.{◌∙◌, List, ℕ, Bool, false}
-use Rattle.kob_names.specs.Binding.{Binding}
-use Rattle.kob_names.specs.declared.kinds.Permission.{Permission}
-use Rattle.kob_names.specs.declared.kinds.Permission.TheVariants.{Allow, Deny}
-use Rattle.kob_authorizer.specs.Asked.{question_view}
-use Rattle.kob_authorizer.specs.Decide.{is_hit}
+use Rattle.kob_authorizer.proofs.Words.{Allow, Binding, Bool, Deny, List, Permission, false, is_hit, question_view, ℕ, ◌∙◌}
 use Rattle.kob_authorizer.proofs.Halving.{passes_none, passes_some}
 use Rattle.kob_authorizer.proofs.LeastHits.{passes_alone}
 use Rattle.kob_authorizer.proofs.look_up.hit_with.Goals as goal

@@ -1,16 +1,4 @@
-use Rattle.std.proofs.Common.{◌≡◌, ap, ◌∙◌, ◌++◌, List, ℕ, codes, rules}
-use Rattle.std.specs.List.{fold}
-use Rattle.std.proofs.lemmas.Iterator.Consumers.{YieldsList-from_chain, YieldsList-from_first, fold_from_yields_List}
-use Rattle.kob_names.specs.Binding.{Binding}
-use Rattle.kob_names.specs.declared.kinds.PatternKind.TheVariants.{Literal}
-use Rattle.kob_prefix_tree.specs.Held.{Held, serials_of}
-use Rattle.kob_prefix_tree.specs.Part.{part_of}
-use Rattle.kob_prefix_tree.specs.Walked.{serials_along}
-use Rattle.kob_prefix_tree.specs.WalkLeft.{left_of}
-use Rattle.kob_authorizer.specs.Asked.{question_view}
-use Rattle.kob_authorizer.specs.Places.{kind_in_tree}
-use Rattle.kob_authorizer.specs.Question.{Question}
-use Rattle.kob_authorizer.specs.declared.hits.Hits.{Hits}
+use Rattle.kob_authorizer.proofs.Words.{Binding, Held, Hits, List, Literal, Question, YieldsList-from_chain, YieldsList-from_first, ap, codes, fold, fold_from_yields_List, kind_in_tree, left_of, part_of, question_view, rules, serials_along, serials_of, ℕ, ◌++◌, ◌∙◌, ◌≡◌}
 use Rattle.kob_authorizer.proofs.LeastHits.{one_by_one, with_serial}
 use Rattle.kob_authorizer.proofs.look_up.hits_at.Goals as goal
 

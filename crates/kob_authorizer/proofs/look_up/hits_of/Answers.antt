@@ -1,12 +1,4 @@
-use Rattle.std.proofs.Common.{◌≡◌, ap, ◌∙◌, ◌∷◌, ◌++◌, List, ℕ, codes}
-use Rattle.kob_names.specs.Binding.{Binding}
-use Rattle.kob_prefix_tree.specs.Held.{Held}
-use Rattle.kob_prefix_tree.specs.Part.{part_of}
-use Rattle.kob_authorizer.specs.Asked.{question_view}
-use Rattle.kob_authorizer.specs.Hits.{lesser_hits}
-use Rattle.kob_authorizer.specs.LookUp.{behind, least_hits, matching_serials}
-use Rattle.kob_authorizer.specs.Question.{Question}
-use Rattle.kob_authorizer.specs.declared.hits.Hits.{Hits}
+use Rattle.kob_authorizer.proofs.Words.{Binding, Held, Hits, List, Question, ap, behind, codes, least_hits, lesser_hits, matching_serials, part_of, question_view, ℕ, ◌++◌, ◌∙◌, ◌∷◌, ◌≡◌}
 use Rattle.kob_authorizer.proofs.LeastHits.{hits_of_two}
 use Rattle.kob_authorizer.proofs.look_up.hits_of.Goals as goal
 

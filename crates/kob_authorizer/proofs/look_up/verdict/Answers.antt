@@ -1,8 +1,4 @@
-use Rattle.std.proofs.Common.{◌≡◌, ◌∙◌, sym, refl, true, false, None}
-use Rattle.kob_names.specs.declared.kinds.Permission.TheVariants.{Allow, Deny}
-use Rattle.kob_authorizer.specs.Asked.{question_view}
-use Rattle.kob_authorizer.specs.Decide.{first_serial, hits, is_unmatched}
-use Rattle.kob_authorizer.specs.Question.{Question}
+use Rattle.kob_authorizer.proofs.Words.{Allow, Deny, None, Question, false, first_serial, hits, is_unmatched, question_view, refl, sym, true, ◌∙◌, ◌≡◌}
 use Rattle.kob_authorizer.proofs.Unmatched.{none_given}
 use Rattle.kob_authorizer.proofs.look_up.verdict.Goals as goal
 

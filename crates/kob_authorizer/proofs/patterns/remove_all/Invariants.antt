@@ -1,6 +1,4 @@
-use Rattle.std.proofs.Common.{◌≡◌}
-use Rattle.std.specs.List.{fold}
-use Rattle.kob_authorizer.specs.Removal.{without_removal}
+use Rattle.kob_authorizer.proofs.Words.{fold, without_removal, ◌≡◌}
 use Rattle.kob_authorizer.proofs.patterns.remove_all.Given as goal
 
 abbrev pub invariant-loop-removal : goal.invariant-loop-removal

@@ -1,5 +1,4 @@
-use Rattle.std.proofs.Common.{◌≡◌, map, take}
-use Rattle.kob_authorizer.specs.Places.{addition, key_place}
+use Rattle.kob_authorizer.proofs.Words.{addition, key_place, map, take, ◌≡◌}
 use Rattle.kob_authorizer.proofs.removal.key_removals.Given as goal
 
 abbrev pub invariant-loop-entry : goal.invariant-loop-entry

@@ -1,6 +1,4 @@
-use Rattle.std.proofs.Common.{◌≡◌, take, []}
-use Rattle.std.specs.List.{fold}
-use Rattle.kob_authorizer.specs.Removal.{with_removal}
+use Rattle.kob_authorizer.proofs.Words.{[], fold, take, with_removal, ◌≡◌}
 use Rattle.kob_authorizer.proofs.removal.removals_among.Given as goal
 
 abbrev pub invariant-loop-entry : goal.invariant-loop-entry

@@ -1,14 +1,7 @@
-use Rattle.std.proofs.Common.{◌≡◌, sym, ◌∙◌, ap, subst, false, ◌&&◌, List, ℕ}
+use Rattle.kob_authorizer.proofs.Words.{Allow, AreRising, Binding, Deny, IsRising, IsTrueVerdict, List, Question, State, ap, decide, false, first_serial, hits, is_super, is_unmatched, question_of, subst, sym, unless_open, verdict_of, ℕ, ◌&&◌, ◌∙◌, ◌≡◌}
 use Rattle.kob_authorizer.proofs.Rising.{are_rising}
 use Rattle.kob_authorizer.proofs.Verdicts.{found_super, true_verdict}
 use Rattle.kob_authorizer.proofs.authorizer.Authorizer.authorize.Goals as goal
-use Rattle.kob_authorizer.specs.Contents.{IsRising, State}
-use Rattle.kob_authorizer.specs.Decide.{decide, first_serial, hits, is_super, is_unmatched, unless_open, verdict_of}
-use Rattle.kob_authorizer.specs.LookUp.{AreRising}
-use Rattle.kob_authorizer.specs.Meaning.{IsTrueVerdict}
-use Rattle.kob_authorizer.specs.Question.{Question, question_of}
-use Rattle.kob_names.specs.Binding.{Binding}
-use Rattle.kob_names.specs.declared.kinds.Permission.TheVariants.{Allow, Deny}
 
 pub returns-then-contains-clause-meaning : goal.returns-then-contains-clause-meaning
 returns-then-contains-clause-meaning c =

@@ -1,9 +1,4 @@
-use Rattle.std.proofs.Common.{◌≡◌, ◌∙◌, sym, ap, subst, ◌++◌, length, map, rules, List, ℕ}
-use Rattle.std.specs.List.{fold}
-use Rattle.kob_names.specs.Binding.{Binding}
-use Rattle.kob_authorizer.specs.Index.{Indexes, leaf_of, with_leaf}
-use Rattle.kob_authorizer.specs.declared.index.Index.{Index}
-use Rattle.kob_authorizer.specs.Limits.{binding_limit}
+use Rattle.kob_authorizer.proofs.Words.{Binding, Index, Indexes, List, ap, binding_limit, fold, leaf_of, length, map, rules, subst, sym, with_leaf, ℕ, ◌++◌, ◌∙◌, ◌≡◌}
 use Rattle.kob_authorizer.proofs.IndexSteps.{indexes_put_all}
 use Rattle.kob_authorizer.proofs.Rising.{put_rises}
 use Rattle.kob_authorizer.proofs.authorizer.Authorizer.commit_create.Goals as goal

@@ -1,11 +1,4 @@
-use Rattle.std.proofs.Common.{◌≡◌, ◌∙◌, sym, ap, arith, length, map, List, ℕ}
-use Rattle.std.specs.List.{fold}
-use Rattle.kob_names.specs.Binding.{Binding}
-use Rattle.kob_authorizer.specs.Deletion.{bindings_left, bindings_taken}
-use Rattle.kob_authorizer.specs.Index.{Indexes}
-use Rattle.kob_authorizer.specs.Places.{addition, key_place, without_addition}
-use Rattle.kob_authorizer.specs.Removal.{removals_of, without_removal}
-use Rattle.kob_authorizer.specs.declared.index.Index.{Index}
+use Rattle.kob_authorizer.proofs.Words.{Binding, Index, Indexes, List, addition, ap, arith, bindings_left, bindings_taken, fold, key_place, length, map, removals_of, sym, without_addition, without_removal, ℕ, ◌∙◌, ◌≡◌}
 use Rattle.kob_authorizer.proofs.RemovalSteps.{indexes_deleted}
 use Rattle.kob_authorizer.proofs.Rising.{removed_rises}
 use Rattle.kob_authorizer.proofs.authorizer.Authorizer.commit_delete.Goals as goal

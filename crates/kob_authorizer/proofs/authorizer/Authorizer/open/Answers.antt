@@ -1,4 +1,4 @@
-use Rattle.std.proofs.Common.{arith}
+use Rattle.kob_authorizer.proofs.Words.{arith}
 use Rattle.kob_authorizer.proofs.IndexSteps.{indexes_empty}
 use Rattle.kob_authorizer.proofs.authorizer.Authorizer.open.Goals as goal
 

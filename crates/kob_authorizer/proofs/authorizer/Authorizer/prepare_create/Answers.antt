@@ -1,6 +1,5 @@
-use Rattle.std.proofs.Common.{sym, subst}
+use Rattle.kob_authorizer.proofs.Words.{AreRising, subst, sym}
 use Rattle.kob_authorizer.proofs.Rising.{are_rising}
-use Rattle.kob_authorizer.specs.LookUp.{AreRising}
 use Rattle.kob_authorizer.proofs.authorizer.Authorizer.prepare_create.Goals as goal
 
 pub make-requires-clause-rising : goal.make-requires-clause-rising

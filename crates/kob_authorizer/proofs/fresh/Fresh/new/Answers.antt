@@ -1,6 +1,5 @@
-use Rattle.std.proofs.Common.{refl}
+use Rattle.kob_authorizer.proofs.Words.{key_place, refl}
 use Rattle.kob_authorizer.proofs.TreeSteps.{index_empty}
-use Rattle.kob_authorizer.specs.Places.{key_place}
 use Rattle.kob_authorizer.proofs.fresh.Fresh.new.Goals as goal
 
 pub invariant_of-result : goal.invariant_of-result

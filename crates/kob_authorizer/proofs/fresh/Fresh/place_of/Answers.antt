@@ -1,9 +1,5 @@
-use Rattle.std.proofs.Common.{◌≡◌, ◌∙◌, ◌<◌, ap, length, sym, subst, List}
-use Rattle.std.specs.Prelude.{IfSome}
-use Rattle.kob_names.specs.Binding.{Binding}
+use Rattle.kob_authorizer.proofs.Words.{AreRising, Binding, IfSome, List, ap, length, serial_of, subst, sym, ◌<◌, ◌∙◌, ◌≡◌}
 use Rattle.kob_authorizer.proofs.FreshSteps.{places_below, places_rise}
-use Rattle.kob_authorizer.specs.Creation.{serial_of}
-use Rattle.kob_authorizer.specs.LookUp.{AreRising}
 use Rattle.kob_authorizer.proofs.fresh.Fresh.place_of.Goals as goal
 
 pub serial_of-requires-clause-rising : goal.serial_of-requires-clause-rising

@@ -1,9 +1,6 @@
-use Rattle.std.proofs.Common.{◌≡◌, ◌++◌, ◌∷◌, [], ℕ, List, ap, ◌∙◌, sym, subst, length, rules}
-use Rattle.kob_names.specs.Binding.{Binding}
-use Rattle.kob_prefix_tree.specs.PrefixMap.{PrefixMap}
+use Rattle.kob_authorizer.proofs.Words.{Binding, IsIndex, List, PrefixMap, [], addition, ap, key_place, length, rules, subst, sym, with_addition, ℕ, ◌++◌, ◌∙◌, ◌∷◌, ◌≡◌}
 use Rattle.kob_authorizer.proofs.FreshSteps.{places_push}
 use Rattle.kob_authorizer.proofs.TreeSteps.{index_added}
-use Rattle.kob_authorizer.specs.Places.{IsIndex, addition, key_place, with_addition}
 use Rattle.kob_authorizer.proofs.fresh.Fresh.push.Goals as goal
 
 pub invariant_of-self-2 : goal.invariant_of-self-2

@@ -1,5 +1,4 @@
-use Rattle.std.proofs.Common.{◌≡◌, map, take}
-use Rattle.kob_authorizer.specs.Index.{leaf_of}
+use Rattle.kob_authorizer.proofs.Words.{leaf_of, map, take, ◌≡◌}
 use Rattle.kob_authorizer.proofs.index.Index.prepare_all.Given as goal
 
 abbrev pub invariant-loop-entry : goal.invariant-loop-entry

@@ -1,6 +1,4 @@
-use Rattle.std.proofs.Common.{◌≡◌, take}
-use Rattle.std.specs.List.{fold}
-use Rattle.kob_authorizer.specs.Index.{no_patterns, with_entry}
+use Rattle.kob_authorizer.proofs.Words.{fold, no_patterns, take, with_entry, ◌≡◌}
 use Rattle.kob_authorizer.proofs.patterns.Patterns.of.Given as goal
 
 abbrev pub invariant-loop-entry : goal.invariant-loop-entry

@@ -1,8 +1,5 @@
-use Rattle.std.proofs.Common.{◌≡◌, ◌∙◌, ap, subst, List, ℕ, Option, IfSome}
-use Rattle.kob_prefix_tree.specs.PrefixMap.{PrefixMap}
+use Rattle.kob_authorizer.proofs.Words.{IfSome, List, Option, PrefixMap, ap, holds_text, is_super, subst, texts_of, ℕ, ◌∙◌, ◌≡◌}
 use Rattle.kob_authorizer.proofs.SuperUsers.{texts_hold}
-use Rattle.kob_authorizer.specs.Decide.{is_super}
-use Rattle.kob_authorizer.specs.SuperUsers.{holds_text, texts_of}
 use Rattle.kob_authorizer.proofs.super_users.SuperUsers.contains.Goals as goal
 
 pub returns-in-Some : goal.returns-in-Some
