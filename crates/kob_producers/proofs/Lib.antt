@@ -2,3 +2,4 @@ pub mod Histories
 pub mod Remembering
 pub mod Repeats
 pub mod Showing
+mod Words

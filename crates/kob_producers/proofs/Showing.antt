@@ -1,33 +1,18 @@
 -- What a table of producers and its rings show.
-use Rattle.std.proofs.Common.{◌≡◌, ℕ, ◌<◌, ◌&&◌, nat_lt, ltb-true, Bool, true, false, cond, ◌||◌, is_some, nat_eq, List, [], ◌∷◌, ◌++◌, Option, None, Some, option_map, unwrap_or, IfSome, IsSome, map, nat_cmp, refl, sym, ap, subst, ◌∙◌, true≢false}
-use Rattle.std.proofs.lemmas.Cmp.{nat_cmp_total, eq_by_cmp_equiv}
-use Rattle.std.specs.Cmp.{unsigned_tied}
+use Rattle.kob_producers.proofs.Words.{Bool, Buffer, CanAccept, Idem, IfSome, IsRing, IsSome, Judgement, List, None, Option, Recent, Sent, Some, TableKept, [], ap, arith, buffer, cond, eq_by_cmp_equiv, false, is_some, judge, judge_first, keep_last, lookup, ltb-true, map, memory_length, nat_cmp, nat_cmp_total, nat_eq, nat_lt, nat_tests, option_map, recent_after, recent_in, refl, sent_batch, sent_by, subst, sym, table_of, true, unsigned_tied, unwrap_or, ℕ, ◌&&◌, ◌++◌, ◌<◌, ◌||◌, ◌∙◌, ◌∷◌, ◌≡◌}
 use Rattle.std.specs.FinMap as fin
-use Rattle.std.specs.Map.{lookup}
-use Rattle.circular_buffer.specs.Buffer.{Buffer, buffer, keep_last}
-use Rattle.kob_names.specs.declared.batch.Idem.{Idem}
-use Rattle.kob_producers.specs.declared.sent.Sent.{Sent}
-use Rattle.kob_producers.specs.declared.judge.Judgement.{Judgement}
-use Rattle.kob_producers.specs.Judge.{judge, judge_first, memory_length}
-use Rattle.kob_producers.specs.Recent.{Recent, sent_by, sent_batch, recent_after}
-use Rattle.kob_producers.specs.Rings.{IsRing, recent_in}
-use Rattle.kob_producers.specs.Table.{TableKept, CanAccept, table_of}
 
 abbrev items : Buffer Sent → List Sent
 items ring = ring.items
 
 found_is : (here : Bool) (ring : Buffer Sent) (o : Option (Buffer Sent)) (p : Option (List Sent))
     → p ≡ option_map items o → cond here (Some ring.items) p ≡ option_map items (cond here (Some ring) o)
-found_is true ring o p is = refl
-found_is false ring o p is = is
+found_is here ring o p is = grind (arith, nat_tests)
 
 find_shown : (rings : List (ℕ × Buffer Sent)) (q : ℕ)
     → fin.find nat_cmp q (map (λ entry. (entry.0, entry.1.items)) rings) ≡ option_map items (lookup (nat_eq q) rings)
 find_shown [] q = refl
-find_shown (entry ∷ rings) q =
-    ap (λ b. cond b (Some entry.1.items) (fin.find nat_cmp q (map (λ e. (e.0, e.1.items)) rings)))
-    (unsigned_tied q entry.0)
-    ∙ found_is (nat_eq q entry.0) entry.1 (lookup (nat_eq q) rings) _ (find_shown rings q)
+find_shown (entry ∷ rings) q = grind (arith, nat_tests, nat_cmp, found_is, find_shown rings q)
 
 pub get_shown : (rings : List (ℕ × Buffer Sent)) (q : ℕ)
     → fin.get (recent_in rings) q ≡ option_map items (lookup (nat_eq q) rings)
@@ -56,8 +41,7 @@ same_recent old new same =
 
 written_is : (here : Bool) (ring : Buffer Sent) (o : Option (Buffer Sent))
     → option_map items (cond here (Some ring) o) ≡ cond here (Some ring.items) (option_map items o)
-written_is true ring o = refl
-written_is false ring o = refl
+written_is here ring o = grind (arith, nat_tests)
 
 -- a ring that is written, or put in
 pub written : (old new : List (ℕ × Buffer Sent)) (k : ℕ) (ring : Buffer Sent)
@@ -75,15 +59,12 @@ pub judged_by_ring : (rings : List (ℕ × Buffer Sent)) (recent : Recent) (idem
     (j : Judgement) → recent_in rings ≡ recent → Some ring ≡ lookup (nat_eq idem.id) rings
     → j ≡ judge ring.items idem count → j ≡ judge (sent_by recent idem.id) idem count
 judged_by_ring rings recent idem count ring j shown is judged =
-    judged ∙ ap (λ h. judge h idem count) (sym (sent_by_ring rings idem.id ring (sym is)))
-    ∙ ap (λ r. judge (sent_by r idem.id) idem count) shown
+    grind (arith, nat_tests, sent_by_ring rings idem.id ring (sym is))
 
 pub judged_first : (rings : List (ℕ × Buffer Sent)) (recent : Recent) (idem : Idem) (count : ℕ) (j : Judgement)
     → recent_in rings ≡ recent → None ≡ lookup (nat_eq idem.id) rings
     → j ≡ judge_first idem.base → j ≡ judge (sent_by recent idem.id) idem count
-judged_first rings recent idem count j shown is judged =
-    judged ∙ ap (λ h. judge h idem count) (sym (sent_by_none rings idem.id (sym is)))
-    ∙ ap (λ r. judge (sent_by r idem.id) idem count) shown
+judged_first rings recent idem count j shown is judged = grind (arith, nat_tests, sent_by_none)
 
 pub reordered : (old new : List (ℕ × Buffer Sent)) (recent : Recent) → recent_in old ≡ recent
     → ((q : ℕ) → lookup (nat_eq q) new ≡ lookup (nat_eq q) old) → recent_in new ≡ recent
@@ -124,8 +105,7 @@ accepted_first old new recent idem count offset ring after s shown at fresh told
     ∙ ap (λ x. keep_last memory_length (x ∷ [])) told) is
 
 shown_some : (o : Option (Buffer Sent)) → is_some (option_map items o) ≡ is_some o
-shown_some None = refl
-shown_some (Some ring) = refl
+shown_some o = grind (arith, nat_tests)
 
 by_ready : {b : Bool} (ready : Bool) → b ≡ true → (b || ready) ≡ true
 by_ready ready is = ap (λ x. x || ready) is
@@ -133,21 +113,15 @@ by_ready ready is = ap (λ x. x || ready) is
 -- a producer that has a ring can be put in, and one that has none only with a ring that is ready
 pub can_accept : (rings : List (ℕ × Buffer Sent)) (kept : TableKept) (producer : ℕ) → recent_in rings ≡ kept.recent
     → is_some (lookup (nat_eq producer) rings) ≡ true → CanAccept kept producer
-can_accept rings kept producer shown there =
-    by_ready kept.ready (ap (λ r. fin.contains_key r producer) (sym shown) ∙ ap is_some (get_shown rings producer)
-    ∙ shown_some (lookup (nat_eq producer) rings) ∙ there)
+can_accept rings kept producer shown there = grind (arith, nat_tests, by_ready, is_some, get_shown, shown_some)
 
 none_accepted : (recent : Recent) (producer : ℕ) (o : Option (List Sent)) (ready : Bool) → fin.get recent producer ≡ o
     → o ≡ None → ready ≡ false → (is_some (fin.get recent producer) || ready) ≡ true → ⊥
-none_accepted recent producer o ready is none unready can =
-    true≢false (sym can ∙ ap (λ b. b || ready) (ap is_some (is ∙ none)) ∙ unready)
+none_accepted recent producer o ready is none unready can = grind (arith, nat_tests, is_some)
 
 pub cannot_accept : (rings : List (ℕ × Buffer Sent)) (kept : TableKept) (producer : ℕ) → recent_in rings ≡ kept.recent
     → kept.ready ≡ false → None ≡ lookup (nat_eq producer) rings → CanAccept kept producer → ⊥
-cannot_accept rings kept producer shown unready none can =
-    none_accepted kept.recent producer _ kept.ready
-    (ap (λ r. fin.get r producer) (sym shown) ∙ get_shown rings producer)
-    (ap (option_map items) (sym none)) unready can
+cannot_accept rings kept producer shown unready none can = grind (arith, nat_tests, none_accepted, get_shown)
 
 pub empty_accepts_none : (kept : TableKept) (producer : ℕ) → kept ≡ table_of None → CanAccept kept producer → ⊥
 empty_accepts_none kept producer none can =
@@ -156,14 +130,11 @@ empty_accepts_none kept producer none can =
 
 pub ring_capacity : (o : Option (Buffer Sent)) (ring : Buffer Sent) → IfSome o IsRing → Some ring ≡ o
     → ring.capacity ≡ memory_length
-ring_capacity o ring is at =
-    let here : IfSome (Some ring) IsRing = subst (λ x. IfSome x IsRing) (sym at) is in here.capacity
+ring_capacity o ring is at = grind (arith, nat_tests)
 
 pub fresh_is : (o : Option (Buffer Sent)) (ring : Buffer Sent) → IfSome o (λ r. r ≡ buffer [] memory_length)
     → Some ring ≡ o → ring ≡ buffer [] memory_length
-fresh_is o ring is at =
-    let here : IfSome (Some ring) (λ r. r ≡ buffer [] memory_length) =
-    subst (λ x. IfSome x (λ r. r ≡ buffer [] memory_length)) (sym at) is in here
+fresh_is o ring is at = grind (arith, nat_tests)
 
 pub some_is : (o : Option (Buffer Sent)) (ring : Buffer Sent) → Some ring ≡ o → IsSome o
 some_is o ring at = subst (λ x. IsSome x) at refl
@@ -172,16 +143,11 @@ ready_if : (has ready : Bool) → has ≡ false → (has || ready) ≡ true → 
 ready_if has ready is can = ap (λ b. b || ready) (sym is) ∙ can
 
 and_right : (a b : Bool) → (a && b) ≡ true → b ≡ true
-and_right true b is = is
-and_right false b is = absurd (true≢false (sym is))
+and_right a b is = grind (arith, nat_tests)
 
 -- a producer that has no ring can be put in only where there is room for one more
 pub room_for : (rings : List (ℕ × Buffer Sent)) (kept : TableKept) (producer : ℕ) (there : Bool) (room : ℕ)
     → recent_in rings ≡ kept.recent → (there && nat_lt 0 room) ≡ kept.ready → None ≡ lookup (nat_eq producer) rings
     → CanAccept kept producer → 0 < room
 room_for rings kept producer there room shown ready none can =
-    let unknown : fin.contains_key kept.recent producer ≡ false =
-    ap (λ r. fin.contains_key r producer) (sym shown) ∙ ap is_some (get_shown rings producer)
-    ∙ ap (λ o. is_some (option_map items o)) (sym none) in
-    ltb-true 0 room (and_right there (nat_lt 0 room)
-    (ready ∙ ready_if (fin.contains_key kept.recent producer) kept.ready unknown can))
+    grind (arith, nat_tests, is_some, get_shown, ltb-true, and_right, ready_if)

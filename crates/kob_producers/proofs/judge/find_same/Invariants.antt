@@ -1,5 +1,4 @@
-use Rattle.std.proofs.Common.{◌≡◌, find}
-use Rattle.kob_producers.specs.Judge.{is_same}
+use Rattle.kob_producers.proofs.Words.{find, is_same, ◌≡◌}
 use Rattle.kob_producers.proofs.judge.find_same.Given as goal
 
 abbrev pub invariant-loop-sent : goal.invariant-loop-sent

@@ -1,7 +1,5 @@
-use Rattle.std.proofs.Common.{sym, ap, subst, ◌∙◌, ◌<◌, is_some, nat_lt, nat_eq, ◌&&◌}
-use Rattle.std.specs.HashMap.{spare, get_by}
+use Rattle.kob_producers.proofs.Words.{ap, get_by, is_some, nat_eq, nat_lt, recent_in, spare, subst, sym, ◌&&◌, ◌<◌, ◌∙◌}
 use Rattle.kob_producers.proofs.Showing.{accepted_by_ring, accepted_first, cannot_accept, ring_capacity, fresh_is, some_is, room_for}
-use Rattle.kob_producers.specs.Rings.{recent_in}
 use Rattle.kob_producers.proofs.rings.Rings.accept.Goals as goal
 
 pub returns-in-Some : goal.returns-in-Some

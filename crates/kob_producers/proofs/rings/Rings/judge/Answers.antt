@@ -1,4 +1,4 @@
-use Rattle.std.proofs.Common.{ap}
+use Rattle.kob_producers.proofs.Words.{ap}
 use Rattle.kob_producers.proofs.Showing.{judged_by_ring, judged_first}
 use Rattle.kob_producers.proofs.rings.Rings.judge.Goals as goal
 

@@ -1,4 +1,4 @@
-use Rattle.std.proofs.Common.{sym, ap, ◌∙◌}
+use Rattle.kob_producers.proofs.Words.{ap, sym, ◌∙◌}
 use Rattle.kob_producers.proofs.Showing.{can_accept, reordered}
 use Rattle.kob_producers.proofs.rings.Rings.reserve.Goals as goal
 

@@ -1,6 +1,4 @@
-use Rattle.std.proofs.Common.{◌≡◌, ap, sym, ◌∙◌, option_map}
-use Rattle.kob_producers.specs.Recent.{recent_after}
-use Rattle.kob_producers.specs.Table.{table_of}
+use Rattle.kob_producers.proofs.Words.{ap, option_map, recent_after, sym, table_of, ◌∙◌, ◌≡◌}
 use Rattle.kob_producers.specs.contracts.table.ProducerTable as table
 use Rattle.kob_producers.proofs.Histories.{accepted_plain}
 use Rattle.kob_producers.proofs.Showing.{empty_accepts_none}

@@ -1,5 +1,4 @@
-use Rattle.std.proofs.Common.{◌≡◌, rules}
-use Rattle.std.specs.FinMap.{empty}
+use Rattle.kob_producers.proofs.Words.{empty, rules, ◌≡◌}
 use Rattle.kob_producers.proofs.Histories.{judged_none, judged_plain}
 use Rattle.kob_producers.proofs.table.ProducerTable.judge.Goals as goal
 
