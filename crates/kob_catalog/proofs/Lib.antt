@@ -1,4 +1,5 @@
-pub mod Mapped
-pub mod Listings
-pub mod TopicReads
 pub mod Lent
+pub mod Listings
+pub mod Mapped
+pub mod TopicReads
+mod Words

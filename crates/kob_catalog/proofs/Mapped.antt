@@ -1,13 +1,5 @@
 -- Topics whose partitions are seen otherwise.
-use Rattle.std.proofs.Common.{◌≡◌, ℕ, Bool, filter, not, List, Option, Some, None, is_some, length, map, option_map, slice_get, slice_set, unwrap_or, [], ◌∷◌, refl, ap, sym, ◌∙◌}
-use Rattle.std.proofs.lemmas.List.{length-map, map-set}
-use Rattle.std.proofs.lemmas.Map.Made.{lookup-map_values}
-use Rattle.std.proofs.lemmas.Option.{slice_get-map}
-use Rattle.std.specs.Map.{lookup, set_value}
-use Rattle.kob_names.specs.Same.{same_text}
-use Rattle.kob_ordered.proofs.Seen.{map_filter, set_value_mapped, some_mapped}
-use Rattle.kob_catalog.specs.Creation.{create_fault}
-use Rattle.kob_catalog.specs.Topics.{Topic, has_topic, listed, listed_where, partition_count, partition_of, partitions_of, topic_map, topics_map, with_partition, without_topic}
+use Rattle.kob_catalog.proofs.Words.{Bool, List, Topic, [], ap, arith, create_fault, filter, has_topic, is_some, length-map, listed, listed_where, lookup, lookup-map_values, map, map-set, map_filter, nat_tests, not, option_map, partition_count, partition_of, partitions_of, refl, same_text, set_value, set_value_mapped, slice_get-map, slice_set, some_mapped, sym, topic_map, topics_map, unwrap_or, with_partition, without_topic, ℕ, ◌∙◌, ◌∷◌, ◌≡◌}
 
 module _ {P Q : Type 0} (f : P → Q) where
   -- whether a topic is there does not depend on how its partitions are seen
@@ -21,28 +13,17 @@ module _ {P Q : Type 0} (f : P → Q) where
   pub partition_count_mapped : (name : List ℕ) (topics : List (Topic P))
       → partition_count name (topics_map f topics) ≡ partition_count name topics
   partition_count_mapped name topics =
-      ap (option_map length) (lookup-map_values (map f) (same_text name) topics) ∙ by (lookup (same_text name) topics)
-    where
-      by : (found : Option (List P)) → option_map length (option_map (map f) found) ≡ option_map length found
-      by None = refl
-      by (Some partitions) = ap Some (length-map partitions f)
+      grind (arith, nat_tests, lookup-map_values (map f) (same_text name) topics, length-map)
 
   partitions_mapped : (name : List ℕ) (topics : List (Topic P))
       → partitions_of name (topics_map f topics) ≡ map f (partitions_of name topics)
   partitions_mapped name topics =
-      ap (λ found. unwrap_or found []) (lookup-map_values (map f) (same_text name) topics)
-      ∙ by (lookup (same_text name) topics)
-    where
-      by : (found : Option (List P)) → unwrap_or (option_map (map f) found) [] ≡ map f (unwrap_or found [])
-      by None = refl
-      by (Some partitions) = refl
+      grind (arith, nat_tests, unwrap_or, lookup-map_values (map f) (same_text name) topics)
 
   -- a partition is the one seen, whatever is seen of it
   pub partition_of_mapped : (name : List ℕ) (partition : ℕ) (topics : List (Topic P))
       → partition_of name partition (topics_map f topics) ≡ option_map f (partition_of name partition topics)
-  partition_of_mapped name partition topics =
-      ap (λ partitions. slice_get partitions partition) (partitions_mapped name topics)
-      ∙ slice_get-map f (partitions_of name topics) partition
+  partition_of_mapped name partition topics = grind (arith, nat_tests, partitions_mapped, slice_get-map)
 
   -- what is seen of a partition written is written in its place
   pub with_partition_mapped : (name : List ℕ) (partition : ℕ) (written : P) (topics : List (Topic P))
@@ -71,5 +52,4 @@ module _ {P Q : Type 0} (f : P → Q) where
   -- nor do the rules of a creation
   pub create_fault_mapped : (topics : List (Topic P)) (name : List ℕ) (partitions : ℕ)
       → create_fault (topics_map f topics) name partitions ≡ create_fault topics name partitions
-  create_fault_mapped topics name partitions =
-      rw (has_topic_mapped name topics, length-map topics (topic_map f)) refl
+  create_fault_mapped topics name partitions = grind (arith, nat_tests, has_topic_mapped, length-map)

@@ -1,15 +1,5 @@
 -- What is read of topics after one was written, made or taken away.
-use Rattle.std.proofs.Common.{◌≡◌, ℕ, zero, suc, Bool, true, false, cond, ◌&&◌, nat_eq, List, [], ◌∷◌, ◌++◌, Option, Some, None, is_some, replicate, slice_get, slice_set, unwrap_or, refl, ap, subst, sym, ◌∙◌, inl, inr}
-use Rattle.std.proofs.lemmas.Bool.{cases_Bool, eqb-true, eqb-false}
-use Rattle.std.proofs.lemmas.Cmp.{nat_eq_equiv, nat_list_eq_equiv}
-use Rattle.std.proofs.lemmas.Map.{lookup-set_value}
-use Rattle.std.proofs.lemmas.Map.Steps.{set_value_same}
-use Rattle.std.specs.Map.{lookup, set_value}
-use Rattle.kob_names.specs.Same.{same_text}
-use Rattle.kob_ordered.proofs.Entries.{none_of, one_name, removed_absent}
-use Rattle.kob_ordered.proofs.Places.{equal_names}
-use Rattle.kob_ordered.proofs.Seen.{lookup_without, removed_others}
-use Rattle.kob_catalog.specs.Topics.{Topic, has_topic, partition_of, partitions_of, with_partition, without_topic}
+use Rattle.kob_catalog.proofs.Words.{Bool, List, None, Option, Some, Topic, [], ap, arith, cases_Bool, cond, eqb-false, eqb-true, equal_names, false, has_topic, inl, inr, is_some, lookup, lookup-set_value, lookup_without, nat_eq, nat_eq_equiv, nat_list_eq_equiv, nat_tests, none_of, one_name, partition_of, partitions_of, refl, removed_absent, removed_others, replicate, same_text, set_value_same, slice_get, slice_set, subst, suc, true, unwrap_or, with_partition, without_topic, zero, ℕ, ◌&&◌, ◌++◌, ◌∙◌, ◌∷◌, ◌≡◌}
 
 module _ {X : Type 0} where
   set_as_it_was : (xs : List X) (i : ℕ) (x : X) → slice_get xs i ≡ Some x → slice_set xs i x ≡ xs
@@ -38,28 +28,14 @@ module _ {X : Type 0} where
       ]
 
 module _ {P : Type 0} where
-  -- a topic of which a partition is there is there
-  found_there : (name : List ℕ) (partition : ℕ) (topics : List (Topic P)) (p : P)
-      → partition_of name partition topics ≡ Some p
-      → lookup (same_text name) topics ≡ Some (partitions_of name topics)
-  found_there name partition topics p there = by (lookup (same_text name) topics) there
-    where
-      by : (found : Option (List P)) → slice_get (unwrap_or found []) partition ≡ Some p
-          → found ≡ Some (unwrap_or found [])
-      by None is = cc
-      by (Some partitions) is = refl
-
   pub has_there : (name : List ℕ) (partition : ℕ) (topics : List (Topic P)) (p : P)
       → partition_of name partition topics ≡ Some p → has_topic name topics ≡ true
-  has_there name partition topics p there = ap is_some (found_there name partition topics p there)
+  has_there name partition topics p there = grind (arith, nat_tests, is_some, unwrap_or)
 
   -- a partition written as it is leaves the topics
   pub written_as_it_was : (name : List ℕ) (partition : ℕ) (p : P) (topics : List (Topic P))
       → partition_of name partition topics ≡ Some p → with_partition name partition p topics ≡ topics
-  written_as_it_was name partition p topics is =
-      ap (λ partitions. set_value (same_text name) topics partitions)
-      (set_as_it_was (partitions_of name topics) partition p is)
-      ∙ set_value_same (same_text name) topics (partitions_of name topics) (found_there name partition topics p is)
+  written_as_it_was name partition p topics is = grind (arith, nat_tests, set_as_it_was, set_value_same)
 
   -- a partition that was written is read as written, and all others as they were
   pub read_written : (name : List ℕ) (i : ℕ) (p written : P) (topics : List (Topic P)) (other : List ℕ) (j : ℕ)
@@ -87,11 +63,7 @@ module _ {P : Type 0} where
       → partition_of name partition topics ≡ Some old
       → partition_of name partition (with_partition name partition p topics) ≡ Some p
   written_is_read name partition p old topics is =
-      read_written name partition old p topics name partition is
-      ∙ ap (λ b. cond b (Some p) (partition_of name partition topics)) (same_place name partition)
-    where
-      same_place : (name : List ℕ) (n : ℕ) → (same_text name name && nat_eq n n) ≡ true
-      same_place name n = rw (nat_list_eq_equiv.refl name, nat_eq_equiv.refl n) refl
+      grind (arith, nat_tests, read_written, nat_list_eq_equiv, nat_eq_equiv)
 
   -- the partitions of a topic that was taken away are gone, and all others stay
   pub read_without : (name : List ℕ) (topics : List (Topic P)) (other : List ℕ) (j : ℕ)
@@ -109,9 +81,13 @@ module _ {P : Type 0} where
   pub unknown_stays : (name : List ℕ) (topics : List (Topic P)) → has_topic name topics ≡ false
       → without_topic name topics ≡ topics
   unknown_stays name topics unknown =
-      let none = none_of (lookup (same_text name) topics) unknown in
-      let same = removed_absent name topics none in
-      sym (removed_others (same_text name) topics (ap (lookup (same_text name)) same ∙ none)) ∙ same
+      grind (
+        arith,
+        nat_tests,
+        none_of (lookup (same_text name) topics) unknown,
+        removed_absent name topics,
+        removed_others (same_text name) topics,
+      )
 
   -- what is read of a topic put last is what is read of an empty partition, or of none
   module _ {X : Type 0} (read : Option P → X) (empty : P) (nothing : read (Some empty) ≡ read None) where
@@ -123,18 +99,6 @@ module _ {P : Type 0} where
     pub read_added : (name : List ℕ) (j : ℕ) (topics : List (Topic P)) (made : List ℕ) (count : ℕ)
         → read (partition_of name j (topics ++ (made, replicate count empty) ∷ []))
         ≡ read (partition_of name j topics)
-    read_added name j [] made count = by (same_text name made)
-      where
-        by : (b : Bool) → read (slice_get (unwrap_or (cond b (Some (replicate count empty)) None) []) j) ≡ read None
-        by true = of_empty count j
-        by false = refl
-    read_added name j (topic ∷ topics) made count = by (same_text name topic.0) (read_added name j topics made count)
-      where
-        by : (b : Bool)
-            → read (partition_of name j (topics ++ (made, replicate count empty) ∷ []))
-            ≡ read (partition_of name j topics)
-            → read (slice_get (unwrap_or (cond b (Some topic.1)
-            (lookup (same_text name) (topics ++ (made, replicate count empty) ∷ []))) []) j)
-            ≡ read (slice_get (unwrap_or (cond b (Some topic.1) (lookup (same_text name) topics)) []) j)
-        by true rest = refl
-        by false rest = rest
+    read_added name j [] made count = grind (arith, nat_tests, unwrap_or, of_empty)
+    read_added name j (topic ∷ topics) made count =
+        grind (arith, nat_tests, read_added name j topics made count, unwrap_or)
