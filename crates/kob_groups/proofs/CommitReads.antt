@@ -1,14 +1,5 @@
 -- What is read of a group's commit after another one, and after commits went.
-use Rattle.std.proofs.Common.{◌≡◌, ℕ, Bool, true, false, cond, ◌&&◌, nat_eq, List, [], Option, Some, None, unwrap_or, refl, ap, ◌∙◌, inl, inr}
-use Rattle.std.proofs.lemmas.Bool.{cases_Bool}
-use Rattle.std.proofs.lemmas.Cmp.{nat_eq_equiv, nat_list_eq_equiv}
-use Rattle.std.proofs.lemmas.Map.Made.{lookup-map_values}
-use Rattle.std.specs.Map.{lookup}
-use Rattle.std.specs.Option.{option_map}
-use Rattle.kob_names.specs.Same.{same_text}
-use Rattle.kob_ordered.proofs.Places.{equal_names}
-use Rattle.kob_ordered.proofs.Seen.{lookup_without}
-use Rattle.kob_groups.specs.Groups.{CommitPlace, Commits, Groups, commits_of, committed_at, offsets_on, with_commit, with_offset, without_group, without_offsets, without_topic}
+use Rattle.kob_groups.proofs.Words.{Bool, CommitPlace, Commits, Groups, List, None, Option, Some, [], ap, arith, cases_Bool, commits_of, committed_at, cond, equal_names, false, inl, inr, lookup, lookup-map_values, lookup_without, nat_eq, nat_eq_equiv, nat_list_eq_equiv, nat_tests, offsets_on, option_map, refl, same_text, true, unwrap_or, with_commit, with_offset, without_group, without_offsets, without_topic, ℕ, ◌&&◌, ◌∙◌, ◌≡◌}
 use Rattle.kob_groups.proofs.Maps.{found_inserted}
 
 -- the value that is read, or none
@@ -60,10 +51,7 @@ read_committed groups place offset q =
 -- and after a group went with its commits
 pub read_without_group : (groups : Groups) (name : List ℕ) (q : CommitPlace)
     → committed_at q (without_group name groups) ≡ cond (same_text name q.group) None (committed_at q groups)
-read_without_group groups name q =
-    ap (λ found. lookup (nat_eq q.partition) (offsets_on q.topic (unwrap_or found []))) (lookup_without name q.group groups)
-    ∙ none_or (λ commits. lookup (nat_eq q.partition) (offsets_on q.topic commits)) (same_text name q.group)
-    (lookup (same_text q.group) groups) refl
+read_without_group groups name q = grind (arith, nat_tests, unwrap_or, lookup_without name q.group groups, none_or)
 
 -- and after the commits on a topic went
 pub read_without_topic : (groups : Groups) (name : List ℕ) (q : CommitPlace)

@@ -1,18 +1,6 @@
 -- What is left when the commits on a topic go from the groups of some names.
-use Rattle.std.proofs.Common.{◌≡◌, ℕ, suc, Bool, true, false, cond, not, ◌||◌, List, [], ◌∷◌, Some, None, is_some, slice_get, refl, sym, ap, subst, ◌∙◌}
-use Rattle.std.specs.Cmp.Lexicographic.{nat_list_eq_equiv}
-use Rattle.std.specs.List.{AllByRecursion, IsDistinct}
-use Rattle.std.specs.Map.{keys_of, lookup, set_value}
-use Rattle.std.proofs.lemmas.Map.Keys.{IsDistinct-head, IsDistinct-tail}
-use Rattle.kob_names.specs.Same.{same_text}
-use Rattle.kob_ordered.proofs.Entries.{none_of, removed_absent}
-use Rattle.kob_ordered.proofs.Places.{equal_names}
-use Rattle.kob_ordered.proofs.Seen.{removed_others}
-use Rattle.kob_groups.specs.Groups.{Commits, Groups, without_offsets, without_topic}
-use Rattle.kob_groups.specs.Listed.{AreListed, has_commits, is_listed}
-use Rattle.kob_groups.specs.Views.{commits_in, groups_in, without_topic_at}
+use Rattle.kob_groups.proofs.Words.{AllByRecursion, AreListed, Bool, Commits, Groups, GroupsByTopic, IsDistinct, IsDistinct-head, IsDistinct-tail, List, None, Some, [], ap, arith, commits_in, cond, equal_names, false, groups_in, has_commits, is_listed, is_some, keys_of, lookup, nat_list_eq_equiv, nat_tests, none_of, not, refl, removed_absent, removed_others, same_text, set_value, slice_get, subst, suc, sym, true, without_offsets, without_topic, without_topic_at, ℕ, ◌||◌, ◌∙◌, ◌∷◌, ◌≡◌}
 use Rattle.kob_groups.specs.declared.commits.Commits.{Commits as CommitsKept}
-use Rattle.kob_groups.specs.declared.lists.GroupsByTopic.{GroupsByTopic}
 use Rattle.kob_groups.proofs.Listings.{Group, each_listed}
 use Rattle.kob_groups.proofs.Maps.{seen_keys}
 
@@ -22,23 +10,12 @@ Entries = List (List ℕ × CommitsKept)
 -- commits of which none are on the topic
 absent_stay : (topic : List ℕ) (commits : Commits) → lookup (same_text topic) commits ≡ None
     → without_offsets topic commits ≡ commits
-absent_stay topic commits none =
-    let same = removed_absent topic commits none in
-    sym (removed_others (same_text topic) commits (ap (lookup (same_text topic)) same ∙ none)) ∙ same
+absent_stay topic commits none = grind (arith, nat_tests, removed_absent topic commits none, removed_others)
 
 gone_stay : (topic : List ℕ) (commits : Commits)
     → without_offsets topic (without_offsets topic commits) ≡ without_offsets topic commits
 gone_stay topic [] = refl
-gone_stay topic (on ∷ commits) = by (same_text topic on.0) refl (gone_stay topic commits)
-  where
-    left : Commits
-    left = without_offsets topic commits
-
-    by : (hit : Bool) → same_text topic on.0 ≡ hit → without_offsets topic left ≡ left
-        → without_offsets topic (cond (not hit) (on ∷ left) left) ≡ cond (not hit) (on ∷ left) left
-    by true is rest = rest
-    by false is rest = ap (λ b. cond (not b) (on ∷ without_offsets topic left) (without_offsets topic left)) is
-        ∙ ap (λ cs. on ∷ cs) rest
+gone_stay topic (on ∷ commits) = grind (arith, nat_tests, gone_stay topic commits)
 
 -- first from some groups, and then from others
 pub forgotten_twice : (first second : List ℕ → Bool) (topic : List ℕ) (groups : Groups)
@@ -46,17 +23,7 @@ pub forgotten_twice : (first second : List ℕ → Bool) (topic : List ℕ) (gro
     ≡ without_topic_at (λ name. first name || second name) topic groups
 forgotten_twice first second topic [] = refl
 forgotten_twice first second topic (group ∷ groups) =
-    λ i. (group.0, by (first group.0) (second group.0) i) ∷ forgotten_twice first second topic groups i
-  where
-    left : Commits
-    left = without_offsets topic group.1
-
-    by : (a b : Bool)
-        → cond b (without_offsets topic (cond a left group.1)) (cond a left group.1) ≡ cond (a || b) left group.1
-    by true true = gone_stay topic group.1
-    by true false = refl
-    by false true = refl
-    by false false = refl
+    grind (arith, nat_tests, forgotten_twice first second topic groups, gone_stay)
 
 -- from one name, and then from those of a list
 pub forgotten_first : {V : Type 0} (name topic : List ℕ) (value : V) (names : List (List ℕ × V)) (groups : Groups)
@@ -86,24 +53,13 @@ none_pass : (name topic : List ℕ) (entries : Entries)
     → AllByRecursion (λ key. same_text name key ≡ false) (keys_of entries)
     → without_topic_at (same_text name) topic (groups_in entries) ≡ groups_in entries
 none_pass name topic [] none = refl
-none_pass name topic (e ∷ entries) none =
-    λ i. (e.0, cond (none.0 i) (without_offsets topic (commits_in e.1)) (commits_in e.1))
-    ∷ none_pass name topic entries none.1 i
+none_pass name topic (e ∷ entries) none = grind (arith, nat_tests, none_pass name topic entries none.1)
 
 -- a name that is not there
 pub forgotten_absent : (name topic : List ℕ) (entries : Entries) → lookup (same_text name) entries ≡ None
     → without_topic_at (same_text name) topic (groups_in entries) ≡ groups_in entries
 forgotten_absent name topic [] none = refl
-forgotten_absent name topic (e ∷ entries) none = by (same_text name e.0) none (forgotten_absent name topic entries)
-  where
-    rest : Groups
-    rest = without_topic_at (same_text name) topic (groups_in entries)
-
-    by : (hit : Bool) → cond hit (Some e.1) (lookup (same_text name) entries) ≡ None
-        → (lookup (same_text name) entries ≡ None → rest ≡ groups_in entries)
-        → (e.0, cond hit (without_offsets topic (commits_in e.1)) (commits_in e.1)) ∷ rest ≡ groups_in (e ∷ entries)
-    by true none later = cc
-    by false none later = ap (λ gs. (e.0, commits_in e.1) ∷ gs) (later none)
+forgotten_absent name topic (e ∷ entries) none = grind (arith, nat_tests, forgotten_absent name topic entries)
 
 -- a name that is there, whose commits on the topic went
 pub forgotten_written : (name topic : List ℕ) (entries : Entries) (old final : CommitsKept)
@@ -157,7 +113,4 @@ pub forgotten_listed : (entries : Entries) (lists : GroupsByTopic) (topic : List
     → ((group : List ℕ) → passes group ≡ is_listed topic group lists)
     → without_topic_at passes topic (groups_in entries) ≡ without_topic topic (groups_in entries)
 forgotten_listed entries lists topic passes listed distinct same =
-    forgotten_all passes topic (groups_in entries) (λ place group there has.
-    same group.0
-    ∙ each_listed (groups_in entries) lists topic listed
-    (subst (IsDistinct same_text) (sym (seen_keys commits_in entries)) distinct) place group there has)
+    grind (arith, nat_tests, forgotten_all, each_listed, seen_keys commits_in entries)

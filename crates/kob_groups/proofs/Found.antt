@@ -1,17 +1,5 @@
 -- What is found in what the maps of the groups show.
-use Rattle.std.proofs.Common.{◌≡◌, ℕ, true, cond, [], List, None, Some, length, option_map, unwrap_or, ap, is_some, ◌∙◌}
-use Rattle.std.proofs.lemmas.List.{length-map}
-use Rattle.std.proofs.lemmas.Map.Made.{lookup-map_values}
-use Rattle.std.proofs.lemmas.Cmp.{nat_list_eq_equiv}
-use Rattle.std.proofs.lemmas.Map.{lookup-set_value}
-use Rattle.std.proofs.lemmas.Map.Steps.{set_value_same}
-use Rattle.std.specs.Map.{lookup, remove_entry, set_value}
-use Rattle.kob_names.specs.Same.{same_text}
-use Rattle.kob_ordered.proofs.Entries.{one_name}
-use Rattle.kob_ordered.proofs.Standing.{name_is, stands_there}
-use Rattle.kob_ordered.proofs.Seen.{set_value_mapped, some_mapped}
-use Rattle.kob_groups.specs.Groups.{commits_of, has_group, offsets_on, without_group}
-use Rattle.kob_groups.specs.Views.{commits_in, groups_in, offsets_in}
+use Rattle.kob_groups.proofs.Words.{List, None, Some, [], ap, commits_in, commits_of, cond, groups_in, has_group, is_some, length, length-map, lookup, lookup-map_values, lookup-set_value, name_is, nat_list_eq_equiv, offsets_in, offsets_on, one_name, option_map, remove_entry, same_text, set_value, set_value_mapped, set_value_same, some_mapped, stands_there, true, unwrap_or, without_group, ℕ, ◌∙◌, ◌≡◌}
 use Rattle.kob_groups.proofs.Maps.{seen_removed}
 use Rattle.kob_groups.specs.declared.commits.Commits.{Commits as CommitsKept}
 

@@ -1,6 +1,7 @@
+pub mod CommitReads
 pub mod Forgetting
+pub mod Found
 pub mod Listings
 pub mod Maps
 pub mod Names
-pub mod CommitReads
-pub mod Found
+mod Words

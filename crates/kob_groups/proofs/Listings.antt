@@ -1,17 +1,5 @@
 -- How each change of the groups keeps those listed for a topic that have commits on it.
-use Rattle.std.proofs.Common.{◌≡◌, ℕ, zero, suc, Bool, true, false, cond, not, ◌&&◌, ◌||◌, List, [], ◌∷◌, Option, Some, None, is_some, option_map, nat_eq, slice_get, unwrap_or, refl, sym, ap, subst, ◌∙◌}
-use Rattle.std.specs.Cmp.Lexicographic.{nat_list_eq_equiv}
-use Rattle.std.specs.List.{AllByRecursion, IsDistinct}
-use Rattle.std.specs.Map.{keys_of, lookup}
-use Rattle.std.proofs.lemmas.Map.Keys.{IsDistinct-head, IsDistinct-tail}
-use Rattle.std.proofs.lemmas.Map.Made.{lookup-map_values}
-use Rattle.indexmap.specs.IndexMap.{insert_entry}
-use Rattle.kob_names.specs.Same.{same_text}
-use Rattle.kob_ordered.proofs.Places.{equal_names, same_name}
-use Rattle.kob_ordered.proofs.Seen.{lookup_without}
-use Rattle.kob_groups.specs.Groups.{CommitPlace, Commits, Groups, commits_of, offsets_on, with_commit, with_offset, without_group, without_offsets, without_topic}
-use Rattle.kob_groups.specs.Listed.{AreListed, has_commits, is_listed, is_pair}
-use Rattle.kob_groups.specs.declared.lists.GroupsByTopic.{GroupsByTopic}
+use Rattle.kob_groups.proofs.Words.{AllByRecursion, AreListed, Bool, CommitPlace, Commits, Groups, GroupsByTopic, IsDistinct, IsDistinct-head, IsDistinct-tail, List, None, Option, Some, [], ap, arith, commits_of, cond, equal_names, false, has_commits, insert_entry, is_listed, is_pair, is_some, keys_of, lookup, lookup-map_values, lookup_without, nat_eq, nat_list_eq_equiv, nat_tests, not, offsets_on, option_map, refl, same_name, same_text, slice_get, suc, sym, true, unwrap_or, with_commit, with_offset, without_group, without_offsets, without_topic, zero, ℕ, ◌&&◌, ◌||◌, ◌∙◌, ◌∷◌, ◌≡◌}
 use Rattle.kob_groups.proofs.Maps.{found_inserted}
 
 abbrev pub Group : Type 0
@@ -36,33 +24,14 @@ pub listed_committed : (groups : Groups) (old new : GroupsByTopic) (place : Comm
     → ((t g : List ℕ) → is_listed t g new ≡ (is_pair place.topic place.group t g || is_listed t g old))
     → AreListed (with_commit place offset groups) new
 listed_committed groups old new place offset listed put topic group =
-    put topic group ∙ ap (λ b. is_pair place.topic place.group topic group || b) (listed topic group)
-    ∙ sym (ap (λ found. has_commits topic (unwrap_or found []))
-    (found_inserted nat_list_eq_equiv groups place.group group made) ∙ by (same_text place.group group) refl)
-  where
-    made : Commits
-    made = with_offset place.topic place.partition offset (commits_of place.group groups)
-
-    turned : (a b c : Bool) → c ≡ true → (a || b) ≡ ((a && c) || b)
-    turned true b true is = refl
-    turned false b true is = refl
-    turned a b false is = cc
-
-    other : (a b c : Bool) → c ≡ false → b ≡ ((a && c) || b)
-    other true b false is = refl
-    other false b false is = refl
-    other a b true is = cc
-
-    by : (hit : Bool) → same_text place.group group ≡ hit
-        → has_commits topic (unwrap_or (cond hit (Some made) (lookup (same_text group) groups)) [])
-        ≡ (is_pair place.topic place.group topic group || has_commits topic (commits_of group groups))
-    by true is =
-        put_commits place.topic topic place.partition offset (commits_of place.group groups)
-        ∙ ap (λ n. same_text place.topic topic || has_commits topic (commits_of n groups)) (equal_names place.group group is)
-        ∙ turned (same_text place.topic topic) (has_commits topic (commits_of group groups))
-        (same_text place.group group) is
-    by false is =
-        other (same_text place.topic topic) (has_commits topic (commits_of group groups)) (same_text place.group group) is
+    grind (
+      arith,
+      nat_tests,
+      unwrap_or,
+      found_inserted nat_list_eq_equiv groups place.group group,
+      put_commits place.topic topic place.partition offset (commits_of place.group groups),
+      equal_names place.group group,
+    )
 
 pub listed_removed : (groups : Groups) (old new : GroupsByTopic) (name : List ℕ) → AreListed groups old
     → ((t g : List ℕ) → is_listed t g new
@@ -119,8 +88,7 @@ listed_forgotten groups old new topic listed left t g =
 names_apart : {X : Type 0} (P : List ℕ → Type 0) (entries : List (List ℕ × X)) (place : ℕ) (e : List ℕ × X)
     → AllByRecursion P (keys_of entries) → slice_get entries place ≡ Some e → P e.0
 names_apart P [] place e all there = cc
-names_apart P (head ∷ entries) zero e all there =
-    let same : head ≡ e = cc in subst (λ (x : List ℕ × _). P x.0) same all.0
+names_apart P (head ∷ entries) zero e all there = grind (arith, nat_tests)
 names_apart P (head ∷ entries) (suc place) e all there = names_apart P entries place e all.1 there
 
 -- an entry is found by its name
@@ -128,11 +96,7 @@ own_entry : {X : Type 0} (entries : List (List ℕ × X)) (place : ℕ) (e : Lis
     → IsDistinct same_text (keys_of entries) → slice_get entries place ≡ Some e
     → lookup (same_text e.0) entries ≡ Some e.1
 own_entry [] place e distinct there = cc
-own_entry {X} (head ∷ entries) zero e distinct there =
-    let same : head ≡ e = cc in
-    ap (λ b. cond b (Some head.1) (lookup (same_text e.0) entries))
-    (same_name e.0 head.0 (ap (λ (x : List ℕ × X). x.0) (sym same)))
-    ∙ ap (λ (x : List ℕ × X). Some x.1) same
+own_entry {X} (head ∷ entries) zero e distinct there = grind (arith, nat_tests, same_name)
 own_entry {X} (head ∷ entries) (suc place) e distinct there =
     ap (λ b. cond b (Some head.1) (lookup (same_text e.0) entries))
     (nat_list_eq_equiv.symm e.0 head.0

@@ -1,5 +1,4 @@
-use Rattle.std.proofs.Common.{ap, ◌∙◌}
-use Rattle.kob_groups.specs.Views.{offsets_in}
+use Rattle.kob_groups.proofs.Words.{ap, offsets_in, ◌∙◌}
 use Rattle.kob_groups.proofs.Maps.{seen}
 use Rattle.kob_groups.proofs.commit.new_group.Goals as goal
 

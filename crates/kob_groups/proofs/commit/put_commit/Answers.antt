@@ -1,9 +1,4 @@
-use Rattle.std.proofs.Common.{[], ap, subst, sym, ◌∙◌}
-use Rattle.kob_names.specs.Same.{same_text}
-use Rattle.kob_ordered.specs.Ordered.{name_at}
-use Rattle.kob_groups.specs.Groups.{place_of, with_commit, with_offset}
-use Rattle.kob_groups.specs.Kept.{CanEnter, place_at, topic_among, topic_in}
-use Rattle.kob_groups.specs.Views.{commits_in, groups_in}
+use Rattle.kob_groups.proofs.Words.{CanEnter, [], ap, commits_in, groups_in, name_at, place_at, place_of, same_text, subst, sym, topic_among, topic_in, with_commit, with_offset, ◌∙◌}
 use Rattle.kob_groups.proofs.Maps.{seen, seen_changed, seen_put}
 use Rattle.kob_groups.proofs.commit.put_commit.Goals as goal
 

@@ -1,8 +1,4 @@
-use Rattle.std.proofs.Common.{ap, is_some, sym, ◌∙◌}
-use Rattle.std.specs.Map.{lookup}
-use Rattle.std.specs.Option.{option_copied_mut}
-use Rattle.kob_names.specs.Same.{same_text}
-use Rattle.kob_groups.specs.Views.{groups_in, without_topic_at}
+use Rattle.kob_groups.proofs.Words.{ap, groups_in, is_some, lookup, option_copied_mut, same_text, sym, without_topic_at, ◌∙◌}
 use Rattle.kob_groups.proofs.Forgetting.{forgotten_absent, forgotten_first, forgotten_none, forgotten_written}
 use Rattle.kob_groups.proofs.groups.forget_at.Goals as goal
 

@@ -1,8 +1,4 @@
-use Rattle.std.proofs.Common.{◌≡◌}
-use Rattle.kob_groups.specs.Views.{groups_in, without_topic_at}
-use Rattle.std.proofs.Common.{is_some}
-use Rattle.std.specs.Map.{lookup}
-use Rattle.kob_names.specs.Same.{same_text}
+use Rattle.kob_groups.proofs.Words.{groups_in, is_some, lookup, same_text, without_topic_at, ◌≡◌}
 use Rattle.kob_groups.proofs.groups.forget_at.Given as goal
 
 -- what is left to forget is forgotten with what was

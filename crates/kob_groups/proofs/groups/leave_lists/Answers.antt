@@ -1,8 +1,5 @@
-use Rattle.std.proofs.Common.{◌&&◌, ap, is_some, not, sym, ◌∙◌}
-use Rattle.std.specs.Map.{lookup}
-use Rattle.kob_names.specs.Same.{same_text}
+use Rattle.kob_groups.proofs.Words.{ap, is_listed, is_some, lookup, not, same_text, sym, ◌&&◌, ◌∙◌}
 use Rattle.kob_groups.specs.Kept.{offsets_in}
-use Rattle.kob_groups.specs.Listed.{is_listed}
 use Rattle.kob_groups.proofs.Listings.{none_to_leave}
 use Rattle.kob_groups.proofs.Maps.{seen_has}
 use Rattle.kob_groups.proofs.groups.leave_lists.Goals as goal

@@ -1,7 +1,4 @@
-use Rattle.std.proofs.Common.{◌≡◌, ◌&&◌, ℕ, List, is_some, not}
-use Rattle.std.specs.Map.{lookup}
-use Rattle.kob_names.specs.Same.{same_text}
-use Rattle.kob_groups.specs.Listed.{is_listed}
+use Rattle.kob_groups.proofs.Words.{List, is_listed, is_some, lookup, not, same_text, ℕ, ◌&&◌, ◌≡◌}
 use Rattle.kob_groups.proofs.groups.leave_lists.Given as goal
 
 -- the lists that are left to leave are left with those that were

@@ -1,6 +1,4 @@
-use Rattle.std.proofs.Common.{ap, sym, ◌∙◌}
-use Rattle.std.specs.Map.{lookup}
-use Rattle.kob_names.specs.Same.{same_text}
+use Rattle.kob_groups.proofs.Words.{ap, lookup, same_text, sym, ◌∙◌}
 use Rattle.kob_groups.specs.Kept.{offsets_in}
 use Rattle.kob_groups.proofs.Maps.{seen, seen_removed}
 use Rattle.kob_groups.proofs.commits.Commits.forget.Goals as goal

@@ -1,10 +1,4 @@
-use Rattle.std.proofs.Common.{[], nat_eq, ap, subst, sym, ◌∙◌}
-use Rattle.indexmap.specs.IndexMap.{insert_entry}
-use Rattle.kob_names.specs.Same.{same_text}
-use Rattle.kob_ordered.specs.Ordered.{name_at}
-use Rattle.kob_groups.specs.Groups.{with_offset}
-use Rattle.kob_groups.specs.Kept.{CanPut, topic_in}
-use Rattle.kob_groups.specs.Views.{commits_in, offsets_in}
+use Rattle.kob_groups.proofs.Words.{CanPut, [], ap, commits_in, insert_entry, name_at, nat_eq, offsets_in, same_text, subst, sym, topic_in, with_offset, ◌∙◌}
 use Rattle.kob_groups.proofs.Maps.{seen, seen_changed, seen_put}
 use Rattle.kob_groups.proofs.commits.Commits.put.Goals as goal
 

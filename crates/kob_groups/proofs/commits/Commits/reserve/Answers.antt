@@ -1,4 +1,4 @@
-use Rattle.kob_groups.specs.Views.{offsets_in}
+use Rattle.kob_groups.proofs.Words.{offsets_in}
 use Rattle.kob_groups.proofs.Maps.{seen_written}
 use Rattle.kob_groups.proofs.commits.Commits.reserve.Goals as goal
 

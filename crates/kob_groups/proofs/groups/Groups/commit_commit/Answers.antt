@@ -1,6 +1,4 @@
-use Rattle.std.proofs.Common.{subst, sym}
-use Rattle.kob_groups.specs.Kept.{groups_of, place_in}
-use Rattle.kob_groups.specs.Listed.{AreListed}
+use Rattle.kob_groups.proofs.Words.{AreListed, groups_of, place_in, subst, sym}
 use Rattle.kob_groups.proofs.Listings.{listed_committed}
 use Rattle.kob_groups.proofs.groups.Groups.commit_commit.Goals as goal
 

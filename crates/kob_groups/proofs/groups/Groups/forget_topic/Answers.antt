@@ -1,7 +1,4 @@
-use Rattle.std.proofs.Common.{Some, false, ap, subst, sym, ◌∙◌}
-use Rattle.kob_groups.specs.Filled.{is_among}
-use Rattle.kob_groups.specs.Kept.{groups_of}
-use Rattle.kob_groups.specs.Listed.{AreListed}
+use Rattle.kob_groups.proofs.Words.{AreListed, Some, ap, false, groups_of, is_among, subst, sym, ◌∙◌}
 use Rattle.kob_groups.proofs.Forgetting.{forgotten_listed, forgotten_none}
 use Rattle.kob_groups.proofs.Listings.{listed_forgotten}
 use Rattle.kob_groups.proofs.groups.Groups.forget_topic.Goals as goal

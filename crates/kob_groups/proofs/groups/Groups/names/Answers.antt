@@ -1,5 +1,4 @@
-use Rattle.std.proofs.Common.{append-nil, ap, sym, ◌++◌, ◌∙◌}
-use Rattle.std.specs.Map.{keys_of}
+use Rattle.kob_groups.proofs.Words.{ap, append-nil, keys_of, sym, ◌++◌, ◌∙◌}
 use Rattle.kob_groups.specs.Kept.{commits_in}
 use Rattle.kob_groups.proofs.Maps.{seen_keys}
 use Rattle.kob_groups.proofs.groups.Groups.names.Goals as goal

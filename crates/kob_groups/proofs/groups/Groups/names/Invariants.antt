@@ -1,5 +1,4 @@
-use Rattle.std.proofs.Common.{◌≡◌, ◌++◌}
-use Rattle.std.specs.Map.{keys_of}
+use Rattle.kob_groups.proofs.Words.{keys_of, ◌++◌, ◌≡◌}
 use Rattle.kob_groups.proofs.groups.Groups.names.Given as goal
 
 abbrev pub invariant-loop-name : goal.invariant-loop-name

@@ -1,11 +1,4 @@
-use Rattle.std.proofs.Common.{◌≡◌, ◌&&◌, [], ap, not, sym, subst, ◌∙◌}
-use Rattle.std.specs.Map.{lookup}
-use Rattle.kob_names.specs.Same.{same_text}
-use Rattle.kob_ordered.proofs.Entries.{removed_absent}
-use Rattle.kob_groups.specs.Groups.{without_group}
-use Rattle.kob_groups.specs.Kept.{groups_of}
-use Rattle.kob_groups.specs.Listed.{AreListed, has_commits, is_listed}
-use Rattle.kob_groups.specs.Views.{commits_in, groups_in}
+use Rattle.kob_groups.proofs.Words.{AreListed, [], ap, commits_in, groups_in, groups_of, has_commits, is_listed, lookup, not, removed_absent, same_text, subst, sym, without_group, ◌&&◌, ◌∙◌, ◌≡◌}
 use Rattle.kob_groups.proofs.Listings.{listed_removed}
 use Rattle.kob_groups.proofs.Maps.{seen_removed, seen_some}
 use Rattle.kob_groups.proofs.groups.Groups.remove.Goals as goal

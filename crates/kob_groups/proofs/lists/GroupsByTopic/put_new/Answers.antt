@@ -1,9 +1,4 @@
-use Rattle.std.proofs.Common.{◌≡◌, ℕ, List, false, is_some, ◌||◌, ap, subst, sym, ◌∙◌}
-use Rattle.std.specs.Map.{lookup, set_value}
-use Rattle.kob_names.specs.Same.{same_text}
-use Rattle.kob_ordered.specs.Ordered.{name_at}
-use Rattle.kob_groups.specs.Filled.{is_among}
-use Rattle.kob_groups.specs.Listed.{HasRoomFor, group_of, is_listed, is_pair, topic_of}
+use Rattle.kob_groups.proofs.Words.{HasRoomFor, List, ap, false, group_of, is_among, is_listed, is_pair, is_some, lookup, name_at, same_text, set_value, subst, sym, topic_of, ℕ, ◌||◌, ◌∙◌, ◌≡◌}
 use Rattle.kob_groups.proofs.Names.{changes_to, changes_written, filled_changed, listed_put, one_more_filled, pushed_more}
 use Rattle.kob_groups.proofs.lists.GroupsByTopic.put_new.Goals as goal
 

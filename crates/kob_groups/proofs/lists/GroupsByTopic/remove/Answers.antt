@@ -1,8 +1,4 @@
-use Rattle.std.proofs.Common.{◌≡◌, ◌&&◌, None, Some, ap, arith, length, not, sym, ◌∙◌}
-use Rattle.std.specs.Map.{set_value}
-use Rattle.std.specs.Option.{option_copied_mut}
-use Rattle.kob_names.specs.Same.{same_text}
-use Rattle.kob_groups.specs.Filled.{is_among}
+use Rattle.kob_groups.proofs.Words.{None, Some, ap, arith, is_among, length, not, option_copied_mut, same_text, set_value, sym, ◌&&◌, ◌∙◌, ◌≡◌}
 use Rattle.kob_groups.proofs.Names.{changes_taken, changes_twice, changes_written, filled_changed, filled_without, listed_left, none_is_less, taken_less}
 use Rattle.kob_groups.proofs.lists.GroupsByTopic.remove.Goals as goal
 

@@ -1,7 +1,4 @@
-use Rattle.std.proofs.Common.{◌<◌, IfSome, ap, refl, subst, sym, ◌∙◌}
-use Rattle.kob_ordered.specs.Ordered.{name_at}
-use Rattle.kob_groups.specs.Filled.{is_among}
-use Rattle.kob_groups.specs.Listed.{is_listed}
+use Rattle.kob_groups.proofs.Words.{IfSome, ap, is_among, is_listed, name_at, refl, subst, sym, ◌<◌, ◌∙◌}
 use Rattle.kob_groups.proofs.Names.{alike_written, filled_written, found_written}
 use Rattle.kob_groups.proofs.lists.GroupsByTopic.reserve_name.Goals as goal
 
