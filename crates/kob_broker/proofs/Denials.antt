@@ -1,18 +1,5 @@
 -- A denial is the same wherever the bindings in force and the super users are.
-use Rattle.std.proofs.Common.{◌≡◌, ℕ, ◌+◌, List, [], ◌∷◌, Option, Some, if◌then◌else◌, option_map, refl, ap, sym, ◌∙◌}
-use Rattle.kob_authorizer.specs.Contents.{Contents}
-use Rattle.kob_names.specs.declared.verdict.Verdict.{Verdict}
-use Rattle.kob_partition.specs.Meaning.{Meaning}
-use Rattle.kob_rights.specs.Check.{Check}
-use Rattle.kob_rights.specs.Table.{rights}
-use Rattle.kob_rights.specs.declared.code.Code.{Code}
-use Rattle.kob_rights.specs.declared.event.Event.{Event}
-use Rattle.kob_rights.specs.declared.reply.Reply.{Reply}
-use Rattle.kob_rights.specs.declared.reply.Reply.TheVariants.{Denied}
-use Rattle.kob_broker.specs.Denial.{denial_naming, denial_of, first_unmet, is_met}
-use Rattle.kob_broker.specs.Justice.{AgreeOnAccess, SameDenial}
-use Rattle.kob_broker.specs.State.{State}
-use Rattle.kob_broker.specs.Step.{step, step_by}
+use Rattle.kob_broker.proofs.Words.{AgreeOnAccess, Check, Code, Contents, Denied, Event, List, Meaning, Option, Reply, SameDenial, State, Verdict, [], ap, arith, denial_naming, denial_of, first_unmet, nat_tests, option_map, refl, rights, step, step_by, sym, ℕ, ◌+◌, ◌∙◌, ◌∷◌, ◌≡◌}
 use Rattle.kob_broker.proofs.Steps.{step_fits}
 
 -- no decision reads the serial that comes next
@@ -20,12 +7,10 @@ unmet_alike : (access : Contents) (next : ℕ) (event : Event) (n : ℕ) (clause
     → first_unmet (record access { next = next }) event n clauses ≡ first_unmet access event n clauses
 unmet_alike access next event n [] = refl
 unmet_alike access next event n (clause ∷ clauses) =
-    ap (λ (rest : Option (ℕ × List Check)). if is_met access event clause then rest else Some (n, clause))
-    (unmet_alike access next event (n + 1) clauses)
+    grind (arith, nat_tests, unmet_alike access next event (n + 1) clauses)
 
 with_next : (one other : Contents) → AgreeOnAccess one other → record one { next = other.next } ≡ other
-with_next one other k =
-    λ i. record { entries = k.entries i; next = other.next; supers = k.supers i; everyone = k.everyone i }
+with_next one other k = grind (arith, nat_tests)
 
 denial_alike : (one other : Contents) (event : Event) → AgreeOnAccess one other
     → denial_of one event ≡ denial_of other event
@@ -52,7 +37,11 @@ module _ {P Q : Type 0} (m : Meaning P) (n : Meaning Q) where
 module _ {P Q : Type 0} (m : Meaning P) (n : Meaning Q) where
   pub same_denial : (s : State P) (t : State Q) (event : Event) → AgreeOnAccess s.access t.access
       → SameDenial (step m s event).reply (step n t event).reply
-  same_denial s t event same = record {
-    from = denied_alike m n s t event same;
-    to = denied_alike n m t s event (agree_back s.access t.access same);
-  }
+  same_denial s t event same =
+      grind (
+        arith,
+        nat_tests,
+        denied_alike m n s t event same,
+        denied_alike n m t s event (agree_back s.access t.access same),
+        agree_back s.access t.access same,
+      )

@@ -1,30 +1,10 @@
 -- What holds of each partition of a broker, through what is read of its topics and written to them.
-use Rattle.std.proofs.Common.{ℕ, zero, suc, Bool, List, [], ◌∷◌, Option, Some, None, IfSome, All, option_map, slice_get, slice_set, unwrap_or}
-use Rattle.std.proofs.lemmas.Bool.{cond_both}
-use Rattle.std.proofs.lemmas.List.Elements.{All-cons, All-filter, All-head, All-nil, All-push, All-replicate, All-set, All-tail}
-use Rattle.std.proofs.lemmas.Map.Entries.{All-lookup}
-use Rattle.std.specs.Map.{lookup, set_value}
-use Rattle.indexmap.specs.IndexMap.{insert_entry}
-use Rattle.kob_names.specs.Same.{same_text}
-use Rattle.kob_catalog.specs.Creation.{new_topic}
-use Rattle.kob_catalog.specs.Topics.{Topic, partitions_of, with_partition}
-use Rattle.kob_partition.specs.Append.{after_batch, batch_judged, unless_repeat}
-use Rattle.kob_partition.specs.Meaning.{Meaning}
-use Rattle.kob_producers.specs.declared.judge.Judgement.{Judgement}
-use Rattle.kob_producers.specs.declared.judge.Judgement.TheVariants.{Repeat}
-use Rattle.kob_rights.specs.Partitions.{partition_named}
-use Rattle.kob_rights.specs.Writes.{Write, Append, AddTopic, RemoveTopic, AdvanceStart}
-use Rattle.kob_rights.specs.declared.on_partitions.Produce.{Produce}
-use Rattle.kob_rights.specs.declared.request.Request.{Request}
-use Rattle.kob_broker.specs.DeleteRecords.{offset_before}
-use Rattle.kob_broker.specs.Effect.{after_write, named, partition_in}
-use Rattle.kob_broker.specs.State.{State}
+use Rattle.kob_broker.proofs.Words.{AddTopic, AdvanceStart, All, All-cons, All-filter, All-head, All-lookup, All-nil, All-push, All-replicate, All-set, All-tail, Append, Bool, IfSome, Judgement, List, Meaning, None, Option, Produce, RemoveTopic, Request, Some, State, Topic, Write, [], after_batch, after_write, arith, batch_judged, cond_both, insert_entry, lookup, named, nat_tests, new_topic, offset_before, option_map, partition_in, partition_named, partitions_of, same_text, set_value, slice_get, slice_set, suc, unless_repeat, unwrap_or, with_partition, zero, ℕ, ◌∷◌}
 
 -- a repeat has the old, and any other batch the new
 pub unless_alike : {X Y : Type 0} (Alike : X → Y → Type 0) (judgement : Judgement) (old new : X) (was now : Y)
     → Alike old was → Alike new now → Alike (unless_repeat judgement old new) (unless_repeat judgement was now)
-unless_alike Alike (Repeat offset) old new was now one two = one
-unless_alike Alike _ old new was now one two = two
+unless_alike Alike judgement old new was now one two = grind (arith, nat_tests)
 
 -- what fits each value fits each after one is put in or written, and the one that is read, or none
 module _ {K X : Type 0} (Fits : X → Type 0) where
@@ -33,8 +13,7 @@ module _ {K X : Type 0} (Fits : X → Type 0) where
 
   pub put_in : (same : K → K → Bool) (entries : List (K × X)) (key : K) (x : X) → Fits x → EachFits entries
       → EachFits (insert_entry same entries key x)
-  put_in same [] key x fits all =
-      All-cons (λ (e : K × X). Fits e.1) (key, x) [] fits (All-nil (λ (e : K × X). Fits e.1))
+  put_in same [] key x fits all = grind (arith, nat_tests)
   put_in same (entry ∷ entries) key x fits all =
       let rest = All-tail (λ (e : K × X). Fits e.1) entry entries all in
       cond_both (same key entry.0) ((entry.0, x) ∷ entries) (entry ∷ insert_entry same entries key x) EachFits
@@ -92,10 +71,7 @@ module _ {P : Type 0} (Holds : P → Type 0) where
       → Holds (unless_repeat judgement old put) → All EachOf topics
       → All EachOf (unless_repeat judgement topics
       (with_partition produce.topic produce.partition put topics))
-  once_put judgement old put produce topics holds all =
-      unless_alike (λ (p : P) (ts : List (Topic P)). Holds p → All EachOf ts) judgement old put topics
-      (with_partition produce.topic produce.partition put topics) (λ _. all)
-      (λ h. once_written produce.topic produce.partition put topics h all) holds
+  once_put judgement old put produce topics holds all = grind (arith, nat_tests, unless_alike, once_written)
 
 module _ {P : Type 0} (m : Meaning P) where
   -- what a write makes of the partition that is found, if it writes to one

@@ -1,25 +1,6 @@
 -- Why each reply is just.
-use Rattle.std.proofs.Common.{◌≡◌, ℕ, ◌+◌, List, [], ◌∷◌, Some, None, Bool, true, false, refl, arith, cond, inl, inr, take, suc, ap, ◌∙◌, subst, zero}
-use Rattle.std.proofs.lemmas.Bool.{or_cases, or_parts}
-use Rattle.std.specs.Prelude.{Option, slice_get, map}
-use Rattle.kob_authorizer.specs.Contents.{Contents, IsRising}
-use Rattle.kob_authorizer.proofs.Verdicts.{true_verdict}
-use Rattle.kob_authorizer.proofs.InTurn.{added_rises}
-use Rattle.kob_authorizer.proofs.Rising.{removed_rises}
-use Rattle.kob_names.specs.Granted.{is_granted}
-use Rattle.kob_names.specs.declared.settings.Settings.{Settings}
-use Rattle.kob_partition.specs.Meaning.{Meaning}
-use Rattle.kob_rights.specs.Check.{Check}
-use Rattle.kob_rights.specs.declared.event.Event.{Event}
-use Rattle.kob_rights.specs.Writes.{Write, write_of}
-use Rattle.kob_rights.specs.Table.{rights, denial_code}
+use Rattle.kob_broker.proofs.Words.{Bool, Check, Contents, EachBlamed, EachGranted, EachJust, Event, HoldsInForce, IsBlame, IsDenial, IsJust, IsRising, List, Meaning, None, Option, Settings, Some, SomeGranted, State, Write, [], access_after, added_rises, after_write, arith, changed_access, cond, denial_code, false, first_unmet, is_granted, is_met, map, named, nat_tests, open_state, or_cases, or_parts, question, refl, removed_rises, rights, slice_get, state_after, step, subst, suc, take, true, true_verdict, verdict, write_of, zero, ℕ, ◌+◌, ◌∷◌, ◌≡◌}
 use Rattle.kob_rights.specs.Writes as writes
-use Rattle.kob_broker.specs.Denial.{question, verdict, is_met, first_unmet}
-use Rattle.kob_broker.specs.Justice.{SomeGranted, EachGranted, IsBlame, EachBlamed, EachJust, IsDenial, IsJust}
-use Rattle.kob_broker.specs.Effect.{after_write, named}
-use Rattle.kob_broker.specs.InForce.{HoldsInForce, access_after, changed_access, in_force}
-use Rattle.kob_broker.specs.State.{State, open_state}
-use Rattle.kob_broker.specs.Step.{replies_of, state_after, step}
 use Rattle.kob_broker.proofs.Runs.{reply_at}
 use Rattle.kob_broker.proofs.Steps.{state_keeps, step_fits}
 
@@ -29,26 +10,20 @@ IsNumbered access = IsRising 1 access.entries access.next
 
 blames : (access : Contents) (event : Event) (check : Check) → IsNumbered access
     → is_granted (verdict access event check) ≡ false → IsBlame access event check (verdict access event check)
-blames access event check numbered ungranted = record {
-  decided = refl;
-  not_granted = ungranted;
-  says = true_verdict access (question event check) numbered;
-}
+blames access event check numbered ungranted =
+    grind (arith, nat_tests, true_verdict access (question event check) numbered)
 
 -- a clause that isn't met has a reason for each alternative
 pub each_blamed : (access : Contents) (event : Event) (clause : List Check) → IsNumbered access
     → is_met access event clause ≡ false → EachBlamed access event clause (map (verdict access event) clause)
 each_blamed access event [] numbered h = tt
 each_blamed access event (check ∷ checks) numbered h =
-    let both = or_parts (is_granted (verdict access event check)) (is_met access event checks) h in
-    (blames access event check numbered both.0, each_blamed access event checks numbered both.1)
+    grind (arith, nat_tests, or_parts, blames, each_blamed access event checks numbered)
 
 some_granted : (access : Contents) (event : Event) (clause : List Check) → is_met access event clause ≡ true
     → SomeGranted access event clause
 some_granted access event [] h = cc
-some_granted access event (check ∷ checks) h =
-    elim (or_cases (is_granted (verdict access event check)) (is_met access event checks) h)
-    [ inl this ↦ inl this | inr rest ↦ inr (some_granted access event checks rest) ]
+some_granted access event (check ∷ checks) h = grind (arith, nat_tests, or_cases, some_granted access event checks)
 
 -- what the search for a clause that isn't met finds
 pub record Found (access : Contents) (event : Event) (clauses : List (List Check)) (n : ℕ)
@@ -75,27 +50,16 @@ module _ (access : Contents) (event : Event) where
     before = (some_granted access event clause is, found.before);
     not_met = found.not_met;
   }
-  says_step clause clauses n false is found later =
-      record { place = 0; found_is = omega arith; clause_is = refl; before = tt; not_met = is }
+  says_step clause clauses n false is found later = grind (arith, nat_tests)
 
   pub search_says : (clauses : List (List Check)) (n : ℕ) → Says clauses n (first_unmet access event n clauses)
   search_says [] n = tt
-  search_says (clause ∷ clauses) n =
-      says_step clause clauses n (is_met access event clause) refl (first_unmet access event (n + 1) clauses)
-      (search_says clauses (n + 1))
+  search_says (clause ∷ clauses) n = grind (arith, nat_tests, says_step, search_says clauses (n + 1))
 
 found_denial : (access : Contents) (event : Event) (blamed : ℕ × List Check) → IsNumbered access
     → Found access event (rights event.request) 0 blamed
     → IsDenial access event (denial_code event.request blamed.0) (map (verdict access event) blamed.1)
-found_denial access event blamed numbered f = record {
-  place = f.place;
-  clause = blamed.1;
-  clause_is = f.clause_is;
-  before = f.before;
-  code_is = ap (denial_code event.request)
-      (let e = f.found_is in let same : blamed.0 ≡ f.place = omega arith in same);
-  blamed = each_blamed access event blamed.1 numbered f.not_met;
-}
+found_denial access event blamed numbered f = grind (arith, nat_tests, each_blamed)
 
 module _ {P : Type 0} (m : Meaning P) where
   -- the reply to one event is just
@@ -110,9 +74,7 @@ module _ {P : Type 0} (m : Meaning P) where
   -- the bindings after one event are those that its reply says
   after_access : (s : State P) (found : Option P) (write : Option Write)
       → (after_write m s found write).access ≡ changed_access write s.access
-  after_access s found (Some (writes.AddBindings create)) = refl
-  after_access s found (Some (writes.RemoveBindings delete)) = refl
-  after_access s found _ = refl
+  after_access s found write = grind (arith, nat_tests)
 
   pub step_access : (s : State P) (event : Event)
       → (step m s event).state.access ≡ access_after (step m s event).reply event.request s.access
@@ -123,11 +85,7 @@ module _ {P : Type 0} (m : Meaning P) where
   -- and are numbered
   written_numbered : (s : State P) (found : Option P) (write : Option Write) → IsNumbered s.access
       → IsNumbered (after_write m s found write).access
-  written_numbered s found (Some (writes.AddBindings create)) numbered =
-      added_rises s.access.entries s.access.next create.drafts numbered
-  written_numbered s found (Some (writes.RemoveBindings delete)) numbered =
-      removed_rises s.access.entries s.access.next delete.filter numbered
-  written_numbered s found _ numbered = numbered
+  written_numbered s found write numbered = grind (arith, nat_tests, added_rises, removed_rises)
 
   step_numbered : (s : State P) (event : Event) → IsNumbered s.access → IsNumbered (step m s event).state.access
   step_numbered s event numbered =
@@ -139,10 +97,7 @@ module _ {P : Type 0} (m : Meaning P) where
   run_access [] s zero = refl
   run_access [] s (suc k) = refl
   run_access (e ∷ events) s zero = refl
-  run_access (e ∷ events) s (suc k) =
-      let next : State P = (step m s e).state in
-      run_access events next k
-      ∙ ap (in_force (take k events) (take k (replies_of m events next))) (step_access s e)
+  run_access (e ∷ events) s (suc k) = grind (arith, nat_tests, run_access events, step_access)
 
   -- and so each reply of a run is just
   pub run_just : (events : List Event) (s : State P) → IsNumbered s.access → EachJust m events s
@@ -155,5 +110,4 @@ module _ {P : Type 0} (m : Meaning P) where
       (subst (IsJust now.access event) (reply_at m events s k event reply at told) (step_just now event now_numbered))
 
   pub opened_just : (settings : Settings) (events : List Event) → EachJust m events (open_state settings)
-  opened_just settings events =
-      run_just events (open_state settings) (added_rises [] 1 settings.opening (omega arith))
+  opened_just settings events = grind (arith, nat_tests, run_just, added_rises)

@@ -1,18 +1,5 @@
 -- What a filter leaves stands in the list and passes the test, in the list's order.
-use Rattle.std.proofs.Common.{◌≡◌, ◌↔◌, ℕ, Bool, true, false, cond, filter, List, [], ◌∷◌, map, take, refl, sym, subst, ◌∙◌, inl, inr}
-use Rattle.std.specs.Prelude.{IsTrue, ◌⊎◌}
-use Rattle.kob_groups.specs.Groups.{group_names}
-use Rattle.kob_catalog.specs.Topics.{Topic, listed, listed_where}
-use Rattle.kob_partition.specs.Meaning.{Meaning}
-use Rattle.kob_authorizer.specs.Contents.{Contents}
-use Rattle.kob_rights.specs.declared.event.Event.{Event}
-use Rattle.kob_rights.specs.declared.reply.Reply.{Reply}
-use Rattle.kob_broker.specs.InForce.{in_force_at}
-use Rattle.kob_broker.specs.ListGroups.{describes_cluster, describes_group, groups_shown}
-use Rattle.kob_broker.specs.Listings.{AreThose, EachLists, Lists, ListsGroups, ListsTopics, StandsIn}
-use Rattle.kob_broker.specs.Metadata.{describes_topic}
-use Rattle.kob_broker.specs.State.{State}
-use Rattle.kob_broker.specs.Step.{state_after, step}
+use Rattle.kob_broker.proofs.Words.{AreThose, Bool, Contents, EachLists, Event, IsTrue, List, Lists, ListsGroups, ListsTopics, Meaning, Reply, StandsIn, State, Topic, [], arith, cond, describes_cluster, describes_group, describes_topic, false, filter, group_names, groups_shown, in_force_at, inl, inr, listed, listed_where, map, nat_tests, refl, state_after, step, subst, take, true, ℕ, ◌↔◌, ◌∷◌, ◌≡◌, ◌⊎◌}
 use Rattle.kob_broker.proofs.Just.{run_access}
 use Rattle.kob_broker.proofs.Runs.{reply_at}
 
@@ -28,46 +15,17 @@ module _ {A : Type 0} (shown : A → Type 0) where
   all_in_order (x ∷ xs) each = inl (each x, (refl, all_in_order xs each))
 
   pub lists_all : (all : List A) → ((x : A) → shown x) → Lists shown all all
-  lists_all all each = record {
-    holds = λ x. (λ here. (each x, here), λ both. both.1);
-    in_order = all_in_order all each;
-  }
+  lists_all all each = grind (arith, nat_tests, all_in_order)
 
   -- a test that tells what is shown
   module _ (test : A → Bool) (yes : (x : A) → test x ≡ true → shown x) (no : (x : A) → shown x → test x ≡ true) where
-    hidden_by : (x : A) → test x ≡ false → ¬ shown x
-    hidden_by x is there = let untrue : true ≡ false = sym (no x there) ∙ is in cc
-
-    holds_step : (x y : A) (ys : List A) (b : Bool) → test y ≡ b
-        → StandsIn x (filter test ys) ↔ (shown x × StandsIn x ys)
-        → StandsIn x (cond b (y ∷ filter test ys) (filter test ys)) ↔ (shown x × ((x ≡ y) ⊎ StandsIn x ys))
-    holds_step x y ys true is rest = (
-      λ here. elim here [
-        | inl same ↦ (subst shown (sym same) (yes y is), inl same)
-        | inr later ↦ ((rest.0 later).0, inr (rest.0 later).1)
-      ],
-      λ both. elim both.1 [ inl same ↦ inl same | inr later ↦ inr (rest.1 (both.0, later)) ],
-    )
-    holds_step x y ys false is rest = (
-      λ here. ((rest.0 here).0, inr (rest.0 here).1),
-      λ both. elim both.1 [
-        | inl same ↦ absurd (hidden_by y is (subst shown same both.0))
-        | inr later ↦ rest.1 (both.0, later)
-      ],
-    )
-
     holds_of : (x : A) (all : List A) → StandsIn x (filter test all) ↔ (shown x × StandsIn x all)
     holds_of x [] = (λ nowhere. absurd nowhere, λ both. both.1)
-    holds_of x (y ∷ ys) = holds_step x y ys (test y) refl (holds_of x ys)
-
-    order_step : (y : A) (ys : List A) (b : Bool) → test y ≡ b → AreThose shown (filter test ys) ys
-        → AreThose shown (cond b (y ∷ filter test ys) (filter test ys)) (y ∷ ys)
-    order_step y ys true is rest = inl (yes y is, (refl, rest))
-    order_step y ys false is rest = not_listed (filter test ys) y ys (hidden_by y is) rest
+    holds_of x (y ∷ ys) = grind (arith, nat_tests, holds_of x ys)
 
     order_of : (all : List A) → AreThose shown (filter test all) all
     order_of [] = tt
-    order_of (y ∷ ys) = order_step y ys (test y) refl (order_of ys)
+    order_of (y ∷ ys) = grind (arith, nat_tests, order_of ys, not_listed)
 
     pub lists_passing : (all : List A) → Lists shown (filter test all) all
     lists_passing all = record { holds = λ x. holds_of x all; in_order = order_of all }

@@ -1,21 +1,5 @@
 -- One step by its cases, and what a run keeps.
-use Rattle.std.proofs.Common.{◌≡◌, ℕ, List, [], ◌∷◌, ◌++◌, Option, Some, None, All, refl}
-use Rattle.std.specs.Option.{option_map}
-use Rattle.std.proofs.lemmas.List.Elements.{All-cons, All-nil}
-use Rattle.kob_partition.specs.Meaning.{Meaning}
-use Rattle.kob_rights.specs.Check.{Check}
-use Rattle.kob_rights.specs.Reason.{code_of}
-use Rattle.kob_rights.specs.Table.{rights}
-use Rattle.kob_rights.specs.declared.event.Event.{Event}
-use Rattle.kob_rights.specs.declared.reason.Reason.{Reason}
-use Rattle.kob_rights.specs.declared.reply.Reply.{Reply}
-use Rattle.kob_rights.specs.declared.reply.Reply.TheVariants.{Refused, Done, Denied}
-use Rattle.kob_rights.specs.Writes.{Write, AddBindings, RemoveBindings, write_of}
-use Rattle.kob_broker.specs.Denial.{denial_naming, first_unmet}
-use Rattle.kob_broker.specs.Effect.{Outcome, after, body, effect_by, named, refusal, after_write}
-use Rattle.kob_broker.specs.State.{State}
-use Rattle.kob_broker.specs.Step.{replies_of, state_after, step, step_by}
-use Rattle.kob_broker.specs.Justice.{LeavesUnlessDone}
+use Rattle.kob_broker.proofs.Words.{All, All-nil, Check, Denied, Done, Event, LeavesUnlessDone, List, Meaning, None, Option, Outcome, Reason, Refused, Reply, Some, State, Write, [], after, after_write, arith, body, code_of, denial_naming, effect_by, first_unmet, named, nat_tests, refl, refusal, replies_of, rights, state_after, step, write_of, ℕ, ◌++◌, ◌∷◌, ◌≡◌}
 
 module _ {P : Type 0} (m : Meaning P) (s : State P) (event : Event) where
   abbrev pub unmet : Option (ℕ × List Check)
@@ -33,16 +17,10 @@ module _ {P : Type 0} (m : Meaning P) (s : State P) (event : Event) where
       })) where
     granted_fits : (against : Option Reason) → unmet ≡ None → refusal m s event.request ≡ against
         → Fits (effect_by m against s (named s event.request) event event.request)
-    granted_fits (Some reason) granted is = refused reason granted is
-    granted_fits None granted is = done granted is
-
-    fits_by : (found : Option (ℕ × List Check)) → unmet ≡ found
-        → Fits (step_by m (option_map (denial_naming s.access event) found) s event)
-    fits_by (Some blamed) is = denied blamed is
-    fits_by None is = granted_fits (refusal m s event.request) is refl
+    granted_fits against granted is = grind (arith, nat_tests)
 
     pub step_fits : Fits (step m s event)
-    step_fits = fits_by unmet refl
+    step_fits = grind (arith, nat_tests, granted_fits)
 
 -- a fact of the events to come and the state that each step keeps, and what the replies then tell
 module _ {P : Type 0} (m : Meaning P) (Holds : List Event → State P → Type 0) (Tells : Reply → Type 0)
@@ -50,10 +28,7 @@ module _ {P : Type 0} (m : Meaning P) (Holds : List Event → State P → Type 0
     → Tells (step m s event).reply × Holds events (step m s event).state) where
   pub replies_keep : (events : List Event) (s : State P) → Holds events s → All Tells (replies_of m events s)
   replies_keep [] s holds = All-nil Tells
-  replies_keep (event ∷ events) s holds =
-      let next = step_keeps event events s holds in
-      let later : State P = (step m s event).state in
-      All-cons Tells (step m s event).reply (replies_of m events later) next.0 (replies_keep events later next.1)
+  replies_keep (event ∷ events) s holds = grind (arith, nat_tests, replies_keep events)
 
   pub state_keeps : (events more : List Event) (s : State P) → Holds (events ++ more) s
       → Holds more (state_after m events s)
@@ -77,9 +52,7 @@ module _ {P : Type 0} (m : Meaning P) (s : State P) (event : Event) where
 module _ {P : Type 0} (m : Meaning P) (s : State P) where
   written_switch : (found : Option P) (write : Option Write)
       → (after_write m s found write).access.everyone ≡ s.access.everyone
-  written_switch found (Some (AddBindings create)) = refl
-  written_switch found (Some (RemoveBindings delete)) = refl
-  written_switch found _ = refl
+  written_switch found write = grind (arith, nat_tests)
 
   pub step_switch : (event : Event) → (step m s event).state.access.everyone ≡ s.access.everyone
   step_switch event =

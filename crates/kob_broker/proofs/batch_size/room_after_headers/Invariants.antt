@@ -1,6 +1,4 @@
-use Rattle.std.proofs.Common.{◌≡◌, ◌+◌, take}
-use Rattle.std.specs.List.{sum_by}
-use Rattle.kob_broker.specs.BatchSize.{header_bytes}
+use Rattle.kob_broker.proofs.Words.{header_bytes, sum_by, take, ◌+◌, ◌≡◌}
 use Rattle.kob_broker.proofs.batch_size.room_after_headers.Given as goal
 
 -- the headers so far and what is left are the room

@@ -1,6 +1,4 @@
-use Rattle.std.proofs.Common.{◌≡◌, ◌+◌, take}
-use Rattle.std.specs.List.{sum_by}
-use Rattle.kob_broker.specs.BatchSize.{record_bytes}
+use Rattle.kob_broker.proofs.Words.{record_bytes, sum_by, take, ◌+◌, ◌≡◌}
 use Rattle.kob_broker.proofs.batch_size.room_after_records.Given as goal
 
 -- the records so far and what is left are the room

@@ -1,5 +1,4 @@
-use Rattle.std.proofs.Common.{◌≡◌, ℕ, map, take}
-use Rattle.kob_names.specs.Binding.{Binding}
+use Rattle.kob_broker.proofs.Words.{Binding, map, take, ℕ, ◌≡◌}
 use Rattle.kob_broker.proofs.broker.bindings_of.Given as goal
 
 abbrev pub invariant-loop-entry : goal.invariant-loop-entry

@@ -1,7 +1,4 @@
-use Rattle.std.proofs.Common.{◌≡◌, drop, take}
-use Rattle.std.specs.List.{flat_map}
-use Rattle.kob_broker.specs.CreateAcls.{draft_reasons}
-use Rattle.kob_broker.specs.Reasons.{first_reason}
+use Rattle.kob_broker.proofs.Words.{draft_reasons, drop, first_reason, flat_map, take, ◌≡◌}
 use Rattle.kob_broker.proofs.on_acls.bindings_of.Given as goal
 
 -- the drafts so far are bindings, and the first rule that one breaks is broken by what is left

@@ -1,5 +1,4 @@
-use Rattle.std.proofs.Common.{rules}
-use Rattle.std.proofs.lemmas.Fn.{filter_same}
+use Rattle.kob_broker.proofs.Words.{filter_same, rules}
 use Rattle.kob_broker.proofs.on_groups.keep_described.Goals as goal
 
 pub returns : goal.returns

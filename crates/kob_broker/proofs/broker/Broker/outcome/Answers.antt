@@ -1,4 +1,4 @@
-use Rattle.kob_catalog.proofs.TopicReads.{written_is_read}
+use Rattle.kob_broker.proofs.Words.{written_is_read}
 use Rattle.kob_broker.proofs.BatchOutcomes.{outcome_makes, state_stays, written}
 use Rattle.kob_broker.proofs.broker.Broker.outcome.Goals as goal
 

@@ -1,8 +1,5 @@
-use Rattle.std.proofs.Common.{Some, ap, sym, ◌∙◌}
-use Rattle.std.specs.List.{flat_map}
+use Rattle.kob_broker.proofs.Words.{Some, ap, draft_reasons, first_reason, flat_map, sym, ◌∙◌}
 use Rattle.kob_rights.specs.declared.request.Request.TheVariants as requests
-use Rattle.kob_broker.specs.CreateAcls.{draft_reasons}
-use Rattle.kob_broker.specs.Reasons.{first_reason}
 use Rattle.kob_broker.proofs.Decisions.{refused_makes}
 use Rattle.kob_broker.proofs.FirstReasons.{first_some}
 use Rattle.kob_broker.proofs.broker.Broker.prepare_create_acls.Goals as goal

@@ -1,4 +1,4 @@
-use Rattle.std.specs.Prelude.{Ok}
+use Rattle.kob_broker.proofs.Words.{Ok}
 use Rattle.kob_broker.proofs.Decisions.{made_for_ok}
 use Rattle.kob_broker.proofs.broker.Broker.prepare_effect.Goals as goal
 

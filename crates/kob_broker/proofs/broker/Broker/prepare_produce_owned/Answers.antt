@@ -1,6 +1,5 @@
-use Rattle.std.proofs.Common.{subst, sym}
+use Rattle.kob_broker.proofs.Words.{MakesFor, subst, sym}
 use Rattle.kob_rights.specs.declared.request.Request.TheVariants as requests
-use Rattle.kob_broker.specs.Change.{MakesFor}
 use Rattle.kob_broker.proofs.broker.Broker.prepare_produce_owned.Goals as goal
 
 pub returns-in-Ok-clause-ok : goal.returns-in-Ok-clause-ok

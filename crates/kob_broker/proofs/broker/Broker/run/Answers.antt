@@ -1,6 +1,4 @@
-use Rattle.std.proofs.Common.{rules, ◌<◌, length}
-use Rattle.kob_partition.specs.Retained.{retained_meaning}
-use Rattle.kob_broker.specs.Change.{state_of}
+use Rattle.kob_broker.proofs.Words.{length, retained_meaning, rules, state_of, ◌<◌}
 use Rattle.kob_broker.proofs.Runs.{one_event_more}
 use Rattle.kob_broker.proofs.broker.Broker.run.Goals as goal
 

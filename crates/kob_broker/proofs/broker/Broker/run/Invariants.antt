@@ -1,7 +1,4 @@
-use Rattle.std.proofs.Common.{◌≡◌, length, take}
-use Rattle.kob_broker.specs.Change.{state_of}
-use Rattle.kob_partition.specs.Retained.{retained_meaning}
-use Rattle.kob_broker.specs.Step.{replies_of, state_after}
+use Rattle.kob_broker.proofs.Words.{length, replies_of, retained_meaning, state_after, state_of, take, ◌≡◌}
 use Rattle.kob_broker.proofs.broker.Broker.run.Given as goal
 
 -- the events so far give the replies so far and the state now
