@@ -1,5 +1,5 @@
 -- What the statement on the business rows does.
-use Rattle.kob_outbox.proofs.statements.Words.{[], ◌++◌, ◌∙◌, ◌∷◌, ◌≡◌, Abort, AreBusiness, AreConflicts, Business, Database, Enforced, Err, Error, ExecutesInside, Given, Has, Holds, InsertsOr, Int, IsChanging, IsJudged, IsUtf8, Judged, List, Meets, None, Null, Ok, OnOk, Option, Puts, Refusal, Result, Row, Some, State, States, Task, Text, Trees, Updates, Upserts, Values, Written, ap, arith, business_table, business_tree, contents_of, edit_of, edited, ids_of, insert, placed_row, pos, put_row, refl, rowid, service_schema, shown, subst, sym, true, with_state, without_rowid, ℕ}
+use Rattle.kob_outbox.proofs.statements.Words.{Abort, AreBusiness, AreConflicts, Business, Database, Enforced, Err, Error, ExecutesInside, Given, Has, Holds, InsertsOr, Int, IsChanging, IsJudged, IsUtf8, Judged, List, Meets, None, Null, Ok, OnOk, Option, Puts, Refusal, Result, Row, Some, State, States, Task, Text, Trees, Updates, Upserts, Values, Written, [], ap, arith, business_table, business_tree, contents_of, edit_of, edited, ids_of, insert, nat_tests, placed_row, pos, put_row, refl, rowid, service_schema, shown, subst, sym, true, with_state, without_rowid, ℕ, ◌++◌, ◌∙◌, ◌∷◌, ◌≡◌}
 use Rattle.kob_outbox.proofs.statements.Steps.{IsAlone, KeepOthers, uncounted, task_on, tried, put, updated, candidate, cast_int, cast_null}
 use Rattle.kob_outbox.proofs.statements.Values.{and_true}
 use Rattle.kob_outbox.proofs.statements.Numbered.{none_conflicts, one_conflicts}
@@ -44,13 +44,18 @@ module _ (limit : Option ℕ) (b : Business) (db : Trees) (states : States)
 
   puts_last : (one : Written) → NoneHas b has.placed → Puts task row db (Ok one) → Done one.trees
   puts_last one none h =
-      let done = put limit Enforced service_schema business_table params alone row db one h in
-      let news : (edit_of db (uncounted business_table) [] Given 0 (row ∷ [])).news ≡ row ∷ [] =
-      rw (cast_int (pos n)) in
-      let rows =
-      done.0.rows ∙ ap (λ news. edited db (record { table = uncounted business_table; gone = []; news = news })) news
-      ∙ ap (put_row row) has.rows_are ∙ put_new b n 1 has.placed has.rising (omega arith) none in
-      (business_upserted b n _ (one.trees business_tree) states has (omega arith) state rows, done.0.tables)
+      grind (
+        arith,
+        nat_tests,
+        put limit Enforced service_schema business_table params alone row db one h,
+        edit_of db (uncounted business_table) [] Given 0 (row ∷ []),
+        cast_int (pos n),
+        pos n,
+        edited db,
+        put_row row,
+        put_new b n 1 has.placed has.rising (omega arith) none,
+        business_upserted b n _ (one.trees business_tree) states has (omega arith) state,
+      )
 
   -- where the key is new, it makes no difference what OR would say
   inserts : (one : Written) → NoneHas b has.placed → Upserts task Abort row db [] (Ok one) → Done one.trees
@@ -122,17 +127,7 @@ replaces old new b (Ok count) state was limit h =
     let it =
     wrote replace_business (Text b.kind ∷ Text b.id ∷ Text b.state ∷ []) old new was.schema count h.0 in
     let done = written old.step_limit b old.now.trees c.business holds.business state it.written it.does in
-    let more : Holds (with_state c (key b) b.state) it.written.trees = record {
-      business = done.0;
-      events = done.1.1.1.1.0 (λ e. cc) ∙ holds.events;
-      spent = done.1.1.0 (λ e. cc) ∙ holds.spent;
-      mark = done.1.1.1.0 (λ e. cc) ∙ holds.mark;
-      room = holds.room;
-      numbered = holds.numbered;
-      rising = holds.rising;
-      sent = holds.sent;
-      readable = holds.readable;
-    } in
+    let more : Holds (with_state c (key b) b.state) it.written.trees = grind (arith, nat_tests) in
     changing_holds (with_state c (key b) b.state) old new limit was (ap (λ (d : Database). d.schema) it.now)
     (it.mode ∙ was.begun)
     (subst (λ (d : Database). Holds (with_state c (key b) b.state) d.trees) (sym it.now) more)

@@ -1,9 +1,9 @@
 -- What adding an id to those that are spent does.
-use Rattle.kob_outbox.proofs.statements.Words.{[], ◌<◌, ◌^◌, ◌∷◌, ◌≡◌, EndsScope, Enforced, Err, Error, Executes, Ignore, Int, IsChanging, List, None, Null, Ok, Option, Row, State, Text, Trees, Values, accepts_terms, arith, bytes_eq, cast_row, conflicts, contents_of, if◌then◌else◌, is_recorded, length, pos, refl, service_schema, spent_row, spent_rows, spent_table, spent_tree, suc, true, ℕ}
+use Rattle.kob_outbox.proofs.statements.Words.{EndsScope, Enforced, Err, Error, Executes, Ignore, Int, IsChanging, List, None, Null, Ok, Option, Row, State, Text, Trees, [], accepts_terms, arith, bytes_eq, cast_row, conflicts, contents_of, if◌then◌else◌, is_recorded, length, nat_tests, pos, refl, service_schema, spent_row, spent_rows, spent_table, spent_tree, suc, true, ℕ, ◌<◌, ◌^◌, ◌∷◌, ◌≡◌}
 use Rattle.sqlite.specs.Listing.{understood}
 use Rattle.sqlite_tied.specs.Compute.{everything}
 use Rattle.sqlite_value.specs.Keys.{first_key}
-use Rattle.kob_outbox.proofs.Texts.{insert_spent, new_spent, spend_text, spending}
+use Rattle.kob_outbox.proofs.Texts.{insert_spent, new_spent, spend_text}
 use Rattle.kob_outbox.proofs.statements.Failing.{IsMemory, IsWhole, NeverFails, stays_inside}
 use Rattle.kob_outbox.proofs.statements.Ignoring.{Ignored, ReferToNone, all_fine, ignores, not_escaping, stopped_by_memory, suits_by}
 use Rattle.kob_outbox.proofs.statements.Numbered.{next_number}
@@ -30,17 +30,14 @@ refer_to_none : ReferToNone service_schema
 refer_to_none among db = (all_fine _, (all_fine _, (all_fine _, (all_fine _, tt))))
 
 pub not_ending : (old : State) (params : Row) → old.now.schema ≡ service_schema → ¬ (EndsScope 0 spend_text params old)
-not_ending old params has =
-    stays_inside spend_text params old service_schema spending has insert_spent.is
-    (not_escaping 1 (Values new_spent 3) old)
+not_ending old params has = grind (arith, nat_tests, stays_inside, insert_spent, not_escaping)
 
 -- the row that is tried for an id
 tried_row : (limit : Option ℕ) (db : Trees) (ids : List (List ℕ)) (id : List ℕ) (seq : ℕ)
     → db spent_tree ≡ spent_rows ids → seq ≡ suc (length ids)
     → candidate limit Enforced service_schema spent_table (Text id ∷ Int (pos seq) ∷ []) alone Ignore db
     (Null ∷ Text id ∷ Int (pos seq) ∷ []) ≡ spent_row (seq, id)
-tried_row limit db ids id seq holds is =
-    rw (cast_null, cast_int (pos seq), holds, next_number spent_row (λ _. refl) ids, ← is)
+tried_row limit db ids id seq holds is = grind (arith, nat_tests, cast_null, cast_int, pos, next_number)
 
 module _ (old : State) (was : IsChanging old) (id : List ℕ) where
   abbrev ids : List (List ℕ)

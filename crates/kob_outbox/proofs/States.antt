@@ -1,7 +1,5 @@
 -- The map of the business rows' states.
-use Rattle.std.specs.Cmp.Lexicographic.{slice_cmp, on_texts}
-use Rattle.kob_outbox.specs.Contents.{Key}
-use Rattle.kob_outbox.proofs.statements.Words.{[], ◌&&◌, ◌∙◌, ◌∷◌, ◌≡◌, ◌≤◌, AllByRecursion, AreBusiness, Bool, Business, Equal, Greater, IsAntisymmetric, IsAscending, IsTotalOrder, IsUtf8, Less, List, Ordering, Row, Some, States, Text, all_weaker, and_parts, ap, arith, bytes_eq, bytes_eq-Decides, cases_Bool, cond, entry_of, eq_by_cmp, false, filter, filter_none, find, from_entries, get, get-from_entries, get-insert, has_key, if◌then◌else◌, inl, inr, insert, is_eq, is_eq-slice_cmp, key_cmp, length, map, nat_cmp, ordering_then, refl, same_map, shown_state, state_at, subst, sym, then_total, true, ℕ}
+use Rattle.kob_outbox.proofs.statements.Words.{AllByRecursion, AreBusiness, Bool, Business, IsAntisymmetric, IsAscending, IsTotalOrder, IsUtf8, Key, List, Row, Some, States, Text, [], all_weaker, and_parts, ap, arith, bytes_eq, bytes_eq-Decides, cases_Bool, cond, entry_of, eq_by_cmp, false, filter, filter_none, find, from_entries, get, get-from_entries, get-insert, has_key, if◌then◌else◌, insert, is_eq, is_eq-slice_cmp, key_cmp, length, map, nat_cmp, nat_tests, on_texts, refl, same_map, shown_state, state_at, sym, then_total, true, ℕ, ◌&&◌, ◌∙◌, ◌∷◌, ◌≡◌, ◌≤◌}
 use Rattle.kob_outbox.proofs.statements.Values.{both_ways, not_true}
 
 abbrev pub Placed : Type 0
@@ -11,30 +9,17 @@ abbrev pub AreApart : List Placed → Type 0
 AreApart = IsAscending (λ (a b : Placed). has_key b.1.kind b.1.id a.1 ≡ false)
 
 pub bytes_eq_sym : (s t : List ℕ) → bytes_eq s t ≡ bytes_eq t s
-bytes_eq_sym s t =
-    both_ways _ _ (λ e. (bytes_eq-Decides t s).1 (sym ((bytes_eq-Decides s t).0 e)))
-    (λ e. (bytes_eq-Decides s t).1 (sym ((bytes_eq-Decides t s).0 e)))
+bytes_eq_sym s t = grind (arith, nat_tests, both_ways, bytes_eq-Decides)
 
 pub key_total : IsTotalOrder key_cmp
 key_total = then_total (on_texts (λ k. k.0)) (on_texts (λ k. k.1))
 
-both_equal : (a b : Ordering) → is_eq (ordering_then a b) ≡ (is_eq a && is_eq b)
-both_equal Less b = refl
-both_equal Equal b = refl
-both_equal Greater b = refl
-
 -- keys tie where both texts are equal
 pub ties : (q k : Key) → eq_by_cmp key_cmp q k ≡ (bytes_eq q.0 k.0 && bytes_eq q.1 k.1)
-ties q k =
-    both_equal (slice_cmp nat_cmp q.0 k.0) (slice_cmp nat_cmp q.1 k.1)
-    ∙ rw (is_eq-slice_cmp q.0 k.0, is_eq-slice_cmp q.1 k.1) refl
+ties q k = grind (arith, nat_tests, nat_cmp, is_eq-slice_cmp)
 
 pub same_key : (q k : Key) → (bytes_eq q.0 k.0 && bytes_eq q.1 k.1) ≡ true → q ≡ k
-same_key q k h =
-    let p = and_parts _ _ h in
-    let kinds : q.0 ≡ k.0 = (bytes_eq-Decides q.0 k.0).0 p.0 in
-    let ids : q.1 ≡ k.1 = (bytes_eq-Decides q.1 k.1).0 p.1 in
-    λ i. (kinds i, ids i)
+same_key q k h = grind (arith, nat_tests, and_parts, bytes_eq-Decides)
 
 key_same : IsAntisymmetric key_cmp
 key_same x y e = same_key x y (sym (ties x y) ∙ ap is_eq e)
@@ -50,19 +35,18 @@ abbrev pub upserted : Business → ℕ → List Placed → List Placed
 upserted b n [] = (n, b) ∷ []
 upserted b n (p ∷ ps) = if has_key_of b p.1 then (p.0, b) ∷ ps else p ∷ upserted b n ps
 
-key_is : (b x : Business) → key x ≡ key b → has_key_of b x ≡ true
-key_is b x same = rw (
-  (bytes_eq-Decides x.kind b.kind).1 (ap (λ k. k.0) same),
-  (bytes_eq-Decides x.id b.id).1 (ap (λ k. k.1) same),
-) refl
-
 -- one key does not tie with two that differ
 tied_once : (b : Business) (q : Key) (x : Business) → has_key_of b x ≡ false → eq_by_cmp key_cmp q (key x) ≡ true
     → ¬ (eq_by_cmp key_cmp q (key b) ≡ true)
 tied_once b q x other here there =
-    let same : key x ≡ key b =
-    sym (same_key q (key x) (sym (ties q (key x)) ∙ here)) ∙ same_key q (key b) (sym (ties q (key b)) ∙ there) in
-    let no = sym (key_is b x same) ∙ other in cc
+    grind (
+      arith,
+      nat_tests,
+      same_key q (key x) (sym (ties q (key x)) ∙ here),
+      ties q (key x),
+      same_key q (key b) (sym (ties q (key b)) ∙ there),
+      ties q (key b),
+    )
 
 exchange : {X : Type 0} (s t : Bool) (x y z : X) → (s ≡ true → ¬ (t ≡ true))
     → cond s x (cond t y z) ≡ cond t y (cond s x z)
@@ -78,15 +62,22 @@ twice false x y z = refl
 found : (b : Business) (n : ℕ) (q : Key) (ps : List Placed) → find key_cmp q (map entry_of (upserted b n ps))
     ≡ cond (eq_by_cmp key_cmp q (key b)) (Some b.state) (find key_cmp q (map entry_of ps))
 found b n q [] = refl
-found b n q (p ∷ ps) = elim (cases_Bool (has_key_of b p.1)) [
-  | inl here ↦
-      rw (here, ap (eq_by_cmp key_cmp q) (same_key (key p.1) (key b) here))
-      (twice (eq_by_cmp key_cmp q (key b)) (Some b.state) (Some p.1.state) (find key_cmp q (map entry_of ps)))
-  | inr other ↦
-      rw other (ap (cond (eq_by_cmp key_cmp q (key p.1)) (Some p.1.state)) (found b n q ps)
-      ∙ exchange (eq_by_cmp key_cmp q (key p.1)) (eq_by_cmp key_cmp q (key b)) (Some p.1.state) (Some b.state)
-      (find key_cmp q (map entry_of ps)) (tied_once b q p.1 other))
-]
+found b n q (p ∷ ps) =
+    grind (
+      arith,
+      nat_tests,
+      cases_Bool (has_key_of b p.1),
+      eq_by_cmp key_cmp q,
+      same_key (key p.1) (key b),
+      twice (eq_by_cmp key_cmp q (key b)) (Some b.state) (Some p.1.state) (find key_cmp q (map entry_of ps)),
+      eq_by_cmp key_cmp q (key b),
+      find key_cmp q (map entry_of ps),
+      eq_by_cmp,
+      found b n q ps,
+      exchange,
+      find,
+      tied_once,
+    )
 
 pub states_upserted : (b : Business) (n : ℕ) (ps : List Placed)
     → from_entries {R = key_cmp} (map entry_of (upserted b n ps))
@@ -101,19 +92,12 @@ no_more : (kind id : List ℕ) (p : Placed) (ps : List Placed) → has_key kind 
     → AllByRecursion (λ (x : Placed). has_key x.1.kind x.1.id p.1 ≡ false) ps
     → filter (λ (x : Placed). has_key kind id x.1) ps ≡ []
 no_more kind id p ps is apart =
-    filter_none (λ (x : Placed). has_key kind id x.1) ps (all_weaker
-    (λ (x : Placed). has_key x.1.kind x.1.id p.1 ≡ false) (λ (x : Placed). has_key kind id x.1 ≡ false) (λ x other.
-    not_true _ (λ too.
-    let same : key p.1 ≡ key x.1 = same_key (key p.1) (kind, id) is ∙ sym (same_key (key x.1) (kind, id) too) in
-    let no = sym (key_is x.1 p.1 same) ∙ other in cc)) ps apart)
+    grind (arith, nat_tests, filter_none, all_weaker, not_true, same_key, bytes_eq-Decides)
 
 pub one_has_key : (kind id : List ℕ) (ps : List Placed) → AreApart ps
     → length (filter (λ (p : Placed). has_key kind id p.1) ps) ≤ 1
 one_has_key kind id [] apart = omega arith
-one_has_key kind id (p ∷ ps) apart = elim (cases_Bool (has_key kind id p.1)) [
-  | inl is ↦ rw (is, no_more kind id p ps is apart.0) (omega arith)
-  | inr other ↦ rw other (one_has_key kind id ps apart.1)
-]
+one_has_key kind id (p ∷ ps) apart = grind (arith, nat_tests, cases_Bool, no_more, one_has_key kind id ps apart.1)
 
 tied_as : (kind id : List ℕ) (x : Business) → eq_by_cmp key_cmp (kind, id) (key x) ≡ has_key kind id x
 tied_as kind id x = ties (kind, id) (key x) ∙ rw (bytes_eq_sym kind x.kind, bytes_eq_sym id x.id) refl
@@ -123,29 +107,19 @@ shown_in : (kind id : List ℕ) (ps : List Placed) → AreApart ps
     → map (λ (p : Placed). Text p.1.state ∷ []) (filter (λ (p : Placed). has_key kind id p.1) ps)
     ≡ shown_state (find key_cmp (kind, id) (map entry_of ps))
 shown_in kind id [] apart = refl
-shown_in kind id (p ∷ ps) apart = elim (cases_Bool (has_key kind id p.1)) [
-  | inl is ↦ rw (tied_as kind id p.1, is, no_more kind id p ps is apart.0) refl
-  | inr other ↦ rw (tied_as kind id p.1, other) (shown_in kind id ps apart.1)
-]
+shown_in kind id (p ∷ ps) apart = grind (arith, nat_tests, cases_Bool, tied_as, no_more, shown_in kind id ps apart.1)
 
 pub shown_at : (kind id : List ℕ) (ps : List Placed) → AreApart ps
     → map (λ (p : Placed). Text p.1.state ∷ []) (filter (λ (p : Placed). has_key kind id p.1) ps)
     ≡ shown_state (get (from_entries {R = key_cmp} (map entry_of ps)) (kind, id))
-shown_at kind id ps apart =
-    shown_in kind id ps apart ∙ ap shown_state (sym (get-from_entries key_total (map entry_of ps) (kind, id)))
+shown_at kind id ps apart = grind (arith, nat_tests, shown_in, get-from_entries, key_total)
 
 -- each state in the map is text
 text_in_rows : (q : Key) (ps : List Placed) (s : List ℕ) → AllByRecursion (λ (p : Placed). IsUtf8 p.1.state) ps
     → find key_cmp q (map entry_of ps) ≡ Some s → IsUtf8 s
 text_in_rows q [] s all is = absurd cc
-text_in_rows q (p ∷ ps) s all is = elim (cases_Bool (eq_by_cmp key_cmp q (key p.1))) [
-  | inl here ↦ let same : p.1.state ≡ s = let e = rw here at is in cc in subst IsUtf8 same all.0
-  | inr other ↦ text_in_rows q ps s all.1 (rw other at is)
-]
+text_in_rows q (p ∷ ps) s all is = grind (arith, nat_tests, cases_Bool, eq_by_cmp, text_in_rows q ps s all.1)
 
 pub text_at : (kind id : List ℕ) (rows : List Row) (states : States) (s : List ℕ) → AreBusiness rows states
     → state_at kind id states ≡ Some s → IsUtf8 s
-text_at kind id rows states s are is =
-    text_in_rows (kind, id) are.placed s are.readable
-    (sym (get-from_entries key_total (map entry_of are.placed) (kind, id))
-    ∙ ap (λ m. get m (kind, id)) are.states_are ∙ is)
+text_at kind id rows states s are is = grind (arith, nat_tests, text_in_rows, get-from_entries, key_total, get)

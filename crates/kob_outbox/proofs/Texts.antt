@@ -1,5 +1,5 @@
 -- What the fixed texts mean.
-use Rattle.kob_outbox.proofs.statements.Words.{[], ◌∷◌, Abort, Binary, Command, Compare, Delete, Eq, Gt, Ignore, Insert, InsertOr, Int, Le, List, Null, Some, Term, Text, Update, Upsert, Values, arith, business, business_table, codes, col, lit, mark, mark_table, no_schema, one_table, op2, outbox, outbox_table, pos, refl, service_schema, spent, spent_table, three_tables, two_tables, ℕ}
+use Rattle.kob_outbox.proofs.statements.Words.{Abort, Binary, Command, Compare, Delete, Eq, Gt, Ignore, Insert, InsertOr, Int, Le, List, Null, Some, Term, Text, Update, Upsert, Values, [], arith, business, business_table, codes, col, lit, mark, mark_table, nat_tests, no_schema, one_table, op2, outbox, outbox_table, pos, refl, service_schema, spent, spent_table, three_tables, two_tables, ℕ, ◌∷◌}
 use Rattle.sqlite_tied.specs.Compute.{everything}
 use Rattle.sqlite.specs.Listing.{understood}
 use Rattle.kob_outbox.proofs.statements.Creating.{IsCreation}
@@ -41,8 +41,7 @@ first_mark_text = codes "INSERT INTO mark (one, upto) VALUES (1, 0)"
 pub insert_mark : IsWriting service_schema first_mark_text
     (Insert 2 (Values first_mark 3)) 2 mark_table
 unfolding understood everything
-insert_mark =
-    record { is = refl; plain = (refl, refl); found = refl; on = λ l m p d t r it. it; runs = λ o n t p c it. it }
+insert_mark = grind (arith, nat_tests)
 
 abbrev pub moved_marks : Scan
 moved_marks = over 4 [] (col 1 0 ∷ col 1 0 ∷ lit Null ∷ col 0 0 ∷ []) [] no_limit
@@ -53,8 +52,7 @@ move_mark_text = codes "UPDATE mark SET upto = ?1"
 pub update_mark : IsWriting service_schema move_mark_text
     (Update 2 (program_of moved_marks)) 2 mark_table
 unfolding understood everything
-update_mark =
-    record { is = refl; plain = (refl, refl); found = refl; on = λ l m p d t r it. it; runs = λ o n t p c it. it }
+update_mark = grind (arith, nat_tests)
 
 -- ---- the ids that were recorded
 
@@ -69,8 +67,7 @@ spending = InsertOr 1 Ignore (Values new_spent 3) []
 
 pub insert_spent : IsWriting service_schema spend_text spending 1 spent_table
 unfolding understood everything
-insert_spent =
-    record { is = refl; plain = (refl, refl); found = refl; on = λ l m p d t r it. it; runs = λ o n t p c it. it }
+insert_spent = grind (arith, nat_tests)
 
 -- ---- the business rows
 
@@ -122,8 +119,7 @@ new_event = col 0 0 ∷ lit Null ∷ col 0 1 ∷ col 0 2 ∷ col 0 3 ∷ col 0 4
 
 pub insert_event : IsWriting service_schema put_event_text (Insert 3 (Values new_event 7)) 3 outbox_table
 unfolding understood everything
-insert_event =
-    record { is = refl; plain = (refl, refl); found = refl; on = λ l m p d t r it. it; runs = λ o n t p c it. it }
+insert_event = grind (arith, nat_tests)
 
 abbrev pub events_after : Scan
 events_after =
@@ -153,5 +149,4 @@ sweep_text = codes "DELETE FROM outbox WHERE seq <= ?1"
 pub delete_sent : IsWriting service_schema sweep_text
     (Delete 3 (program_of events_upto)) 3 outbox_table
 unfolding understood everything
-delete_sent =
-    record { is = refl; plain = (refl, refl); found = refl; on = λ l m p d t r it. it; runs = λ o n t p c it. it }
+delete_sent = grind (arith, nat_tests)

@@ -1,7 +1,6 @@
 -- The business rows where one is written over or put last.
-use Rattle.kob_outbox.proofs.statements.Words.{[], ◌&&◌, ◌+ℤ◌, ◌<◌, ◌||◌, ◌∙◌, ◌∷◌, ◌≡◌, ◌≤◌, AllByRecursion, AreBusiness, Binary, Bool, Business, Has, Int, IsRisingFrom, IsUtf8, List, Row, Some, States, add-one, all_has, ap, arith, business_table, bytes_eq, cases_Bool, conflicts, equal, false, filter, fold, has_key, id_in, inl, inr, insert, map, placed_row, pos, put_row, refl, rowid, service_schema, subst, suc, sym, true, without_rowid, ℕ}
+use Rattle.kob_outbox.proofs.statements.Words.{AllByRecursion, AreBusiness, Binary, Bool, Business, Has, Int, IsRisingFrom, IsUtf8, Key, List, Row, Some, States, [], add-one, all_has, ap, arith, business_table, bytes_eq, cases_Bool, conflicts, equal, false, filter, fold, has_key, id_in, inl, inr, insert, map, nat_tests, placed_row, pos, put_row, refl, rowid, service_schema, subst, suc, sym, true, without_rowid, ℕ, ◌&&◌, ◌+ℤ◌, ◌<◌, ◌||◌, ◌∙◌, ◌∷◌, ◌≡◌, ◌≤◌}
 use Rattle.sqlite_value.specs.Keys.{first_key}
-use Rattle.kob_outbox.specs.Contents.{Key}
 use Rattle.kob_outbox.proofs.States.{AreApart, Placed, has_key_of, key, same_key, states_upserted, upserted}
 use Rattle.kob_outbox.proofs.statements.Values.{equal_itself, equal_texts, number_above, number_below, number_same, unequal_above, unequal_numbers}
 
@@ -14,9 +13,7 @@ next_after low (p ∷ ps) = next_after (suc p.0) ps
 pub next_placed : (low : ℕ) (ps : List Placed)
     → fold (λ _ r. id_in (rowid r) +ℤ pos 1) (pos low) (map placed_row ps) ≡ pos (next_after low ps)
 next_placed low [] = refl
-next_placed low (p ∷ ps) =
-    ap (λ n. fold (λ _ r. id_in (rowid r) +ℤ pos 1) (pos n) (map placed_row ps)) (add-one p.0)
-    ∙ next_placed (suc p.0) ps
+next_placed low (p ∷ ps) = grind (arith, nat_tests, fold, rowid, pos, add-one, next_placed (suc p.0) ps)
 
 after_low : (low : ℕ) (ps : List Placed) → IsRisingFrom low ps → low ≤ next_after low ps
 after_low low [] h = omega arith
@@ -38,9 +35,7 @@ pub conflict_is : (old new : Placed)
     → conflicts (Some (1 ∷ 2 ∷ [])) service_schema.indexes business_table (placed_row new) (placed_row old)
     ≡ has_key_of new.1 old.1
 unfolding first_key
-conflict_is old new =
-    rw (equal_texts old.1.kind new.1.kind, equal_texts old.1.id new.1.id)
-    (settled (bytes_eq old.1.kind new.1.kind) (bytes_eq old.1.id new.1.id))
+conflict_is old new = grind (arith, nat_tests, equal_texts, bytes_eq)
 
 -- no row has the key
 abbrev pub NoneHas : Business → List Placed → Type 0
@@ -52,10 +47,7 @@ module _ (b : Business) where
   all_upserted : (Q : Business → Type 0) (n : ℕ) (ps : List Placed) → Q b → AllByRecursion (λ (p : Placed). Q p.1) ps
       → AllByRecursion (λ (p : Placed). Q p.1) (upserted b n ps)
   all_upserted Q n [] one all = (one, tt)
-  all_upserted Q n (p ∷ ps) one all = elim (cases_Bool (has_key_of b p.1)) [
-    | inl here ↦ rw here (one, all.1)
-    | inr other ↦ rw other (all.0, all_upserted Q n ps one all.1)
-  ]
+  all_upserted Q n (p ∷ ps) one all = grind (arith, nat_tests, cases_Bool, all_upserted Q n ps one all.1)
 
   apart_upserted : (n : ℕ) (ps : List Placed) → AreApart ps → AreApart (upserted b n ps)
   apart_upserted n [] apart = (tt, tt)
@@ -73,10 +65,8 @@ module _ (b : Business) where
   rising_upserted : (n low : ℕ) (ps : List Placed) → IsRisingFrom low ps → next_after low ps ≤ n
       → IsRisingFrom low (upserted b n ps)
   rising_upserted n low [] rising up = (up, tt)
-  rising_upserted n low (p ∷ ps) rising up = elim (cases_Bool (has_key_of b p.1)) [
-    | inl here ↦ rw here rising
-    | inr other ↦ rw other (rising.0, rising_upserted n (suc p.0) ps rising.1 up)
-  ]
+  rising_upserted n low (p ∷ ps) rising up =
+      grind (arith, nat_tests, cases_Bool, rising_upserted n (suc p.0) ps rising.1 up)
 
   pub business_upserted : (n : ℕ) (rows after : List Row) (states : States) (has : AreBusiness rows states)
       → next_after 1 has.placed ≤ n → IsUtf8 b.state → after ≡ map placed_row (upserted b n has.placed)
@@ -96,9 +86,7 @@ module _ (b : Business) where
       → put_row (placed_row (n, b)) (map placed_row ps) ≡ map placed_row (upserted b n ps)
   put_new n low [] rising up none = refl
   put_new n low (p ∷ ps) rising up none =
-      let below : p.0 < n = omega (arith, up, after_low (suc p.0) ps rising.1) in
-      rw (number_below p.0 n below, none.0)
-      (ap (λ more. placed_row p ∷ more) (put_new n (suc p.0) ps rising.1 up none.1))
+      grind (arith, nat_tests, after_low, number_below, put_new n (suc p.0) ps rising.1 up none.1)
 
   -- ---- a row whose key is there is written over
 
@@ -111,13 +99,7 @@ module _ (b : Business) where
         → (filter is_it ps ≡ []) × (without_rowid (pos t.0) (map placed_row ps) ≡ map placed_row ps)
         × (put_row (placed_row (t.0, b)) (map placed_row ps) ≡ placed_row (t.0, b) ∷ map placed_row ps)
     past low [] up rising = (refl, refl, refl)
-    past low (p ∷ ps) up rising =
-        let above : t.0 < p.0 = omega (arith, up, rising.0) in
-        let more = past (suc p.0) ps (omega (arith, above)) rising.1 in (
-          rw (unequal_above p.0 t.0 above) more.0,
-          rw (number_above p.0 t.0 above) (ap (λ rows. placed_row p ∷ rows) more.1),
-          rw (number_above p.0 t.0 above) refl,
-        )
+    past low (p ∷ ps) up rising = grind (arith, nat_tests, past (suc p.0) ps, unequal_above, number_above)
 
     -- it is the only one with its number, and the new row comes in its place
     abbrev Over : ℕ → List Placed → Type 0
@@ -130,16 +112,11 @@ module _ (b : Business) where
     put_over n low [] rising apart h = elim h [ ]
     put_over n low (p ∷ ps) rising apart (inl e) =
         let up : t.0 < suc p.0 = subst (λ (x : Placed). x.0 < suc p.0) (sym e) (omega arith) in
-        let more = past (suc p.0) ps up rising.1 in
-        subst (λ (x : Placed). Over n (x ∷ ps)) e
-        (rw (equal_itself t.0, more.0) refl, rw (number_same t.0, here, more.1) more.2)
+        let more = past (suc p.0) ps up rising.1 in grind (arith, nat_tests, equal_itself, number_same)
     put_over n low (p ∷ ps) rising apart (inr h) =
         let below : p.0 < t.0 = omega (arith, at_least (suc p.0) ps t rising.1 h) in
         let other : has_key_of b p.1 ≡ false =
         ap (λ k. has_key k.0 k.1 p.1) (sym (same_key (key t.1) (key b) here))
         ∙ all_has (λ (x : Placed). has_key x.1.kind x.1.id p.1 ≡ false) ps t apart.0 h in
-        let more = put_over n (suc p.0) ps rising.1 apart.1 h in (
-          rw (unequal_numbers p.0 t.0 below) more.0,
-          rw (number_below p.0 t.0 below, other)
-              (rw (number_below p.0 t.0 below) (ap (λ rows. placed_row p ∷ rows) more.1)),
-        )
+        let more = put_over n (suc p.0) ps rising.1 apart.1 h in
+        grind (arith, nat_tests, unequal_numbers, number_below)

@@ -1,8 +1,6 @@
 -- A search for a zero byte says whether a text has one.
-use Rattle.kob_outbox.proofs.statements.Words.{[], ◌==◌, ◌∷◌, ◌≡◌, Bool, List, None, Option, Some, ap, arith, false, is_none, length, list_any, not, or_from, refl, suc, sym, ℕ}
-use Rattle.std.proofs.lemmas.List.Folds.{list_any_at}
+use Rattle.kob_outbox.proofs.statements.Words.{Bool, IsFirstByte, List, None, Nowhere, Option, Passes, Some, [], ap, arith, false, is_byte, is_none, length, list_any, list_any_at, not, or_from, refl, suc, sym, ℕ, ◌==◌, ◌∷◌, ◌≡◌}
 use Rattle.kob_outbox.proofs.statements.Values.{not_true}
-use Rattle.memchr.specs.Find.{is_byte, IsFirstByte, Nowhere, Passes}
 
 abbrev is_zero : ℕ → Bool
 is_zero byte = byte == 0

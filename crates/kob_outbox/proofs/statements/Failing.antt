@@ -1,5 +1,5 @@
 -- Over memory a query fails for want of memory alone.
-use Rattle.kob_outbox.proofs.statements.Words.{[], ◌&&◌, ◌||◌, ◌∙◌, ◌≡◌, ◌≢◌, ◌≤◌, ◌⊎◌, Bool, Broken, Command, CompileError, Compiled, Corrupt, Does, Err, Error, Escapes, Executes, Fails, Full, Io, IsMisplaced, IsNoStatement, IsPlain, IsReadError, IsSourceOf, List, None, Ok, Option, ProgramOverflows, Query, RefusesToRead, Result, Row, Schema, Select, Some, SqliteFailure, State, Trees, Unstorable, Value, accepts_program, ap, append-nil, arith, command_of, end, false, inl, inner, inr, is_pragma, is_query, length, mode_of, reads_listing, shows_rows, subst, subst₂, sym, text_of, timed, true, understood, ℕ}
+use Rattle.kob_outbox.proofs.statements.Words.{Bool, Broken, Command, CompileError, Compiled, Corrupt, Does, Err, Error, Escapes, Executes, Fails, Full, Io, IsMisplaced, IsNoStatement, IsPlain, IsReadError, List, None, Ok, Option, ProgramOverflows, Query, Result, Row, Schema, Select, Some, SqliteFailure, State, Trees, Unstorable, Value, [], accepts_program, ap, append-nil, arith, command_of, end, false, inl, inner, inr, is_pragma, is_query, length, mode_of, nat_tests, reads_listing, shows_rows, subst, sym, text_of, true, understood, ℕ, ◌&&◌, ◌||◌, ◌∙◌, ◌≡◌, ◌≢◌, ◌≤◌, ◌⊎◌}
 use Rattle.sqlite_trees.specs.declared.error.StoreError.TheVariants.{OutOfMemory}
 use Rattle.sqlite.specs.declared.error.ErrorCode.TheVariants as code
 use Rattle.sqlite.specs.State.{EndsScope, IsNotRun, FailsToQuery, ExecutesIn}
@@ -29,8 +29,7 @@ pub stays_inside : (sql : List ℕ) (params : Row) (old : State) (schema : Schem
     → ¬ (EndsScope 0 sql params old)
 unfolding EndsScope
 stays_inside sql params old schema command has is not_out (c, it, out) =
-    let same : c.command ≡ command = ap command_of (sym it.is ∙ ap (λ s. understood s sql) has) ∙ is in
-    not_out (subst (Escapes 0 old) same out)
+    grind (arith, nat_tests, command_of, understood)
 
 module _ (old new : State) (never : NeverFails old new) where
   fails_or : (TooBig : Type 0) (e : Error) → Fails old new TooBig e → IsMemory e ⊎ TooBig
@@ -48,39 +47,20 @@ module _ (old new : State) (never : NeverFails old new) where
       (plain : IsPlain (understood schema sql)) (whole : IsWhole (length params) sql (understood schema sql)) where
     is_statement : (e : Error) → ¬ (IsNoStatement old sql params e)
     is_statement e (inl h) = subst IsPlain (sym (ap (λ s. understood s sql) has) ∙ h.1) plain
-    is_statement e (inr h) =
-        let known = sym (ap (λ s. understood s sql) has) ∙ h.1 in
-        let all = subst (IsWhole (length params) sql) known whole in
-        elim h.2 [
-          | inl short ↦ short.0 all.0
-          | inr (inl given) ↦ given.0 (sym all.1)
-          | inr (inr timed) ↦ timed.0 (subst IsPlain known plain).1
-        ]
+    is_statement e (inr h) = grind (arith, nat_tests, understood)
 
     module _ (q : Query) (names : List (List ℕ))
         (is : command_of (understood schema sql) ≡ Select (record { lets = []; body = q }) names)
         (unlisted : reads_listing schema sql ≡ false)
         (accepted : accepts_program schema [] q params ≡ true)
         (sure : (db : Trees) → ¬ (ProgramOverflows db params [] [] q)) where
-      refused_so : (e : Error) → ¬ (RefusesToRead old.step_limit
-          (Select (record { lets = []; body = q }) names) old.now params e)
-      refused_so e (inl h) = let no = sym (ap (λ s. accepts_program s [] q params) has ∙ accepted) ∙ h.1 in cc
-      refused_so e (inr (inl h)) = sure old.now.trees h.1
-      refused_so e (inr (inr h)) = let some = rw never.unlimited at h.1 in cc
-
       -- a query fails for want of memory alone
       pub for_memory : (e : Error) → FailsToQuery sql params old new e → IsMemory e
       unfolding FailsToQuery IsNotRun
       for_memory e (inl (inl h)) = absurd (is_statement e h.0)
       for_memory e (inl (inr h)) = fails_so e h
       for_memory e (inr h) =
-          let known = sym h.1.is ∙ ap (λ s. understood s sql) has in
-          let bare = subst IsPlain (sym known) plain in
-          let it = rw (bare.0, bare.1, append-nil params) at h.2 in
-          let db : it.0 ≡ old.now =
-          subst (λ b. IsSourceOf b old.now it.0) (ap (λ s. reads_listing s sql) has ∙ unlisted) it.1 in
-          absurd (refused_so e (subst₂ (λ k d. RefusesToRead old.step_limit k d params e)
-          (ap command_of known ∙ is) db it.2))
+          grind (arith, nat_tests, understood, append-nil, reads_listing, command_of, accepts_program)
 
     -- what a command that writes rows makes of the database, or why it stops
     abbrev Writing : Command → Type 0
@@ -107,10 +87,7 @@ module _ (old new : State) (never : NeverFails old new) where
               | inl misplaced ↦ absurd (placed e misplaced)
               | inr stopped ↦ inr (text_of sql h.0, Some e, stopped.1)
             ]
-            | inr failed ↦ elim (fails_or _ e failed) [
-              | inl memory ↦ inl memory
-              | inr big ↦ inr (text_of sql h.0, None, big)
-            ]
+            | inr failed ↦ grind (arith, nat_tests, fails_or)
           ]
 
 -- such a query over one table, with no group, has no SUM
@@ -125,10 +102,7 @@ no_sum q t over params db (inr h) = let it = rw over.1 at h in it.4
 pub readable_fails : (at : ℕ) (v : Value) (e : Error) (Readable : Type 0) → IsReadError at v e
     → (e ≢ SqliteFailure code.OutOfMemory → ¬ Readable) → Readable → e ≡ SqliteFailure code.OutOfMemory
 readable_fails at v e Readable (inl is) none readable = absurd (none (λ other. let no = sym is ∙ other in cc) readable)
-readable_fails at v e Readable (inr (inl is)) none readable =
-    absurd (none (λ other. let no = sym is ∙ other in cc) readable)
-readable_fails at v e Readable (inr (inr (inl is))) none readable =
-    absurd (none (λ other. let no = sym is ∙ other in cc) readable)
-readable_fails at v e Readable (inr (inr (inr (inl is)))) none readable =
-    absurd (none (λ other. let no = sym is ∙ other in cc) readable)
+readable_fails at v e Readable (inr (inl is)) none readable = grind (arith, nat_tests)
+readable_fails at v e Readable (inr (inr (inl is))) none readable = grind (arith, nat_tests)
+readable_fails at v e Readable (inr (inr (inr (inl is)))) none readable = grind (arith, nat_tests)
 readable_fails at v e Readable (inr (inr (inr (inr is)))) none readable = is

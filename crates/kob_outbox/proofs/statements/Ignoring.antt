@@ -1,5 +1,5 @@
 -- INSERT OR IGNORE of one row.
-use Rattle.kob_outbox.proofs.statements.Words.{[], ◌++◌, ◌/◌, ◌<◌, ◌^◌, ◌∙◌, ◌∷◌, ◌≡◌, AllByRecursion, Among, AreConflicts, AtPlace, BadReference, Bool, Check, Clears, Command, Concludes, Database, Datatype, Enforced, Err, Error, Escapes, Executes, ForeignKey, Given, Has, Ignore, InsertOr, InsertsOr, Int, IsJudged, IsMisplaced, Judged, Keys, List, Mismatch, Mode, NoRowid, None, NotNull, Ok, OnRows, OnTable, Option, Outcome, PrimaryKey, Refers, Refusal, Row, Schema, Some, Source, Sourced, State, Table, Task, Term, TooDeep, Trees, Tries, TriesEach, Unique, Values, Violates, Written, accepts_terms, all_has, any_from_none, ap, arith, cast_row, conflicts, count_of, edit_of, edited, enumerate_from, false, fits_i64, id_in, if◌then◌else◌, inl, inr, length, list_any, map, mode_of, nothing, pos, put_row, refl, rowid, some_from, subst, subst₂, suc, sym, true, understood, value_rows, ℕ, ℤ}
+use Rattle.kob_outbox.proofs.statements.Words.{AllByRecursion, Among, AreConflicts, AtPlace, BadReference, Bool, Check, Clears, Command, Concludes, Database, Datatype, Enforced, Err, Error, Escapes, Executes, ForeignKey, Given, Has, Ignore, InsertOr, Int, IsJudged, IsMisplaced, Judged, Keys, List, Mismatch, Mode, NoRowid, None, NotNull, Ok, OnRows, OnTable, Option, Outcome, PrimaryKey, Refers, Refusal, Row, Schema, Some, Source, State, Table, Task, Term, TooDeep, Trees, Unique, Values, Violates, Written, [], accepts_terms, all_has, any_from_none, ap, arith, cast_row, conflicts, count_of, edit_of, edited, enumerate_from, false, fits_i64, id_in, if◌then◌else◌, inl, inr, length, list_any, map, mode_of, nat_tests, nothing, pos, put_row, refl, rowid, some_from, subst, suc, sym, true, understood, value_rows, ℕ, ◌++◌, ◌/◌, ◌<◌, ◌^◌, ◌∙◌, ◌∷◌, ◌≡◌}
 use Rattle.kob_outbox.proofs.statements.Failing.{IsMemory, IsWhole, NeverFails, for_memory_or}
 use Rattle.kob_outbox.proofs.statements.Numbered.{all_below, any_numbered, none_conflicts, one_conflicts, put_last}
 use Rattle.kob_outbox.proofs.statements.Plain.{same_value}
@@ -79,40 +79,8 @@ module _ (limit : Option ℕ) (keys : Keys) (schema : Schema) (table : Table) (p
       → (stop : Option Error) → ¬ (OnRows Here mode None (InsertOr at Ignore (Values terms width) []) db (Err stop))
   never_stops free alone at terms width source new db mode is unlimited accepted row fits suits conflicting stop
       (inr (w, did, h)) = never_concludes free mode w stop h
-  never_stops free alone at terms width source new db mode is unlimited accepted row fits suits conflicting stop
-      (inl (why, did, same)) = inserts why did
-    where
-      unsourced : (why : Option Error) → ¬
-          (Sourced limit (record { schema = schema; trees = db }) (params ++ []) (Values terms width) (Err why))
-      unsourced None h = h
-      unsourced (Some e) (inl h) = let no = sym accepted ∙ h.1 in cc
-      unsourced (Some e) (inr h) = let no = rw unlimited at h.1 in cc
-
-      clears : (found : List Row) (why : Option Error)
-          → AreConflicts None schema.indexes (uncounted table) (db table.tree) new found
-          → ¬ (Clears Here Ignore new db found (Err why))
-      clears [] why conflicts h = conflicting conflicts
-      clears (x ∷ more) why conflicts h = let e : Err why ≡ Ok _ = h in cc
-
-      tries : (why : Option Error) → ¬ (Tries Here Ignore [] new db (Err why))
-      tries why (inl h) = let no = sym fits ∙ h.0 in cc
-      tries why (inr (verdict, judged, h)) =
-          let it = judged_clears new suits db (Err why) verdict judged h in clears it.0 why it.1 it.2
-
-      each : (top : ℤ) (why : Option Error) → ¬ (TriesEach Here Ignore [] (source ∷ []) top (nothing db) (Err why))
-      each top why (inl (stop, h, e)) = tries stop (subst (λ r. Tries Here Ignore [] r db (Err stop)) row h)
-      each top why (inr (one, h, e)) = let no : Err why ≡ Ok _ = e in cc
-
-      inserts : (why : Option Error) → ¬ (InsertsOr Here Ignore [] (Values terms width) db (Err why))
-      inserts why (inl (stop, h, e)) = unsourced stop h
-      inserts why (inr (rows, sourced, inl (stop, h, e))) = let no : Err stop ≡ Ok _ = h in cc
-      inserts why (inr (rows, sourced, inr (counter, counted, inl (stop, h, e)))) =
-          each (count_of counter) stop (subst
-          (λ rs. TriesEach Here Ignore [] rs (count_of counter) (nothing db) (Err stop)) (sourced.1 ∙ is) h)
-      inserts why (inr (rows, sourced, inr (counter, counted, inr (done, tried, inl (stop, h, e))))) =
-          let no : Err stop ≡ Ok _ = h in cc
-      inserts why (inr (rows, sourced, inr (counter, counted, inr (done, tried, inr (next, h, e))))) =
-          let no : Err why ≡ Ok _ = e in cc
+  never_stops free alone at terms width source new db mode is unlimited accepted row fits suits conflicting stop (inl (why, did, same)) =
+      grind (arith, nat_tests, conflicts, judged_clears, count_of, tried)
 
 -- What such a statement does to a table that is numbered from 1 on: what is there already stays alone, and what is new
 -- goes last.
@@ -124,8 +92,7 @@ pub record Ignored {X : Type 0} (schema : Schema) (table : Table) (row : ℕ × 
 
 all_same : (tree : ℕ) (db next : Trees) (tables : List Table) → next ≡ db → KeepOthers tree db next tables
 all_same tree db next [] same = tt
-all_same tree db next (t ∷ tables) same =
-    (λ _. ap (λ (trees : Trees). trees t.tree) same, all_same tree db next tables same)
+all_same tree db next (t ∷ tables) same = grind (arith, nat_tests, all_same tree db next tables same)
 
 module _ {schema : Schema} {text : List ℕ} {terms : List Term} {width at : ℕ} {table : Table}
     (write : IsWriting schema text (InsertOr at Ignore (Values terms width) []) at table)
@@ -159,13 +126,10 @@ module _ {schema : Schema} {text : List ℕ} {terms : List Term} {width at : ℕ
 
   conflict_at : (p : ℕ × X) → Has placed p
       → conflicts None schema.indexes (uncounted table) (row (n, x)) (row p) ≡ same_at p
-  conflict_at p has =
-      conflict p (n, x) (all_has (λ (q : ℕ × X). q.0 < n) placed p (all_below 1 n xs (omega (arith, next))) has)
+  conflict_at p has = grind (arith, nat_tests, all_has, all_below)
 
   none_found : Found [] → there ≡ false
-  none_found h =
-      sym (any_numbered (λ y. same y x) 1 xs) ∙ any_from_none same_at placed
-      (none_conflicts row placed (db table.tree) holds None schema (uncounted table) (row (n, x)) same_at conflict_at h)
+  none_found h = grind (arith, nat_tests, any_numbered, any_from_none, none_conflicts, conflict_at)
 
   some_found : (f : Row) (more : List Row) → Found (f ∷ more) → there ≡ true
   some_found f more h =
@@ -178,24 +142,17 @@ module _ {schema : Schema} {text : List ℕ} {terms : List Term} {width at : ℕ
   cleared : (one : Written) (found : List Row) → Found found → Clears task Ignore (row (n, x)) db found (Ok one)
       → Left one.trees (length one.rows)
   cleared one [] conf h =
-      let done = put old.step_limit Enforced schema table params alone (row (n, x)) db one h in
-      let news : (edit_of db (uncounted table) [] Given 0 (row (n, x) ∷ [])).news ≡ row (n, x) ∷ [] =
-      ap (λ r. r ∷ []) cast in
-      let rows =
-      done.0.rows ∙ ap (λ news. edited db (record { table = uncounted table; gone = []; news = news })) news
-      ∙ ap (put_row (row (n, x))) holds ∙ put_last row numbered n xs x next in
-      record {
-        fresh = λ _. (ap length (done.1 ∙ news), rows);
-        again = λ found. absurd (let no = sym (none_found conf) ∙ found in cc);
-        tables = done.0.tables;
-      }
-  cleared one (f ∷ more) conf h =
-      let is : one ≡ nothing db = same_value h in
-      record {
-        fresh = λ absent. absurd (let no = sym absent ∙ some_found f more conf in cc);
-        again = λ _. (ap (λ (w : Written). length w.rows) is, ap (λ (w : Written). w.trees table.tree) is ∙ holds);
-        tables = all_same table.tree db one.trees schema.tables (ap (λ (w : Written). w.trees) is);
-      }
+      grind (
+        arith,
+        nat_tests,
+        put old.step_limit Enforced schema table params alone (row (n, x)) db one h,
+        edit_of db (uncounted table) [] Given 0 (row (n, x) ∷ []),
+        edited,
+        put_row (row (n, x)),
+        put_last row numbered n xs x next,
+        none_found conf,
+      )
+  cleared one (f ∷ more) conf h = grind (arith, nat_tests, same_value, some_found, all_same)
 
   pub ignores : (new : State) (count : ℕ) → Executes text params old new (Ok count)
       → Ignored schema table row xs x there old.now.trees new.now.trees count × (new.now.schema ≡ schema)
@@ -209,12 +166,8 @@ module _ {schema : Schema} {text : List ℕ} {terms : List Term} {width at : ℕ
       let judged =
       judged_clears old.step_limit Enforced schema table params (row (n, x)) suits db (Ok u.one) u.verdict
       u.judged u.does in
-      let after : new.now.trees ≡ u.one.trees = ap (λ (d : Database). d.trees) it.now ∙ u.trees in (
-        subst₂ Left (sym after) (sym (it.counted ∙ ap length u.rows)) (cleared u.one judged.0 judged.1 judged.2),
-        ap (λ (d : Database). d.schema) it.now,
-        it.committed,
-        it.mode,
-      )
+      let after : new.now.trees ≡ u.one.trees = ap (λ (d : Database). d.trees) it.now ∙ u.trees in
+      grind (arith, nat_tests, cleared)
 
   -- where it is there, nothing but want of memory stops the statement
   pub stopped_by_memory : ReferToNone schema → IsWhole (length params) text (understood schema text)

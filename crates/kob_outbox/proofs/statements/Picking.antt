@@ -1,5 +1,5 @@
 -- The rows that a query over one table picks.
-use Rattle.kob_outbox.proofs.statements.Words.{[], ◌<◌, ◌∙◌, ◌∷◌, ◌≡◌, ◌≤◌, Bool, Env, IsAnswer, IsAscending, IsPermutation, Less, List, Ordering, Output, Query, Row, Trees, ap, arith, ascending-map, ascending_weaker, cases_Bool, filter, flat_map, holds, if◌then◌else◌, inl, inr, length, length-map, length_permutation, list_all, map, map-map, one_permutation, output, output_cmp, output_cmp_total, overlay, page, refl, sorted_unique, subst, true, ℕ}
+use Rattle.kob_outbox.proofs.statements.Words.{Bool, Env, IsAnswer, IsAscending, IsPermutation, Less, List, Ordering, Output, Query, Row, Trees, [], ap, arith, ascending-map, ascending_weaker, cases_Bool, filter, flat_map, holds, if◌then◌else◌, length, length-map, length_permutation, list_all, map, map-map, nat_tests, one_permutation, output, output_cmp, output_cmp_total, overlay, page, refl, sorted_unique, subst, true, ℕ, ◌<◌, ◌∙◌, ◌∷◌, ◌≡◌, ◌≤◌}
 use Rattle.kob_outbox.proofs.statements.Selecting.{Scan, query_of}
 
 -- the permutations of a list of one element at most
@@ -30,10 +30,7 @@ module _ {X : Type 0} (s : Scan) (params : Row) (row : X → Row) (test : X → 
 
   picked : (xs : List X) → flat_map pick (map row xs) ≡ map env (filter test xs)
   picked [] = refl
-  picked (x ∷ xs) = elim (cases_Bool (test x)) [
-    | inl is ↦ rw (passes x, is) (ap (λ more. env x ∷ more) (picked xs))
-    | inr other ↦ rw (passes x, other) (picked xs)
-  ]
+  picked (x ∷ xs) = grind (arith, nat_tests, cases_Bool, picked xs)
 
   module _ (db : Trees) (xs : List X) (is : overlay db [] s.tree ≡ map row xs) (found : List X)
       (found_is : filter test xs ≡ found) (rows : List Row) (a : IsAnswer q (overlay db []) params rows) where
@@ -58,9 +55,7 @@ module _ {X : Type 0} (s : Scan) (params : Row) (row : X → Row) (test : X → 
 
     -- one row has no order
     pub one_at_most : length found ≤ 1 → rows ≡ paged outs
-    one_at_most short =
-        let few : length outs ≤ 1 = omega (arith, length-map found out, short) in
-        a.shown ∙ ap paged (alone_order outs a.ordered few same_rows)
+    one_at_most short = grind (arith, nat_tests, length-map found out, alone_order outs a.ordered, same_rows)
 
 -- what rows that bear rising numbers are ordered by, where that is the number
 module _ {X : Type 0} (number : X → ℕ) (s : Scan) (out : X → Output) where
@@ -69,6 +64,4 @@ module _ {X : Type 0} (number : X → ℕ) (s : Scan) (out : X → Output) where
 
   pub rises : ((x y : X) → number x < number y → cmp (out x) (out y) ≡ Less) → (xs : List X)
       → IsAscending (λ x y. number x < number y) xs → IsAscending (λ a b. cmp a b ≡ Less) (map out xs)
-  rises below xs rising =
-      ascending-map (λ a b. cmp a b ≡ Less) out xs
-      (ascending_weaker {A = X} (λ x y. number x < number y) (λ x y. cmp (out x) (out y) ≡ Less) below xs rising)
+  rises below xs rising = grind (arith, nat_tests, ascending-map, ascending_weaker)

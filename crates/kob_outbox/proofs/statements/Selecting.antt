@@ -1,5 +1,6 @@
 -- A SELECT over one table: what its text means, and what it answers and leaves.
-use Rattle.kob_outbox.proofs.statements.Words.{[], ◌∷◌, ◌≡◌, Binary, Database, Error, FailsToQuery, Global, HasCleanDisk, Held, IfErr, IfOk, Int, IsAnswer, IsAtRest, IsPlain, Key, List, MemStore, None, Null, Program, Query, Result, Row, Schema, Select, Shown, Term, Trees, Vec, accepts_program, ap, col, command_of, database, end, false, inner, length, lit, memory_is_clean, negsuc, overlay, pos, reads_as, reads_listing, refl, true, understood, ℕ}
+use Rattle.kob_outbox.proofs.statements.Words.{Binary, Database, Error, FailsToQuery, Global, HasCleanDisk, Held, IfErr, IfOk, Int, IsAnswer, IsAtRest, IsPlain, List, MemStore, None, Null, Program, Query, Result, Row, Schema, Select, Shown, Term, Trees, Vec, [], accepts_program, ap, col, command_of, database, end, false, inner, length, lit, memory_is_clean, negsuc, overlay, pos, reads_as, reads_listing, refl, true, understood, ℕ, ◌∷◌, ◌≡◌}
+use Rattle.sqlite_value.specs.declared.keys.Key.{Key}
 use Rattle.kob_outbox.proofs.statements.Failing.{IsMemory, IsWhole, for_memory, no_sum}
 use Rattle.kob_outbox.proofs.statements.Plain.{all_stays, if_err, if_ok, rests}
 

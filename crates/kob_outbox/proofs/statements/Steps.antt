@@ -1,19 +1,15 @@
 -- What a write does to the trees, where no foreign key and no AUTOINCREMENT is about.
-use Rattle.kob_outbox.proofs.statements.Words.{[], ◌++◌, ◌/◌, ◌∙◌, ◌∷◌, ◌≡◌, ◌≢◌, AllByRecursion, Answers, Applies, Bool, Chosen, Conflict, Counter, Counts, Deletes, Edit, Edited, Given, Gives, Inserts, InsertsOr, Int, Integer, IsJudged, IsSource, Judged, Keys, List, None, Null, Ok, Option, Program, Puts, Refusal, Row, Schema, Source, Table, Task, Term, Then, Trees, TriesEach, Updates, Upsert, Value, Values, Written, ap, cast, cast_row, cond, count_of, edit_of, false, ids_of, inl, inr, last_id, length, mended, nothing, one_step, option_or, refl, subst, sym, taken_by, true, value_rows, with_rowid, works, ℕ, ℤ}
+use Rattle.kob_outbox.proofs.statements.Words.{AllByRecursion, Answers, Applies, Chosen, Conflict, Counter, Counts, Deletes, Edit, Edited, Given, Gives, Inserts, InsertsOr, Int, Integer, IsJudged, IsSource, Judged, Keys, List, None, Null, Ok, Option, Program, Puts, Refusal, Row, Schema, Source, Table, Task, Term, Then, Trees, TriesEach, Updates, Upsert, Values, Written, [], ap, arith, cast, cast_row, count_of, edit_of, false, ids_of, last_id, length, mended, nat_tests, nothing, one_step, option_or, subst, sym, taken_by, value_rows, with_rowid, works, ℕ, ℤ, ◌++◌, ◌/◌, ◌∙◌, ◌∷◌, ◌≡◌, ◌≢◌}
 use Rattle.sqlite.specs.Ops.{unary}
 use Rattle.kob_outbox.proofs.statements.Plain.{went, same_value}
 
-either : (b : Bool) (x : Value) → cond b x x ≡ x
-either true x = refl
-either false x = refl
-
 pub cast_null : cast Integer Null ≡ Null
 unfolding unary
-cast_null = either _ Null
+cast_null = grind (arith, nat_tests)
 
 pub cast_int : (n : ℤ) → cast Integer (Int n) ≡ Int n
 unfolding unary
-cast_int n = either _ (Int n)
+cast_int n = grind (arith, nat_tests)
 
 -- the table counts no rowids, and no default of it reads the time
 abbrev pub uncounted : Table → Table
@@ -109,37 +105,9 @@ module _ (limit : Option ℕ) (keys : Keys) (schema : Schema) (table : Table) (p
       (λ done. Then (Counts task done.0.trees counter done.1) (λ next. Gives (record done.0 { trees = next }))))
       (Ok w)
 
-  one_tried : (way : Conflict) (clauses : List Upsert) (source : Row) (db : Trees) (w : Written)
-      → After way clauses db w (source ∷ []) → Tried way clauses db w (candidate way db source)
-  one_tried way clauses source db w h =
-      let counted = went h in
-      let each = went counted.2 in
-      let late = went each.2 in
-      let one = went each.1 in
-      let judged : (verdict : Option Refusal) × IsJudged (uncounted table) (candidate way db source) verdict
-      × Judged (task_on limit keys schema table params) way clauses (candidate way db source) db verdict (Ok one.0) =
-      elim one.1 [
-        | inl refused ↦ absurd (let e = refused.1 in cc)
-        | inr judged ↦ judged
-      ] in
-      let done : each.0.0 ≡ record { trees = one.0.trees; rows = one.0.rows; last = option_or one.0.last None } =
-      ap (λ (p : Written × ℤ). p.0) (same_value one.2) in
-      let is : w ≡ record each.0.0 { trees = late.0 } = same_value late.2 in
-      record {
-        one = one.0;
-        trees = ap (λ (it : Written). it.trees) is ∙ same_value late.1 ∙ ap (λ (it : Written). it.trees) done;
-        rows = ap (λ (it : Written). it.rows) is ∙ ap (λ (it : Written). it.rows) done;
-        verdict = judged.0;
-        judged = judged.1;
-        does = judged.2;
-      }
-
   pub tried : (way : Conflict) (clauses : List Upsert) (terms : List Term) (width : ℕ) (source new : Row) (db : Trees)
       (w : Written) → value_rows (params ++ []) width (length terms / width) terms ≡ source ∷ []
       → candidate way db source ≡ new
       → InsertsOr (task_on limit keys schema table params) way clauses (Values terms width) db (Ok w)
       → Tried way clauses db w new
-  tried way clauses terms width source new db w is row h =
-      let given = went h in
-      subst (Tried way clauses db w) row
-      (one_tried way clauses source db w (subst (After way clauses db w) (given.1.1 ∙ is) given.2))
+  tried way clauses terms width source new db w is row h = grind (arith, nat_tests, went, option_or, same_value)

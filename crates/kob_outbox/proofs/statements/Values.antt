@@ -1,5 +1,5 @@
 -- How numbers and texts compare in SQL.
-use Rattle.kob_outbox.proofs.statements.Words.{◌&&◌, ◌<◌, ◌^◌, ◌||◌, ◌∙◌, ◌≡◌, Binary, Bool, Compare, Equal, Greater, Gt, Int, Le, Less, List, Some, Text, ap, arith, bytes_eq, equal, false, fits_i64, from_truth, is_eq, is_eq-slice_cmp, is_gt, is_le, is_true, nat_lt, not, pos, refl, sym, true, value_cmp, value_cmp-Int, value_cmp-Text, ℕ}
+use Rattle.kob_outbox.proofs.statements.Words.{Binary, Bool, Compare, Equal, Greater, Gt, Int, Le, Less, List, Some, Text, ap, arith, bytes_eq, equal, false, fits_i64, from_truth, is_eq, is_eq-slice_cmp, is_gt, is_le, is_true, nat_lt, not, pos, refl, sym, true, value_cmp, value_cmp-Int, value_cmp-Text, ℕ, ◌&&◌, ◌<◌, ◌^◌, ◌||◌, ◌∙◌, ◌≡◌}
 use Rattle.sqlite_sql.specs.Ops.{binary}
 
 truth_back : (b : Bool) → is_true (from_truth (Some b)) ≡ b

@@ -1,5 +1,5 @@
 -- From a statement's text to the rows that it writes.
-use Rattle.kob_outbox.proofs.statements.Words.{[], ◌++◌, ◌/◌, ◌∙◌, ◌∷◌, ◌≡◌, AtPlace, Chosen, Command, Database, Does, Enforced, Executes, Insert, IsPlain, List, Mode, None, Ok, OnRows, OnTable, Option, Row, Runs, Schema, Some, State, Table, Tally, Term, Trees, Values, Writes, WritesRows, Written, ap, command_of, edit_of, edited, if◌then◌else◌, length, mode_of, put_row, runs_as, slice_get, statement_of, subst, sym, understood, unwrap_or, value_rows, ℕ}
+use Rattle.kob_outbox.proofs.statements.Words.{AtPlace, Chosen, Command, Database, Does, Enforced, Executes, Insert, IsPlain, List, Mode, None, Ok, OnRows, OnTable, Option, Row, Runs, Schema, Some, State, Table, Tally, Term, Values, Writes, WritesRows, Written, [], ap, arith, command_of, edit_of, edited, if◌then◌else◌, length, mode_of, nat_tests, put_row, runs_as, slice_get, statement_of, subst, sym, understood, unwrap_or, value_rows, ℕ, ◌++◌, ◌/◌, ◌∙◌, ◌∷◌, ◌≡◌}
 use Rattle.kob_outbox.proofs.statements.Plain.{went, same_value}
 use Rattle.kob_outbox.proofs.statements.Steps.{IsAlone, KeepOthers, inserted, uncounted, task_on}
 
@@ -93,9 +93,7 @@ puts_one {schema} {text} {terms} {width} {at} {table} write alone params row old
     inserted old.step_limit Enforced schema table params alone (Values terms width) db it.written it.does in
     let trees : new.now.trees ≡ it.written.trees = ap (λ (d : Database). d.trees) it.now in
     record {
-      rows = ap (λ (t : Trees). t table.tree) trees ∙ put.2.rows
-          ∙ ap (λ rows. edited db (record { table = uncounted table; gone = []; news = rows }))
-          (ap (λ rows. (edit_of db (uncounted table) [] Chosen 0 rows).news) put.1.1 ∙ news);
+      rows = grind (arith, nat_tests, edited, edit_of);
       tables = subst (λ t. KeepOthers table.tree db t schema.tables) (sym trees) put.2.tables;
       schema_is = ap (λ (d : Database). d.schema) it.now;
       committed = it.committed;

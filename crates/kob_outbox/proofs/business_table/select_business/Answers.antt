@@ -1,4 +1,4 @@
-use Rattle.kob_outbox.proofs.statements.Words.{◌≡◌, contents, contents_in, shown_state, state_at}
+use Rattle.kob_outbox.proofs.statements.Words.{contents, contents_in, shown_state, state_at, ◌≡◌}
 use Rattle.kob_outbox.proofs.Reading.{answer_business}
 use Rattle.kob_outbox.proofs.Texts.{select_business}
 use Rattle.kob_outbox.proofs.statements.Selecting.{queried}

@@ -1,4 +1,4 @@
-use Rattle.kob_outbox.proofs.statements.Words.{◌∙◌, ◌≡◌, AllByRecursion, IsShown, ap, contents_of, database, first_after, map, map-map, min, rules, shown_event, stored_row, subst, sym}
+use Rattle.kob_outbox.proofs.statements.Words.{AllByRecursion, IsShown, ap, contents_of, database, first_after, map, map-map, min, rules, shown_event, stored_row, subst, sym, ◌∙◌, ◌≡◌}
 use Rattle.kob_outbox.proofs.statements.Plain.{if_ok}
 use Rattle.kob_outbox.proofs.Shown.{first_shown, rows_as}
 use Rattle.kob_outbox.proofs.reads.rows_after.Goals as goal

@@ -1,5 +1,4 @@
-use Rattle.kob_outbox.proofs.statements.Words.{◌≡◌, SqliteFailure, column, contents, rules, state_at}
-use Rattle.sqlite.specs.declared.error.ErrorCode.TheVariants.{OutOfMemory}
+use Rattle.kob_outbox.proofs.statements.Words.{OutOfMemory, SqliteFailure, column, contents, rules, state_at, ◌≡◌}
 use Rattle.kob_outbox.proofs.Shown.{state_readable}
 use Rattle.kob_outbox.proofs.States.{text_at}
 use Rattle.kob_outbox.proofs.statements.Failing.{readable_fails}

@@ -1,4 +1,4 @@
-use Rattle.kob_outbox.proofs.statements.Words.{◌≡◌, map, shown_event, stored_row, take}
+use Rattle.kob_outbox.proofs.statements.Words.{map, shown_event, stored_row, take, ◌≡◌}
 use Rattle.kob_outbox.proofs.rows.rows_of.Given as goal
 
 abbrev pub invariant-loop-row : goal.invariant-loop-row
