@@ -1,11 +1,6 @@
 -- What routes make of rows, on examples.
-use Rattle.std.proofs.Common.{◌≡◌, [], ◌∷◌, false, true, refl}
-use Rattle.std.specs.Prelude.{Some, None, codes}
+use Rattle.kob_router.proofs.Words.{AggregateId, AggregateType, EventType, None, Some, [], codes, entries_of, false, is_template, message_of, refl, topic_named, true, with_routed_value, ◌∷◌, ◌≡◌}
 use Rattle.bstr.proofs.Computing.{computing}
-use Rattle.kob_router.specs.Placement.{entries_of}
-use Rattle.kob_router.specs.Route.{topic_named, message_of}
-use Rattle.kob_router.specs.Template.{with_routed_value, is_template}
-use Rattle.kob_router.specs.declared.placement.PlacedColumn.TheVariants.{AggregateType, AggregateId, EventType}
 use Rattle.kob_router.specs.declared.settings.RouteBy.TheVariants as by
 
 of_the_default : is_template (codes "outbox.event.${routedByValue}") ≡ true

@@ -1,7 +1,8 @@
+pub mod Beginnings
 mod Examples
-mod Vectors
 pub mod Lawful
+pub mod Repeats
 pub mod Runs
 pub mod Sendings
-pub mod Beginnings
-pub mod Repeats
+mod Vectors
+mod Words

@@ -1,26 +1,7 @@
 -- The last part of a tick: nothing, or one call.
-use Rattle.std.proofs.Common.{◌≡◌, ℕ, List, [], ◌∷◌, ◌++◌, Bool, true, false, refl, sym, ap, ◌∙◌, inl, inr, subst, append-nil, true≢false}
-use Rattle.std.specs.Prelude.{Option, Some, None, Ok, Err}
-use Rattle.kob_rights.specs.declared.reply.Body.{Body}
-use Rattle.kob_rights.specs.declared.reply.Reply.{Reply}
-use Rattle.kob_rights.specs.declared.reply.Reply.TheVariants.{Done}
-use Rattle.kob_rights.specs.declared.request.Request.{Request}
+use Rattle.kob_router.proofs.Words.{Acknowledges, Adds, Body, Bool, Call, Called, Contents, Dispatching, Done, EndsUnmarked, Err, Hand, HasHand, IsAnswer, IsAtMostOne, IsDone, IsHeld, List, Lost, MayCall, Moved, None, Ok, Option, Repeat, Reply, Request, Requests, Sender, Some, State, StopReason, Stopped, Tick, Ticks, [], after_acknowledgement, ap, append-nil, arith, false, hand_of, inl, inr, nat_tests, producer_after, refl, state_of, sym, true, true≢false, ℕ, ◌++◌, ◌∷◌, ◌≡◌}
 use Rattle.kob_rights.specs.declared.request.Request.TheVariants as request
-use Rattle.kob_outbox.specs.Contents.{Contents}
-use Rattle.kob_router.specs.declared.line.Call.{Call}
-use Rattle.kob_router.specs.declared.line.Delivery.TheVariants.{Lost}
-use Rattle.kob_router.specs.declared.sender.Producer.{Producer}
-use Rattle.kob_router.specs.declared.sender.Sender.{Sender}
-use Rattle.kob_router.specs.declared.tick.StopReason.{StopReason}
 use Rattle.kob_router.specs.declared.tick.StopReason.TheVariants as stop
-use Rattle.kob_router.specs.declared.tick.Tick.{Tick}
-use Rattle.kob_router.specs.declared.tick.Tick.TheVariants.{Moved, Repeat, Stopped}
-use Rattle.kob_router.specs.Dispatches.{Dispatching}
-use Rattle.kob_router.specs.Line.{Adds}
-use Rattle.kob_router.specs.Parts.{Acknowledges, HasHand, Requests}
-use Rattle.kob_router.specs.Run.{Hand, IsDone, MayCall, State, after_acknowledgement, producer_after}
-use Rattle.kob_router.specs.Run.Move.{Called}
-use Rattle.kob_router.specs.Tick.{EndsUnmarked, IsAnswer, IsAtMostOne, IsHeld, Ticks, hand_of, state_of}
 use Rattle.kob_router.proofs.Runs.{scene}
 
 -- the request that sends is a PRODUCE
@@ -57,17 +38,7 @@ sent route s (request.DeleteAcls asked) is = absurd is
 pub ticks_none : (route : Dispatching) (s : State) (before now : List Call) (u t : ℕ) (tick : Tick)
     → now ≡ before → IsAnswer route tick [] s u t → IsHeld route s
     → Ticks IsAtMostOne route (scene s before u) (scene s now t) tick
-ticks_none route s before now u t tick same answer held =
-    record {
-      moves = [];
-      own = tt;
-      run = refl;
-      calls = same
-          ∙ sym (append-nil before);
-      few = tt;
-      answer = answer;
-      held = held;
-    }
+ticks_none route s before now u t tick same answer held = grind (arith, nat_tests, append-nil)
 
 -- a call after which all stands as it did
 pub ticks_call : (route : Dispatching) (s : Sender) (outbox : Contents) (asked : Request) (heard : Option Reply)
@@ -81,11 +52,7 @@ ticks_call route s outbox asked heard before now u t tick is made answer held =
     record {
       moves = Called (record { request = asked; heard = heard }) false ∷ [];
       own = (tt, tt);
-      run = (
-        is.may outbox heard false no_mark,
-        ap
-            (λ (p : Option Producer). record (state_of s outbox) { producer = p }) (sym (is.keeps heard)),
-      );
+      run = grind (arith, nat_tests);
       calls = made;
       few = tt;
       answer = answer;
@@ -100,13 +67,11 @@ pub ticks_lost : (route : Dispatching) (s : Sender) (outbox : Contents) (asked :
 ticks_lost route s outbox asked before now u t may (inl made) held =
     ticks_call route s outbox asked None before now u t Repeat (sent route s asked may) made.0
     (inl ([], asked, refl, made.1)) held
-ticks_lost route s outbox asked before now u t may (inr unmade) held =
-    ticks_none route (state_of s outbox) before now u t Repeat unmade.0 (inr (tt, unmade.1)) held
+ticks_lost route s outbox asked before now u t may (inr unmade) held = grind (arith, nat_tests, ticks_none)
 
 held_after : (route : Dispatching) (s : State) (hand : Option Hand) → ((h : Hand) × (hand ≡ Some h))
     → IsHeld route (after_acknowledgement s hand)
-held_after route s None has = let bad : None ≡ Some has.0 = has.1 in absurd (cc)
-held_after route s (Some hand) has = (tt, tt)
+held_after route s hand has = grind (arith, nat_tests)
 
 some_hand : (s : Sender) (outbox : Contents) → HasHand s → (h : Hand) × ((state_of s outbox).hand ≡ Some h)
 some_hand s outbox (held, is) = (hand_of held, ap (Rattle.std.specs.Prelude.option_map hand_of) is)
@@ -125,8 +90,7 @@ ticks_moved route s outbox asked body new before now u t seq may made same has d
       calls = made;
       few = tt;
       answer = (([], record { request = asked; heard = Some (Done body) }, refl), done.1, same);
-      held = subst (λ (x : State). IsHeld route x) (sym done.0)
-          (held_after route (state_of s outbox) (state_of s outbox).hand (some_hand s outbox has));
+      held = grind (arith, nat_tests, held_after, some_hand);
     }
 
 -- a call that was heard, but the mark stayed
@@ -136,17 +100,9 @@ pub ticks_unmarked : (route : Dispatching) (s : Sender) (outbox : Contents) (ask
     → Acknowledges (state_of s outbox) new (Err reason) → IsHeld route (state_of s outbox)
     → Ticks IsAtMostOne route (scene (state_of s outbox) before u) (scene new now t) (Stopped reason)
 ticks_unmarked route s outbox asked body new before now u t stop.Memory may made same done held =
-    let is = sent route s asked may in
-    subst (λ (x : State). Ticks IsAtMostOne route (scene (state_of s outbox) before u) (scene x now t)
-    (Stopped stop.Memory)) (sym done)
-    (ticks_call route s outbox asked (Some (Done body)) before now u t (Stopped stop.Memory) is made
-    (inr (is.unmarked body), same) held)
+    let is = sent route s asked may in grind (arith, nat_tests, ticks_call)
 ticks_unmarked route s outbox asked body new before now u t stop.Store may made same done held =
-    let is = sent route s asked may in
-    subst (λ (x : State). Ticks IsAtMostOne route (scene (state_of s outbox) before u) (scene x now t)
-    (Stopped stop.Store)) (sym done)
-    (ticks_call route s outbox asked (Some (Done body)) before now u t (Stopped stop.Store) is made
-    (is.unmarked body, same) held)
+    let is = sent route s asked may in grind (arith, nat_tests, ticks_call)
 ticks_unmarked route s outbox asked body new before now u t stop.BadTopic may made same done held = absurd done
 ticks_unmarked route s outbox asked body new before now u t (stop.Denied code verdicts) may made same done held =
     absurd done

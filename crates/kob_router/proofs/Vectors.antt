@@ -1,9 +1,7 @@
 -- The hash and the partitions of keys, against those that Kafka's own tests and clients give. A signed number of 32
 -- bits
 -- that is negative is written as what it lacks of 2 ^ 32.
-use Rattle.std.proofs.Common.{◌≡◌, ◌-◌, ◌^◌, refl}
-use Rattle.std.specs.Prelude.{codes}
-use Rattle.kob_router.specs.Partitioner.{murmur2, partition_of}
+use Rattle.kob_router.proofs.Words.{codes, murmur2, partition_of, refl, ◌-◌, ◌^◌, ◌≡◌}
 
 of_nothing : murmur2 (codes "") ≡ 0x106e08d9
 of_nothing = refl

@@ -1,6 +1,4 @@
-use Rattle.std.proofs.Common.{◌≡◌, ◌↔◌, ◌∙◌, ℕ, List, Option, Some, None, Result, Ok, Err, IsOk, IfOk, true, false, true≢false, refl, sym}
-use Rattle.std.specs.Result.{result_ok}
-use Rattle.uuid.specs.Text.{parsed}
+use Rattle.kob_router.proofs.Words.{Err, IfOk, IsOk, List, None, Ok, Option, Result, Some, false, parsed, refl, result_ok, sym, true, true≢false, ℕ, ◌↔◌, ◌∙◌, ◌≡◌}
 use Rattle.kob_router.proofs.header_id.read_id.Goals as goal
 
 nothing_parsed : (text : List ℕ) (found : Option (List ℕ)) → parsed text ≡ found

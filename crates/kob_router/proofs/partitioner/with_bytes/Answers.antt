@@ -1,6 +1,4 @@
-use Rattle.std.proofs.Common.{◌≡◌, ◌<◌, ◌+◌, ◌≤◌, ℕ, length, drop, List, ◌∷◌, get_or, ap, sym, ◌∙◌, arith}
-use Rattle.std.proofs.lemmas.List.{drop_more}
-use Rattle.kob_router.specs.Partitioner.{with_bytes, with_word}
+use Rattle.kob_router.proofs.Words.{List, ap, arith, drop, drop_more, get_or, length, sym, with_bytes, with_word, ℕ, ◌+◌, ◌<◌, ◌∙◌, ◌∷◌, ◌≡◌, ◌≤◌}
 use Rattle.kob_router.proofs.partitioner.with_bytes.Goals as goal
 
 -- the first of the bytes from a place on

@@ -1,5 +1,4 @@
-use Rattle.std.proofs.Common.{◌≡◌, ◌≤◌, ◌-◌, length, drop}
-use Rattle.kob_router.specs.Partitioner.{with_bytes}
+use Rattle.kob_router.proofs.Words.{drop, length, with_bytes, ◌-◌, ◌≡◌, ◌≤◌}
 use Rattle.kob_router.proofs.partitioner.with_bytes.Given as goal
 
 abbrev pub invariant-loop-at : goal.invariant-loop-at

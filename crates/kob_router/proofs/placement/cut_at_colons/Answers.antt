@@ -1,6 +1,4 @@
-use Rattle.std.proofs.Common.{lit<}
-use Rattle.std.proofs.lemmas.Iterator.Consumers.{map_from_collect}
-use Rattle.std.proofs.lemmas.Iterator.Splits.{YieldsList-from_str_split}
+use Rattle.kob_router.proofs.Words.{YieldsList-from_str_split, lit<, map_from_collect}
 use Rattle.kob_router.proofs.placement.cut_at_colons.Goals as goal
 
 -- all that `split` at one ASCII byte yields

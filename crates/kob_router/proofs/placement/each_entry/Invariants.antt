@@ -1,7 +1,4 @@
-use Rattle.std.proofs.Common.{◌≡◌, ◌++◌, List, map, drop}
-use Rattle.std.specs.Prelude.{option_map}
-use Rattle.kob_router.specs.Placement.{each_entry}
-use Rattle.kob_router.specs.declared.placement.Placed.{Placed}
+use Rattle.kob_router.proofs.Words.{List, Placed, drop, each_entry, map, option_map, ◌++◌, ◌≡◌}
 use Rattle.kob_router.proofs.placement.each_entry.Given as goal
 
 -- what was read, and what the texts that are left read as

@@ -1,6 +1,4 @@
-use Rattle.std.proofs.Common.{◌≡◌, ◌∷◌, map, take}
-use Rattle.kob_outbox.specs.Events.{stored_row}
-use Rattle.kob_router.specs.Route.{id_header, placed_header}
+use Rattle.kob_router.proofs.Words.{id_header, map, placed_header, stored_row, take, ◌∷◌, ◌≡◌}
 use Rattle.kob_router.proofs.routed.headers_of.Given as goal
 
 -- the id's header, and one for each entry so far

@@ -1,16 +1,4 @@
-use Rattle.std.proofs.Common.{◌≡◌, ◌≤◌, ◌<◌, ℕ, List, length, get_or, Bool, true, false, not, Option, Some, None, cond, if◌then◌else◌, inl, inr, refl, true≢false, arith}
-use Rattle.std.specs.Option.{is_some, option_map}
-use Rattle.std.specs.List.{position, prefix_len}
-use Rattle.std.specs.Prelude.{codes, nat_lt, ◌==◌, ◌||◌}
-use Rattle.std.specs.Str.{IsUtf8, bytes_eq}
-use Rattle.std.proofs.lemmas.Bool.{cases_Bool, cases_lt, cond-true}
-use Rattle.std.proofs.lemmas.Bool.Decides.{nat_tests}
-use Rattle.std.proofs.lemmas.List.{get_or_past}
-use Rattle.std.proofs.lemmas.List.Sums.{prefix_len_passes}
-use Rattle.std.proofs.lemmas.Str.{IsUtf8-from_ascii}
-use Rattle.kob_names.specs.TopicRules.{is_topic_byte, topic_fault}
-use Rattle.kob_names.specs.declared.topic_name.TopicNameFault.TheVariants.{BadByte, Dots, Empty, TooLong}
-use Rattle.kob_router.specs.Route.{topic_named}
+use Rattle.kob_router.proofs.Words.{BadByte, Bool, Dots, Empty, IsUtf8, IsUtf8-from_ascii, List, None, Option, Some, TooLong, arith, bytes_eq, cases_Bool, cases_lt, codes, cond, cond-true, false, get_or, get_or_past, if◌then◌else◌, inl, inr, is_some, is_topic_byte, length, nat_lt, nat_tests, not, option_map, position, prefix_len, prefix_len_passes, refl, topic_fault, topic_named, true, true≢false, ℕ, ◌<◌, ◌==◌, ◌||◌, ◌≡◌, ◌≤◌}
 use Rattle.kob_router.proofs.routed.topic_named.Goals as goal
 
 -- the last of four rules, where none is broken

@@ -1,5 +1,4 @@
-use Rattle.std.proofs.Common.{◌≡◌, drop}
-use Rattle.kob_router.specs.Places.{sequence_of}
+use Rattle.kob_router.proofs.Words.{drop, sequence_of, ◌≡◌}
 use Rattle.kob_router.proofs.sequences.sequence_of.Given as goal
 
 abbrev pub invariant-loop-sequence : goal.invariant-loop-sequence

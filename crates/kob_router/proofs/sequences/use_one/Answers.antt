@@ -1,10 +1,4 @@
-use Rattle.std.proofs.Common.{◌≡◌, ◌++◌, ◌∷◌, List, ℕ, suc, ◌+◌, ◌<◌, length, get_or, take, drop, set, true, sym, ap, ◌∙◌, arith}
-use Rattle.std.proofs.lemmas.Bool.{cond-true}
-use Rattle.std.proofs.lemmas.List.{drop_more, set_split}
-use Rattle.kob_producers.specs.Sequence.{next_sequence}
-use Rattle.kob_router.specs.declared.place.Place.{Place}
-use Rattle.kob_router.specs.declared.sequences.Sequence.{Sequence}
-use Rattle.kob_router.specs.Places.{same_place, after_use}
+use Rattle.kob_router.proofs.Words.{List, Place, Sequence, after_use, ap, arith, cond-true, drop, drop_more, get_or, length, next_sequence, same_place, set, set_split, suc, sym, take, true, ℕ, ◌++◌, ◌+◌, ◌<◌, ◌∙◌, ◌∷◌, ◌≡◌}
 use Rattle.kob_router.proofs.sequences.use_one.Goals as goal
 
 -- the first sequence of a place is used

@@ -1,5 +1,4 @@
-use Rattle.std.proofs.Common.{◌≡◌, ◌++◌, take, drop, true}
-use Rattle.kob_router.specs.Places.{has_place, after_use}
+use Rattle.kob_router.proofs.Words.{after_use, drop, has_place, take, true, ◌++◌, ◌≡◌}
 use Rattle.kob_router.proofs.sequences.use_one.Given as goal
 
 -- the place is not among those that were passed

@@ -1,5 +1,4 @@
-use Rattle.std.proofs.Common.{◌≡◌, drop}
-use Rattle.kob_router.specs.Template.{each_dollar_begins}
+use Rattle.kob_router.proofs.Words.{drop, each_dollar_begins, ◌≡◌}
 use Rattle.kob_router.proofs.template.is_template.Given as goal
 
 abbrev pub invariant-loop-at : goal.invariant-loop-at

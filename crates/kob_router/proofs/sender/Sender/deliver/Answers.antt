@@ -1,10 +1,5 @@
-use Rattle.std.proofs.Common.{[], refl}
-use Rattle.std.specs.Prelude.{Some}
-use Rattle.kob_rights.specs.declared.reply.Reply.TheVariants.{Denied, Done, Refused}
+use Rattle.kob_router.proofs.Words.{Denied, Done, Refused, Some, Stopped, [], dispatch_of, refl, state_of}
 use Rattle.kob_router.specs.declared.tick.StopReason.TheVariants as stop
-use Rattle.kob_router.specs.declared.tick.Tick.TheVariants.{Stopped}
-use Rattle.kob_router.specs.Dispatches.{dispatch_of}
-use Rattle.kob_router.specs.Tick.{state_of}
 use Rattle.kob_router.proofs.Beginnings.{heard_as}
 use Rattle.kob_router.proofs.Sendings.{sent, ticks_call, ticks_lost, ticks_moved, ticks_unmarked}
 use Rattle.kob_router.proofs.sender.Sender.deliver.Goals as goal

@@ -1,9 +1,4 @@
-use Rattle.std.proofs.Common.{◌≡◌, ◌∙◌, List, true, false, Option, Some, None, inl, inr, refl, sym, ap, true≢false}
-use Rattle.std.specs.Prelude.{option_map}
-use Rattle.std.specs.Option.{is_some}
-use Rattle.kob_outbox.specs.Events.{stored_row}
-use Rattle.kob_router.specs.declared.sequences.Sequence.{Sequence}
-use Rattle.kob_router.specs.Dispatches.{place_of}
+use Rattle.kob_router.proofs.Words.{List, None, Option, Sequence, Some, ap, false, inl, inr, is_some, option_map, refl, stored_row, sym, true, true≢false, ◌∙◌, ◌≡◌}
 use Rattle.kob_router.proofs.sender.Sender.take_in_hand.Goals as goal
 
 some_there : {A : Type 0} (o : Option A) → is_some o ≡ true → (x : A) × (o ≡ Some x)

@@ -1,8 +1,4 @@
-use Rattle.std.proofs.Common.{sym, subst}
-use Rattle.kob_outbox.specs.Contents.{Contents}
-use Rattle.kob_router.specs.declared.tick.Tick.TheVariants.{Idle, Stopped}
-use Rattle.kob_router.specs.Dispatches.{dispatch_of}
-use Rattle.kob_router.specs.Tick.{IsAtMostOne, IsHeld, IsOneTick, Ticks, scene_of, state_of}
+use Rattle.kob_router.proofs.Words.{Contents, Idle, IsAtMostOne, IsHeld, IsOneTick, Stopped, Ticks, dispatch_of, scene_of, state_of, subst, sym}
 use Rattle.kob_router.proofs.Beginnings.{idle_then, readied, ready_held, ready_then, stopped_then, takes_hand, ticks_unknown_at}
 use Rattle.kob_router.proofs.Runs.{scene}
 use Rattle.kob_router.proofs.sender.Sender.tick.Goals as goal

@@ -1,8 +1,4 @@
-use Rattle.std.proofs.Common.{◌≡◌, ◌++◌, ◌∷◌, [], List, true, false, sym, ap, ◌∙◌, refl, inl, inr, true≢false}
-use Rattle.std.proofs.lemmas.Bool.{both_ways, cases_Bool, cond-false, cond-true, or_cases, or_parts}
-use Rattle.kob_router.specs.declared.place.Place.{Place}
-use Rattle.kob_router.specs.declared.sequences.Sequence.{Sequence}
-use Rattle.kob_router.specs.Places.{has_place, with_sequence_for, same_place}
+use Rattle.kob_router.proofs.Words.{List, Place, Sequence, [], ap, both_ways, cases_Bool, cond-false, cond-true, false, has_place, inl, inr, or_cases, or_parts, refl, same_place, sym, true, true≢false, with_sequence_for, ◌++◌, ◌∙◌, ◌∷◌, ◌≡◌}
 use Rattle.kob_router.proofs.sequences.Sequences.prepare.Goals as goal
 
 prepared_there : (ss : List Sequence) (p : Place) → has_place ss p ≡ true → with_sequence_for ss p ≡ ss
