@@ -1,13 +1,7 @@
 -- What taking an event in does.
-use Rattle.kob_inbox.proofs.Words.{[], ◌++◌, ◌<◌, ◌^◌, ◌∙◌, ◌∷◌, ◌≡◌, ◌≢◌, Blob, Chosen, Contents, Database, Enforced, Err, Error, Executes, Holds, IfErr, IfOk, Int, Intake, IsInbox, IsOnce, IsReadable, IsTrue, List, None, Ok, OnErr, OnOk, Option, Result, Row, Some, Text, accepts_terms, all-append, all_weaker, ap, arith, ascending-append, bytes_eq, bytes_eq-Decides, cases_Bool, cast_row, conflicts, contents_in, false, if◌then◌else◌, inbox_schema, inbox_table, inbox_tree, inl, inr, is_there, key_value, length, length-append, none_from_any, placed_row, pos, refl, suc, sym, true, with_intake, with_rowid, ℕ}
-use Rattle.kob_outbox.proofs.statements.Words.{State}
+use Rattle.kob_inbox.proofs.Words.{Blob, Chosen, Contents, Enforced, Err, Error, Executes, Holds, IfErr, IfOk, Ignored, Int, Intake, IsAlone, IsInbox, IsMemory, IsOnce, IsReadable, IsSuited, IsTrue, List, NeverFails, None, Ok, OnErr, OnOk, Option, ReferToNone, Result, Row, State, Text, [], accepts_terms, all-append, all_fine, all_weaker, alone_test, ap, arith, ascending-append, bytes_eq, bytes_eq-Decides, cases_Bool, cast_int, cast_null, cast_row, conflicts, contents_in, equal_texts, execute_stays, false, if◌then◌else◌, ignores, inbox_schema, inbox_table, inbox_tree, inl, inr, is_there, key_value, length, length-append, nat_tests, none_from_any, not_true, placed_row, pos, refl, rests, stopped_by_memory, suc, suits_by, true, uncounted, unequal_numbers, with_intake, with_rowid, ℕ, ◌++◌, ◌<◌, ◌^◌, ◌∙◌, ◌∷◌, ◌≡◌, ◌≢◌}
 use Rattle.sqlite_value.specs.Keys.{first_key}
 use Rattle.sqlite_tied.specs.Compute.{everything}
-use Rattle.kob_outbox.proofs.statements.Failing.{IsMemory, NeverFails}
-use Rattle.kob_outbox.proofs.statements.Ignoring.{Ignored, IsSuited, ReferToNone, all_fine, ignores, stopped_by_memory, suits_by}
-use Rattle.kob_outbox.proofs.statements.Plain.{execute_stays, rests}
-use Rattle.kob_outbox.proofs.statements.Steps.{IsAlone, uncounted, cast_int, cast_null}
-use Rattle.kob_outbox.proofs.statements.Values.{alone_test, equal_texts, not_true, unequal_numbers}
 use Rattle.kob_inbox.proofs.Holding.{inbox_holds}
 use Rattle.kob_inbox.proofs.Texts.{insert_intake, put_text, put_whole, new_row}
 
@@ -23,16 +17,9 @@ alone olds news = refl
 abbrev keyed : ℕ × Intake → Option (List ℕ) → Row
 keyed p key = placed_row (p.0, record p.1 { key = key })
 
--- the columns of such a row take its values as they are
-cast_keyed : (p : ℕ × Intake) (key : Option (List ℕ)) → cast_row (uncounted inbox_table) (keyed p key) ≡ keyed p key
-cast_keyed p None = rw (cast_int (pos p.0), cast_null, cast_int (pos p.1.partition), cast_int (pos p.1.offset)) refl
-cast_keyed p (Some key) =
-    rw (cast_int (pos p.0), cast_null, cast_int (pos p.1.partition), cast_int (pos p.1.offset)) refl
-
 -- nothing in such a row alone speaks against it
 suits_keyed : (p : ℕ × Intake) (key : Option (List ℕ)) → IsSuited inbox_table (keyed p key)
-suits_keyed p None = suits_by inbox_table (keyed p None) (refl, refl, refl, refl)
-suits_keyed p (Some key) = suits_by inbox_table (keyed p (Some key)) (refl, refl, refl, refl)
+suits_keyed p key = grind (arith, nat_tests, suits_by)
 
 conflict_is : (p q : ℕ × Intake) → p.0 < q.0
     → conflicts None inbox_schema.indexes (uncounted inbox_table) (placed_row q) (placed_row p)
@@ -46,8 +33,7 @@ refer_to_none among db = (all_fine _, tt)
 accepted_keyed : (p : ℕ × Intake) (key : Option (List ℕ))
     → accepts_terms new_row (intake_params p.0 (record p.1 { key = key })) ≡ true
 unfolding everything
-accepted_keyed p None = refl
-accepted_keyed p (Some key) = refl
+accepted_keyed p key = grind (arith, nat_tests)
 
 module _ (old : State) (was : IsInbox old) (e : Intake) where
   abbrev events : Contents
@@ -60,7 +46,7 @@ module _ (old : State) (was : IsInbox old) (e : Intake) where
   row = placed_row (n, e)
 
   cast_it : cast_row (uncounted inbox_table) row ≡ row
-  cast_it = cast_keyed (n, e) e.key
+  cast_it = grind (arith, nat_tests, cast_int, pos, cast_null)
 
   -- the statement took the event in, or found its id
   pub goes : (new : State) (count : ℕ) → Executes put_text (intake_params n e) old new (Ok count)
@@ -86,8 +72,7 @@ module _ (old : State) (was : IsInbox old) (e : Intake) where
 -- ---- the events afterwards
 
 bytes_eq_sym : (s t : List ℕ) → bytes_eq s t ≡ false → bytes_eq t s ≡ false
-bytes_eq_sym s t other =
-    not_true _ (λ same. let no = sym other ∙ (bytes_eq-Decides s t).1 (sym ((bytes_eq-Decides t s).0 same)) in cc)
+bytes_eq_sym s t other = grind (arith, nat_tests, not_true, bytes_eq-Decides)
 
 -- an id that is not there is not that of any event
 once_with : (e : Intake) (events : Contents) → is_there events e.id ≡ false → IsOnce events → IsOnce (events ++ e ∷ [])
@@ -104,34 +89,15 @@ pub takes : (old new : State) (e : Intake) (r : Result ℕ Error) → IsInbox ol
     × IfOk r (λ count. count ≡ 0 → IsTrue (is_there (contents_in old.now.trees) e.id))
     × IfOk r (λ count. count ≢ 0 → is_there (contents_in old.now.trees) e.id ≡ false)
     × OnErr r (contents_in new.now.trees ≡ contents_in old.now.trees)
-takes old new e (Err why) was fine low limit opened h =
-    let stays = execute_stays put_text _ old new was.settled was.idle opened why h in
-    (rests old new was limit stays, tt, tt, tt, ap (λ (d : Database). contents_in d.trees) stays.now)
+takes old new e (Err why) was fine low limit opened h = grind (arith, nat_tests, execute_stays, rests)
 takes old new e (Ok count) was fine low limit opened h =
     let events = contents_in old.now.trees in
     let it = goes old was e new count h in
     let left : (left : Contents) → Holds left new.now.trees → IsInbox new × (contents_in new.now.trees ≡ left) =
     λ left. inbox_holds left new it.1 (rw was.idle at it.2) (it.3 ∙ was.idle) (limit ∙ was.unlimited) in
     elim (cases_Bool (is_there events e.id)) [
-      | inl there ↦
-          let all = left events (record {
-            rows = (it.0.again there).1;
-            room = was.holds.room;
-            once = was.holds.once;
-            readable = was.holds.readable;
-          }) in
-          (all.0, all.1 ∙ rw there refl, λ _. there, λ some. absurd (some (it.0.again there).0), tt)
-      | inr absent ↦
-          let longer : length (events ++ e ∷ []) ≡ suc (length events) = length-append events (e ∷ []) ∙ omega arith in
-          let all = left (events ++ e ∷ []) (record {
-            rows = (it.0.fresh absent).1;
-            room = omega (arith, longer, low);
-            once = once_with e events absent was.holds.once;
-            readable = all-append IsReadable events (e ∷ []) was.holds.readable (fine, tt);
-          }) in
-          let never : count ≡ 0 → IsTrue (is_there events e.id) =
-          λ none. absurd (let one = (it.0.fresh absent).0 in omega (arith, one, none)) in
-          (all.0, all.1 ∙ rw absent refl, never, λ _. absent, tt)
+      | inl there ↦ grind (arith, nat_tests)
+      | inr absent ↦ grind (arith, nat_tests, length-append, once_with, all-append)
     ]
 
 -- an id that is there is refused for want of memory alone
@@ -139,5 +105,4 @@ pub takes_again : (old new : State) (e : Intake) (r : Result ℕ Error) → IsIn
     → suc (length (contents_in old.now.trees)) < 2 ^ 63
     → Executes put_text (intake_params (suc (length (contents_in old.now.trees))) e) old new r
     → IfErr r (λ why. IsTrue (is_there (contents_in old.now.trees) e.id) → IsMemory why)
-takes_again old new e (Ok count) was never low h = tt
-takes_again old new e (Err why) was never low h = λ there. goes_again old was e low there new why never h
+takes_again old new e r was never low h = grind (arith, nat_tests, goes_again)

@@ -1,10 +1,5 @@
 -- What the SELECTs answer.
-use Rattle.kob_inbox.proofs.Words.{[], ◌∙◌, ◌∷◌, ◌≡◌, Contents, Int, Intake, List, Output, Row, Trees, enumerate_from, inbox_tree, map, map-map, overlay, placed_row, pos, refl, shown_intake, true, ℕ}
-use Rattle.kob_outbox.proofs.statements.Words.{IsAnswer}
-use Rattle.kob_outbox.proofs.statements.Numbered.{rising}
-use Rattle.kob_outbox.proofs.statements.Picking.{all_stay, in_order, rises}
-use Rattle.kob_outbox.proofs.statements.Selecting.{query_of}
-use Rattle.kob_outbox.proofs.statements.Values.{number_below}
+use Rattle.kob_inbox.proofs.Words.{Contents, Int, Intake, IsAnswer, List, Output, Row, Trees, [], all_stay, enumerate_from, in_order, inbox_tree, map, map-map, number_below, overlay, placed_row, pos, query_of, refl, rises, rising, shown_intake, true, ℕ, ◌∙◌, ◌∷◌, ◌≡◌}
 use Rattle.kob_inbox.proofs.Texts.{all_taken}
 
 module _ (db : Trees) (rows : List Row) (events : Contents)

@@ -1,7 +1,5 @@
 -- Events read back from the rows of a query.
-use Rattle.kob_inbox.proofs.Words.{[], ◌+◌, ◌∙◌, ◌∷◌, ◌≡◌, AllByRecursion, Contents, Intake, IsReadable, IsShown, List, Row, ap, column, enumerate_from, key_in, map, map_back, refl, shown_intake, sym, ℕ}
-use Rattle.kob_outbox.specs.Layout.{blob_in, text_in}
-use Rattle.kob_outbox.specs.Numbers.{number_in}
+use Rattle.kob_inbox.proofs.Words.{AllByRecursion, Contents, Intake, IsReadable, IsShown, List, Row, [], ap, arith, blob_in, column, enumerate_from, key_in, map, map_back, nat_tests, number_in, shown_intake, sym, text_in, ℕ, ◌+◌, ◌∙◌, ◌∷◌, ◌≡◌}
 use Rattle.kob_inbox.proofs.Holding.{key_back}
 
 -- the event that a row shows, behind its place
@@ -19,8 +17,7 @@ intake_shown row = (
 )
 
 shown_back : (events : List (ℕ × Intake)) → map intake_shown (map shown_intake events) ≡ events
-shown_back =
-    map_back shown_intake intake_shown (λ p. ap (λ key. (p.0, record p.1 { key = key })) (key_back p.1.key))
+shown_back = grind (arith, nat_tests, map_back, key_back)
 
 pub same_events : (xs ys : List (ℕ × Intake)) → map shown_intake xs ≡ map shown_intake ys → xs ≡ ys
 same_events xs ys h = sym (shown_back xs) ∙ ap (map intake_shown) h ∙ shown_back ys
@@ -28,5 +25,4 @@ same_events xs ys h = sym (shown_back xs) ∙ ap (map intake_shown) h ∙ shown_
 pub all_shown : (k : ℕ) (events : Contents) → AllByRecursion IsReadable events
     → AllByRecursion IsShown (map shown_intake (enumerate_from k events))
 all_shown k [] all = tt
-all_shown k (e ∷ events) all =
-    (record { place = k; event = e; is = refl; readable = all.0 }, all_shown (k + 1) events all.1)
+all_shown k (e ∷ events) all = grind (arith, nat_tests, all_shown (k + 1) events all.1)

@@ -1,12 +1,7 @@
 -- What the fixed texts mean.
-use Rattle.kob_inbox.proofs.Words.{[], ◌∷◌, Ignore, InsertOr, List, Null, Term, Values, arith, codes, col, inbox, inbox_schema, inbox_table, lit, refl, ℕ}
+use Rattle.kob_inbox.proofs.Words.{Ignore, InsertOr, IsCreation, IsSelect, IsWhole, IsWriting, List, Null, Scan, Term, Values, [], arith, by_key, codes, col, inbox, inbox_schema, inbox_table, lit, no_limit, no_schema, over, refl, ℕ, ◌∷◌}
 use Rattle.sqlite_tied.specs.Compute.{everything}
 use Rattle.sqlite.specs.Listing.{understood}
-use Rattle.kob_outbox.specs.Tables.{no_schema}
-use Rattle.kob_outbox.proofs.statements.Creating.{IsCreation}
-use Rattle.kob_outbox.proofs.statements.Failing.{IsWhole}
-use Rattle.kob_outbox.proofs.statements.Selecting.{IsSelect, Scan, by_key, no_limit, over}
-use Rattle.kob_outbox.proofs.statements.Writing.{IsWriting}
 
 abbrev pub create_text : List ℕ
 create_text =

@@ -1,4 +1,4 @@
-use Rattle.kob_inbox.proofs.Words.{◌++◌, ◌≡◌, IsKnown, cursor_of, drop, take, with_cursor}
+use Rattle.kob_inbox.proofs.Words.{IsKnown, cursor_of, drop, take, with_cursor, ◌++◌, ◌≡◌}
 use Rattle.kob_inbox.proofs.cursors.set.Given as goal
 
 abbrev pub invariant-loop-i : goal.invariant-loop-i

@@ -1,4 +1,4 @@
-use Rattle.kob_inbox.proofs.Words.{◌≡◌, cursor_of, drop}
+use Rattle.kob_inbox.proofs.Words.{cursor_of, drop, ◌≡◌}
 use Rattle.kob_inbox.proofs.cursors.standing_of.Given as goal
 
 abbrev pub invariant-loop-cursor : goal.invariant-loop-cursor

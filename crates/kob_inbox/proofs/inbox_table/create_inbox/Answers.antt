@@ -1,5 +1,4 @@
-use Rattle.kob_inbox.proofs.Words.{database}
-use Rattle.kob_outbox.proofs.statements.Creating.{creates}
+use Rattle.kob_inbox.proofs.Words.{creates, database}
 use Rattle.kob_inbox.proofs.Holding.{opens}
 use Rattle.kob_inbox.proofs.Texts.{create_inbox}
 use Rattle.kob_inbox.proofs.inbox_table.create_inbox.Goals as goal

@@ -1,5 +1,4 @@
-use Rattle.kob_inbox.proofs.Words.{database, intake_of, memory_is_clean, refl}
-use Rattle.kob_inbox.specs.Origin.{arrival_from}
+use Rattle.kob_inbox.proofs.Words.{arrival_from, database, intake_of, memory_is_clean, refl}
 use Rattle.kob_inbox.proofs.Intakes.{takes, takes_again}
 use Rattle.kob_inbox.proofs.Keys.{bound_key, lent_key}
 use Rattle.kob_inbox.proofs.inbox_table.insert_intake.Goals as goal

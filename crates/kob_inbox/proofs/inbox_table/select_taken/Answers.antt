@@ -1,5 +1,4 @@
-use Rattle.kob_inbox.proofs.Words.{◌≡◌, contents, contents_in, enumerate_from, map, shown_intake}
-use Rattle.kob_outbox.proofs.statements.Selecting.{queried}
+use Rattle.kob_inbox.proofs.Words.{contents, contents_in, enumerate_from, map, queried, shown_intake, ◌≡◌}
 use Rattle.kob_inbox.proofs.Reading.{answer_taken}
 use Rattle.kob_inbox.proofs.Texts.{select_taken}
 use Rattle.kob_inbox.proofs.inbox_table.select_taken.Goals as goal

@@ -1,4 +1,4 @@
-use Rattle.kob_inbox.proofs.Words.{[], ◌++◌, ◌+◌, ◌<◌, ◌∙◌, ◌∷◌, ◌≡◌, Contents, List, Record, ap, arith, arrivals, behind, event_id, length, subst, sym, take, take_more, taken_in, with_record, ℕ}
+use Rattle.kob_inbox.proofs.Words.{Contents, List, Record, [], ap, arith, arrivals, behind, event_id, length, subst, sym, take, take_more, taken_in, with_record, ℕ, ◌++◌, ◌+◌, ◌<◌, ◌∙◌, ◌∷◌, ◌≡◌}
 use Rattle.kob_inbox.proofs.Ticking.{taken_last, behind_last}
 use Rattle.kob_inbox.proofs.intake.take_all.Goals as goal
 

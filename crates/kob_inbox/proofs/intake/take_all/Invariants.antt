@@ -1,4 +1,4 @@
-use Rattle.kob_inbox.proofs.Words.{◌≡◌, None, arrivals, behind, take, taken_in}
+use Rattle.kob_inbox.proofs.Words.{None, arrivals, behind, take, taken_in, ◌≡◌}
 use Rattle.kob_inbox.proofs.intake.take_all.Given as goal
 
 abbrev pub invariant-loop-at : goal.invariant-loop-at

@@ -1,5 +1,4 @@
-use Rattle.kob_inbox.proofs.Words.{◌∙◌, contents, enumerate_from, map, map-map, placed_intake, shown_intake}
-use Rattle.kob_outbox.proofs.statements.Plain.{if_ok}
+use Rattle.kob_inbox.proofs.Words.{contents, enumerate_from, if_ok, map, map-map, placed_intake, shown_intake, ◌∙◌}
 use Rattle.kob_inbox.proofs.Shown.{same_events}
 use Rattle.kob_inbox.proofs.reads.all_rows.Goals as goal
 

@@ -1,4 +1,4 @@
-use Rattle.kob_inbox.proofs.Words.{◌≡◌, map, placed_intake, shown_intake, take}
+use Rattle.kob_inbox.proofs.Words.{map, placed_intake, shown_intake, take, ◌≡◌}
 use Rattle.kob_inbox.proofs.rows.rows_of.Given as goal
 
 abbrev pub invariant-loop-row : goal.invariant-loop-row

@@ -1,4 +1,4 @@
-use Rattle.kob_inbox.proofs.Words.{◌<◌, ◌≡◌, arith, inr, length, refl, state_of}
+use Rattle.kob_inbox.proofs.Words.{arith, inr, length, refl, state_of, ◌<◌, ◌≡◌}
 use Rattle.kob_rights.specs.declared.on_partitions.Fetch.{Fetch}
 use Rattle.kob_inbox.proofs.Ticking.{all_passed, cut_short, took}
 use Rattle.kob_inbox.proofs.fetcher.Fetcher.take.Goals as goal

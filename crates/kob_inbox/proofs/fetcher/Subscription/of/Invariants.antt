@@ -1,5 +1,4 @@
-use Rattle.kob_inbox.proofs.Words.{◌≡◌}
-use Rattle.kob_inbox.specs.Assigned.{first_partitions}
+use Rattle.kob_inbox.proofs.Words.{first_partitions, ◌≡◌}
 use Rattle.kob_inbox.proofs.fetcher.Subscription.of.Given as goal
 
 abbrev pub invariant-loop-partition : goal.invariant-loop-partition

@@ -1,4 +1,4 @@
-use Rattle.kob_inbox.proofs.Words.{◌∙◌, ◌≡◌, Contents, answer_to, ap, contents, event_id, id_text, inl, sym}
+use Rattle.kob_inbox.proofs.Words.{Contents, answer_to, ap, contents, event_id, id_text, inl, sym, ◌∙◌, ◌≡◌}
 use Rattle.kob_inbox.proofs.Answering.{seen, stored, taken}
 use Rattle.kob_inbox.proofs.inbox.Inbox.take_in.Goals as goal
 
