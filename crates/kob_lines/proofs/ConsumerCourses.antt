@@ -1,12 +1,6 @@
 -- A consumer's run goes on.
-use Rattle.std.proofs.Common.{◌≡◌, List, [], ◌∷◌, ◌++◌, refl, sym, ap, ◌∙◌, append-nil, subst}
-use Rattle.kob_router.specs.declared.line.Call.{Call}
-use Rattle.kob_lines.specs.ConsumerCourse.{HasConsumerRun}
-use Rattle.kob_inbox.specs.declared.fetcher.Subscription.{Subscription}
-use Rattle.kob_inbox.specs.declared.tick.Tick.{Tick}
-use Rattle.kob_inbox.specs.Run.{IsConsumerRun, Move, State, after, calls_of, start}
-use Rattle.kob_inbox.specs.Run.Move.{Called, Restarted}
-use Rattle.kob_inbox.specs.Tick.{Scene, Ticks}
+use Rattle.kob_lines.proofs.Words.{Call, Called, HasConsumerRun, IsConsumerRun, List, Move, Restarted, Scene, Subscription, Tick, Ticks, [], after, ap, append-nil, calls_of, refl, start, subst, sym, ◌++◌, ◌∙◌, ◌∷◌, ◌≡◌}
+use Rattle.kob_inbox.specs.Run.{State}
 
 pub joined : (t : Subscription) (one two : List Move) (old middle new : State) → IsConsumerRun t old one middle
     → IsConsumerRun t middle two new → IsConsumerRun t old (one ++ two) new

@@ -1,6 +1,7 @@
 pub mod Adding
+pub mod ConsumerCourses
 pub mod Fitting
 pub mod Hearing
-pub mod ConsumerCourses
-pub mod ServiceCourses
 pub mod Relaying
+pub mod ServiceCourses
+mod Words

@@ -1,19 +1,10 @@
 -- A service's run goes on.
-use Rattle.std.proofs.Common.{◌≡◌, ℕ, suc, List, [], ◌∷◌, ◌++◌, length, Option, None, Some, true, false, refl, sym, ap, ◌∙◌, append-nil}
-use Rattle.std.specs.List.{AllByRecursion}
-use Rattle.kob_outbox.specs.Contents.{Contents, Event, empty}
-use Rattle.kob_outbox.specs.Events.{id_text, stored_event}
-use Rattle.kob_outbox.specs.Recording.{after_record, next_seq}
-use Rattle.kob_outbox.specs.declared.change.Change.{Change}
-use Rattle.kob_outbox.specs.declared.event.OutboxEvent.{OutboxEvent}
-use Rattle.kob_router.specs.declared.line.Call.{Call}
+use Rattle.kob_lines.proofs.Words.{AllByRecursion, Call, Change, Contents, Dispatching, Hand, HasServiceRun, IsOfTick, IsOneTick, IsRecordable, IsRouterRun, List, None, Option, OutboxEvent, Recorded, Some, State, Swept, Took, [], after_acknowledgement, after_record, append-nil, arith, calls_append, empty, events_of, false, nat_tests, next_seq, refl, run_append, stored_event, sym, true, ◌++◌, ◌∙◌, ◌∷◌, ◌≡◌}
+use Rattle.kob_outbox.specs.Contents.{Event}
+use Rattle.kob_router.specs.Run.{Move, after, calls_of, start}
+use Rattle.kob_router.specs.Run.Move.{Called, Restarted}
+use Rattle.kob_router.specs.Tick.{Scene, Ticks}
 use Rattle.kob_router.specs.declared.tick.Tick.{Tick}
-use Rattle.kob_lines.specs.ServiceCourse.{HasServiceRun}
-use Rattle.kob_router.specs.Dispatches.{Dispatching}
-use Rattle.kob_router.specs.Run.{Hand, IsRecordable, IsRouterRun, Move, State, after, after_acknowledgement, calls_of, events_of, start}
-use Rattle.kob_router.specs.Run.Move.{Called, Recorded, Restarted, Swept, Took}
-use Rattle.kob_router.specs.Tick.{IsOfTick, IsOneTick, Scene, Ticks}
-use Rattle.kob_router.proofs.Runs.{calls_append, run_append}
 
 -- an acknowledgement records nothing
 same_ids : (s : State) (hand : Option Hand) → (after_acknowledgement s hand).outbox.ids ≡ s.outbox.ids
@@ -24,13 +15,13 @@ same_ids s (Some hand) = refl
 one_more_row : (route : Dispatching) (ms : List Move) (c : Contents) (old new : State) (change : Change)
     (event : OutboxEvent) → c.ids ≡ old.outbox.ids → IsRouterRun route old ms new
     → events_of c (ms ++ Recorded change event ∷ []) ≡ events_of c ms ++ stored_event (next_seq new.outbox) event ∷ []
-one_more_row route [] c old new change event same run =
-    ap (λ (ids : List (List ℕ)). stored_event (suc (length ids)) event ∷ [])
-    (same ∙ ap (λ (s : State). s.outbox.ids) (sym run))
+one_more_row route [] c old new change event same run = grind (arith, nat_tests)
 one_more_row route (Recorded changed recorded ∷ ms) c old new change event same run =
-    ap (λ (rows : List Event). stored_event (next_seq c) recorded ∷ rows)
-    (one_more_row route ms (after_record c changed recorded) (after old (Recorded changed recorded)) new change event
-    (ap (λ (ids : List (List ℕ)). ids ++ id_text recorded.id ∷ []) same) run.1)
+    grind (
+      arith,
+      nat_tests,
+      one_more_row route ms (after_record c changed recorded) (after old (Recorded changed recorded)) new change event,
+    )
 one_more_row route (Swept ∷ ms) c old new change event same run =
     one_more_row route ms c (after old Swept) new change event same run.1
 one_more_row route (Restarted ∷ ms) c old new change event same run =
@@ -47,8 +38,7 @@ no_more_rows : (c : Contents) (ms ns : List Move) → ((d : Contents) → events
     → events_of c (ms ++ ns) ≡ events_of c ms
 no_more_rows c [] ns none = none c
 no_more_rows c (Recorded change event ∷ ms) ns none =
-    ap (λ (rows : List Event). stored_event (next_seq c) event ∷ rows)
-    (no_more_rows (after_record c change event) ms ns none)
+    grind (arith, nat_tests, no_more_rows (after_record c change event) ms ns none)
 no_more_rows c (Swept ∷ ms) ns none = no_more_rows c ms ns none
 no_more_rows c (Restarted ∷ ms) ns none = no_more_rows c ms ns none
 no_more_rows c (Took hand ∷ ms) ns none = no_more_rows c ms ns none
@@ -66,14 +56,8 @@ ticks_record_nothing (Restarted ∷ ns) own d = absurd own.0
 on : (route : Dispatching) (old new : State) (calls now : List Call) (rows : List Event) (ns : List Move)
     → HasServiceRun route old calls rows → IsRouterRun route old ns new → now ≡ calls ++ calls_of ns
     → ((d : Contents) → events_of d ns ≡ []) → HasServiceRun route new now rows
-on route old new calls now rows ns was run told none = record {
-  moves = was.moves ++ ns;
-  run = run_append route was.moves ns start old new was.run run;
-  made =
-      told ∙ ap (λ (cs : List Call). cs ++ calls_of ns) was.made
-      ∙ sym (calls_append was.moves ns);
-  recorded = was.recorded ∙ sym (no_more_rows empty was.moves ns none);
-}
+on route old new calls now rows ns was run told none =
+    grind (arith, nat_tests, run_append, calls_append, no_more_rows)
 
 pub begins : (route : Dispatching) → HasServiceRun route start [] []
 begins route = record { moves = []; run = refl; made = refl; recorded = refl }
@@ -81,22 +65,23 @@ begins route = record { moves = []; run = refl; made = refl; recorded = refl }
 pub ticks : (route : Dispatching) (old new : Scene) (tick : Tick) (rows : List Event)
     → HasServiceRun route old.state old.calls rows → Ticks IsOneTick route old new tick
     → HasServiceRun route new.state new.calls rows
-ticks route old new tick rows was done =
-    on route old.state new.state old.calls new.calls rows done.moves was done.run done.calls
-    (ticks_record_nothing done.moves done.own)
+ticks route old new tick rows was done = grind (arith, nat_tests, on, ticks_record_nothing)
 
 pub records : (route : Dispatching) (old : State) (calls : List Call) (rows : List Event) (change : Change)
     (event : OutboxEvent) → HasServiceRun route old calls rows → IsRecordable old.outbox change event
     → HasServiceRun route (after old (Recorded change event)) calls (rows ++ stored_event (next_seq old.outbox) event ∷ [])
-records route old calls rows change event was may = record {
-  moves = was.moves ++ Recorded change event ∷ [];
-  run = run_append route was.moves (Recorded change event ∷ []) start old (after old (Recorded change event)) was.run
-      (may, refl);
-  made = was.made ∙ sym (append-nil (calls_of was.moves)) ∙ sym (calls_append was.moves (Recorded change event ∷ []));
-  recorded =
-      ap (λ (all : List Event). all ++ stored_event (next_seq old.outbox) event ∷ []) was.recorded
-      ∙ sym (one_more_row route was.moves empty start old change event refl was.run);
-}
+records route old calls rows change event was may =
+    grind (
+      arith,
+      nat_tests,
+      run_append route was.moves (Recorded change event ∷ []) start old (after old (Recorded change event)) was.run (
+        may,
+        refl,
+      ),
+      append-nil (calls_of was.moves),
+      calls_append was.moves (Recorded change event ∷ []),
+      one_more_row route was.moves empty start old change event refl was.run,
+    )
 
 pub sweeps : (route : Dispatching) (old : State) (calls : List Call) (rows : List Event)
     → HasServiceRun route old calls rows → HasServiceRun route (after old Swept) calls rows

@@ -1,8 +1,4 @@
-use Rattle.std.proofs.Common.{ap, subst}
-use Rattle.kob_broker.specs.Change.{state_of}
-use Rattle.kob_rights.specs.Bodies.{Fits}
-use Rattle.kob_rights.specs.declared.event.Event.{Event}
-use Rattle.kob_rights.specs.declared.request.Request.{Request}
+use Rattle.kob_lines.proofs.Words.{Event, Fits, Request, ap, state_of, subst}
 use Rattle.kob_lines.proofs.Fitting.{step_fits}
 use Rattle.kob_lines.proofs.broker_line.BrokerLine.call.Goals as goal
 

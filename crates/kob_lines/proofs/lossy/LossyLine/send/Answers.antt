@@ -1,6 +1,4 @@
-use Rattle.std.proofs.Common.{sym, subst}
-use Rattle.kob_lines.specs.Becoming.{PassesCallsOn}
-use Rattle.kob_lines.specs.Joined.{no_call_is_passed_on}
+use Rattle.kob_lines.proofs.Words.{PassesCallsOn, no_call_is_passed_on, subst, sym}
 use Rattle.kob_lines.proofs.lossy.LossyLine.send.Goals as goal
 
 pub returns-in_default-clause-line : goal.returns-in_default-clause-line

@@ -1,11 +1,4 @@
-use Rattle.std.proofs.Common.{List, [], ◌∷◌, ◌++◌, refl, sym, ap, ◌∙◌, subst}
-use Rattle.kob_rights.specs.declared.request.Request.{Request}
-use Rattle.kob_router.specs.declared.line.Call.{Call}
-use Rattle.kob_shared.specs.Journals.{after_event, outcome_of}
-use Rattle.kob_shared.specs.Sessions.{event_by}
-use Rattle.kob_lines.specs.Becoming.{Journals}
-use Rattle.kob_lines.specs.Heard.{reply_of}
-use Rattle.kob_lines.specs.Joined.{no_call_is_journaled}
+use Rattle.kob_lines.proofs.Words.{Call, Journals, List, Request, [], after_event, ap, event_by, no_call_is_journaled, outcome_of, refl, reply_of, subst, sym, ◌++◌, ◌∙◌, ◌∷◌}
 use Rattle.kob_lines.proofs.Adding.{one_call_is_journaled, served_if_told}
 use Rattle.kob_lines.proofs.recorded_line.RecordedLineLine.send.Goals as goal
 

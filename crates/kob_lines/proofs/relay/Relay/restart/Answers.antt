@@ -1,7 +1,4 @@
-use Rattle.std.proofs.Common.{[], ap, ◌∙◌}
-use Rattle.std.specs.Prelude.{None}
-use Rattle.kob_lines.specs.Relayed.{Relayed}
-use Rattle.kob_router.specs.Run.{State}
+use Rattle.kob_lines.proofs.Words.{None, Relayed, State, [], ap, ◌∙◌}
 use Rattle.kob_lines.proofs.relay.Relay.restart.Goals as goal
 
 abbrev begun : Relayed → State

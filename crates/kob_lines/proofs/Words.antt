@@ -1,0 +1,46 @@
+-- The names that the lemmas cite, passed on from one place.
+pub use Rattle.kob_broker.specs.Change.{state_of}
+pub use Rattle.kob_broker.specs.Step.{step}
+pub use Rattle.kob_inbox.specs.Run.{IsConsumerRun, Move, after, calls_of, start}
+pub use Rattle.kob_inbox.specs.Run.Move.{Called, Restarted}
+pub use Rattle.kob_inbox.specs.Tick.{Scene, Ticks}
+pub use Rattle.kob_inbox.specs.declared.fetcher.Subscription.{Subscription}
+pub use Rattle.kob_inbox.specs.declared.tick.Tick.{Tick}
+pub use Rattle.kob_lines.specs.Becoming.{IsEntryOf, Journals, KeepsSeat, PassesCallsOn}
+pub use Rattle.kob_lines.specs.ConsumerCourse.{HasConsumerRun}
+pub use Rattle.kob_lines.specs.Heard.{GainsAtMost, IsHeardOf, IsServedAtMostOnce, IsServedIfHeard, IsServedInSession, PassesOn, reply_of}
+pub use Rattle.kob_lines.specs.Joined.{no_call_is_journaled, no_call_is_passed_on}
+pub use Rattle.kob_lines.specs.Relayed.{HoldsFirst, IsSomeSweep, Relayed}
+pub use Rattle.kob_lines.specs.ServiceCourse.{HasServiceRun}
+pub use Rattle.kob_lines.specs.declared.lossy.Loss.{Loss}
+pub use Rattle.kob_names.specs.declared.settings.Settings.{Settings}
+pub use Rattle.kob_outbox.proofs.Lawful.{swept_waits}
+pub use Rattle.kob_outbox.specs.Contents.{Contents, empty}
+pub use Rattle.kob_outbox.specs.Events.{stored_event}
+pub use Rattle.kob_outbox.specs.Reading.{later_than, up_to, without_sent}
+pub use Rattle.kob_outbox.specs.Recording.{after_record, next_seq}
+pub use Rattle.kob_outbox.specs.declared.change.Change.{Change}
+pub use Rattle.kob_outbox.specs.declared.event.OutboxEvent.{OutboxEvent}
+pub use Rattle.kob_outbox.specs.declared.fault.OutboxFault.{OutboxFault}
+pub use Rattle.kob_outbox.specs.declared.fault.RecordFault.{RecordFault}
+pub use Rattle.kob_partition.specs.Retained.{Retained, retained_meaning}
+pub use Rattle.kob_rights.specs.Bodies.{Fits}
+pub use Rattle.kob_rights.specs.declared.event.Event.{Event}
+pub use Rattle.kob_rights.specs.declared.reply.Reply.{Reply}
+pub use Rattle.kob_rights.specs.declared.request.Request.{Request}
+pub use Rattle.kob_router.proofs.Runs.{calls_append, run_append}
+pub use Rattle.kob_router.specs.Dispatches.{Dispatching}
+pub use Rattle.kob_router.specs.Run.{Hand, IsRecordable, IsRouterRun, State, after_acknowledgement, events_of}
+pub use Rattle.kob_router.specs.Run.Move.{Recorded, Swept, Took}
+pub use Rattle.kob_router.specs.Tick.{IsFirst, IsOfTick, IsOneTick}
+pub use Rattle.kob_router.specs.declared.line.Call.{Call}
+pub use Rattle.kob_router.specs.declared.line.Delivery.{Delivery}
+pub use Rattle.kob_router.specs.declared.line.Delivery.TheVariants.{Delivered, Lost}
+pub use Rattle.kob_shared.proofs.Bodies.{reply_fits}
+pub use Rattle.kob_shared.specs.Journals.{Record, after_event, entry, outcome_of}
+pub use Rattle.kob_shared.specs.Sessions.{Seat, event_by}
+pub use Rattle.std.proofs.Common.{List, None, Option, Some, [], ap, append-nil, arith, false, inl, inr, length, refl, subst, sym, take, true, ℕ, ◌++◌, ◌+◌, ◌∙◌, ◌∷◌, ◌≡◌, ◌⊎◌}
+pub use Rattle.std.proofs.lemmas.Bool.Decides.{nat_tests}
+pub use Rattle.std.proofs.lemmas.List.Elements.{All-cons, All-nil, filter-append}
+pub use Rattle.std.specs.List.{AllByRecursion}
+pub use Rattle.std.specs.Prelude.{Err, IfOk, Ok, OnErr, OnOk, Result, slice_get}
