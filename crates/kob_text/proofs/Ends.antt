@@ -1,15 +1,7 @@
 -- How a run ended, by what kept it from its output.
-use Rattle.std.proofs.Common.{◌≡◌, ◌≤◌, ◌<◌, ℕ, List, length, Option, Some, None, Result, Ok, Err, refl, sym, subst}
-use Rattle.std.specs.Io.KnownBytes.{Keeps}
-use Rattle.std.specs.Option.{IfSome}
-use Rattle.kob_text.specs.Faults.{unread, unwritten}
-use Rattle.kob_text.specs.Limits.{script_limit}
-use Rattle.kob_text.specs.Output.{IsEnd, IsWrittenOf}
-use Rattle.kob_text.specs.declared.fault.InputFault.{InputFault}
+use Rattle.kob_text.proofs.Words.{Ended, Err, IfSome, InputFault, IsEnd, IsWrittenOf, Keeps, List, None, Ok, Option, OutputFault, Some, arith, length, nat_tests, refl, script_limit, unread, unwritten, ℕ, ◌<◌, ◌≡◌, ◌≤◌}
 use Rattle.kob_text.specs.declared.fault.InputFault.TheVariants as input_fault
-use Rattle.kob_text.specs.declared.fault.OutputFault.{OutputFault}
 use Rattle.kob_text.specs.declared.fault.OutputFault.TheVariants as output_fault
-use Rattle.kob_text.specs.declared.output.Ended.{Ended}
 
 keeps_itself : (held : Option (List ℕ)) → Keeps held held
 keeps_itself None = tt
@@ -27,13 +19,11 @@ not_read input_fault.Memory input old long = keeps_itself old
 pub written : (ended : Ended) (bytes : List ℕ) (input old new : Option (List ℕ)) → IfSome input (λ all. bytes ≡ all)
     → length bytes ≤ script_limit → IsWrittenOf bytes old new (Ok ended) → IsEnd input old new (Ok ended)
 written ended bytes None old new read short is = tt
-written ended bytes (Some all) old new read short is =
-    subst (λ all. IsEnd (Some all) old new (Ok ended)) read (short, is)
+written ended bytes (Some all) old new read short is = grind (arith, nat_tests)
 
 pub not_written : (fault : OutputFault) (bytes : List ℕ) (input old new : Option (List ℕ))
     → IfSome input (λ all. bytes ≡ all) → length bytes ≤ script_limit → IsWrittenOf bytes old new (Err fault)
     → IsEnd input old new (Err (unwritten fault))
 not_written (output_fault.WriteFailed failed) bytes None old new read short is = tt
-not_written (output_fault.WriteFailed failed) bytes (Some all) old new read short is =
-    subst (λ all. IsEnd (Some all) old new (Err (unwritten (output_fault.WriteFailed failed)))) read (short, is)
+not_written (output_fault.WriteFailed failed) bytes (Some all) old new read short is = grind (arith, nat_tests)
 not_written output_fault.Memory bytes input old new read short is = is

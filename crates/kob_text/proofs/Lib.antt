@@ -5,3 +5,4 @@ pub mod Parts
 pub mod PrintedReplies
 pub mod ReadBytes
 pub mod RunTexts
+mod Words

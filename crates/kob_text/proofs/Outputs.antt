@@ -1,22 +1,11 @@
 -- What a run writes is an output.
-use Rattle.std.proofs.Common.{◌≡◌, ◌∙◌, ◌<◌, ◌++◌, ℕ, List, length, take, Option, Result, Ok, ap, subst}
-use Rattle.kob_text.specs.declared.output.Ended.{Ended}
-use Rattle.kob_text.specs.declared.output.Ended.TheVariants.{Clean, Fault, Stopped}
-use Rattle.kob_rights.specs.declared.event.Event.{Event}
-use Rattle.kob_rights.specs.declared.reply.Reply.{Reply}
-use Rattle.kob_text.specs.Output.{HasOutput, IsOutput, Writes, replies_to}
-use Rattle.kob_text.specs.Runs.{IsTextOfRun, WritesRun, WritesPartOfRun}
-use Rattle.kob_script.specs.declared.script.Script.{Script}
-use Rattle.kob_script.specs.Printed.{text_of_replies, stopped_text}
-use Rattle.kob_text.specs.Transfer.{AppendsPart}
+use Rattle.kob_text.proofs.Words.{AppendsPart, Clean, Ended, Event, Fault, HasOutput, IsOutput, IsTextOfRun, List, Ok, Option, Reply, Script, Stopped, Writes, WritesPartOfRun, WritesRun, ap, arith, length, nat_tests, replies_to, stopped_text, subst, take, text_of_replies, ℕ, ◌++◌, ◌<◌, ◌∙◌, ◌≡◌}
 
 -- a broker that gives the replies of a new one under the script's settings
 module _ (s : Script) (replies : List Event → List Reply) (events : List Event) (is : events ≡ s.events)
     (same : (some : List Event) → replies some ≡ replies_to s.settings some) where
   text_is_output : (ended : Ended) (text : List ℕ) → IsTextOfRun replies events ended text → IsOutput (Ok s) ended text
-  text_is_output Clean text whole =
-      whole ∙ ap text_of_replies (same events)
-      ∙ ap (λ all. text_of_replies (replies_to s.settings all)) is
+  text_is_output Clean text whole = grind (arith, nat_tests)
   text_is_output Stopped text (done, few, first) = (
     done,
     subst (λ all. done < length all) is few,

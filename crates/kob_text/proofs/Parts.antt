@@ -1,10 +1,5 @@
 -- Texts that are written in several parts, of which an end is held.
-use Rattle.std.proofs.Common.{◌≡◌, ◌∙◌, ◌+◌, ◌≤◌, ℕ, List, [], ◌++◌, length, take, Option, Result, Ok, Err, OnOk, OnErr, sym, ap, subst, append_assoc, append-nil, length-append, arith}
-use Rattle.std.proofs.lemmas.List.{take-append-le}
-use Rattle.std.proofs.Math.Seq.{take-append-add}
-use Rattle.std.proofs.KnownBytes.{Appends-nil, Appends-trans}
-use Rattle.std.specs.Io.KnownBytes.{Appends}
-use Rattle.kob_text.specs.Transfer.{AppendsPart, AppendsAllBut}
+use Rattle.kob_text.proofs.Words.{Appends, Appends-nil, Appends-trans, AppendsAllBut, AppendsPart, Err, List, Ok, OnErr, OnOk, Option, Result, [], ap, append-nil, append_assoc, arith, length, length-append, nat_tests, subst, sym, take, take-append-add, take-append-le, ℕ, ◌++◌, ◌+◌, ◌∙◌, ◌≡◌}
 
 -- a part of what follows is a part of the whole
 pub part_after : (a b c : Option (List ℕ)) (written more : List ℕ) → Appends a b written → AppendsPart b c more
@@ -20,11 +15,7 @@ part_after a b c written more before (count, fewer, wrote) = (
 pub part_of_front : (a b : Option (List ℕ)) (front more : List ℕ) → AppendsPart a b front
     → AppendsPart a b (front ++ more)
 part_of_front a b front more (count, fewer, wrote) =
-    let within : count ≤ length front = omega (arith, fewer) in (
-      count,
-      omega (arith, length-append front more, fewer),
-      subst (Appends a b) (sym (take-append-le count front more within)) wrote,
-    )
+    grind (arith, nat_tests, length-append front more, take-append-le count front more)
 
 pub all_held : (a : Option (List ℕ)) (text held : List ℕ) → held ≡ text → AppendsAllBut a a text held
 all_held a text held is = ([], sym is, Appends-nil a)
@@ -47,9 +38,7 @@ module _ (a b c : Option (List ℕ)) (text held : List ℕ) (so_far : AppendsAll
 
   -- what is held and more was written
   pub written_with_more : (more : List ℕ) → Appends b c (held ++ more) → Appends a c (text ++ more)
-  written_with_more more wrote =
-      subst (Appends a c) (sym (ap (λ t. t ++ more) so_far.1 ∙ append_assoc so_far.0 held more))
-      (Appends-trans a b c so_far.0 (held ++ more) so_far.2 wrote)
+  written_with_more more wrote = grind (arith, nat_tests, append_assoc)
 
   -- all that is held was written
   pub all_written : Appends b c held → Appends a c text
@@ -83,9 +72,7 @@ none_held a b c one two held none first second = (
 -- what is held, and then a text of three parts
 pub three_parts : (held one two three text : List ℕ) → two ≡ text
     → held ++ ((one ++ text) ++ three) ≡ ((held ++ one) ++ two) ++ three
-three_parts held one two three text is =
-    sym (append_assoc held (one ++ text) three) ∙ ap (λ t. t ++ three) (sym (append_assoc held one text))
-    ∙ ap (λ t. ((held ++ one) ++ t) ++ three) (sym is)
+three_parts held one two three text is = grind (arith, nat_tests, append_assoc)
 
 pub same_text : (a b : Option (List ℕ)) (text same held : List ℕ) → text ≡ same → AppendsAllBut a b text held
     → AppendsAllBut a b same held

@@ -1,14 +1,6 @@
 -- The text of replies that are printed one after another, and which output a part of it belongs to.
-use Rattle.std.proofs.Common.{◌≡◌, ◌∙◌, ◌+◌, ◌<◌, ◌≤◌, ℕ, List, [], ◌∷◌, ◌++◌, length, take, get_or, suc, Option, refl, sym, ap, subst, append_assoc, append-nil, add-zero, arith}
-use Rattle.std.proofs.lemmas.List.{length-take-le}
-use Rattle.kob_broker.specs.State.{State}
-use Rattle.kob_broker.specs.Step.{step, replies_of, state_after}
-use Rattle.kob_broker.proofs.Runs.{replies_one_more, state_one_more}
-use Rattle.kob_partition.specs.Meaning.{Meaning}
-use Rattle.kob_rights.specs.declared.event.Event.{Event}
-use Rattle.kob_rights.specs.declared.reply.Reply.{Reply}
-use Rattle.kob_script.specs.Printed.{reply_text, replies_text, text_of_replies}
-use Rattle.kob_text.specs.Transfer.{AppendsPart, AppendsAllBut}
+use Rattle.kob_text.proofs.Words.{AppendsAllBut, AppendsPart, Event, List, Meaning, Option, Reply, State, [], add-zero, ap, append-nil, append_assoc, arith, get_or, length, length-take-le, nat_tests, refl, replies_of, replies_one_more, reply_text, state_after, state_one_more, step, subst, suc, sym, take, text_of_replies, ℕ, ◌++◌, ◌+◌, ◌<◌, ◌∙◌, ◌∷◌, ◌≡◌}
+use Rattle.kob_script.specs.Printed.{replies_text}
 use Rattle.kob_text.proofs.Parts.{all_held, goes_on, part_with_more, same_text}
 
 replies_text_append : (number : ℕ) (xs ys : List Reply)
@@ -16,20 +8,13 @@ replies_text_append : (number : ℕ) (xs ys : List Reply)
 unfolding replies_text
 replies_text_append number [] ys = ap (λ n. replies_text n ys) (sym (add-zero number))
 replies_text_append number (x ∷ xs) ys =
-    let shifted : number + 1 + length xs ≡ number + length (x ∷ xs) = omega arith in
-    ap (λ t. reply_text number x ++ t) (replies_text_append (number + 1) xs ys)
-    ∙ sym (append_assoc (reply_text number x) (replies_text (number + 1) xs) (replies_text (number + 1 + length xs) ys))
-    ∙ ap (λ n. (reply_text number x ++ replies_text (number + 1) xs) ++ replies_text n ys) shifted
+    grind (arith, nat_tests, replies_text_append (number + 1) xs ys, append_assoc)
 
 -- one reply more
 text_push : (replies : List Reply) (reply : Reply)
     → text_of_replies (replies ++ reply ∷ []) ≡ text_of_replies replies ++ reply_text (length replies + 1) reply
 unfolding replies_text
-text_push replies reply =
-    let next : 1 + length replies ≡ length replies + 1 = omega arith in
-    replies_text_append 1 replies (reply ∷ [])
-    ∙ ap (λ n. text_of_replies replies ++ (reply_text n reply ++ [])) next
-    ∙ ap (λ t. text_of_replies replies ++ t) (append-nil (reply_text (length replies + 1) reply))
+text_push replies reply = grind (arith, nat_tests, replies_text_append, append-nil)
 
 module _ {P : Type 0} (m : Meaning P) where
   each_has_a_reply : (events : List Event) (s : State P) → length (replies_of m events s) ≡ length events
@@ -42,14 +27,14 @@ module _ {P : Type 0} (m : Meaning P) where
       → text ≡ reply_text (i + 1) (step m now event).reply
       → text_of_replies (replies_of m (take (i + 1) events) s) ≡ text_of_replies (replies_of m (take i events) s) ++ text
   text_one_more events i event s now text below is stood printed =
-      let within : i ≤ length events = omega arith in
-      let count = each_has_a_reply (take i events) s ∙ length-take-le i events within in
-      let before = replies_of m (take i events) s in
-      ap text_of_replies (replies_one_more m events i event s below is)
-      ∙ text_push before (step m (state_after m (take i events) s) event).reply
-      ∙ ap (λ n. text_of_replies before ++ reply_text (n + 1) (step m (state_after m (take i events) s) event).reply) count
-      ∙ ap (λ (t : State P). text_of_replies before ++ reply_text (i + 1) (step m t event).reply) (sym stood)
-      ∙ ap (λ t. text_of_replies before ++ t) (sym printed)
+      grind (
+        arith,
+        nat_tests,
+        each_has_a_reply (take i events) s,
+        length-take-le i events,
+        replies_one_more m events i event s below is,
+        text_push,
+      )
 
   no_text : (events : List Event) (s : State P) → text_of_replies (replies_of m (take 0 events) s) ≡ []
   unfolding replies_text
@@ -64,8 +49,7 @@ module _ {P : Type 0} (m : Meaning P) where
   pub state_put : (events : List Event) (i : ℕ) (event : Event) (s now next : State P) → i < length events
       → event ≡ get_or events i event → now ≡ state_after m (take i events) s → next ≡ (step m now event).state
       → next ≡ state_after m (take (i + 1) events) s
-  state_put events i event s now next below is stood left =
-      left ∙ ap (λ (t : State P). (step m t event).state) stood ∙ sym (state_one_more m events i event s below is)
+  state_put events i event s now next below is stood left = grind (arith, nat_tests, state_one_more)
 
   module _ (events : List Event) (i : ℕ) (event : Event) (s now : State P) (text : List ℕ) (below : i < length events)
       (is : event ≡ get_or events i event) (stood : now ≡ state_after m (take i events) s)

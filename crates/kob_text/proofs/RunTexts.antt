@@ -1,15 +1,5 @@
 -- What was written of the text of a run.
-use Rattle.std.proofs.Common.{◌≡◌, ◌∙◌, ◌+◌, ◌<◌, ◌≤◌, ◌++◌, ℕ, List, ◌∷◌, length, suc, get_or, take, drop, arith, Option, Result, Ok, Err, OnOk, false, ap, refl, sym, inl, inr}
-use Rattle.std.specs.Result.{is_err}
-use Rattle.std.proofs.lemmas.Bool.{cases_lt}
-use Rattle.std.proofs.lemmas.List.{drop_more, length-drop, take_all}
-use Rattle.std.specs.Io.KnownBytes.{Appends}
-use Rattle.kob_rights.specs.declared.event.Event.{Event}
-use Rattle.kob_rights.specs.declared.reply.Reply.{Reply}
-use Rattle.kob_text.specs.declared.output.Ended.TheVariants.{Clean, Stopped}
-use Rattle.kob_script.specs.Printed.{text_of_replies, stopped_text}
-use Rattle.kob_text.specs.Runs.{WritesRun, WritesPartOfRun}
-use Rattle.kob_text.specs.Transfer.{AppendsAllBut, AppendsPart}
+use Rattle.kob_text.proofs.Words.{Appends, AppendsAllBut, AppendsPart, Clean, Err, Event, List, Ok, OnOk, Option, Reply, Result, Stopped, WritesPartOfRun, WritesRun, ap, arith, cases_lt, drop, drop_more, false, get_or, inl, inr, is_err, length, length-drop, nat_tests, refl, stopped_text, take, take_all, text_of_replies, ℕ, ◌++◌, ◌+◌, ◌<◌, ◌∷◌, ◌≡◌, ◌≤◌}
 use Rattle.kob_text.proofs.Parts.{all_written, part_of_front, part_of_held, part_with_more, written_with_more}
 
 pub of_ok : {T E : Type 0} {P : Type 0} (r : Result T E) → is_err r ≡ false → OnOk r P → P
@@ -19,11 +9,7 @@ of_ok (Err e) is holds = absurd (cc is)
 -- what is left from a place on begins with what stands at the place
 pub next_left : {A : Type 0} (xs left more : List A) (i : ℕ) (x : A) → left ≡ drop i xs → left ≡ x ∷ more
     → (i < length xs) × (x ≡ get_or xs i x) × (more ≡ drop (i + 1) xs)
-next_left xs left more i x is front =
-    let long : length (drop i xs) ≡ suc (length more) = ap length (sym is ∙ front) in
-    let few : i < length xs = omega (arith, length-drop i xs, long) in
-    let both = sym (drop_more xs i x few) ∙ (sym is ∙ front) in
-    (few, sym (ap (λ rest. get_or rest 0 x) both), sym (ap (λ rest. drop 1 rest) both))
+next_left xs left more i x is front = grind (arith, nat_tests, length-drop i xs, drop_more xs i x)
 
 module _ (replies : List Event → List Reply) (events : List Event) (done : ℕ) (a b : Option (List ℕ)) where
   -- a part of the text of the first replies is a part of that of a run
@@ -43,19 +29,16 @@ module _ (replies : List Event → List Reply) (events : List Event) (done : ℕ
 
   module _ (c : Option (List ℕ)) (held : List ℕ) (so_far : AppendsAllBut a b (text_of_replies (replies (take done events))) held) where
     pub all_of_run : length events ≤ done → Appends b c held → WritesRun replies events Clean a c
-    all_of_run past wrote = (
-      text_of_replies (replies (take done events)),
-      ap (λ some. text_of_replies (replies some)) (take_all done events past),
-      all_written a b c (text_of_replies (replies (take done events))) held so_far wrote,
-    )
+    all_of_run past wrote = grind (arith, nat_tests, take_all, all_written)
 
     pub part_of_whole_run : length events ≤ done → AppendsPart b c held → WritesPartOfRun replies events a c
-    part_of_whole_run past part = (
-      Clean,
-      text_of_replies (replies (take done events)),
-      ap (λ some. text_of_replies (replies some)) (take_all done events past),
-      part_of_held a b c (text_of_replies (replies (take done events))) held so_far part,
-    )
+    part_of_whole_run past part =
+        grind (
+          arith,
+          nat_tests,
+          take_all done events past,
+          part_of_held a b c (text_of_replies (replies (take done events))) held so_far part,
+        )
 
     pub stopped_run : done < length events → Appends b c (held ++ stopped_text done)
         → WritesRun replies events Stopped a c

@@ -1,4 +1,4 @@
-use Rattle.std.proofs.Common.{rules}
+use Rattle.kob_text.proofs.Words.{rules}
 use Rattle.kob_text.proofs.Parts.{on_ok, on_err, none_held, part_after}
 use Rattle.kob_text.proofs.pieces.put.Goals as goal
 

@@ -1,6 +1,4 @@
-use Rattle.std.proofs.Common.{◌≡◌, ◌∙◌, codes, ◌++◌, refl, sym, subst}
-use Rattle.std.specs.Fmt.{decimal}
-use Rattle.kob_text.specs.Transfer.{AppendsPart}
+use Rattle.kob_text.proofs.Words.{AppendsPart, codes, decimal, refl, subst, sym, ◌++◌, ◌∙◌, ◌≡◌}
 use Rattle.kob_text.proofs.Parts.{all_written, is_err, on_ok, on_err, goes_on, part_with_more, part_of_front, part_of_held, same_text, three_parts}
 use Rattle.kob_text.proofs.pieces.write_stopped.Goals as goal
 

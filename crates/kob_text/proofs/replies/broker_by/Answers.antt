@@ -1,5 +1,4 @@
-use Rattle.kob_broker.specs.State.{open_state}
-use Rattle.kob_broker.proofs.Lifting.{runs_alike}
+use Rattle.kob_text.proofs.Words.{open_state, runs_alike}
 use Rattle.kob_text.proofs.replies.broker_by.Goals as goal
 
 pub returns-in-Ok : goal.returns-in-Ok

@@ -1,7 +1,4 @@
-use Rattle.std.proofs.Common.{◌+◌, ◌≤◌, ◌<◌, length, length-drop, ap, arith, rules, refl}
-use Rattle.kob_broker.specs.Change.{state_of}
-use Rattle.kob_partition.specs.Retained.{retained_meaning}
-use Rattle.kob_text.specs.Runs.{replies_from}
+use Rattle.kob_text.proofs.Words.{ap, arith, length, length-drop, refl, replies_from, retained_meaning, rules, state_of, ◌+◌, ◌<◌, ◌≤◌}
 use Rattle.kob_text.proofs.Parts.{is_err}
 use Rattle.kob_text.proofs.PrintedReplies.{nothing_put, reply_part, reply_put, state_put}
 use Rattle.kob_text.proofs.RunTexts.{all_of_run, next_left, of_ok, part_of_run, part_of_stopped_run, part_of_whole_run, stopped_run}

@@ -1,12 +1,5 @@
 -- The requests so far were served: their replies were written, but for the end of them that is held.
-use Rattle.std.proofs.Common.{◌≡◌, ◌≤◌, drop, length, take, vec_len, vec_capacity}
-use Rattle.kob_broker.specs.Change.{state_of}
-use Rattle.kob_broker.specs.Step.{state_after}
-use Rattle.kob_partition.specs.Retained.{retained_meaning}
-use Rattle.kob_script.specs.Printed.{text_of_replies}
-use Rattle.kob_text.specs.Limits.{piece_limit}
-use Rattle.kob_text.specs.Runs.{replies_from}
-use Rattle.kob_text.specs.Transfer.{AppendsAllBut}
+use Rattle.kob_text.proofs.Words.{AppendsAllBut, drop, length, piece_limit, replies_from, retained_meaning, state_after, state_of, take, text_of_replies, vec_capacity, vec_len, ◌≡◌, ◌≤◌}
 use Rattle.kob_text.proofs.replies.write_replies.Given as goal
 
 abbrev pub invariant-loop-done : goal.invariant-loop-done

@@ -1,7 +1,4 @@
-use Rattle.std.proofs.Common.{refl}
-use Rattle.kob_broker.specs.Change.{state_of}
-use Rattle.kob_script.specs.Checks.{checked}
-use Rattle.kob_text.specs.Runs.{replies_from}
+use Rattle.kob_text.proofs.Words.{checked, refl, replies_from, state_of}
 use Rattle.kob_text.proofs.Outputs.{run_is_output, part_is_of_output}
 use Rattle.kob_text.proofs.replies.write_served.Goals as goal
 

@@ -1,8 +1,5 @@
-use Rattle.std.proofs.Common.{◌≡◌, ◌∙◌, ◌++◌, ap, arith, length, length-append, length-take-le, append-nil, rules, sym, take}
-use Rattle.std.proofs.KnownBytes.{Consumes-trans, Consumes-whole}
+use Rattle.kob_text.proofs.Words.{Consumes-trans, Consumes-whole, ap, append-nil, arith, bytes_in, length, length-append, length-take-le, rules, script_limit, sym, take, ◌++◌, ◌∙◌, ◌≡◌}
 use Rattle.kob_text.proofs.ReadBytes.{past_limit}
-use Rattle.kob_text.specs.Input.{bytes_in}
-use Rattle.kob_text.specs.Limits.{script_limit}
 use Rattle.kob_text.proofs.transfer.read_all.Goals as goal
 
 pub returns-then-count-eq0-clause-whole : goal.returns-then-count-eq0-clause-whole

@@ -1,8 +1,5 @@
 -- What was read stands in the input, and the rest of the limit is left.
-use Rattle.std.proofs.Common.{◌≡◌, ◌+◌, length}
-use Rattle.std.specs.Io.KnownBytes.{Consumes}
-use Rattle.kob_text.specs.Input.{EndLines, bytes_in}
-use Rattle.kob_text.specs.Limits.{script_limit}
+use Rattle.kob_text.proofs.Words.{Consumes, EndLines, bytes_in, length, script_limit, ◌+◌, ◌≡◌}
 use Rattle.kob_text.proofs.transfer.read_all.Given as goal
 
 abbrev pub invariant-loop-input : goal.invariant-loop-input

@@ -1,10 +1,4 @@
-use Rattle.std.proofs.Common.{◌≡◌, ◌<◌, ℕ, List, ◌++◌, ◌-◌, rules, arith, length, length-append, take, drop, sym, ap, ◌∙◌, subst, append_assoc, take-append-drop, Option, Result, Ok, Err}
-use Rattle.std.specs.Result.{OnErr}
-use Rattle.std.proofs.lemmas.List.{take_rest}
-use Rattle.std.proofs.Math.Seq.{take-append_seam}
-use Rattle.std.specs.Io.KnownBytes.{Appends}
-use Rattle.std.proofs.KnownBytes.{Appends-trans, Appends-kept}
-use Rattle.kob_text.specs.Transfer.{AppendsPart}
+use Rattle.kob_text.proofs.Words.{Appends, Appends-kept, Appends-trans, AppendsPart, Err, List, Ok, OnErr, Option, Result, ap, append_assoc, arith, drop, length, length-append, rules, subst, sym, take, take-append-drop, take-append_seam, take_rest, ℕ, ◌++◌, ◌-◌, ◌<◌, ◌∙◌, ◌≡◌}
 use Rattle.kob_text.proofs.transfer.write_all.Goals as goal
 
 -- what is done is a part of the text while something is left

@@ -1,6 +1,5 @@
 -- What is gone from `rest` was written.
-use Rattle.std.proofs.Common.{◌≡◌, ℕ, List, ◌++◌, length}
-use Rattle.std.specs.Io.KnownBytes.{Appends}
+use Rattle.kob_text.proofs.Words.{Appends, List, length, ℕ, ◌++◌, ◌≡◌}
 use Rattle.kob_text.proofs.transfer.write_all.Given as goal
 
 abbrev pub invariant-loop-rest : goal.invariant-loop-rest

@@ -1,5 +1,5 @@
 -- The calls so far were interrupted, and took nothing.
-use Rattle.std.specs.Io.KnownBytes.{Keeps}
+use Rattle.kob_text.proofs.Words.{Keeps}
 use Rattle.kob_text.proofs.writing.write_some.Given as goal
 
 abbrev pub invariant-loop : goal.invariant-loop

@@ -1,7 +1,5 @@
-use Rattle.std.proofs.Common.{◌≡◌, ◌∙◌, ◌++◌, ◌-◌, List, ℕ, ap, arith, subst, sym, take, drop, length}
-use Rattle.std.specs.List.{concat}
+use Rattle.kob_text.proofs.Words.{EndLines, List, ap, arith, concat, drop, length, subst, sym, take, ℕ, ◌++◌, ◌-◌, ◌∙◌, ◌≡◌}
 use Rattle.kob_text.proofs.InputLines.{cut_ends_line, cut_goes_over, lines_end_more}
-use Rattle.kob_text.specs.Input.{EndLines}
 use Rattle.kob_text.proofs.input.Input.begin_block.Goals as goal
 
 pub returns-clause-bytes : goal.returns-clause-bytes

@@ -1,6 +1,4 @@
-use Rattle.std.proofs.Common.{◌∙◌, ◌++◌, List, ℕ, ap, subst, sym}
-use Rattle.std.specs.List.{concat}
-use Rattle.kob_script.specs.Requests.{AreWholeLines}
+use Rattle.kob_text.proofs.Words.{AreWholeLines, List, ap, concat, subst, sym, ℕ, ◌++◌, ◌∙◌}
 use Rattle.kob_text.proofs.InputLines.{concat_push, lines_are_whole}
 use Rattle.kob_text.proofs.input.Input.into_blocks.Goals as goal
 

@@ -1,6 +1,5 @@
 -- The calls so far were interrupted, and gave nothing.
-use Rattle.std.proofs.Common.{◌≤◌}
-use Rattle.std.specs.Io.KnownBytes.{Keeps}
+use Rattle.kob_text.proofs.Words.{Keeps, ◌≤◌}
 use Rattle.kob_text.proofs.source.Source.read.Given as goal
 
 abbrev pub invariant-loop-self : goal.invariant-loop-self
