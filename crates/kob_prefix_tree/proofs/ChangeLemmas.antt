@@ -1,5 +1,5 @@
 -- A place of the tree whose contents change at one key.
-use Rattle.kob_prefix_tree.proofs.Words.{ChangedAt, Contents, Err, Held, IsNeat, List, None, Ok, OnErr, OnOk, Option, Result, Some, Trie, [], ap, arith, bare, behind_one, held_in, led_by, nat_tests, nothing, refl, siblings, unwrap_or, value_at, void, without, ℕ, ◌++◌, ◌∙◌, ◌∷◌, ◌≡◌, ◌≢◌}
+use Rattle.kob_prefix_tree.proofs.Words.{ChangedAt, Contents, Held, IsNeat, List, None, Option, Some, Trie, [], ap, arith, bare, behind_one, held_in, led_by, nat_tests, nothing, refl, siblings, unwrap_or, value_at, void, without, ℕ, ◌++◌, ◌∙◌, ◌∷◌, ◌≡◌, ◌≢◌}
 use Rattle.kob_prefix_tree.proofs.SiblingLemmas.{neat_list, neat_tree, neat_without, at_without, at_without_other}
 
 -- the serials of the place itself
@@ -65,12 +65,3 @@ behind_tail f [] rest done some = (done, some)
 behind_tail f (byte ∷ tail) rest {d} done some =
     let (inner, kept) = behind_tail f tail rest done some in
     (linked_front f byte (tail ++ rest) nothing void (led_by (byte ∷ tail) d).1 tt refl inner refl kept refl, grind arith)
-
-module _ {A E : Type 0} where
-  pub on_ok : {P Q : Type 0} (r : Result A E) → (P → Q) → OnOk r P → OnOk r Q
-  on_ok (Ok a) f p = f p
-  on_ok (Err e) f p = p
-
-  pub on_err : {P Q : Type 0} (r : Result A E) → (P → Q) → OnErr r P → OnErr r Q
-  on_err (Ok a) f p = p
-  on_err (Err e) f p = f p

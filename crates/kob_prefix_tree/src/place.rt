@@ -36,6 +36,7 @@ impl<'a> Place<'a> {
     }
 
     /// The serials of one kind at this place.
+    #[tactic(auto, using(crate::proofs::TailLemmas::none_before))]
     pub(crate) fn serials(self, kind: PatternKind) -> Unread<'a>
         ensures { unread_of result ≡ serials_of kind (seen self.entry).0 }
     {
@@ -49,6 +50,7 @@ impl<'a> Place<'a> {
     }
 
     /// The place after one byte.
+    #[tactic(auto, using(crate::proofs::TailLemmas::behind_none, crate::proofs::SiblingLemmas::neat_at, crate::proofs::SiblingLemmas::neat_list))]
     pub(crate) fn child(self, byte: u8) -> Option<Place<'a>>
         ensures held { MatchOption result
             ((key : List ℕ) → held_in (byte ∷ key) (seen self.entry) ≡ nothing)

@@ -90,6 +90,7 @@ impl PrefixTree {
 
     /// Appends the serial to the key's list of its kind. The only error is out of memory. No node
     /// is made that is there already.
+    #[tactic(auto, using(crate::proofs::MapLemmas::added_of, crate::proofs::MapLemmas::same_of))]
     pub fn add(
         &mut self,
         alloc: Global,
@@ -130,6 +131,7 @@ impl PrefixTree {
 
     /// The second step: links in what was made, whatever was added and removed since, and frees the
     /// nodes whose bytes are there already. Does not allocate.
+    #[tactic(auto, using(crate::proofs::MapLemmas::added_of))]
     pub fn commit_add(&mut self, prepared: Prepared)
         ensures { self.new ≡ added self.old prepared.key prepared.kind prepared.serial }
     {
@@ -147,6 +149,7 @@ impl PrefixTree {
     /// Removes the serial from the key's list of its kind, once if it is there more often, and
     /// returns whether it was there. Nodes that then have no serials and no children are freed.
     /// Does not allocate.
+    #[tactic(auto, using(crate::proofs::MapLemmas::held_of_map, crate::proofs::MapLemmas::removed_of))]
     pub fn remove(&mut self, key: &[u8], kind: PatternKind, serial: u64) -> bool
         ensures found { result ≡ has_serial kind serial (held self.old key.now) }
         ensures removed { self.new ≡ removed self.old key.now kind serial }
@@ -157,6 +160,7 @@ impl PrefixTree {
     /// Removes these serials from the key's list of their kind in one pass, and returns whether any
     /// was there. They must be in the order of that list: each is searched for after the one before
     /// it. Nodes that then have no serials and no children are freed. Does not allocate.
+    #[tactic(auto, using(crate::proofs::MapLemmas::held_of_map, crate::proofs::MapLemmas::removed_all_of))]
     pub fn remove_all(&mut self, key: &[u8], kind: PatternKind, serials: &[u64]) -> bool
         ensures found { result ≡ has_serials kind serials.now (held self.old key.now) }
         ensures removed { self.new ≡ removed_all self.old key.now kind serials.now }
