@@ -1,5 +1,5 @@
 -- A batch that is sent again is the same.
-use Rattle.kob_router.proofs.Words.{AllByRecursion, Bool, Dispatching, IsRouterRun, IsSending, KeepsRow, List, MayCall, Move, None, Option, Reply, Request, Some, State, [], after, arith, nat_tests, subst, sym, ◌∙◌, ◌∷◌, ◌≡◌}
+use Rattle.kob_router.proofs.Words.{AllByRecursion, Bool, Dispatching, IsRouterRun, IsSending, KeepsRow, List, May, MayCall, Move, None, Option, Reply, Request, Some, State, [], after, arith, nat_tests, subst, sym, ◌∙◌, ◌∷◌, ◌≡◌}
 use Rattle.kob_rights.specs.declared.on_partitions.Produce.{Produce as ProduceRequest}
 use Rattle.kob_rights.specs.declared.request.Request.TheVariants as request
 
@@ -17,22 +17,21 @@ sends_still : (route : Dispatching) (s t : State) (sent : ProduceRequest) → Is
     → t.producer ≡ s.producer → t.sequences ≡ s.sequences → t.hand ≡ s.hand → IsSending route t sent
 sends_still route s t sent is producer sequences hand = grind (arith, nat_tests)
 
+-- what was sent is what is sent after a move that keeps the row
+kept_once : (route : Dispatching) (s : State) (move : Move) (sent : ProduceRequest) → IsSending route s sent
+    → May route s move → KeepsRow move → IsSending route (after s move) sent
+kept_once route s move sent is may keeps = grind (arith, nat_tests, sends_still, none_some, only_this)
+
 sends_on : (route : Dispatching) (old new : State) (moves : List Move) (sent : ProduceRequest)
     → IsSending route old sent → IsRouterRun route old moves new → AllByRecursion KeepsRow moves
     → IsSending route new sent
 sends_on route old new [] sent is run keep = subst (λ (s : State). IsSending route s sent) (sym run) is
 sends_on route old new (move ∷ moves) sent is run keep =
-    grind (
-      arith,
-      nat_tests,
-      sends_on route (after old move) new moves sent (kept_once route old move sent is run.0 keep.0) run.1 keep.1,
-      sends_still,
-      none_some,
-      only_this,
-    )
+    sends_on route (after old move) new moves sent (kept_once route old move sent is run.0 keep.0) run.1 keep.1
 
 pub repeats : (route : Dispatching) (old new : State) (moves : List Move) (sent : ProduceRequest) (asked : Request)
     (heard : Option Reply) (marks : Bool)
     → IsSending route old sent → IsRouterRun route old moves new → AllByRecursion KeepsRow moves
     → MayCall route new asked heard marks → asked ≡ request.Produce sent
-repeats route old new moves sent asked heard marks is run keep may = grind (arith, nat_tests, only_this, sends_on)
+repeats route old new moves sent asked heard marks is run keep may =
+    only_this route new sent asked heard marks (sends_on route old new moves sent is run keep) may

@@ -18,7 +18,7 @@ pub use Rattle.kob_router.specs.Parts.{Acknowledges, HasHand, Introduces, Reques
 pub use Rattle.kob_router.specs.Placement.{each_entry, entries_of}
 pub use Rattle.kob_router.specs.Places.{after_use, has_place, same_place, sequence_of, with_sequence_for}
 pub use Rattle.kob_router.specs.Route.{id_header, message_of, placed_header, topic_named}
-pub use Rattle.kob_router.specs.Run.{Hand, IsDone, IsRouterRun, IsSending, KeepsRow, MayCall, Move, State, after, after_acknowledgement, calls_of, producer_after}
+pub use Rattle.kob_router.specs.Run.{Hand, IsDone, IsRouterRun, IsSending, KeepsRow, May, MayCall, Move, State, after, after_acknowledgement, calls_of, producer_after}
 pub use Rattle.kob_router.specs.Run.Move.{Called, Recorded, Restarted, Swept, Took}
 pub use Rattle.kob_router.specs.Template.{each_dollar_begins, is_template, with_routed_value}
 pub use Rattle.kob_router.specs.Tick.{EndsHeard, EndsUnmarked, IsAnswer, IsAtMostOne, IsHeld, IsOfTick, IsOneTick, Scene, Ticks, hand_of, scene_of, state_of}
