@@ -1,22 +1,15 @@
 -- What a fleet leaves.
-use Rattle.kob_shared.proofs.Words.{AllZip, Difference, Done, EachIsAnswered, Entry, Event, Follows, IfSome, IsAsNoted, IsFleet, IsKept, IsLegal, IsTaken, IsTear, IsTornAt, List, Noted, Receipt, Record, Retained, Script, Settings, State, [], arith, asked_of_all, events_in, events_of_script, notes_of, opened_by, slice_get, subst, sym, ◌∷◌, ◌≡◌}
+use Rattle.kob_shared.proofs.Words.{AllZip, Difference, Done, EachIsAnswered, Entry, Event, Follows, IfSome, IsAsNoted, IsFleet, IsKept, IsLegal, IsTaken, IsTear, IsTornAt, List, Noted, Receipt, Record, Retained, Script, Settings, State, arith, asked_of_all, events_in, events_of_script, notes_of, opened_by, slice_get, subst, sym, ◌≡◌}
 use Rattle.kob_shared.proofs.Noted.{asked_scripts, told_taken}
 use Rattle.kob_shared.proofs.Beginnings.{begins_with}
 use Rattle.kob_shared.proofs.Counted.{length_kept}
+use Rattle.std.proofs.lemmas.Bool.Decides.{nat_tests}
 
 pub fleet_of : (opening : State Retained) (first : List Event) (scripts : List Script) (journal : List Entry)
     (now : State Retained) (told : List (List Receipt)) → IsLegal opening journal now
     → EachIsAnswered (asked_of_all first scripts) told → IfSome (slice_get told 0) (Follows 0)
     → IsKept (asked_of_all first scripts) told journal → IsFleet opening first scripts journal now told
-fleet_of opening first scripts journal now [] legal each begun kept = absurd each
-fleet_of opening first scripts journal now (t ∷ ts) legal each begun kept =
-    record {
-      legal = legal;
-      begins = begins_with first t journal (each.0).counted begun (kept.mine 0 (omega arith));
-      answered = each;
-      kept = kept;
-      counted = length_kept first scripts (t ∷ ts) journal each kept;
-    }
+fleet_of opening first scripts journal now told legal each begun kept = grind (arith, nat_tests, begins_with, length_kept)
 
 -- what a fleet of scripts leaves, where its journal is what was noted
 pub scripts_end : {E : Type 0} (opening : Settings) (first : Noted) (scripts : List Script) (done : List (Done E))
@@ -44,11 +37,4 @@ pub scripts_torn : {E : Type 0} (opening : Settings) (first : Noted) (scripts : 
     → AllZip IsTaken (notes_of first done) told
     → EachIsAnswered (asked_of_all first.events scripts) told
     × IsTornAt opening (asked_of_all first.events scripts) told found d.worker d.place
-scripts_torn {E} opening first scripts done found told d tear each taken =
-    let same = told_taken (notes_of first done) told taken in
-    let asked = asked_scripts first scripts done each in (
-      subst (λ es. EachIsAnswered es told) asked same.1,
-      subst (λ es. IsTornAt opening es told found d.worker d.place) asked
-          (subst (λ ts. IsTornAt opening (events_in (notes_of first done)) ts found d.worker d.place) (sym same.0)
-          tear),
-    )
+scripts_torn {E} opening first scripts done found told d tear each taken = grind (arith, nat_tests, told_taken (notes_of first done) told taken, asked_scripts first scripts done each)

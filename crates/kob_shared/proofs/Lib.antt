@@ -7,7 +7,6 @@ pub mod Rising
 pub mod Zips
 pub mod Crossing
 pub mod Joined
-pub mod Events
 pub mod Mine
 pub mod Claims
 pub mod Differences

@@ -6,8 +6,7 @@ entries_told_push : (worker : ℕ) (es : List Event) (rs : List Receipt) (e : Ev
 entries_told_push worker [] [] e r same = refl
 entries_told_push worker [] (s ∷ rs) e r same = absurd (omega arith)
 entries_told_push worker (d ∷ es) [] e r same = absurd (omega arith)
-entries_told_push worker (d ∷ es) (s ∷ rs) e r same =
-    ap (λ xs. entry worker d s.reply ∷ xs) (entries_told_push worker es rs e r (omega arith))
+entries_told_push worker (d ∷ es) (s ∷ rs) e r same = cc (entries_told_push worker es rs e r (omega arith))
 
 -- one more event is told of
 pub entries_told_more : (worker : ℕ) (es : List Event) (i : ℕ) (rs : List Receipt) (e : Event) (r : Receipt)

@@ -1,3 +1,4 @@
+pub mod Words
 pub mod Limits
 pub mod Openings
 pub mod Journals
