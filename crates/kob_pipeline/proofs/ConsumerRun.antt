@@ -1,5 +1,5 @@
 -- What each call of a consumer keeps, served or not, and what its run takes in of a partition.
-use Rattle.kob_pipeline.proofs.Words.{AreServed, Arrival, Body, Bool, Call, Cursor, Denied, Done, Entry, Fetch, IsConsumerRun, IsDue, IsHistory, IsNeverDeleted, IsNoDeletion, IsOwnCommit, IsSoleCommitter, IsTakenInOrder, List, None, OffsetCommit, OffsetFetch, Option, Place, Refused, Reply, Request, Some, Step, Subscription, View, [], after_answer, and_parts, ap, arith, bytes_eq, cond, cursor_of, due, false, filter_map, if◌then◌else◌, inl, inr, opening_view, place_at, read_from, records_of, records_of_append, refl, same_place, served_to, subst, sym, take, taken_by, taken_of, true, unwrap_or, with_commit, ℕ, ◌&&◌, ◌++◌, ◌∙◌, ◌∷◌, ◌≡◌, ◌≤◌, ◌⊎◌}
+use Rattle.kob_pipeline.proofs.Words.{AreServed, Arrival, Body, Bool, Call, Cursor, Denied, Done, Entry, Fetch, IsConsumerRun, IsDue, IsHistory, IsNeverDeleted, IsNoDeletion, IsOwnCommit, IsSoleCommitter, IsTakenInOrder, List, None, OffsetCommit, OffsetFetch, Option, Place, Refused, Reply, Request, Some, Step, Subscription, View, [], after_answer, and_parts, ap, arith, bytes_eq, cond, cursor_of, false, filter_map, inl, inr, opening_view, place_at, read_from, records_of, records_of_append, refl, same_place, served_to, subst, sym, take, taken_by, taken_of, true, unwrap_or, with_commit, ℕ, ◌&&◌, ◌++◌, ◌∙◌, ◌∷◌, ◌≡◌, ◌≤◌}
 use Rattle.kob_names.specs.declared.record.Record.{Record}
 use Rattle.kob_rights.specs.declared.on_groups.OffsetCommit.{OffsetCommit as CommitRequest}
 use Rattle.kob_rights.specs.declared.on_groups.OffsetFetch.{OffsetFetch as PositionRequest}
@@ -7,13 +7,14 @@ use Rattle.kob_rights.specs.declared.on_partitions.Fetch.{Fetch as FetchRequest}
 use Rattle.kob_inbox.specs.Cursors.{standing}
 use Rattle.kob_inbox.specs.Run.{State, May, Move, after, calls_of, start}
 use Rattle.kob_inbox.specs.declared.cursors.Standing.{Standing}
-use Rattle.kob_pipeline.proofs.ConsumerKept.{AreRead, Fits, Taking, WithinCursor, WithinOffset, taking_after_fetch, taking_after_move, taking_nothing, taking_with_commit, taking_after_restart, taking_first, taking_later, read_in_order}
+use Rattle.kob_pipeline.proofs.ConsumerKept.{Fits, Taking, WithinCursor, WithinOffset, taking_after_fetch, taking_after_move, taking_nothing, taking_with_commit, taking_after_restart, taking_first, taking_later, read_in_order}
 use Rattle.kob_pipeline.proofs.Lists.{all_both, places_are, same_some}
 use Rattle.kob_pipeline.proofs.RouterRun.{NotDone, heard_no_done, heard_none}
 use Rattle.kob_pipeline.proofs.ServedRuns.{Hears, IsRun, IsServedBy, IsUnheard, StepsAs, added, history_passes, kept_by_run}
 use Rattle.kob_inbox.specs.Run.Move.{Called, Restarted}
 use Rattle.kob_pipeline.proofs.OtherSteps.{Leaves, leaves}
 use Rattle.kob_rights.specs.declared.reply.Body.TheVariants as bodies
+use Rattle.std.proofs.lemmas.Bool.Decides.{nat_tests}
 
 -- what the due request has
 abbrev pub IsDueAs : Subscription → Place → Option Standing → Request → Type 0
@@ -25,27 +26,9 @@ IsDueAs t place o (Fetch asked) =
     (place_at asked.topic asked.partition ≡ place) × (c : Standing) × (o ≡ Some c) × (asked.offset ≡ c.position)
 IsDueAs t place o _ = ⊥
 
-due_standing : (t : Subscription) (place : Place) (c : Standing) (b : Bool)
-    → IsDueAs t place (Some c) (if b
-    then OffsetCommit (record {
-      group = t.group;
-      topic = place.topic;
-      partition = place.partition;
-      offset = c.position;
-    })
-    else Fetch (record { topic = place.topic; partition = place.partition; offset = c.position; max = t.max }))
-due_standing t place c true = (refl, refl, c, refl, refl)
-due_standing t place c false = (refl, c, refl, refl)
-
-due_as : (t : Subscription) (place : Place) (o : Option Standing) → IsDueAs t place o (due t place o)
-due_as t place None = (refl, refl)
-due_as t place (Some c) = due_standing t place c c.uncommitted
-
 pub is_due_as : (t : Subscription) (s : State) (request : Request) (d : IsDue t s request)
     → IsDueAs t d.place (standing (cursor_of s.cursors d.place)) request
-is_due_as t s request d =
-    subst (IsDueAs t d.place (standing (cursor_of s.cursors d.place))) (sym d.is_due)
-    (due_as t d.place (standing (cursor_of s.cursors d.place)))
+is_due_as t s request d = grind (arith, nat_tests)
 
 -- a position is within the bound
 standing_within : (o : Option Cursor) (c : Standing) (bound : ℕ) → standing o ≡ Some c → WithinCursor bound o
@@ -73,10 +56,7 @@ commit_or_not false n bound o h w = w
 -- with no Done heard nothing changes
 unheard : (t : Subscription) (s : State) (request : Request) (heard : Option Reply) (count : ℕ) → NotDone heard
     → (after_answer t s request heard count ≡ s) × (taken_by request heard count ≡ [])
-unheard t s request None count n = (refl, refl)
-unheard t s request (Some (Denied code verdicts)) count n = (refl, refl)
-unheard t s request (Some (Refused code reason)) count n = (refl, refl)
-unheard t s request (Some (Done body)) count n = absurd n
+unheard t s request heard count n = grind (arith, nat_tests)
 
 module _ (t : Subscription) (q : Place) where
   abbrev pub TakingIn : State → View → List Arrival → Type 0
@@ -113,19 +93,7 @@ module _ (t : Subscription) (q : Place) where
       → body ≡ bodies.Records (read_from (records_of (v.log (place_at asked.topic asked.partition))) asked.offset
       asked.max)
       → heard ≡ Some (Done body) → TakingIn s v arrived → After s v arrived (Fetch asked) heard count
-  fetched_in s v arrived asked body heard count c at here is e k =
-      let p : Place = place_at asked.topic asked.partition in
-      let records : List Record = records_of (v.log p) in
-      let xs : List (ℕ × Record) = take count (read_from records asked.offset asked.max) in
-      let fits : p ≡ q → Fits q (records_of (v.log q)) k.bound asked.offset xs =
-      λ e'. (
-        rw here (position_within s.cursors p q c k.bound at k.cursor e'),
-        subst (λ (y : Place). AreRead (records_of (v.log y)) asked.offset xs) e'
-            (read_in_order records asked.offset asked.max count),
-      ) in
-      rw (e, is)
-      (taking_after_fetch q p asked.offset count xs k
-      (none_taken count (read_from records asked.offset asked.max)) fits)
+  fetched_in s v arrived asked body heard count c at here is e k = let p : Place = place_at asked.topic asked.partition in let records : List Record = records_of (v.log p) in let xs : List (ℕ × Record) = take count (read_from records asked.offset asked.max) in let fits : p ≡ q → Fits q (records_of (v.log q)) k.bound asked.offset xs = λ e'. (rw here (position_within s.cursors p q c k.bound at k.cursor e'), rw (← e') (read_in_order records asked.offset asked.max count)) in rw (e, is) (taking_after_fetch q p asked.offset count xs k (none_taken count (read_from records asked.offset asked.max)) fits)
 
   -- OFFSET_COMMIT that was served
   committed_in : (s : State) (v : View) (arrived : List Arrival) (asked : CommitRequest) (body : Body)
@@ -171,29 +139,11 @@ module _ (t : Subscription) (q : Place) where
       → IsDueAs t place (standing (cursor_of s.cursors place)) request → Hears heard reply → Step v request reply w
       → TakingIn s v arrived
       → After s w arrived request heard count
-  taking_served s v w arrived place request (Denied code verdicts) heard count d hears step k =
-      taking_silent s w arrived request heard count (heard_no_done heard (Denied code verdicts) tt hears)
-      (rw (step.log q, step.committed t.group q) k)
-  taking_served s v w arrived place request (Refused code reason) heard count d hears step k =
-      taking_silent s w arrived request heard count (heard_no_done heard (Refused code reason) tt hears)
-      (rw (step.log q, step.committed t.group q) k)
-  taking_served s v w arrived place (OffsetFetch asked) (Done body) heard count d hears step k =
-      rw (step.1.log q, step.1.committed t.group q)
-      (elim hears [
-        | inl e ↦ taking_silent s v arrived (OffsetFetch asked) heard count (heard_none heard e) k
-        | inr e ↦ placed s v arrived asked body heard count d.0 step.0 e k
-      ])
-  taking_served s v w arrived place (OffsetCommit asked) (Done body) heard count d hears step k =
-      rw (step.log q, step.committed t.group q)
-      (committed_in s v arrived asked body heard count d.2
-      (ap (λ (y : Place). standing (cursor_of s.cursors y)) d.1 ∙ d.3) d.4 hears k)
-  taking_served s v w arrived place (Fetch asked) (Done body) heard count d hears step k =
-      rw (step.1.log q, step.1.committed t.group q)
-      (elim hears [
-        | inl e ↦ taking_silent s v arrived (Fetch asked) heard count (heard_none heard e) k
-        | inr e ↦ fetched_in s v arrived asked body heard count d.1
-            (ap (λ (y : Place). standing (cursor_of s.cursors y)) d.0 ∙ d.2) d.3 step.0 e k
-      ])
+  taking_served s v w arrived place request (Denied code verdicts) heard count d hears step k = grind (arith, nat_tests, taking_silent, heard_no_done)
+  taking_served s v w arrived place request (Refused code reason) heard count d hears step k = grind (arith, nat_tests, taking_silent, heard_no_done)
+  taking_served s v w arrived place (OffsetFetch asked) (Done body) heard count d hears step k = grind (arith, nat_tests, taking_silent, heard_none, placed)
+  taking_served s v w arrived place (OffsetCommit asked) (Done body) heard count d hears step k = grind (arith, nat_tests, committed_in s v arrived asked body heard count d.2 (ap (λ (y : Place). standing (cursor_of s.cursors y)) d.1 ∙ d.3) d.4 hears k)
+  taking_served s v w arrived place (Fetch asked) (Done body) heard count d hears step k = grind (arith, nat_tests, taking_silent, heard_none, fetched_in)
   taking_served s v w arrived place _ (Done body) heard count d hears step k = absurd d
 
 -- ---- what a consumer takes in of a partition: by its own moves and the entries of the journal, each at its pace
@@ -211,9 +161,7 @@ takes s (Called call count) = taken_by call.request call.heard count
 all_taken : (t : Subscription) (moves : List Move) (s : State) → taken_of moves ≡ added (after t) takes s moves
 all_taken t [] s = refl
 all_taken t (Restarted ∷ moves) s = all_taken t moves (after t s Restarted)
-all_taken t (Called call count ∷ moves) s =
-    ap (λ (more : List Arrival). taken_by call.request call.heard count ++ more)
-    (all_taken t moves (after t s (Called call count)))
+all_taken t (Called call count ∷ moves) s = cc (all_taken t moves (after t s (Called call count)))
 
 its_calls : (moves : List Move) → calls_of moves ≡ filter_map call_of moves
 its_calls [] = refl
@@ -225,10 +173,6 @@ is_run : (t : Subscription) (moves : List Move) (s final : State) → IsConsumer
 is_run t [] s final run = run
 is_run t (move ∷ moves) s final run = (run.0, is_run t moves (after t s move) final run.1)
 
-within_left : (bound : ℕ) (o n : Option ℕ) → (n ≡ None) ⊎ (n ≡ o) → WithinOffset bound o → WithinOffset bound n
-within_left bound o n (inl e) w = rw e tt
-within_left bound o n (inr e) w = rw e w
-
 module _ (t : Subscription) (q : Place) (worker : ℕ) (end : View) where
   -- an OFFSET_COMMIT of the group that was done is the worker's, and nobody deletes the topic
   abbrev IsAsked : Entry → Type 0
@@ -239,44 +183,21 @@ module _ (t : Subscription) (q : Place) (worker : ℕ) (end : View) where
 
   moved : (m : Move) (arrived : List Arrival) (s : State) (v : View) → May t s m → IsUnheard (call_of m)
       → TakingBy arrived s v → TakingBy (arrived ++ takes s m) (after t s m) v
-  moved Restarted arrived s v may u k = taking_nothing q (taking_after_restart q k)
-  moved (Called c count) arrived s v may u k =
-      taking_silent t q s v arrived c.request c.heard count (heard_none c.heard u) k
+  moved m arrived s v may u k = grind (arith, nat_tests, taking_nothing, taking_after_restart, taking_silent, heard_none)
 
   served : (m : Move) (arrived : List Arrival) (s : State) (e : Entry) (v w : View) → May t s m
       → IsServedBy e (call_of m) → e.worker ≡ worker → StepsAs IsAsked v e w → TakingBy arrived s v
       → TakingBy (arrived ++ takes s m) (after t s m) w
   served Restarted arrived s e v w may by own goes k = absurd by
-  served (Called c count) arrived s e v w may by own goes k =
-      taking_served t q s v w arrived may.0.place c.request e.reply c.heard count (is_due_as t s c.request may.0) by.1
-      (subst (λ (r : Request). Step v r e.reply w) by.0 goes.1) k
+  served (Called c count) arrived s e v w may by own goes k = taking_served t q s v w arrived may.0.place c.request e.reply c.heard count (is_due_as t s c.request may.0) by.1 (rw by.0 at goes.1) k
 
   others : (arrived : List Arrival) (s : State) (e : Entry) (v w : View) → (e.worker ≡ worker → ⊥)
       → StepsAs IsAsked v e w → TakingBy arrived s v → TakingBy arrived s w
-  others arrived s e v w other ((sole, never), step) k =
-      let by : Leaves t.group q v w e.event.request e.reply =
-      leaves t.group q v w e.event.request e.reply never step in
-      let log : records_of (v.log q) ++ records_of by.more ≡ records_of (w.log q) =
-      sym (ap records_of by.log ∙ records_of_append (v.log q) by.more) in
-      let grown : Taking q (records_of (w.log q)) (v.committed t.group q) s.cursors arrived =
-      subst (λ (rs : List Record). Taking q rs (v.committed t.group q) s.cursors arrived) log
-      (taking_later q (records_of by.more) k) in
-      taking_with_commit q grown
-      (within_left grown.bound (v.committed t.group q) (w.committed t.group q) (by.commit (λ c. other (sole c)))
-      grown.commit)
+  others arrived s e v w other ((sole, never), step) k = let by : Leaves t.group q v w e.event.request e.reply = leaves t.group q v w e.event.request e.reply never step in let log : records_of (v.log q) ++ records_of by.more ≡ records_of (w.log q) = sym (ap records_of by.log ∙ records_of_append (v.log q) by.more) in let grown : Taking q (records_of (w.log q)) (v.committed t.group q) s.cursors arrived = subst (λ (rs : List Record). Taking q rs (v.committed t.group q) s.cursors arrived) log (taking_later q (records_of by.more) k) in grind (arith, nat_tests)
 
   pub is_taken_in_order : (journal : List Entry) (moves : List Move) (final : State)
       → IsHistory opening_view journal end → IsConsumerRun t start moves final
       → AreServed (calls_of moves) (served_to worker journal) → IsSoleCommitter worker t.group q.topic journal
       → IsNeverDeleted q.topic journal
       → IsTakenInOrder q (records_of (end.log q)) (taken_of moves)
-  is_taken_in_order journal moves final history run a sole never =
-      let each = all_both (IsOwnCommit worker t.group q.topic) (IsNoDeletion q.topic) journal sole never in
-      let p = history_passes IsAsked opening_view end journal history each in
-      let k : TakingIn t q final end (added (after t) takes start moves) =
-      rw (p.2.log q, p.2.committed t.group q)
-      (kept_by_run (May t) (after t) call_of takes worker (StepsAs IsAsked) TakingBy moved served others final p.0 moves
-      start journal opening_view (is_run t moves start final run)
-      (subst (λ (cs : List Call). AreServed cs (served_to worker journal)) (its_calls moves) a) p.1 (taking_first q)) in
-      subst (IsTakenInOrder q (records_of (end.log q))) (sym (all_taken t moves start))
-      (record { bound = k.bound; offsets = k.offsets; contents = k.contents })
+  is_taken_in_order journal moves final history run a sole never = let each = all_both (IsOwnCommit worker t.group q.topic) (IsNoDeletion q.topic) journal sole never in let p = history_passes IsAsked opening_view end journal history each in let k : TakingIn t q final end (added (after t) takes start moves) = rw (p.2.log q, p.2.committed t.group q) (kept_by_run (May t) (after t) call_of takes worker (StepsAs IsAsked) TakingBy moved served others final p.0 moves start journal opening_view (is_run t moves start final run) (rw (← (its_calls moves)) a) p.1 (taking_first q)) in rw (all_taken t moves start) (record { bound = k.bound; offsets = k.offsets; contents = k.contents })

@@ -1,5 +1,5 @@
 -- Lemmas on lists and places.
-use Rattle.kob_pipeline.proofs.Words.{All-contains, All-contains_itself, All-filter, All-from_recursion, AllByRecursion, Bool, Contains, List, Place, Some, [], and_from, and_parts, ap, append-nil, arith, bytes_eq, cases_Bool, eq-eqb, eqb-true, false, filter, filter-append, filter_passes, get_or_from_slice_get, inl, inr, length, list_any, map, nat_list_eq_equiv, nat_tests, recursion_from_All, refl, same_place, slice_get, slice_get_within, suc, true, zero, ℕ, ◌&&◌, ◌++◌, ◌+◌, ◌||◌, ◌∙◌, ◌∷◌, ◌≡◌, ◌⊎◌}
+use Rattle.kob_pipeline.proofs.Words.{All-contains, All-contains_itself, All-filter, All-from_recursion, AllByRecursion, Bool, Contains, List, Place, Some, [], and_from, and_parts, ap, append-nil, arith, bytes_eq, cases_Bool, eq-eqb, eqb-true, false, filter, filter-append, filter_passes, get_or_from_slice_get, inl, inr, length, list_any, map, nat_list_eq_equiv, nat_tests, recursion_from_All, refl, same_place, slice_get, slice_get_within, suc, true, zero, ℕ, ◌&&◌, ◌++◌, ◌+◌, ◌∙◌, ◌∷◌, ◌≡◌, ◌⊎◌}
 use Rattle.std.proofs.lemmas.Slice.Eq.{bytes_eq-Decides}
 
 pub same_bytes : (xs : List ℕ) → bytes_eq xs xs ≡ true
@@ -108,10 +108,6 @@ none_in_filter t f p (x ∷ xs) h = grind (arith, nat_tests, none_in_filter t f 
 
 pub and_as : (x p : Bool) → (p ≡ true → x ≡ true) → (x && p) ≡ p
 and_as x p h = grind (arith, nat_tests, h)
-
-pub or_false : (b : Bool) → (b || false) ≡ b
-or_false true = refl
-or_false false = refl
 
 pub any_last : {A : Type 0} (t : A → Bool) (xs : List A) (x : A) → t x ≡ true → list_any t (xs ++ x ∷ []) ≡ true
 any_last t [] x h = grind (arith, nat_tests)

@@ -1,8 +1,9 @@
 -- What the outbox of a service keeps of the rows that were recorded, and a partition's log of those routed there.
-use Rattle.kob_pipeline.proofs.Words.{AllByRecursion, Batch, Change, Contains, Contains-append_left, Dispatching, Idem, IsGiven, IsRecordOf, IsRecordable, List, None, Option, OutboxEvent, Place, Some, [], after_record, ap, append-nil, append_assoc, arith, bytes_eq, empty, false, filter, filter_map, filter_map-append, firsts, fold-append, goes_to, id_text, ids_of, later_than, le-ltb, length, length-append, length-map, length_push, list_any, lt-ltb, ltb-true, map-append, map_push, nat_lt, next_seq, records_of, records_of_push, refl, routed_to, stored_event, sym, told_id, true, with_new, without_sent, ℕ, ◌++◌, ◌+◌, ◌<◌, ◌∙◌, ◌∷◌, ◌≡◌, ◌≤◌}
+use Rattle.kob_pipeline.proofs.Words.{AllByRecursion, Batch, Change, Contains, Contains-append_left, Dispatching, IsGiven, IsRecordOf, IsRecordable, List, OutboxEvent, Place, Some, [], after_record, ap, append-nil, append_assoc, arith, bytes_eq, empty, false, filter, filter_map, filter_map-append, firsts, fold-append, goes_to, id_text, ids_of, later_than, le-ltb, length, length-append, length-map, length_push, list_any, lt-ltb, ltb-true, map-append, map_push, nat_lt, next_seq, records_of, records_of_push, refl, routed_to, stored_event, sym, told_id, true, with_new, without_sent, ℕ, ◌++◌, ◌+◌, ◌∙◌, ◌∷◌, ◌≡◌, ◌≤◌}
 use Rattle.kob_outbox.specs.Contents.{Contents, Event}
 use Rattle.kob_pipeline.proofs.Lists.{any_same, bytes_turned, filter_twice, filter_all, filter_last, all_last, all_weaker, any_last, filter_not_last, none_in_filter, same_bytes, same_here}
 use Rattle.kob_names.specs.declared.record.Record.{Record}
+use Rattle.std.proofs.lemmas.Bool.Decides.{nat_tests}
 
 -- numbered from n + 1 on, and none with an id that was seen before
 abbrev pub InOrder : ℕ → List (List ℕ) → List Event → Type 0
@@ -37,45 +38,17 @@ kept_at_start = record { rows_are = refl; ids = refl; mark = refl; waits = refl;
 -- the id of a row that may be recorded was never seen
 pub is_fresh : (c : Contents) (change : Change) (event : OutboxEvent) → IsRecordable c change event
     → list_any (bytes_eq (id_text event.id)) c.ids ≡ false
-is_fresh c change event may =
-    any_same (bytes_eq (id_text event.id)) (λ x. bytes_eq x (id_text event.id)) (λ x. bytes_turned (id_text event.id) x)
-    c.ids
-    ∙ may.fresh
+is_fresh c change event may = grind (arith, nat_tests, any_same, bytes_turned)
 
 pub kept_recorded : {rows : List Event} {c : Contents} {sent wait : List Event} (change : Change) (event : OutboxEvent)
     → IsRecordable c change event → IsKept rows c sent wait
     → IsKept (rows ++ stored_event (next_seq c) event ∷ []) (after_record c change event) sent
     (wait ++ stored_event (next_seq c) event ∷ [])
-kept_recorded {rows} {c} {sent} {wait} change event may k =
-    let row : Event = stored_event (next_seq c) event in
-    let count : length c.ids ≡ length sent + length wait =
-    ap length k.ids ∙ length-map rows (λ r. r.id) ∙ ap length k.rows_are ∙ length-append sent wait in
-    let past : c.mark < row.seq = omega (arith, count, k.mark) in
-    let seen : ids_of sent ++ ids_of wait ≡ c.ids =
-    sym (map-append (λ r. r.id) sent wait) ∙ ap ids_of (sym k.rows_are) ∙ sym k.ids in
-    record {
-      rows_are = ap (λ rs. rs ++ row ∷ []) k.rows_are ∙ append_assoc sent wait (row ∷ []);
-      ids = ap (λ xs. xs ++ row.id ∷ []) k.ids ∙ sym (map_push (λ r. r.id) rows row);
-      mark = k.mark;
-      waits =
-          filter_last (λ r. nat_lt c.mark r.seq) c.events row (lt-ltb c.mark row.seq past)
-          ∙ ap (λ rs. rs ++ row ∷ []) k.waits;
-      order =
-          order_last (length sent) (ids_of sent) wait row k.order (omega (arith, count))
-          (rw seen (is_fresh c change event may));
-    }
+kept_recorded {rows} {c} {sent} {wait} change event may k = grind (arith, nat_tests, length-map, length-append, map-append, append_assoc, map_push, filter_last, lt-ltb, order_last, is_fresh)
 
 pub kept_swept : {rows : List Event} {c : Contents} {sent wait : List Event} → IsKept rows c sent wait
     → IsKept rows (without_sent c.mark c) sent wait
-kept_swept {c = c} k =
-    record {
-      rows_are = k.rows_are;
-      ids = k.ids;
-      mark = k.mark;
-      waits =
-          filter_twice (λ row. nat_lt c.mark row.seq) (λ row. nat_lt c.mark row.seq) (λ x h. h) c.events ∙ k.waits;
-      order = k.order;
-    }
+kept_swept {c = c} k = grind (arith, nat_tests, filter_twice)
 
 -- the first row that waits is sent
 pub kept_marked : {rows : List Event} {c : Contents} {sent rest : List Event} {r : Event}
@@ -101,18 +74,6 @@ kept_marked {c = c} {sent = sent} {rest = rest} {r = r} k =
 
 -- ---- what a partition's log holds of the rows that are routed there
 
-records_last : (log : List Batch) (b : Batch) (x : Record) → b.records ≡ x ∷ []
-    → records_of (log ++ b ∷ []) ≡ records_of log ++ x ∷ []
-records_last log b x e = records_of_push log b ∙ ap (λ xs. records_of log ++ xs) e
-
-ids_last : (xs : List Record) (x : Record) (id : List ℕ) → told_id x ≡ Some id
-    → filter_map told_id (xs ++ x ∷ []) ≡ filter_map told_id xs ++ id ∷ []
-ids_last xs x id e = filter_map-append told_id xs (x ∷ []) ∙ rw e refl
-
-given_more : (m n : ℕ) → m ≤ n → (o : Option Idem) → IsGiven m o → IsGiven n o
-given_more m n l None h = tt
-given_more m n l (Some idem) h = omega (arith, l, h)
-
 -- a batch of one record, which is what the route makes of a row for the place
 pub record IsBatchOf (route : Dispatching) (q : Place) (row : Event) (message : Record) (next : ℕ) (b : Batch) : Type 0
   where
@@ -130,58 +91,27 @@ module _ (route : Dispatching) (q : Place) where
 
   pub logged_more_rows : {rows : List Event} {log : List Batch} {next : ℕ} {upto : List Event} (more : List Event)
       → IsLogged rows log next upto → IsLogged (rows ++ more) log next upto
-  logged_more_rows {rows} {log} more k =
-      record {
-        delivered = k.delivered;
-        each = all_weaker (IsRecordOf route q rows) (IsRecordOf route q (rows ++ more))
-            (λ x (r, at, e). (r, Contains-append_left rows more r at, e)) (records_of log) k.each;
-        given = k.given;
-      }
+  logged_more_rows {rows} {log} more k = grind (arith, nat_tests, all_weaker (IsRecordOf route q rows) (IsRecordOf route q (rows ++ more)) (λ x (r, at, e). (r, Contains-append_left rows more r at, e)) (records_of log) k.each)
 
   pub logged_later : {rows : List Event} {log : List Batch} {next later : ℕ} {upto : List Event} → next ≤ later
       → IsLogged rows log next upto → IsLogged rows log later upto
-  logged_later {log = log} {next = next} {later = later} l k =
-      record {
-        delivered = k.delivered;
-        each = k.each;
-        given = all_weaker (λ (b : Batch). IsGiven next b.idem) (λ (b : Batch). IsGiven later b.idem)
-            (λ b. given_more next later l b.idem) log k.given;
-      }
+  logged_later {log = log} {next = next} {later = later} l k = grind (arith, nat_tests, all_weaker)
 
   -- a row that is routed elsewhere
   pub logged_elsewhere : {rows : List Event} {log : List Batch} {next : ℕ} {upto : List Event} (row : Event)
       → goes_to q (route row) ≡ false → IsLogged rows log next upto → IsLogged rows log next (upto ++ row ∷ [])
-  logged_elsewhere {upto = upto} row h k =
-      record {
-        delivered = k.delivered ∙ ap ids_of (sym (filter_not_last (λ r. goes_to q (route r)) upto row h));
-        each = k.each;
-        given = k.given;
-      }
+  logged_elsewhere {upto = upto} row h k = grind (arith, nat_tests, filter_not_last)
 
   -- what a log holds with one more batch
   appended : {rows : List Event} {log : List Batch} {next : ℕ} {upto : List Event} {row : Event} {x : Record}
       {b : Batch} (done : List Event) → Contains rows row → IsBatchOf route q row x next b
       → with_new bytes_eq (ids_of (routed_to route q upto)) row.id ≡ ids_of (routed_to route q done)
       → IsLogged rows log next upto → IsLogged rows (log ++ b ∷ []) next done
-  appended {rows} {log} {next} {upto} {row} {x} {b} done at is e k =
-      record {
-        delivered =
-            ap (λ xs. firsts bytes_eq (filter_map told_id xs)) (records_last log b x is.single)
-            ∙ ap (firsts bytes_eq) (ids_last (records_of log) x row.id is.tells)
-            ∙ fold-append (with_new bytes_eq) [] (filter_map told_id (records_of log)) (row.id ∷ [])
-            ∙ ap (λ xs. with_new bytes_eq xs row.id) k.delivered
-            ∙ e;
-        each =
-            rw (records_last log b x is.single)
-            (all_last (IsRecordOf route q rows) (records_of log) x k.each (row, at, is.routed));
-        given = all_last (λ (c : Batch). IsGiven next c.idem) log b k.given is.given;
-      }
+  appended {rows} {log} {next} {upto} {row} {x} {b} done at is e k = grind (arith, nat_tests, records_of_push, filter_map-append, fold-append, all_last)
 
   routed_last : (sent : List Event) (row : Event) (x : Record) → route row ≡ Some (record { place = q; message = x })
       → ids_of (routed_to route q (sent ++ row ∷ [])) ≡ ids_of (routed_to route q sent) ++ row.id ∷ []
-  routed_last sent row x r =
-      ap ids_of (filter_last (λ y. goes_to q (route y)) sent row (ap (goes_to q) r ∙ same_here q))
-      ∙ map_push (λ y. y.id) (routed_to route q sent) row
+  routed_last sent row x r = grind (arith, nat_tests, filter_last, same_here, map_push)
 
   -- the first batch of a row
   pub logged_first : {rows : List Event} {log : List Batch} {next : ℕ} {sent : List Event} {row : Event} {x : Record}

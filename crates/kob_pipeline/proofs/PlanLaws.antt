@@ -1,10 +1,10 @@
 -- The laws of delivery, of a pipeline's plan and what it leaves.
-use Rattle.kob_pipeline.proofs.Words.{Administering, AllByRecursion, AllZip, ArePrivate, ConsumerPlan, Consuming, Contains, Entry, HasDone, HasEnded, HasLeft, Inbox, InboxEnd, Intake, IsConsumption, IsDelivered, IsHistory, IsKept, IsNeverDeleted, IsPipeline, IsServiceRun, IsSoleCommitter, IsSoleProducer, IsWaitingOrSent, List, Noted, Outbox, OutboxEnd, PipelineEnd, Place, Plan, Planned, ReachesInOrder, Receipt, Served, Service, Serving, Some, WorkerEnd, [], ap, arith, claims, consumer_number, consumer_place, dispatch_of, enumerate_from, events_in, get_or-map, get_or_from_slice_get, inl, inr, length, length-map, map, map-map, mine_from, nat_tests, notes_in, opening_view, option_map, planned_workers, refl, rows_of_service, run_takes_in, served_by_notes, served_in, served_to, service_number, slice_get, slice_get-map, slice_get_within, slice_index_or, state_of, subst, suc, sym, told_in, view_after, zero, ℕ, ◌++◌, ◌+◌, ◌<◌, ◌∙◌, ◌∷◌, ◌≡◌}
+use Rattle.kob_pipeline.proofs.Words.{Administering, AllZip, ArePrivate, ConsumerPlan, Consuming, Entry, HasDone, HasEnded, HasLeft, Inbox, InboxEnd, Intake, IsConsumption, IsDelivered, IsHistory, IsKept, IsNeverDeleted, IsPipeline, IsServiceRun, IsSoleCommitter, IsSoleProducer, IsWaitingOrSent, List, Noted, Outbox, OutboxEnd, PipelineEnd, Place, Plan, Planned, ReachesInOrder, Receipt, Served, Service, Serving, Some, WorkerEnd, [], ap, arith, claims, consumer_number, consumer_place, dispatch_of, enumerate_from, events_in, get_or-map, get_or_from_slice_get, inl, inr, length, length-map, map, map-map, mine_from, nat_tests, notes_in, opening_view, option_map, planned_workers, refl, rows_of_service, run_takes_in, served_by_notes, served_in, served_to, service_number, slice_get, slice_get-map, slice_get_within, slice_index_or, state_of, subst, suc, sym, told_in, view_after, zero, ℕ, ◌++◌, ◌+◌, ◌<◌, ◌∙◌, ◌∷◌, ◌≡◌}
 use Rattle.kob_rights.specs.declared.event.Event.{Event as Asked}
 use Rattle.kob_shared.specs.declared.work.Done.{Done}
 use Rattle.kob_outbox.specs.Contents.{Event}
 use Rattle.kob_inbox.specs.Rows.{placed_intake}
-use Rattle.kob_pipeline.specs.PlanEnds.{TakesInOrder, inbox_in, outbox_in, records_at}
+use Rattle.kob_pipeline.specs.PlanEnds.{IsNoneLost, TakesInOrder, inbox_in, outbox_in, records_at}
 use Rattle.kob_pipeline.proofs.BrokerSteps.{legal_is_history}
 use Rattle.kob_pipeline.proofs.Aggregates.{target_tells}
 use Rattle.kob_pipeline.proofs.ConsumerRun.{is_taken_in_order}
@@ -30,21 +30,16 @@ of_claims : (worker : ℕ) (events : List Asked) (told : List Receipt) → serve
     ≡ served_by_notes events told
 of_claims worker [] told = refl
 of_claims worker (e ∷ events) [] = refl
-of_claims worker (e ∷ events) (r ∷ told) =
-    ap (λ served. record { request = e.request; reply = r.reply } ∷ served) (of_claims worker events told)
+of_claims worker (e ∷ events) (r ∷ told) = cc (of_claims worker events told)
 
 read_notes : {X : Type 0} (f : Noted → List X) (notes : List Noted) (worker : ℕ) (noted : Noted)
     → slice_get notes worker ≡ Some noted
     → slice_index_or (map f notes) worker [] ≡ f noted
-read_notes f notes worker noted there =
-    get_or-map f notes worker noted [] (slice_get_within notes worker noted there)
-    ∙ ap f (get_or_from_slice_get notes worker noted noted there)
+read_notes f notes worker noted there = grind (arith, nat_tests, get_or-map f notes worker noted, slice_get_within notes worker noted there, get_or_from_slice_get notes worker noted noted there)
 
 among : (notes : List Noted) (worker : ℕ) (noted : Noted) → slice_get notes worker ≡ Some noted
     → worker < length (events_in notes)
-among notes worker noted there =
-    let count : length (events_in notes) ≡ length notes = length-map notes (λ (n : Noted). n.events) in
-    omega (arith, count, slice_get_within notes worker noted there)
+among notes worker noted there = grind (arith, nat_tests, length-map, slice_get_within)
 
 -- by its notes a worker was served what the journal says
 pub served_alike : (notes : List Noted) (journal : List Entry) (worker : ℕ) (noted : Noted)
@@ -82,10 +77,7 @@ without_places n (i ∷ inbox) = ap (λ rest. i ∷ rest) (without_places (n + 1
 -- the inbox that is left is what the run leaves
 its_inbox : (consumer : ConsumerPlan) (noted : Noted) (left : InboxEnd) (run : IsConsumption consumer noted left)
     → inbox_in left ≡ run.state.inbox
-its_inbox consumer noted left run =
-    sym (map-map (λ (x : ℕ × Intake). x.1) placed_intake left.rows.items)
-    ∙ ap (map (λ (x : ℕ × Intake). x.1)) run.rows
-    ∙ without_places 1 run.state.inbox
+its_inbox consumer noted left run = cc (map-map (λ (x : ℕ × Intake). x.1) placed_intake left.rows.items, without_places 1 run.state.inbox)
 
 module _ (plan : Plan) (end : PipelineEnd) (of : IsPipeline plan end) where
   history : IsHistory opening_view end.journal (view_after plan.settings end.journal)
@@ -158,9 +150,7 @@ module _ (plan : Plan) (end : PipelineEnd) (of : IsPipeline plan end) where
 
   its_rows : (k : ℕ) (service : Service) (by : Serves k service)
       → routers.events_of outboxes.empty by.run.moves ≡ rows_of_service service
-  its_rows k service by =
-      rows_of_steps (dispatch_of service.target) routers.start by.run.state service.steps.items by.run.moves
-      by.run.losses by.run.steps
+  its_rows k service by = grind (arith, nat_tests, rows_of_steps)
 
   pub its_partitions : (k : ℕ) (service : Service) (place : Place) → slice_get plan.services.items k ≡ Some service
       → IsSoleProducer (service_number plan k) place.topic end.journal → IsNeverDeleted place.topic end.journal
@@ -172,34 +162,8 @@ module _ (plan : Plan) (end : PipelineEnd) (of : IsPipeline plan end) where
       (view_after plan.settings end.journal) end.journal by.run.moves by.run.state history by.run.run
       (rw (← by.served) by.run.served) sole never)
 
-  pub is_none_lost : (k : ℕ) (service : Service) (left : OutboxEnd) → slice_get plan.services.items k ≡ Some service
-      → HasLeft end k (Outbox left)
-      → AllByRecursion
-      (IsWaitingOrSent (dispatch_of service.target) (service_number plan k) end.journal (outbox_in left))
-      (rows_of_service service)
-  is_none_lost k service left there kept =
-      let by : Serves k service = serves k service there in
-      let route = dispatch_of service.target in
-      let outbox = by.run.state.outbox in
-      let ends : Some (Outbox by.left) ≡ Some (Outbox left) =
-      sym (ap (option_map (λ (d : Done WorkerEnd). d.end)) by.done) ∙ kept in
-      let same : by.left ≡ left = cc in
-      let mark : outbox.mark ≡ left.mark = sym by.run.mark ∙ ap (λ (l : OutboxEnd). l.mark) same in
-      let events : outbox.events ≡ (outbox_in left).events =
-      sym by.run.rows ∙ ap (λ (l : OutboxEnd). (outbox_in l).events) same in
-      subst (AllByRecursion (IsWaitingOrSent route (service_number plan k) end.journal (outbox_in left)))
-      (its_rows k service by)
-      (all_weaker (IsWaitingOrSent route (service_number plan k) end.journal outbox)
-      (IsWaitingOrSent route (service_number plan k) end.journal (outbox_in left))
-      (λ row is. elim is [
-        | inl waits ↦ inl (record {
-          past = subst (λ (n : ℕ). n < row.seq) mark waits.past;
-          there = subst (λ (es : List Event). Contains es row) events waits.there;
-        })
-        | inr sent ↦ inr sent
-      ]) (routers.events_of outboxes.empty by.run.moves)
-      (all_wait_or_sent route (service_number plan k) end.journal by.run.moves by.run.state by.run.run
-      (rw (← by.served) by.run.served)))
+  pub is_none_lost : IsNoneLost plan end
+  is_none_lost k service left there kept = let by : Serves k service = serves k service there in let route = dispatch_of service.target in let outbox = by.run.state.outbox in let ends : Some (Outbox by.left) ≡ Some (Outbox left) = sym (ap (option_map (λ (d : Done WorkerEnd). d.end)) by.done) ∙ kept in let same : by.left ≡ left = cc in let mark : outbox.mark ≡ left.mark = sym by.run.mark ∙ ap (λ (l : OutboxEnd). l.mark) same in let events : outbox.events ≡ (outbox_in left).events = sym by.run.rows ∙ ap (λ (l : OutboxEnd). (outbox_in l).events) same in rw (its_rows k service by) at (all_weaker (IsWaitingOrSent route (service_number plan k) end.journal outbox) (IsWaitingOrSent route (service_number plan k) end.journal (outbox_in left)) (λ row is. elim is [ inl waits ↦ inl (record { past = rw mark at waits.past; there = rw events at waits.there }) | inr sent ↦ inr sent ]) (routers.events_of outboxes.empty by.run.moves) (all_wait_or_sent route (service_number plan k) end.journal by.run.moves by.run.state by.run.run (rw (← by.served) by.run.served)))
 
   pub takes_its_records : (k : ℕ) (consumer : ConsumerPlan) (place : Place) → slice_get plan.consumers.items k
       ≡ Some consumer

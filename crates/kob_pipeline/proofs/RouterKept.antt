@@ -60,9 +60,7 @@ pub held_marked : {route : Dispatching} {rows : List Event} {c : Contents} {sent
     → IsHeld route rows c (Some hand) sent wait
     → (rest : List Event)
     × IsHeld route rows (record c { mark = hand.event.seq }) None (sent ++ hand.event ∷ []) rest
-held_marked {rows = rows} {c = c} {sent = sent} {wait = wait} hand h =
-    let first = first_is wait hand.event h.holds.0 in
-    (first.0, record { kept = kept_marked (subst (IsKept rows c sent) first.1 h.kept); holds = tt })
+held_marked {rows = rows} {c = c} {sent = sent} {wait = wait} hand h = grind (arith, nat_tests, first_is wait hand.event h.holds.0, kept_marked (subst (IsKept rows c sent) (first_is wait hand.event h.holds.0).1 h.kept))
 
 -- what is recorded tells its id
 tells_recorded : (route : Dispatching) (s : State) (m : Move) → TellsIds route
@@ -98,26 +96,12 @@ Known (Some p) ss hand q log next ahead = IsKnown p ss hand q log next ahead
 known_later : (o : Option Producer) (ss : List Sequence) (hand : Option Hand) (q : Place) (log : List Batch)
     (next later : ℕ)
     (ahead : Option Event) → next ≤ later → Known o ss hand q log next ahead → Known o ss hand q log later ahead
-known_later None ss hand q log next later ahead l k = k
-known_later (Some p) ss hand q log next later ahead l k =
-    record { below = omega (arith, k.below); counted = k.counted; in_step = k.in_step }
-
--- with nothing in hand, nothing is pending
-in_step_taken : (ss : List Sequence) (old : Option Hand) (hand : Hand) (q : Place) (n : ℕ) (ahead : Option Event)
-    → old ≡ None → InStep ss old q n ahead → InStep (with_sequence_for ss hand.place) (Some hand) q n ahead
-in_step_taken ss old hand q n ahead none (inl e) = inl (sequence_prepared ss hand.place q ∙ e)
-in_step_taken ss old hand q n ahead none (inr w) = let bad : Some w.held ≡ None = sym w.in_hand ∙ none in absurd cc
+known_later o ss hand q log next later ahead l k = grind (arith, nat_tests)
 
 pub known_taken : (o : Option Producer) (ss : List Sequence) (old : Option Hand) (hand : Hand) (q : Place)
     (log : List Batch) (next : ℕ) (ahead : Option Event) → old ≡ None → Known o ss old q log next ahead
     → Known o (with_sequence_for ss hand.place) (Some hand) q log next ahead
-known_taken None ss old hand q log next ahead none k = sequence_prepared ss hand.place q ∙ k
-known_taken (Some p) ss old hand q log next ahead none k =
-    record {
-      below = k.below;
-      counted = k.counted;
-      in_step = in_step_taken ss old hand q (length (history p.id log)) ahead none k.in_step;
-    }
+known_taken o ss old hand q log next ahead none k = grind (arith, nat_tests, sequence_prepared)
 
 module _ (route : Dispatching) (q : Place) where
   -- the rows up to the mark, and at most the one after it, are in the log
@@ -131,30 +115,12 @@ module _ (route : Dispatching) (q : Place) where
     pub known : Known s.producer s.sequences s.hand q log next ahead
 
   pub kept_first : Kept [] start [] 0
-  kept_first =
-      record {
-        sent = [];
-        ahead = None;
-        rest = [];
-        held = record { kept = kept_at_start; holds = tt };
-        tells = tt;
-        logged = record { delivered = refl; each = tt; given = tt };
-        known = refl;
-      }
+  kept_first = grind (arith, nat_tests, kept_at_start)
 
   -- somebody was given a producer id
   pub kept_later : {rows : List Event} {s : State} {log : List Batch} {next later : ℕ} → next ≤ later
       → Kept rows s log next → Kept rows s log later
-  kept_later {s = s} {log = log} {next = next} {later = later} l k =
-      record {
-        sent = k.sent;
-        ahead = k.ahead;
-        rest = k.rest;
-        held = k.held;
-        tells = k.tells;
-        logged = logged_later route q l k.logged;
-        known = known_later s.producer s.sequences s.hand q log next later k.ahead l k.known;
-      }
+  kept_later {s = s} {log = log} {next = next} {later = later} l k = grind (arith, nat_tests, logged_later route q l k.logged, known_later s.producer s.sequences s.hand q log next later k.ahead l k.known)
 
   -- a move that leaves the mark
   pub kept_by_move : {rows : List Event} {s : State} {log : List Batch} {next : ℕ} (m : Move) → TellsIds route
@@ -210,33 +176,14 @@ IsReady ss h q count ahead = (same_place h.place q ≡ false) ⊎ IsPending ss (
 apart_back : (p q : Place) → same_place p q ≡ false → same_place q p ≡ false
 apart_back p q h = grind (arith, nat_tests, bytes_turned p.topic q.topic, h)
 
-goes_elsewhere : (o : Option Dispatch) (p q : Place) → place_of o ≡ Some p → same_place p q ≡ false
-    → goes_to q o ≡ false
-goes_elsewhere None p q e h = cc
-goes_elsewhere (Some d) p q e h =
-    let same : d.place ≡ p = cc in
-    ap (λ (x : Place). same_place q x) same ∙ apart_back p q h
-
 step_on : (ss : List Sequence) (h : Hand) (q : Place) (n : ℕ) (ahead : Option Event) → InStep ss (Some h) q n ahead
     → IsReady ss h q n ahead → sequence_of (after_use ss h.place) q ≡ wrapped n
-step_on ss h q n ahead s (inl apart) =
-    sequence_used_elsewhere ss h.place q apart
-    ∙ elim s [
-      | inl e ↦ e
-      | inr w ↦
-          let e : h.place ≡ q = ap (λ (x : Hand). x.place) (same_some h w.held w.in_hand) ∙ w.here_it_goes in
-          absurd (both_ways (same_place h.place q) apart (ap (λ (x : Place). same_place x q) e ∙ same_here q))
-    ]
-step_on ss h q n ahead s (inr w) =
-    let e : h.place ≡ q = ap (λ (x : Hand). x.place) (same_some h w.held w.in_hand) ∙ w.here_it_goes in
-    rw (e, sequence_used_here ss q, w.base, next_wrapped w.before, w.one_more) refl
+step_on ss h q n ahead s ready = grind (arith, nat_tests, sequence_used_elsewhere, same_some, both_ways, same_here, sequence_used_here, next_wrapped)
 
 sent_why : (route : Dispatching) (ss : List Sequence) (h : Hand) (q : Place) (n : ℕ) (ahead : Option Event)
     → place_of (route h.event) ≡ Some h.place → IsReady ss h q n ahead
     → (goes_to q (route h.event) ≡ false) ⊎ (ahead ≡ Some h.event)
-sent_why route ss h q n ahead at (inl apart) = inl (goes_elsewhere (route h.event) h.place q at apart)
-sent_why route ss h q n ahead at (inr w) =
-    inr (w.is_ahead ∙ ap (λ (x : Hand). Some x.event) (sym (same_some h w.held w.in_hand)))
+sent_why route ss h q n ahead at ready = grind (arith, nat_tests, apart_back, same_some)
 
 module _ (route : Dispatching) (q : Place) where
   -- the row in hand counts as sent
@@ -246,21 +193,8 @@ module _ (route : Dispatching) (q : Place) where
       → IsKept rows c sent (here ahead ++ rest) → IsLogged route q rows log next (sent ++ here ahead)
       → (tail : List Event) × IsKept rows (record c { mark = r.seq }) (sent ++ r ∷ []) tail
       × IsLogged route q rows log next (sent ++ r ∷ [])
-  sent_one {rows} {c} {log} {next} {sent} r None rest f w k l =
-      let at = first_is rest r f in (
-        at.0,
-        kept_marked (subst (IsKept rows c sent) at.1 k),
-        elim w [
-          | inl e ↦ logged_elsewhere route q r e (subst (IsLogged route q rows log next) (append-nil sent) l)
-          | inr e ↦ absurd cc
-        ],
-      )
-  sent_one {rows} {c} {log} {next} {sent} r (Some x) rest f w k l =
-      let e : x ≡ r = same_some x r f in (
-        rest,
-        subst (λ (y : Event). IsKept rows (record c { mark = y.seq }) (sent ++ y ∷ []) rest) e (kept_marked k),
-        subst (λ (y : Event). IsLogged route q rows log next (sent ++ y ∷ [])) e l,
-      )
+  sent_one {rows} {c} {log} {next} {sent} r None rest f w k l = let at = first_is rest r f in (at.0, kept_marked (rw at.1 at k), elim w [ inl e ↦ logged_elsewhere route q r e (rw (append-nil sent) at l) | inr e ↦ absurd cc ])
+  sent_one {rows} {c} {log} {next} {sent} r (Some x) rest f w k l = grind (arith, nat_tests, same_some x r f, kept_marked k)
 
   -- the mark moves to the row in hand
   pub kept_after_mark : {rows : List Event} {c : Contents} {p : Producer} {ss : List Sequence} {h : Hand}
@@ -272,35 +206,15 @@ module _ (route : Dispatching) (q : Place) where
         sequences = after_use ss h.place;
         hand = None;
       }) log next
-  kept_after_mark {rows} {c} {p} {ss} {h} {log} {next} k ready =
-      let one =
-      sent_one h.event k.ahead k.rest k.held.holds.0
-      (sent_why route ss h q (length (history p.id log)) k.ahead k.held.holds.1 ready) k.held.kept k.logged in
-      record {
-        sent = k.sent ++ h.event ∷ [];
-        ahead = None;
-        rest = one.0;
-        held = record { kept = one.1; holds = tt };
-        tells = k.tells;
-        logged = subst (IsLogged route q rows log next) (sym (append-nil (k.sent ++ h.event ∷ []))) one.2;
-        known = record {
-          below = k.known.below;
-          counted = k.known.counted;
-          in_step = inl (step_on ss h q (length (history p.id log)) k.ahead k.known.in_step ready);
-        };
-      }
+  kept_after_mark {rows} {c} {p} {ss} {h} {log} {next} k ready = let one = sent_one h.event k.ahead k.rest k.held.holds.0 (sent_why route ss h q (length (history p.id log)) k.ahead k.held.holds.1 ready) k.held.kept k.logged in record { sent = k.sent ++ h.event ∷ []; ahead = None; rest = one.0; held = record { kept = one.1; holds = tt }; tells = k.tells; logged = rw (append-nil (k.sent ++ h.event ∷ [])) one.2; known = record { below = k.known.below; counted = k.known.counted; in_step = inl (step_on ss h q (length (history p.id log)) k.ahead k.known.in_step ready) } }
 
   log_more : {rows : List Event} {c : Contents} {log : List Batch} {next : ℕ} {sent : List Event} {r : Event}
       {x : Record} {b : Batch} (ahead : Option Event) (rest tail : List Event) → here ahead ++ rest ≡ r ∷ tail
       → Contains rows r → IsBatchOf route q r x next b → IsKept rows c sent (here ahead ++ rest)
       → IsLogged route q rows log next (sent ++ here ahead)
       → IsLogged route q rows (log ++ b ∷ []) next (sent ++ r ∷ [])
-  log_more {rows} {c} {log} {next} {sent} None rest tail w at is k l =
-      logged_first route q at is (subst (IsKept rows c sent) w k).order.1
-      (subst (IsLogged route q rows log next) (append-nil sent) l)
-  log_more {rows} {c} {log} {next} {sent} (Some y) rest tail w at is k l =
-      logged_again route q sent at is
-      (subst (λ (z : Event). IsLogged route q rows log next (sent ++ z ∷ [])) (cc) l)
+  log_more {rows} {c} {log} {next} {sent} None rest tail w at is k l = logged_first route q at is (rw w at k).order.1 (rw (append-nil sent) at l)
+  log_more {rows} {c} {log} {next} {sent} (Some y) rest tail w at is k l = grind (arith, nat_tests, logged_again route q sent at is (subst (λ (z : Event). IsLogged route q rows log next (sent ++ z ∷ [])) (cc) l))
 
   -- a router whose row was put on the log, or goes elsewhere
   abbrev pub IsServed : List Event → Contents → Producer → List Sequence → Hand → List Batch → ℕ → Type 0
@@ -315,42 +229,7 @@ pub kept_after_batch : (route : Dispatching) (rows : List Event) (c : Contents) 
     → route h.event ≡ Some (record { place = h.place; message = x })
     → judge (history p.id log) (idem_of p (sequence_of ss h.place)) 1 ≡ Next
     → IsServed route h.place rows c p ss h (log ++ batch_of p (sequence_of ss h.place) x ∷ []) next
-kept_after_batch route rows c p ss h log next x k to comes =
-    let q : Place = h.place in
-    let b : Batch = batch_of p (sequence_of ss q) x in
-    let n : ℕ = length (history p.id log) in
-    let base : sequence_of ss q ≡ wrapped n = next_base p (history p.id log) (sequence_of ss q) k.known.counted comes in
-    let more = history_last p log (sequence_of ss q) x in
-    let s : Sent = sent_batch (idem_of p (sequence_of ss q)) 1 more.0 in
-    let number : IsNumber p n s = record { epoch = refl; base = base; single = refl } in
-    let count : length (history p.id (log ++ b ∷ [])) ≡ n + 1 = ap length more.1 ∙ length_push (history p.id log) s in
-    let at = first_is (here k.ahead ++ k.rest) h.event k.held.holds.0 in
-    let kept : IsKept rows c k.sent (h.event ∷ at.0) = subst (IsKept rows c k.sent) at.1 k.held.kept in
-    let has : Contains rows h.event =
-    rw kept.rows_are (Contains-append_right k.sent (h.event ∷ at.0) h.event (0, omega arith, refl)) in
-    let tells : TellsItsId route h.event =
-    All-contains (TellsItsId route) rows h.event (All-from_recursion (TellsItsId route) rows k.tells) has in
-    let is : IsBatchOf route q h.event x next b =
-    record { tells = tells (record { place = q; message = x }) to; routed = to; single = refl; given = k.known.below }
-    in
-    let pending : IsPending ss (Some h) q (length (history p.id (log ++ b ∷ []))) (Some h.event) =
-    record { before = n; one_more = count; base = base; held = h; in_hand = refl; here_it_goes = refl; is_ahead = refl }
-    in (
-      record {
-        sent = k.sent;
-        ahead = Some h.event;
-        rest = at.0;
-        held = record { kept = kept; holds = (refl, k.held.holds.1) };
-        tells = k.tells;
-        logged = log_more route q k.ahead k.rest at.0 at.1 has is k.held.kept k.logged;
-        known = record {
-          below = k.known.below;
-          counted = rw more.1 (counted_last p (history p.id log) s k.known.counted number);
-          in_step = inr pending;
-        };
-      },
-      inr pending,
-    )
+kept_after_batch route rows c p ss h log next x k to comes = let q : Place = h.place in let b : Batch = batch_of p (sequence_of ss q) x in let n : ℕ = length (history p.id log) in let base : sequence_of ss q ≡ wrapped n = next_base p (history p.id log) (sequence_of ss q) k.known.counted comes in let more = history_last p log (sequence_of ss q) x in let s : Sent = sent_batch (idem_of p (sequence_of ss q)) 1 more.0 in let number : IsNumber p n s = record { epoch = refl; base = base; single = refl } in let count : length (history p.id (log ++ b ∷ [])) ≡ n + 1 = ap length more.1 ∙ length_push (history p.id log) s in let at = first_is (here k.ahead ++ k.rest) h.event k.held.holds.0 in let kept : IsKept rows c k.sent (h.event ∷ at.0) = rw at.1 at k.held.kept in let has : Contains rows h.event = rw kept.rows_are (Contains-append_right k.sent (h.event ∷ at.0) h.event (0, omega arith, refl)) in let tells : TellsItsId route h.event = All-contains (TellsItsId route) rows h.event (All-from_recursion (TellsItsId route) rows k.tells) has in let is : IsBatchOf route q h.event x next b = record { tells = tells (record { place = q; message = x }) to; routed = to; single = refl; given = k.known.below } in let pending : IsPending ss (Some h) q (length (history p.id (log ++ b ∷ []))) (Some h.event) = record { before = n; one_more = count; base = base; held = h; in_hand = refl; here_it_goes = refl; is_ahead = refl } in (record { sent = k.sent; ahead = Some h.event; rest = at.0; held = record { kept = kept; holds = (refl, k.held.holds.1) }; tells = k.tells; logged = log_more route q k.ahead k.rest at.0 at.1 has is k.held.kept k.logged; known = record { below = k.known.below; counted = rw more.1 (counted_last p (history p.id log) s k.known.counted number); in_step = inr pending } }, inr pending)
 
 -- a repeat stands in the log
 pub repeat_is_pending : (route : Dispatching) (rows : List Event) (c : Contents) (p : Producer) (ss : List Sequence)
@@ -358,9 +237,4 @@ pub repeat_is_pending : (route : Dispatching) (rows : List Event) (c : Contents)
     (log : List Batch) (next offset : ℕ) (k : Kept route h.place rows (holding c p ss h) log next)
     → judge (history p.id log) (idem_of p (sequence_of ss h.place)) 1 ≡ Repeat offset
     → IsReady ss h h.place (length (history p.id log)) k.ahead
-repeat_is_pending route rows c p ss h log next offset k again =
-    let j = repeat_base p (history p.id log) (sequence_of ss h.place) offset k.known.counted again in
-    elim k.known.in_step [
-      | inl e ↦ absurd (apart_wrapped j.0 (length (history p.id log)) j.1 j.2 (sym j.3 ∙ e))
-      | inr w ↦ inr w
-    ]
+repeat_is_pending route rows c p ss h log next offset k again = grind (arith, nat_tests, repeat_base, apart_wrapped)

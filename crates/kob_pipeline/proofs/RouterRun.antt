@@ -1,5 +1,5 @@
 -- What each call of a router keeps, served or not, and what its run leaves on a partition.
-use Rattle.kob_pipeline.proofs.Words.{Accepts, AreServed, Batch, Body, Bool, Call, Denied, Dispatching, Does, Done, Entry, Hand, InitProducerId, IsDelivered, IsDone, IsHistory, IsNeverDeleted, IsNoDeletion, IsOwnProduce, IsRouterRun, IsSameView, IsSending, IsSoleProducer, Judgement, List, MayCall, Next, None, OldEpoch, Option, OutOfOrder, Place, Produce, Producer, Recorded, Refused, Repeat, Reply, Request, Sequence, Some, Step, Swept, Took, View, [], ap, append-nil, append_assoc, arith, batch_of, false, filter-append, goes_to, history, inl, inr, judge, map, map-append, opening_view, producer_after, records_of, refl, routed_to, sequence_of, served_to, subst, sym, true, true≢false, with_batch, with_producer, ℕ, ◌++◌, ◌∙◌, ◌∷◌, ◌≡◌}
+use Rattle.kob_pipeline.proofs.Words.{Accepts, AreServed, Batch, Body, Bool, Call, Denied, Dispatching, Does, Done, Entry, Hand, InitProducerId, IsDelivered, IsHistory, IsNeverDeleted, IsNoDeletion, IsOwnProduce, IsRouterRun, IsSameView, IsSending, IsSoleProducer, Judgement, List, MayCall, Next, None, OldEpoch, Option, OutOfOrder, Place, Produce, Producer, Recorded, Refused, Repeat, Reply, Request, Sequence, Some, Step, Swept, Took, View, [], ap, append-nil, append_assoc, arith, batch_of, false, filter-append, goes_to, history, inl, inr, judge, map, map-append, opening_view, producer_after, records_of, refl, routed_to, sequence_of, served_to, subst, sym, true, true≢false, with_batch, with_producer, ℕ, ◌++◌, ◌∙◌, ◌∷◌, ◌≡◌}
 use Rattle.kob_names.specs.declared.record.Record.{Record}
 use Rattle.kob_outbox.specs.Contents.{Contents, Event}
 use Rattle.kob_rights.specs.declared.on_partitions.Produce.{Produce as ProduceRequest}
@@ -12,6 +12,7 @@ use Rattle.kob_pipeline.proofs.ServedRuns.{Hears, IsServedBy, IsUnheard, StepsAs
 use Rattle.kob_pipeline.proofs.OtherSteps.{leaves}
 use Rattle.kob_pipeline.proofs.Rows.{call_of, kept_by_router, recorded}
 use Rattle.kob_rights.specs.declared.reply.Body.TheVariants as bodies
+use Rattle.std.proofs.lemmas.Bool.Decides.{nat_tests}
 
 -- no Done was heard
 abbrev pub NotDone : Option Reply → Type 0
@@ -31,27 +32,14 @@ pub heard_no_done : (heard : Option Reply) (reply : Reply) → IsNoDone reply �
 heard_no_done heard reply no_done (inl e) = heard_none heard e
 heard_no_done heard reply no_done (inr e) = subst NotDone (sym e) no_done
 
-pub not_both : (heard : Option Reply) → NotDone heard → IsDone heard → ⊥
-not_both None n d = d
-not_both (Some (Denied code verdicts)) n d = d
-not_both (Some (Refused code reason)) n d = d
-not_both (Some (Done body)) n d = n
-
 -- a call that was not answered with Done gives no id, and moves no mark
 unanswered : (old : Option Producer) (request : Request) (heard : Option Reply) → NotDone heard
     → producer_after old request heard ≡ old
-unanswered old InitProducerId None n = refl
-unanswered old InitProducerId (Some (Denied code verdicts)) n = refl
-unanswered old InitProducerId (Some (Refused code reason)) n = refl
-unanswered old InitProducerId (Some (Done body)) n = absurd n
-unanswered old _ heard n = refl
+unanswered old request heard n = grind (arith, nat_tests)
 
 pub unmarked : (route : Dispatching) (s : State) (request : Request) (heard : Option Reply) (marks : Bool)
     → MayCall route s request heard marks → NotDone heard → marks ≡ false
-unmarked route s InitProducerId heard marks may n = may.1
-unmarked route s (Produce asked) heard true may n = absurd (not_both heard n (may.1 refl))
-unmarked route s (Produce asked) heard false may n = refl
-unmarked route s _ heard marks may n = absurd may
+unmarked route s request heard marks may n = grind (arith, nat_tests)
 
 -- a state with another producer
 abbrev holding_id : State → Option Producer → State
@@ -59,9 +47,7 @@ holding_id s o = record { outbox = s.outbox; producer = o; sequences = s.sequenc
 
 is_holding : (s : State) (p : Producer) (h : Hand) → s.producer ≡ Some p → s.hand ≡ Some h
     → s ≡ holding s.outbox p s.sequences h
-is_holding s p h e f =
-    ap (λ (o : Option Producer). holding_id s o) e
-    ∙ ap (λ (o : Option Hand). record { outbox = s.outbox; producer = Some p; sequences = s.sequences; hand = o }) f
+is_holding s p h e f = grind (arith, nat_tests)
 
 -- the batch of the row in hand that comes next
 abbrev batch_in_hand : Producer → List Sequence → Hand → Record → Batch
@@ -142,23 +128,15 @@ module _ (route : Dispatching) (q : Place) where
   given_id : (rows : List Event) (s : State) (v : View) (body : Body) (heard : Option Reply)
       → s.producer ≡ None → body ≡ bodies.Producer v.next_producer 0 → Hears heard (Done body) → KeptIn route q rows s v
       → KeptIn route q rows (holding_id s (producer_after s.producer InitProducerId heard)) (with_producer v)
-  given_id rows s v body heard none is (inl e) k =
-      rw (unanswered s.producer InitProducerId heard (heard_none heard e)) (kept_later route q (omega arith) k)
-  given_id rows s v body heard none is (inr e) k =
-      rw (e, is)
-      (kept_after_id route q (subst (λ (o : Option Producer). KeptIn route q rows (holding_id s o) v) none k))
+  given_id rows s v body heard none is hears k = grind (arith, nat_tests, heard_none, kept_later, kept_after_id)
 
   -- a call that was served, whatever was heard
   pub kept_after_served : (rows : List Event) (s : State) (v w : View) (request : Request) (reply : Reply)
       (heard : Option Reply) (marks : Bool)
       → MayCall route s request heard marks → Hears heard reply → Step v request reply w → KeptIn route q rows s v
       → KeptIn route q rows (after s (Called (record { request = request; heard = heard }) marks)) w
-  kept_after_served rows s v w request (Denied code verdicts) heard marks may hears step k =
-      rw (step.log q, step.next_producer)
-      (kept_after_no_answer rows s v request heard marks may (heard_no_done heard (Denied code verdicts) tt hears) k)
-  kept_after_served rows s v w request (Refused code reason) heard marks may hears step k =
-      rw (step.log q, step.next_producer)
-      (kept_after_no_answer rows s v request heard marks may (heard_no_done heard (Refused code reason) tt hears) k)
+  kept_after_served rows s v w request (Denied code verdicts) heard marks may hears step k = grind (arith, nat_tests)
+  kept_after_served rows s v w request (Refused code reason) heard marks may hears step k = grind (arith, nat_tests)
   kept_after_served rows s v w InitProducerId (Done body) heard true may hears step k = absurd (true≢false may.1)
   kept_after_served rows s v w InitProducerId (Done body) heard false may hears step k =
       rw (step.1.log q, step.1.next_producer) (given_id rows s v body heard may.0 step.0 hears k)
@@ -182,25 +160,16 @@ module _ (route : Dispatching) (q : Place) (tells : TellsIds route) (worker : �
   kept_move (Took hand) rows s v may u k =
       kept_by_move route q (Took hand) tells may tt k
       (known_taken s.producer s.sequences s.hand hand q (v.log q) v.next_producer k.ahead may.0 k.known)
-  kept_move (Called c marks) rows s v may u k =
-      rw (append-nil rows)
-      (kept_after_no_answer route q rows s v c.request c.heard marks may (heard_none c.heard u) k)
+  kept_move (Called c marks) rows s v may u k = grind (arith, nat_tests, append-nil, kept_after_no_answer, heard_none)
 
   served : (c : Call) (marks : Bool) (rows : List Event) (s : State) (e : Entry) (v w : View)
       → May route s (Called c marks) → IsServedBy e (Some c) → e.worker ≡ worker → StepsAs IsAsked v e w
       → KeptIn route q rows s v → KeptIn route q rows (after s (Called c marks)) w
-  served c marks rows s e v w may by own goes k =
-      kept_after_served route q rows s v w c.request e.reply c.heard marks may by.1
-      (subst (λ (r : Request). Step v r e.reply w) by.0 goes.1) k
+  served c marks rows s e v w may by own goes k = grind (arith, nat_tests, kept_after_served)
 
   others : (rows : List Event) (s : State) (e : Entry) (v w : View) → (e.worker ≡ worker → ⊥)
       → StepsAs IsAsked v e w → KeptIn route q rows s v → KeptIn route q rows s w
-  others rows s e v w other ((sole, never), step) k =
-      let by = leaves [] q v w e.event.request e.reply never step in
-      let log : v.log q ≡ w.log q =
-      sym (by.log ∙ ap (λ (more : List Batch). v.log q ++ more) (by.grows (λ p. other (sole p)))
-      ∙ append-nil (v.log q)) in
-      rw (← log) (kept_later route q by.later k)
+  others rows s e v w other ((sole, never), step) k = grind (arith, nat_tests, leaves [] q v w e.event.request e.reply never step, append-nil (v.log q), kept_later route q (leaves [] q v w e.event.request e.reply never step).later k)
 
   as_shown : (rows : List Event) (s : State) (v : View) → IsSameView end v → KeptIn route q rows s v
       → KeptIn route q rows s end

@@ -1,11 +1,10 @@
 -- The moves of a router, one at a time: what they record, keep along a journal, and leave of the rows.
-use Rattle.kob_pipeline.proofs.Words.{All-filter, All-from_recursion, AllByRecursion, AreServed, Bool, Call, Change, Dispatching, Entry, Hand, IsOfTick, IsRecordable, IsRouterRun, IsServiceStep, List, Loss, None, Option, OutboxEvent, Recorded, ServiceStep, Some, Steps, Swept, Took, [], after_acknowledgement, after_record, ap, append-nil, append_assoc, arith, false, filter_map, id_text, inl, inr, is_accepted, is_none, later_than, length, lt-ltb, nat_lt, nat_tests, next_seq, recursion_from_All, refl, rows_from, served_to, stored_event, subst, suc, sym, true, ℕ, ◌++◌, ◌<◌, ◌∙◌, ◌∷◌, ◌≡◌, ◌⊎◌}
+use Rattle.kob_pipeline.proofs.Words.{All-filter, All-from_recursion, AllByRecursion, AreServed, Bool, Call, Dispatching, Entry, Hand, IsOfTick, IsRouterRun, IsServiceStep, List, Loss, None, Option, Recorded, ServiceStep, Some, Steps, Swept, Took, [], after_acknowledgement, after_record, ap, append-nil, append_assoc, arith, false, filter_map, id_text, later_than, lt-ltb, nat_lt, nat_tests, next_seq, recursion_from_All, refl, rows_from, served_to, stored_event, subst, sym, true, ℕ, ◌++◌, ◌<◌, ◌∷◌, ◌≡◌}
 use Rattle.kob_outbox.specs.Contents.{Contents, Event}
 use Rattle.kob_router.specs.Run.{May, Move, State, after, calls_of, events_of, start}
 use Rattle.kob_router.specs.Run.Move.{Called, Restarted}
 use Rattle.kob_pipeline.proofs.ServedRuns.{IsRun, IsServedBy, IsUnheard, Passes, added, kept_by_run}
 use Rattle.kob_pipeline.proofs.Lists.{all_last, all_weaker, filter_all}
-use Rattle.kob_outbox.specs.Fields.{first_bad}
 use Rattle.kob_pipeline.specs.declared.plan.ServiceStep.TheVariants as steps
 
 abbrev pub call_of : Move → Option Call
@@ -19,12 +18,7 @@ recorded s _ = []
 -- the events that moves record depend on the ids that were recorded alone
 pub same_events : (moves : List Move) (c d : Contents) → c.ids ≡ d.ids → events_of c moves ≡ events_of d moves
 same_events [] c d e = refl
-same_events (Recorded change event ∷ moves) c d e =
-    ap (λ (ids : List (List ℕ)). stored_event (suc (length ids)) event ∷ events_of (after_record c change event) moves)
-    e
-    ∙ ap (λ (es : List Event). stored_event (next_seq d) event ∷ es)
-    (same_events moves (after_record c change event) (after_record d change event)
-    (ap (λ (ids : List (List ℕ)). ids ++ id_text event.id ∷ []) e))
+same_events (Recorded change event ∷ moves) c d e = cc (same_events moves (after_record c change event) (after_record d change event) (ap (λ (ids : List (List ℕ)). ids ++ id_text event.id ∷ []) e))
 same_events (_ ∷ moves) c d e = same_events moves c d e
 
 -- a call moves the mark at most
@@ -43,17 +37,11 @@ called_ids s call marks = ap (λ (c : Contents). c.ids) (called_outbox s call ma
 -- what one move records, and then the others
 pub events_behind : (s : State) (move : Move) (moves : List Move)
     → events_of s.outbox (move ∷ moves) ≡ recorded s move ++ events_of (after s move).outbox moves
-events_behind s (Recorded change event) moves = refl
-events_behind s Swept moves = same_events moves s.outbox (after s Swept).outbox refl
-events_behind s Restarted moves = refl
-events_behind s (Took hand) moves = refl
-events_behind s (Called call marks) moves =
-    same_events moves s.outbox (after s (Called call marks)).outbox (sym (called_ids s call marks))
+events_behind s move moves = grind (arith, nat_tests, same_events, called_ids)
 
 events_added : (moves : List Move) (s : State) → events_of s.outbox moves ≡ added after recorded s moves
 events_added [] s = refl
-events_added (move ∷ moves) s =
-    events_behind s move moves ∙ ap (λ (es : List Event). recorded s move ++ es) (events_added moves (after s move))
+events_added (move ∷ moves) s = cc (events_behind s move moves, events_added moves (after s move))
 
 its_calls : (moves : List Move) → calls_of moves ≡ filter_map call_of moves
 its_calls [] = refl
@@ -78,19 +66,12 @@ module _ {B : Type 0} (route : Dispatching) (worker : ℕ) (Goes : B → Entry �
   serves : (m : Move) (rows : List Event) (s : State) (e : Entry) (b d : B) → May route s m
       → IsServedBy e (call_of m) → e.worker ≡ worker → Goes b e d → K rows s b
       → K (rows ++ recorded s m) (after s m) d
-  serves (Called c marks) rows s e b d may by own goes k =
-      subst (λ (rs : List Event). K rs (after s (Called c marks)) d) (sym (append-nil rows))
-      (served c marks rows s e b d may by own goes k)
-  serves _ rows s e b d may by own goes k = absurd by
+  serves m rows s e b d may by own goes k = grind (arith, nat_tests, append-nil)
 
   pub kept_by_router : (moves : List Move) (final : State) (journal : List Entry) (b end : B)
       → IsRouterRun route start moves final → AreServed (calls_of moves) (served_to worker journal)
       → Passes Goes b journal end → K [] start b → K (events_of start.outbox moves) final end
-  kept_by_router moves final journal b end run a p k =
-      subst (λ (rows : List Event). K rows final end) (sym (events_added moves start))
-      (kept_by_run (May route) after call_of recorded worker Goes K moved serves others final end moves start journal b
-      (is_run route moves start final run)
-      (subst (λ (cs : List Call). AreServed cs (served_to worker journal)) (its_calls moves) a) p k)
+  kept_by_router moves final journal b end run a p k = rw (events_added moves start) (kept_by_run (May route) after call_of recorded worker Goes K moved serves others final end moves start journal b (is_run route moves start final run) (rw (← (its_calls moves)) a) p k)
 
 -- ---- the numbers of an outbox's rows are positive, so that a read from 0 on gives all
 
@@ -102,16 +83,11 @@ abbrev IsNumbered : List Event → Type 0
 IsNumbered events = AllByRecursion IsNumber events
 
 move_numbered : (s : State) (move : Move) → IsNumbered s.outbox.events → IsNumbered (after s move).outbox.events
-move_numbered s (Recorded change event) is =
-    all_last IsNumber s.outbox.events (stored_event (next_seq s.outbox) event) is (omega arith)
-move_numbered s Swept is =
-    recursion_from_All IsNumber (later_than s.outbox.mark s.outbox.events)
-    (All-filter (λ (e : Event). nat_lt s.outbox.mark e.seq) IsNumber s.outbox.events
-    (All-from_recursion IsNumber s.outbox.events is))
+move_numbered s (Recorded change event) is = grind (arith, nat_tests, all_last)
+move_numbered s Swept is = grind (arith, nat_tests, recursion_from_All IsNumber (later_than s.outbox.mark s.outbox.events) (All-filter (λ (e : Event). nat_lt s.outbox.mark e.seq) IsNumber s.outbox.events (All-from_recursion IsNumber s.outbox.events is)))
 move_numbered s Restarted is = is
 move_numbered s (Took hand) is = is
-move_numbered s (Called call marks) is =
-    subst (λ (c : Contents). IsNumbered c.events) (sym (called_outbox s call marks).1) is
+move_numbered s (Called call marks) is = grind (arith, nat_tests)
 
 pub run_numbered : (route : Dispatching) (moves : List Move) (old new : State) → IsRouterRun route old moves new
     → IsNumbered old.outbox.events → IsNumbered new.outbox.events
@@ -121,9 +97,7 @@ run_numbered route (move ∷ moves) old new run is =
 
 -- none is left out
 pub all_later : (events : List Event) → IsNumbered events → later_than 0 events ≡ events
-all_later events is =
-    filter_all (λ (e : Event). nat_lt 0 e.seq) events
-    (all_weaker IsNumber (λ (e : Event). nat_lt 0 e.seq ≡ true) (λ e positive. lt-ltb 0 e.seq positive) events is)
+all_later events is = grind (arith, nat_tests, filter_all, all_weaker, lt-ltb)
 
 -- ---- the rows that a run records are those of the plan's steps that the outbox accepts
 
@@ -131,77 +105,29 @@ all_later events is =
 rows_split : (route : Dispatching) (s mid : State) (these those : List Move) → IsRouterRun route s these mid
     → events_of s.outbox (these ++ those) ≡ events_of s.outbox these ++ events_of mid.outbox those
 rows_split route s mid [] those run = ap (λ (t : State). events_of t.outbox those) (sym run)
-rows_split route s mid (move ∷ these) those run =
-    events_behind s move (these ++ those)
-    ∙ ap (λ rows. recorded s move ++ rows) (rows_split route (after s move) mid these those run.1)
-    ∙ sym (append_assoc (recorded s move) (events_of (after s move).outbox these) (events_of mid.outbox those))
-    ∙ ap (λ rows. rows ++ events_of mid.outbox those) (sym (events_behind s move these))
+rows_split route s mid (move ∷ these) those run = grind (arith, nat_tests, rows_split route (after s move) mid these those run.1, events_behind, append_assoc)
 
 -- a tick records nothing
 by_tick : (route : Dispatching) (c : Contents) (s new : State) (moves : List Move) → AllByRecursion IsOfTick moves
     → IsRouterRun route s moves new → (events_of c moves ≡ []) × (new.outbox.ids ≡ s.outbox.ids)
 by_tick route c s new [] own run = (refl, ap (λ (t : State). t.outbox.ids) run)
 by_tick route c s new (Took hand ∷ moves) own run = by_tick route c (after s (Took hand)) new moves own.1 run.1
-by_tick route c s new (Called call marks ∷ moves) own run =
-    let (none, same) = by_tick route c (after s (Called call marks)) new moves own.1 run.1 in
-    (none, same ∙ called_ids s call marks)
+by_tick route c s new (Called call marks ∷ moves) own run = grind (arith, nat_tests, by_tick route c (after s (Called call marks)) new moves own.1 run.1)
 by_tick route c s new (_ ∷ moves) own run = absurd own.0
-
--- what an outbox accepts is what may be recorded
-accepted : (c : Contents) (change : Change) (event : OutboxEvent) → IsRecordable c change event
-    → is_accepted c.ids change event ≡ true
-accepted c change event may = grind (arith, nat_tests, may.fits, may.fresh, may.room)
-
-none_is : {A : Type 0} (o : Option A) → is_none o ≡ true → o ≡ None
-none_is None is = refl
-none_is (Some x) is = cc
-
-may_record : (c : Contents) (change : Change) (event : OutboxEvent) → is_accepted c.ids change event ≡ true
-    → IsRecordable c change event
-may_record c change event is = record {
-  fits = none_is (first_bad change event) (grind (arith, nat_tests, is));
-  fresh = grind (arith, nat_tests, is);
-  room = grind (arith, nat_tests, is);
-}
-
--- what is not recorded although it might be
-not_accepted : (c : Contents) (change : Change) (event : OutboxEvent) (accepts : Bool) → is_accepted c.ids change event
-    ≡ accepts
-    → (IsRecordable c change event → ⊥) → is_accepted c.ids change event ≡ false
-not_accepted c change event true is never = absurd (never (may_record c change event is))
-not_accepted c change event false is never = is
 
 module _ (route : Dispatching) where
   -- one step, and the rows of the steps after it
   of_step : (s mid : State) (step : ServiceStep) (more : List ServiceStep) (these : List Move) (losses : List Loss)
       → IsServiceStep route s step these losses mid
       → events_of s.outbox these ++ rows_from mid.outbox.ids more ≡ rows_from s.outbox.ids (step ∷ more)
-  of_step s mid (steps.Record change event) more these losses does = by does.own.0
-    where
-      by : (these ≡ Recorded change event ∷ []) ⊎ ((these ≡ []) × (IsRecordable s.outbox change event → ⊥))
-          → events_of s.outbox these ++ rows_from mid.outbox.ids more
-          ≡ rows_from s.outbox.ids (steps.Record change event ∷ more)
-      by (inl is) =
-          let run : IsRouterRun route s (Recorded change event ∷ []) mid = rw is at does.run in
-          rw (is, run.1, accepted s.outbox change event run.0) refl
-      by (inr is) =
-          let run : IsRouterRun route s [] mid = rw is.0 at does.run in
-          rw (is.0, run, not_accepted s.outbox change event (is_accepted s.outbox.ids change event) refl is.1) refl
-  of_step s mid (steps.Tick loss) more these losses does =
-      let (none, same) = by_tick route s.outbox s mid these does.own.own does.run in
-      rw (none, same) refl
-  of_step s mid steps.Restart more these losses does =
-      let run : IsRouterRun route s (Restarted ∷ []) mid = rw does.own.0 at does.run in rw (does.own.0, run.1) refl
-  of_step s mid steps.Sweep more these losses does =
-      let run : IsRouterRun route s (Swept ∷ []) mid = rw does.own.0 at does.run in rw (does.own.0, run.1) refl
+  of_step s mid (steps.Record change event) more these losses does = grind (arith, nat_tests)
+  of_step s mid (steps.Tick loss) more these losses does = grind (arith, nat_tests, by_tick)
+  of_step s mid steps.Restart more these losses does = grind (arith, nat_tests)
+  of_step s mid steps.Sweep more these losses does = grind (arith, nat_tests)
 
   -- the moves of a service's steps record the rows of its plan
   pub rows_of_steps : (s new : State) (plan : List ServiceStep) (moves : List Move) (losses : List Loss)
       → Steps (IsServiceStep route) s plan moves losses new
       → events_of s.outbox moves ≡ rows_from s.outbox.ids plan
   rows_of_steps s new [] moves losses all = ap (events_of s.outbox) all.0
-  rows_of_steps s new (step ∷ plan) moves losses (mid, these, those, first, rest, does, later, made, lost) =
-      ap (events_of s.outbox) made
-      ∙ rows_split route s mid these those does.run
-      ∙ ap (λ rows. events_of s.outbox these ++ rows) (rows_of_steps mid new plan those rest later)
-      ∙ of_step s mid step plan these first does
+  rows_of_steps s new (step ∷ plan) moves losses (mid, these, those, first, rest, does, later, made, lost) = cc (rows_split route s mid these those does.run, rows_of_steps mid new plan those rest later, of_step s mid step plan these first does)

@@ -1,8 +1,8 @@
 -- The sequences of one producer on one partition, and how the broker judges its batches of one record.
-use Rattle.kob_pipeline.proofs.Words.{AllByRecursion, Batch, Bool, Contains, Idem, IsGiven, List, Next, None, Option, Place, Producer, Repeat, Sent, Sequence, Some, [], after_use, ap, append-nil, append_assoc, arith, batch_of, cases_Bool, cases_eq, drop, eq-eqb, false, find, get_or, get_or-drop, get_or_append_left, get_or_push, history, history_from, inl, inr, is_same, judge, judge_same, le-ltb, length, length-drop, length_push, memory_length, nat_lt, nat_tests, refl, same_place, sent_batch, sent_in, sequence_of, slice_get, slice_get-get_or, subst, sym, true, with_sequence_for, ℕ, ◌%◌, ◌++◌, ◌+◌, ◌-◌, ◌<◌, ◌∙◌, ◌∷◌, ◌≡◌, ◌≤◌}
-use Rattle.circular_buffer.specs.Buffer.{keep_last, last_item}
+use Rattle.kob_pipeline.proofs.Words.{AllByRecursion, Batch, Bool, Contains, Idem, IsGiven, List, Next, None, Option, Place, Producer, Repeat, Sent, Sequence, Some, [], after_use, ap, append-nil, arith, batch_of, cases_Bool, eq-eqb, false, find, get_or, get_or-drop, get_or_append_left, get_or_push, history, history_from, inl, inr, is_same, judge, judge_same, length, length-drop, length_push, memory_length, nat_tests, refl, same_place, sent_batch, sent_in, sequence_of, slice_get, slice_get-get_or, sym, true, with_sequence_for, ℕ, ◌%◌, ◌++◌, ◌+◌, ◌-◌, ◌<◌, ◌∙◌, ◌∷◌, ◌≡◌, ◌≤◌}
+use Rattle.circular_buffer.specs.Buffer.{keep_last}
 use Rattle.kob_names.specs.declared.record.Record.{Record}
-use Rattle.kob_producers.specs.Sequence.{last_of, next_sequence}
+use Rattle.kob_producers.specs.Sequence.{next_sequence}
 use Rattle.kob_pipeline.proofs.Lists.{contains_more, places_are, same_here, same_some}
 
 -- the sequence of a producer's n-th record on a partition
@@ -31,13 +31,7 @@ counted_none p i d h = absurd (omega arith)
 
 pub counted_last : (p : Producer) (sents : List Sent) (s : Sent) → AreCounted p sents → IsNumber p (length sents) s
     → AreCounted p (sents ++ s ∷ [])
-counted_last p sents s h n i d l =
-    elim (cases_eq i (length sents)) [
-      | inl e ↦ rw (get_or_push sents s d i (sym e), e) n
-      | inr ne ↦
-          let below : i < length sents = omega (arith, length_push sents s) in
-          rw (get_or_append_left sents (s ∷ []) d i below) (h i d below)
-    ]
+counted_last p sents s h n i d l = grind (arith, nat_tests, get_or_push, length_push, get_or_append_left)
 
 -- the last of some batches is the one before their number
 last_is : (x : Sent) (xs : List Sent) → slice_get (x ∷ xs) (length xs) ≡ Some (get_or (x ∷ xs) (length xs) x)
@@ -47,11 +41,6 @@ last_is x xs = slice_get-get_or (x ∷ xs) (length xs) x (omega arith)
 abbrev pub idem_of : Producer → ℕ → Idem
 idem_of p base = record { id = p.id; epoch = p.epoch; base = base }
 
-next_of_last : (base : ℕ) (l : Sent) (o : Option Sent) → judge_same o base l ≡ Next
-    → base ≡ next_sequence (last_of l.base l.count)
-next_of_last base l (Some s) h = cc
-next_of_last base l None h = grind (arith, nat_tests, h)
-
 -- the judgement where the last batch has the producer's epoch
 judged_same : (p : Producer) (base : ℕ) (x : Sent) (xs : List Sent) (n : ℕ) (l : Sent)
     → slice_get (x ∷ xs) (length xs) ≡ Some l
@@ -59,25 +48,14 @@ judged_same : (p : Producer) (base : ℕ) (x : Sent) (xs : List Sent) (n : ℕ) 
     → judge (x ∷ xs) (idem_of p base) 1 ≡ judge_same
     (find (is_same (idem_of p base) 1) (keep_last memory_length (x ∷ xs)))
     base l
-judged_same p base x xs n l at same =
-    let here : length (x ∷ xs) - 1 ≡ length xs = omega arith in
-    let last : last_item (x ∷ xs) ≡ Some l = ap (slice_get (x ∷ xs)) here ∙ at in
-    let low : nat_lt p.epoch l.epoch ≡ false = le-ltb p.epoch l.epoch (omega (arith, same)) in
-    let high : nat_lt l.epoch p.epoch ≡ false = le-ltb l.epoch p.epoch (omega (arith, same)) in
-    rw (last, low, high) refl
+judged_same p base x xs n l at same = grind (arith, nat_tests)
 
 -- a batch that comes next has the number of the batches as its sequence
 pub next_base : (p : Producer) (sents : List Sent) (base : ℕ) → AreCounted p sents
     → judge sents (idem_of p base) 1 ≡ Next
     → base ≡ wrapped (length sents)
 next_base p [] base h next = grind (arith, nat_tests, next)
-next_base p (x ∷ xs) base h next =
-    let l : Sent = get_or (x ∷ xs) (length xs) x in
-    let num : IsNumber p (length xs) l = h (length xs) x (omega arith) in
-    let e = judged_same p base x xs (length xs) l (last_is x xs) num.epoch in
-    let after : next_sequence (last_of (wrapped (length xs)) 1) ≡ wrapped (length (x ∷ xs)) = omega arith in
-    next_of_last base l (find (is_same (idem_of p base) 1) (keep_last memory_length (x ∷ xs))) (sym e ∙ next)
-    ∙ rw (num.base, num.single) after
+next_base p (x ∷ xs) base h next = grind (arith, nat_tests, get_or (x ∷ xs) (length xs) x, h (length xs) x (omega arith), judged_same p base x xs (length xs) (get_or (x ∷ xs) (length xs) x) (last_is x xs) (h (length xs) x (omega arith)).epoch, last_is x xs)
 
 -- what is found passes, and stands somewhere
 found_at : {A : Type 0} (test : A → Bool) (xs : List A) (y : A) → find test xs ≡ Some y
@@ -98,42 +76,20 @@ repeat_found None base offset l h = absurd (grind (arith, nat_tests, h))
 pub repeat_base : (p : Producer) (sents : List Sent) (base offset : ℕ) → AreCounted p sents
     → judge sents (idem_of p base) 1 ≡ Repeat offset
     → (j : ℕ) × (j < length sents) × (length sents ≤ j + 5) × (base ≡ wrapped j)
-repeat_base p [] base offset h again = absurd (grind (arith, nat_tests, again))
-repeat_base p (x ∷ xs) base offset h again =
-    let l : Sent = get_or (x ∷ xs) (length xs) x in
-    let num : IsNumber p (length xs) l = h (length xs) x (omega arith) in
-    let same = judged_same p base x xs (length xs) l (last_is x xs) num.epoch in
-    let f = repeat_found (find (is_same (idem_of p base) 1) (keep_last memory_length (x ∷ xs))) base offset l
-    (sym same ∙ again) in
-    let m : ℕ = length (x ∷ xs) - 5 in
-    let (there, passes) = found_at (is_same (idem_of p base) 1) (drop m (x ∷ xs)) f.0 f.1 in
-    let (k, below, at) = there in
-    let within : m + k < length (x ∷ xs) = omega (arith, below, length-drop m (x ∷ xs)) in
-    let read : get_or (x ∷ xs) (m + k) f.0 ≡ f.0 = sym (get_or-drop m (x ∷ xs) k f.0) ∙ at in
-    let number : IsNumber p (m + k) f.0 = subst (λ (s : Sent). IsNumber p (m + k) s) read (h (m + k) f.0 within) in
-    let base_is : f.0.base ≡ base = grind (arith, nat_tests, passes) in
-    (m + k, within, omega arith, sym base_is ∙ number.base)
+repeat_base p sents base offset h again = grind (arith, nat_tests, judged_same, last_is, repeat_found, found_at, length-drop, get_or-drop)
 
 -- the history with one more batch of the producer
 history_last_from : (id start : ℕ) (log : List Batch) (b : Batch)
     → (offset : ℕ) × (history_from id start (log ++ b ∷ []) ≡ history_from id start log ++ sent_in id offset
     (length b.records) b.idem)
 history_last_from id start [] b = (start, append-nil (sent_in id start (length b.records) b.idem))
-history_last_from id start (c ∷ log) b =
-    let r = history_last_from id (start + length c.records) log b in (
-      r.0,
-      ap (λ (xs : List Sent). sent_in id start (length c.records) c.idem ++ xs) r.1
-          ∙ sym (append_assoc (sent_in id start (length c.records) c.idem)
-          (history_from id (start + length c.records) log) (sent_in id r.0 (length b.records) b.idem)),
-    )
+history_last_from id start (c ∷ log) b = grind (arith, nat_tests, history_last_from id (start + length c.records) log b)
 
 pub history_last : (p : Producer) (log : List Batch) (base : ℕ) (message : Record)
     → (offset : ℕ) × (history p.id (log ++ batch_of p base message ∷ [])
     ≡ history p.id log ++ sent_batch (idem_of p base) 1
     offset ∷ [])
-history_last p log base message =
-    let r = history_last_from p.id 0 log (batch_of p base message) in
-    (r.0, r.1 ∙ rw (eq-eqb p.id p.id refl) refl)
+history_last p log base message = grind (arith, nat_tests, history_last_from p.id 0 log (batch_of p base message), eq-eqb p.id p.id refl)
 
 not_its : (id next offset count : ℕ) → next ≤ id → (o : Option Idem) → IsGiven next o → sent_in id offset count o ≡ []
 not_its id next offset count l None h = refl

@@ -1,3 +1,4 @@
+pub mod Words
 pub mod Delivery
 pub mod Firsts
 pub mod Parts
