@@ -1,19 +1,13 @@
 -- Ids that read back from records, and the rows of an aggregate among all rows, and among those of a place.
-use Rattle.kob_pipeline.proofs.Words.{All, All-from_recursion, AllByRecursion, AreServed, Bool, Dispatch, Dispatching, Entry, IsRouterRun, List, None, Option, Place, Recorded, Some, Swept, Target, Took, [], after_record, and_parts, ap, append-nil, arith, bytes_eq, cases_Bool, cond, dispatch_of, false, filter, goes_to, id_text, ids_of, if◌then◌else◌, inl, inr, is_of_aggregate, list_any, list_any-append, map_push, nat_tests, next_seq, option_map, place_of, refl, same_place, served_to, slice_index, stored_event, subst, suc, sym, told_id, true, zero, ℕ, ◌%◌, ◌&&◌, ◌++◌, ◌/◌, ◌<◌, ◌==◌, ◌∙◌, ◌∷◌, ◌≡◌}
-use Rattle.std.specs.Option.{is_some}
-use Rattle.uuid.specs.Text.{by_index, digit_place, hex_digit, hyphen, is_hyphen_place, lower, nibble, parsed}
+use Rattle.kob_pipeline.proofs.Words.{All, All-from_recursion, AllByRecursion, AreServed, Bool, Dispatch, Dispatching, Entry, IsRouterRun, List, None, Option, Place, Recorded, Some, Target, [], after_record, and_parts, ap, append-nil, arith, bytes_eq, cases_Bool, dispatch_of, false, filter, goes_to, id_text, ids_of, inl, inr, is_of_aggregate, list_any, list_any-append, map_push, nat_tests, next_seq, option_map, place_of, refl, same_place, served_to, slice_index, stored_event, subst, suc, sym, told_id, true, zero, ℕ, ◌%◌, ◌&&◌, ◌++◌, ◌<◌, ◌∙◌, ◌∷◌, ◌≡◌}
+use Rattle.uuid.specs.Text.{by_index, digit_place, lower, nibble, parsed}
 use Rattle.uuid.proofs.RoundTrips.{parses_hyphenated}
 use Rattle.uuid.proofs.TextLemmas.{by_index_at, by_index_cong, by_index_length}
-use Rattle.kob_names.specs.TopicRules.{topic_fault}
-use Rattle.kob_names.specs.declared.record.Record.{Record}
 use Rattle.kob_outbox.specs.Contents.{Event, Contents}
-use Rattle.kob_router.specs.Partitioner.{partition_of}
-use Rattle.kob_router.specs.Route.{key_of, message_of, topic_of}
-use Rattle.kob_router.specs.declared.routed.Routed.{Routed}
-use Rattle.kob_pipeline.proofs.Lists.{all_last, all_weaker, any_last, bytes_are, bytes_turned, filter_last, filter_not_last, none_in_filter, same_bytes, same_here, same_some}
+use Rattle.kob_router.specs.Route.{message_of}
+use Rattle.kob_pipeline.proofs.Lists.{all_last, all_weaker, any_last, bytes_are, bytes_turned, filter_last, filter_not_last, none_in_filter, same_bytes, same_here}
 use Rattle.kob_pipeline.proofs.RouterKept.{TellsIds, TellsItsId}
 use Rattle.kob_router.specs.Run.{May, Move, State, after, calls_of, events_of, start}
-use Rattle.kob_router.specs.Run.Move.{Called, Restarted}
 use Rattle.kob_pipeline.proofs.Logged.{is_fresh}
 use Rattle.kob_pipeline.proofs.Rows.{call_of, called_ids, kept_by_router, recorded}
 use Rattle.kob_pipeline.proofs.ServedRuns.{IsOf, IsUnheard, all_pass}
@@ -37,49 +31,21 @@ byte_at : (id : List ℕ) (i : ℕ) → i < 16 → slice_index (bytes_of id) i �
 byte_at id i h = by_index_at 16 (λ j. slice_index id j % 256) i _ h
 
 nibble_same : (id : List ℕ) (k : ℕ) → k < 32 → nibble (bytes_of id) k ≡ nibble id k
-nibble_same id k h =
-    let at : slice_index (bytes_of id) (k / 2) ≡ slice_index id (k / 2) % 256 = byte_at id (k / 2) (omega arith) in
-    let high : slice_index id (k / 2) % 256 / 16 % 16 ≡ slice_index id (k / 2) / 16 % 16 = omega arith in
-    let low : slice_index id (k / 2) % 256 % 16 ≡ slice_index id (k / 2) % 16 = omega arith in
-    ap (λ (b : ℕ). cond (k % 2 == 0) (b / 16 % 16) (b % 16)) at
-    ∙ ap (λ (x : ℕ). cond (k % 2 == 0) x (slice_index id (k / 2) % 256 % 16)) high
-    ∙ ap (λ (x : ℕ). cond (k % 2 == 0) (slice_index id (k / 2) / 16 % 16) x) low
+nibble_same id k h = grind (arith, nat_tests, byte_at)
 
 digit_within : (k : ℕ) → k < 36 → digit_place k < 32
 digit_within k h = grind (arith, nat_tests)
 
 text_same : (id : List ℕ) → id_text (bytes_of id) ≡ id_text id
-text_same id =
-    by_index_cong 36 _ _
-    (λ k h. ap (λ (n : ℕ). cond (is_hyphen_place k) hyphen (hex_digit lower n))
-    (nibble_same id (digit_place k) (digit_within k h)))
+text_same id = grind (arith, nat_tests, by_index_cong, nibble_same, digit_within)
 
 -- whatever an id is, its text reads back as an id with the same text
 pub text_back : (id : List ℕ) → option_map id_text (parsed (id_text id)) ≡ Some (id_text id)
-text_back id =
-    let reads : Some (bytes_of id) ≡ parsed (id_text (bytes_of id)) =
-    parses_hyphenated lower (bytes_of id) (inl refl) (by_index_length 16 (λ i. slice_index id i % 256)) (bytes_small id)
-    in
-    ap (λ (t : List ℕ). option_map id_text (parsed t)) (sym (text_same id))
-    ∙ ap (option_map id_text) (sym reads)
-    ∙ ap (λ (t : List ℕ). Some t) (text_same id)
-
-message_is : (bad : Bool) (topic key : List ℕ) (partitions : ℕ) (message : Record) (d : Dispatch)
-    → option_map (λ (r : Routed). record {
-      place = record { topic = r.topic; partition = partition_of key partitions };
-      message = r.message;
-    })
-    (if bad then None else Some (record { topic = topic; message = message })) ≡ Some d
-    → message ≡ d.message
-message_is true topic key partitions message d h = cc
-message_is false topic key partitions message d h = ap (λ (x : Dispatch). x.message) (same_some _ d h)
+text_back id = grind (arith, nat_tests, parses_hyphenated lower (bytes_of id) (inl refl) (by_index_length 16 (λ i. slice_index id i % 256)) (bytes_small id), text_same id, by_index_length 16 (λ i. slice_index id i % 256), bytes_small id)
 
 pub sent_message : (target : Target) (row : Event) (d : Dispatch) → dispatch_of target row ≡ Some d
     → message_of target.route row ≡ d.message
-sent_message target row d h =
-    message_is (is_some (topic_fault (topic_of target.route row))) (topic_of target.route row) (key_of row)
-    target.partitions
-    (message_of target.route row) d h
+sent_message target row d h = grind (arith, nat_tests)
 
 pub target_tells : (target : Target) → TellsIds (dispatch_of target)
 target_tells target seq event d h =
@@ -106,17 +72,7 @@ module _ (test : Event → Bool) where
       → AllByRecursion (λ (x : Event). list_any (bytes_eq x.id) (ids_of (filter test more) ++ row.id ∷ []) ≡ test x)
       rows
   older [] more row new h = tt
-  older (x ∷ xs) more row new h = (
-    grind (
-      arith,
-      nat_tests,
-      list_any-append (bytes_eq x.id) (ids_of (filter test more)) (row.id ∷ []),
-      bytes_turned x.id row.id,
-      new,
-      h.0,
-    ),
-    older xs more row (grind (arith, nat_tests, new)) h.1,
-  )
+  older (x ∷ xs) more row new h = grind (arith, nat_tests, older xs more row (grind (arith, nat_tests, new)) h.1, list_any-append, bytes_turned)
 
   told_more : (rows : List Event) (row : Event) → list_any (bytes_eq row.id) (ids_of rows) ≡ false
       → AllByRecursion (IsToldById test rows) rows → AllByRecursion (IsToldById test (rows ++ row ∷ []))
@@ -147,18 +103,7 @@ module _ (test : Event → Bool) where
 
   told_move : (route : Dispatching) (m : Move) (rows : List Event) (s : State) (b : Unit {0}) → May route s m
       → IsUnheard (call_of m) → IsTold rows s b → IsTold (rows ++ recorded s m) (after s m) b
-  told_move route (Recorded change event) rows s b may u (ids, h) =
-      let row : Event = stored_event (next_seq s.outbox) event in (
-        ap (λ (xs : List (List ℕ)). xs ++ row.id ∷ []) ids ∙ sym (map_push (λ (r : Event). r.id) rows row),
-        told_more rows row
-            (subst (λ (xs : List (List ℕ)). list_any (bytes_eq row.id) xs ≡ false) ids
-            (is_fresh s.outbox change event may))
-            h,
-      )
-  told_move route Swept rows s b may u k = rw append-nil k
-  told_move route Restarted rows s b may u k = rw append-nil k
-  told_move route (Took hand) rows s b may u k = rw append-nil k
-  told_move route (Called c marks) rows s b may u (ids, h) = rw append-nil (called_ids s c marks ∙ ids, h)
+  told_move route m rows s b may u k = grind (arith, nat_tests, map_push, told_more, is_fresh, append-nil, called_ids)
 
   pub told_all : (route : Dispatching) (worker : ℕ) (journal : List Entry) (moves : List Move) (final : State)
       → IsRouterRun route start moves final → AreServed (calls_of moves) (served_to worker journal)

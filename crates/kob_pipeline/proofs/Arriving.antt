@@ -1,5 +1,5 @@
 -- What an inbox makes of the records that arrive.
-use Rattle.kob_pipeline.proofs.Words.{AllByRecursion, Arrival, Bool, Contains, Denied, Done, Fetch, Intake, IsConsumerRun, List, None, Option, Place, Refused, Reply, Request, Some, Subscription, [], ap, arith, arrivals, bytes_eq, cons_option, cursor_of, event_id, false, filter, filter_map, firsts, fold, id_text, intake_of, is_there, list_any, map, map_push, nat_eq, nat_tests, option_map, place_at, range_with_len, refl, subst, sym, take, taken_by, taken_ids, taken_in, taken_of, told_id, with_intake, with_new, with_record, ℕ, ◌∙◌, ◌∷◌, ◌≡◌}
+use Rattle.kob_pipeline.proofs.Words.{AllByRecursion, Arrival, Bool, Contains, Denied, Done, Fetch, IsConsumerRun, List, None, Option, Place, Refused, Reply, Request, Some, Subscription, [], ap, arith, arrivals, bytes_eq, cons_option, cursor_of, event_id, false, filter, filter_map, firsts, fold, id_text, intake_of, is_there, list_any, map, map_push, nat_eq, nat_tests, option_map, place_at, range_with_len, refl, take, taken_by, taken_ids, taken_in, taken_of, told_id, with_intake, with_new, with_record, ℕ, ◌∷◌, ◌≡◌}
 use Rattle.kob_names.specs.declared.record.Record.{Record}
 use Rattle.kob_inbox.specs.Contents.{Contents}
 use Rattle.kob_inbox.specs.Cursors.{standing}
@@ -46,9 +46,7 @@ places_by : (t : Subscription) (place : Place) (o : Option Standing) (request : 
 places_by t place o request None count c d = tt
 places_by t place o request (Some (Denied code verdicts)) count c d = tt
 places_by t place o request (Some (Refused code reason)) count c d = tt
-places_by t place o (Fetch asked) (Some (Done (bodies.Records records))) count c d =
-    places_at (Contains t.assignment) (place_at asked.topic asked.partition) (take count records)
-    (subst (Contains t.assignment) (sym d.0) c)
+places_by t place o (Fetch asked) (Some (Done (bodies.Records records))) count c d = places_at (Contains t.assignment) (place_at asked.topic asked.partition) (take count records) (rw d.0 c)
 places_by t place o _ (Some (Done _)) count c d = tt
 
 pub all_assigned : (t : Subscription) (moves : List Move) (s final : State) → IsConsumerRun t s moves final
@@ -68,26 +66,15 @@ there_as : (events : Contents) (id : List ℕ) → is_there events id ≡ list_a
 there_as [] id = refl
 there_as (e ∷ events) id = grind (arith, nat_tests, bytes_turned e.id id, there_as events id)
 
-intake_id : (events : Contents) (e : Intake) → taken_ids (with_intake events e)
-    ≡ with_new bytes_eq (taken_ids events) e.id
-intake_id events e =
-    grind (arith, nat_tests, there_as events e.id, map_push (λ (i : Intake). i.id) events e)
-
 told_one : (events : Contents) (o : Option (List ℕ)) (a : Arrival) (ids : List (List ℕ))
     → fold (with_new bytes_eq) (taken_ids (with_told events o a)) ids
     ≡ fold (with_new bytes_eq) (taken_ids events) (cons_option o ids)
-told_one events None a ids = refl
-told_one events (Some text) a ids =
-    ap (λ (ys : List (List ℕ)). fold (with_new bytes_eq) ys ids) (intake_id events (intake_of text a))
+told_one events o a ids = grind (arith, nat_tests, there_as, map_push)
 
 pub inbox_ids : (events : Contents) (arrived : List Arrival)
     → taken_ids (taken_in events arrived) ≡ fold (with_new bytes_eq) (taken_ids events) (ids_told arrived)
 inbox_ids events [] = refl
-inbox_ids events (a ∷ arrived) =
-    inbox_ids (with_record events (event_id a.message) a) arrived
-    ∙ ap (λ (x : Contents). fold (with_new bytes_eq) (taken_ids x) (ids_told arrived))
-    (record_told events (event_id a.message) a)
-    ∙ told_one events (told_by a) a (ids_told arrived)
+inbox_ids events (a ∷ arrived) = cc (inbox_ids (with_record events (event_id a.message) a) arrived, record_told events (event_id a.message) a, told_one events (told_by a) a (ids_told arrived))
 
 -- what passes a test
 
@@ -117,8 +104,4 @@ told_there records (a ∷ arrived) h = rw h.0 (ap (cons_option (told_by a)) (tol
 pub firsts_of_front : (records : List Record) (n : ℕ) (arrived : List Arrival)
     → firsts nat_eq (map offset_of arrived) ≡ range_with_len 0 n → AllByRecursion (IsContent records) arrived
     → firsts bytes_eq (ids_told arrived) ≡ firsts bytes_eq (filter_map told_id (take n records))
-firsts_of_front records n arrived offsets contents =
-    ap (firsts bytes_eq) (told_there records arrived contents)
-    ∙ told_by_firsts (told_at told_id records) (map offset_of arrived)
-    ∙ ap (λ (ks : List ℕ). firsts bytes_eq (filter_map (told_at told_id records) ks)) offsets
-    ∙ ap (firsts bytes_eq) (told_by_front told_id records n)
+firsts_of_front records n arrived offsets contents = grind (arith, nat_tests, told_there, told_by_firsts, told_at, offset_of, told_by_front)

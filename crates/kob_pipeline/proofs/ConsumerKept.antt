@@ -1,5 +1,5 @@
 -- Offsets that are taken in order, and what a run of a consumer keeps, of one partition.
-use Rattle.kob_pipeline.proofs.Words.{AllByRecursion, Arrival, Cursor, List, None, Option, Place, Some, [], ap, append-nil, arith, arrivals, behind, cursor_of, drop, enumerate_from, false, fetch_limit, filter-append, firsts, fold, fold-append, from_place, inl, inr, length, map, map-append, map-map, max, min, nat_eq, nat_tests, range_with_len, read_from, refl, same_place, slice_get, subst, suc, sym, take, true, with_cursor, with_new, with_progress, zero, ℕ, ◌++◌, ◌+◌, ◌∙◌, ◌∷◌, ◌≡◌, ◌≤◌}
+use Rattle.kob_pipeline.proofs.Words.{AllByRecursion, Arrival, Cursor, List, None, Option, Place, Some, [], ap, append-nil, arith, arrivals, behind, cursor_of, drop, enumerate_from, false, fetch_limit, filter-append, firsts, fold, fold-append, from_place, inl, inr, length, map, map-append, map-map, max, min, nat_eq, nat_tests, range_with_len, read_from, refl, same_place, slice_get, suc, take, true, with_cursor, with_new, with_progress, zero, ℕ, ◌++◌, ◌+◌, ◌∙◌, ◌∷◌, ◌≡◌, ◌≤◌}
 use Rattle.kob_names.specs.declared.record.Record.{Record}
 use Rattle.kob_pipeline.proofs.Lists.{all_append, all_weaker, get_front, place_cases, places_are, same_here}
 use Rattle.kob_pipeline.proofs.Once.{numbers_on}
@@ -12,9 +12,7 @@ AreRead records n (x ∷ xs) = (x.0 ≡ n) × (slice_get records x.0 ≡ Some x.
 offsets_read : (records : List Record) (n : ℕ) (xs : List (ℕ × Record)) → AreRead records n xs
     → (map (λ (x : ℕ × Record). x.0) xs ≡ range_with_len n (length xs)) × (behind n xs ≡ n + length xs)
 offsets_read records n [] c = (refl, omega arith)
-offsets_read records n (x ∷ xs) c =
-    let (offsets, end) = offsets_read records (n + 1) xs c.2 in
-    (rw c.0 (ap (λ (ns : List ℕ). n ∷ ns) offsets), rw c.0 (end ∙ omega arith))
+offsets_read records n (x ∷ xs) c = grind (arith, nat_tests, offsets_read records (n + 1) xs c.2)
 
 -- what a list is from some place on
 drop_at : (n : ℕ) (xs : List Record) (x : Record) (rest : List Record) → drop n xs ≡ x ∷ rest
@@ -72,11 +70,7 @@ cursor_elsewhere (x ∷ cs) c q h =
 -- a cursor that moves within the bound
 within_moved : (cs : List Cursor) (c : Cursor) (q : Place) (bound : ℕ) → WithinCursor bound (cursor_of cs q)
     → (c.place ≡ q → c.position ≤ bound) → WithinCursor bound (cursor_of (with_cursor cs c) q)
-within_moved cs c q bound w new =
-    elim (place_cases c.place q) [
-      | inl e ↦ subst (WithinCursor bound) (sym (ap (cursor_of (with_cursor cs c)) (sym e) ∙ cursor_moved cs c)) (new e)
-      | inr apart ↦ subst (WithinCursor bound) (sym (cursor_elsewhere cs c q apart)) w
-    ]
+within_moved cs c q bound w new = grind (arith, nat_tests, place_cases, cursor_moved, cursor_elsewhere)
 
 within_more : (o : Option ℕ) (m n : ℕ) → m ≤ n → WithinOffset m o → WithinOffset n o
 within_more None m n l w = tt
@@ -120,15 +114,7 @@ module _ (q : Place) where
     -- the log grew
     pub taking_later : (more : List Record) → Taking records committed cursors arrived
         → Taking (records ++ more) committed cursors arrived
-    taking_later more k =
-        record {
-          bound = k.bound;
-          offsets = k.offsets;
-          contents = all_weaker (IsContent records) (IsContent (records ++ more))
-              (λ a h. get_front records more a.offset a.message h) (from_place q arrived) k.contents;
-          cursor = k.cursor;
-          commit = k.commit;
-        }
+    taking_later more k = grind (arith, nat_tests, all_weaker, get_front)
 
     -- the cursors and what is committed change, within the bound
     abbrev taking_as : {new : Option ℕ} {moved : List Cursor} (k : Taking records committed cursors arrived)
@@ -183,18 +169,7 @@ module _ (q : Place) where
     taking_elsewhere : (p : Place) (position : ℕ) (xs : List (ℕ × Record)) → same_place p q ≡ false
         → Taking records committed cursors arrived
         → Taking records committed (with_cursor cursors (cursor_behind p position xs)) (arrived ++ arrivals p xs)
-    taking_elsewhere p position xs apart k =
-        let more : from_place q (arrived ++ arrivals p xs) ≡ from_place q arrived =
-        filter-append (λ (a : Arrival). same_place a.place q) arrived (arrivals p xs)
-        ∙ ap (λ (ys : List Arrival). from_place q arrived ++ ys) (here_none p q apart xs)
-        ∙ append-nil (from_place q arrived) in
-        record {
-          bound = k.bound;
-          offsets = ap (λ (ys : List Arrival). firsts nat_eq (map offset_of ys)) more ∙ k.offsets;
-          contents = rw more k.contents;
-          cursor = rw (cursor_elsewhere cursors (cursor_behind p position xs) q apart) k.cursor;
-          commit = k.commit;
-        }
+    taking_elsewhere p position xs apart k = grind (arith, nat_tests, filter-append, here_none, append-nil, cursor_elsewhere)
 
     -- so many of the records that were heard are taken in
     pub taking_after_fetch : (p : Place) (position count : ℕ) (xs : List (ℕ × Record))
@@ -202,10 +177,4 @@ module _ (q : Place) where
         → (p ≡ q → Fits records k.bound position xs)
         → Taking records committed (with_progress cursors p count (behind position xs)) (arrived ++ arrivals p xs)
     taking_after_fetch p position zero xs k none fits = rw (none refl) (taking_nothing k)
-    taking_after_fetch p position (suc count) xs k none fits =
-        elim (place_cases p q) [
-          | inl e ↦
-              subst (λ (y : Place). Taking records committed (with_cursor cursors (cursor_behind y position xs))
-              (arrived ++ arrivals y xs)) (sym e) (taking_here position xs k (fits e))
-          | inr apart ↦ taking_elsewhere p position xs apart k
-        ]
+    taking_after_fetch p position (suc count) xs k none fits = elim (place_cases p q) [ inl e ↦ rw e (taking_here position xs k (fits e)) | inr apart ↦ taking_elsewhere p position xs apart k ]

@@ -16,11 +16,7 @@ pub same_here : (q : Place) → same_place q q ≡ true
 same_here q = and_from _ _ (same_bytes q.topic) (eq-eqb q.partition q.partition refl)
 
 pub places_are : (p q : Place) → same_place p q ≡ true → p ≡ q
-places_are p q h =
-    let parts = and_parts _ _ h in
-    let topic : p.topic ≡ q.topic = bytes_are p.topic q.topic parts.0 in
-    let partition : p.partition ≡ q.partition = eqb-true p.partition q.partition parts.1 in
-    (λ i. record { topic = topic i; partition = partition i })
+places_are p q h = let parts = and_parts _ _ h in let topic : p.topic ≡ q.topic = bytes_are p.topic q.topic parts.0 in let partition : p.partition ≡ q.partition = eqb-true p.partition q.partition parts.1 in grind (arith, nat_tests)
 
 pub place_cases : (p q : Place) → (p ≡ q) ⊎ (same_place p q ≡ false)
 place_cases p q = elim (cases_Bool (same_place p q)) [ inl h ↦ inl (places_are p q h) | inr h ↦ inr h ]
@@ -83,10 +79,7 @@ filter_map_turned f test (x ∷ xs) = grind (arith, nat_tests, filter_map_turned
 -- what a filter keeps passes, and stood in the list
 pub kept_by : {A : Type 0} (test : A → Bool) (xs : List A) (x : A) → Contains (filter test xs) x → Contains xs x
     × (test x ≡ true)
-kept_by test xs x c = (
-  All-contains (Contains xs) (filter test xs) x (All-filter test (Contains xs) xs (All-contains_itself xs)) c,
-  All-contains (λ y. test y ≡ true) (filter test xs) x (filter_passes test xs) c,
-)
+kept_by test xs x c = grind (arith, nat_tests, All-contains (Contains xs) (filter test xs) x (All-filter test (Contains xs) xs (All-contains_itself xs)) c, All-contains (λ y. test y ≡ true) (filter test xs) x (filter_passes test xs) c)
 
 -- what passes is kept
 pub keeps : {A : Type 0} (test : A → Bool) (xs : List A) (x : A) → Contains xs x → test x ≡ true

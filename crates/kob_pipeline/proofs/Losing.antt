@@ -1,7 +1,8 @@
 -- One call at a desk, and those of a tick.
-use Rattle.kob_pipeline.proofs.Words.{All-cons, All-nil, AreMade, AreNoted, AreServedByLoss, AtDesk, Call, CallFault, IfNone, IfSome, IsEventOf, IsHeard, List, Loss, None, Option, Receipt, Reply, Request, Served, Some, [], ap, append-nil, append_cancel_left, arith, event_at, get_or, get_or_push, length, length-append, losses_of, refl, served_by_notes, subst, sym, ℕ, ◌++◌, ◌-◌, ◌∙◌, ◌∷◌, ◌≡◌}
+use Rattle.kob_pipeline.proofs.Words.{All-cons, All-nil, AreMade, AreNoted, AtDesk, Call, CallFault, IfNone, IfSome, IsEventOf, IsHeard, List, Loss, None, Option, Receipt, Reply, Request, Some, [], ap, append-nil, append_cancel_left, arith, event_at, get_or, get_or_push, length, length-append, losses_of, refl, served_by_notes, sym, ℕ, ◌++◌, ◌-◌, ◌∙◌, ◌∷◌, ◌≡◌}
 use Rattle.kob_rights.specs.declared.event.Event.{Event}
 use Rattle.kob_lines.specs.declared.lossy.Loss.TheVariants as lost
+use Rattle.std.proofs.lemmas.Bool.Decides.{nat_tests}
 
 -- one more event with its receipt
 notes_push : (es : List Event) (rs : List Receipt) (e : Event) (r : Receipt) → length es ≡ length rs
@@ -10,8 +11,7 @@ notes_push : (es : List Event) (rs : List Receipt) (e : Event) (r : Receipt) →
 notes_push [] [] e r same = refl
 notes_push [] (x ∷ rs) e r same = absurd (omega (arith, same))
 notes_push (x ∷ es) [] e r same = absurd (omega (arith, same))
-notes_push (x ∷ es) (y ∷ rs) e r same =
-    ap (λ (ss : List Served). record { request = x.request; reply = y.reply } ∷ ss) (notes_push es rs e r (omega (arith, same)))
+notes_push (x ∷ es) (y ∷ rs) e r same = cc (notes_push es rs e r (omega (arith, same)))
 
 -- a call that was heard is noted
 pub heard_is_noted : (old new : AtDesk) (request : Request) (kept : Reply) (last : Receipt) (n : ℕ)
@@ -45,49 +45,21 @@ heard_is_noted old new request kept last n heard events told at_last is =
           (All-nil (IsEventOf old.seat.principal old.seat.host));
     }
 
--- where its reply is lost, it is served and not heard
-served_once : (request : Request) (kept : Reply) (ss : List Served)
-    → AreServedByLoss (lost.None ∷ []) (record { request = request; heard = Some kept } ∷ []) ss
-    → AreServedByLoss (lost.AfterServe ∷ []) (record { request = request; heard = None } ∷ []) ss
-served_once request kept [] is = absurd is
-served_once request kept (s ∷ []) is = (is.0, refl, tt)
-served_once request kept (s ∷ t ∷ ss) is = absurd is.2
-
 pub unheard_is_noted : (old new : AtDesk) (request : Request) (kept : Reply)
     → AreNoted (lost.None ∷ []) (record { request = request; heard = Some kept } ∷ []) old new
     → AreNoted (lost.AfterServe ∷ []) (record { request = request; heard = None } ∷ []) old new
-unheard_is_noted old new request kept noted = record {
-  principal = noted.principal;
-  host = noted.host;
-  served = noted.served;
-  by_loss = served_once request kept noted.served noted.by_loss;
-  noted = noted.noted;
-  events = noted.events;
-  added = noted.added;
-  own = noted.own;
-}
+unheard_is_noted old new request kept noted = grind (arith, nat_tests)
 
 -- a call that is lost before is not noted
 pub unserved_is_noted : (desk : AtDesk) (request : Request)
     → AreNoted (lost.BeforeServe ∷ []) (record { request = request; heard = None } ∷ []) desk desk
-unserved_is_noted desk request = record {
-  principal = refl;
-  host = refl;
-  served = [];
-  by_loss = (refl, tt);
-  noted = sym (append-nil (served_by_notes desk.noted.events desk.noted.told));
-  events = [];
-  added = sym (append-nil desk.noted.events);
-  own = All-nil (IsEventOf desk.seat.principal desk.seat.host);
-}
+unserved_is_noted desk request = grind (arith, nat_tests, append-nil (served_by_notes desk.noted.events desk.noted.told), append-nil desk.noted.events)
 
 -- the calls of a tick are those that were noted
 pub calls_of_a_tick : (fault : Option CallFault) (loss then_loss : Loss) (calls then_calls made : List Call)
     (old new : AtDesk) → AreMade fault loss then_loss calls then_calls old new → then_calls ≡ calls ++ made
     → AreNoted (losses_of loss made) made old new
-calls_of_a_tick fault loss then_loss calls then_calls made old new are is =
-    subst (λ (cs : List Call). AreNoted (losses_of loss cs) cs old new)
-    (append_cancel_left calls are.made made (sym are.calls_now ∙ is)) are.noted
+calls_of_a_tick fault loss then_loss calls then_calls made old new are is = grind (arith, nat_tests, append_cancel_left)
 
 -- ---- what a desk heard, and what of it a line notes
 

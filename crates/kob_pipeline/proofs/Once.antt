@@ -59,10 +59,7 @@ filter_new test xs y =
 filter_each : (test : List ℕ → Bool) (xs ys : List (List ℕ))
     → filter test (fold (with_new bytes_eq) xs ys) ≡ fold (with_new bytes_eq) (filter test xs) (filter test ys)
 filter_each test xs [] = refl
-filter_each test xs (y ∷ ys) =
-    filter_each test (with_new bytes_eq xs y) ys
-    ∙ ap (λ zs. fold (with_new bytes_eq) zs (filter test ys)) (filter_new test xs y)
-    ∙ grind (arith, nat_tests)
+filter_each test xs (y ∷ ys) = grind (arith, nat_tests, filter_each test (with_new bytes_eq xs y) ys, filter_new)
 
 pub filter_firsts : (test : List ℕ → Bool) (xs : List (List ℕ))
     → filter test (firsts bytes_eq xs) ≡ firsts bytes_eq (filter test xs)
@@ -88,19 +85,14 @@ pub numbers_on : (bound position n : ℕ) → position ≤ bound
     → fold (with_new nat_eq) (range_with_len 0 bound) (range_with_len position n)
     ≡ range_with_len 0 (max bound (position + n))
 numbers_on bound position zero within = ap (range_with_len 0) (omega arith)
-numbers_on bound position (suc n) within =
-    ap (λ ks. fold (with_new nat_eq) ks (range_with_len (position + 1) n)) (new_number bound position within)
-    ∙ numbers_on (max bound (position + 1)) (position + 1) n (omega arith)
-    ∙ ap (range_with_len 0) (omega arith)
+numbers_on bound position (suc n) within = grind (arith, nat_tests, numbers_on (max bound (position + 1)) (position + 1) n (omega arith), new_number)
 
 -- what keys tell, each at its first place
 
 any_each : (x : List ℕ) (xs ys : List (List ℕ))
     → list_any (bytes_eq x) (fold (with_new bytes_eq) xs ys) ≡ (list_any (bytes_eq x) xs || list_any (bytes_eq x) ys)
 any_each x xs [] = grind (arith, nat_tests)
-any_each x xs (y ∷ ys) =
-    any_each x (with_new bytes_eq xs y) ys
-    ∙ grind (arith, nat_tests, list_any-append (bytes_eq x) xs (y ∷ []), bytes_are x y)
+any_each x xs (y ∷ ys) = grind (arith, nat_tests, any_each x (with_new bytes_eq xs y) ys, list_any-append (bytes_eq x) xs (y ∷ []), bytes_are x y)
 
 any_option : (x : List ℕ) (o : Option (List ℕ)) (xs : List (List ℕ)) → list_any (bytes_eq x) xs ≡ true
     → list_any (bytes_eq x) (cons_option o xs) ≡ true
@@ -111,11 +103,7 @@ any_option x (Some y) xs h = grind (arith, nat_tests)
 any_told : (tell : ℕ → Option (List ℕ)) (ks : List ℕ) (k : ℕ) (id : List ℕ) → list_any (nat_eq k) ks ≡ true
     → tell k ≡ Some id → list_any (bytes_eq id) (filter_map tell ks) ≡ true
 any_told tell [] k id is e = cc
-any_told tell (x ∷ ks) k id is e =
-    elim (cases_Bool (nat_eq k x)) [
-      | inl same ↦ let e' = ap tell (sym (eqb-true k x same)) ∙ e in grind (arith, nat_tests, e', same_bytes id)
-      | inr apart ↦ any_option id (tell x) (filter_map tell ks) (grind (arith, nat_tests, any_told tell ks k id, apart))
-    ]
+any_told tell (x ∷ ks) k id is e = grind (arith, nat_tests, any_told tell ks k id, eqb-true, same_bytes, any_option)
 
 told_again : (tell : ℕ → Option (List ℕ)) (ks : List ℕ) (k : ℕ) (o : Option (List ℕ)) → list_any (nat_eq k) ks ≡ true
     → tell k ≡ o
@@ -133,18 +121,7 @@ told_by_each : (tell : ℕ → Option (List ℕ)) (ks more : List ℕ)
     → fold (with_new bytes_eq) (firsts bytes_eq (filter_map tell ks)) (filter_map tell more)
     ≡ firsts bytes_eq (filter_map tell (fold (with_new nat_eq) ks more))
 told_by_each tell ks [] = refl
-told_by_each tell ks (k ∷ more) =
-    let told : List (List ℕ) = firsts bytes_eq (filter_map tell ks) in
-    let one : List (List ℕ) = cons_option (tell k) [] in
-    one_then_all (tell k) told (filter_map tell more)
-    ∙ elim (cases_Bool (list_any (nat_eq k) ks)) [
-      | inl old ↦ rw old (rw (told_again tell ks k (tell k) old refl) (told_by_each tell ks more))
-      | inr new ↦
-          let longer : firsts bytes_eq (filter_map tell (ks ++ k ∷ [])) ≡ fold (with_new bytes_eq) told one =
-          ap (firsts bytes_eq) (filter_map-append tell ks (k ∷ []))
-          ∙ fold-append (with_new bytes_eq) [] (filter_map tell ks) one in
-          rw new (rw (← longer) (told_by_each tell (ks ++ k ∷ []) more))
-    ]
+told_by_each tell ks (k ∷ more) = grind (arith, nat_tests, told_by_each tell ks more, told_by_each tell (ks ++ k ∷ []) more, one_then_all, told_again, filter_map-append, fold-append)
 
 pub told_by_firsts : (tell : ℕ → Option (List ℕ)) (ks : List ℕ)
     → firsts bytes_eq (filter_map tell ks) ≡ firsts bytes_eq (filter_map tell (firsts nat_eq ks))
@@ -172,6 +149,4 @@ module _ {A : Type 0} (tell : A → Option (List ℕ)) where
 
   pub front_begins : (xs : List A) (n : ℕ)
       → IsPrefixOf (firsts bytes_eq (filter_map tell (take n xs))) (firsts bytes_eq (filter_map tell xs))
-  front_begins xs n =
-      let whole = ap (filter_map tell) (sym (take-append-drop n xs)) ∙ filter_map-append tell (take n xs) (drop n xs) in
-      rw whole (prefix_firsts bytes_eq (filter_map tell (take n xs)) (filter_map tell (drop n xs)))
+  front_begins xs n = grind (arith, nat_tests, take-append-drop n xs, filter_map-append tell (take n xs) (drop n xs), prefix_firsts bytes_eq (filter_map tell (take n xs)) (filter_map tell (drop n xs)))

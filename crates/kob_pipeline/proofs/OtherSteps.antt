@@ -1,6 +1,7 @@
 -- What an entry leaves of one partition, and of what a group committed there.
-use Rattle.kob_pipeline.proofs.Words.{Accepts, Batch, Bool, Commits, DeleteGroups, DeleteTopics, Deletes, Denied, Done, Fetch, InitProducerId, IsSameView, Judgement, List, Next, None, OffsetCommit, OffsetFetch, OldEpoch, OutOfOrder, Place, Produce, Produces, Refused, Repeat, Reply, Request, Some, Step, View, [], and_parts, ap, append-nil, arith, bytes_eq, cases_Bool, cases_cond, cond, cond-false, inl, inr, judged_in, length, place_at, refl, same_place, sym, with_batch, ℕ, ◌&&◌, ◌++◌, ◌∙◌, ◌∷◌, ◌≡◌, ◌≤◌, ◌⊎◌}
+use Rattle.kob_pipeline.proofs.Words.{Accepts, Batch, Commits, DeleteGroups, DeleteTopics, Deletes, Denied, Done, Fetch, InitProducerId, IsSameView, Judgement, List, Next, None, OffsetCommit, OffsetFetch, OldEpoch, OutOfOrder, Place, Produce, Produces, Refused, Repeat, Reply, Request, Step, View, [], and_parts, append-nil, arith, cond-false, inr, refl, sym, with_batch, ℕ, ◌++◌, ◌∙◌, ◌≡◌, ◌≤◌, ◌⊎◌}
 use Rattle.kob_pipeline.proofs.Lists.{bytes_are, place_cases, places_are, same_here}
+use Rattle.std.proofs.lemmas.Bool.Decides.{nat_tests}
 
 module _ (group : List ℕ) (q : Place) where
   -- The log grows, by a PRODUCE to the topic alone. What is committed stays or goes, or it is a commit of the group.
@@ -15,14 +16,7 @@ module _ (group : List ℕ) (q : Place) where
   -- the same by what the new view shows
   leaves_as : {v x w : View} {request : Request} {reply : Reply} → IsSameView w x → Leaves v x request reply
       → Leaves v w request reply
-  leaves_as same l =
-      record {
-        more = l.more;
-        log = same.log q ∙ l.log;
-        grows = l.grows;
-        commit = λ c. rw (same.committed group q) (l.commit c);
-        later = let n = same.next_producer in let m = l.later in omega (arith, n, m);
-      }
+  leaves_as same l = grind (arith, nat_tests)
 
   -- nothing is appended there
   no_batch : {v x : View} {request : Request} {reply : Reply} → x.log q ≡ v.log q
@@ -38,20 +32,7 @@ module _ (group : List ℕ) (q : Place) where
   appended : (v : View) (place : Place) (b : Batch) {request : Request} {reply : Reply}
       → (place.topic ≡ q.topic → Produces q.topic request reply)
       → Leaves v (with_batch v place b) request reply
-  appended v place b produces =
-      elim (place_cases place q) [
-        | inl is ↦
-            record {
-              more = b ∷ [];
-              log = rw (is, same_here q) refl;
-              grows = λ no. absurd (no (produces (ap (λ (p : Place). p.topic) is)));
-              commit = λ _. inr refl;
-              later = omega arith;
-            }
-        | inr apart ↦
-            no_batch (cond-false (same_place place q) (v.log q ++ b ∷ []) (v.log q) apart) (λ _. inr refl)
-            (omega arith)
-      ]
+  appended v place b produces = grind (arith, nat_tests, place_cases, same_here, no_batch, cond-false)
 
   accepted : {v w : View} {request : Request} {reply : Reply} (place : Place) (b : Batch) (j : Judgement)
       → (place.topic ≡ q.topic → Produces q.topic request reply) → Accepts j v place b w → Leaves v w request reply
@@ -65,33 +46,10 @@ module _ (group : List ℕ) (q : Place) where
   leaves v w request (Denied code verdicts) kept step = leaves_all step
   leaves v w request (Refused code reason) kept step = leaves_all step
   leaves v w InitProducerId (Done body) kept step = leaves_as step.1 (no_batch refl (λ _. inr refl) (omega arith))
-  leaves v w (Produce asked) (Done body) kept step =
-      let p : Place = place_at asked.topic asked.partition in
-      accepted p asked.batch (judged_in (v.log p) asked.batch.idem (length asked.batch.records)) (λ is. is) step.1
+  leaves v w (Produce asked) (Done body) kept step = grind (arith, nat_tests, accepted)
   leaves v w (Fetch asked) (Done body) kept step = leaves_all step.1
   leaves v w (OffsetFetch asked) (Done body) kept step = leaves_all step.1
-  leaves v w (OffsetCommit asked) (Done body) kept step =
-      let p : Place = place_at asked.topic asked.partition in
-      let is : Bool = bytes_eq asked.group group && same_place p q in
-      leaves_as step
-      (no_batch refl
-      (λ no. elim (cases_Bool is) [
-        | inl on ↦
-            let parts = and_parts (bytes_eq asked.group group) (same_place p q) on in
-            absurd (no (bytes_are asked.group group parts.0, ap (λ (x : Place). x.topic) (places_are p q parts.1)))
-        | inr off ↦ inr (cond-false is (Some asked.offset) (v.committed group q) off)
-      ]) (omega arith))
-  leaves v w (DeleteGroups asked) (Done body) kept step =
-      leaves_as step
-      (no_batch refl
-      (λ _. cases_cond (bytes_eq asked.group group) None (v.committed group q)
-      (cond (bytes_eq asked.group group) None (v.committed group q)) refl) (omega arith))
-  leaves v w (DeleteTopics asked) (Done body) kept step =
-      elim (cases_Bool (bytes_eq asked.name q.topic)) [
-        | inl on ↦ absurd (kept (bytes_are asked.name q.topic on))
-        | inr off ↦
-            leaves_as step
-            (no_batch (cond-false (bytes_eq asked.name q.topic) [] (v.log q) off)
-            (λ _. inr (cond-false (bytes_eq asked.name q.topic) None (v.committed group q) off)) (omega arith))
-      ]
+  leaves v w (OffsetCommit asked) (Done body) kept step = grind (arith, nat_tests, append-nil, and_parts, bytes_are, places_are, cond-false)
+  leaves v w (DeleteGroups asked) (Done body) kept step = grind (arith, nat_tests, append-nil)
+  leaves v w (DeleteTopics asked) (Done body) kept step = grind (arith, nat_tests, bytes_are, append-nil, cond-false)
   leaves v w _ (Done body) kept step = leaves_all step

@@ -1,5 +1,5 @@
 -- What reaches an inbox follows of what was delivered and what was taken in order, as an aggregate has one place.
-use Rattle.kob_pipeline.proofs.Words.{AllByRecursion, Arrival, Bool, Contains, Intake, IsCopy, IsDelivered, IsPrefixOf, IsRecordOf, IsTakenInOrder, List, None, Option, Place, ReachesInOrder, Some, Target, [], ap, arith, bytes_eq, cases_Bool, dispatch_of, event_id, filter, filter_map, firsts, from_place, goes_to, ids_of, inl, inr, intake_of, is_of_aggregate, is_there, list_any, place_of, refl, routed_to, rows_of_aggregate, same_place, subst, sym, take, taken_ids, taken_in, taken_of_aggregate, told_id, true, with_record, ℕ, ◌&&◌, ◌∙◌, ◌∷◌, ◌≡◌}
+use Rattle.kob_pipeline.proofs.Words.{AllByRecursion, Arrival, Bool, Contains, Intake, IsCopy, IsDelivered, IsPrefixOf, IsRecordOf, IsTakenInOrder, List, None, Option, Place, ReachesInOrder, Some, Target, [], ap, arith, bytes_eq, dispatch_of, event_id, filter, filter_map, firsts, from_place, goes_to, ids_of, intake_of, is_of_aggregate, list_any, place_of, refl, routed_to, rows_of_aggregate, same_place, subst, sym, take, taken_ids, taken_in, taken_of_aggregate, told_id, true, with_record, ℕ, ◌&&◌, ◌∙◌, ◌∷◌, ◌≡◌}
 use Rattle.std.specs.List.{IsDistinct}
 use Rattle.kob_names.specs.declared.record.Record.{Record}
 use Rattle.kob_outbox.specs.Contents.{Event}
@@ -10,6 +10,7 @@ use Rattle.kob_pipeline.proofs.ConsumerKept.{IsContent}
 use Rattle.kob_pipeline.proofs.Lists.{and_as, all_at, all_contained, all_in, all_last, all_passing, all_weaker, filter_both, filter_map_turned, keeps, kept_by, same_here, same_some}
 use Rattle.kob_pipeline.proofs.Once.{filter_firsts, firsts_distinct, front_begins, prefix_filter, prefix_on}
 use Rattle.kob_pipeline.proofs.RouterKept.{TellsItsId}
+use Rattle.std.proofs.lemmas.Bool.Decides.{nat_tests}
 
 module _ (target : Target) (rows : List Event) where
   -- what arrived is what the route makes of a row, from the place where the row is routed
@@ -39,25 +40,12 @@ module _ (target : Target) (rows : List Event) where
 
     copy_of : (a : Arrival) (text : List ℕ) → told_by a ≡ Some text → IsFromRow a
         → IsCopy rows (intake_of text a)
-    copy_of a text e f =
-        let m = sent_message target f.0 (record { place = a.place; message = a.message }) f.2 in
-        record {
-          row = f.0;
-          there = f.1;
-          id = same_some text f.0.id (sym e ∙ tells_of a f);
-          key = ap (λ (x : Record). x.key) (sym m);
-          value = ap (λ (x : Record). x.value) (sym m);
-        }
+    copy_of a text e f = grind (arith, nat_tests, sent_message target f.0 (record { place = a.place; message = a.message }) f.2, same_some text f.0.id (sym e ∙ tells_of a f), tells_of a f)
 
     copies_more : (inbox : Contents) (a : Arrival) (o : Option (List ℕ)) → told_by a ≡ o → IsFromRow a
         → AllByRecursion (IsCopy rows) inbox → AllByRecursion (IsCopy rows) (with_told inbox o a)
     copies_more inbox a None e f h = h
-    copies_more inbox a (Some text) e f h =
-        let new : Intake = intake_of text a in
-        elim (cases_Bool (is_there inbox new.id)) [
-          | inl old ↦ rw old h
-          | inr fresh ↦ rw fresh (all_last (IsCopy rows) inbox new h (copy_of a text e f))
-        ]
+    copies_more inbox a (Some text) e f h = grind (arith, nat_tests, all_last, copy_of)
 
     copies_all : (inbox : Contents) (arrived : List Arrival) → AllByRecursion IsFromRow arrived
         → AllByRecursion (IsCopy rows) inbox
@@ -76,22 +64,11 @@ module _ (target : Target) (rows : List Event) where
       is_said row at h = sym (all_in (IsToldById (is_of_aggregate kind id) rows) rows row at said) ∙ h
 
       own_copy : (i : Intake) → IsCopy rows i × (in_aggregate i.id ≡ true) → IsCopy (rows_of_aggregate rows kind id) i
-      own_copy i (copy, h) =
-          record {
-            row = copy.row;
-            there = keeps (is_of_aggregate kind id) rows copy.row copy.there
-                (is_said copy.row copy.there (ap in_aggregate (sym copy.id) ∙ h));
-            id = copy.id;
-            key = copy.key;
-            value = copy.value;
-          }
+      own_copy i (copy, h) = grind (arith, nat_tests, keeps, is_said)
 
       own_copies : (inbox : Contents) → AllByRecursion (IsCopy rows) inbox
           → AllByRecursion (IsCopy (rows_of_aggregate rows kind id)) (taken_of_aggregate inbox rows kind id)
-      own_copies inbox h =
-          all_weaker (λ i. IsCopy rows i × (in_aggregate i.id ≡ true)) (IsCopy (rows_of_aggregate rows kind id))
-          own_copy
-          (taken_of_aggregate inbox rows kind id) (all_passing (IsCopy rows) (λ i. in_aggregate i.id) inbox h)
+      own_copies inbox h = grind (arith, nat_tests, all_weaker, own_copy, all_passing)
 
       row_of_passing : (a : Arrival) → IsFromRow a → passes in_aggregate (told_by a) ≡ true
           → (row : Event) × (is_of_aggregate kind id row ≡ true) × (place_of (dispatch_of target row) ≡ Some a.place)
@@ -100,10 +77,7 @@ module _ (target : Target) (rows : List Event) where
 
       same_place_as : (a b : Arrival) → IsFromRow a → IsFromRow b → passes in_aggregate (told_by a) ≡ true
           → passes in_aggregate (told_by b) ≡ true → b.place ≡ a.place
-      same_place_as a b f g pass_a pass_b =
-          let x = row_of_passing a f pass_a in
-          let y = row_of_passing b g pass_b in
-          same_some b.place a.place (sym y.2 ∙ one_place target kind id y.0 x.0 y.1 x.1 ∙ x.2)
+      same_place_as a b f g pass_a pass_b = grind (arith, nat_tests, row_of_passing, same_some, one_place)
 
       -- the ids that pass, of the one place that they come from
       begins_here : (arrived : List Arrival) (a : Arrival) (records : List Record) → AllByRecursion IsFromRow arrived

@@ -1,5 +1,5 @@
 -- From the bindings in force to the worker whose entry it is.
-use Rattle.kob_pipeline.proofs.Words.{AllByRecursion, Binding, Body, Bool, Commits, Denied, Done, Entry, Idem, IsLegal, IsSoleCommitter, IsSoleProducer, IsTrue, List, None, Option, Produces, Refused, Reply, Request, Retained, Settings, Some, [], ap, arith, false, filter, inl, inr, journaled_replies, on_group, on_topic, opened_by, produce_rights, refl, rights, slice_get, slice_get-get_or, slice_get_within, subst, take, true, ℕ, ◌&&◌, ◌∙◌, ◌∷◌, ◌≡◌, ◌⊎◌}
+use Rattle.kob_pipeline.proofs.Words.{AllByRecursion, Binding, Body, Bool, Commits, Done, Entry, IsLegal, IsSoleCommitter, IsSoleProducer, IsTrue, List, Option, Produces, Reply, Request, Retained, Settings, Some, [], arith, false, filter, inl, inr, on_group, on_topic, opened_by, refl, rights, slice_get, slice_get-get_or, slice_get_within, subst, ℕ, ◌&&◌, ◌∙◌, ◌∷◌, ◌≡◌, ◌⊎◌}
 use Rattle.kob_names.specs.Granted.{is_granted}
 use Rattle.kob_names.specs.declared.kinds.Operation.{Operation}
 use Rattle.kob_names.specs.declared.kinds.Operation.TheVariants.{Read, Write as WriteTo}
@@ -9,32 +9,22 @@ use Rattle.kob_names.specs.declared.kinds.ResourceKind.TheVariants.{Group, Topic
 use Rattle.kob_authorizer.specs.Contents.{Contents}
 use Rattle.kob_authorizer.specs.Decide.{decide, first_serial, hits, is_hit, is_super, is_unmatched, unless_open, verdict_of}
 use Rattle.kob_authorizer.specs.Question.{question_of}
-use Rattle.kob_broker.specs.InForce.{access_after, changed_access, in_force}
+use Rattle.kob_broker.specs.InForce.{access_after, in_force}
 use Rattle.kob_broker.specs.Justice.{Grants, IsJust}
 use Rattle.kob_broker.specs.State.{State}
-use Rattle.kob_rights.specs.Writes.{Write, write_of}
-use Rattle.kob_rights.specs.Writes.Write.{AddBindings}
 use Rattle.kob_rights.specs.declared.event.Event.{Event}
 use Rattle.kob_rights.specs.declared.request.Request.TheVariants as requests
 use Rattle.kob_broker.specs.Justice.{EachGranted}
-use Rattle.kob_shared.specs.Decided.{bindings_after}
-use Rattle.kob_shared.specs.Journals.{events_of}
 use Rattle.kob_shared.proofs.Decided.{entry_is_just}
 use Rattle.kob_pipeline.specs.Reserved.{ActsAlone, IsReserved, IsReservedFor, NoSuperUser}
 use Rattle.kob_pipeline.proofs.Lists.{all_at, all_contained, all_in, kept_by}
+use Rattle.std.proofs.lemmas.Bool.Decides.{nat_tests}
 
 -- ---- super users stay
 
-changed_supers : (write : Option Write) (access : Contents) → (changed_access write access).supers ≡ access.supers
-changed_supers None access = refl
-changed_supers (Some (AddBindings create)) access = refl
-changed_supers (Some _) access = refl
-
 supers_after : (reply : Reply) (request : Request) (access : Contents)
     → (access_after reply request access).supers ≡ access.supers
-supers_after (Done body) request access = changed_supers (write_of request) access
-supers_after (Denied code verdicts) request access = refl
-supers_after (Refused code reason) request access = refl
+supers_after reply request access = grind (arith, nat_tests)
 
 supers_stay : (events : List Event) (replies : List Reply) (access : Contents)
     → (in_force events replies access).supers ≡ access.supers
@@ -48,12 +38,7 @@ supers_stay (event ∷ events) (reply ∷ replies) access =
 granted_how : (opened super : Bool) (deny : Option ℕ) (found : List (ℕ × Binding))
     → IsTrue (is_granted (unless_open opened (verdict_of super deny (first_serial found))))
     → IsTrue super ⊎ (((x : ℕ × Binding) × (rest : List (ℕ × Binding)) × (found ≡ x ∷ rest)) ⊎ IsTrue opened)
-granted_how opened true deny found granted = inl refl
-granted_how opened false None (x ∷ rest) granted = inr (inl (x, rest, refl))
-granted_how true false None [] granted = inr (inr refl)
-granted_how false false None [] granted = absurd (cc)
-granted_how true false (Some serial) found granted = absurd (cc)
-granted_how false false (Some serial) found granted = absurd (cc)
+granted_how opened super deny found granted = grind (arith, nat_tests)
 
 -- what holds of an element that passes holds, where one passes
 of_first : {X : Type 0} (test : X → Bool) (P : Type 0) (xs : List X) (x : X) (rest : List X)
@@ -79,26 +64,15 @@ by_reservation principal who host operation resource name access reserved common
 
 -- ---- the right that a request of the kind needs
 
-write_granted : (access : Contents) (event : Event) (idem : Option Idem) (topic : List ℕ)
-    → EachGranted access event (produce_rights idem topic) → Grants access event (on_topic WriteTo topic)
-write_granted access event None topic granted = elim granted.0 [ inl given ↦ given | inr none ↦ absurd none ]
-write_granted access event (Some idem) topic granted = elim (granted.1).0 [ inl given ↦ given | inr none ↦ absurd none ]
-
 produce_needs : (access : Contents) (event : Event) (topic : List ℕ) (request : Request) (reply : Reply)
     → ((body : Body) → reply ≡ Done body → EachGranted access event (rights request))
     → Produces topic request reply → Grants access event (on_topic WriteTo topic)
-produce_needs access event topic (requests.Produce asked) (Done body) just is =
-    subst (λ (name : List ℕ). Grants access event (on_topic WriteTo name)) is
-    (write_granted access event asked.batch.idem asked.topic (just body refl))
-produce_needs access event topic _ _ just is = absurd is
+produce_needs access event topic request reply just is = grind (arith, nat_tests)
 
 commit_needs : (access : Contents) (event : Event) (group topic : List ℕ) (request : Request) (reply : Reply)
     → ((body : Body) → reply ≡ Done body → EachGranted access event (rights request))
     → Commits group topic request reply → Grants access event (on_group Read group)
-commit_needs access event group topic (requests.OffsetCommit asked) (Done body) just is =
-    subst (λ (name : List ℕ). Grants access event (on_group Read name)) is.0
-    (elim (just body refl).0 [ inl given ↦ given | inr none ↦ absurd none ])
-commit_needs access event group topic _ _ just is = absurd is
+commit_needs access event group topic request reply just is = grind (arith, nat_tests)
 
 -- ---- over a journal
 
@@ -111,22 +85,10 @@ module _ (opening : Settings) (journal : List Entry) (now : State Retained) (wor
     (reserved : IsReserved opening journal principal operation resource name)
     (alone : ActsAlone worker principal journal) (common : NoSuperUser opening.supers Kind journal) where
   own_at : (k : ℕ) (e : Entry) → slice_get journal k ≡ Some e → Kind e.event.request e.reply → e.worker ≡ worker
-  own_at k e at is =
-      let before = take k journal in
-      let access = bindings_after opening before in
-      let stay = supers_stay (events_of before) (journaled_replies before) (opened_by opening).access in
-      all_at (λ (x : Entry). x.event.principal ≡ principal → x.worker ≡ worker) journal k e at alone
-      (by_reservation principal e.event.principal e.event.host operation resource name access
-      (reserved k (slice_get_within journal k e at))
-      (ap (λ (supers : List (List ℕ)). is_super supers e.event.principal) stay
-      ∙ all_at (λ (x : Entry). Kind x.event.request x.reply → is_super opening.supers x.event.principal ≡ false) journal
-      k e at common is)
-      (needs access e.event e.reply (entry_is_just opening journal now legal k e at) is))
+  own_at k e at is = grind (arith, nat_tests, supers_stay, all_at, by_reservation, slice_get_within, entry_is_just)
 
   all_own : AllByRecursion (λ (e : Entry). Kind e.event.request e.reply → e.worker ≡ worker) journal
-  all_own =
-      all_contained (λ (e : Entry). Kind e.event.request e.reply → e.worker ≡ worker) journal
-      (λ e within. own_at within.0 e (slice_get-get_or journal within.0 e within.1 ∙ ap Some within.2))
+  all_own = grind (arith, nat_tests, all_contained, own_at, slice_get-get_or)
 
 -- what is just of an event that was done
 granted_where_done : (access : Contents) (event : Event) (reply : Reply) → IsJust access event reply → (body : Body)

@@ -1,6 +1,8 @@
 -- A run of a worker whose calls a journal served, along the journal: its moves and the entries, each at its pace.
-use Rattle.kob_pipeline.proofs.Words.{AllByRecursion, AreServed, Call, Contains, Entry, IsHistory, IsSameView, List, None, Option, Reply, Served, Some, Step, View, [], append-nil, append_assoc, cases_Bool, cons_option, eqb-false, eqb-true, filter_map, inl, inr, refl, served_in, served_to, subst, sym, ℕ, ◌++◌, ◌==◌, ◌∷◌, ◌≡◌, ◌⊎◌}
+use Rattle.kob_pipeline.proofs.Words.{AllByRecursion, AreServed, Call, Contains, Entry, IsHistory, IsSameView, List, None, Option, Reply, Served, Some, Step, View, [], append-nil, append_assoc, cases_Bool, cons_option, eqb-false, eqb-true, filter_map, inl, inr, refl, served_in, served_to, subst, ℕ, ◌++◌, ◌==◌, ◌∷◌, ◌≡◌, ◌⊎◌}
 use Rattle.kob_pipeline.proofs.Lists.{all_contained}
+use Rattle.std.proofs.Common.{arith}
+use Rattle.std.proofs.lemmas.Bool.Decides.{nat_tests}
 
 -- what was heard of a reply
 abbrev pub Hears : Option Reply → Reply → Type 0
@@ -23,9 +25,7 @@ none_served (Some c) cs a = a
 one_served : (o : Option Call) (cs : List Call) (e : Entry) (ss : List Served)
     → AreServed (cons_option o cs) (served_in e ∷ ss)
     → (IsUnheard o × AreServed cs (served_in e ∷ ss)) ⊎ (IsServedBy e o × AreServed cs ss)
-one_served None cs e ss a = inl (tt, a)
-one_served (Some c) cs e ss (inl a) = inl a
-one_served (Some c) cs e ss (inr a) = inr ((a.0, a.1), a.2)
+one_served o cs e ss a = grind (arith, nat_tests)
 
 -- moves of any kind that may be made one after another, and lead from one state to the other
 abbrev pub IsRun : {S M : Type 0} → (S → M → Type 0) → (S → M → S) → S → List M → S → Type 0
@@ -62,9 +62,7 @@ module _ {S M A B : Type 0} (May : S → M → Type 0) (after : S → M → S) (
   one_more m ms s xs k = subst (λ ys. K ys t end) (append_assoc xs (adds s m) (added after adds (after s m) ms)) k
 
   no_entry : Ends [] []
-  no_entry [] s xs b run a p k =
-      subst (λ ys. K ys t end) (sym (append-nil xs))
-      (subst (λ c. K xs t c) (sym p) (subst (λ x. K xs x b) (sym run) k))
+  no_entry [] s xs b run a p k = grind (arith, nat_tests, append-nil)
   no_entry (m ∷ ms) s xs b run a p k =
       let n = none_served (call_of m) (filter_map call_of ms) a in
       one_more m ms s xs (no_entry ms (after s m) (xs ++ adds s m) b run.1 n.1 p (moves m xs s b run.0 n.0 k))
@@ -103,9 +101,7 @@ StepsAs P v e w = P e × Step v e.event.request e.reply w
 pub history_passes : (P : Entry → Type 0) (v end : View) (es : List Entry) → IsHistory v es end → AllByRecursion P es
     → (w : View) × Passes (StepsAs P) v es w × IsSameView end w
 history_passes P v end [] history each = (v, refl, history)
-history_passes P v end (e ∷ es) history each =
-    let p = history_passes P history.0 end es history.2 each.1 in
-    (p.0, (history.0, (each.0, history.1), p.1), p.2)
+history_passes P v end (e ∷ es) history each = grind (arith, nat_tests, history_passes P history.0 end es history.2 each.1)
 
 abbrev pub IsOf : List Entry → Unit {0} → Entry → Unit {0} → Type 0
 IsOf journal b e c = Contains journal e
