@@ -1,12 +1,11 @@
 //! How replies and faults are printed.
 #![tactic(auto, using(kob_words::proofs::Appending::appending))]
 
-ghost use Rattle.std.specs.Prelude.{◌≡◌, ◌++◌, OnOk, decimal};
-ghost use Rattle.kob_rights.specs.declared.reply.Body.TheVariants.{Bindings, Groups, Records};
-ghost use Rattle.kob_rights.specs.declared.reply.Body.TheVariants.{Serials, Topics};
-ghost use Rattle.kob_script.specs.Printed.{topic_item, record_item, body_text, kind_text};
-ghost use Rattle.kob_script.specs.Printed.{fault_text, verdict_text, verdicts_text, code_text};
-ghost use Rattle.kob_script.specs.Printed.{outcome_text, reply_text};
+ghost use Rattle.std.specs.Prelude.{◌≡◌, ◌++◌, ℕ, List, OnOk, decimal, flat_map};
+ghost use Rattle.kob_script.specs.Printed.{binding_item, body_text, code_text, fault_text};
+ghost use Rattle.kob_script.specs.Printed.{group_item, kind_text, outcome_text, record_item};
+ghost use Rattle.kob_script.specs.Printed.{reply_text, serial_item, topic_item, verdict_item};
+ghost use Rattle.kob_script.specs.Printed.{verdict_text, verdicts_text};
 
 use crate::fault::{Fault, FaultKind};
 use kob_names::{Binding, Record, Text, Verdict};
@@ -65,11 +64,7 @@ fn push_verdicts(out: &mut Vec<u8>, verdicts: &[Verdict]) -> Result<(), AllocErr
         return Ok(());
     };
     push_verdict(out, *first)?;
-    for verdict in others {
-        out.extend_from_slice(b",")?;
-        push_verdict(out, *verdict)?;
-    }
-    Ok(())
+    push_list(out, b"", others)
 }
 
 fn push_verdict(out: &mut Vec<u8>, verdict: Verdict) -> Result<(), AllocError>
@@ -92,15 +87,18 @@ pub fn push_body(out: &mut Vec<u8>, body: &Body) -> Result<(), AllocError>
         Body::Created => out.extend_from_slice(b"created"),
         Body::Deleted => out.extend_from_slice(b"deleted"),
         Body::Committed => out.extend_from_slice(b"committed"),
-        Body::Serials(serials) => push_serials(out, serials.as_slice()),
-        Body::Bindings(bindings) => push_bindings(out, bindings.as_slice()),
+        Body::Serials(serials) => push_list(out, b"serials", serials.as_slice()),
+        Body::Bindings(bindings) => {
+            push_labelled(out, b"bindings ", bindings.len() as u64)?;
+            push_list(out, b"", bindings.as_slice())
+        }
         Body::Offset(offset) => push_labelled(out, b"offset ", *offset),
         Body::Start(start) => push_labelled(out, b"start ", *start),
         Body::Commit(Some(offset)) => push_labelled(out, b"commit ", *offset),
         Body::Commit(None) => out.extend_from_slice(b"commit -1"),
-        Body::Records(records) => push_records(out, records.as_slice()),
-        Body::Topics(topics) => push_topics(out, topics.as_slice()),
-        Body::Groups(groups) => push_groups(out, groups.as_slice()),
+        Body::Records(records) => push_list(out, b"records", records.as_slice()),
+        Body::Topics(topics) => push_list(out, b"topics", topics.as_slice()),
+        Body::Groups(groups) => push_list(out, b"groups", groups.as_slice()),
         Body::Producer { id, epoch } => {
             push_labelled(out, b"producer ", *id)?;
             push_labelled(out, b" ", *epoch)
@@ -115,76 +113,81 @@ fn push_labelled(out: &mut Vec<u8>, label: &[u8], number: u64) -> Result<(), All
     push_number(out, number)
 }
 
-fn push_serials(out: &mut Vec<u8>, serials: &[u64]) -> Result<(), AllocError>
-    ensures { OnOk result (out.new.items ≡ out.old.items ++ body_text (Serials serials.now)) }
+fn push_list<T: Item>(out: &mut Vec<u8>, word: &[u8], items: &[T]) -> Result<(), AllocError>
+    ensures { OnOk result
+        (out.new.items ≡ out.old.items ++ word.now ++ flat_map T.text items.now) }
 {
-    out.extend_from_slice(b"serials")?;
-    for serial in serials {
-        push_labelled(out, b" ", *serial)?;
+    out.extend_from_slice(word)?;
+    for item in items {
+        item.push(out)?;
     }
     Ok(())
 }
 
-fn push_bindings(out: &mut Vec<u8>, bindings: &[(u64, Binding)]) -> Result<(), AllocError>
-    ensures { OnOk result (out.new.items ≡ out.old.items ++ body_text (Bindings bindings.now)) }
-{
-    push_labelled(out, b"bindings ", bindings.len() as u64)?;
-    for (serial, binding) in bindings {
+/// What stands in a list, behind a space, a comma or a line feed.
+trait Item {
+    ghost text: { Self → List ℕ };
+
+    fn push(&self, out: &mut Vec<u8>) -> Result<(), AllocError>
+        ensures { OnOk result (out.new.items ≡ out.old.items ++ text self.now) };
+}
+
+impl Item for Verdict {
+    ghost text = { verdict_item };
+
+    fn push(&self, out: &mut Vec<u8>) -> Result<(), AllocError> {
+        out.extend_from_slice(b",")?;
+        push_verdict(out, *self)
+    }
+}
+
+impl Item for u64 {
+    ghost text = { serial_item };
+
+    fn push(&self, out: &mut Vec<u8>) -> Result<(), AllocError> {
+        push_labelled(out, b" ", *self)
+    }
+}
+
+impl Item for (u64, Binding) {
+    ghost text = { binding_item };
+
+    fn push(&self, out: &mut Vec<u8>) -> Result<(), AllocError> {
         out.extend_from_slice(b"\n")?;
-        print_binding(out, *serial, binding)?;
+        print_binding(out, self.0, &self.1)
     }
-    Ok(())
 }
 
-fn push_records(out: &mut Vec<u8>, records: &[(u64, Record)]) -> Result<(), AllocError>
-    ensures { OnOk result (out.new.items ≡ out.old.items ++ body_text (Records records.now)) }
-{
-    out.extend_from_slice(b"records")?;
-    for (offset, message) in records {
-        push_record(out, *offset, message)?;
+impl Item for (u64, Record) {
+    ghost text = { record_item };
+
+    fn push(&self, out: &mut Vec<u8>) -> Result<(), AllocError> {
+        push_labelled(out, b" ", self.0)?;
+        out.extend_from_slice(b":")?;
+        if let Some(key) = &self.1.key {
+            push_bytes(out, key.as_slice())?;
+            out.extend_from_slice(b"=")?;
+        }
+        push_bytes(out, self.1.value.as_slice())
     }
-    Ok(())
 }
 
-fn push_record(out: &mut Vec<u8>, offset: u64, message: &Record) -> Result<(), AllocError>
-    ensures { OnOk result (out.new.items ≡ out.old.items ++ record_item (offset, message.now)) }
-{
-    push_labelled(out, b" ", offset)?;
-    out.extend_from_slice(b":")?;
-    if let Some(key) = &message.key {
-        push_bytes(out, key.as_slice())?;
-        out.extend_from_slice(b"=")?;
+impl Item for (Text, u64) {
+    ghost text = { topic_item };
+
+    fn push(&self, out: &mut Vec<u8>) -> Result<(), AllocError> {
+        self.0.push(out)?;
+        push_labelled(out, b":", self.1)
     }
-    push_bytes(out, message.value.as_slice())
 }
 
-fn push_topics(out: &mut Vec<u8>, topics: &[(Text, u64)]) -> Result<(), AllocError>
-    ensures { OnOk result (out.new.items ≡ out.old.items ++ body_text (Topics topics.now)) }
-{
-    out.extend_from_slice(b"topics")?;
-    for (name, partitions) in topics {
-        push_topic(out, name, *partitions)?;
-    }
-    Ok(())
-}
+impl Item for Text {
+    ghost text = { group_item };
 
-fn push_topic(out: &mut Vec<u8>, name: &Text, partitions: u64) -> Result<(), AllocError>
-    ensures { OnOk result (out.new.items ≡ out.old.items ++ topic_item (name.now, partitions)) }
-{
-    out.extend_from_slice(b" ")?;
-    push_bytes(out, name.as_str().as_bytes())?;
-    push_labelled(out, b":", partitions)
-}
-
-fn push_groups(out: &mut Vec<u8>, groups: &[Text]) -> Result<(), AllocError>
-    ensures { OnOk result (out.new.items ≡ out.old.items ++ body_text (Groups groups.now)) }
-{
-    out.extend_from_slice(b"groups")?;
-    for name in groups {
+    fn push(&self, out: &mut Vec<u8>) -> Result<(), AllocError> {
         out.extend_from_slice(b" ")?;
-        push_bytes(out, name.as_str().as_bytes())?;
+        push_bytes(out, self.as_str().as_bytes())
     }
-    Ok(())
 }
 
 /// Prints the line `fault line LINE KIND` with its line feed. The error is out of memory; `out` then

@@ -1,6 +1,0 @@
-use Rattle.std.proofs.Common.{◌≡◌, ◌++◌, flat_map, take}
-use Rattle.kob_script.specs.Printed.{serial_item}
-use Rattle.kob_script.proofs.printed.push_serials.Given as goal
-
-abbrev pub invariant-loop-serial : goal.invariant-loop-serial
-invariant-loop-serial l = l.out.items ≡ l.initial.out.items ++ flat_map serial_item (take l.serial-index l.serials)
