@@ -1,15 +1,15 @@
-//! Tests of the crates from the names to the partition logs, over their public surface: what no
-//! scene can show.
+//! Tests of the crates from the names to topics and groups, over their public surface: what neither
+//! a scene nor a script of `kob_tests_program` can show.
 #![tactic(auto)]
 
 #[cfg(test)]
 mod chunks;
 #[cfg(test)]
+mod limits;
+#[cfg(test)]
 mod names;
 #[cfg(test)]
 mod producers;
-#[cfg(test)]
-mod refused;
 #[cfg(test)]
 mod spared;
 #[cfg(test)]

@@ -3,15 +3,10 @@
 
 use crate::chunks::put_below;
 use crate::names::copied_twice;
-use crate::refused::{
-    ALL, NEW, SERIALS, WITHOUT_TWO, asker, batch, of_orders, put_bindings, put_two_hundred, stands,
-};
 use kob_authorizer::Authorizer;
 use kob_chunks::ChunkList;
-use kob_names::{Batch, Binding, BindingFilter, Host, Operation, Principal, ResourceKind, Verdict};
-use kob_partition::{AdvanceFault, PartitionLog, Placement};
+use kob_names::{Host, Operation, Principal, ResourceKind, Verdict};
 use kob_prefix_tree::{PatternKind, PrefixTree};
-use kob_producers::Judgement;
 use std::alloc::{AllocError, Global};
 
 /// The size of an allocation after which `.ci/refuse` refuses all others.
@@ -21,90 +16,6 @@ const CUE: usize = 7_654_321;
 /// refused.
 pub(crate) fn spare(alloc: Global) -> bool {
     Vec::<u8>::with_capacity(alloc, CUE).is_ok()
-}
-
-/// Whether nothing is in force yet.
-fn is_empty(authorizer: &Authorizer) -> bool {
-    authorizer.entries().is_empty()
-        && authorizer.next_serial() == 1
-        && authorizer.supers().is_empty()
-        && !authorizer.everyone()
-}
-
-/// Whether ten prepared bindings show their serials, are put in force and decide.
-fn commits_creation(
-    alloc: Global,
-    authorizer: &mut Authorizer,
-    asker: &(Principal, Host),
-    bindings: &mut Vec<Binding>,
-) -> Option<bool> {
-    put_bindings(alloc, bindings)?;
-    let prepared = authorizer.prepare_create(alloc, bindings).ok()?;
-    spare(alloc);
-    let is_shown = prepared.serials() == SERIALS;
-    let is_prepared = is_empty(authorizer);
-    let is_given = authorizer.commit_create(prepared).as_slice() == SERIALS;
-    Some(is_shown && is_prepared && is_given && stands(authorizer, asker, 9, ALL))
-}
-
-fn creates(alloc: Global) -> Option<bool> {
-    let asker = asker(alloc)?;
-    let mut bindings = Vec::new(alloc);
-    let mut authorizer = Authorizer::open(alloc, Vec::new(alloc), false);
-    let done = commits_creation(alloc, &mut authorizer, &asker, &mut bindings);
-    drop(authorizer);
-    drop(bindings);
-    done
-}
-
-#[test]
-fn bindings_are_committed(rt: HostRuntime) {
-    assert!(rt; creates(rt.alloc()) == Some(true));
-}
-
-/// Whether the two bindings that the filter selects are deleted.
-fn commits_deletion(
-    alloc: Global,
-    authorizer: &mut Authorizer,
-    asker: &(Principal, Host),
-    orders: &BindingFilter,
-) -> Option<bool> {
-    let prepared = authorizer.prepare_delete(alloc, orders).ok()?;
-    spare(alloc);
-    let shown = prepared.taken().len();
-    let is_prepared = stands(authorizer, asker, 9, ALL);
-    let taken = authorizer.commit_delete(prepared).len();
-    Some(is_prepared && (shown, taken) == (2, 2) && stands(authorizer, asker, 7, WITHOUT_TWO))
-}
-
-/// Whether ten bindings are created, and the two that name `orders` are deleted.
-fn creates_and_deletes(
-    alloc: Global,
-    authorizer: &mut Authorizer,
-    asker: &(Principal, Host),
-    bindings: &mut Vec<Binding>,
-) -> Option<bool> {
-    put_bindings(alloc, bindings)?;
-    authorizer.create(alloc, bindings).ok()?;
-    let orders = of_orders(alloc)?;
-    let done = commits_deletion(alloc, authorizer, asker, &orders);
-    drop(orders);
-    done
-}
-
-fn deletes(alloc: Global) -> Option<bool> {
-    let asker = asker(alloc)?;
-    let mut bindings = Vec::new(alloc);
-    let mut authorizer = Authorizer::open(alloc, Vec::new(alloc), false);
-    let done = creates_and_deletes(alloc, &mut authorizer, &asker, &mut bindings);
-    drop(authorizer);
-    drop(bindings);
-    done
-}
-
-#[test]
-fn deletions_are_committed(rt: HostRuntime) {
-    assert!(rt; deletes(rt.alloc()) == Some(true));
 }
 
 /// Whether an authorizer is opened, and grants a super user at once.
@@ -124,6 +35,12 @@ fn super_users(alloc: Global) -> Option<Vec<Principal>> {
     Some(supers)
 }
 
+/// The principal and the host that ask.
+fn asker(alloc: Global) -> Option<(Principal, Host)> {
+    let who = Principal::parse(alloc, "User:svc").ok()?;
+    Some((who, Host::parse(alloc, "h").ok()?))
+}
+
 fn opens_with_super_user(alloc: Global) -> Option<bool> {
     let asker = asker(alloc)?;
     let supers = super_users(alloc)?;
@@ -133,37 +50,6 @@ fn opens_with_super_user(alloc: Global) -> Option<bool> {
 #[test]
 fn an_authorizer_is_opened(rt: HostRuntime) {
     assert!(rt; opens_with_super_user(rt.alloc()) == Some(true));
-}
-
-/// Whether a prepared batch of a new producer is appended after 200 records, and the start moved
-/// up.
-fn commits_batch(alloc: Global, log: &mut PartitionLog, batch: Batch) -> bool {
-    let Ok(Placement::New(offset)) = log.prepare_append(&batch) else {
-        return false;
-    };
-    spare(alloc);
-    log.commit_append(batch);
-    let beyond = log.prepare_advance(301) == Err(AdvanceFault::OutOfRange);
-    if log.prepare_advance(299).is_err() {
-        return false;
-    }
-    log.commit_advance(299);
-    let judged = log.judge(&NEW, 100) == Judgement::Repeat(200);
-    offset == 200 && beyond && judged && (log.start(), log.end()) == (299, 300)
-}
-
-fn follows_records(alloc: Global, log: &mut PartitionLog) -> Option<bool> {
-    put_two_hundred(alloc, log)?;
-    let batch = batch(alloc, Some(NEW), 100).ok()?;
-    Some(commits_batch(alloc, log, batch))
-}
-
-#[test]
-fn a_batch_is_committed(rt: HostRuntime) {
-    let mut log = PartitionLog::new(rt.alloc());
-    let done = follows_records(rt.alloc(), &mut log);
-    drop(log);
-    assert!(rt; done == Some(true));
 }
 
 /// Adds a serial, and inserts two that are prepared, in another order, which splits a node.

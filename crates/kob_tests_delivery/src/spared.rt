@@ -1,15 +1,12 @@
-//! Calls on routers, consumers and prepared changes that do not allocate. `.ci/refuse` runs them
-//! with every allocation refused from `spare` on.
+//! Calls on routers and consumers that do not allocate. `.ci/refuse` runs them with every allocation
+//! refused from `spare` on.
 
-use crate::making::{
-    CREATE_ORDERS, ORDERS, broker_of_orders, default_route, event_of, line_to, outbox, spare,
-};
+use crate::making::{ORDERS, broker_of_orders, default_route, line_to, outbox, spare};
 use crate::refused::{Came, consumer_tick, router_tick};
-use kob_broker::Broker;
 use kob_inbox::{Consumer, Inbox, Subscription};
 use kob_lines::BrokerLine;
 use kob_outbox::Outbox;
-use kob_rights::{Event, Reason, Reply, Request};
+use kob_rights::{Reply, Request};
 use kob_router::{Call, Line, Router};
 use std::alloc::Global;
 use std::test::Fail;
@@ -104,43 +101,4 @@ fn a_consumer_begins_again(rt: HostRuntime) -> Result<(), Fail> {
     drop(inbox);
     assert!(rt; again == Some(true));
     Ok(())
-}
-
-/// Whether a topic that exists is refused.
-fn is_refused(reply: &Reply) -> bool {
-    match reply {
-        Reply::Refused { code: _, reason } => *reason == Reason::TopicExists,
-        _ => false,
-    }
-}
-
-/// Whether a prepared change shows the reply that is returned later.
-fn shows_reply(alloc: Global, broker: &mut Broker, event: &Event) -> Option<bool> {
-    let prepared = broker.prepare(alloc, event).ok()?;
-    spare(alloc);
-    let shown = is_refused(prepared.reply());
-    let reply = broker.commit(prepared);
-    let given = is_refused(&reply);
-    drop(reply);
-    Some(shown && given)
-}
-
-/// The same for the creation of a topic that exists.
-fn shows_refusal(alloc: Global) -> Option<bool> {
-    let mut broker = broker_of_orders(alloc)?;
-    let shown = match event_of(alloc, CREATE_ORDERS) {
-        Some(event) => {
-            let shown = shows_reply(alloc, &mut broker, &event);
-            drop(event);
-            shown
-        }
-        None => None,
-    };
-    drop(broker);
-    shown
-}
-
-#[test]
-fn a_prepared_reply_is_told(rt: HostRuntime) {
-    assert!(rt; shows_refusal(rt.alloc()) == Some(true));
 }
