@@ -3,6 +3,7 @@
 
 use kob_inbox::{Inbox, InboxFault, InboxRow, TakeIn};
 use kob_names::{Bytes, Header, Items, Record, Text};
+use kob_router::event_id;
 use std::alloc::{AllocError, Global};
 use std::test::Fail;
 use uuid::Uuid;
@@ -49,55 +50,73 @@ const VALUE: &[u8] = &[0, 255];
 
 const GREATEST: u64 = 9_223_372_036_854_775_807;
 
-/// A record's topic with its partition, its value and its headers, and the result of the intake:
-/// the id in all its forms, the greatest partition and the one after it, and texts that are empty.
-const FORMS: [(
-    (&str, u64),
-    &[u8],
-    &[(&str, &[u8])],
-    Result<TakeIn, InboxFault>,
-); 13] = [
-    (("ö", GREATEST), VALUE, &[("id", UPPER)], Ok(TakeIn::Taken)),
-    (("", 0), VALUE, &[("id", ID)], Ok(TakeIn::Seen)),
-    (("", 0), VALUE, &[("id", BRACED)], Ok(TakeIn::Seen)),
-    (("", 0), VALUE, &[("id", URN)], Ok(TakeIn::Seen)),
-    (("", 0), VALUE, &[("id", SIMPLE)], Ok(TakeIn::Seen)),
-    (
-        ("", 0),
-        VALUE,
-        &[("kind", b"x"), ("id", ID), ("id", b"x")],
-        Ok(TakeIn::Seen),
-    ),
-    (("", 0), VALUE, &[], Ok(TakeIn::NoEventId)),
-    (("", 0), VALUE, &[("ID", ID)], Ok(TakeIn::NoEventId)),
-    (("", 0), VALUE, &[("id", b"")], Ok(TakeIn::NoEventId)),
-    (
-        ("", 0),
-        VALUE,
-        &[("id", b"x"), ("id", ID)],
-        Ok(TakeIn::NoEventId),
-    ),
-    (("", 0), VALUE, &[("id", NO_TEXT)], Ok(TakeIn::NoEventId)),
-    (("", 0), b"", &[("id", OTHER)], Ok(TakeIn::Taken)),
-    (
-        ("", GREATEST + 1),
-        VALUE,
-        &[("id", THIRD)],
-        Err(InboxFault::Store),
-    ),
+/// Headers, and the id that they carry: in all its forms, and what is none.
+type Form<'t> = (&'t [(&'t str, &'t [u8])], Option<u128>);
+
+const FORMS: [Form<'_>; 11] = [
+    (&[("id", UPPER)], Some(0xA)),
+    (&[("id", ID)], Some(0xA)),
+    (&[("id", BRACED)], Some(0xA)),
+    (&[("id", URN)], Some(0xA)),
+    (&[("id", SIMPLE)], Some(0xA)),
+    (&[("kind", b"x"), ("id", ID), ("id", b"x")], Some(0xA)),
+    (&[], None),
+    (&[("ID", ID)], None),
+    (&[("id", b"")], None),
+    (&[("id", b"x"), ("id", ID)], None),
+    (&[("id", NO_TEXT)], None),
 ];
 
-/// Whether the intake of each is so. The offsets go down from the greatest.
-fn takes_each_form(alloc: Global, inbox: &mut Inbox) -> Option<bool> {
-    for (at, ((topic, partition), value, headers, want)) in FORMS.into_iter().enumerate() {
-        let message = record(alloc, value, headers).ok()?;
-        let taken = inbox.take_in(topic, partition, GREATEST - at as u64, &message);
-        drop(message);
-        if taken != want {
-            return Some(false);
+/// Whether a record with these headers carries this id.
+fn carries(alloc: Global, headers: &[(&str, &[u8])], id: Option<Uuid>) -> bool {
+    let message = record(alloc, VALUE, headers);
+    let carries = match &message {
+        Ok(message) => event_id(message) == id,
+        Err(_) => false,
+    };
+    drop(message);
+    carries
+}
+
+fn all_carry(alloc: Global, forms: &[Form<'_>]) -> bool {
+    for (headers, id) in forms {
+        if !carries(alloc, headers, id.map(Uuid::from_u128)) {
+            return false;
         }
     }
-    Some(true)
+    true
+}
+
+#[test]
+fn an_id_is_one_in_every_form(rt: HostRuntime) {
+    assert!(rt; all_carry(rt.alloc(), &FORMS));
+}
+
+/// Takes in a record of this topic and partition, with this value and these headers. It is at the
+/// greatest offset.
+fn take(
+    alloc: Global,
+    inbox: &mut Inbox,
+    (topic, partition): (&str, u64),
+    value: &[u8],
+    headers: &[(&str, &[u8])],
+) -> Result<TakeIn, InboxFault> {
+    let Ok(message) = record(alloc, value, headers) else {
+        return Err(InboxFault::Memory);
+    };
+    let taken = inbox.take_in(topic, partition, GREATEST, &message);
+    drop(message);
+    taken
+}
+
+/// Whether two of five records are taken in: in the greatest partition and not in the one after it,
+/// and of texts that are empty.
+fn takes_two(alloc: Global, inbox: &mut Inbox) -> bool {
+    take(alloc, inbox, ("ö", GREATEST), VALUE, &[("id", UPPER)]) == Ok(TakeIn::Taken)
+        && take(alloc, inbox, ("", 0), VALUE, &[("id", BRACED)]) == Ok(TakeIn::Seen)
+        && take(alloc, inbox, ("", 0), VALUE, &[]) == Ok(TakeIn::NoEventId)
+        && take(alloc, inbox, ("", 0), b"", &[("id", OTHER)]) == Ok(TakeIn::Taken)
+        && take(alloc, inbox, ("", GREATEST + 1), VALUE, &[("id", THIRD)]) == Err(InboxFault::Store)
 }
 
 /// Whether a row has this place, partition, offset and topic, the event id that ends in this
@@ -124,26 +143,18 @@ fn keeps_two(alloc: Global, inbox: &mut Inbox) -> Option<bool> {
     let copy = first.copy(alloc).ok()?;
     Some(
         is_row(&copy, (1, GREATEST, GREATEST), ("ö", 0xA, VALUE))
-            && is_row(second, (2, 0, GREATEST - 11), ("", 0xB, b"")),
+            && is_row(second, (2, 0, GREATEST), ("", 0xB, b"")),
     )
 }
 
 #[test]
-fn an_id_is_one_in_every_form(rt: HostRuntime) -> Result<(), Fail> {
+fn rows_are_kept(rt: HostRuntime) -> Result<(), Fail> {
     let mut inbox = Inbox::open_in_memory(rt.alloc())?;
-    let taken = takes_each_form(rt.alloc(), &mut inbox);
+    let taken = takes_two(rt.alloc(), &mut inbox);
     let kept = keeps_two(rt.alloc(), &mut inbox);
     drop(inbox);
-    assert!(rt; (taken, kept) == (Some(true), Some(true)));
+    assert!(rt; taken && kept == Some(true));
     Ok(())
-}
-
-/// Takes in a record that carries an id.
-fn take(alloc: Global, inbox: &mut Inbox, id: &[u8]) -> Result<TakeIn, InboxFault> {
-    let Ok(message) = record(alloc, VALUE, &[("id", id)]) else {
-        return Err(InboxFault::Memory);
-    };
-    inbox.take_in("orders", 0, 0, &message)
 }
 
 fn count_of(inbox: &mut Inbox) -> Result<usize, InboxFault> {
@@ -152,9 +163,10 @@ fn count_of(inbox: &mut Inbox) -> Result<usize, InboxFault> {
 
 /// The result of the intake of a record. If memory runs out, this number of rows stays.
 fn takes(alloc: Global, inbox: &mut Inbox, id: &[u8], before: usize) -> Result<TakeIn, InboxFault> {
-    let taken = take(alloc, inbox, id);
+    let place = ("orders", 0);
+    let taken = take(alloc, inbox, place, VALUE, &[("id", id)]);
     if taken == Err(InboxFault::Memory) && count_of(inbox) == Ok(before) {
-        take(alloc, inbox, id)
+        take(alloc, inbox, place, VALUE, &[("id", id)])
     } else {
         taken
     }

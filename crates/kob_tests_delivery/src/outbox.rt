@@ -1,9 +1,55 @@
-//! An outbox that runs out of memory. `.ci/refuse` runs it with each allocation refused in turn.
+//! An outbox's marks and limits; and one that runs out of memory, which `.ci/refuse` runs with each
+//! allocation refused in turn.
 
+use crate::making;
 use crate::making::record;
-use kob_outbox::{Outbox, OutboxFault, RecordFault};
+use kob_outbox::{MarkFault, Outbox, OutboxFault, RecordFault};
 use std::alloc::Global;
+use std::ops::Range;
 use std::test::Fail;
+
+/// The number after which rows are read, the maximum number of rows, and the numbers of the rows,
+/// of three.
+const AFTER: [(u64, u32, u64, u64); 7] = [
+    (0, 0, 0, 0),
+    (0, 1, 1, 2),
+    (1, 1, 2, 3),
+    (0, 20_000, 1, 4),
+    (2, u32::MAX, 3, 4),
+    (3, 10, 0, 0),
+    (u64::MAX, 10, 0, 0),
+];
+
+fn reads(outbox: &mut Outbox, seq: u64, limit: u32, expected: Range<u64>) -> Option<bool> {
+    let rows = outbox.after(seq, limit).ok()?;
+    Some(rows.iter().map(|row| row.seq).eq(expected))
+}
+
+fn reads_in_order(outbox: &mut Outbox) -> bool {
+    for (seq, limit, first, end) in AFTER {
+        if reads(outbox, seq, limit, first..end) != Some(true) {
+            return false;
+        }
+    }
+    true
+}
+
+/// Whether the mark moves neither back nor ahead of three rows.
+fn is_marked(outbox: &mut Outbox) -> bool {
+    outbox.set_mark(2) == Ok(())
+        && outbox.set_mark(1) == Err(MarkFault::Backwards)
+        && outbox.set_mark(4) == Err(MarkFault::Ahead)
+        && outbox.mark() == Ok(2)
+}
+
+#[test]
+fn marks_and_rows_have_limits(rt: HostRuntime) -> Result<(), Fail> {
+    let mut outbox = making::outbox(rt.alloc(), 3).ok_or("memory")?;
+    let done = is_marked(&mut outbox) && reads_in_order(&mut outbox);
+    drop(outbox);
+    assert!(rt; done);
+    Ok(())
+}
 
 /// The mark, and the number of rows.
 fn left(outbox: &mut Outbox) -> Result<(u64, usize), OutboxFault> {
