@@ -1,64 +1,15 @@
 -- The words of a line. A word is read byte by byte, one without a percent sign
 -- stands for itself, and a cut at a byte that is neither a percent sign nor a hexadecimal digit leaves
 -- each escape whole. And the seven words of a row.
-use Rattle.std.proofs.Common.{slice_index, subst, ◌≡◌, ◌∙◌, ◌<◌, ◌≤◌, get_or, ℕ, true, false, List, [], ◌∷◌, filter, length, drop, nat_lt, refl, sym, ap, arith, lt-ltb, not, ◌==◌, ◌++◌, Option, Some, None, Bool, append_assoc, append-nil, if◌then◌else◌, option_map, ◌&&◌, is_some, MatchBool}
-use Rattle.std.specs.Bool.{⊤}
+use Rattle.std.proofs.Common.{if◌then◌else◌, take, ◌+◌, ◌-◌, take_all, length-drop, slice_index, subst, ◌≡◌, ◌∙◌, ◌<◌, ◌≤◌, get_or, ℕ, true, false, List, [], ◌∷◌, length, drop, nat_lt, refl, sym, ap, arith, not, ◌==◌, ◌++◌, Option, Some, None, Bool, append_assoc, append-nil, option_map, ◌&&◌, is_some}
 use Rattle.std.specs.Char.{digit_value}
 use Rattle.std.proofs.lemmas.Grind.{get_or_default_zero}
-use Rattle.std.proofs.lemmas.List.Elements.{All-filter, All-get_or}
-use Rattle.std.proofs.lemmas.List.Sums.{AllPass-from_list_all, list_all-from_AllPass}
-use Rattle.std.specs.List.{find, list_all, onto_first, slice_split}
-use Rattle.kob_script.proofs.Choices.{both, chosen_true, chosen_false, false_from}
-use Rattle.kob_script.specs.Words.{is_blank, is_literal, is_skipped, raw_words, before, byte_at, escaped, unescaped, unescaped_from, has_whole_escapes, hexadecimal, LeavesWhole, Word}
-use Rattle.memchr.specs.Find.{Nowhere, Passes, is_byte}
-
-kept_first : (word : List ℕ) (words : List (List ℕ)) → 0 < length word
-    → filter (λ w. nat_lt 0 (length w)) (word ∷ words) ≡ word ∷ filter (λ w. nat_lt 0 (length w)) words
-kept_first word words some = chosen_true (nat_lt 0 (length word)) _ _ (lt-ltb 0 (length word) some)
-
--- those of the parts between blanks that are not empty
-abbrev words_in : List (List ℕ) → List (List ℕ)
-words_in parts = filter (λ word. nat_lt 0 (length word)) parts
-
--- the byte of a line that is no blank and comes first tells whether the line is skipped
-abbrev skipped_by : Option ℕ → Bool
-skipped_by None = true
-skipped_by (Some byte) = byte == 35
-
-first_byte : (line : List ℕ) → is_skipped (raw_words line) ≡ skipped_by (find (λ byte. not (is_blank byte)) line)
-first_byte [] = refl
-first_byte (byte ∷ rest) = by (is_blank byte) (slice_split is_blank rest) (first_byte rest)
-  where
-    by : (blank : Bool) (more : List (List ℕ)) → is_skipped (words_in more) ≡ skipped_by (find (λ b. not (is_blank b)) rest)
-        → is_skipped (words_in (if blank then [] ∷ more else onto_first byte more))
-        ≡ skipped_by (if not blank then Some byte else find (λ b. not (is_blank b)) rest)
-    by true more behind = behind
-    by false [] behind = refl
-    by false (part ∷ more) behind = ap is_skipped (kept_first (byte ∷ part) more (omega arith))
-
-pub first_tells : (line : List ℕ) (found : Option ℕ) → found ≡ find (λ byte. not (is_blank byte)) line
-    → is_skipped (raw_words line) ≡ skipped_by found
-first_tells line found is = first_byte line ∙ ap skipped_by (sym is)
-
--- bytes without a percent sign
-pub none_is_literal : (word : List ℕ) → Nowhere (Passes (is_byte 37) word) 0 (length word) → is_literal word ≡ true
-none_is_literal word nowhere =
-    list_all-from_AllPass (λ byte. not (byte == 37)) word (λ k d within.
-    subst (λ (byte : ℕ). not (byte == 37) ≡ true) (sym (get_or_default_zero word k d within))
-    (ap not (false_from (slice_index word k == 37) (λ percent. percent) (nowhere k (omega arith) within))))
-
--- each part between blanks has none
-literal_parts : (line : List ℕ) → is_literal line ≡ true → list_all is_literal (slice_split is_blank line) ≡ true
-literal_parts [] literal = refl
-literal_parts (byte ∷ rest) literal =
-    let (other, others) = both (not (byte == 37)) (is_literal rest) literal in
-    by (is_blank byte) other (slice_split is_blank rest) (literal_parts rest others)
-  where
-    by : (blank : Bool) → not (byte == 37) ≡ true → (more : List (List ℕ)) → list_all is_literal more ≡ true
-        → list_all is_literal (if blank then [] ∷ more else onto_first byte more) ≡ true
-    by true is more behind = behind
-    by false is [] behind = rw is refl
-    by false is (part ∷ more) behind = rw is behind
+use Rattle.std.proofs.lemmas.List.Sums.{list_all-from_AllPass}
+use Rattle.std.specs.List.{list_all}
+use Rattle.kob_script.proofs.Choices.{chosen_false, false_from}
+use Rattle.kob_script.specs.Words.{before, byte_at, cut_at, escaped, unescaped, unescaped_from, has_whole_escapes, hexadecimal, LeavesWhole, Word}
+use Rattle.memchr.proofs.lemmas.ValueLemmas.{IsFirstByte-value}
+use Rattle.memchr.specs.Find.{IsFirstByte, Nowhere, Passes, is_byte}
 
 -- the byte at the front, and then what the rest stands for
 abbrev then_rest : Option (ℕ × List ℕ) → Option (List ℕ)
@@ -83,27 +34,23 @@ step byte rest = by (byte == 37) (escaped rest)
     by false digits = refl
 
 -- a word without a percent sign stands for itself
-pub literal_stands : (word : List ℕ) → is_literal word ≡ true → unescaped word ≡ Some word
+literal_stands : (word : List ℕ) → list_all (λ byte. not (byte == 37)) word ≡ true → unescaped word ≡ Some word
 unfolding unescaped_from
 literal_stands [] literal = refl
-literal_stands (byte ∷ rest) literal =
-    by (byte == 37) literal (λ others. literal_stands rest others)
+literal_stands (byte ∷ rest) literal = by (byte == 37) literal (λ others. literal_stands rest others)
   where
-    by : (percent : Bool) → (not percent && is_literal rest) ≡ true → (is_literal rest ≡ true → unescaped rest ≡ Some rest)
+    by : (percent : Bool) → (not percent && list_all (λ b. not (b == 37)) rest) ≡ true
+        → (list_all (λ b. not (b == 37)) rest ≡ true → unescaped rest ≡ Some rest)
         → (if percent then before (escaped rest) (unescaped_from 2 rest) else before (Some byte) (unescaped rest))
         ≡ Some (byte ∷ rest)
     by true literal behind = absurd cc
     by false literal behind = ap (before (Some byte)) (behind literal)
 
--- a word of a line stands for itself, if the line has no percent sign
-pub word_stands : (line : List ℕ) (escapes : Bool) (n : ℕ) (word : List ℕ) → MatchBool escapes ⊤ (is_literal line ≡ true)
-    → n < length (raw_words line) → word ≡ get_or (raw_words line) n word
-    → MatchBool escapes ⊤ (unescaped word ≡ Some word)
-word_stands line true n word literal within is = tt
-word_stands line false n word literal within is =
-    let parts = AllPass-from_list_all is_literal (slice_split is_blank line) (literal_parts line literal) in
-    let words = All-filter (λ part. nat_lt 0 (length part)) (λ (part : List ℕ). is_literal part ≡ true) _ parts in
-    literal_stands word (rw is (All-get_or (λ (w : List ℕ). is_literal w ≡ true) (raw_words line) n word within words))
+pub nowhere_stands : (word : List ℕ) → Nowhere (Passes (is_byte 37) word) 0 (length word) → unescaped word ≡ Some word
+nowhere_stands word nowhere =
+    literal_stands word (list_all-from_AllPass (λ byte. not (byte == 37)) word (λ k d within.
+    subst (λ (byte : ℕ). not (byte == 37) ≡ true) (sym (get_or_default_zero word k d within))
+    (ap not (false_from (slice_index word k == 37) (λ percent. percent) (nowhere k (omega arith) within)))))
 
 -- bytes that were read, and then what the rest stands for
 abbrev pub with_rest : List ℕ → Option (List ℕ) → Option (List ℕ)
@@ -136,6 +83,21 @@ pub all_read : (bytes rest : List ℕ) (all : Option (List ℕ)) → with_rest b
     → Some bytes ≡ all
 unfolding unescaped_from
 all_read bytes rest all kept none = ap Some (sym (append-nil bytes)) ∙ (rw none at kept)
+
+-- a word that is cut at the place of a byte, or has none
+module _ (byte : ℕ) (word : List ℕ) where
+  cut_by : (found : Option ℕ) → IsFirstByte (is_byte byte) word found
+      → option_map (λ (at : ℕ). (take at word, drop (at + 1) word)) found ≡ cut_at byte word
+  cut_by found is = ap (option_map (λ (at : ℕ). (take at word, drop (at + 1) word))) (IsFirstByte-value (is_byte byte) word found is)
+
+  pub no_cut : IsFirstByte (is_byte byte) word None → None ≡ cut_at byte word
+  no_cut is = cut_by None is
+
+  pub cut_is : (at : ℕ) → IsFirstByte (is_byte byte) word (Some at)
+      → Some (take at word, take (length word - (at + 1)) (drop (at + 1) word)) ≡ cut_at byte word
+  cut_is at is =
+      let behind = take_all (length word - (at + 1)) (drop (at + 1) word) (omega (arith, length-drop (at + 1) word)) in
+      ap (λ (back : List ℕ). Some (take at word, back)) behind ∙ cut_by (Some at) is
 
 -- what two parts around a byte stand for
 abbrev joined : ℕ → Option (List ℕ) → Option (List ℕ) → Option (List ℕ)

@@ -1,9 +1,7 @@
 -- What words stand for: texts, names, numbers, and the words of a batch.
-use Rattle.std.specs.List.{slice_split}
-use Rattle.std.specs.Prelude.{ℕ, List, Result, Ok, Err, if◌then◌else◌, ◌^◌, ◌&&◌, Bool, length, codes, nat_lt, ◌+◌, ◌==◌, [], ◌∷◌, Option, Some, None, take, drop, option_map, bytes_eq}
+use Rattle.std.specs.Prelude.{ℕ, List, Result, Ok, Err, if◌then◌else◌, ◌^◌, ◌&&◌, Bool, length, codes, nat_lt, [], Option, Some, None, bytes_eq}
 use Rattle.std.specs.Str.Parse.{digits_value}
 use Rattle.std.specs.Str.{is_utf8, all_ascii_digits}
-use Rattle.bstr.specs.Find.{first_of, matches}
 use Rattle.kob_names.specs.HostRules.{host_fault}
 use Rattle.kob_names.specs.PrincipalRules.{principal_fault}
 use Rattle.kob_names.specs.declared.batch.Idem.{Idem}
@@ -12,8 +10,8 @@ use Rattle.kob_rights.specs.declared.on_partitions.Before.TheVariants as befores
 use Rattle.kob_rights.specs.declared.on_partitions.Before.{Before}
 use Rattle.kob_rights.specs.declared.on_partitions.Which.TheVariants.{Start, End}
 use Rattle.kob_rights.specs.declared.on_partitions.Which.{Which}
-use Rattle.kob_script.specs.Words.{bytes_of, Word}
-use Rattle.kob_script.specs.Reading.{◌>>=◌, unless_fault, BadText, BadPrincipal, BadHost, BadLine, BadNumber, FaultKind}
+use Rattle.kob_script.specs.Words.{bytes_of, cut_at, Word}
+use Rattle.kob_script.specs.Reading.{◌>>=◌, found_or, unless_fault, BadText, BadPrincipal, BadHost, BadLine, BadNumber, FaultKind}
 
 abbrev pub text_in : List ℕ → Result (List ℕ) FaultKind
 text_in bytes = if is_utf8 bytes then Ok bytes else Err BadText
@@ -63,26 +61,24 @@ before_of word =
     if bytes_eq word.decoded (codes "-1") then Ok befores.End
     else (number_of word >>= λ offset. Ok (befores.Offset offset))
 
--- the three numbers of ID:EPOCH:BASE; escapes are replaced after the cut, which leaves each whole
-abbrev pub three_of : List (List ℕ) → Result (Option Idem) FaultKind
-three_of (one ∷ two ∷ three ∷ []) = do
+-- three numbers, if there is no part behind them; escapes are replaced after the cuts, which leave
+-- each whole
+abbrev pub three_of : List ℕ → List ℕ → List ℕ → Option (List ℕ × List ℕ)
+    → Result (Option Idem) FaultKind
+three_of one two three None = do
   id ← number_in (bytes_of one)
   epoch ← number_in (bytes_of two)
   base ← number_in (bytes_of three)
   Ok (Some (record { id = id; epoch = epoch; base = base }))
-three_of _ = Err BadLine
+three_of one two three (Some behind) = Err BadLine
 
 -- `-` for no producer, or three numbers with colons between them
 unfoldable pub idem_of : Word → Result (Option Idem) FaultKind
 idem_of word =
-    if bytes_eq word.raw (codes "-") then Ok None else three_of
-    (slice_split (λ byte. byte == 58) word.raw)
-
--- what stands before and after the first `=`
-unfoldable pub key_and_value : List ℕ → Option (List ℕ × List ℕ)
-key_and_value word =
-    option_map (λ place. (take place word, drop (place + 1) word))
-    (first_of (matches word (codes "=") 0))
+    if bytes_eq word.raw (codes "-") then Ok None else do
+      first ← found_or BadLine (cut_at 58 word.raw)
+      second ← found_or BadLine (cut_at 58 first.1)
+      three_of first.0 second.0 second.1 (cut_at 58 second.1)
 
 -- a key and a value, or a value alone; escapes are replaced after the cut, which leaves each whole
 abbrev pub record_in : Option (List ℕ × List ℕ) → Word → Record
@@ -92,4 +88,4 @@ record_in (Some parts) word =
 
 -- a record without headers
 unfoldable pub record_of : Word → Record
-record_of word = record_in (key_and_value word.raw) word
+record_of word = record_in (cut_at 61 word.raw) word

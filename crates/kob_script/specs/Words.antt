@@ -1,7 +1,8 @@
 -- The words of a line, and the bytes that they stand for.
 use Rattle.std.specs.Char.{digit_value}
-use Rattle.std.specs.List.{list_all, slice_split}
-use Rattle.std.specs.Prelude.{◌≡◌, ◌+◌, ◌*◌, ◌==◌, ◌&&◌, ℕ, zero, suc, Bool, true, List, [], ◌∷◌, ◌++◌, drop, Option, Some, None, is_some, nat_lt, unwrap_or, if◌then◌else◌, Result, Ok, ◌||◌, filter, length, slice_index, option_map, not}
+use Rattle.memchr.specs.Find.{first_of, is_byte, places}
+use Rattle.std.specs.List.{slice_split}
+use Rattle.std.specs.Prelude.{◌≡◌, ◌+◌, ◌*◌, ◌==◌, ◌&&◌, ℕ, zero, suc, Bool, true, List, [], ◌∷◌, ◌++◌, take, drop, Option, Some, None, is_some, nat_lt, unwrap_or, if◌then◌else◌, Result, Ok, ◌||◌, filter, find, length, option_map, not}
 use Rattle.kob_script.specs.Reading.{◌>>=◌, each, found_or, BadEscape, FaultKind}
 
 -- two hexadecimal digits
@@ -46,9 +47,10 @@ unescaped word = unescaped_from 0 word
 abbrev pub bytes_of : List ℕ → List ℕ
 bytes_of part = unwrap_or (unescaped part) part
 
--- no byte is a percent sign
-abbrev pub is_literal : List ℕ → Bool
-is_literal bytes = list_all (λ byte. not (byte == 37)) bytes
+-- what is before and after the first of these bytes
+abbrev pub cut_at : ℕ → List ℕ → Option (List ℕ × List ℕ)
+cut_at byte word =
+    option_map (λ at. (take at word, drop (at + 1) word)) (first_of (places (is_byte byte) word))
 
 -- two hexadecimal digits follow each percent sign
 abbrev pub has_whole_escapes : List ℕ → Bool
@@ -78,11 +80,11 @@ is_blank byte = byte == 32 || byte == 9
 abbrev pub raw_words : List ℕ → List (List ℕ)
 raw_words line = filter (λ word. nat_lt 0 (length word)) (slice_split is_blank line)
 
--- a line is skipped that has no word, or a first one that begins with `#`
-abbrev pub is_skipped : List (List ℕ) → Bool
-is_skipped [] = true
-is_skipped (first ∷ others) = slice_index first 0 == 35
+-- a line is skipped that has no word, or a first one that begins with `#`; a word begins with the
+-- first byte that is no blank
+abbrev pub is_skipped : List ℕ → Bool
+is_skipped line = unwrap_or (find (λ byte. not (is_blank byte)) line) 35 == 35
 
 -- the words of a line, none if it is skipped; an escape that is not whole is the first fault
 abbrev pub words_of : List ℕ → Result (List Word) FaultKind
-words_of line = if is_skipped (raw_words line) then Ok [] else each word_of (raw_words line)
+words_of line = if is_skipped line then Ok [] else each word_of (raw_words line)

@@ -1,9 +1,8 @@
 //! What words stand for: texts, principals, hosts, numbers, the words of the tables, and those of a
 //! batch.
 
-ghost use Rattle.std.specs.List.{slice_split};
 ghost use Rattle.std.specs.Char.{digit_value, is_ascii_digit};
-ghost use Rattle.std.specs.Prelude.{◌≡◌, ◌==◌, ◌≤◌, ◌+◌, ◌*◌, ◌^◌, true, IfOk, MatchOption, map};
+ghost use Rattle.std.specs.Prelude.{◌≡◌, ◌≤◌, ◌+◌, ◌*◌, ◌^◌, true, IfOk, MatchOption, map};
 ghost use Rattle.kob_script.specs.CommandLines.{filter_pattern_of};
 ghost use Rattle.kob_script.specs.Reading.{Gives, GivesSeen, each, found_or};
 ghost use Rattle.kob_script.specs.Values.{before_of, host_of, idem_of, named_host, named_principal};
@@ -13,7 +12,7 @@ ghost use Rattle.kob_script.specs.Words as words;
 ghost use Rattle.kob_script.specs.declared.fault.FaultKind.TheVariants.{BadWord};
 
 use crate::fault::{FaultKind, LineError};
-use crate::words::{Word, bytes_of, may_have_escapes};
+use crate::words::{Word, bytes_of, cut_at, may_have_escapes};
 use bstr::ByteSlice;
 use kob_names::{
     Bytes, FilterPattern, Host, HostFault, Idem, Items, Principal, PrincipalFault, Record, Text,
@@ -179,10 +178,15 @@ pub fn idem_of(alloc: Global, word: &Word<'_>) -> Result<Option<Idem>, LineError
     if word.is_dash() {
         return Ok(None);
     }
-    let parts = split_at_colons(alloc, word.raw())?;
-    let [id, epoch, base] = parts.as_slice() else {
+    let Some((id, others)) = cut_at(b':', word.raw()) else {
         return Err(LineError::Fault(FaultKind::BadLine));
     };
+    let Some((epoch, base)) = cut_at(b':', others) else {
+        return Err(LineError::Fault(FaultKind::BadLine));
+    };
+    if cut_at(b':', base).is_some() {
+        return Err(LineError::Fault(FaultKind::BadLine));
+    }
     let id = number_at(alloc, id)?;
     let epoch = number_at(alloc, epoch)?;
     let base = number_at(alloc, base)?;
@@ -200,19 +204,12 @@ fn number_at(alloc: Global, part: &[u8]) -> Result<u64, LineError>
     number_in(digits.as_slice())
 }
 
-fn split_at_colons(alloc: Global, word: &[u8]) -> Result<Vec<&[u8]>, AllocError>
-    ensures { IfOk result (λ parts. map (λ part. part.now) parts.items
-        ≡ slice_split (λ byte. byte == 58) word.now) }
-{
-    word.split(|byte| *byte == b':').collect(alloc)
-}
-
 /// A record of a key and a value around the first `=`, or of a value alone.
-#[tactic(auto, unfolding(crate::specs::Values::record_of, crate::specs::Values::key_and_value))]
+#[tactic(auto, unfolding(crate::specs::Values::record_of))]
 fn record_of(alloc: Global, word: &Word<'_>) -> Result<Record, AllocError>
     ensures { IfOk result (λ made. made ≡ record_of word.now) }
 {
-    let (key, value) = match word.raw().split_once_str(b"=") {
+    let (key, value) = match cut_at(b'=', word.raw()) {
         None => (None, Bytes::copied(alloc, word.decoded())?),
         Some((key, value)) => (Some(bytes_of(alloc, key)?), bytes_of(alloc, value)?),
     };

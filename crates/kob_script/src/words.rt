@@ -1,12 +1,11 @@
 //! The words of a line, in which `%` and two hexadecimal digits stand for one byte.
 
 ghost use Rattle.std.specs.Option.{option_copied};
-ghost use Rattle.std.specs.Prelude.{◌≡◌, ◌≤◌, codes, length, bytes_eq, true, Some, IfOk, IfSome};
+ghost use Rattle.std.specs.Prelude.{◌≡◌, ◌≤◌, codes, length, bytes_eq, Some, IfOk, IfSome};
 ghost use Rattle.std.specs.Prelude.{MatchBool, if◌then◌else◌, find, not, option_map, ⊤};
 ghost use Rattle.kob_script.specs.Reading.{Gives, GivesSeen, each};
-ghost use Rattle.kob_script.specs.Words.{are_hexadecimal, byte_at, bytes_of, hexadecimal, is_blank};
-ghost use Rattle.kob_script.specs.Words.{is_literal, is_skipped, raw_words, unescaped, word_of};
-ghost use Rattle.kob_script.specs.Words.{words_of};
+ghost use Rattle.kob_script.specs.Words.{are_hexadecimal, byte_at, bytes_of, cut_at, hexadecimal};
+ghost use Rattle.kob_script.specs.Words.{is_blank, is_skipped, raw_words, unescaped, word_of, words_of};
 
 use crate::fault::{FaultKind, LineError};
 use kob_names::Bytes;
@@ -40,15 +39,7 @@ impl<'a> Word<'a> {
     pub fn read(alloc: Global, raw: &'a [u8]) -> Result<Word<'a>, LineError>
         ensures { Gives result (word_of raw.now) }
     {
-        Word::read_in(alloc, raw, true)
-    }
-
-    // The same in a line that may have escapes or has none.
-    fn read_in(alloc: Global, raw: &'a [u8], escapes: bool) -> Result<Word<'a>, LineError>
-        requires { MatchBool escapes ⊤ (unescaped raw.now ≡ Some raw.now) }
-        ensures { Gives result (word_of raw.now) }
-    {
-        if !escapes || !may_have_escapes(raw) {
+        if !may_have_escapes(raw) {
             return Ok(Word {
                 raw,
                 replaced: None,
@@ -104,7 +95,7 @@ pub fn words_of(alloc: Global, line: &[u8]) -> Result<Vec<Word<'_>>, LineError>
 
 // Whether a line is skipped: by its first byte that is no blank, with which a word begins.
 fn is_skipped(line: &[u8]) -> bool
-    ensures { result ≡ is_skipped (raw_words line.now) }
+    ensures { result ≡ is_skipped line.now }
 {
     match first_not_blank(line) {
         Some(byte) => *byte == b'#',
@@ -121,13 +112,12 @@ fn first_not_blank(line: &[u8]) -> Option<&u8>
 fn each_read(alloc: Global, line: &[u8]) -> Result<Vec<Word<'_>>, LineError>
     ensures { GivesSeen (λ words. words.items) result (each word_of (raw_words line.entry.now)) }
 {
-    let escapes = may_have_escapes(line);
     let mut words = Vec::with_capacity(alloc, MANY_WORDS)?;
     for raw in line
         .split(|byte| is_blank(*byte))
         .filter(|part| part.len() > 0)
     {
-        let word = Word::read_in(alloc, raw, escapes)?;
+        let word = Word::read(alloc, raw)?;
         words.push(word)?;
     }
     Ok(words)
@@ -140,15 +130,11 @@ fn is_blank(byte: u8) -> bool
 }
 
 /// Whether bytes may have escapes. A word without escapes stands for itself.
-#[tactic(auto, using(crate::proofs::LineWords::none_is_literal, crate::proofs::LineWords::literal_stands))]
+#[tactic(auto, using(crate::proofs::LineWords::nowhere_stands))]
 pub fn may_have_escapes(word: &[u8]) -> bool
-    ensures bytes { MatchBool result ⊤ (is_literal word.now ≡ true) }
-    ensures stands { MatchBool result ⊤ (unescaped word.now ≡ Some word.now) }
+    ensures { MatchBool result ⊤ (unescaped word.now ≡ Some word.now) }
 {
-    match memchr(b'%', word) {
-        Some(_) => true,
-        None => false,
-    }
+    memchr(b'%', word).is_some()
 }
 
 /// The bytes that a word stands for, unless a percent sign in it begins no escape.
@@ -179,6 +165,16 @@ pub fn bytes_of(alloc: Global, part: &[u8]) -> Result<Bytes, AllocError>
     match unescaped(alloc, part)? {
         Some(bytes) => Ok(bytes),
         None => Bytes::copied(alloc, part),
+    }
+}
+
+/// What is before and after the first of these bytes in a word.
+pub fn cut_at(byte: u8, word: &[u8]) -> Option<(&[u8], &[u8])>
+    ensures { option_map (λ cut. (cut.0.now, cut.1.now)) result ≡ cut_at byte word.entry.now }
+{
+    match memchr(byte, word) {
+        Some(at) => Some((&word[..at], &word[at + 1..])),
+        None => None,
     }
 }
 

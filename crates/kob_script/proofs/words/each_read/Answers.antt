@@ -5,18 +5,7 @@ use Rattle.std.proofs.lemmas.List.{length_push}
 use Rattle.std.proofs.lemmas.Result.{err_from_is_err_and}
 use Rattle.kob_script.specs.Words.{is_blank, raw_words, word_of}
 use Rattle.kob_script.proofs.Each.{each_ends, each_fails, each_keeps}
-use Rattle.kob_script.proofs.LineWords.{word_stands}
 use Rattle.kob_script.proofs.words.each_read.Goals as goal
-
-pub read_in-requires : goal.read_in-requires
-read_in-requires c =
-    let turn =
-    YieldsList-turn (YieldsList-from_filter {s = c.into_iter-raw-iterator.result} _ (λ part. nat_lt 0 (length part))
-    (YieldsList-from_slice_split _ is_blank c.args.line.now (search rules) (search rules) (search rules)
-    (λ x b q k. search (rules, tests))) (search rules) (λ x b q k. search (rules, tests)))
-    c.loop-raw.yielded _ c.loop-raw.yielded_by _ _ c.in-Some.raw c.in-Some.is c.next.ensures.steps in
-    word_stands c.args.line.now c.may_have_escapes-escapes.result _ c.in-Some.raw.now c.may_have_escapes-escapes.ensures.bytes
-    turn.0 turn.1
 
 pub returns-in_err-word : goal.returns-in_err-word
 returns-in_err-word c =
