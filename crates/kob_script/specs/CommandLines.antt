@@ -114,30 +114,17 @@ slot_fault slot.Resource word = fault_in (known resource_named word)
 slot_fault slot.Pattern word = fault_in (known pattern_named word)
 slot_fault slot.FilterPattern word = fault_in (filter_pattern_of word)
 
--- the fault at a place; a word too few is one of the line
-abbrev pub place_fault : Place → List Word → Option FaultKind
-place_fault (One at) [] = Some BadLine
-place_fault (One at) (word ∷ words) = slot_fault at word
-place_fault (OrDash at) [] = Some BadLine
-place_fault (OrDash at) (word ∷ words) =
-    if bytes_eq word.raw (codes "-") then None else slot_fault at word
-place_fault (OrNone at) [] = None
-place_fault (OrNone at) (word ∷ words) = slot_fault at word
-place_fault Records words = None
-place_fault Texts words = fault_in (each text_of words)
-
--- the words that a place leaves
-abbrev pub words_after : Place → List Word → List Word
-words_after Records words = []
-words_after Texts words = []
-words_after place words = drop 1 words
-
--- the fault at each place of a row; a word too many is one of the line
+-- the faults of words at the places of a row; a word too few or too many is one of the line
 abbrev pub faults_in : List Place → List Word → List (Option FaultKind)
 faults_in [] [] = []
-faults_in [] (word ∷ words) = Some BadLine ∷ []
-faults_in (place ∷ places) words =
-    place_fault place words ∷ faults_in places (words_after place words)
+faults_in (Records ∷ places) words = []
+faults_in (Texts ∷ places) words = fault_in (each text_of words) ∷ []
+faults_in (OrNone at ∷ []) [] = []
+faults_in (OrNone at ∷ places) (word ∷ words) = slot_fault at word ∷ faults_in places words
+faults_in (One at ∷ places) (word ∷ words) = slot_fault at word ∷ faults_in places words
+faults_in (OrDash at ∷ places) (word ∷ words) =
+    (if bytes_eq word.raw (codes "-") then None else slot_fault at word) ∷ faults_in places words
+faults_in _ _ = Some BadLine ∷ []
 
 -- the fault of the words of a row; a command that has none is no line
 abbrev pub row_fault : Option (List Place) → List Word → Option FaultKind

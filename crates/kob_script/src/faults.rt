@@ -1,8 +1,7 @@
 //! The fault of a line's words: the first kind, in the order of the kinds, that some word has.
 
 ghost use Rattle.std.specs.Prelude.{◌≡◌, Option, Result};
-ghost use Rattle.kob_script.specs.CommandLines.{line_fault, faults_in, place_fault, slot_fault};
-ghost use Rattle.kob_script.specs.CommandLines.{words_after};
+ghost use Rattle.kob_script.specs.CommandLines.{line_fault, faults_in, slot_fault};
 ghost use Rattle.kob_script.specs.Reading.{Finds, Gives, earlier, earlier_kind, fault_in};
 ghost use Rattle.kob_script.specs.Reading.{first_kind};
 ghost use Rattle.kob_script.specs.declared.fault.FaultKind as kinds;
@@ -42,38 +41,24 @@ pub fn check_line(
 fn check_words(alloc: Global, places: &[Place], words: &[Word<'_>]) -> Result<(), LineError>
     ensures { Finds result (first_kind (faults_in places.now words.now)) }
 {
-    let Some((place, places)) = places.split_first() else {
-        return match words {
-            [] => Ok(()),
-            _ => Err(LineError::Fault(FaultKind::BadLine)),
-        };
-    };
-    let others = check_words(alloc, places, words_after(*place, words));
-    first_error(check_place(alloc, *place, words), others)
-}
-
-fn words_after<'w, 'l>(place: Place, words: &'w [Word<'l>]) -> &'w [Word<'l>]
-    ensures { result.now ≡ words_after place words.entry.now }
-{
-    match (place, words) {
-        (Place::Records | Place::Texts, _) => &[],
-        (_, [_, others @ ..]) => others,
-        (_, []) => words,
-    }
-}
-
-fn check_place(alloc: Global, place: Place, words: &[Word<'_>]) -> Result<(), LineError>
-    ensures { Finds result (place_fault place words.now) }
-{
-    match (place, words) {
-        (Place::Records, _) | (Place::OrNone(_), []) => Ok(()),
-        (Place::Texts, _) => {
+    match (places, words) {
+        ([], []) | ([Place::OrNone(_)], []) | ([Place::Records, ..], _) => Ok(()),
+        ([Place::Texts, ..], _) => {
             texts_of(alloc, words)?;
             Ok(())
         }
-        (Place::OrDash(_), [word, ..]) if word.is_dash() => Ok(()),
-        (Place::One(slot) | Place::OrDash(slot) | Place::OrNone(slot), [word, ..]) => {
-            check_slot(alloc, slot, word)
+        ([Place::OrDash(_), places @ ..], [word, words @ ..]) if word.is_dash() => {
+            check_words(alloc, places, words)
+        }
+        (
+            [
+                Place::One(slot) | Place::OrDash(slot) | Place::OrNone(slot),
+                places @ ..,
+            ],
+            [word, words @ ..],
+        ) => {
+            let others = check_words(alloc, places, words);
+            first_error(check_slot(alloc, *slot, word), others)
         }
         _ => Err(LineError::Fault(FaultKind::BadLine)),
     }
