@@ -2,8 +2,8 @@
 //! one request.
 
 ghost use Rattle.std.specs.Prelude.{◌≡◌, [], IfOk, Ok, option_map, map};
-ghost use Rattle.kob_script.specs.CommandLines.{acl_commands, acl_request, acl_requests, asked_by};
-ghost use Rattle.kob_script.specs.CommandLines.{asking, asks_by_acl, error_of, events_by, events_of};
+ghost use Rattle.kob_script.specs.CommandLines.{acl_commands, acl_request, asked_by, asks_by_acl};
+ghost use Rattle.kob_script.specs.CommandLines.{error_of, events_by, events_of};
 ghost use Rattle.kob_script.specs.Reading.{Gives, GivesSeen, counted};
 ghost use Rattle.kob_script.specs.Requests.{asks_clap};
 ghost use Rattle.kob_script.specs.Script.{after_acl, IsAnswerTo};
@@ -101,8 +101,11 @@ pub fn events_in(
     let [principal, host, command, arguments @ ..] = words else {
         return Err(LineError::Fault(FaultKind::BadLine));
     };
+    let principal = asker_of(alloc, last, principal)?;
+    let host = named_host(alloc, host)?;
     if command.decoded() == b"acl".as_slice() {
-        let events = acl_events(alloc, last, principal, host, answer)?;
+        let commands = acl_commands(alloc, answer)?;
+        let events = events_by(alloc, &principal, &host, commands)?;
         return Ok(Asked {
             first: None,
             others: VecDeque::from(events),
@@ -111,8 +114,6 @@ pub fn events_in(
     let Some(command) = command_named(command.decoded()) else {
         return Err(LineError::Fault(FaultKind::BadLine));
     };
-    let principal = asker_of(alloc, last, principal)?;
-    let host = named_host(alloc, host)?;
     let request = request_of(alloc, command, arguments)?;
     let event = Event {
         principal,
@@ -129,22 +130,6 @@ fn asks_by_acl(words: &[Word<'_>]) -> bool
     ensures { result ≡ asks_by_acl words.now }
 {
     matches!(words, [_, _, command, ..] if command.decoded() == b"acl".as_slice())
-}
-
-fn acl_events(
-    alloc: Global,
-    last: &mut Option<Principal>,
-    principal: &Word<'_>,
-    host: &Word<'_>,
-    answer: &Option<CliArgs>,
-) -> Result<Vec<Event>, LineError>
-    ensures { IfOk result (λ events.
-        asking principal.now host.now (acl_requests answer.now) ≡ Ok events.items) }
-{
-    let commands = acl_commands(alloc, answer)?;
-    let principal = asker_of(alloc, last, principal)?;
-    let host = named_host(alloc, host)?;
-    Ok(events_by(alloc, &principal, &host, commands)?)
 }
 
 /// What `clap` answers to a line's words: the options of `acl`. `None` if it refuses them, if they
