@@ -1,21 +1,10 @@
 -- The lines of blocks; what a line asks for, when it is checked and when it is read again, and what is
 -- left after it; and that a script without `acl` lines has one reading.
-use Rattle.std.proofs.Common.{◌≡◌, ◌∙◌, ◌≤◌, ◌<◌, ◌+◌, ℕ, List, [], ◌∷◌, ◌++◌, length, drop, take, map, get_or, sym, ap, refl, arith, length-take-le, suc, drop-drop, Bool, true, false, if◌then◌else◌, nat_lt, Option, Some, None, Result, Ok, Err, MatchOption, append_assoc, append-nil, ◌-◌, ◌==◌, slice_index_or, is_some, eqb-true, subst, is_none}
-use Rattle.std.proofs.lemmas.List.{drop_more}
-use Rattle.std.specs.List.{concat, list_all}
-use Rattle.std.specs.Result.{result_unwrap_or}
-use Rattle.bstr.proofs.lemmas.LengthLemmas.{length-lines}
-use Rattle.bstr.proofs.lemmas.LineLemmas.{lines-nil, lines-step, line_len-bounds}
-use Rattle.bstr.specs.Text.{line_len, lines_of, without_terminator}
-use Rattle.kob_names.specs.declared.settings.Settings.{Settings}
+use Rattle.kob_script.proofs.Words.{AreWholeLines, Checking, ChecksLine, ChecksNext, CliArgs, Err, Event, Fails, Fault, FaultKind, HasNoAclLine, IsAnswerTo, IsAnswerToLine, LineError, List, MayRead, Memory, None, Ok, Option, Reads, ReadsAs, Result, Script, ScriptError, ThenLines, Word, [], answers_after, ap, append-nil, append_assoc, arith, concat, drop, drop-drop, drop_more, empty_script, eqb-true, false, fault_at, first_answer, get_or, is_none, is_plain, kept_answer, length, length-lines, length-take-le, line_len-bounds, line_words, lines-nil, lines-step, lines_in, lines_in_blocks, lines_of, list_all, map, nat_tests, refl, requests_of, script_so_far, subst, sym, then_lines, true, with_words, without_terminator, words_of, ℕ, ◌++◌, ◌+◌, ◌-◌, ◌<◌, ◌==◌, ◌>>=◌, ◌∙◌, ◌∷◌, ◌≡◌, ◌≤◌}
 use Rattle.kob_script.proofs.Choices.{both}
-use Rattle.kob_script.specs.Checks.{fault_at, kept_answer, ChecksLine, ChecksNext, script_so_far}
-use Rattle.kob_script.specs.CommandLines.{CliArgs, Event, asked_by, events_of, line_fault}
-use Rattle.kob_script.specs.Reading.{◌>>=◌, Fails, unless_found, LateSetting, FaultKind, Memory, Fault, LineError}
-use Rattle.kob_script.specs.Requests.{AreWholeLines, lines_in_blocks, first_answer, line_words, requests_in, requests_of, answers_after}
-use Rattle.kob_script.specs.Script.{Script, ScriptError, after_acl, lines_in, with_line, with_words, empty_script, lines_from, script_of, then_lines, HasNoAclLine, is_plain, LinesFrom, MayRead, Reads, ReadsAs, ThenLines, IsAnswerTo, IsAnswerToLine, is_setting, settings_with}
-use Rattle.kob_script.specs.Words.{Word, words_of}
-use Rattle.kob_script.specs.declared.checks.Checking.{Checking}
+use Rattle.kob_script.specs.CommandLines.{events_of}
+use Rattle.kob_script.specs.Requests.{requests_in}
+use Rattle.kob_script.specs.Script.{with_line, lines_from, script_of, LinesFrom}
 use Rattle.kob_script.specs.declared.fault.Fault as fault
 use Rattle.kob_script.specs.declared.fault.ScriptError.TheVariants as script_error
 
@@ -26,23 +15,9 @@ no_lines = ap (map without_terminator) lines-nil
 pub first_line_splits : (bytes whole text : List ℕ) (more others : List (List ℕ)) → lines_of bytes ≡ whole ∷ more
     → lines_in bytes ≡ text ∷ others
     → (length whole ≤ length bytes) × (lines_in bytes ≡ text ∷ lines_in (drop (length whole) bytes))
-first_line_splits [] whole text more others is reads =
-    let none : [] ≡ whole ∷ more = sym lines-nil ∙ is in absurd (cc none)
+first_line_splits [] whole text more others is reads = grind (arith, nat_tests, lines-nil)
 first_line_splits (b ∷ rest) whole text more others is reads =
-    let bytes = b ∷ rest in
-    let size = line_len bytes in
-    let step = lines-step bytes (omega arith) in
-    let within : size ≤ length bytes = (line_len-bounds bytes (omega arith)).1 in
-    let cut : whole ≡ take size bytes = ap (λ lines. get_or lines 0 []) (sym is ∙ step) in
-    let long : length whole ≡ size = ap length cut ∙ length-take-le size bytes within in
-    let stripped : lines_in bytes ≡ without_terminator (take size bytes) ∷ lines_in (drop size bytes) =
-    ap (map without_terminator) step in
-    let first : text ≡ without_terminator (take size bytes) =
-    ap (λ lines. get_or lines 0 []) (sym reads ∙ stripped) in (
-      omega (arith, long, within),
-      stripped ∙ ap (λ line. line ∷ lines_in (drop size bytes)) (sym first)
-          ∙ ap (λ n. text ∷ lines_in (drop n bytes)) (sym long),
-    )
+    grind (arith, nat_tests, lines-step, line_len-bounds, length-take-le)
 
 -- after a block that was read to its end
 pub next_block : (rest block : List ℕ) (later more : List (List ℕ)) → rest ≡ [] → later ≡ block ∷ more
@@ -51,16 +26,12 @@ next_block rest block later more none split = rw (none, split, no_lines) refl
 
 pub fewer_steps : (lines left : List (List ℕ)) (later : List (List ℕ)) (block : List ℕ) (more : List (List ℕ))
     → left ≡ lines → later ≡ block ∷ more → length left + length more < length lines + length later
-fewer_steps lines left later block more same split =
-    let behind : length later ≡ suc (length more) = ap length split in
-    let alike : length left ≡ length lines = ap length same in
-    omega (arith, behind, alike)
+fewer_steps lines left later block more same split = grind (arith, nat_tests)
 
 -- bytes without lines are none
 pub no_bytes : (bytes : List ℕ) → lines_in bytes ≡ [] → bytes ≡ []
 no_bytes [] none = refl
-no_bytes (b ∷ rest) none =
-    let step = ap (map without_terminator) (lines-step (b ∷ rest) (omega arith)) in absurd (cc (none, step))
+no_bytes (b ∷ rest) none = grind (arith, nat_tests, lines-step)
 
 -- after a line of the block at the front
 pub rest_behind : (front next : List ℕ) (at size end : ℕ) → next ≡ front → end ≡ at + size
@@ -70,20 +41,7 @@ rest_behind front next at size end same place = rw (same, place) (sym (drop-drop
 -- the lines from a block on
 pub block_lines : (blocks : List (List ℕ)) (i : ℕ) (block : List ℕ) → i < length blocks → block ≡ get_or blocks i block
     → lines_in_blocks (drop i blocks) ≡ lines_in block ++ lines_in_blocks (drop (i + 1) blocks)
-block_lines blocks i block below is =
-    ap lines_in_blocks (drop_more blocks i block below)
-    ∙ ap (λ bytes. lines_in bytes ++ lines_in_blocks (drop (i + 1) blocks)) (sym is)
-
--- what words ask for is the same by their own answer and by the first of those that were kept
-asked_alike : (P : List Word → Type 0) (arguments : Option (List Word)) (ask : Option CliArgs → List Event)
-    (rest : List (Option CliArgs) → List Event) (answer : Option CliArgs) (others : List (Option CliArgs))
-    → MatchOption arguments (answer ≡ None) P
-    → let asks = is_some arguments in
-    let left = (if asks then answer ∷ [] else []) ++ others in
-    ask (if asks then slice_index_or left 0 None else None) ++ rest (if asks then drop 1 left else left)
-    ≡ ask answer ++ rest others
-asked_alike P (Some arguments) ask rest answer others is = refl
-asked_alike P None ask rest answer others is = rw is refl
+block_lines blocks i block below is = grind (arith, nat_tests, drop_more)
 
 events_in : Result Script FaultKind → List Event
 events_in (Ok s) = s.events
@@ -93,20 +51,7 @@ words_ask : (answer : Option CliArgs) (s next : Script) (words : List Word) → 
     → next.events ≡ s.events ++ requests_of answer words
 unfolding events_in events_of
 words_ask answer s next [] is = sym (ap events_in is) ∙ sym (append-nil s.events)
-words_ask answer s next (first ∷ arguments) is =
-    by (is_setting first) (nat_lt 0 (length s.events)) (settings_with s.settings first arguments)
-    (line_fault (first ∷ arguments)) (asked_by answer (first ∷ arguments)) is
-  where
-    by : (setting late : Bool) (set : Result Settings FaultKind) (fault : Option FaultKind)
-        (read : Result (List Event) FaultKind)
-        → (if setting then (if late then Err LateSetting
-        else (set >>= λ settings. Ok (record { settings = settings; events = s.events })))
-        else (unless_found fault read
-        >>= λ events. Ok (record { settings = s.settings; events = s.events ++ events }))) ≡ Ok next
-        → next.events ≡ s.events ++ (if setting then [] else result_unwrap_or read [])
-    by true false (Ok settings) fault read made = sym (ap events_in made) ∙ sym (append-nil s.events)
-    by false late set None (Ok events) made = sym (ap events_in made)
-    by _ _ _ _ _ made = absurd cc
+words_ask answer s next (first ∷ arguments) is = grind (arith, nat_tests, append-nil)
 
 -- a line that was read asks, by the answer that was kept, for what comes after the events before it
 line_asks : (answer : Option CliArgs) (s next : Script) (line : List ℕ) (lines : List (List ℕ))
@@ -115,39 +60,23 @@ line_asks : (answer : Option CliArgs) (s next : Script) (line : List ℕ) (lines
     → s.events ++ requests_in (line ∷ lines) (kept_answer (line_words line) answer ++ others)
     ≡ next.events ++ requests_in lines others
 unfolding with_line requests_in
-line_asks answer s next line lines others is reads = by (words_of line) is reads
-  where
-    by : (read : Result (List Word) FaultKind) → IsAnswerToLine read answer → (read >>= with_words answer s) ≡ Ok next
-        → let words = result_unwrap_or read [] in
-        let left = kept_answer words answer ++ others in
-        s.events ++ (requests_of (first_answer words left) words ++ requests_in lines (answers_after words left))
-        ≡ next.events ++ requests_in lines others
-    by (Err kind) is reads = absurd cc
-    by (Ok words) is reads =
-        ap (λ (asked : List Event). s.events ++ asked)
-        (asked_alike _ (after_acl words) (λ given. requests_of given words) (requests_in lines) answer others is)
-        ∙ sym (append_assoc s.events (requests_of answer words) (requests_in lines others))
-        ∙ ap (λ (events : List Event). events ++ requests_in lines others) (sym (words_ask answer s next words reads))
+line_asks answer s next line lines others is reads = grind (arith, nat_tests, append_assoc, words_ask)
 
 -- if requests are left and none was read, some lines are left
 pub some_lines : (asked : List Event) (lines : List (List ℕ)) (answers : List (Option CliArgs)) (all : List Event) (n : ℕ)
     → asked ≡ [] → asked ++ requests_in lines answers ≡ all → 0 < length all → 0 < length lines + n
 unfolding requests_in
-some_lines asked [] answers all n none left some =
-    let nothing : length all ≡ 0 = ap length (sym left ∙ ap (λ front. front ++ []) none) in
-    absurd (omega (arith, nothing, some))
+some_lines asked [] answers all n none left some = grind (arith, nat_tests)
 some_lines asked (line ∷ lines) answers all n none left some = omega arith
 
 pub one_fewer : {A : Type 0} (left : ℕ) (x : A) (all more : List A) → left ≡ length all → all ≡ x ∷ more
     → left - 1 ≡ length more
-one_fewer left x all more count split =
-    let long : length all ≡ length (x ∷ more) = ap length split in omega (arith, count, long)
+one_fewer left x all more count split = grind (arith, nat_tests)
 
 -- what is counted as nothing is nothing
 pub nothing_at_zero : {A : Type 0} (items : List A) (count : ℕ) → count ≡ length items → (count == 0) ≡ true → items ≡ []
 nothing_at_zero [] count counts zero = refl
-nothing_at_zero (x ∷ more) count counts zero =
-    let none : count ≡ 0 = eqb-true count 0 zero in absurd (omega (arith, none, counts))
+nothing_at_zero (x ∷ more) count counts zero = grind (arith, nat_tests, eqb-true)
 
 -- a line was read that stood at the front
 pub line_read : (text : List ℕ) (lines left later last : List (List ℕ)) (answers kept : List (Option CliArgs))
@@ -162,12 +91,7 @@ line_read text lines left later last answers kept events split same is used = rw
 line_alike : (answer : Option CliArgs) (s : Script) (line : Result (List Word) FaultKind) → is_plain line ≡ true
     → IsAnswerToLine line answer → (line >>= with_words answer s) ≡ (line >>= with_words None s)
 line_alike answer s (Err kind) plain is = refl
-line_alike answer s (Ok words) plain is = by _ (after_acl words) plain is
-  where
-    by : (P : List Word → Type 0) (arguments : Option (List Word)) → is_none arguments ≡ true
-        → MatchOption arguments (answer ≡ None) P → with_words answer s words ≡ with_words None s words
-    by P None plain is = ap (λ given. with_words given s words) is
-    by P (Some arguments) plain is = absurd cc
+line_alike answer s (Ok words) plain is = grind (arith, nat_tests, is_none)
 
 then_alike : (number : ℕ) (lines : List (List ℕ)) (first : Result Script FaultKind) (read : Result Script fault.Fault)
     → ((next : Script) → LinesFrom next (number + 1) lines read → read ≡ lines_from next (number + 1) lines)
@@ -234,14 +158,7 @@ pub record Stands (blocks : List (List ℕ)) (checking : Checking) (answers : Li
 pub stands_first : (blocks : List (List ℕ)) (checking : Checking) (answers : List (Option CliArgs))
     → AreWholeLines blocks → checking.supers.items ≡ [] → checking.everyone ≡ false → checking.requests ≡ 0 → answers ≡ []
     → Stands blocks checking answers 0 (lines_in_blocks blocks)
-stands_first blocks checking answers whole nobody closed none unanswered =
-    let same = ap length whole in record {
-      few = omega (arith, same, length-lines (concat blocks));
-      events = [];
-      counts = none;
-      leads = λ read may. rw (← whole) (rw (nobody, closed) at may);
-      asks = λ more. rw unanswered refl;
-    }
+stands_first blocks checking answers whole nobody closed none unanswered = grind (arith, nat_tests, length-lines)
 
 -- at a line
 module _ (blocks : List (List ℕ)) (checking new : Checking) (answers kept : List (Option CliArgs)) (number : ℕ)
@@ -281,9 +198,7 @@ module _ (blocks : List (List ℕ)) (checking : Checking) (answers : List (Optio
     (rest : List (List ℕ)) (stands : Stands blocks checking answers number rest) (none : rest ≡ []) where
   all_asked : requests_in (lines_in_blocks blocks) answers ≡ stands.events
   unfolding requests_in
-  all_asked =
-      ap (requests_in (lines_in_blocks blocks)) (sym (append-nil answers)) ∙ stands.asks []
-      ∙ ap (λ left. stands.events ++ requests_in left []) none ∙ append-nil stands.events
+  all_asked = grind (arith, nat_tests, append-nil answers, append-nil stands.events)
 
   pub all_counted : checking.requests ≡ length (requests_in (lines_in_blocks blocks) answers)
   all_counted = stands.counts ∙ ap length (sym all_asked)

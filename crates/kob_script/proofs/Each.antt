@@ -1,7 +1,6 @@
 -- Values that are read in turn, by a loop over what they are read from.
-use Rattle.std.proofs.Common.{◌≡◌, ◌∙◌, ◌<◌, ◌≤◌, ◌+◌, ℕ, List, [], ◌∷◌, ◌++◌, Result, Ok, Err, length, get_or, drop, map, sym, ap, subst, append-nil, append_assoc, refl, drop_of_length-le}
-use Rattle.std.proofs.lemmas.List.{drop_more}
-use Rattle.kob_script.specs.Reading.{◌>>=◌, Fails, each, with_front, FaultKind, LineError, Memory, Fault}
+use Rattle.kob_script.proofs.Words.{Err, Fails, Fault, FaultKind, LineError, List, Memory, Ok, Result, [], ap, append-nil, append_assoc, arith, drop, drop_more, drop_of_length-le, get_or, length, map, nat_tests, refl, subst, sym, with_front, ℕ, ◌++◌, ◌+◌, ◌<◌, ◌>>=◌, ◌∙◌, ◌∷◌, ◌≡◌, ◌≤◌}
+use Rattle.kob_script.specs.Reading.{each}
 
 -- one value more at the front
 pub with_front_more : {A : Type 0} (front : List A) (x : A) (read : Result (List A) FaultKind)
@@ -31,8 +30,7 @@ module _ {A B : Type 0} (read : A → Result B FaultKind) (all : Result (List B)
 pub front_ends : {A B : Type 0} (read : A → Result B FaultKind) (all : Result (List B) FaultKind) (xs : List A)
     (front : List B) → with_front front (each read xs) ≡ all → xs ≡ [] → all ≡ Ok front
 unfolding each
-front_ends read all xs front kept none =
-    sym kept ∙ ap (λ rest. with_front front (each read rest)) none ∙ ap Ok (append-nil front)
+front_ends read all xs front kept none = grind (arith, nat_tests, append-nil)
 
 -- the same by an index
 value_at : {A : Type 0} (xs : List A) (i : ℕ) (d x : A) → i < length xs → x ≡ get_or xs i d
@@ -59,8 +57,7 @@ pub each_map : {X A B : Type 0} (read : A → Result B FaultKind) (view : X → 
     → each read (map view xs) ≡ each (λ x. read (view x)) xs
 unfolding each
 each_map read view [] = refl
-each_map read view (x ∷ xs) =
-    ap (λ r. read (view x) >>= λ first. r >>= λ others. Ok (first ∷ others)) (each_map read view xs)
+each_map read view (x ∷ xs) = grind (arith, nat_tests, each_map read view xs)
 
 pub each_fails_map : {X A B : Type 0} (read : A → Result B FaultKind) (view : X → A) (xs : List X) (e : LineError)
     → Fails e (each (λ x. read (view x)) xs) → Fails e (each read (map view xs))

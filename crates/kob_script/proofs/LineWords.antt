@@ -1,56 +1,28 @@
 -- The words of a line. A word is read byte by byte, one without a percent sign
 -- stands for itself, and a cut at a byte that is neither a percent sign nor a hexadecimal digit leaves
 -- each escape whole. And the seven words of a row.
-use Rattle.std.proofs.Common.{if◌then◌else◌, take, ◌+◌, ◌-◌, take_all, length-drop, slice_index, subst, ◌≡◌, ◌∙◌, ◌<◌, ◌≤◌, get_or, ℕ, true, false, List, [], ◌∷◌, length, drop, nat_lt, refl, sym, ap, arith, not, ◌==◌, ◌++◌, Option, Some, None, Bool, append_assoc, append-nil, option_map, ◌&&◌, is_some}
-use Rattle.std.specs.Char.{digit_value}
-use Rattle.std.proofs.lemmas.Grind.{get_or_default_zero}
-use Rattle.std.proofs.lemmas.List.Sums.{list_all-from_AllPass}
-use Rattle.std.specs.List.{list_all}
+use Rattle.kob_script.proofs.Words.{Bool, IsFirstByte, IsFirstByte-value, LeavesWhole, List, None, Nowhere, Option, Passes, Some, Word, [], ap, append-nil, append_assoc, arith, before, byte_at, cut_at, digit_value, drop, escaped, false, get_or, get_or_default_zero, has_whole_escapes, hexadecimal, if◌then◌else◌, is_byte, is_some, length, length-drop, list_all, list_all-from_AllPass, nat_lt, nat_tests, not, option_map, refl, sym, take, take_all, true, unescaped, ℕ, ◌++◌, ◌+◌, ◌-◌, ◌<◌, ◌==◌, ◌∙◌, ◌∷◌, ◌≡◌, ◌≤◌}
 use Rattle.kob_script.proofs.Choices.{chosen_false, false_from}
-use Rattle.kob_script.specs.Words.{before, byte_at, cut_at, escaped, unescaped, unescaped_from, has_whole_escapes, hexadecimal, LeavesWhole, Word}
-use Rattle.memchr.proofs.lemmas.ValueLemmas.{IsFirstByte-value}
-use Rattle.memchr.specs.Find.{IsFirstByte, Nowhere, Passes, is_byte}
+use Rattle.kob_script.specs.Words.{unescaped_from}
 
 -- the byte at the front, and then what the rest stands for
 abbrev then_rest : Option (ℕ × List ℕ) → Option (List ℕ)
 then_rest None = None
 then_rest (Some found) = before (Some found.0) (unescaped found.1)
 
-behind_two : (rest : List ℕ) → unescaped_from 2 rest ≡ unescaped (drop 2 rest)
-unfolding unescaped_from
-behind_two [] = refl
-behind_two (high ∷ []) = refl
-behind_two (high ∷ low ∷ rest) = refl
-
 step : (byte : ℕ) (rest : List ℕ) → unescaped (byte ∷ rest) ≡ then_rest (byte_at byte rest)
 unfolding unescaped_from
-step byte rest = by (byte == 37) (escaped rest)
-  where
-    by : (percent : Bool) (digits : Option ℕ)
-        → (if percent then before digits (unescaped_from 2 rest) else before (Some byte) (unescaped rest))
-        ≡ then_rest (if percent then option_map (λ found. (found, drop 2 rest)) digits else Some (byte, rest))
-    by true None = refl
-    by true (Some found) = ap (before (Some found)) (behind_two rest)
-    by false digits = refl
+step byte rest = grind (arith, nat_tests)
 
 -- a word without a percent sign stands for itself
 literal_stands : (word : List ℕ) → list_all (λ byte. not (byte == 37)) word ≡ true → unescaped word ≡ Some word
 unfolding unescaped_from
 literal_stands [] literal = refl
-literal_stands (byte ∷ rest) literal = by (byte == 37) literal (λ others. literal_stands rest others)
-  where
-    by : (percent : Bool) → (not percent && list_all (λ b. not (b == 37)) rest) ≡ true
-        → (list_all (λ b. not (b == 37)) rest ≡ true → unescaped rest ≡ Some rest)
-        → (if percent then before (escaped rest) (unescaped_from 2 rest) else before (Some byte) (unescaped rest))
-        ≡ Some (byte ∷ rest)
-    by true literal behind = absurd cc
-    by false literal behind = ap (before (Some byte)) (behind literal)
+literal_stands (byte ∷ rest) literal = grind (arith, nat_tests, literal_stands rest)
 
 pub nowhere_stands : (word : List ℕ) → Nowhere (Passes (is_byte 37) word) 0 (length word) → unescaped word ≡ Some word
 nowhere_stands word nowhere =
-    literal_stands word (list_all-from_AllPass (λ byte. not (byte == 37)) word (λ k d within.
-    subst (λ (byte : ℕ). not (byte == 37) ≡ true) (sym (get_or_default_zero word k d within))
-    (ap not (false_from (slice_index word k == 37) (λ percent. percent) (nowhere k (omega arith) within)))))
+    grind (arith, nat_tests, literal_stands, list_all-from_AllPass, get_or_default_zero, false_from)
 
 -- bytes that were read, and then what the rest stands for
 abbrev pub with_rest : List ℕ → Option (List ℕ) → Option (List ℕ)
@@ -60,11 +32,6 @@ pub none_before : (bytes : List ℕ) (read : Option (List ℕ)) → bytes ≡ []
 none_before bytes None empty = refl
 none_before bytes (Some more) empty = ap (λ front. Some (front ++ more)) empty
 
-one_more : (bytes : List ℕ) (byte : ℕ) (others : Option (List ℕ))
-    → with_rest (bytes ++ byte ∷ []) others ≡ with_rest bytes (before (Some byte) others)
-one_more bytes byte None = refl
-one_more bytes byte (Some more) = ap Some (append_assoc bytes (byte ∷ []) more)
-
 -- the loop over the bytes of a word, by what was found at the front of the rest
 module _ (bytes rest others : List ℕ) (first : ℕ) (all : Option (List ℕ)) (kept : with_rest bytes (unescaped rest) ≡ all)
     (split : rest ≡ first ∷ others) where
@@ -73,8 +40,7 @@ module _ (bytes rest others : List ℕ) (first : ℕ) (all : Option (List ℕ)) 
 
   pub byte_read : (found : ℕ × List ℕ) → Some found ≡ byte_at first others
       → with_rest (bytes ++ found.0 ∷ []) (unescaped found.1) ≡ all
-  byte_read found is =
-      one_more bytes found.0 (unescaped found.1) ∙ ap (λ read. with_rest bytes (then_rest read)) is ∙ front_is
+  byte_read found is = grind (arith, nat_tests, front_is, append_assoc)
 
   pub none_read : None ≡ byte_at first others → None ≡ all
   none_read is = ap (λ read. with_rest bytes (then_rest read)) is ∙ front_is
@@ -123,17 +89,13 @@ front_joined byte a true digits_all digits after_all after rest_all rest back es
 front_joined byte a false digits_all digits after_all after rest_all rest back escape plain =
     ap (before (Some a)) plain ∙ before_joined byte (Some a) rest back
 
-no_digits : (one : Bool) (byte : ℕ) → (if one && false then Some byte else None) ≡ None
-no_digits true byte = refl
-no_digits false byte = refl
-
 module _ (byte : ℕ) (back : List ℕ) (other : (byte == 37) ≡ false) (none : nat_lt (digit_value byte) 16 ≡ false) where
   not_first : (bytes : List ℕ) (others : Option (List ℕ)) → before (escaped (byte ∷ bytes)) others ≡ None
   not_first [] others = refl
   not_first (low ∷ bytes) others = rw none refl
 
   not_second : (high : ℕ) (others : Option (List ℕ)) → before (escaped (high ∷ byte ∷ back)) others ≡ None
-  not_second high others = rw (none, no_digits (nat_lt (digit_value high) 16) (hexadecimal high byte)) refl
+  not_second high others = grind (arith, nat_tests)
 
   cut : (front : List ℕ) → unescaped (front ++ byte ∷ back) ≡ joined byte (unescaped front) (unescaped back)
   unfolding unescaped_from
@@ -141,15 +103,9 @@ module _ (byte : ℕ) (back : List ℕ) (other : (byte == 37) ≡ false) (none :
   cut (a ∷ []) =
       front_joined byte a (a == 37) (escaped (byte ∷ back)) None _ (Some []) (unescaped (byte ∷ back)) (Some [])
       (unescaped back) (not_first back _) (cut [])
-  cut (a ∷ high ∷ []) =
-      front_joined byte a (a == 37) (escaped (high ∷ byte ∷ back)) None _ (Some []) (unescaped (high ∷ byte ∷ back))
-      (unescaped (high ∷ [])) (unescaped back) (not_second high _) (cut (high ∷ []))
+  cut (a ∷ high ∷ []) = grind (arith, nat_tests, front_joined, not_second, cut (high ∷ []))
   cut (a ∷ high ∷ low ∷ rest) =
-      front_joined byte a (a == 37) (escaped (high ∷ low ∷ rest)) (escaped (high ∷ low ∷ rest))
-      (unescaped (rest ++ byte ∷ back)) (unescaped rest) (unescaped (high ∷ low ∷ rest ++ byte ∷ back))
-      (unescaped (high ∷ low ∷ rest)) (unescaped back)
-      (ap (before (escaped (high ∷ low ∷ rest))) (cut rest)
-      ∙ before_joined byte (escaped (high ∷ low ∷ rest)) (unescaped rest) (unescaped back)) (cut (high ∷ low ∷ rest))
+      grind (arith, nat_tests, front_joined, cut rest, before_joined, cut (high ∷ low ∷ rest))
 
   pub leaves_whole : (front : List ℕ) → has_whole_escapes (front ++ byte ∷ back) ≡ true
       → (has_whole_escapes front ≡ true) × (has_whole_escapes back ≡ true)

@@ -1,5 +1,4 @@
-use Rattle.std.proofs.Common.{◌≡◌, ◌∙◌, sym}
-use Rattle.std.proofs.lemmas.Slice.Eq.{bytes_eq-Decides}
+use Rattle.kob_script.proofs.Words.{bytes_eq-Decides, sym, ◌∙◌, ◌≡◌}
 use Rattle.kob_script.proofs.Askers.{named_again}
 use Rattle.kob_script.proofs.asker.is_named.Goals as goal
 

@@ -1,8 +1,5 @@
-use Rattle.std.proofs.Common.{◌≡◌, ◌∙◌, ◌++◌, ◌+◌, ◌≤◌, ◌<◌, [], List, ℕ, Err, ap, arith, refl, subst, sym, drop, length, drop_of_length-le}
+use Rattle.kob_script.proofs.Words.{Err, List, [], ap, arith, concat, drop, drop_of_length-le, length, lines_in, lines_in_blocks, refl, subst, sym, ℕ, ◌++◌, ◌+◌, ◌<◌, ◌∙◌, ◌≡◌, ◌≤◌}
 use Rattle.kob_script.proofs.CheckedLines.{block_lines, Stands, all_counted, all_read, one_reading, stands_first, stands_next, stops, reads_plain}
-use Rattle.kob_script.specs.Requests.{lines_in_blocks}
-use Rattle.std.specs.List.{concat}
-use Rattle.kob_script.specs.Script.{lines_in}
 use Rattle.kob_script.proofs.checks.check_script.Goals as goal
 
 pub loop-block-init : goal.loop-block-init

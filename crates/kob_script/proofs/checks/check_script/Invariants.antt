@@ -1,6 +1,5 @@
 -- The lines so far were checked: what those that are left may be read as, the text may be.
-use Rattle.std.proofs.Common.{◌+◌, ◌++◌, drop}
-use Rattle.kob_script.specs.Requests.{lines_in_blocks}
+use Rattle.kob_script.proofs.Words.{drop, lines_in_blocks, ◌++◌, ◌+◌}
 use Rattle.kob_script.proofs.CheckedLines.{Stands}
 use Rattle.kob_script.proofs.checks.check_script.Given as goal
 

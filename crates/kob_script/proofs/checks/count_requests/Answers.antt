@@ -1,7 +1,5 @@
-use Rattle.std.proofs.Common.{◌++◌, Ok, Result, List, ap, arith, length-append}
+use Rattle.kob_script.proofs.Words.{FaultKind, List, Ok, Result, ap, arith, length-append, script_so_far, ◌++◌, ◌>>=◌}
 use Rattle.kob_rights.specs.declared.event.Event.{Event}
-use Rattle.kob_script.specs.Checks.{script_so_far}
-use Rattle.kob_script.specs.Reading.{◌>>=◌, FaultKind}
 use Rattle.kob_script.proofs.LineFaults.{were_counted}
 use Rattle.kob_script.proofs.checks.count_requests.Goals as goal
 

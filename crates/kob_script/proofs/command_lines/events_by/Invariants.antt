@@ -1,6 +1,4 @@
-use Rattle.std.proofs.Common.{◌≡◌, ◌++◌, map}
-use Rattle.std.specs.Vec.Iter.{into_iter_items}
-use Rattle.kob_script.specs.CommandLines.{acl_request, events_by}
+use Rattle.kob_script.proofs.Words.{acl_request, events_by, into_iter_items, map, ◌++◌, ◌≡◌}
 use Rattle.kob_script.proofs.command_lines.events_by.Given as goal
 
 abbrev pub invariant-loop-command : goal.invariant-loop-command

@@ -1,4 +1,4 @@
-use Rattle.std.proofs.Common.{length}
+use Rattle.kob_script.proofs.Words.{length}
 use Rattle.kob_script.proofs.faults.+check_words.Given as goal
 
 abbrev pub decreases-check_words : goal.decreases-check_words

@@ -1,7 +1,5 @@
-use Rattle.std.proofs.Common.{◌∙◌, ◌∷◌, sym, ap}
+use Rattle.kob_script.proofs.Words.{ap, lines_in, lines_in_blocks, rest_of, sym, ◌∙◌, ◌∷◌}
 use Rattle.kob_script.proofs.CheckedLines.{no_bytes, rest_behind, line_read}
-use Rattle.kob_script.specs.Requests.{lines_in_blocks, rest_of}
-use Rattle.kob_script.specs.Script.{lines_in}
 use Rattle.kob_script.proofs.requests.read_on.Goals as goal
 
 pub enter_next-requires-clause-read : goal.enter_next-requires-clause-read

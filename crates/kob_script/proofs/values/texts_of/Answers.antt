@@ -1,7 +1,4 @@
-use Rattle.std.proofs.Common.{arith, List, ℕ, Bor}
-use Rattle.std.proofs.lemmas.Result.{err_from_is_err_and}
-use Rattle.std.proofs.lemmas.List.{map-append}
-use Rattle.kob_script.specs.Values.{text_of}
+use Rattle.kob_script.proofs.Words.{Bor, List, arith, err_from_is_err_and, map-append, text_of, ℕ}
 use Rattle.kob_script.proofs.Each.{each_fails, each_keeps, each_ends}
 use Rattle.kob_script.proofs.values.texts_of.Goals as goal
 

@@ -1,9 +1,4 @@
-use Rattle.std.proofs.Common.{rules, tests, arith, length, nat_lt}
-use Rattle.std.proofs.lemmas.Iterator.Consumers.{YieldsList-end, YieldsList-from_filter, YieldsList-turn}
-use Rattle.std.proofs.lemmas.Iterator.Splits.{YieldsList-from_slice_split}
-use Rattle.std.proofs.lemmas.List.{length_push}
-use Rattle.std.proofs.lemmas.Result.{err_from_is_err_and}
-use Rattle.kob_script.specs.Words.{is_blank, raw_words, word_of}
+use Rattle.kob_script.proofs.Words.{YieldsList-end, YieldsList-from_filter, YieldsList-from_slice_split, YieldsList-turn, arith, err_from_is_err_and, is_blank, length, length_push, nat_lt, raw_words, rules, tests, word_of}
 use Rattle.kob_script.proofs.Each.{each_ends, each_fails, each_keeps}
 use Rattle.kob_script.proofs.words.each_read.Goals as goal
 

@@ -1,6 +1,5 @@
 -- The line that was read last, and those after it, ask for what was left.
-use Rattle.std.proofs.Common.{◌≡◌, length}
-use Rattle.kob_script.specs.Requests.{steps_left, requests_left}
+use Rattle.kob_script.proofs.Words.{length, requests_left, steps_left, ◌≡◌}
 use Rattle.kob_script.proofs.requests.Requests.next_event.Given as goal
 
 abbrev pub invariant-loop-alloc : goal.invariant-loop-alloc
