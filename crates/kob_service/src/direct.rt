@@ -1,13 +1,11 @@
 //! Without threads: a service records two orders, its router sends their events, and a consumer takes
 //! them in.
 
+use crate::workers::{consumer, service};
 use crate::{Delivered, Worked, broker, reached, send};
-use kob_embedding::{ConsumerEnd, RunningConsumer, RunningService, ServiceEnd};
-use kob_inbox::{Inbox, Subscription};
+use kob_embedding::{ConsumerEnd, ServiceEnd};
 use kob_lines::{Loss, Lossy, RecordedLine};
 use kob_names::{Host, Principal};
-use kob_outbox::Outbox;
-use kob_router::{Route, RouteSettings};
 use kob_shared::Recorded;
 use std::alloc::Global;
 
@@ -28,12 +26,10 @@ pub(crate) fn deliver(alloc: Global) -> Worked<Delivered> {
 fn serve(alloc: Global, recorded: &mut Recorded) -> Worked<ServiceEnd> {
     let host = Host::parse(alloc, "10.0.0.1")?;
     let orders = Principal::parse(alloc, "User:orders")?;
-    let route = Route::new(alloc, &RouteSettings::by_default(alloc)?)?;
-    let outbox = Outbox::open_in_memory(alloc)?;
     let line = RecordedLine::open(alloc, recorded, 1, orders, host);
     let mut line = Lossy::over(alloc, line);
     line.lose(Loss::AfterServe);
-    let mut service = RunningService::new(alloc, outbox, route, 1, line);
+    let mut service = service(alloc, line)?;
     let sent = send(alloc, &mut service);
     service.end(1, sent)
 }
@@ -42,10 +38,8 @@ fn serve(alloc: Global, recorded: &mut Recorded) -> Worked<ServiceEnd> {
 fn consume(alloc: Global, recorded: &mut Recorded) -> Worked<ConsumerEnd> {
     let host = Host::parse(alloc, "10.0.0.1")?;
     let mail = Principal::parse(alloc, "User:mail")?;
-    let subscription = Subscription::of(alloc, "mail", "outbox.event.order", 1, 10)?;
-    let inbox = Inbox::open_in_memory(alloc)?;
     let line = RecordedLine::open(alloc, recorded, 2, mail, host);
-    let mut consumer = RunningConsumer::new(alloc, inbox, subscription, line);
+    let mut consumer = consumer(alloc, line)?;
     let taken = consumer.take_all(alloc, 100);
     consumer.end(2, taken)
 }

@@ -4,6 +4,7 @@
 
 mod direct;
 mod threads;
+mod workers;
 
 use kob_embedding::{ConsumerEnd, RunningService, ServiceEnd, opened, reaches_in_order};
 use kob_inbox::InboxRow;

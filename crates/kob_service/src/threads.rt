@@ -1,13 +1,11 @@
 //! In threads: a service, a consumer and an administrator share a broker.
 
+use crate::workers::{consumer, service};
 use crate::{Delivered, Worked, broker, reached, script, send};
-use kob_embedding::{ConsumerEnd, RunningConsumer, RunningService, ServiceEnd, session_of};
-use kob_inbox::{Inbox, Subscription};
+use kob_embedding::{ConsumerEnd, ServiceEnd, session_of};
 use kob_lines::SessionLine;
 use kob_names::PlainValue;
-use kob_outbox::Outbox;
 use kob_rights::Event;
-use kob_router::{Route, RouteSettings};
 use kob_script::Script;
 use kob_shared::{Session, SharedBroker};
 use std::alloc::Global;
@@ -49,10 +47,7 @@ pub(crate) fn deliver<R: Threads + Wait + Sync>(rt: &R, alloc: Global) -> Worked
 /// Worker 1 sends two orders, also while its right is revoked.
 fn serve<R: Wait>(rt: &R, alloc: Global, shared: &SharedBroker) -> Worked<ServiceEnd> {
     let session = session_of(alloc, shared, 1, "User:orders", "h")?;
-    let route = Route::new(alloc, &RouteSettings::by_default(alloc)?)?;
-    let outbox = Outbox::open_in_memory(alloc)?;
-    let line = SessionLine::open(rt, alloc, session);
-    let mut service = RunningService::new(alloc, outbox, route, 1, line);
+    let mut service = service(alloc, SessionLine::open(rt, alloc, session))?;
     let sent = send(alloc, &mut service);
     service.end(1, sent)
 }
@@ -60,10 +55,7 @@ fn serve<R: Wait>(rt: &R, alloc: Global, shared: &SharedBroker) -> Worked<Servic
 /// Worker 2 takes the events in until both are there.
 fn consume<R: Wait>(rt: &R, alloc: Global, shared: &SharedBroker) -> Worked<ConsumerEnd> {
     let session = session_of(alloc, shared, 2, "User:mail", "h")?;
-    let subscription = Subscription::of(alloc, "mail", "outbox.event.order", 1, 10)?;
-    let inbox = Inbox::open_in_memory(alloc)?;
-    let line = SessionLine::open(rt, alloc, session);
-    let mut consumer = RunningConsumer::new(alloc, inbox, subscription, line);
+    let mut consumer = consumer(alloc, SessionLine::open(rt, alloc, session))?;
     let taken = consumer.take_rows(alloc, 2, u32::MAX);
     consumer.end(2, taken)
 }
