@@ -1,5 +1,5 @@
 -- The principal that was read last, if a word names it again.
-use Rattle.kob_script.proofs.Words.{FaultKind, IsUtf8, List, MatchOption, None, Ok, Option, Result, Some, Word, arith, fault_in, is_utf8-from_IsUtf8, named_principal, nat_tests, principal_fault, refl, ℕ, ◌≡◌}
+use Rattle.kob_script.proofs.Imports.{FaultKind, IsUtf8, List, MatchOption, None, Ok, Option, Result, Some, Word, arith, fault_in, is_utf8-from_IsUtf8, named_principal, nat_tests, principal_fault, refl, ℕ, ◌≡◌}
 use Rattle.kob_script.proofs.Choices.{chosen_true}
 use Rattle.kob_script.specs.Values.{principal_of}
 

@@ -1,6 +1,6 @@
 -- The lines of blocks; what a line asks for, when it is checked and when it is read again, and what is
 -- left after it; and that a script without `acl` lines has one reading.
-use Rattle.kob_script.proofs.Words.{AreWholeLines, Checking, ChecksLine, ChecksNext, CliArgs, Err, Event, Fails, Fault, FaultKind, HasNoAclLine, IsAnswerTo, IsAnswerToLine, LineError, List, MayRead, Memory, None, Ok, Option, Reads, ReadsAs, Result, Script, ScriptError, ThenLines, Word, [], answers_after, ap, append-nil, append_assoc, arith, concat, drop, drop-drop, drop_more, empty_script, eqb-true, false, fault_at, first_answer, get_or, is_none, is_plain, kept_answer, length, length-lines, length-take-le, line_len-bounds, line_words, lines-nil, lines-step, lines_in, lines_in_blocks, lines_of, list_all, map, nat_tests, refl, requests_of, script_so_far, subst, sym, then_lines, true, with_words, without_terminator, words_of, ℕ, ◌++◌, ◌+◌, ◌-◌, ◌<◌, ◌==◌, ◌>>=◌, ◌∙◌, ◌∷◌, ◌≡◌, ◌≤◌}
+use Rattle.kob_script.proofs.Imports.{AreWholeLines, Checking, ChecksLine, ChecksNext, CliArgs, Err, Event, Fails, Fault, FaultKind, HasNoAclLine, IsAnswerTo, IsAnswerToLine, LineError, List, MayRead, Memory, None, Ok, Option, Reads, ReadsAs, Result, Script, ScriptError, ThenLines, Word, [], answers_after, ap, append-nil, append_assoc, arith, concat, drop, drop-drop, drop_more, empty_script, eqb-true, false, fault_at, first_answer, get_or, is_none, is_plain, kept_answer, length, length-lines, length-take-le, line_len-bounds, line_words, lines-nil, lines-step, lines_in, lines_in_blocks, lines_of, list_all, map, nat_tests, refl, requests_of, script_so_far, subst, sym, then_lines, true, with_words, without_terminator, words_of, ℕ, ◌++◌, ◌+◌, ◌-◌, ◌<◌, ◌==◌, ◌>>=◌, ◌∙◌, ◌∷◌, ◌≡◌, ◌≤◌}
 use Rattle.kob_script.proofs.Choices.{both}
 use Rattle.kob_script.specs.CommandLines.{events_of}
 use Rattle.kob_script.specs.Requests.{requests_in}

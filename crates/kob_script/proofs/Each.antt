@@ -1,5 +1,5 @@
 -- Values that are read in turn, by a loop over what they are read from.
-use Rattle.kob_script.proofs.Words.{Err, Fails, Fault, FaultKind, LineError, List, Memory, Ok, Result, [], ap, append-nil, append_assoc, arith, drop, drop_more, drop_of_length-le, get_or, length, map, nat_tests, refl, subst, sym, with_front, ℕ, ◌++◌, ◌+◌, ◌<◌, ◌>>=◌, ◌∙◌, ◌∷◌, ◌≡◌, ◌≤◌}
+use Rattle.kob_script.proofs.Imports.{Err, Fails, Fault, FaultKind, LineError, List, Memory, Ok, Result, [], ap, append-nil, append_assoc, arith, drop, drop_more, drop_of_length-le, get_or, length, map, nat_tests, refl, subst, sym, with_front, ℕ, ◌++◌, ◌+◌, ◌<◌, ◌>>=◌, ◌∙◌, ◌∷◌, ◌≡◌, ◌≤◌}
 use Rattle.kob_script.specs.Reading.{each}
 
 -- one value more at the front

@@ -5,4 +5,4 @@ pub mod Each
 pub mod LineFaults
 pub mod LineWords
 pub mod Numbers
-mod Words
+mod Imports

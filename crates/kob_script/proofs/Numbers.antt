@@ -1,5 +1,5 @@
 -- Which words write numbers, by the digits that are left.
-use Rattle.kob_script.proofs.Words.{BadNumber, Err, List, Ok, [], all_ascii_digits, arith, digit_value, digits_value, digits_value_after, false, is_ascii_digit, length, nat_tests, number_in, true, ℕ, ◌*◌, ◌+◌, ◌<◌, ◌==◌, ◌^◌, ◌∷◌, ◌≡◌, ◌≤◌}
+use Rattle.kob_script.proofs.Imports.{BadNumber, Err, List, Ok, [], all_ascii_digits, arith, digit_value, digits_value, digits_value_after, false, is_ascii_digit, length, nat_tests, number_in, true, ℕ, ◌*◌, ◌+◌, ◌<◌, ◌==◌, ◌^◌, ◌∷◌, ◌≡◌, ◌≤◌}
 use Rattle.kob_script.proofs.Choices.{both, chosen_true, chosen_false, false_from}
 
 abbrev pub WritesNumber : List ℕ → Type 0

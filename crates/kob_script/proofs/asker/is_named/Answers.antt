@@ -1,4 +1,4 @@
-use Rattle.kob_script.proofs.Words.{bytes_eq-Decides, sym, ◌∙◌, ◌≡◌}
+use Rattle.kob_script.proofs.Imports.{bytes_eq-Decides, sym, ◌∙◌, ◌≡◌}
 use Rattle.kob_script.proofs.Askers.{named_again}
 use Rattle.kob_script.proofs.asker.is_named.Goals as goal
 

@@ -1,4 +1,4 @@
-use Rattle.kob_script.proofs.Words.{err_from_is_err_and, script_so_far}
+use Rattle.kob_script.proofs.Imports.{err_from_is_err_and, script_so_far}
 use Rattle.kob_script.proofs.CheckedLines.{line_checked, line_fails, words_fail}
 use Rattle.kob_script.proofs.checks.check_line.Goals as goal
 

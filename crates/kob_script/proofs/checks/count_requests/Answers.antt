@@ -1,4 +1,4 @@
-use Rattle.kob_script.proofs.Words.{FaultKind, List, Ok, Result, ap, arith, length-append, script_so_far, ◌++◌, ◌>>=◌}
+use Rattle.kob_script.proofs.Imports.{FaultKind, List, Ok, Result, ap, arith, length-append, script_so_far, ◌++◌, ◌>>=◌}
 use Rattle.kob_rights.specs.declared.event.Event.{Event}
 use Rattle.kob_script.proofs.LineFaults.{were_counted}
 use Rattle.kob_script.proofs.checks.count_requests.Goals as goal

@@ -1,4 +1,4 @@
-use Rattle.kob_script.proofs.Words.{acl_request, events_by, into_iter_items, map, ◌++◌, ◌≡◌}
+use Rattle.kob_script.proofs.Imports.{acl_request, events_by, into_iter_items, map, ◌++◌, ◌≡◌}
 use Rattle.kob_script.proofs.command_lines.events_by.Given as goal
 
 abbrev pub invariant-loop-command : goal.invariant-loop-command

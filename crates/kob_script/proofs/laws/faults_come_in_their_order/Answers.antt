@@ -1,4 +1,4 @@
-use Rattle.kob_script.proofs.Words.{None, Some, faults_in, refl}
+use Rattle.kob_script.proofs.Imports.{None, Some, faults_in, refl}
 use Rattle.kob_script.proofs.LineFaults.{first_is, one_counted}
 use Rattle.kob_script.specs.CommandLines.{events_of}
 use Rattle.kob_script.proofs.laws.faults_come_in_their_order.Goals as goal

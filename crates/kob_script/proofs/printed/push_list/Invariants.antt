@@ -1,4 +1,4 @@
-use Rattle.kob_script.proofs.Words.{flat_map, take, ◌++◌, ◌≡◌}
+use Rattle.kob_script.proofs.Imports.{flat_map, take, ◌++◌, ◌≡◌}
 use Rattle.kob_script.proofs.printed.push_list.Given as goal
 
 abbrev pub invariant-loop-item : goal.invariant-loop-item

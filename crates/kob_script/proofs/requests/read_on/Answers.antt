@@ -1,4 +1,4 @@
-use Rattle.kob_script.proofs.Words.{ap, lines_in, lines_in_blocks, rest_of, sym, ◌∙◌, ◌∷◌}
+use Rattle.kob_script.proofs.Imports.{ap, lines_in, lines_in_blocks, rest_of, sym, ◌∙◌, ◌∷◌}
 use Rattle.kob_script.proofs.CheckedLines.{no_bytes, rest_behind, line_read}
 use Rattle.kob_script.proofs.requests.read_on.Goals as goal
 

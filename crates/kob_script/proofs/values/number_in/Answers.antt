@@ -1,4 +1,4 @@
-use Rattle.kob_script.proofs.Words.{arith, drop_more, drop_of_length-le, sym, ◌∙◌}
+use Rattle.kob_script.proofs.Imports.{arith, drop_more, drop_of_length-le, sym, ◌∙◌}
 use Rattle.kob_script.proofs.Numbers.{digit_refused, digits_end}
 use Rattle.kob_script.proofs.values.number_in.Goals as goal
 

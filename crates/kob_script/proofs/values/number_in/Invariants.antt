@@ -1,4 +1,4 @@
-use Rattle.kob_script.proofs.Words.{drop, ◌<◌, ◌^◌}
+use Rattle.kob_script.proofs.Imports.{drop, ◌<◌, ◌^◌}
 use Rattle.kob_script.proofs.Numbers.{GoesOn}
 use Rattle.kob_script.proofs.values.number_in.Given as goal
 

@@ -1,4 +1,4 @@
-use Rattle.kob_script.proofs.Words.{map, record_of, take, ◌≡◌}
+use Rattle.kob_script.proofs.Imports.{map, record_of, take, ◌≡◌}
 use Rattle.kob_script.proofs.values.records_of.Given as goal
 
 abbrev pub invariant-loop-word : goal.invariant-loop-word

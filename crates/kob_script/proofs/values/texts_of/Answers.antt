@@ -1,4 +1,4 @@
-use Rattle.kob_script.proofs.Words.{Bor, List, arith, err_from_is_err_and, map-append, text_of, ℕ}
+use Rattle.kob_script.proofs.Imports.{Bor, List, arith, err_from_is_err_and, map-append, text_of, ℕ}
 use Rattle.kob_script.proofs.Each.{each_fails, each_keeps, each_ends}
 use Rattle.kob_script.proofs.values.texts_of.Goals as goal
 

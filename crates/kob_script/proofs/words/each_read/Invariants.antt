@@ -1,5 +1,5 @@
 -- What was read, and then what the rest stands for, is what the words stand for.
-use Rattle.kob_script.proofs.Words.{drop, each, length, raw_words, with_front, word_of, ◌≡◌}
+use Rattle.kob_script.proofs.Imports.{drop, each, length, raw_words, with_front, word_of, ◌≡◌}
 use Rattle.kob_script.proofs.words.each_read.Given as goal
 
 abbrev pub invariant-loop-raw : goal.invariant-loop-raw

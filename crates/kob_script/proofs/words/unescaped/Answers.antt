@@ -1,4 +1,4 @@
-use Rattle.kob_script.proofs.Words.{[], drop_of_length-le, rules, ◌≡◌}
+use Rattle.kob_script.proofs.Imports.{[], drop_of_length-le, rules, ◌≡◌}
 use Rattle.kob_script.proofs.LineWords.{all_read, byte_read, none_before, none_read}
 use Rattle.kob_script.proofs.words.unescaped.Goals as goal
 

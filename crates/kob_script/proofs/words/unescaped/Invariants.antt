@@ -1,5 +1,5 @@
 -- What was read, and then what the rest stands for, is what the word stands for.
-use Rattle.kob_script.proofs.Words.{length, unescaped, ◌≡◌}
+use Rattle.kob_script.proofs.Imports.{length, unescaped, ◌≡◌}
 use Rattle.kob_script.proofs.LineWords.{with_rest}
 use Rattle.kob_script.proofs.words.unescaped.Given as goal
 

@@ -1,5 +1,5 @@
 -- The line that was read last, and those after it, ask for what was left.
-use Rattle.kob_script.proofs.Words.{length, requests_left, steps_left, ◌≡◌}
+use Rattle.kob_script.proofs.Imports.{length, requests_left, steps_left, ◌≡◌}
 use Rattle.kob_script.proofs.requests.Requests.next_event.Given as goal
 
 abbrev pub invariant-loop-alloc : goal.invariant-loop-alloc
