@@ -1,16 +1,6 @@
 -- A step of reading that fails, and what a line says.
-use Rattle.std.proofs.Common.{◌≡◌, ℕ, true, false, List, None, Result, Ok, Err, sym, subst, refl, ◌∙◌, Bool}
-use Rattle.std.proofs.lemmas.Bool.{false≢true}
-use Rattle.kob_script.specs.declared.fault.FaultKind.{FaultKind}
-use Rattle.kob_script.specs.declared.fault.LineError.{LineError}
-use Rattle.kob_script.specs.declared.fault.LineError.TheVariants.{Memory, Fault}
-use Rattle.kob_script.specs.Reading.{◌>>=◌, Fails, GivesSeen}
-use Rattle.kob_script.specs.Script.{IsAnswerToLine}
-use Rattle.kob_script.specs.Words.{words_of}
-use Rattle.kob_policy_text.specs.declared.item.Item.{Item}
-use Rattle.kob_policy_text.specs.Lines.{Says, SaysBy, SaysByWords, is_listed, items_of, listed_items, script_line, words_items}
-use Rattle.kob_policy_text.specs.Outcomes.{MayFail, MayGive}
-use Rattle.kob_policy_text.specs.Pieces.{trimmed}
+use Rattle.kob_policy_text.proofs.Words.{Bool, Err, Fails, Fault, FaultKind, GivesSeen, Item, LineError, List, MayFail, MayGive, Memory, None, Ok, Result, Says, SaysBy, SaysByWords, arith, false, is_listed, listed_items, nat_tests, refl, script_line, trimmed, true, ℕ, ◌>>=◌, ◌≡◌}
+use Rattle.kob_policy_text.specs.Lines.{items_of}
 
 pub fails_at : {A B : Type 0} (e : LineError) (read : Result A FaultKind) (f : A → Result B FaultKind)
     → Fails e read → Fails e (read >>= f)
@@ -35,29 +25,22 @@ words_by : {A : Type 0} (view : A → List Item) (line text : List ℕ) (r : Res
     → is_listed line ≡ false → script_line line ≡ Ok text → MayGive view r (SaysByWords text)
     → MayGive view r (SaysBy line)
 unfolding items_of
-words_by view line text (Ok x) unlisted is_text says =
-    (says.0, λ _. rw is_text says.1, rw (unlisted, is_text) says.2)
+words_by view line text (Ok x) unlisted is_text says = grind (arith, nat_tests)
 words_by view line text (Err Memory) unlisted is_text says = tt
-words_by view line text (Err (Fault kind)) unlisted is_text says =
-    (says.0, λ _. rw is_text says.1, rw (unlisted, is_text) says.2)
+words_by view line text (Err (Fault kind)) unlisted is_text says = grind (arith, nat_tests)
 
 pub says_listed : {A : Type 0} (view : A → List Item) (given line : List ℕ) (test : Bool) (r : Result A LineError)
     → line ≡ trimmed given → test ≡ is_listed line → test ≡ true → GivesSeen view r (listed_items line)
     → MayGive view r (Says given)
-says_listed view given line test r trim is passed gives =
-    let listed : is_listed line ≡ true = sym is ∙ passed in
-    let not_unlisted : is_listed line ≡ false → ⊥ = λ off. false≢true (sym off ∙ listed) in
-    subst (λ (l : List ℕ). MayGive view r (SaysBy l)) trim (listed_by view line r listed not_unlisted gives)
+says_listed view given line test r trim is passed gives = grind (arith, nat_tests, listed_by)
 
 pub says_no_line : (given line : List ℕ) (test : Bool) (e : LineError)
     → line ≡ trimmed given → test ≡ is_listed line → test ≡ false → Fails e (script_line line)
     → MayFail e (Says given)
-says_no_line given line test e trim is failed fails =
-    subst (λ (l : List ℕ). MayFail e (SaysBy l)) trim (no_line_by line e (sym is ∙ failed) fails)
+says_no_line given line test e trim is failed fails = grind (arith, nat_tests, no_line_by)
 
 pub says_words : {A : Type 0} (view : A → List Item) (given line text : List ℕ) (test : Bool)
     (r : Result A LineError)
     → line ≡ trimmed given → test ≡ is_listed line → test ≡ false → script_line line ≡ Ok text
     → MayGive view r (SaysByWords text) → MayGive view r (Says given)
-says_words view given line text test r trim is failed is_text says =
-    subst (λ (l : List ℕ). MayGive view r (SaysBy l)) trim (words_by view line text r (sym is ∙ failed) is_text says)
+says_words view given line text test r trim is failed is_text says = grind (arith, nat_tests, words_by)

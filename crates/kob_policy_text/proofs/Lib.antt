@@ -2,3 +2,4 @@ pub mod Asking
 pub mod Chains
 pub mod Growing
 pub mod Making
+mod Words

@@ -1,16 +1,7 @@
 -- A file is read line by line, and a line thing by thing.
-use Rattle.std.proofs.Common.{◌≡◌, ◌∙◌, ◌+◌, ℕ, List, [], ◌∷◌, Result, Ok, Err, sym, subst, refl, ap, arith, length}
+use Rattle.kob_policy_text.proofs.Words.{Err, Fails, Fault, FaultKind, FileMakes, GivesSeen, IsStopped, Item, LineError, List, MayFail, MayGive, Memory, Ok, Origin, Policy, Result, Says, [], ap, arith, at_file, fault_at, length, lines_in, nat_tests, place, refl, sym, with_item, ℕ, ◌+◌, ◌∙◌, ◌∷◌, ◌≡◌}
 use Rattle.kob_script.specs.declared.fault.Fault as fault
-use Rattle.kob_script.specs.declared.fault.FaultKind.{FaultKind}
-use Rattle.kob_script.specs.declared.fault.LineError.{LineError}
-use Rattle.kob_script.specs.declared.fault.LineError.TheVariants.{Memory, Fault}
-use Rattle.kob_script.specs.Reading.{◌>>=◌, Fails, GivesSeen}
-use Rattle.kob_policy_text.specs.declared.item.Item.{Item}
-use Rattle.kob_policy_text.specs.declared.origin.Origin.{Origin}
-use Rattle.kob_policy_text.specs.Policy.{FileMakes, IsStopped, LineMakes, LinesMake, Policy, at_file, fault_at, place, with_item, with_items}
-use Rattle.kob_policy_text.specs.Lines.{Says}
-use Rattle.kob_policy_text.specs.Outcomes.{MayFail, MayGive}
-use Rattle.kob_script.specs.Script.{lines_in}
+use Rattle.kob_policy_text.specs.Policy.{LineMakes, LinesMake, with_items}
 
 -- What the lines that are left may make, the file may make.
 abbrev pub Leads : List ℕ → List ℕ → Policy → Policy → ℕ → List (List ℕ) → Type 0
@@ -19,27 +10,21 @@ Leads file text old policy number rest =
 
 pub lines_begin : (file text : List ℕ) (old policy : Policy) → policy ≡ at_file old
     → Leads file text old policy 1 (lines_in text)
-lines_begin file text old policy begun =
-    λ read may. subst (λ (p : Policy). LinesMake file p 1 (lines_in text) read) begun may
+lines_begin file text old policy begun = grind (arith, nat_tests)
 
 pub line_keeps : (file text : List ℕ) (old policy next : Policy) (number : ℕ) (rest : List (List ℕ)) (line : List ℕ)
     (more : List (List ℕ))
     → Leads file text old policy number rest → rest ≡ line ∷ more → LineMakes file policy number line (Ok next)
     → Leads file text old next (number + 1) more
 unfolding LinesMake
-line_keeps file text old policy next number rest line more leads split makes =
-    λ read others. leads read (subst (λ (lines : List (List ℕ)). LinesMake file policy number lines read) (sym split)
-    (Ok next, makes, others))
+line_keeps file text old policy next number rest line more leads split makes = grind (arith, nat_tests)
 
 pub line_stops : (file text : List ℕ) (old policy : Policy) (number : ℕ) (rest : List (List ℕ)) (line : List ℕ)
     (more : List (List ℕ)) (kind : FaultKind)
     → Leads file text old policy number rest → rest ≡ line ∷ more → LineMakes file policy number line (Err kind)
     → FileMakes file text old (Err (record { line = number; kind = kind }))
 unfolding LinesMake
-line_stops file text old policy number rest line more kind leads split makes =
-    let read : Result Policy fault.Fault = Err (record { line = number; kind = kind }) in
-    leads read (subst (λ (lines : List (List ℕ)). LinesMake file policy number lines read) (sym split)
-    (Err kind, makes, refl))
+line_stops file text old policy number rest line more kind leads split makes = grind (arith, nat_tests)
 
 -- the same of an error, which may be want of memory
 pub stopped : (file text : List ℕ) (old policy : Policy) (number : ℕ) (rest : List (List ℕ))
@@ -53,8 +38,7 @@ stopped file text old policy number rest line more (Fault kind) leads split make
 pub lines_end : (file text : List ℕ) (old policy : Policy) (number : ℕ) (rest : List (List ℕ))
     → Leads file text old policy number rest → rest ≡ [] → FileMakes file text old (Ok policy)
 unfolding LinesMake
-lines_end file text old policy number rest leads none =
-    leads (Ok policy) (subst (λ (lines : List (List ℕ)). LinesMake file policy number lines (Ok policy)) (sym none) refl)
+lines_end file text old policy number rest leads none = grind (arith, nat_tests)
 
 -- the first of the things that are left was added
 pub item_keeps : (policy next : Policy) (origin : Origin) (rest more : List Item) (first : Item)
@@ -62,9 +46,7 @@ pub item_keeps : (policy next : Policy) (origin : Origin) (rest more : List Item
     → with_items policy origin rest ≡ whole → rest ≡ first ∷ more → with_item policy origin first ≡ Ok next
     → with_items next origin more ≡ whole
 unfolding with_items
-item_keeps policy next origin rest more first whole kept split gives =
-    sym (ap (with_items policy origin) split
-    ∙ ap (λ (r : Result Policy FaultKind). r >>= λ p. with_items p origin more) gives) ∙ kept
+item_keeps policy next origin rest more first whole kept split gives = grind (arith, nat_tests)
 
 -- it was not
 pub item_fails : (policy : Policy) (origin : Origin) (rest more : List Item) (first : Item)
@@ -73,9 +55,7 @@ pub item_fails : (policy : Policy) (origin : Origin) (rest more : List Item) (fi
     → Fails e whole
 unfolding with_items
 item_fails policy origin rest more first whole Memory kept split fails = tt
-item_fails policy origin rest more first whole (Fault kind) kept split fails =
-    sym kept ∙ ap (with_items policy origin) split
-    ∙ ap (λ (r : Result Policy FaultKind). r >>= λ p. with_items p origin more) fails
+item_fails policy origin rest more first whole (Fault kind) kept split fails = grind (arith, nat_tests)
 
 pub none_left : {A : Type 0} (xs : List A) → length xs ≡ 0 → xs ≡ []
 none_left [] empty = refl

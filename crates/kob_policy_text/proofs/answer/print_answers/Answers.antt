@@ -1,4 +1,4 @@
-use Rattle.std.proofs.Common.{arith}
+use Rattle.kob_policy_text.proofs.Words.{arith}
 use Rattle.kob_policy_text.proofs.Growing.{answered_all, answered_more}
 use Rattle.kob_policy_text.proofs.answer.print_answers.Goals as goal
 

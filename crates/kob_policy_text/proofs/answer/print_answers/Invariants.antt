@@ -1,6 +1,5 @@
 -- The answers so far, and then those to the rest, are those to all.
-use Rattle.std.proofs.Common.{◌≡◌, ◌++◌, ◌+◌, drop}
-use Rattle.kob_policy_text.specs.Answers.{answers_text}
+use Rattle.kob_policy_text.proofs.Words.{answers_text, drop, ◌++◌, ◌+◌, ◌≡◌}
 use Rattle.kob_policy_text.proofs.answer.print_answers.Given as goal
 
 abbrev pub invariant-loop-question : goal.invariant-loop-question

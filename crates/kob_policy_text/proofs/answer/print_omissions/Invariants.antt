@@ -1,5 +1,4 @@
-use Rattle.std.proofs.Common.{◌≡◌, ◌++◌, take, flat_map}
-use Rattle.kob_policy_text.specs.Answers.{omission_line}
+use Rattle.kob_policy_text.proofs.Words.{flat_map, omission_line, take, ◌++◌, ◌≡◌}
 use Rattle.kob_policy_text.proofs.answer.print_omissions.Given as goal
 
 abbrev pub invariant-loop-omission : goal.invariant-loop-omission

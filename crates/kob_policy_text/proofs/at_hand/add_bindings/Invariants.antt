@@ -1,5 +1,4 @@
-use Rattle.std.proofs.Common.{◌≡◌, take}
-use Rattle.kob_policy_text.specs.AtHand.{with_bindings}
+use Rattle.kob_policy_text.proofs.Words.{take, with_bindings, ◌≡◌}
 use Rattle.kob_policy_text.proofs.at_hand.add_bindings.Given as goal
 
 abbrev pub invariant-loop-binding : goal.invariant-loop-binding

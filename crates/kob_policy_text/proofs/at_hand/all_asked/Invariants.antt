@@ -1,5 +1,4 @@
-use Rattle.std.proofs.Common.{◌≡◌, take, flat_map}
-use Rattle.kob_policy_text.specs.AtHand.{asked_by}
+use Rattle.kob_policy_text.proofs.Words.{asked_by, flat_map, take, ◌≡◌}
 use Rattle.kob_policy_text.proofs.at_hand.all_asked.Given as goal
 
 abbrev pub invariant-loop-principal : goal.invariant-loop-principal

@@ -1,5 +1,4 @@
-use Rattle.std.proofs.Common.{◌≡◌, ◌++◌, take, flat_map}
-use Rattle.kob_policy_text.specs.AtHand.{asked_from}
+use Rattle.kob_policy_text.proofs.Words.{asked_from, flat_map, take, ◌++◌, ◌≡◌}
 use Rattle.kob_policy_text.proofs.at_hand.push_by.Given as goal
 
 abbrev pub invariant-loop-host : goal.invariant-loop-host

@@ -1,5 +1,4 @@
-use Rattle.std.proofs.Common.{◌≡◌, ◌++◌, take, flat_map}
-use Rattle.kob_policy_text.specs.AtHand.{asked_on}
+use Rattle.kob_policy_text.proofs.Words.{asked_on, flat_map, take, ◌++◌, ◌≡◌}
 use Rattle.kob_policy_text.proofs.at_hand.push_from.Given as goal
 
 abbrev pub invariant-loop-target : goal.invariant-loop-target

@@ -1,6 +1,4 @@
-use Rattle.std.proofs.Common.{◌≡◌, ◌++◌, take, map}
-use Rattle.kob_authorizer.specs.Question.{question_of}
-use Rattle.kob_policy_text.specs.AtHand.{operations}
+use Rattle.kob_policy_text.proofs.Words.{map, operations, question_of, take, ◌++◌, ◌≡◌}
 use Rattle.kob_policy_text.proofs.at_hand.push_on.Given as goal
 
 abbrev pub invariant-loop-operation : goal.invariant-loop-operation

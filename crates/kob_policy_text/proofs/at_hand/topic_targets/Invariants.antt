@@ -1,5 +1,4 @@
-use Rattle.std.proofs.Common.{◌≡◌, take, map}
-use Rattle.kob_policy_text.specs.AtHand.{topic_target}
+use Rattle.kob_policy_text.proofs.Words.{map, take, topic_target, ◌≡◌}
 use Rattle.kob_policy_text.proofs.at_hand.topic_targets.Given as goal
 
 abbrev pub invariant-loop-topic : goal.invariant-loop-topic

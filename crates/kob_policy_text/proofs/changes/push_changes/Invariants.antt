@@ -1,5 +1,4 @@
-use Rattle.std.proofs.Common.{◌≡◌, ◌++◌, take, flat_map}
-use Rattle.kob_policy_text.specs.Answers.{change_line}
+use Rattle.kob_policy_text.proofs.Words.{change_line, flat_map, take, ◌++◌, ◌≡◌}
 use Rattle.kob_policy_text.proofs.changes.push_changes.Given as goal
 
 abbrev pub invariant-loop-asked : goal.invariant-loop-asked

@@ -1,6 +1,4 @@
-use Rattle.std.proofs.Common.{rules, tests, ◌==◌, length, nat_lt, List, ℕ}
-use Rattle.std.proofs.lemmas.Iterator.Consumers.{YieldsList-at, YieldsList-from_filter, map_from_collect}
-use Rattle.std.proofs.lemmas.Iterator.Splits.{YieldsList-from_slice_split}
+use Rattle.kob_policy_text.proofs.Words.{List, YieldsList-at, YieldsList-from_filter, YieldsList-from_slice_split, length, map_from_collect, nat_lt, rules, tests, ℕ, ◌==◌}
 use Rattle.kob_policy_text.proofs.lines.between_semicolons.Goals as goal
 
 pub returns : goal.returns

@@ -1,4 +1,4 @@
-use Rattle.std.proofs.lemmas.Result.{err_from_is_err_and}
+use Rattle.kob_policy_text.proofs.Words.{err_from_is_err_and}
 use Rattle.kob_policy_text.proofs.Chains.{says_listed, says_no_line, says_words}
 use Rattle.kob_policy_text.proofs.lines.items_of.Goals as goal
 

@@ -1,6 +1,4 @@
-use Rattle.std.proofs.Common.{◌≡◌, ◌++◌}
-use Rattle.std.specs.Vec.Iter.{into_iter_items}
-use Rattle.kob_policy_text.specs.Lines.{rule_items}
+use Rattle.kob_policy_text.proofs.Words.{into_iter_items, rule_items, ◌++◌, ◌≡◌}
 use Rattle.kob_policy_text.proofs.lines.rule_items.Given as goal
 
 abbrev pub invariant-loop-draft : goal.invariant-loop-draft

@@ -1,9 +1,4 @@
-use Rattle.std.proofs.Common.{arith, List, ℕ, refl}
-use Rattle.std.specs.Borrow.{Bor}
-use Rattle.std.proofs.lemmas.Result.{err_from_is_err_and}
-use Rattle.kob_policy_text.specs.Lines.{super_item}
-use Rattle.kob_policy_text.specs.Pieces.{trimmed}
-use Rattle.kob_script.proofs.Each.{each_fails, each_fails_map, each_keeps, each_ends, each_map}
+use Rattle.kob_policy_text.proofs.Words.{Bor, List, arith, each_ends, each_fails, each_fails_map, each_keeps, each_map, err_from_is_err_and, refl, super_item, trimmed, ℕ}
 use Rattle.kob_policy_text.proofs.lines.super_items.Goals as goal
 
 pub returns-in_err-item : goal.returns-in_err-item

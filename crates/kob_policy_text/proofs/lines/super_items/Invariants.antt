@@ -1,10 +1,5 @@
 -- What was read, and then what the rest stands for, is what the parts stand for.
-use Rattle.std.proofs.Common.{◌≡◌, drop}
-use Rattle.std.specs.Borrow.{Bor}
-use Rattle.std.specs.Prelude.{List, ℕ}
-use Rattle.kob_script.specs.Reading.{each, with_front}
-use Rattle.kob_policy_text.specs.Lines.{super_item}
-use Rattle.kob_policy_text.specs.Pieces.{trimmed}
+use Rattle.kob_policy_text.proofs.Words.{Bor, List, drop, each, super_item, trimmed, with_front, ℕ, ◌≡◌}
 use Rattle.kob_policy_text.proofs.lines.super_items.Given as goal
 
 abbrev pub invariant-loop-part : goal.invariant-loop-part

@@ -1,4 +1,4 @@
-use Rattle.std.proofs.lemmas.Result.{err_from_is_err_and}
+use Rattle.kob_policy_text.proofs.Words.{err_from_is_err_and}
 use Rattle.kob_policy_text.specs.Listing.{newer_grant}
 use Rattle.kob_policy_text.proofs.Chains.{fails_at}
 use Rattle.kob_policy_text.proofs.listing.newer_grant.Goals as goal

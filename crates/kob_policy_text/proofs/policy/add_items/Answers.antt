@@ -1,6 +1,4 @@
-use Rattle.std.proofs.Common.{◌≡◌, suc, length, arith, ap}
-use Rattle.std.specs.Vec.Iter.{into_iter_items}
-use Rattle.std.proofs.lemmas.Result.{err_from_is_err_and}
+use Rattle.kob_policy_text.proofs.Words.{ap, arith, err_from_is_err_and, into_iter_items, length, suc, ◌≡◌}
 use Rattle.kob_policy_text.proofs.Making.{item_keeps, item_fails, items_end, none_left}
 use Rattle.kob_policy_text.proofs.policy.add_items.Goals as goal
 

@@ -1,7 +1,5 @@
 -- What the rest makes of the policy so far is what all make of it.
-use Rattle.std.proofs.Common.{◌≡◌, length}
-use Rattle.std.specs.Vec.Iter.{into_iter_items, into_iter_len}
-use Rattle.kob_policy_text.specs.Policy.{with_items}
+use Rattle.kob_policy_text.proofs.Words.{into_iter_items, into_iter_len, length, with_items, ◌≡◌}
 use Rattle.kob_policy_text.proofs.policy.add_items.Given as goal
 
 abbrev pub invariant-loop-item : goal.invariant-loop-item

@@ -1,4 +1,4 @@
-use Rattle.std.proofs.lemmas.Result.{err_from_is_err_and}
+use Rattle.kob_policy_text.proofs.Words.{err_from_is_err_and}
 use Rattle.kob_policy_text.proofs.Making.{line_made, line_unread}
 use Rattle.kob_policy_text.proofs.policy.add_line.Goals as goal
 

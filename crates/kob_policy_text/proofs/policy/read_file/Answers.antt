@@ -1,5 +1,5 @@
-use Rattle.std.proofs.Common.{◌≡◌, ◌+◌, arith, ap, suc, length}
-use Rattle.kob_policy_text.proofs.Making.{lines_begin, line_keeps, line_stops, lines_end, stopped}
+use Rattle.kob_policy_text.proofs.Words.{ap, arith, length, suc, ◌+◌, ◌≡◌}
+use Rattle.kob_policy_text.proofs.Making.{line_keeps, lines_end, stopped}
 use Rattle.kob_policy_text.proofs.policy.read_file.Goals as goal
 
 pub loop-line-preserved : goal.loop-line-preserved

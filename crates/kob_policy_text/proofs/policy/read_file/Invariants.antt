@@ -1,5 +1,5 @@
 -- What the lines that are left may make, after the policy so far, the file may make.
-use Rattle.std.proofs.Common.{◌+◌, ◌≤◌, length}
+use Rattle.kob_policy_text.proofs.Words.{length, ◌+◌, ◌≤◌}
 use Rattle.kob_policy_text.proofs.Making.{Leads}
 use Rattle.kob_policy_text.proofs.policy.read_file.Given as goal
 

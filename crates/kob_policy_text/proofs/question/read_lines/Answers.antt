@@ -1,4 +1,4 @@
-use Rattle.std.proofs.Common.{◌≡◌, ◌+◌, arith, ap, suc, length, refl}
+use Rattle.kob_policy_text.proofs.Words.{ap, arith, length, refl, suc, ◌+◌, ◌≡◌}
 use Rattle.kob_policy_text.proofs.Asking.{line_keeps, line_stops, lines_end}
 use Rattle.kob_policy_text.proofs.question.read_lines.Goals as goal
 

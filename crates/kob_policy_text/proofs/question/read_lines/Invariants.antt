@@ -1,7 +1,5 @@
 -- What the rest adds to what was read so far is what all lines add.
-use Rattle.std.proofs.Common.{◌≡◌, ◌+◌, ◌≤◌, length}
-use Rattle.kob_script.specs.Script.{lines_in}
-use Rattle.kob_policy_text.specs.Questions.{lines_from}
+use Rattle.kob_policy_text.proofs.Words.{length, lines_from, lines_in, ◌+◌, ◌≡◌, ◌≤◌}
 use Rattle.kob_policy_text.proofs.question.read_lines.Given as goal
 
 abbrev pub invariant-loop-line : goal.invariant-loop-line

@@ -1,5 +1,4 @@
-use Rattle.std.proofs.Common.{◌≡◌, ◌++◌}
-use Rattle.kob_policy_text.specs.Answers.{shadowed_lines}
+use Rattle.kob_policy_text.proofs.Words.{shadowed_lines, ◌++◌, ◌≡◌}
 use Rattle.kob_policy_text.proofs.shadowed.push_shadowed_lines.Given as goal
 
 abbrev pub invariant-loop-place : goal.invariant-loop-place

@@ -1,5 +1,4 @@
-use Rattle.std.proofs.Common.{◌≡◌, ◌++◌}
-use Rattle.kob_policy_text.specs.Answers.{unused_lines}
+use Rattle.kob_policy_text.proofs.Words.{unused_lines, ◌++◌, ◌≡◌}
 use Rattle.kob_policy_text.proofs.unused.push_unused_lines.Given as goal
 
 abbrev pub invariant-loop-place : goal.invariant-loop-place

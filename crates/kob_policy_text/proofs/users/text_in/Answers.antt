@@ -1,7 +1,4 @@
-use Rattle.std.proofs.Common.{rules, ◌∙◌}
-use Rattle.std.specs.Str.{is_utf8}
-use Rattle.std.proofs.lemmas.Str.{IsUtf8-from_is_utf8, is_utf8-from_IsUtf8}
-use Rattle.kob_script.proofs.Choices.{chosen_true, chosen_false, false_from}
+use Rattle.kob_policy_text.proofs.Words.{IsUtf8-from_is_utf8, chosen_false, chosen_true, false_from, is_utf8, is_utf8-from_IsUtf8, rules, ◌∙◌}
 use Rattle.kob_policy_text.proofs.users.text_in.Goals as goal
 
 pub returns-in-Ok : goal.returns-in-Ok

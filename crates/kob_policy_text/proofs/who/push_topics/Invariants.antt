@@ -1,5 +1,4 @@
-use Rattle.std.proofs.Common.{◌≡◌, ◌++◌, take, flat_map}
-use Rattle.kob_policy_text.specs.Answers.{seen_text}
+use Rattle.kob_policy_text.proofs.Words.{flat_map, seen_text, take, ◌++◌, ◌≡◌}
 use Rattle.kob_policy_text.proofs.who.push_topics.Given as goal
 
 abbrev pub invariant-loop-topic : goal.invariant-loop-topic

@@ -1,5 +1,4 @@
-use Rattle.std.proofs.Common.{◌≡◌, ◌++◌, take, flat_map}
-use Rattle.kob_policy_text.specs.Answers.{who_line}
+use Rattle.kob_policy_text.proofs.Words.{flat_map, take, who_line, ◌++◌, ◌≡◌}
 use Rattle.kob_policy_text.proofs.who.push_who_lines.Given as goal
 
 abbrev pub invariant-loop-principal : goal.invariant-loop-principal

@@ -1,0 +1,28 @@
+-- The names that the lemmas cite, passed on from one place.
+pub use Rattle.kob_authorizer.specs.Question.{Question, question_of}
+pub use Rattle.kob_policy_text.specs.Answers.{answer_line, answers_text, change_line, omission_line, seen_text, shadowed_line, shadowed_lines, unused_line, unused_lines, who_line}
+pub use Rattle.kob_policy_text.specs.AtHand.{asked_by, asked_from, asked_on, operations, topic_target, with_bindings}
+pub use Rattle.kob_policy_text.specs.Lines.{Says, SaysBy, SaysByWords, is_listed, listed_items, rule_items, script_line, super_item}
+pub use Rattle.kob_policy_text.specs.Outcomes.{MayFail, MayGive}
+pub use Rattle.kob_policy_text.specs.Pieces.{trimmed}
+pub use Rattle.kob_policy_text.specs.Policy.{FileMakes, IsStopped, Policy, at_file, fault_at, place, with_item, with_items}
+pub use Rattle.kob_policy_text.specs.Questions.{Questions, lines_from, with_line}
+pub use Rattle.kob_policy_text.specs.declared.item.Item.{Item}
+pub use Rattle.kob_policy_text.specs.declared.origin.Origin.{Origin}
+pub use Rattle.kob_script.proofs.Choices.{chosen_false, chosen_true, false_from}
+pub use Rattle.kob_script.proofs.Each.{each_ends, each_fails, each_fails_map, each_keeps, each_map}
+pub use Rattle.kob_script.specs.Reading.{Fails, GivesSeen, each, with_front, ◌>>=◌}
+pub use Rattle.kob_script.specs.Script.{lines_in}
+pub use Rattle.kob_script.specs.declared.fault.FaultKind.{FaultKind}
+pub use Rattle.kob_script.specs.declared.fault.LineError.{LineError}
+pub use Rattle.kob_script.specs.declared.fault.LineError.TheVariants.{Fault, Memory}
+pub use Rattle.std.proofs.Common.{Bool, Err, List, None, Ok, Result, [], ap, append-nil, append_assoc, arith, drop, drop_of_length-le, false, flat_map, get_or, length, map, nat_lt, refl, rules, suc, sym, take, tests, true, ℕ, ◌++◌, ◌+◌, ◌<◌, ◌==◌, ◌∙◌, ◌∷◌, ◌≡◌, ◌≤◌}
+pub use Rattle.std.proofs.lemmas.Bool.Decides.{nat_tests}
+pub use Rattle.std.proofs.lemmas.Iterator.Consumers.{YieldsList-at, YieldsList-from_filter, map_from_collect}
+pub use Rattle.std.proofs.lemmas.Iterator.Splits.{YieldsList-from_slice_split}
+pub use Rattle.std.proofs.lemmas.List.{drop_more}
+pub use Rattle.std.proofs.lemmas.Result.{err_from_is_err_and}
+pub use Rattle.std.proofs.lemmas.Str.{IsUtf8-from_is_utf8, is_utf8-from_IsUtf8}
+pub use Rattle.std.specs.Borrow.{Bor}
+pub use Rattle.std.specs.Str.{is_utf8}
+pub use Rattle.std.specs.Vec.Iter.{into_iter_items, into_iter_len}
