@@ -1,7 +1,5 @@
 -- A text that is no UUID.
-use Rattle.std.proofs.Common.{◌≡◌, ◌↔◌, ℕ, Bool, true, false, List, Option, Some, None, Result, Err, IsOk, is_ok, ap, refl}
-use Rattle.kob_scene_text.specs.declared.fault.SceneFaultKind.TheVariants.{BadId}
-use Rattle.kob_scene_text.specs.Steps.{id_in}
+use Rattle.kob_scene_text.proofs.Words.{BadId, Bool, Err, IsOk, List, None, Option, Result, Some, ap, false, id_in, is_ok, refl, true, ℕ, ◌↔◌, ◌≡◌}
 
 clash : (b : Bool) → b ≡ true → b ≡ false → ⊥
 clash b yes_it_is no_it_is = absurd cc

@@ -1,3 +1,4 @@
+pub mod Ids
 pub mod SceneLines
 pub mod ScriptLines
-pub mod Ids
+mod Words

@@ -1,19 +1,12 @@
 -- A scene is read line by line.
-use Rattle.std.proofs.Common.{◌≡◌, ◌+◌, ℕ, false, List, [], ◌∷◌, Option, None, Result, Ok, Err, map, sym, subst, refl}
-use Rattle.kob_acl_cli.specs.declared.args.CliArgs.{CliArgs}
-use Rattle.kob_script.specs.Script.{IsAnswerTo, lines_in, IsAnswerToLine}
+use Rattle.kob_scene_text.proofs.Words.{CliArgs, Err, Fault, IsAnswerTo, IsAnswerToLine, LineError, List, MayRead, Memory, Ok, Option, ReadsAs, ReadsLine, ReadsNext, Result, Seen, StepError, Word, [], arith, as_scripts, false, fault_at, lines_in, nat_tests, refl, so_far, step_error, subst, sym, with_words, words_of, ℕ, ◌+◌, ◌>>>◌, ◌∷◌, ◌≡◌}
 use Rattle.kob_script.specs.declared.fault.FaultKind as script_kind
-use Rattle.kob_script.specs.declared.fault.LineError.{LineError}
 use Rattle.kob_script.specs.declared.fault.LineError.TheVariants as line_error
 use Rattle.kob_script.specs.Reading.{Fails as ScriptFails}
-use Rattle.kob_script.specs.Words.{Word, words_of}
 use Rattle.kob_scene_text.specs.declared.fault.SceneFault as fault
-use Rattle.kob_scene_text.specs.declared.fault.StepError.{StepError}
-use Rattle.kob_scene_text.specs.declared.fault.StepError.TheVariants.{Memory, Fault}
 use Rattle.kob_scene_text.specs.declared.reading.Reading as code
-use Rattle.kob_scene_text.specs.Reading.{◌>>>◌, as_scripts, step_error}
-use Rattle.kob_scene_text.specs.SceneReadings.{LinesFrom, MayRead, ReadsAs, ReadsLine, ReadsNext, fault_at}
-use Rattle.kob_scene_text.specs.Scenes.{Seen, nothing_yet, so_far, told, with_line, with_words}
+use Rattle.kob_scene_text.specs.SceneReadings.{LinesFrom}
+use Rattle.kob_scene_text.specs.Scenes.{with_line}
 
 -- What the lines that are left may be read as, the text may be.
 abbrev pub Leads : List ℕ → Seen → ℕ → List (List ℕ) → Type 0
@@ -37,9 +30,7 @@ module _ (s : Seen) (line : List ℕ) (reading : code.Reading) where
   pub line_fails : (e : LineError) → ScriptFails e (words_of line) → ReadsLine s line reading (Err (step_error e))
   unfolding with_line
   line_fails line_error.Memory fails = tt
-  line_fails (line_error.Fault kind) fails =
-      subst (λ (read : Result (List Word) script_kind.FaultKind). (given : Option CliArgs) × IsAnswerToLine read given
-      × ((as_scripts read >>> with_words given s) ≡ as_scripts (Err kind))) (sym fails) (None, tt, refl)
+  line_fails (line_error.Fault kind) fails = grind (arith, nat_tests)
 
 module _ (text : List ℕ) (s : Seen) (number : ℕ) (rest : List (List ℕ)) (line : List ℕ) (more : List (List ℕ))
     (leads : Leads text s number rest) (split : rest ≡ line ∷ more) where
@@ -61,19 +52,9 @@ module _ (text : List ℕ) (s : Seen) (number : ℕ) (rest : List (List ℕ)) (l
 pub lines_end : (text : List ℕ) (s : Seen) (number : ℕ) (rest : List (List ℕ)) → Leads text s number rest
     → rest ≡ [] → ReadsAs text (Ok s)
 unfolding LinesFrom
-lines_end text s number rest leads empty =
-    let read : Result Seen fault.SceneFault = Ok s in
-    leads read (subst (λ (lines : List (List ℕ)). LinesFrom s number lines read) (sym empty) refl)
+lines_end text s number rest leads empty = grind (arith, nat_tests)
 
 pub lines_begin : (text : List ℕ) (reading : code.Reading) → reading.supers.items ≡ [] → reading.everyone ≡ false
     → reading.services.items ≡ [] → reading.consumers.items ≡ [] → reading.steps.items ≡ []
     → Leads text (so_far reading) 1 (lines_in text)
-lines_begin text reading nobody closed unserved unread still =
-    let same : so_far reading ≡ nothing_yet =
-    λ i. record {
-      settings = record { supers = nobody i; opening = []; everyone = closed i };
-      services = unserved i;
-      consumers = unread i;
-      steps = map told (still i);
-    } in
-    λ read may. subst (λ (s : Seen). LinesFrom s 1 (lines_in text) read) same may
+lines_begin text reading nobody closed unserved unread still = grind (arith, nat_tests)

@@ -1,38 +1,15 @@
 -- A script reads as the scene that it is.
-use Rattle.std.proofs.Common.{◌≡◌, ◌∙◌, ◌+◌, ◌&&◌, ℕ, Bool, true, false, if◌then◌else◌, List, [], ◌∷◌, ◌++◌, Option, None, Result, Ok, Err, map, nat_lt, length, suc, ◌==◌, rules, tests, sym, ap, refl}
-use Rattle.std.proofs.lemmas.List.{map-append}
-use Rattle.std.specs.List.{list_all}
-use Rattle.kob_acl_cli.specs.declared.args.CliArgs.{CliArgs}
-use Rattle.kob_names.specs.declared.settings.Settings.{Settings}
-use Rattle.kob_rights.specs.declared.event.Event.{Event}
-use Rattle.kob_script.specs.CommandLines.{events_of}
+use Rattle.kob_scene_text.proofs.Words.{Bool, CliArgs, Consumer, Err, Event, HasNoWorkerLine, Head, Journal, LateSetting, Law, List, Of, Ok, Option, ReadsAs, Request, Result, SceneFaultKind, Script, Seen, Service, Setting, Settings, ThenLines, Unknown, Word, [], ap, arith, as_line, as_scene, as_scripts, false, if◌then◌else◌, is_request, is_script_line, list_all, map-append, nat_lt, nat_tests, refl, rules, scene_of, suc, tests, true, with_head, with_setting, words_of, ℕ, ◌&&◌, ◌+◌, ◌==◌, ◌>>=◌, ◌>>>◌, ◌∙◌, ◌∷◌, ◌≡◌}
 use Rattle.kob_script.specs.declared.fault.Fault as script_fault
 use Rattle.kob_script.specs.declared.fault.FaultKind as script_kind
-use Rattle.kob_script.specs.declared.fault.FaultKind.TheVariants.{LateSetting}
-use Rattle.kob_script.specs.declared.script.Script.{Script}
-use Rattle.kob_script.specs.Reading.{◌>>=◌}
 use Rattle.kob_script.specs.Script as script
-use Rattle.kob_script.specs.Script.{is_setting, settings_with}
-use Rattle.kob_script.specs.Words.{Word, words_of}
-use Rattle.kob_scene_text.specs.declared.fault.SceneFaultKind.{SceneFaultKind}
 use Rattle.kob_scene_text.specs.declared.fault.SceneFaultKind.TheVariants as kinds
-use Rattle.kob_scene_text.specs.declared.line.Head.{Head}
-use Rattle.kob_scene_text.specs.declared.line.Head.TheVariants.{Setting, Service, Consumer, Journal, Law, Of, Unknown, Request}
-use Rattle.kob_scene_text.specs.Heads.{head_by_word}
-use Rattle.kob_scene_text.specs.Reading.{◌>>>◌, as_scripts}
-use Rattle.kob_scene_text.specs.SceneReadings.{LinesFrom, ReadsAs, ThenLines}
-use Rattle.kob_scene_text.specs.Scenes.{Seen, asked, with_head, with_line, with_setting, with_steps, with_words}
-use Rattle.kob_scene_text.specs.ScriptScenes.{HasNoWorkerLine, as_line, as_scene, is_request, is_script_line, scene_of}
+use Rattle.kob_scene_text.specs.SceneReadings.{LinesFrom}
+use Rattle.kob_scene_text.specs.Scenes.{with_line, with_words}
 
 both : (a b : Bool) → (a && b) ≡ true → (a ≡ true) × (b ≡ true)
 both true b e = (refl, e)
 both false b e = absurd cc
-
-settings_alike : (read : Result Settings script_kind.FaultKind)
-    → (as_scripts read >>> λ settings. Ok (scene_of (record { settings = settings; events = [] })))
-    ≡ as_line (read >>= λ settings. Ok (record { settings = settings; events = [] }))
-settings_alike (Ok settings) = refl
-settings_alike (Err kind) = refl
 
 not_none : (n : ℕ) → (suc n == 0) ≡ false
 not_none n = search (rules, tests)
@@ -48,25 +25,15 @@ late_alike early late x y e l = rw (e, l) refl
 setting_alike : (settings : Settings) (events : List Event) (first : Word) (arguments : List Word)
     → with_setting (scene_of (record { settings = settings; events = events })) first arguments
     ≡ as_line (script.with_setting (record { settings = settings; events = events }) first arguments)
-setting_alike settings [] first arguments = settings_alike (settings_with settings first arguments)
-setting_alike settings (event ∷ events) first arguments =
-    late_alike _ _ _ _ (ap (λ (none : Bool). none && true && true) (not_none (length (map asked events))))
-    (some (length events))
-
-events_alike : (s : Script) (read : Result (List Event) script_kind.FaultKind)
-    → (as_scripts read >>> λ events. Ok (with_steps (scene_of s) (map asked events)))
-    ≡ as_line (read >>= λ events. Ok (record { settings = s.settings; events = s.events ++ events }))
-events_alike s (Ok events) =
-    ap (λ steps. Ok (record { settings = s.settings; services = []; consumers = []; steps = steps }))
-    (sym (map-append asked s.events events))
-events_alike s (Err kind) = refl
+setting_alike settings [] first arguments = grind (arith, nat_tests)
+setting_alike settings (event ∷ events) first arguments = grind (arith, nat_tests, late_alike, not_none)
 
 head_alike : (answer : Option CliArgs) (s : Script) (first : Word) (rest : List Word) (setting : Bool) (head : Head)
     → (if setting then true else is_request head) ≡ true
     → with_head answer (if setting then Setting else head) (scene_of s) first rest
     ≡ as_line (if setting then script.with_setting s first rest else script.with_events answer s (first ∷ rest))
 head_alike answer s first rest true head plain = setting_alike s.settings s.events first rest
-head_alike answer s first rest false Request plain = events_alike s (events_of answer (first ∷ rest))
+head_alike answer s first rest false Request plain = grind (arith, nat_tests, map-append)
 head_alike answer s first rest false Setting plain = absurd cc
 head_alike answer s first rest false Service plain = absurd cc
 head_alike answer s first rest false Consumer plain = absurd cc
@@ -81,8 +48,7 @@ words_alike : (answer : Option CliArgs) (s : Script) (line : Result (List Word) 
 unfolding with_words
 words_alike answer s (Err kind) plain = refl
 words_alike answer s (Ok []) plain = refl
-words_alike answer s (Ok (first ∷ rest)) plain =
-    head_alike answer s first rest (is_setting first) (head_by_word None first.decoded rest) plain
+words_alike answer s (Ok (first ∷ rest)) plain = grind (arith, nat_tests, head_alike)
 
 then_alike : (number : ℕ) (lines : List (List ℕ)) (first : Result Script script_kind.FaultKind)
     (read : Result Script script_fault.Fault)

@@ -1,7 +1,4 @@
-use Rattle.std.proofs.Common.{arith}
-use Rattle.std.proofs.lemmas.Result.{err_from_is_err_and}
-use Rattle.kob_script.proofs.Each.{each_fails, each_keeps, each_ends}
-use Rattle.kob_scene_text.specs.Consumers.{place_of}
+use Rattle.kob_scene_text.proofs.Words.{arith, each_ends, each_fails, each_keeps, err_from_is_err_and, place_of}
 use Rattle.kob_scene_text.proofs.consumer_lines.each_place.Goals as goal
 
 pub returns-in_err-place : goal.returns-in_err-place

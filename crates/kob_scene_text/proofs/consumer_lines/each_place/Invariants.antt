@@ -1,7 +1,5 @@
 -- What was read, and then what the rest stands for, is what the words stand for.
-use Rattle.std.proofs.Common.{◌≡◌, drop}
-use Rattle.kob_script.specs.Reading.{each, with_front}
-use Rattle.kob_scene_text.specs.Consumers.{place_of}
+use Rattle.kob_scene_text.proofs.Words.{drop, each, place_of, with_front, ◌≡◌}
 use Rattle.kob_scene_text.proofs.consumer_lines.each_place.Given as goal
 
 abbrev pub invariant-loop-word : goal.invariant-loop-word

@@ -1,6 +1,5 @@
 -- The steps so far, and those that are left, are the steps before and all that was asked.
-use Rattle.std.proofs.Common.{◌≡◌, ◌++◌, length, map}
-use Rattle.kob_scene_text.specs.Scenes.{asked, told}
+use Rattle.kob_scene_text.proofs.Words.{asked, length, map, told, ◌++◌, ◌≡◌}
 use Rattle.kob_scene_text.proofs.line.push_others.Given as goal
 
 abbrev pub invariant-loop-event : goal.invariant-loop-event

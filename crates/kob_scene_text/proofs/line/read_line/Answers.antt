@@ -1,5 +1,4 @@
-use Rattle.std.proofs.lemmas.Result.{err_from_is_err_and}
-use Rattle.kob_scene_text.specs.Scenes.{so_far}
+use Rattle.kob_scene_text.proofs.Words.{err_from_is_err_and, so_far}
 use Rattle.kob_scene_text.proofs.SceneLines.{line_fails, line_read}
 use Rattle.kob_scene_text.proofs.line.read_line.Goals as goal
 

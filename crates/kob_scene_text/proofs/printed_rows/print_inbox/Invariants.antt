@@ -1,5 +1,4 @@
-use Rattle.std.proofs.Common.{◌≡◌, ◌++◌, flat_map, take}
-use Rattle.kob_scene_text.specs.PrintedRows.{inbox_item}
+use Rattle.kob_scene_text.proofs.Words.{flat_map, inbox_item, take, ◌++◌, ◌≡◌}
 use Rattle.kob_scene_text.proofs.printed_rows.print_inbox.Given as goal
 
 abbrev pub invariant-loop-row : goal.invariant-loop-row

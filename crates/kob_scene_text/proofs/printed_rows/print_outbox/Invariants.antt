@@ -1,5 +1,4 @@
-use Rattle.std.proofs.Common.{◌≡◌, ◌++◌, flat_map, take}
-use Rattle.kob_scene_text.specs.PrintedRows.{outbox_item}
+use Rattle.kob_scene_text.proofs.Words.{flat_map, outbox_item, take, ◌++◌, ◌≡◌}
 use Rattle.kob_scene_text.proofs.printed_rows.print_outbox.Given as goal
 
 abbrev pub invariant-loop-row : goal.invariant-loop-row

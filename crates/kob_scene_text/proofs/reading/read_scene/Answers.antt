@@ -1,5 +1,4 @@
-use Rattle.std.proofs.Common.{◌≡◌, ◌+◌, ℕ, arith, subst}
-use Rattle.kob_scene_text.specs.Scenes.{so_far}
+use Rattle.kob_scene_text.proofs.Words.{arith, so_far, subst, ℕ, ◌+◌, ◌≡◌}
 use Rattle.kob_scene_text.proofs.SceneLines.{Leads, line_keeps, line_stops, lines_end}
 use Rattle.kob_scene_text.proofs.reading.read_scene.Goals as goal
 

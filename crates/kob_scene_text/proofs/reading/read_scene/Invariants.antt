@@ -1,6 +1,5 @@
 -- What the lines that are left may be read as, the text may be.
-use Rattle.std.proofs.Common.{◌+◌}
-use Rattle.kob_scene_text.specs.Scenes.{so_far}
+use Rattle.kob_scene_text.proofs.Words.{so_far, ◌+◌}
 use Rattle.kob_scene_text.proofs.SceneLines.{Leads}
 use Rattle.kob_scene_text.proofs.reading.read_scene.Given as goal
 

@@ -1,5 +1,5 @@
 use Rattle.kob_scene_text.proofs.Ids.{no_id}
-use Rattle.uuid.specs.Text.{parsed}
+use Rattle.kob_scene_text.proofs.Words.{parsed}
 use Rattle.kob_scene_text.proofs.step_lines.id_in.Goals as goal
 
 pub returns-in-Err : goal.returns-in-Err
