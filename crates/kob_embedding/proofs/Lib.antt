@@ -1,4 +1,5 @@
-pub mod Servings
 pub mod Reachings
 pub mod ReservedExample
 pub mod Runs
+pub mod Servings
+mod Words

@@ -1,33 +1,12 @@
 -- What becomes of the runs of a service and of a consumer.
-use Rattle.std.proofs.Common.{◌≡◌, ℕ, ◌<◌, ◌^◌, List, [], ◌∷◌, ◌++◌, false, sym, ap, ◌∙◌, subst}
-use Rattle.std.specs.Prelude.{None, Result, Ok, Err, OnOk, OnErr}
-use Rattle.kob_outbox.specs.Contents.{Event, empty}
-use Rattle.kob_outbox.specs.Events.{id_text, stored_event}
-use Rattle.kob_outbox.specs.Fields.{first_bad}
-use Rattle.kob_outbox.specs.Recording.{after_record, is_recorded, next_seq}
-use Rattle.kob_outbox.specs.declared.change.Change.{Change}
-use Rattle.kob_outbox.specs.declared.event.OutboxEvent.{OutboxEvent}
-use Rattle.kob_outbox.specs.declared.fault.RecordFault.{RecordFault}
+use Rattle.kob_embedding.proofs.Words.{Call, Change, Err, Event, Fetcher, HasConsumerRun, HasRun, HasServiceRun, IsReaderRun, IsServiceRun, IsTick, List, None, Ok, OnErr, OnOk, OutboxEvent, RecordFault, RecordsNoRow, Relayed, Restarted, Result, Subscription, Target, Tick, [], after_record, arith, begins, dispatch_of, empty, false, first_bad, id_text, is_recorded, nat_tests, next_seq, records, scene_of, stored_event, subst, sym, ticks, ℕ, ◌++◌, ◌<◌, ◌^◌, ◌∷◌, ◌≡◌}
+use Rattle.kob_router.specs.Tick.{state_of}
 use Rattle.kob_inbox.specs.Contents.{Contents as Inbox}
 use Rattle.kob_inbox.specs.Run as consumer
-use Rattle.kob_inbox.specs.Run.Move.{Restarted}
 use Rattle.kob_inbox.specs.Tick as taken
-use Rattle.kob_inbox.specs.declared.fetcher.Fetcher.{Fetcher}
-use Rattle.kob_inbox.specs.declared.fetcher.Subscription.{Subscription}
 use Rattle.kob_inbox.specs.declared.tick.Tick as taken_tick
 use Rattle.kob_lines.proofs.ConsumerCourses as consumer_courses
-use Rattle.kob_lines.proofs.ConsumerCourses.{begins}
 use Rattle.kob_lines.proofs.ServiceCourses as service_courses
-use Rattle.kob_lines.proofs.ServiceCourses.{records, ticks}
-use Rattle.kob_lines.specs.ConsumerCourse.{HasConsumerRun}
-use Rattle.kob_lines.specs.Relayed.{IsTick, Relayed}
-use Rattle.kob_lines.specs.ServiceCourse.{HasServiceRun}
-use Rattle.kob_router.specs.Dispatches.{dispatch_of}
-use Rattle.kob_router.specs.Tick.{scene_of, state_of}
-use Rattle.kob_router.specs.declared.dispatch.Target.{Target}
-use Rattle.kob_router.specs.declared.line.Call.{Call}
-use Rattle.kob_router.specs.declared.tick.Tick.{Tick}
-use Rattle.kob_embedding.specs.Running.{HasRun, IsReaderRun, IsServiceRun, RecordsNoRow}
 
 -- a service begins
 
@@ -39,9 +18,7 @@ fresh target = record {
 
 pub service_begins : (r : Relayed) (target : Target) (calls : List Call) → r ≡ fresh target → calls ≡ []
     → HasRun r calls
-service_begins r target calls is none =
-    subst (λ (o : Relayed). HasRun o calls) (sym is)
-    ([], subst (λ (cs : List Call). IsServiceRun (fresh target) cs []) (sym none) (service_courses.begins (dispatch_of target)))
+service_begins r target calls is none = grind (arith, nat_tests)
 
 -- an event is recorded
 pub recorded : (old new : Relayed) (calls : List Call) (change : Change) (event : OutboxEvent)
@@ -67,8 +44,7 @@ run_of_a_record old new calls change event (Ok seq) was ok err fits fresh room =
   was.0 ++ stored_event (next_seq old.outbox) event ∷ [],
   recorded old new calls change event ok fits fresh room was.0 was.1,
 )
-run_of_a_record old new calls change event (Err fault) was ok err fits fresh room =
-    subst (λ (r : Relayed). HasRun r calls) (sym err) was
+run_of_a_record old new calls change event (Err fault) was ok err fits fresh room = grind (arith, nat_tests)
 
 pub rows_of_a_record : (old new : Relayed) (calls : List Call) (change : Change) (event : OutboxEvent)
     (result : Result ℕ RecordFault)
@@ -97,10 +73,7 @@ begun inbox = record { inbox = inbox; cursors = []; turn = 0 }
 
 pub consumer_begins : (f : Fetcher) (inbox : Inbox) (calls : List Call) → taken.state_of f inbox ≡ begun inbox
     → inbox ≡ [] → calls ≡ [] → IsReaderRun f inbox calls
-consumer_begins f inbox calls is empty none =
-    subst (λ (cs : List Call). IsReaderRun f inbox cs) (sym none)
-    (subst (λ (s : consumer.State). HasConsumerRun f.subscription s []) (sym (is ∙ ap begun empty))
-    (begins f.subscription))
+consumer_begins f inbox calls is empty none = grind (arith, nat_tests)
 
 pub consumer_ticked : (old new : Fetcher) (inbox then_inbox : Inbox) (calls then_calls : List Call)
     (unmade then_unmade : ℕ) (tick : taken_tick.Tick) → new.subscription ≡ old.subscription

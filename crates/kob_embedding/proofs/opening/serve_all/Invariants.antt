@@ -1,5 +1,4 @@
-use Rattle.std.proofs.Common.{◌≡◌, ◌++◌, take}
-use Rattle.kob_shared.specs.Journals.{events_of}
+use Rattle.kob_embedding.proofs.Words.{events_of, take, ◌++◌, ◌≡◌}
 use Rattle.kob_embedding.proofs.opening.serve_all.Given as goal
 
 abbrev pub invariant-loop-event : goal.invariant-loop-event

@@ -1,4 +1,4 @@
-use Rattle.std.proofs.Common.{length, ◌<◌, arith}
+use Rattle.kob_embedding.proofs.Words.{arith, length, ◌<◌}
 use Rattle.kob_embedding.proofs.Servings.{one_more}
 use Rattle.kob_embedding.proofs.part.are_served.Goals as goal
 

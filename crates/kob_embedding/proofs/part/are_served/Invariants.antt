@@ -1,6 +1,4 @@
-use Rattle.std.proofs.Common.{drop}
-use Rattle.kob_router.specs.Served.{AreServed}
-use Rattle.kob_pipeline.specs.Served.{served_to}
+use Rattle.kob_embedding.proofs.Words.{AreServed, drop, served_to}
 use Rattle.kob_embedding.proofs.part.are_served.Given as goal
 
 -- what holds of the calls and entries that are left makes it hold of all

@@ -1,5 +1,4 @@
-use Rattle.std.proofs.Common.{◌≡◌, ◌==◌, ◌<◌, true, false, length, ◌∙◌, arith}
-use Rattle.std.proofs.lemmas.Bool.{eq-eqb, ne_eqb}
+use Rattle.kob_embedding.proofs.Words.{arith, eq-eqb, false, length, ne_eqb, true, ◌<◌, ◌==◌, ◌∙◌, ◌≡◌}
 use Rattle.kob_embedding.proofs.Servings.{others, own}
 use Rattle.kob_embedding.proofs.part.next_of.Goals as goal
 

@@ -1,5 +1,4 @@
-use Rattle.std.proofs.Common.{◌≡◌, drop}
-use Rattle.kob_pipeline.specs.Served.{served_to}
+use Rattle.kob_embedding.proofs.Words.{drop, served_to, ◌≡◌}
 use Rattle.kob_embedding.proofs.part.next_of.Given as goal
 
 abbrev pub invariant-loop-place : goal.invariant-loop-place

@@ -1,5 +1,4 @@
-use Rattle.std.proofs.Common.{refl, ap, ◌∙◌}
-use Rattle.kob_inbox.specs.declared.fetcher.Fetcher.{Fetcher}
+use Rattle.kob_embedding.proofs.Words.{Fetcher, ap, refl, ◌∙◌}
 use Rattle.kob_embedding.proofs.Reachings.{delivered, private_in_it, served_in_it}
 use Rattle.kob_embedding.proofs.reaching.reaches_in_order.Goals as goal
 

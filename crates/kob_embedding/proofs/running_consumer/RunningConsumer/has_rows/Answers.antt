@@ -1,7 +1,4 @@
-use Rattle.std.proofs.Common.{◌≡◌, ◌≤◌, ◌∙◌, ap, arith, length, rules, sym}
-use Rattle.std.proofs.lemmas.List.{length-map}
-use Rattle.std.proofs.lemmas.List.FromFn.{length-enumerate_from}
-use Rattle.kob_inbox.specs.Rows.{placed_intake}
+use Rattle.kob_embedding.proofs.Words.{ap, arith, length, length-enumerate_from, length-map, placed_intake, rules, sym, ◌∙◌, ◌≡◌, ◌≤◌}
 use Rattle.kob_embedding.proofs.running_consumer.RunningConsumer.has_rows.Goals as goal
 
 pub returns-in-Took-clause-taken : goal.returns-in-Took-clause-taken

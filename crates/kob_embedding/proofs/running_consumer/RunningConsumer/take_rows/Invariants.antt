@@ -1,4 +1,4 @@
-use Rattle.std.proofs.Common.{◌≡◌}
+use Rattle.kob_embedding.proofs.Words.{◌≡◌}
 use Rattle.kob_embedding.proofs.running_consumer.RunningConsumer.take_rows.Given as goal
 
 abbrev pub invariant-loop : goal.invariant-loop

@@ -1,5 +1,4 @@
-use Rattle.std.proofs.Common.{◌≡◌}
-use Rattle.kob_embedding.specs.Running.{RecordsNoRow}
+use Rattle.kob_embedding.proofs.Words.{RecordsNoRow, ◌≡◌}
 use Rattle.kob_embedding.proofs.running_service.RunningService.send_all.Given as goal
 
 abbrev pub invariant-loop : goal.invariant-loop

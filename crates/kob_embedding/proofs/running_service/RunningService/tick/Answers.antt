@@ -1,5 +1,4 @@
-use Rattle.std.proofs.Common.{subst}
-use Rattle.kob_embedding.specs.Running.{RecordsNoRow}
+use Rattle.kob_embedding.proofs.Words.{RecordsNoRow, subst}
 use Rattle.kob_embedding.proofs.Runs.{ticked}
 use Rattle.kob_embedding.proofs.running_service.RunningService.tick.Goals as goal
 
