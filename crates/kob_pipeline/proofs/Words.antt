@@ -1,23 +1,28 @@
 -- The names that the lemmas cite, passed on from one place.
-pub use Rattle.kob_pipeline.specs.Words.{AllByRecursion, AllZip, AreServed, Arrival, AtDesk, Batch, Body, Call, CallFault, Contains, DeleteGroups, DeleteTopics, Denied, Dispatch, Dispatching, Done, EachIsAnswered, Entry, Fetch, InitProducerId, IsAnswered, IsConsumerRun, IsKept, IsLegal, IsRecordable, IsRouterRun, IsTrue, Loss, Noted, OffsetCommit, OffsetFetch, Place, Plain, Produce, Refused, Reply, Request, Retained, Served, Settings, Subscription, bytes_eq, dispatch_of, empty, enumerate_from, events_in, filter, filter_map, fold, history, id_text, list_any, notes_of, open_state, place_at, plain_meaning, range_with_len, records_of, same_place, stored_event, stored_row, taken_in, taken_of, told_in}
 pub use Rattle.kob_broker.specs.Change.{state_of}
-pub use Rattle.kob_broker.specs.State.{settings_of}
+pub use Rattle.kob_broker.specs.State.{open_state, settings_of}
 pub use Rattle.kob_inbox.proofs.Running.{run_takes_in}
 pub use Rattle.kob_inbox.specs.Contents.{Intake}
 pub use Rattle.kob_inbox.specs.Cursors.{cursor_of, with_cursor, with_progress}
-pub use Rattle.kob_inbox.specs.Intake.{arrivals, intake_of, is_there, with_intake, with_record}
-pub use Rattle.kob_inbox.specs.Run.{IsDue, after_answer, behind, due, taken_by}
+pub use Rattle.kob_inbox.specs.Intake.{Arrival, arrivals, intake_of, is_there, taken_in, with_intake, with_record}
+pub use Rattle.kob_inbox.specs.Run.{IsConsumerRun, IsDue, after_answer, behind, due, place_at, taken_by, taken_of}
 pub use Rattle.kob_inbox.specs.declared.cursors.Cursor.{Cursor}
+pub use Rattle.kob_inbox.specs.declared.fetcher.Subscription.{Subscription}
+pub use Rattle.kob_lines.specs.declared.lossy.Loss.{Loss}
 pub use Rattle.kob_names.specs.Binding.{Binding}
+pub use Rattle.kob_names.specs.declared.batch.Batch.{Batch}
 pub use Rattle.kob_names.specs.declared.batch.Idem.{Idem}
-pub use Rattle.kob_outbox.specs.Contents.{IsRising}
+pub use Rattle.kob_names.specs.declared.settings.Settings.{Settings}
+pub use Rattle.kob_outbox.specs.Contents.{IsRising, empty}
+pub use Rattle.kob_outbox.specs.Events.{id_text, stored_event, stored_row}
 pub use Rattle.kob_outbox.specs.Reading.{first_after, later_than, without_sent}
 pub use Rattle.kob_outbox.specs.Recording.{after_record, is_recorded, next_seq}
 pub use Rattle.kob_outbox.specs.declared.change.Change.{Change}
 pub use Rattle.kob_outbox.specs.declared.event.OutboxEvent.{OutboxEvent}
 pub use Rattle.kob_partition.proofs.Keeping.{records_of_append, records_of_push}
-pub use Rattle.kob_partition.specs.Batches.{history_from, sent_in}
+pub use Rattle.kob_partition.specs.Batches.{Plain, history, history_from, records_of, sent_in}
 pub use Rattle.kob_partition.specs.Limits.{fetch_limit}
+pub use Rattle.kob_partition.specs.Retained.{Retained, plain_meaning}
 pub use Rattle.kob_pipeline.specs.BrokerView.{batches_of, view_after, view_of}
 pub use Rattle.kob_pipeline.specs.Consumers.{IsConsumerStep, IsConsumption}
 pub use Rattle.kob_pipeline.specs.Delivery.{IsDelivered, IsRecordOf, goes_to, ids_of, routed_to, rows_of, told_id}
@@ -51,21 +56,31 @@ pub use Rattle.kob_producers.specs.declared.judge.Judgement.TheVariants.{Next, O
 pub use Rattle.kob_producers.specs.declared.sent.Sent.{Sent}
 pub use Rattle.kob_rights.specs.Check.{Check, on_group, on_topic}
 pub use Rattle.kob_rights.specs.Table.{produce_rights, rights}
-pub use Rattle.kob_rights.specs.declared.request.Request.TheVariants.{CreateTopics, DeleteRecords}
-pub use Rattle.kob_router.specs.Dispatches.{place_of}
+pub use Rattle.kob_rights.specs.declared.reply.Body.{Body}
+pub use Rattle.kob_rights.specs.declared.reply.Reply.{Reply}
+pub use Rattle.kob_rights.specs.declared.reply.Reply.TheVariants.{Denied, Done, Refused}
+pub use Rattle.kob_rights.specs.declared.request.Request.{Request}
+pub use Rattle.kob_rights.specs.declared.request.Request.TheVariants.{CreateTopics, DeleteGroups, DeleteRecords, DeleteTopics, Fetch, InitProducerId, OffsetCommit, OffsetFetch, Produce}
+pub use Rattle.kob_router.specs.Dispatches.{Dispatching, dispatch_of, place_of}
 pub use Rattle.kob_router.specs.HeaderId.{event_id}
-pub use Rattle.kob_router.specs.Places.{after_use, sequence_of, with_sequence_for}
-pub use Rattle.kob_router.specs.Run.{Hand, IsDone, IsSending, MayCall, after_acknowledgement, batch_of, producer_after}
+pub use Rattle.kob_router.specs.Places.{after_use, same_place, sequence_of, with_sequence_for}
+pub use Rattle.kob_router.specs.Run.{Hand, IsDone, IsRecordable, IsRouterRun, IsSending, MayCall, after_acknowledgement, batch_of, producer_after}
 pub use Rattle.kob_router.specs.Run.Move.{Recorded, Swept, Took}
+pub use Rattle.kob_router.specs.Served.{AreServed, Served}
 pub use Rattle.kob_router.specs.Tick.{IsFirst, IsOfTick}
+pub use Rattle.kob_router.specs.declared.dispatch.Dispatch.{Dispatch}
 pub use Rattle.kob_router.specs.declared.dispatch.Target.{Target}
+pub use Rattle.kob_router.specs.declared.line.Call.{Call}
+pub use Rattle.kob_router.specs.declared.place.Place.{Place}
 pub use Rattle.kob_router.specs.declared.sender.Producer.{Producer}
 pub use Rattle.kob_router.specs.declared.sequences.Sequence.{Sequence}
-pub use Rattle.kob_shared.specs.Fleets.{Follows, claims, mine_from}
-pub use Rattle.kob_shared.specs.Journals.{journaled_replies}
-pub use Rattle.kob_shared.specs.Noted.{IsHeard, event_at, nothing}
+pub use Rattle.kob_shared.specs.Fleets.{EachIsAnswered, Follows, IsAnswered, IsKept, claims, mine_from}
+pub use Rattle.kob_shared.specs.Journals.{IsLegal, journaled_replies}
+pub use Rattle.kob_shared.specs.Noted.{AtDesk, IsHeard, Noted, event_at, nothing}
 pub use Rattle.kob_shared.specs.Openings.{opened_by}
-pub use Rattle.kob_shared.specs.Runs.{IsAsNoted, IsFullOnlyPast, IsNamedWithin}
+pub use Rattle.kob_shared.specs.Runs.{IsAsNoted, IsFullOnlyPast, IsNamedWithin, events_in, notes_of, told_in}
+pub use Rattle.kob_shared.specs.declared.faults.CallFault.{CallFault}
+pub use Rattle.kob_shared.specs.declared.journal.Entry.{Entry}
 pub use Rattle.kob_shared.specs.declared.journal.Receipt.{Receipt}
 pub use Rattle.std.proofs.Common.{All, Bool, Err, IfOk, List, None, Ok, Option, Result, Some, [], ap, append-nil, append_assoc, arith, cond, drop, eqb-true, false, find, get_or, if◌then◌else◌, inl, inr, is_none, is_some, length, length-append, ltb, map, max, min, nat_eq, nat_lt, not, option_map, refl, slice_get, slice_index, slice_index_or, subst, suc, sym, take, take-suc, true, true≢false, zero, ℕ, ◌%◌, ◌&&◌, ◌++◌, ◌+◌, ◌-◌, ◌/◌, ◌<◌, ◌==◌, ◌^◌, ◌||◌, ◌∙◌, ◌∷◌, ◌≡◌, ◌≤◌, ◌⊎◌}
 pub use Rattle.std.proofs.lemmas.Bool.{and_from, and_parts, both_ways, cases_Bool, cases_cond, cases_eq, cond-false, eq-eqb, eqb-false, le-ltb, leb-false, lt-ltb, ltb-true}
@@ -77,5 +92,5 @@ pub use Rattle.std.proofs.lemmas.List.Folds.{list_any-append}
 pub use Rattle.std.proofs.lemmas.List.Sums.{fold-append}
 pub use Rattle.std.proofs.lemmas.Option.{get_or_from_slice_get, slice_get-get_or, slice_get-map, slice_get_within}
 pub use Rattle.std.proofs.lemmas.Simd.{map-map}
-pub use Rattle.std.specs.List.{cons_option}
-pub use Rattle.std.specs.Prelude.{IfNone, IfSome, option_and_then, unwrap_or}
+pub use Rattle.std.specs.List.{AllByRecursion, AllZip, cons_option, enumerate_from, filter_map, fold, list_any, range_with_len}
+pub use Rattle.std.specs.Prelude.{Contains, IfNone, IfSome, IsTrue, bytes_eq, filter, option_and_then, unwrap_or}

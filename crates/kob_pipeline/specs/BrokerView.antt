@@ -1,9 +1,16 @@
 -- What the laws of delivery see of a broker's state, where each partition is the list of its
 -- batches.
-use Rattle.kob_pipeline.specs.Words.{Batch, Entry, List, None, Option, Plain, Settings, Some, State, [], events_of, open_state, plain_meaning}
+use Rattle.std.specs.Prelude.{List, [], Option, None, Some}
+use Rattle.kob_names.specs.declared.batch.Batch.{Batch}
+use Rattle.kob_names.specs.declared.settings.Settings.{Settings}
+use Rattle.kob_partition.specs.Batches.{Plain}
+use Rattle.kob_partition.specs.Retained.{plain_meaning}
 use Rattle.kob_catalog.specs.Topics.{partition_of}
 use Rattle.kob_groups.specs.Groups.{committed_at, place_of}
+use Rattle.kob_broker.specs.State.{State, open_state}
 use Rattle.kob_broker.specs.Step.{state_after}
+use Rattle.kob_shared.specs.Journals.{events_of}
+use Rattle.kob_shared.specs.declared.journal.Entry.{Entry}
 use Rattle.kob_pipeline.specs.View.{View}
 
 -- the batches of a partition, if there is one

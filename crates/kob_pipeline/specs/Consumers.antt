@@ -1,16 +1,22 @@
 -- What the steps of a consumer do.
-use Rattle.kob_pipeline.specs.Words.{All, AreServed, IsConsumerRun, List, Loss, Noted, Subscription, [], enumerate_from, map, placed_intake, ◌∷◌, ◌≡◌}
-use Rattle.kob_inbox.specs.Run.{Move, State, calls_of, start}
+use Rattle.std.specs.Prelude.{◌≡◌, List, [], ◌∷◌, map}
+use Rattle.std.specs.List.{All, enumerate_from}
+use Rattle.kob_inbox.specs.Rows.{placed_intake}
+use Rattle.kob_inbox.specs.Run.{IsConsumerRun, Move, State, calls_of, start}
 use Rattle.kob_inbox.specs.Run.Move.{Restarted}
 use Rattle.kob_inbox.specs.Tick.{IsAnswer, unmade_by}
+use Rattle.kob_inbox.specs.declared.fetcher.Subscription.{Subscription}
 use Rattle.kob_inbox.specs.declared.tick.Tick.{Tick}
 use Rattle.kob_inbox.specs.declared.tick.Tick.TheVariants.{Stopped}
 use Rattle.kob_inbox.specs.declared.tick.StopReason.TheVariants as stop
+use Rattle.kob_shared.specs.Noted.{Noted}
 use Rattle.kob_pipeline.specs.declared.end.InboxEnd.{InboxEnd}
 use Rattle.kob_pipeline.specs.declared.plan.ConsumerPlan.{ConsumerPlan}
 use Rattle.kob_pipeline.specs.declared.plan.ConsumerStep.{ConsumerStep}
 use Rattle.kob_pipeline.specs.declared.plan.ConsumerStep.TheVariants as steps
+use Rattle.kob_lines.specs.declared.lossy.Loss.{Loss}
 use Rattle.kob_pipeline.specs.Losses.{AreServedByLoss, losses_of}
+use Rattle.kob_router.specs.Served.{AreServed}
 use Rattle.kob_pipeline.specs.Served.{served_by_notes}
 use Rattle.kob_pipeline.specs.Steps.{Steps}
 

@@ -1,5 +1,6 @@
 -- How much a plan asks for.
-use Rattle.kob_pipeline.specs.Words.{length, sum_by, vec_len, ℕ, ◌*◌, ◌+◌}
+use Rattle.std.specs.Prelude.{ℕ, ◌+◌, ◌*◌, length, vec_len}
+use Rattle.std.specs.List.{sum_by}
 use Rattle.kob_pipeline.specs.declared.plan.Plan.{Plan}
 
 -- how many workers there are

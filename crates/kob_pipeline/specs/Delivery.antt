@@ -1,7 +1,15 @@
 -- What a router leaves on a partition.
-use Rattle.kob_pipeline.specs.Words.{AllByRecursion, Bool, Contains, Dispatch, Dispatching, Event, List, Move, None, Option, Place, Record, Some, bytes_eq, empty, false, filter, filter_map, id_text, map, option_map, same_place, ℕ, ◌≡◌}
+use Rattle.std.specs.Prelude.{◌≡◌, ℕ, List, Bool, false, filter, map, Contains, Option, None, Some, option_map, bytes_eq}
+use Rattle.std.specs.List.{AllByRecursion, filter_map}
+use Rattle.kob_names.specs.declared.record.Record.{Record}
+use Rattle.kob_outbox.specs.Contents.{Event, empty}
+use Rattle.kob_outbox.specs.Events.{id_text}
+use Rattle.kob_router.specs.Dispatches.{Dispatching}
 use Rattle.kob_router.specs.HeaderId.{event_id}
-use Rattle.kob_router.specs.Run.{events_of}
+use Rattle.kob_router.specs.Places.{same_place}
+use Rattle.kob_router.specs.Run.{Move, events_of}
+use Rattle.kob_router.specs.declared.dispatch.Dispatch.{Dispatch}
+use Rattle.kob_router.specs.declared.place.Place.{Place}
 use Rattle.kob_pipeline.specs.Firsts.{IsPrefixOf, firsts}
 
 -- the rows that the moves of a service recorded, swept ones included, with their numbers from 1 on

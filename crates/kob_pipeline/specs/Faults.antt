@@ -1,7 +1,10 @@
 -- How a pipeline may fail.
-use Rattle.kob_pipeline.specs.Words.{EachIsAnswered, IsTornAt, IsWorkerWithin, Settings, events_in, notes_of, told_in, ℕ, ◌≡◌}
+use Rattle.std.specs.Prelude.{◌≡◌, ℕ}
+use Rattle.kob_names.specs.declared.settings.Settings.{Settings}
 use Rattle.kob_shared.specs.declared.fleet_stop.FleetStop.{FleetStop}
 use Rattle.kob_shared.specs.declared.fleet_stop.FleetStop.TheVariants as stops
+use Rattle.kob_shared.specs.Fleets.{EachIsAnswered, IsTornAt, IsWorkerWithin}
+use Rattle.kob_shared.specs.Runs.{events_in, notes_of, told_in}
 use Rattle.kob_pipeline.specs.declared.fault.PipelineFault.{PipelineFault}
 use Rattle.kob_pipeline.specs.declared.fault.PipelineFault.TheVariants.{TooManyWorkers, JournalFull, NotBegun, Memory, Stale, Full, Torn}
 

@@ -1,5 +1,6 @@
 -- Lists with each element at its first place, and beginnings of lists.
-use Rattle.kob_pipeline.specs.Words.{Bool, List, [], fold, if◌then◌else◌, list_any, ◌++◌, ◌∷◌, ◌≡◌}
+use Rattle.std.specs.Prelude.{◌≡◌, List, [], ◌∷◌, ◌++◌, Bool, if◌then◌else◌}
+use Rattle.std.specs.List.{fold, list_any}
 
 -- the first list begins the second
 abbrev pub IsPrefixOf : {A : Type 0} → List A → List A → Type 0

@@ -1,4 +1,3 @@
-pub mod Words
 pub mod Delivery
 pub mod Firsts
 pub mod Parts

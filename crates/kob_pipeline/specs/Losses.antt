@@ -1,7 +1,13 @@
 -- Which calls of a worker are lost, and what that leaves of them.
-use Rattle.kob_pipeline.specs.Words.{All, AtDesk, Call, CallFault, List, Loss, None, Option, Served, Some, [], ℕ, ◌++◌, ◌∷◌, ◌≡◌}
+use Rattle.std.specs.Prelude.{◌≡◌, ℕ, List, [], ◌∷◌, ◌++◌, Option, None, Some}
+use Rattle.std.specs.List.{All}
 use Rattle.kob_rights.specs.declared.event.Event.{Event}
+use Rattle.kob_router.specs.declared.line.Call.{Call}
+use Rattle.kob_shared.specs.Noted.{AtDesk}
+use Rattle.kob_shared.specs.declared.faults.CallFault.{CallFault}
+use Rattle.kob_lines.specs.declared.lossy.Loss.{Loss}
 use Rattle.kob_lines.specs.declared.lossy.Loss.TheVariants as losses
+use Rattle.kob_router.specs.Served.{Served}
 use Rattle.kob_pipeline.specs.Served.{served_by_notes}
 
 -- how the calls of a tick are lost: its loss is that of the first

@@ -1,9 +1,14 @@
 -- Calls after calls at a desk.
-use Rattle.kob_pipeline.specs.Words.{All, AtDesk, Call, CallFault, Loss, Served}
 use Rattle.std.proofs.Common.{◌≡◌, List, [], ◌∷◌, ◌++◌, Option, None, refl, sym, ap, ◌∙◌, subst, append_assoc, append-nil}
+use Rattle.std.specs.List.{All}
 use Rattle.std.proofs.lemmas.List.Elements.{All-append, All-nil}
+use Rattle.kob_router.specs.Served.{Served}
+use Rattle.kob_router.specs.declared.line.Call.{Call}
+use Rattle.kob_shared.specs.Noted.{AtDesk}
+use Rattle.kob_shared.specs.declared.faults.CallFault.{CallFault}
 use Rattle.kob_pipeline.specs.Losses.{AreMade, AreNoted, AreServedByLoss, IsEventOf, loss_after, losses_of}
 use Rattle.kob_pipeline.specs.Served.{served_by_notes}
+use Rattle.kob_lines.specs.declared.lossy.Loss.{Loss}
 use Rattle.kob_lines.specs.declared.lossy.Loss.TheVariants as lost
 
 -- ---- losses

@@ -1,8 +1,12 @@
 -- The parts that workers have in a journal: runs whose calls are those that it served to them.
-use Rattle.kob_pipeline.specs.Words.{AreServed, Entry, List, Subscription, dispatch_of, ℕ}
+use Rattle.std.specs.Prelude.{ℕ, List}
+use Rattle.kob_router.specs.Dispatches.{dispatch_of}
 use Rattle.kob_router.specs.Run as router
 use Rattle.kob_router.specs.declared.dispatch.Target.{Target}
 use Rattle.kob_inbox.specs.Run as consumer
+use Rattle.kob_inbox.specs.declared.fetcher.Subscription.{Subscription}
+use Rattle.kob_shared.specs.declared.journal.Entry.{Entry}
+use Rattle.kob_router.specs.Served.{AreServed}
 use Rattle.kob_pipeline.specs.Served.{served_to}
 
 -- a service and its router, from an empty outbox on

@@ -1,8 +1,15 @@
 -- What a pipeline leaves of a plan.
-use Rattle.kob_pipeline.specs.Words.{AllZip, BeginsWith, EachIsAnswered, IsKept, IsLegal, List, Noted, Retained, Some, State, events_in, length, notes_of, option_map, slice_get, told_in, ℕ, ◌+◌, ◌≡◌}
+use Rattle.std.specs.Prelude.{◌≡◌, ℕ, ◌+◌, List, length, Some, option_map, slice_get}
+use Rattle.std.specs.List.{AllZip}
 use Rattle.kob_broker.specs.Change.{state_of}
+use Rattle.kob_broker.specs.State.{State}
+use Rattle.kob_partition.specs.Retained.{Retained}
 use Rattle.kob_rights.specs.declared.event.Event.{Event}
+use Rattle.kob_shared.specs.Fleets.{BeginsWith, EachIsAnswered, IsKept}
+use Rattle.kob_shared.specs.Journals.{IsLegal}
+use Rattle.kob_shared.specs.Noted.{Noted}
 use Rattle.kob_shared.specs.Openings.{opened_by}
+use Rattle.kob_shared.specs.Runs.{events_in, notes_of, told_in}
 use Rattle.kob_shared.specs.declared.work.Done.{Done}
 use Rattle.kob_pipeline.specs.declared.end.PipelineEnd.{PipelineEnd}
 use Rattle.kob_pipeline.specs.declared.end.WorkerEnd.{WorkerEnd}

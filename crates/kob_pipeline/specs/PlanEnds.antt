@@ -1,8 +1,18 @@
 -- What a pipeline leaves of partitions, outboxes and inboxes, as the laws speak of it.
-use Rattle.kob_pipeline.specs.Words.{AllByRecursion, List, Noted, Place, Record, Some, [], dispatch_of, map, placed_intake, records_of, slice_get, stored_row, taken_in, taken_of, ℕ, ◌≡◌}
+use Rattle.std.specs.Prelude.{◌≡◌, ℕ, List, [], map, Some, slice_get}
+use Rattle.std.specs.List.{AllByRecursion}
+use Rattle.kob_names.specs.declared.record.Record.{Record}
+use Rattle.kob_partition.specs.Batches.{records_of}
 use Rattle.kob_outbox.specs.Contents as outboxes
+use Rattle.kob_outbox.specs.Events.{stored_row}
+use Rattle.kob_router.specs.Dispatches.{dispatch_of}
+use Rattle.kob_router.specs.declared.place.Place.{Place}
 use Rattle.kob_inbox.specs.Contents as inboxes
+use Rattle.kob_inbox.specs.Intake.{taken_in}
+use Rattle.kob_inbox.specs.Rows.{placed_intake}
+use Rattle.kob_inbox.specs.Run.{taken_of}
 use Rattle.kob_inbox.specs.declared.inbox_row.InboxRow.{InboxRow}
+use Rattle.kob_shared.specs.Noted.{Noted}
 use Rattle.kob_pipeline.specs.BrokerView.{view_after}
 use Rattle.kob_pipeline.specs.Taking.{IsTakenInOrder}
 use Rattle.kob_pipeline.specs.PlanRows.{rows_of_service}

@@ -1,5 +1,7 @@
 -- The rows that a plan's services record.
-use Rattle.kob_pipeline.specs.Words.{Bool, Event, List, [], id_text, if◌then◌else◌, is_none, length, nat_lt, not, stored_event, suc, ℕ, ◌&&◌, ◌++◌, ◌^◌, ◌∷◌}
+use Rattle.std.specs.Prelude.{ℕ, suc, ◌^◌, List, [], ◌∷◌, ◌++◌, Bool, not, ◌&&◌, if◌then◌else◌, is_none, length, nat_lt}
+use Rattle.kob_outbox.specs.Contents.{Event}
+use Rattle.kob_outbox.specs.Events.{id_text, stored_event}
 use Rattle.kob_outbox.specs.Fields.{first_bad}
 use Rattle.kob_outbox.specs.Recording.{is_recorded}
 use Rattle.kob_outbox.specs.declared.change.Change.{Change}

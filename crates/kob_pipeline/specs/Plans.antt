@@ -1,5 +1,6 @@
 -- Plans that may be run.
-use Rattle.kob_pipeline.specs.Words.{All, length, ◌≤◌}
+use Rattle.std.specs.Prelude.{◌≤◌, length}
+use Rattle.std.specs.List.{All}
 use Rattle.kob_pipeline.specs.declared.plan.Plan.{Plan}
 
 -- the topics of each service have 1 to 1,000 partitions, and there are at most 100,000 opening

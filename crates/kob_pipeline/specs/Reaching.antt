@@ -1,5 +1,7 @@
 -- What reaches an inbox of the events of an aggregate.
-use Rattle.kob_pipeline.specs.Words.{AllByRecursion, Bool, Contains, Event, IsDistinct, List, Some, bytes_eq, filter, list_any, map, ℕ, ◌&&◌, ◌≡◌}
+use Rattle.std.specs.Prelude.{◌≡◌, ℕ, List, Bool, ◌&&◌, filter, map, Contains, Some, bytes_eq}
+use Rattle.std.specs.List.{AllByRecursion, IsDistinct, list_any}
+use Rattle.kob_outbox.specs.Contents.{Event}
 use Rattle.kob_inbox.specs.Contents.{Contents, Intake}
 use Rattle.kob_pipeline.specs.Delivery.{ids_of}
 use Rattle.kob_pipeline.specs.Firsts.{IsPrefixOf}

@@ -1,6 +1,8 @@
 -- Which calls of a worker were served.
-use Rattle.kob_pipeline.specs.Words.{Entry, List, Served, [], if◌then◌else◌, ℕ, ◌==◌, ◌∷◌}
+use Rattle.std.specs.Prelude.{ℕ, List, [], ◌∷◌, if◌then◌else◌, ◌==◌}
 use Rattle.kob_rights.specs.declared.event.Event.{Event}
+use Rattle.kob_router.specs.Served.{Served}
+use Rattle.kob_shared.specs.declared.journal.Entry.{Entry}
 use Rattle.kob_shared.specs.declared.journal.Receipt.{Receipt}
 
 abbrev pub served_in : Entry → Served

@@ -1,16 +1,22 @@
 -- What the steps of a service do.
-use Rattle.kob_pipeline.specs.Words.{All, AllByRecursion, AreServed, Dispatching, IsRecordable, IsRouterRun, List, Loss, Move, Noted, [], calls_of, dispatch_of, map, start, stored_row, ◌∷◌, ◌≡◌, ◌⊎◌}
-use Rattle.kob_router.specs.Run.{State}
+use Rattle.std.specs.Prelude.{◌≡◌, ◌⊎◌, List, [], ◌∷◌, map}
+use Rattle.std.specs.List.{All, AllByRecursion}
+use Rattle.kob_outbox.specs.Events.{stored_row}
+use Rattle.kob_router.specs.Dispatches.{Dispatching, dispatch_of}
+use Rattle.kob_router.specs.Run.{IsRecordable, IsRouterRun, Move, State, calls_of, start}
 use Rattle.kob_router.specs.Run.Move.{Recorded, Restarted, Swept}
 use Rattle.kob_router.specs.Tick.{IsAnswer, IsOfTick, IsOneTick}
 use Rattle.kob_router.specs.declared.tick.Tick.{Tick}
 use Rattle.kob_router.specs.declared.tick.Tick.TheVariants.{Stopped}
 use Rattle.kob_router.specs.declared.tick.StopReason.TheVariants as stop
+use Rattle.kob_shared.specs.Noted.{Noted}
 use Rattle.kob_pipeline.specs.declared.end.OutboxEnd.{OutboxEnd}
+use Rattle.kob_lines.specs.declared.lossy.Loss.{Loss}
 use Rattle.kob_pipeline.specs.declared.plan.Service.{Service}
 use Rattle.kob_pipeline.specs.declared.plan.ServiceStep.{ServiceStep}
 use Rattle.kob_pipeline.specs.declared.plan.ServiceStep.TheVariants as steps
 use Rattle.kob_pipeline.specs.Losses.{AreServedByLoss, losses_of}
+use Rattle.kob_router.specs.Served.{AreServed}
 use Rattle.kob_pipeline.specs.Served.{served_by_notes}
 use Rattle.kob_pipeline.specs.Steps.{Steps}
 

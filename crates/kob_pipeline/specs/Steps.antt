@@ -1,5 +1,8 @@
 -- Steps of a worker, one after another.
-use Rattle.kob_pipeline.specs.Words.{AtDesk, Call, List, Loss, [], ◌++◌, ◌∷◌, ◌≡◌}
+use Rattle.std.specs.Prelude.{◌≡◌, List, [], ◌∷◌, ◌++◌}
+use Rattle.kob_router.specs.declared.line.Call.{Call}
+use Rattle.kob_shared.specs.Noted.{AtDesk}
+use Rattle.kob_lines.specs.declared.lossy.Loss.{Loss}
 use Rattle.kob_pipeline.specs.Losses.{AreNoted}
 
 -- what one kind of step does: it leads from a state to another by these moves, whose calls have

@@ -1,5 +1,10 @@
 -- What a consumer takes in of a partition.
-use Rattle.kob_pipeline.specs.Words.{AllByRecursion, Arrival, List, Place, Record, Some, filter, map, nat_eq, range_with_len, same_place, slice_get, ℕ, ◌≡◌}
+use Rattle.std.specs.Prelude.{◌≡◌, ℕ, List, filter, map, nat_eq, slice_get, Some}
+use Rattle.std.specs.List.{AllByRecursion, range_with_len}
+use Rattle.kob_names.specs.declared.record.Record.{Record}
+use Rattle.kob_router.specs.Places.{same_place}
+use Rattle.kob_router.specs.declared.place.Place.{Place}
+use Rattle.kob_inbox.specs.Intake.{Arrival}
 use Rattle.kob_pipeline.specs.Firsts.{firsts}
 
 -- what arrived from a place

@@ -1,6 +1,13 @@
 -- That no recorded row is lost.
-use Rattle.kob_pipeline.specs.Words.{Body, Contains, Contents, Dispatch, Dispatching, Done, Entry, Event, List, Produce, Some, [], ℕ, ◌<◌, ◌∷◌, ◌≡◌, ◌⊎◌}
+use Rattle.std.specs.Prelude.{◌≡◌, ◌⊎◌, ◌<◌, ℕ, List, [], ◌∷◌, Contains, Some}
+use Rattle.kob_outbox.specs.Contents.{Contents, Event}
 use Rattle.kob_rights.specs.declared.on_partitions.Produce.{Produce as ProduceRequest}
+use Rattle.kob_rights.specs.declared.reply.Body.{Body}
+use Rattle.kob_rights.specs.declared.reply.Reply.TheVariants.{Done}
+use Rattle.kob_rights.specs.declared.request.Request.TheVariants.{Produce}
+use Rattle.kob_router.specs.Dispatches.{Dispatching}
+use Rattle.kob_router.specs.declared.dispatch.Dispatch.{Dispatch}
+use Rattle.kob_shared.specs.declared.journal.Entry.{Entry}
 
 -- the entry is a PRODUCE of the worker that was done: of the record that the route makes of the
 -- row, to the place where the row is routed

@@ -1,7 +1,13 @@
 -- What the workers of a pipeline leave.
-use Rattle.kob_pipeline.specs.Words.{AtDesk, IsAnswered, List, Noted, dispatch_of, enumerate_from, events_of_script, length, map, placed_intake, stored_row, ◌++◌, ◌≡◌}
+use Rattle.std.specs.Prelude.{◌≡◌, List, ◌++◌, length, map}
+use Rattle.std.specs.List.{enumerate_from}
+use Rattle.kob_inbox.specs.Rows.{placed_intake}
 use Rattle.kob_inbox.specs.Run as consumers
+use Rattle.kob_outbox.specs.Events.{stored_row}
+use Rattle.kob_router.specs.Dispatches.{dispatch_of}
 use Rattle.kob_router.specs.Run as routers
+use Rattle.kob_shared.specs.Fleets.{IsAnswered, events_of_script}
+use Rattle.kob_shared.specs.Noted.{AtDesk, Noted}
 use Rattle.kob_shared.specs.declared.script.Script.{Script}
 use Rattle.kob_shared.specs.declared.work.Done.{Done}
 use Rattle.kob_pipeline.specs.declared.end.InboxEnd.{InboxEnd}

@@ -1,13 +1,15 @@
 -- The names that the lemmas cite, passed on from one place.
-pub use Rattle.kob_shared.specs.Words.{Event, Retained, Settings, State, if◌then◌else◌, replies_of, retained_meaning, state_after, step, ◌==◌}
 pub use Rattle.kob_authorizer.proofs.InTurn.{added_rises, in_turn_at_once}
 pub use Rattle.kob_broker.proofs.Runs.{replies_of_append, reply_at, state_after_append}
 pub use Rattle.kob_broker.specs.Change.{state_of}
-pub use Rattle.kob_broker.specs.State.{settings_of, with_bindings}
-pub use Rattle.kob_broker.specs.Step.{step_by}
+pub use Rattle.kob_broker.specs.State.{State, settings_of, with_bindings}
+pub use Rattle.kob_broker.specs.Step.{replies_of, state_after, step, step_by}
 pub use Rattle.kob_broker.specs.declared.broker.Broker.{Broker}
+pub use Rattle.kob_names.specs.declared.settings.Settings.{Settings}
+pub use Rattle.kob_partition.specs.Retained.{Retained, retained_meaning}
 pub use Rattle.kob_rights.specs.Bodies.{Fits, IsBodyOf}
 pub use Rattle.kob_rights.specs.Offsets.{OffsetsWithin}
+pub use Rattle.kob_rights.specs.declared.event.Event.{Event}
 pub use Rattle.kob_rights.specs.declared.reply.Reply.{Reply}
 pub use Rattle.kob_shared.specs.Fleets.{BeginsWith, DifferAt, EachIsAnswered, Follows, IsAnswered, IsDifference, IsFirstDifference, IsFleet, IsKept, IsRising, IsTornAt, RisesWithin, asked_of_all, claims, claims_of, entries_asked, entries_told, events_of_script, mine, mine_from}
 pub use Rattle.kob_shared.specs.Journals.{IsLegal, IsSound, Record, after_event, entry, events_of, journaled_replies, outcome_of}
@@ -32,4 +34,4 @@ pub use Rattle.std.proofs.lemmas.Bool.Decides.{nat_tests}
 pub use Rattle.std.proofs.lemmas.List.{get_or-map, get_or_past, length-map, length-take, length-take-le, map-append, take-map}
 pub use Rattle.std.proofs.lemmas.Option.{get_or_from_slice_get, slice_get-get_or, slice_get-map, slice_get_cases, slice_get_read, slice_get_within}
 pub use Rattle.std.specs.List.{All, AllZip, enumerate_from, fold, sum_by}
-pub use Rattle.std.specs.Prelude.{IfSome, MatchOption, OnErr, OnOk, filter, nat_le}
+pub use Rattle.std.specs.Prelude.{IfSome, MatchOption, OnErr, OnOk, filter, if◌then◌else◌, nat_le, ◌==◌}

@@ -1,4 +1,3 @@
-pub mod Words
 pub mod Limits
 pub mod Openings
 pub mod Journals

@@ -1,5 +1,7 @@
 -- What the workers of a fleet left.
-use Rattle.kob_shared.specs.Words.{Err, Event, List, Ok, Result, Settings, Some, length, map, slice_get, take, ℕ, ◌+◌, ◌<◌, ◌∷◌, ◌≡◌, ◌≤◌}
+use Rattle.std.specs.Prelude.{◌≡◌, ℕ, ◌+◌, ◌<◌, ◌≤◌, List, ◌∷◌, length, map, take, Result, Ok, Err, Some, slice_get}
+use Rattle.kob_rights.specs.declared.event.Event.{Event}
+use Rattle.kob_names.specs.declared.settings.Settings.{Settings}
 use Rattle.kob_shared.specs.declared.compare.Difference.{Difference}
 use Rattle.kob_shared.specs.declared.faults.CallFault.{CallFault}
 use Rattle.kob_shared.specs.declared.faults.CallFault.TheVariants as calls

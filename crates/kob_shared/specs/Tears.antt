@@ -1,5 +1,7 @@
 -- When a fleet is torn.
-use Rattle.kob_shared.specs.Words.{Event, List, Settings, ℕ}
+use Rattle.std.specs.Prelude.{ℕ, List}
+use Rattle.kob_rights.specs.declared.event.Event.{Event}
+use Rattle.kob_names.specs.declared.settings.Settings.{Settings}
 use Rattle.kob_shared.specs.declared.fleet_fault.FleetFault.{FleetFault}
 use Rattle.kob_shared.specs.declared.fleet_fault.FleetFault.TheVariants.{TooManyWorkers, JournalFull, Stale, Full, Torn}
 use Rattle.kob_shared.specs.Fleets.{EachIsAnswered, IsTornAt, IsWorkerWithin}
