@@ -1,16 +1,5 @@
 -- What is answered about the laws.
-use Rattle.std.proofs.Common.{◌≡◌, ℕ, List, ◌++◌, ap, ◌∙◌, refl, rules}
-use Rattle.std.specs.Prelude.{Err, MatchOption, Ok, OnOk, Option, Result, Some, slice_get}
-use Rattle.kob_inbox.specs.declared.fetcher.Subscription.{Subscription}
-use Rattle.kob_pipeline.specs.Premises.{ArePrivate, IsBreach}
-use Rattle.kob_pipeline.specs.declared.premises.Breach.{Breach}
-use Rattle.kob_router.specs.Line.{one_more}
-use Rattle.kob_scene_play.specs.Laws.{IsAnswered, IsLaw, law_text}
-use Rattle.kob_scene_play.specs.Printing.{Tells}
-use Rattle.kob_scene_play.specs.declared.stage.PlayedConsumer.{PlayedConsumer}
-use Rattle.kob_scene_play.specs.declared.stage.PlayedService.{PlayedService}
-use Rattle.kob_scene_play.specs.declared.stage.Stage.{Stage}
-use Rattle.kob_shared.specs.declared.journal.Entry.{Entry}
+use Rattle.kob_scene_play.proofs.Words.{ArePrivate, Breach, Entry, Err, IsAnswered, IsBreach, IsLaw, List, MatchOption, Ok, OnOk, Option, PlayedConsumer, PlayedService, Result, Some, Stage, Subscription, Tells, ap, law_text, one_more, refl, slice_get, ℕ, ◌++◌, ◌∙◌, ◌≡◌}
 
 -- the text of what was found
 pub answered : (sender taker : ℕ) (subscription : Subscription) (journal : List Entry) (told number : ℕ)

@@ -1,10 +1,6 @@
 -- A consumer's run of ticks, one tick after another.
-use Rattle.std.proofs.Common.{◌≡◌, ℕ, List, [], ◌∷◌, ◌++◌, refl, sym, append-nil}
-use Rattle.std.specs.Prelude.{None}
+use Rattle.kob_scene_play.proofs.Words.{Consumer, IsConsumerStep, List, None, Tells, [], append-nil, refl, sym, ℕ, ◌++◌, ◌∷◌}
 use Rattle.kob_scene_play.proofs.Running.{joined}
-use Rattle.kob_scene_play.specs.Printing.{Tells}
-use Rattle.kob_scene_play.specs.Steps.{IsConsumerStep}
-use Rattle.kob_scene_play.specs.Workers.{Consumer}
 use Rattle.kob_scene_text.specs.declared.scene.ConsumerStep.TheVariants as consumer_steps
 
 -- none at first

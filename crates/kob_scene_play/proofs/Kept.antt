@@ -1,23 +1,6 @@
 -- What is in hand stays the first row after the mark; what a record answered.
-use Rattle.std.proofs.Common.{◌≡◌, ℕ, refl, sym, subst}
-use Rattle.std.specs.Prelude.{Err, IfOk, IsErrOf, IsTrue, OnErr, OnOk, Ok, Option, Result, Some}
-use Rattle.kob_outbox.specs.Contents.{Contents}
-use Rattle.kob_outbox.specs.Reading.{without_sent}
-use Rattle.kob_outbox.specs.Fields.{first_bad}
-use Rattle.kob_outbox.specs.Events.{id_text}
-use Rattle.kob_outbox.specs.Recording.{after_record, is_recorded, next_seq}
-use Rattle.kob_outbox.specs.declared.change.Change.{Change}
-use Rattle.kob_outbox.specs.declared.event.OutboxEvent.{OutboxEvent}
-use Rattle.kob_outbox.specs.declared.fault.OutboxFault.{OutboxFault}
-use Rattle.kob_outbox.specs.declared.fields.Column.{Column}
-use Rattle.kob_outbox.specs.declared.fault.RecordFault.{RecordFault}
+use Rattle.kob_scene_play.proofs.Words.{Change, Column, Contents, Does, Err, Hand, IfOk, IsErrOf, IsFirst, IsTrue, Ok, OnErr, OnOk, Option, OutboxEvent, OutboxFault, RecordFault, Recorded, Records, Result, Service, Some, after_record, first_bad, first_recorded, first_swept, id_text, is_recorded, next_seq, refl, subst, sym, without_sent, ℕ, ◌≡◌}
 use Rattle.kob_outbox.specs.declared.fault.RecordFault.TheVariants as faults
-use Rattle.kob_pipeline.proofs.Outboxes.{first_recorded, first_swept}
-use Rattle.kob_router.specs.Run.{Hand}
-use Rattle.kob_router.specs.Run.Move.{Recorded}
-use Rattle.kob_router.specs.Tick.{IsFirst}
-use Rattle.kob_scene_play.specs.Steps.{Records}
-use Rattle.kob_scene_play.specs.Workers.{Does, Service}
 
 pub first_after_record : (hand : Option Hand) (old new : Contents) (change : Change) (event : OutboxEvent)
     (result : Result ℕ RecordFault) → IsFirst hand old → OnOk result (new ≡ after_record old change event)

@@ -6,4 +6,5 @@ pub mod Places
 pub mod Played
 pub mod Running
 pub mod Ticking
+mod Words
 pub mod Written

@@ -1,7 +1,5 @@
 -- A list in which one element was changed in its place.
-use Rattle.std.proofs.Common.{◌≡◌, ℕ, zero, suc, List, [], ◌∷◌, refl, sym, ap, set}
-use Rattle.std.proofs.lemmas.Option.{none-some}
-use Rattle.std.specs.Prelude.{Option, None, Some, slice_get}
+use Rattle.kob_scene_play.proofs.Words.{List, None, Option, Some, [], ap, none-some, refl, set, slice_get, suc, sym, zero, ℕ, ◌∷◌, ◌≡◌}
 
 -- what was put stands at its place
 pub put_at : {A : Type 0} (xs : List A) (i : ℕ) (was x : A) → slice_get xs i ≡ Some was → slice_get (set xs i x) i ≡ Some x

@@ -1,23 +1,6 @@
 -- The steps of a scene, one after another.
-use Rattle.std.proofs.Common.{◌≡◌, ℕ, List, [], ◌∷◌, ◌++◌, refl, sym, ap, subst, ◌∙◌, append_assoc, append-nil, set}
-use Rattle.std.proofs.KnownBytes.{Appends-nil, Appends-trans}
-use Rattle.std.specs.Io.KnownBytes.{Appends}
-use Rattle.std.specs.Prelude.{Err, OnOk, Ok, Option, Result, Some, map, slice_get}
-use Rattle.kob_router.specs.Line.{one_more}
-use Rattle.kob_scene_play.specs.Laws.{IsAnswered}
+use Rattle.kob_scene_play.proofs.Words.{Appends, Appends-trans, ArePlayed, ConsumerKeeps, ConsumerStep, Err, IsAnswered, IsConsumerStep, IsOpened, IsRead, IsServed, IsServiceStep, IsStep, List, Ok, OnOk, Option, OthersStay, PlayedConsumer, PlayedService, Result, Scene, ServiceKeeps, ServiceStep, Some, Stage, Step, Tells, Writes, WritesAll, WritesSteps, [], ap, append-nil, append_assoc, declared_consumer, declared_service, map, named_consumer, named_service, one_more, refl, set, slice_get, subst, sym, ℕ, ◌++◌, ◌∙◌, ◌∷◌, ◌≡◌}
 use Rattle.kob_scene_play.proofs.Places.{put_at}
-use Rattle.kob_scene_play.specs.Printing.{Tells, Writes}
-use Rattle.kob_scene_play.specs.Scenes.{ArePlayed, ConsumerKeeps, IsRead, IsServed, IsStep, OthersStay, ServiceKeeps}
-use Rattle.kob_scene_play.specs.Stages.{IsOpened, declared_consumer, declared_service, named_consumer, named_service}
-use Rattle.kob_scene_play.specs.Steps.{IsConsumerStep, IsServiceStep}
-use Rattle.kob_scene_play.specs.Texts.{WritesAll, WritesSteps}
-use Rattle.kob_scene_play.specs.declared.stage.PlayedConsumer.{PlayedConsumer}
-use Rattle.kob_scene_play.specs.declared.stage.PlayedService.{PlayedService}
-use Rattle.kob_scene_play.specs.declared.stage.Stage.{Stage}
-use Rattle.kob_scene_text.specs.declared.scene.ConsumerStep.{ConsumerStep}
-use Rattle.kob_scene_text.specs.declared.scene.Scene.{Scene}
-use Rattle.kob_scene_text.specs.declared.scene.ServiceStep.{ServiceStep}
-use Rattle.kob_scene_text.specs.declared.scene.Step.{Step}
 use Rattle.kob_scene_text.specs.declared.scene.Step.TheVariants as steps
 
 -- one step more behind others

@@ -1,12 +1,7 @@
 -- A run of ticks, one tick after another.
-use Rattle.std.proofs.Common.{◌≡◌, ℕ, ◌+◌, List, [], ◌∷◌, ◌++◌, Bool, true, false, refl, sym, ap, ◌∙◌, inl, inr, length, append_assoc, append-nil, arith}
-use Rattle.std.specs.Prelude.{None}
+use Rattle.kob_scene_play.proofs.Words.{AllGoOn, AreTicks, Bool, EndsRun, IsServiceStep, IsServiceTick, IsTold, List, None, Service, Tells, [], ap, append-nil, append_assoc, arith, false, inl, inr, length, refl, service_tick_text, sym, true, ℕ, ◌++◌, ◌+◌, ◌∙◌, ◌∷◌, ◌≡◌}
 use Rattle.kob_lines.specs.declared.lossy.Loss.TheVariants as losses
 use Rattle.kob_router.specs.declared.tick.Tick.{Tick as RouterAnswer}
-use Rattle.kob_scene_play.specs.Printing.{Tells}
-use Rattle.kob_scene_play.specs.Steps.{AllGoOn, AreTicks, EndsRun, IsServiceStep, IsTold}
-use Rattle.kob_scene_play.specs.Workers.{IsServiceTick, Service}
-use Rattle.kob_scene_text.specs.PrintedTick.{service_tick_text}
 use Rattle.kob_scene_text.specs.declared.scene.ServiceStep.TheVariants as service_steps
 
 -- one text behind another

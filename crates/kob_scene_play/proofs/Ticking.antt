@@ -1,10 +1,6 @@
 -- Ticks over a line of their own.
-use Rattle.std.proofs.Common.{◌≡◌, ℕ, List, [], subst}
-use Rattle.kob_inbox.specs.Tick.{Ticks, scene_of}
+use Rattle.kob_scene_play.proofs.Words.{Call, Consumer, IsConsumerTick, IsSameConsumer, List, LosesFirst, Loss, Ticks, [], scene_of, subst, ℕ, ◌≡◌}
 use Rattle.kob_inbox.specs.declared.tick.Tick.{Tick as ConsumerAnswer}
-use Rattle.kob_lines.specs.declared.lossy.Loss.{Loss}
-use Rattle.kob_router.specs.declared.line.Call.{Call}
-use Rattle.kob_scene_play.specs.Workers.{Consumer, IsConsumerTick, IsSameConsumer, LosesFirst}
 
 -- a tick over a line that had made no call is one of the consumer
 pub consumer_ticked : (loss : Loss) (old new : Consumer) (tick : ConsumerAnswer) (before now : List Call) (unmade then_unmade : ℕ)

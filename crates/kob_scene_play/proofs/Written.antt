@@ -1,17 +1,7 @@
 -- What is written for a text, by what was read of it.
-use Rattle.std.proofs.Common.{◌≡◌, ℕ, List, ◌++◌, subst, sym}
-use Rattle.std.proofs.KnownBytes.{Appends-trans}
-use Rattle.std.specs.Io.KnownBytes.{Appends}
-use Rattle.std.specs.Prelude.{Err, IfOk, Ok, OnOk, Option, Result}
-use Rattle.kob_scene_play.specs.Texts.{EndsAs, IsWritten}
-use Rattle.kob_scene_play.specs.declared.fault.PlayFault.{PlayFault}
-use Rattle.kob_scene_play.specs.declared.text.Ended.{Ended}
+use Rattle.kob_scene_play.proofs.Words.{Appends, Appends-trans, Ended, EndsAs, Err, IfOk, IsWritten, List, MayRead, Ok, OnOk, Option, PlayFault, Result, Scene, SceneFault, scene_fault_text, subst, sym, ℕ, ◌++◌, ◌≡◌}
 use Rattle.kob_scene_play.specs.declared.text.Ended.TheVariants as variants
-use Rattle.kob_scene_text.specs.PrintedFault.{scene_fault_text}
-use Rattle.kob_scene_text.specs.SceneReadings.{MayRead}
 use Rattle.kob_scene_text.specs.declared.fault.SceneError.TheVariants as scene_error
-use Rattle.kob_scene_text.specs.declared.fault.SceneFault.{SceneFault}
-use Rattle.kob_scene_text.specs.declared.scene.Scene.{Scene}
 
 -- of a scene that was read
 pub scene_written : (source : List ℕ) (scene : Scene) (result : Result Ended PlayFault)

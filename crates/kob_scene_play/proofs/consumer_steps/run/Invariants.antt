@@ -1,5 +1,4 @@
-use Rattle.kob_scene_play.specs.Printing.{Tells}
-use Rattle.kob_scene_play.specs.Steps.{IsConsumerStep}
+use Rattle.kob_scene_play.proofs.Words.{IsConsumerStep, Tells}
 use Rattle.kob_scene_play.proofs.consumer_steps.run.Given as goal
 use Rattle.kob_scene_text.specs.declared.scene.ConsumerStep.TheVariants as consumer_steps
 

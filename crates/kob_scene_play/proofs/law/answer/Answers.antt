@@ -1,4 +1,4 @@
-use Rattle.std.proofs.Common.{rules}
+use Rattle.kob_scene_play.proofs.Words.{rules}
 use Rattle.kob_scene_play.proofs.Answered.{answered}
 use Rattle.kob_scene_play.proofs.law.answer.Goals as goal
 

@@ -1,5 +1,4 @@
-use Rattle.std.proofs.Common.{refl, rules}
-use Rattle.std.proofs.lemmas.Option.{slice_get_read}
+use Rattle.kob_scene_play.proofs.Words.{refl, rules, slice_get_read}
 use Rattle.kob_scene_play.proofs.Answered.{asked}
 use Rattle.kob_scene_play.proofs.Places.{same_put}
 use Rattle.kob_scene_play.proofs.law.show_law.Goals as goal

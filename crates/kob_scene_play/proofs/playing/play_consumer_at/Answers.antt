@@ -1,5 +1,4 @@
-use Rattle.std.proofs.Common.{refl, rules}
-use Rattle.std.proofs.lemmas.Option.{slice_get_read}
+use Rattle.kob_scene_play.proofs.Words.{refl, rules, slice_get_read}
 use Rattle.kob_scene_play.proofs.Played.{read_at}
 use Rattle.kob_scene_play.proofs.playing.play_consumer_at.Goals as goal
 

@@ -1,5 +1,4 @@
-use Rattle.std.proofs.Common.{refl, rules}
-use Rattle.std.proofs.lemmas.Option.{slice_get_read}
+use Rattle.kob_scene_play.proofs.Words.{refl, rules, slice_get_read}
 use Rattle.kob_scene_play.proofs.Played.{served_at}
 use Rattle.kob_scene_play.proofs.playing.play_service_at.Goals as goal
 

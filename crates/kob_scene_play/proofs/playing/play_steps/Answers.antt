@@ -1,5 +1,4 @@
-use Rattle.std.proofs.Common.{◌∙◌, ◌++◌, ◌∷◌, [], ap, sym, take}
-use Rattle.std.proofs.lemmas.List.{take_all, take_more}
+use Rattle.kob_scene_play.proofs.Words.{[], ap, sym, take, take_all, take_more, ◌++◌, ◌∙◌, ◌∷◌}
 use Rattle.kob_scene_play.proofs.Played.{one_step_more}
 use Rattle.kob_scene_play.proofs.playing.play_steps.Goals as goal
 

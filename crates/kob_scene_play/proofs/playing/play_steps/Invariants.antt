@@ -1,5 +1,4 @@
-use Rattle.std.proofs.Common.{take}
-use Rattle.kob_scene_play.specs.Texts.{WritesSteps}
+use Rattle.kob_scene_play.proofs.Words.{WritesSteps, take}
 use Rattle.kob_scene_play.proofs.playing.play_steps.Given as goal
 
 abbrev pub invariant-loop-place : goal.invariant-loop-place

@@ -1,4 +1,4 @@
-use Rattle.std.proofs.Common.{rules}
+use Rattle.kob_scene_play.proofs.Words.{rules}
 use Rattle.kob_scene_play.proofs.Running.{last_tick}
 use Rattle.kob_scene_play.proofs.service_steps.run.Goals as goal
 

@@ -1,6 +1,4 @@
-use Rattle.std.proofs.Common.{◌≡◌, ◌++◌, map}
-use Rattle.std.specs.Vec.Iter.{into_iter_items}
-use Rattle.kob_scene_play.specs.Stages.{declared_consumer, named_consumer}
+use Rattle.kob_scene_play.proofs.Words.{declared_consumer, into_iter_items, map, named_consumer, ◌++◌, ◌≡◌}
 use Rattle.kob_scene_play.proofs.stage.all_consumers.Given as goal
 
 abbrev pub invariant-loop-consumer : goal.invariant-loop-consumer

@@ -1,6 +1,4 @@
-use Rattle.std.proofs.Common.{◌≡◌, ◌++◌, map}
-use Rattle.std.specs.Vec.Iter.{into_iter_items}
-use Rattle.kob_scene_play.specs.Stages.{declared_service, named_service}
+use Rattle.kob_scene_play.proofs.Words.{declared_service, into_iter_items, map, named_service, ◌++◌, ◌≡◌}
 use Rattle.kob_scene_play.proofs.stage.all_services.Given as goal
 
 abbrev pub invariant-loop-service : goal.invariant-loop-service

@@ -1,6 +1,5 @@
-use Rattle.std.proofs.Common.{[], ap, ◌∙◌}
+use Rattle.kob_scene_play.proofs.Words.{State, [], ap, ◌∙◌}
 use Rattle.kob_inbox.specs.Contents.{Contents}
-use Rattle.kob_inbox.specs.Run.{State}
 use Rattle.kob_scene_play.proofs.consumer_worker.ConsumerWorker.open.Goals as goal
 
 pub returns-clause-state : goal.returns-clause-state

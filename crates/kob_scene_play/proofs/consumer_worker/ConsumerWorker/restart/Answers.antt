@@ -1,6 +1,4 @@
-use Rattle.std.proofs.Common.{refl, subst}
-use Rattle.kob_inbox.specs.Run.Move.{Restarted}
-use Rattle.kob_scene_play.specs.Workers.{Consumer, Consumes}
+use Rattle.kob_scene_play.proofs.Words.{Consumer, Consumes, Restarted, refl, subst}
 use Rattle.kob_scene_play.proofs.consumer_worker.ConsumerWorker.restart.Goals as goal
 
 pub returns : goal.returns

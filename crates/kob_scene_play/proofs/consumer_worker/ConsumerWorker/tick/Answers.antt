@@ -1,6 +1,4 @@
-use Rattle.std.proofs.Common.{◌≡◌, [], refl, sym, ap, subst, ◌∙◌}
-use Rattle.kob_inbox.specs.declared.tick.Tick.{Tick}
-use Rattle.kob_scene_play.specs.Workers.{Consumer, IsConsumerTick, LosesFirst}
+use Rattle.kob_scene_play.proofs.Words.{Consumer, IsConsumerTick, LosesFirst, Tick, ap, refl, subst, sym, ◌∙◌}
 use Rattle.kob_scene_play.proofs.Ticking.{consumer_ticked}
 use Rattle.kob_scene_play.proofs.consumer_worker.ConsumerWorker.tick.Goals as goal
 

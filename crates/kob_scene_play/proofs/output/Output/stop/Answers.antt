@@ -1,6 +1,5 @@
-use Rattle.std.proofs.Common.{◌≡◌, ◌∙◌, ◌++◌, ap, take}
+use Rattle.kob_scene_play.proofs.Words.{ap, stopped_text, take, ◌++◌, ◌∙◌, ◌≡◌}
 use Rattle.kob_scene_play.proofs.Written.{written_behind}
-use Rattle.kob_script.specs.Printed.{stopped_text}
 use Rattle.kob_scene_play.proofs.output.Output.stop.Goals as goal
 
 pub returns : goal.returns

@@ -1,5 +1,4 @@
-use Rattle.std.specs.Prelude.{option_map}
-use Rattle.kob_router.specs.Tick.{hand_of}
+use Rattle.kob_scene_play.proofs.Words.{hand_of, option_map}
 use Rattle.kob_scene_play.proofs.Kept.{first_after_record}
 use Rattle.kob_scene_play.proofs.service_worker.ServiceWorker.record.Goals as goal
 

@@ -1,6 +1,5 @@
-use Rattle.std.proofs.Common.{refl, subst}
+use Rattle.kob_scene_play.proofs.Words.{Does, Service, refl, subst}
 use Rattle.kob_router.specs.Run.Move.{Restarted}
-use Rattle.kob_scene_play.specs.Workers.{Does, Service}
 use Rattle.kob_scene_play.proofs.service_worker.ServiceWorker.restart.Goals as goal
 
 pub returns : goal.returns

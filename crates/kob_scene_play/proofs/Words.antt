@@ -1,0 +1,57 @@
+-- The names that the lemmas cite, passed on from one place.
+pub use Rattle.kob_inbox.specs.Run.{State}
+pub use Rattle.kob_inbox.specs.Run.Move.{Restarted}
+pub use Rattle.kob_inbox.specs.Tick.{Ticks, scene_of}
+pub use Rattle.kob_inbox.specs.declared.fetcher.Subscription.{Subscription}
+pub use Rattle.kob_inbox.specs.declared.tick.Tick.{Tick}
+pub use Rattle.kob_lines.specs.declared.lossy.Loss.{Loss}
+pub use Rattle.kob_outbox.specs.Contents.{Contents}
+pub use Rattle.kob_outbox.specs.Events.{id_text}
+pub use Rattle.kob_outbox.specs.Fields.{first_bad}
+pub use Rattle.kob_outbox.specs.Reading.{without_sent}
+pub use Rattle.kob_outbox.specs.Recording.{after_record, is_recorded, next_seq}
+pub use Rattle.kob_outbox.specs.declared.change.Change.{Change}
+pub use Rattle.kob_outbox.specs.declared.event.OutboxEvent.{OutboxEvent}
+pub use Rattle.kob_outbox.specs.declared.fault.OutboxFault.{OutboxFault}
+pub use Rattle.kob_outbox.specs.declared.fault.RecordFault.{RecordFault}
+pub use Rattle.kob_outbox.specs.declared.fields.Column.{Column}
+pub use Rattle.kob_pipeline.proofs.Outboxes.{first_recorded, first_swept}
+pub use Rattle.kob_pipeline.specs.Premises.{ArePrivate, IsBreach}
+pub use Rattle.kob_pipeline.specs.declared.premises.Breach.{Breach}
+pub use Rattle.kob_router.specs.Line.{one_more}
+pub use Rattle.kob_router.specs.Run.{Hand}
+pub use Rattle.kob_router.specs.Run.Move.{Recorded}
+pub use Rattle.kob_router.specs.Tick.{IsFirst, hand_of}
+pub use Rattle.kob_router.specs.declared.line.Call.{Call}
+pub use Rattle.kob_scene_play.specs.Journals.{line_of}
+pub use Rattle.kob_scene_play.specs.Laws.{IsAnswered, IsLaw, law_text}
+pub use Rattle.kob_scene_play.specs.Printing.{Tells, Writes}
+pub use Rattle.kob_scene_play.specs.Scenes.{ArePlayed, ConsumerKeeps, IsRead, IsServed, IsStep, OthersStay, ServiceKeeps}
+pub use Rattle.kob_scene_play.specs.Stages.{IsOpened, declared_consumer, declared_service, named_consumer, named_service}
+pub use Rattle.kob_scene_play.specs.Steps.{AllGoOn, AreTicks, EndsRun, IsConsumerStep, IsServiceStep, IsTold, Records}
+pub use Rattle.kob_scene_play.specs.Texts.{EndsAs, IsWritten, WritesAll, WritesSteps}
+pub use Rattle.kob_scene_play.specs.Workers.{Consumer, Consumes, Does, IsConsumerTick, IsSameConsumer, IsServiceTick, LosesFirst, Service}
+pub use Rattle.kob_scene_play.specs.declared.fault.PlayFault.{PlayFault}
+pub use Rattle.kob_scene_play.specs.declared.stage.PlayedConsumer.{PlayedConsumer}
+pub use Rattle.kob_scene_play.specs.declared.stage.PlayedService.{PlayedService}
+pub use Rattle.kob_scene_play.specs.declared.stage.Stage.{Stage}
+pub use Rattle.kob_scene_play.specs.declared.text.Ended.{Ended}
+pub use Rattle.kob_scene_text.specs.PrintedFault.{scene_fault_text}
+pub use Rattle.kob_scene_text.specs.PrintedTick.{service_tick_text}
+pub use Rattle.kob_scene_text.specs.SceneReadings.{MayRead}
+pub use Rattle.kob_scene_text.specs.declared.fault.SceneFault.{SceneFault}
+pub use Rattle.kob_scene_text.specs.declared.scene.ConsumerStep.{ConsumerStep}
+pub use Rattle.kob_scene_text.specs.declared.scene.Scene.{Scene}
+pub use Rattle.kob_scene_text.specs.declared.scene.ServiceStep.{ServiceStep}
+pub use Rattle.kob_scene_text.specs.declared.scene.Step.{Step}
+pub use Rattle.kob_script.specs.Printed.{stopped_text}
+pub use Rattle.kob_shared.specs.declared.journal.Entry.{Entry}
+pub use Rattle.std.proofs.Common.{Bool, List, [], ap, append-nil, append_assoc, arith, codes, false, inl, inr, length, map, refl, rules, set, subst, suc, sym, take, true, zero, ℕ, ◌++◌, ◌+◌, ◌<◌, ◌∙◌, ◌∷◌, ◌≡◌, ◌≤◌}
+pub use Rattle.std.proofs.KnownBytes.{Appends-trans}
+pub use Rattle.std.proofs.lemmas.List.{flat_map_more, length-take-le, take_all, take_more}
+pub use Rattle.std.proofs.lemmas.Option.{get_or_from_slice_get, none-some, slice_get_read}
+pub use Rattle.std.specs.Fmt.{decimal}
+pub use Rattle.std.specs.Io.KnownBytes.{Appends}
+pub use Rattle.std.specs.List.{enumerate_from, flat_map}
+pub use Rattle.std.specs.Prelude.{Err, IfOk, IsErrOf, IsTrue, MatchOption, None, Ok, OnErr, OnOk, Option, Result, Some, option_map, slice_get}
+pub use Rattle.std.specs.Vec.Iter.{into_iter_items}
