@@ -23,10 +23,11 @@ use kob_acl_cli::CliArgs;
 use kob_names::{Draft, Text};
 use kob_rights::{Event, Request};
 use kob_script::{
-    Asked, FaultKind, LineError, Word, answer_to, events_of, everyone_of, is_setting, is_super,
-    super_of, words_of,
+    FaultKind, LineError, Word, answer_to, events_of, everyone_of, is_setting, is_super, super_of,
+    words_of,
 };
 use std::alloc::{AllocError, Global};
+use std::collections::VecDeque;
 
 fn one(alloc: Global, item: Item) -> Result<Vec<Item>, LineError>
     ensures { GivesSeen (λ items. items.items) result (Ok (item ∷ [])) }
@@ -265,8 +266,8 @@ fn rules_in(alloc: Global, request: Request) -> Result<Vec<Item>, LineError>
 }
 
 /// The bindings of a list of exactly one request.
-fn rules_of(alloc: Global, asked: Asked) -> Result<Vec<Item>, LineError>
-    ensures { GivesSeen (λ items. items.items) result (rules_of asked) }
+fn rules_of(alloc: Global, asked: VecDeque<Event>) -> Result<Vec<Item>, LineError>
+    ensures { GivesSeen (λ items. items.items) result (rules_of asked.items) }
 {
     match only_event(asked) {
         Some(event) => rules_in(alloc, event.request),
@@ -274,30 +275,16 @@ fn rules_of(alloc: Global, asked: Asked) -> Result<Vec<Item>, LineError>
     }
 }
 
-pub fn only_event(asked: Asked) -> Option<Event>
-    ensures { result ≡ only_event asked }
+pub fn only_event(mut asked: VecDeque<Event>) -> Option<Event>
+    ensures { result ≡ only_event asked.items }
 {
-    let Asked { first, mut others } = asked;
-    match first {
-        Some(event) => {
-            if others.is_empty() {
-                drop(others);
-                return Some(event);
-            }
-            drop(others);
-            drop(event);
-            None
-        }
-        None => {
-            if others.len() != 1 {
-                drop(others);
-                return None;
-            }
-            let event = others.pop_front();
-            drop(others);
-            event
-        }
+    if asked.len() != 1 {
+        drop(asked);
+        return None;
     }
+    let event = asked.pop_front();
+    drop(asked);
+    event
 }
 
 #[tactic(auto, unfolding(crate::specs::Lines::words_items))]

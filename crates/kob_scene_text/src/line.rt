@@ -20,8 +20,7 @@ use crate::step_lines::{begins_step, consumer_step, service_step};
 use kob_acl_cli::CliArgs;
 use kob_rights::Event;
 use kob_script::{
-    Asked, FaultKind, Word, answer_to, events_of, everyone_of, is_setting, is_super, super_of,
-    words_of,
+    FaultKind, Word, answer_to, events_of, everyone_of, is_setting, is_super, super_of, words_of,
 };
 use std::alloc::{AllocError, Global};
 use std::collections::VecDeque;
@@ -106,26 +105,14 @@ fn head_of(worker: Option<Worker>, first: &Word<'_>, rest: &[Word<'_>]) -> Head
 }
 
 /// Adds the steps that ask for these events, in order.
-fn push_others(steps: &mut Vec<Step>, mut others: VecDeque<Event>) -> Result<(), AllocError>
+fn push_asked(steps: &mut Vec<Step>, mut events: VecDeque<Event>) -> Result<(), AllocError>
     ensures { OnOk result (map told steps.new.items
-        ≡ map told steps.old.items ++ map asked others.items) }
+        ≡ map told steps.old.items ++ map asked events.items) }
 {
-    while let Some(event) = others.pop_front() {
+    while let Some(event) = events.pop_front() {
         steps.push(Step::Request(event))?;
     }
     Ok(())
-}
-
-/// Adds the steps that ask for what a line asks.
-fn push_asked(steps: &mut Vec<Step>, line: Asked) -> Result<(), AllocError>
-    ensures { OnOk result (map told steps.new.items
-        ≡ map told steps.old.items ++ map asked line) }
-{
-    let Asked { first, others } = line;
-    if let Some(event) = first {
-        steps.push(Step::Request(event))?;
-    }
-    push_others(steps, others)
 }
 
 impl Reading {

@@ -1,6 +1,6 @@
 -- The lines of blocks; what a line asks for, when it is checked and when it is read again, and what is
 -- left after it; and that a script without `acl` lines has one reading.
-use Rattle.kob_script.proofs.Imports.{AreWholeLines, Checking, ChecksLine, ChecksNext, CliArgs, Err, Event, Fails, Fault, FaultKind, HasNoAclLine, IsAnswerTo, IsAnswerToLine, LineError, List, MayRead, Memory, None, Ok, Option, Reads, ReadsAs, Result, Script, ScriptError, ThenLines, Word, [], answers_after, ap, append-nil, append_assoc, arith, concat, drop, drop-drop, drop_more, empty_script, eqb-true, false, fault_at, first_answer, get_or, is_none, is_plain, kept_answer, length, length-lines, length-take-le, line_len-bounds, line_words, lines-nil, lines-step, lines_in, lines_in_blocks, lines_of, list_all, map, nat_tests, refl, requests_of, script_so_far, subst, sym, then_lines, true, with_words, without_terminator, words_of, ℕ, ◌++◌, ◌+◌, ◌-◌, ◌<◌, ◌==◌, ◌>>=◌, ◌∙◌, ◌∷◌, ◌≡◌, ◌≤◌}
+use Rattle.kob_script.proofs.Imports.{AreWholeLines, Checking, ChecksLine, ChecksNext, CliArgs, Err, Event, Fails, Fault, FaultKind, HasNoAclLine, IfRead, IsAnswerTo, IsAnswerToLine, LineError, List, Memory, None, Ok, Option, ReadsAs, Result, Script, ScriptError, ThenLines, Word, [], answers_after, ap, append-nil, append_assoc, arith, asks_clap, concat, drop, drop-drop, drop_more, empty_script, eqb-true, false, fault_at, first_answer, get_or, kept_answer, length, length-lines, length-take-le, line_len-bounds, line_words, lines-nil, lines-step, lines_in, lines_in_blocks, lines_of, list_all, map, nat_tests, not, refl, requests_of, result_unwrap_or, script_so_far, subst, sym, then_lines, true, with_words, without_terminator, words_of, ℕ, ◌++◌, ◌+◌, ◌-◌, ◌<◌, ◌==◌, ◌>>=◌, ◌∙◌, ◌∷◌, ◌≡◌, ◌≤◌}
 use Rattle.kob_script.proofs.Choices.{both}
 use Rattle.kob_script.specs.CommandLines.{events_of}
 use Rattle.kob_script.specs.Requests.{requests_in}
@@ -80,18 +80,20 @@ nothing_at_zero (x ∷ more) count counts zero = grind (arith, nat_tests, eqb-tr
 
 -- a line was read that stood at the front
 pub line_read : (text : List ℕ) (lines left later last : List (List ℕ)) (answers kept : List (Option CliArgs))
-    (events : List Event) → lines ≡ text ∷ left → last ≡ later
+    (none events : List Event) → none ≡ [] → lines ≡ text ∷ left → last ≡ later
     → events ≡ requests_of (first_answer (line_words text) answers) (line_words text)
     → kept ≡ answers_after (line_words text) answers
-    → requests_in (lines ++ later) answers ≡ events ++ requests_in (left ++ last) kept
+    → events ++ requests_in (left ++ last) kept ≡ none ++ requests_in (lines ++ later) answers
 unfolding requests_in
-line_read text lines left later last answers kept events split same is used = rw (split, same, is, used) refl
+line_read text lines left later last answers kept none events empty split same is used =
+    rw (empty, split, same, is, used) refl
 
 -- a line that is no `acl` line is read in one way, as clap's answer tells nothing of it
-line_alike : (answer : Option CliArgs) (s : Script) (line : Result (List Word) FaultKind) → is_plain line ≡ true
+line_alike : (answer : Option CliArgs) (s : Script) (line : Result (List Word) FaultKind)
+    → not (asks_clap (result_unwrap_or line [])) ≡ true
     → IsAnswerToLine line answer → (line >>= with_words answer s) ≡ (line >>= with_words None s)
 line_alike answer s (Err kind) plain is = refl
-line_alike answer s (Ok words) plain is = grind (arith, nat_tests, is_none)
+line_alike answer s (Ok words) plain is = grind (arith, nat_tests)
 
 then_alike : (number : ℕ) (lines : List (List ℕ)) (first : Result Script FaultKind) (read : Result Script fault.Fault)
     → ((next : Script) → LinesFrom next (number + 1) lines read → read ≡ lines_from next (number + 1) lines)
@@ -101,12 +103,12 @@ then_alike number lines (Ok next) read others may = others next may
 then_alike number lines (Err kind) read others may = may
 
 lines_alike : (s : Script) (number : ℕ) (lines : List (List ℕ)) (read : Result Script fault.Fault)
-    → list_all (λ line. is_plain (words_of line)) lines ≡ true → LinesFrom s number lines read
+    → list_all (λ line. not (asks_clap (line_words line))) lines ≡ true → LinesFrom s number lines read
     → read ≡ lines_from s number lines
 unfolding LinesFrom lines_from with_line
 lines_alike s number [] read plain may = may
 lines_alike s number (line ∷ lines) read plain (first, (answer, is, gives), others) =
-    let here = both (is_plain (words_of line)) (list_all (λ l. is_plain (words_of l)) lines) plain in
+    let here = both (not (asks_clap (line_words line))) (list_all (λ l. not (asks_clap (line_words l))) lines) plain in
     then_alike number lines (with_line None s line) read
     (λ next may. lines_alike next (number + 1) lines read here.1 may)
     (subst (λ (r : Result Script FaultKind). ThenLines number r (λ next. LinesFrom next (number + 1) lines read) read)
@@ -117,11 +119,20 @@ pub one_reading : (text : List ℕ) (read : Result Script fault.Fault) → HasNo
 unfolding script_of
 one_reading text read plain may = lines_alike empty_script 1 (lines_in text) read plain may
 
-pub reads_plain : (text : List ℕ) (result : Result Script ScriptError) → MayRead text result → HasNoAclLine text
-    → Reads result (script_of text)
+pub reads_plain : (text : List ℕ) (result : Result Script ScriptError) → IfRead result (ReadsAs text) → HasNoAclLine text
+    → IfRead result (λ read. script_of text ≡ read)
 reads_plain text (Ok script) may plain = sym (one_reading text (Ok script) plain may)
 reads_plain text (Err script_error.Memory) may plain = tt
 reads_plain text (Err (script_error.Fault fault)) may plain = sym (one_reading text (Err fault) plain may)
+
+-- what is kept of an answer, if clap was asked or was not
+pub keeps_none : (old : List (Option CliArgs)) (words : List Word) (answer : Option CliArgs) → asks_clap words ≡ false
+    → old ≡ old ++ kept_answer words answer
+keeps_none old words answer unasked = rw unasked (sym (append-nil old))
+
+pub keeps_one : (old : List (Option CliArgs)) (words : List Word) (answer : Option CliArgs) → asks_clap words ≡ true
+    → old ++ answer ∷ [] ≡ old ++ kept_answer words answer
+keeps_one old words answer asked = rw asked refl
 
 module _ (s : Script) (line : List ℕ) (new : Checking) (old kept : List (Option CliArgs)) where
   -- a line that was checked by clap's answer to its words
@@ -186,7 +197,7 @@ module _ (blocks : List (List ℕ)) (checking new : Checking) (answers kept : Li
 
   pub stops : (e : LineError) → ((events : List Event) → checking.requests ≡ length events
       → ChecksLine (script_so_far checking events) line new answers kept (Err e))
-      → MayRead (concat blocks) (Err (fault_at (number + 1) e))
+      → IfRead (Err (fault_at (number + 1) e)) (ReadsAs (concat blocks))
   unfolding LinesFrom
   stops Memory checks = tt
   stops (Fault kind) checks =

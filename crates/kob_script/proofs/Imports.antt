@@ -5,10 +5,10 @@ pub use Rattle.bstr.specs.Text.{lines_of, without_terminator}
 pub use Rattle.kob_acl_cli.specs.Misread.{IsFirstFault}
 pub use Rattle.kob_names.specs.PrincipalRules.{principal_fault}
 pub use Rattle.kob_script.specs.Checks.{ChecksLine, ChecksNext, fault_at, kept_answer, script_so_far}
-pub use Rattle.kob_script.specs.CommandLines.{AclCommand, CliArgs, Command, CommandFault, Event, acl_commands, acl_request, acl_requests, asked_row, asking, asks_by_acl, command_named, error_of, events_by, faults_in, line_fault, request_of, row, row_fault, unless_faults}
-pub use Rattle.kob_script.specs.Reading.{BadLine, BadNumber, Fails, Fault, FaultKind, Finds, IsAmong, LineError, Memory, counted, each, earlier, fault_in, first_kind, found_or, rank, unless_found, with_front, ◌>>=◌}
-pub use Rattle.kob_script.specs.Requests.{AreWholeLines, answers_after, first_answer, line_words, lines_in_blocks, lines_left, requests_in, requests_left, requests_of, rest_of, steps_left}
-pub use Rattle.kob_script.specs.Script.{HasNoAclLine, IsAnswerTo, IsAnswerToLine, MayRead, Reads, ReadsAs, Script, ScriptError, ThenLines, empty_script, is_plain, lines_in, then_lines, with_words}
+pub use Rattle.kob_script.specs.CommandLines.{AclCommand, CliArgs, Command, CommandFault, Event, acl_commands, acl_request, asked_row, asking, asks_by_acl, command_named, error_of, events_by, faults_in, line_fault, request_of, row, row_fault, unless_faults}
+pub use Rattle.kob_script.specs.Reading.{BadLine, BadNumber, Fails, Fault, FaultKind, Finds, IsAmong, LineError, Memory, counted, each, earlier, first_kind, found_or, rank, unless_found, with_front, ◌>>=◌}
+pub use Rattle.kob_script.specs.Requests.{AreWholeLines, answers_after, first_answer, lines_in_blocks, lines_left, requests_in, requests_left, requests_of, rest_of, steps_left}
+pub use Rattle.kob_script.specs.Script.{HasNoAclLine, IfRead, IsAnswerTo, IsAnswerToLine, ReadsAs, Script, ScriptError, ThenLines, asks_clap, empty_script, line_words, lines_in, then_lines, with_words}
 pub use Rattle.kob_script.specs.Values.{named_principal, number_in, record_of, text_of}
 pub use Rattle.kob_script.specs.Words.{LeavesWhole, Word, before, byte_at, cut_at, escaped, has_whole_escapes, hexadecimal, is_blank, raw_words, unescaped, word_of, words_of}
 pub use Rattle.kob_script.specs.declared.checks.Checking.{Checking}
@@ -27,6 +27,7 @@ pub use Rattle.std.proofs.lemmas.Slice.Eq.{bytes_eq-Decides}
 pub use Rattle.std.proofs.lemmas.Str.{IsUtf8-from_is_utf8, is_utf8-from_IsUtf8}
 pub use Rattle.std.specs.Char.{digit_value, is_ascii_digit}
 pub use Rattle.std.specs.List.{concat, list_all}
+pub use Rattle.std.specs.Result.{result_err, result_unwrap_or}
 pub use Rattle.std.specs.Str.{all_ascii_digits, is_utf8}
 pub use Rattle.std.specs.Str.Parse.{digits_value, digits_value_after}
 pub use Rattle.std.specs.Vec.Iter.{into_iter_items}

@@ -1,6 +1,6 @@
 -- The fault of a line is the first kind among those of its words, and how much words without one ask
 -- for; the faults of options, and what they stand for in a script.
-use Rattle.kob_script.proofs.Imports.{AclCommand, BadLine, Bool, CliArgs, Command, CommandFault, Err, Event, Fails, Fault, FaultKind, Finds, IsAmong, IsFirstFault, LineError, List, Memory, None, Ok, Option, Result, Some, Texts, Word, [], acl_commands, acl_request, acl_requests, arith, asked_row, asking, asks_by_acl, bytes_eq, codes, command_named, counted, earlier, error_of, false, first_kind, found_or, if◌then◌else◌, inl, inr, length, length-map, line_fault, ltb-false, ltb-true, map, nat_tests, option_map, rank, refl, request_of, row, row_fault, true, unless_faults, unless_found, ℕ, ◌>>=◌, ◌∷◌, ◌≡◌, ◌≤◌}
+use Rattle.kob_script.proofs.Imports.{AclCommand, BadLine, Bool, CliArgs, Command, CommandFault, Err, Event, Fails, Fault, FaultKind, Finds, IsAmong, IsFirstFault, LineError, List, Memory, None, Ok, Option, Result, Some, Texts, Word, [], acl_commands, acl_request, arith, asked_row, asking, asks_by_acl, bytes_eq, codes, command_named, counted, earlier, error_of, false, first_kind, found_or, if◌then◌else◌, inl, inr, length, length-map, line_fault, ltb-false, ltb-true, map, nat_tests, option_map, rank, refl, request_of, row, row_fault, true, unless_faults, unless_found, ℕ, ◌>>=◌, ◌∷◌, ◌≡◌, ◌≤◌}
 use Rattle.kob_acl_cli.specs.declared.fault.CommandFault.TheVariants as options
 use Rattle.kob_script.specs.CommandLines.{asked_by, events_of}
 use Rattle.kob_script.proofs.Choices.{chosen_false}
@@ -63,7 +63,7 @@ counted_by_fault answer (who ∷ from ∷ command ∷ words) =
   where
     by : (acl : Bool) (found : Option Command)
         → let fault = row_fault (option_map asked_row (if acl then Some (Texts ∷ []) else option_map row found)) (who ∷ from ∷ words)
-        in counted (unless_found fault (asking who from (if acl then acl_requests answer
+        in counted (unless_found fault (asking who from (if acl then (acl_commands answer >>= λ commands. Ok (map acl_request commands))
         else (found_or BadLine found >>= λ known. Ok (request_of known words ∷ [])))))
         ≡ unless_found fault (if acl then counted (acl_commands answer) else Ok 1)
     by true found = counted_unless _ _ _ (as_many who from (acl_commands answer))

@@ -5,8 +5,8 @@ use Rattle.kob_script.specs.declared.checks.Checking.{Checking}
 use Rattle.kob_script.specs.declared.fault.LineError.TheVariants as line_error
 use Rattle.kob_script.specs.declared.fault.ScriptError.TheVariants as script_error
 use Rattle.kob_script.specs.Reading.{Fails, FaultKind, LineError}
-use Rattle.kob_script.specs.Requests.{asks_clap, line_words, CliArgs, Event}
-use Rattle.kob_script.specs.Script.{with_line, IsAnswerToLine, LineReadsAs, Script, ScriptError}
+use Rattle.kob_script.specs.Requests.{CliArgs, Event}
+use Rattle.kob_script.specs.Script.{asks_clap, line_words, with_line, IsAnswerToLine, LineReadsAs, Script, ScriptError}
 use Rattle.kob_script.specs.Words.{Word, words_of}
 
 -- the script so far, without opening bindings, which asks for these events

@@ -1,7 +1,7 @@
 -- The commands by which a line asks: their names, the words that each takes, one row a command, the
 -- fault of a line's words, and what a line asks for by them.
 use Rattle.std.specs.Prelude.{ℕ, List, Option, Result, Ok, codes, if◌then◌else◌, [], ◌∷◌, Some, None, Err, drop, map, Bool, false, find, option_map, bytes_eq}
-use Rattle.std.specs.Result.{result_ok, result_unwrap_or}
+use Rattle.std.specs.Result.{result_err, result_ok, result_unwrap_or}
 use Rattle.kob_acl_cli.specs.Commands.{commands, faults}
 pub use Rattle.kob_acl_cli.specs.declared.args.CliArgs.{CliArgs}
 use Rattle.kob_acl_cli.specs.declared.commands.AclCommand.TheVariants.{Create, Delete, Describe}
@@ -21,7 +21,7 @@ use Rattle.kob_rights.specs.declared.on_partitions.Which.TheVariants.{End}
 use Rattle.kob_rights.specs.declared.request.Request.TheVariants as ask
 use Rattle.kob_rights.specs.declared.request.Request.{Request}
 use Rattle.kob_script.specs.Values.{idem_of, record_of, number_of, which_of, before_of, text_of, named_principal, named_host}
-use Rattle.kob_script.specs.Reading.{found_or, first_kind, each, fault_in, unless_found, ◌>>=◌, BadWord, BadLine, Usage, NoAction, BadName, BadMix, NoResource, NoPrincipal, FaultKind, LineError}
+use Rattle.kob_script.specs.Reading.{found_or, first_kind, each, unless_found, ◌>>=◌, BadWord, BadLine, Usage, NoAction, BadName, BadMix, NoResource, NoPrincipal, FaultKind, LineError}
 use Rattle.kob_script.specs.Words.{Word}
 use Rattle.kob_script.specs.declared.command.Command.TheVariants.{CreateTopic, DeleteTopic, Metadata, Produce, Fetch, ListOffsets, DeleteRecords, InitProducer, Commit, Committed, Groups, DeleteGroup, CreateAcl, DescribeAcls, DeleteAcls}
 pub use Rattle.kob_script.specs.declared.command.Command.{Command}
@@ -101,24 +101,24 @@ row_named name =
 
 -- the fault that a word has in a slot
 abbrev pub slot_fault : Slot → Word → Option FaultKind
-slot_fault slot.Text word = fault_in (text_of word)
-slot_fault slot.Principal word = fault_in (named_principal word)
-slot_fault slot.Host word = fault_in (named_host word)
-slot_fault slot.Number word = fault_in (number_of word)
-slot_fault slot.StartOrEnd word = fault_in (which_of word)
-slot_fault slot.OffsetOrEnd word = fault_in (before_of word)
-slot_fault slot.Producer word = fault_in (idem_of word)
-slot_fault slot.Permission word = fault_in (known permission_named word)
-slot_fault slot.Operation word = fault_in (known operation_named word)
-slot_fault slot.Resource word = fault_in (known resource_named word)
-slot_fault slot.Pattern word = fault_in (known pattern_named word)
-slot_fault slot.FilterPattern word = fault_in (filter_pattern_of word)
+slot_fault slot.Text word = result_err (text_of word)
+slot_fault slot.Principal word = result_err (named_principal word)
+slot_fault slot.Host word = result_err (named_host word)
+slot_fault slot.Number word = result_err (number_of word)
+slot_fault slot.StartOrEnd word = result_err (which_of word)
+slot_fault slot.OffsetOrEnd word = result_err (before_of word)
+slot_fault slot.Producer word = result_err (idem_of word)
+slot_fault slot.Permission word = result_err (known permission_named word)
+slot_fault slot.Operation word = result_err (known operation_named word)
+slot_fault slot.Resource word = result_err (known resource_named word)
+slot_fault slot.Pattern word = result_err (known pattern_named word)
+slot_fault slot.FilterPattern word = result_err (filter_pattern_of word)
 
 -- the faults of words at the places of a row; a word too few or too many is one of the line
 abbrev pub faults_in : List Place → List Word → List (Option FaultKind)
 faults_in [] [] = []
 faults_in (Records ∷ places) words = []
-faults_in (Texts ∷ places) words = fault_in (each text_of words) ∷ []
+faults_in (Texts ∷ places) words = result_err (each text_of words) ∷ []
 faults_in (OrNone at ∷ []) [] = []
 faults_in (OrNone at ∷ places) (word ∷ words) = slot_fault at word ∷ faults_in places words
 faults_in (One at ∷ places) (word ∷ words) = slot_fault at word ∷ faults_in places words
@@ -259,10 +259,6 @@ acl_request (Create drafts) = ask.CreateAcls (record { drafts = drafts })
 acl_request (Delete filter) = ask.DeleteAcls (record { filter = filter })
 acl_request (Describe filter) = ask.DescribeAcls (record { filter = filter })
 
--- what `acl` asks for by clap's answer to the words after it
-abbrev pub acl_requests : Option CliArgs → Result (List Request) FaultKind
-acl_requests answer = acl_commands answer >>= λ commands. Ok (map acl_request commands)
-
 -- the events by which the principal and the host of a line ask
 abbrev pub events_by : List ℕ → List ℕ → List Request → List Event
 events_by principal host requests =
@@ -277,7 +273,8 @@ asking who from read =
 -- what the words of a line ask for, which have no fault; by `acl`, the options may have one
 unfoldable pub asked_by : Option CliArgs → List Word → Result (List Event) FaultKind
 asked_by answer (who ∷ from ∷ command ∷ words) =
-    asking who from (if bytes_eq command.decoded (codes "acl") then acl_requests answer
+    asking who from (if bytes_eq command.decoded (codes "acl") then
+    (acl_commands answer >>= λ commands. Ok (map acl_request commands))
     else (found_or BadLine (command_named command.decoded)
     >>= λ named. Ok (request_of named words ∷ [])))
 asked_by answer _ = Err BadLine

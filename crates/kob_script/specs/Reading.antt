@@ -85,11 +85,6 @@ abbrev pub unless_fault : {A E : Type 0} → Option E → FaultKind → A → Re
 unless_fault None kind x = Ok x
 unless_fault (Some fault) kind x = Err kind
 
--- the fault of what is read, if there is one
-abbrev pub fault_in : {A : Type 0} → Result A FaultKind → Option FaultKind
-fault_in (Ok x) = None
-fault_in (Err kind) = Some kind
-
 -- what is read, unless a fault was found
 abbrev pub unless_found : {A : Type 0} → Option FaultKind → Result A FaultKind → Result A FaultKind
 unless_found None read = read

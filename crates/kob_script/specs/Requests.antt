@@ -2,10 +2,10 @@
 -- `acl`.
 use Rattle.std.specs.List.{concat}
 use Rattle.std.specs.Result.{result_unwrap_or}
-use Rattle.std.specs.Prelude.{◌≡◌, ◌+◌, ℕ, List, [], ◌∷◌, ◌++◌, drop, length, Bool, Option, None, if◌then◌else◌, slice_index_or, is_some}
-use Rattle.kob_script.specs.Script.{after_acl, lines_in, is_setting}
+use Rattle.std.specs.Prelude.{◌≡◌, ◌+◌, ℕ, List, [], ◌∷◌, ◌++◌, drop, length, Option, None, if◌then◌else◌, slice_index_or}
+use Rattle.kob_script.specs.Script.{asks_clap, is_setting, line_words, lines_in}
 pub use Rattle.kob_script.specs.CommandLines.{asked_by, CliArgs, Event}
-use Rattle.kob_script.specs.Words.{Word, words_of}
+use Rattle.kob_script.specs.Words.{Word}
 use Rattle.kob_script.specs.declared.blocks.Blocks.{Blocks}
 use Rattle.kob_script.specs.declared.requests.Requests.TheInside.{Inside}
 
@@ -30,19 +30,11 @@ lines_left blocks = lines_in (rest_of blocks) ++ lines_in_blocks blocks.later.it
 abbrev pub steps_left : Blocks → ℕ
 steps_left blocks = length (lines_left blocks) + length blocks.later.items
 
--- the words of a line, none if it has an escape that is not whole
-abbrev pub line_words : List ℕ → List Word
-line_words line = result_unwrap_or (words_of line) []
-
 -- what words without a fault ask for, by clap's answer to them; a setting asks for nothing
 abbrev pub requests_of : Option CliArgs → List Word → List Event
 requests_of answer [] = []
 requests_of answer (first ∷ arguments) =
     if is_setting first then [] else result_unwrap_or (asked_by answer (first ∷ arguments)) []
-
--- words of which clap is asked
-abbrev pub asks_clap : List Word → Bool
-asks_clap words = is_some (after_acl words)
 
 -- the answer by which words are read: the first of those that are left, if clap was asked
 abbrev pub first_answer : List Word → List (Option CliArgs) → Option CliArgs

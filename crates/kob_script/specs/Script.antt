@@ -1,13 +1,14 @@
 -- A script: settings, and then requests, a line each; and what it may be read as, by what clap may
 -- answer to its `acl` lines.
 use Rattle.std.specs.List.{list_all}
-use Rattle.std.specs.Prelude.{IfOk, MatchOption, ℕ, Bool, true, false, ◌||◌, List, [], ◌∷◌, ◌++◌, Result, Ok, Err, codes, if◌then◌else◌, bytes_eq, ◌+◌, Option, None, map, nat_lt, length, ◌≡◌, ◌&&◌, not, Some, is_none}
+use Rattle.std.specs.Prelude.{IfOk, MatchOption, ℕ, Bool, true, false, ◌||◌, List, [], ◌∷◌, ◌++◌, Result, Ok, Err, codes, if◌then◌else◌, bytes_eq, ◌+◌, Option, None, map, nat_lt, length, ◌≡◌, ◌&&◌, not, Some, is_some}
+use Rattle.std.specs.Result.{result_unwrap_or}
 use Rattle.bstr.specs.Text.{lines_of, without_terminator}
 use Rattle.kob_acl_cli.specs.Lines.{IsReadOf, is_taken, refusals, rows_of_line}
 use Rattle.kob_names.specs.declared.settings.Settings.{Settings}
 use Rattle.kob_script.specs.CommandLines.{events_of, CliArgs}
 use Rattle.kob_script.specs.Reading.{◌>>=◌, each, BadLine, LateSetting, FaultKind}
-use Rattle.kob_script.specs.Values.{text_of, principal_of}
+use Rattle.kob_script.specs.Values.{named_principal, text_of}
 use Rattle.kob_script.specs.Words.{Word, words_of}
 use Rattle.kob_script.specs.declared.fault.Fault.{Fault}
 use Rattle.kob_script.specs.declared.fault.ScriptError.TheVariants as script_error
@@ -28,7 +29,7 @@ no_settings = record { supers = []; opening = []; everyone = false }
 
 -- super PRINCIPAL
 abbrev pub super_of : List Word → Result (List ℕ) FaultKind
-super_of (name ∷ []) = text_of name >>= principal_of
+super_of (name ∷ []) = named_principal name
 super_of _ = Err BadLine
 
 -- everyone on, or everyone off
@@ -107,6 +108,14 @@ after_acl (first ∷ host ∷ command ∷ arguments) =
     (codes "acl") then Some arguments else None
 after_acl _ = None
 
+-- words of which clap is asked
+abbrev pub asks_clap : List Word → Bool
+asks_clap words = is_some (after_acl words)
+
+-- the words of a line, none if it has an escape that is not whole
+abbrev pub line_words : List ℕ → List Word
+line_words line = result_unwrap_or (words_of line) []
+
 -- clap may have answered this to a line with these words; of a line that doesn't ask by `acl` it
 -- tells nothing, and it isn't asked about words that are no texts
 abbrev pub IsAnswerTo : List Word → Option CliArgs → Type 0
@@ -141,23 +150,12 @@ LinesFrom s number (line ∷ lines) read =
 abbrev pub ReadsAs : List ℕ → Result Script Fault → Type 0
 ReadsAs text read = LinesFrom empty_script 1 (lines_in text) read
 
--- clap isn't asked about a line
-abbrev pub is_plain : Result (List Word) FaultKind → Bool
-is_plain (Ok words) = is_none (after_acl words)
-is_plain (Err kind) = true
-
 -- No line of the bytes asks by `acl`.
 abbrev pub HasNoAclLine : List ℕ → Type 0
-HasNoAclLine text = list_all (λ line. is_plain (words_of line)) (lines_in text) ≡ true
+HasNoAclLine text = list_all (λ line. not (asks_clap (line_words line))) (lines_in text) ≡ true
 
--- A script was read as its bytes may be, unless memory ran out.
-abbrev pub MayRead : List ℕ → Result Script ScriptError → Type 0
-MayRead text (Ok script) = ReadsAs text (Ok script)
-MayRead text (Err script_error.Memory) = Unit {0}
-MayRead text (Err (script_error.Fault fault)) = ReadsAs text (Err fault)
-
--- What was read is what the bytes write, unless memory ran out.
-abbrev pub Reads : Result Script ScriptError → Result Script Fault → Type 0
-Reads (Ok script) read = read ≡ Ok script
-Reads (Err script_error.Memory) read = Unit {0}
-Reads (Err (script_error.Fault fault)) read = read ≡ Err fault
+-- The script or the fault that was read has the property, unless memory ran out.
+abbrev pub IfRead : Result Script ScriptError → (Result Script Fault → Type 0) → Type 0
+IfRead (Ok script) P = P (Ok script)
+IfRead (Err script_error.Memory) P = Unit {0}
+IfRead (Err (script_error.Fault fault)) P = P (Err fault)

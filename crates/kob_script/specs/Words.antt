@@ -5,18 +5,15 @@ use Rattle.std.specs.List.{slice_split}
 use Rattle.std.specs.Prelude.{◌≡◌, ◌+◌, ◌*◌, ◌==◌, ◌&&◌, ℕ, zero, suc, Bool, true, List, [], ◌∷◌, ◌++◌, take, drop, Option, Some, None, is_some, nat_lt, unwrap_or, if◌then◌else◌, Result, Ok, ◌||◌, filter, find, length, option_map, not}
 use Rattle.kob_script.specs.Reading.{◌>>=◌, each, found_or, BadEscape, FaultKind}
 
--- two hexadecimal digits
-abbrev pub are_hexadecimal : ℕ → ℕ → Bool
-are_hexadecimal high low = nat_lt (digit_value high) 16 && nat_lt (digit_value low) 16
-
--- the byte that they write
-abbrev pub hexadecimal : ℕ → ℕ → ℕ
-hexadecimal high low = 16 * digit_value high + digit_value low
+-- the byte that two hexadecimal digits write
+abbrev pub hexadecimal : ℕ → ℕ → Option ℕ
+hexadecimal high low =
+    if nat_lt (digit_value high) 16 && nat_lt (digit_value low) 16
+    then Some (16 * digit_value high + digit_value low) else None
 
 -- the byte that stands after a percent sign; nothing unless two digits follow
 abbrev pub escaped : List ℕ → Option ℕ
-escaped (high ∷ low ∷ others) =
-    if are_hexadecimal high low then Some (hexadecimal high low) else None
+escaped (high ∷ low ∷ others) = hexadecimal high low
 escaped _ = None
 
 -- the byte at the front of a word, and what comes after it; nothing for a percent sign that begins

@@ -2,7 +2,8 @@
 //! again.
 
 ghost use Rattle.std.specs.Prelude.{◌≡◌, Ok, OnOk, IsTrue, MatchOption};
-ghost use Rattle.kob_script.specs.Reading.{Finds, Gives, fault_in};
+ghost use Rattle.std.specs.Result.{result_err};
+ghost use Rattle.kob_script.specs.Reading.{Finds, Gives};
 ghost use Rattle.kob_script.specs.Values.{named_principal};
 
 use crate::fault::LineError;
@@ -11,10 +12,7 @@ use crate::words::Word;
 use kob_names::{PlainValue, Principal};
 use std::alloc::Global;
 
-/// A copy of a longer text needs an allocation.
-const SHORT: usize = 30;
-
-/// The principal that a word names, of which `last` keeps a copy if that needs no allocation.
+/// The principal that a word names, of which `last` keeps a copy.
 pub fn asker_of(
     alloc: Global,
     last: &mut Option<Principal>,
@@ -22,9 +20,6 @@ pub fn asker_of(
 ) -> Result<Principal, LineError>
     ensures { Gives result (named_principal word.now) }
 {
-    if word.decoded().len() > SHORT {
-        return named_principal(alloc, word);
-    }
     check_asker(alloc, last, word)?;
     match last {
         Some(principal) => Ok(principal.copy(alloc)?),
@@ -39,7 +34,7 @@ pub fn check_asker(
     last: &mut Option<Principal>,
     word: &Word<'_>,
 ) -> Result<(), LineError>
-    ensures fault { Finds result (fault_in (named_principal word.now)) }
+    ensures fault { Finds result (result_err (named_principal word.now)) }
     ensures kept { OnOk result (MatchOption last.new ⊥ (λ kept.
         named_principal word.now ≡ Ok kept)) }
 {

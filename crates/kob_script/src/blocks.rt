@@ -66,25 +66,14 @@ impl Blocks {
     }
 }
 
-/// A line without its end, and its number of bytes with it.
-#[derive(Drop)]
-pub struct Line<'a> {
-    pub text: &'a [u8],
-    pub size: usize,
-}
-
-/// The line at the front of bytes, if there are any.
+/// The line at the front of bytes, if there are any: without its end, and its number of bytes with it.
 #[tactic(auto, using(crate::proofs::CheckedLines::first_line_splits))]
-pub fn first_line(bytes: &[u8]) -> Option<Line<'_>>
+pub fn first_line(bytes: &[u8]) -> Option<(&[u8], usize)>
     ensures { MatchOption result (lines_in bytes.entry.now ≡ []) (λ line.
-        (line.size ≤ length bytes.entry.now)
-        × (lines_in bytes.entry.now
-        ≡ line.text.now ∷ lines_in (drop line.size bytes.entry.now))) }
+        (line.1 ≤ length bytes.entry.now)
+        × (lines_in bytes.entry.now ≡ line.0.now ∷ lines_in (drop line.1 bytes.entry.now))) }
 {
     let whole = bytes.lines_with_terminator().next()?;
     let text = bytes.lines().next()?;
-    Some(Line {
-        text,
-        size: whole.len(),
-    })
+    Some((text, whole.len()))
 }

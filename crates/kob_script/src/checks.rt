@@ -1,25 +1,25 @@
 //! The check of a script: all its lines are read before the first request is served.
 
 ghost use Rattle.std.specs.List.{concat};
-ghost use Rattle.std.specs.Prelude.{◌≡◌, ◌<◌, ◌^◌, ◌++◌, List, length, OnOk};
+ghost use Rattle.std.specs.Prelude.{◌≡◌, ◌<◌, ◌^◌, List, length};
 ghost use Rattle.kob_rights.specs.declared.event.Event as event;
 ghost use Rattle.kob_script.specs.Requests.{AreWholeLines};
 ghost use Rattle.kob_script.specs.Checks.{ChecksLine, ChecksNext, as_read, script_so_far};
-ghost use Rattle.kob_script.specs.Checks.{fault_at, kept_answer};
+ghost use Rattle.kob_script.specs.Checks.{fault_at};
 ghost use Rattle.kob_script.specs.Script.{everyone_of, is_setting, is_super, super_of, script_of};
 ghost use Rattle.kob_script.specs.Script.{with_events, with_setting, with_words, HasNoAclLine};
-ghost use Rattle.kob_script.specs.Script.{MayRead, Reads};
+ghost use Rattle.kob_script.specs.Script.{IfRead, ReadsAs};
 ghost use Rattle.kob_script.specs.Reading.{Gives};
 
 use crate::command_lines::{answer_to, asks_clap, count_of};
 use crate::fault::{Fault, FaultKind, LineError, ScriptError};
 use crate::requests::Requests;
-use crate::values::{lent_text_of, principal_of};
+use crate::values::named_principal;
 use crate::words::{Word, words_of};
 use bstr::ByteSlice;
 use kob_acl_cli::CliArgs;
 use kob_names::{Bytes, Items, Principal, Settings};
-use std::alloc::{AllocError, Global};
+use std::alloc::Global;
 
 /// A script without a fault: its settings, which open no bindings, and its requests, in order.
 #[derive(Debug, Drop)]
@@ -45,9 +45,9 @@ struct Checking {
 pub fn check_script(alloc: Global, blocks: Vec<Bytes>) -> Result<CheckedScript, ScriptError>
     requires whole { AreWholeLines blocks.items }
     requires short { length (concat blocks.items) < 2 ^ 63 }
-    ensures any { MayRead (concat blocks.items) (as_read result) }
+    ensures any { IfRead (as_read result) (ReadsAs (concat blocks.items)) }
     ensures plain { HasNoAclLine (concat blocks.items)
-        → Reads (as_read result) (script_of (concat blocks.items)) }
+        → IfRead (as_read result) (λ read. script_of (concat blocks.items) ≡ read) }
 {
     let mut checking = Checking {
         supers: Vec::new(alloc),
@@ -104,22 +104,11 @@ fn check_line(
     let words = words_of(alloc, line)?;
     let answer = answer_to(alloc, &words)?;
     check_words(alloc, checking, &words, &answer)?;
-    keep_answer(answers, &words, answer)?;
-    Ok(())
-}
-
-// Keeps what clap returned for the words, if it was called: another call may return another result.
-fn keep_answer(
-    answers: &mut Vec<Option<CliArgs>>,
-    words: &[Word<'_>],
-    answer: Option<CliArgs>,
-) -> Result<(), AllocError>
-    ensures { OnOk result
-        (answers.new.items ≡ answers.old.items ++ kept_answer words.now answer) }
-{
-    if asks_clap(words) {
-        answers.push(answer)?;
+    if !asks_clap(&words) {
+        return Ok(());
     }
+    // Another call of clap may return another answer.
+    answers.push(answer)?;
     Ok(())
 }
 
@@ -201,7 +190,7 @@ pub fn super_of(alloc: Global, arguments: &[Word<'_>]) -> Result<Principal, Line
     ensures { Gives result (super_of arguments.now) }
 {
     match arguments {
-        [name] => principal_of(alloc, lent_text_of(name)?),
+        [name] => named_principal(alloc, name),
         _ => Err(LineError::Fault(FaultKind::BadLine)),
     }
 }

@@ -1,12 +1,11 @@
 //! What a line asks for. The words after `acl` are those of `kafka-acls`, and each of its commands is
 //! one request.
 
-ghost use Rattle.std.specs.Prelude.{◌≡◌, [], IfOk, Ok, option_map, map};
+ghost use Rattle.std.specs.Prelude.{◌≡◌, [], IfOk, OnOk, OnErr, Ok, option_map, map};
 ghost use Rattle.kob_script.specs.CommandLines.{acl_commands, acl_request, asked_by, asks_by_acl};
 ghost use Rattle.kob_script.specs.CommandLines.{error_of, events_by, events_of};
 ghost use Rattle.kob_script.specs.Reading.{Gives, GivesSeen, counted};
-ghost use Rattle.kob_script.specs.Requests.{asks_clap};
-ghost use Rattle.kob_script.specs.Script.{after_acl, IsAnswerTo};
+ghost use Rattle.kob_script.specs.Script.{after_acl, asks_clap, IsAnswerTo};
 
 use crate::asker::asker_of;
 use crate::checks::is_setting;
@@ -21,36 +20,6 @@ use kob_names::{Host, PlainValue, Principal};
 use kob_rights::{CreateAcls, DeleteAcls, DescribeAcls, Event, Request};
 use std::alloc::{AllocError, Global};
 use std::collections::VecDeque;
-use std::marker::Model;
-
-/// The events that a line asks for, in order. A single event needs no allocation for a list.
-#[derive(Debug, Drop)]
-pub struct Asked {
-    pub first: Option<Event>,
-    pub others: VecDeque<Event>,
-}
-
-impl Model for Asked {
-    ghost use Rattle.std.specs.List.{cons_option};
-    ghost use Rattle.std.specs.Prelude.{List};
-    ghost use Rattle.kob_rights.specs.declared.event.Event.{Event};
-
-    ghost Value = { List Event };
-
-    ghost view = { λ asked. cons_option asked.first asked.others.items };
-}
-
-impl Asked {
-    /// No event. Does not allocate.
-    pub fn nothing(alloc: Global) -> Asked
-        ensures { result ≡ [] }
-    {
-        Asked {
-            first: None,
-            others: VecDeque::new(alloc),
-        }
-    }
-}
 
 /// The number of events that a line's words ask for, by `clap`'s answer to those of `acl`. The fault
 /// is that of the words, or of the options of `acl`. No event is made.
@@ -77,26 +46,28 @@ pub fn events_of(
     alloc: Global,
     words: &[Word<'_>],
     answer: &Option<CliArgs>,
-) -> Result<Asked, LineError>
-    ensures { Gives result (events_of answer.now words.now) }
+) -> Result<VecDeque<Event>, LineError>
+    ensures { GivesSeen (λ events. events.items) result (events_of answer.now words.now) }
 {
     let mut last = None;
     count_of(alloc, &mut last, words, answer)?;
-    match events_in(alloc, &mut last, words, answer) {
-        Ok(asked) => Ok(asked),
-        Err(_) => Err(LineError::Memory),
-    }
+    let mut asked = VecDeque::new(alloc);
+    events_in(alloc, &mut last, words, answer, &mut asked).or(Err(LineError::Memory))?;
+    Ok(asked)
 }
 
-/// The events of words without a fault, in order. The error is then out of memory.
+/// The events of words without a fault, in order, which `asked` is then. The error is out of memory.
 #[tactic(auto, unfolding(crate::specs::CommandLines::asked_by))]
 pub fn events_in(
     alloc: Global,
     last: &mut Option<Principal>,
     words: &[Word<'_>],
     answer: &Option<CliArgs>,
-) -> Result<Asked, LineError>
-    ensures { IfOk result (λ asked. asked_by answer.now words.now ≡ Ok asked) }
+    asked: &mut VecDeque<Event>,
+) -> Result<(), LineError>
+    requires { asked.old.items ≡ [] }
+    ensures asked { OnOk result (asked_by answer.now words.now ≡ Ok asked.new.items) }
+    ensures same { OnErr result (asked.new.items ≡ asked.old.items) }
 {
     let [principal, host, command, arguments @ ..] = words else {
         return Err(LineError::Fault(FaultKind::BadLine));
@@ -105,25 +76,17 @@ pub fn events_in(
     let host = named_host(alloc, host)?;
     if command.decoded() == b"acl".as_slice() {
         let commands = acl_commands(alloc, answer)?;
-        let events = events_by(alloc, &principal, &host, commands)?;
-        return Ok(Asked {
-            first: None,
-            others: VecDeque::from(events),
-        });
+        *asked = VecDeque::from(events_by(alloc, &principal, &host, commands)?);
+        return Ok(());
     }
-    let Some(command) = command_named(command.decoded()) else {
-        return Err(LineError::Fault(FaultKind::BadLine));
-    };
+    let command = command_named(command.decoded()).ok_or(LineError::Fault(FaultKind::BadLine))?;
     let request = request_of(alloc, command, arguments)?;
-    let event = Event {
+    asked.push_back(Event {
         principal,
         host,
         request,
-    };
-    Ok(Asked {
-        first: Some(event),
-        others: VecDeque::new(alloc),
-    })
+    })?;
+    Ok(())
 }
 
 fn asks_by_acl(words: &[Word<'_>]) -> bool
@@ -165,7 +128,7 @@ fn after_acl<'w, 'l>(words: &'w [Word<'l>]) -> Option<&'w [Word<'l>]>
 {
     match words {
         [first, _, command, arguments @ ..]
-            if !is_setting(first) && command.decoded() == b"acl".as_slice() => { Some(arguments) }
+            if command.decoded() == b"acl".as_slice() && !is_setting(first) => { Some(arguments) }
         _ => None,
     }
 }
@@ -209,13 +172,10 @@ fn events_by(
 {
     let mut events = Vec::new(alloc);
     for command in commands {
-        let principal = principal.copy(alloc)?;
-        let host = host.copy(alloc)?;
-        let request = acl_request(command);
         events.push(Event {
-            principal,
-            host,
-            request,
+            principal: principal.copy(alloc)?,
+            host: host.copy(alloc)?,
+            request: acl_request(command),
         })?;
     }
     Ok(events)

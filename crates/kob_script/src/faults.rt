@@ -1,8 +1,9 @@
 //! The fault of a line's words: the first kind, in the order of the kinds, that some word has.
 
 ghost use Rattle.std.specs.Prelude.{◌≡◌, Option, Result};
+ghost use Rattle.std.specs.Result.{result_err};
 ghost use Rattle.kob_script.specs.CommandLines.{line_fault, faults_in, slot_fault};
-ghost use Rattle.kob_script.specs.Reading.{Finds, Gives, earlier, earlier_kind, fault_in};
+ghost use Rattle.kob_script.specs.Reading.{Finds, Gives, earlier, earlier_kind};
 ghost use Rattle.kob_script.specs.Reading.{first_kind};
 ghost use Rattle.kob_script.specs.declared.fault.FaultKind as kinds;
 
@@ -29,9 +30,7 @@ pub fn check_line(
     let [principal, host, command, arguments @ ..] = words else {
         return Err(LineError::Fault(FaultKind::BadLine));
     };
-    let Some(places) = row_named(command.decoded()) else {
-        return Err(LineError::Fault(FaultKind::BadLine));
-    };
+    let places = row_named(command.decoded()).ok_or(LineError::Fault(FaultKind::BadLine))?;
     let others = check_words(alloc, places, arguments);
     let after_principal = first_error(check_slot(alloc, Slot::Host, host), others);
     first_error(check_asker(alloc, last, principal), after_principal)
@@ -91,7 +90,7 @@ fn earlier_kind(kind: FaultKind, other: FaultKind) -> FaultKind
 
 // Drops what was read, and keeps the error.
 fn tested<T: Drop>(read: Result<T, LineError>) -> Result<(), LineError>
-    ensures { (told : Result T kinds.FaultKind) → Gives read told → Finds result (fault_in told) }
+    ensures { (told : Result T kinds.FaultKind) → Gives read told → Finds result (result_err told) }
 {
     read?;
     Ok(())

@@ -17,7 +17,7 @@ mod values;
 mod words;
 
 pub use checks::{CheckedScript, check_script, everyone_of, is_setting, is_super, super_of};
-pub use command_lines::{Asked, answer_to, events_of};
+pub use command_lines::{answer_to, events_of};
 pub use fault::{Fault, FaultKind, LineError, ScriptError};
 pub use laws::{
     cuts_leave_whole_escapes, faults_come_in_their_order, plain_scripts_have_one_reading,

@@ -139,9 +139,7 @@ fn create_acl(alloc: Global, words: &[Word<'_>]) -> Result<Request, LineError>
         principal: named_principal(alloc, who)?,
         host: named_host(alloc, from)?,
     };
-    let mut drafts = Vec::with_capacity(alloc, 1)?;
-    drafts.push(draft)?;
-    let drafts = Items::from_vec(drafts);
+    let drafts = Items::from_vec(vec![in alloc; draft]?);
     Ok(Request::CreateAcls(CreateAcls { drafts }))
 }
 

@@ -1,13 +1,14 @@
 //! The requests of a checked script. Each is read when it is needed.
 
-ghost use Rattle.std.specs.Prelude.{◌≡◌, ◌<◌, ◌++◌, ◌∷◌, length, slice_index_or};
+ghost use Rattle.std.specs.Prelude.{◌≡◌, ◌<◌, ◌++◌, ◌∷◌, [], length, slice_index_or};
 ghost use Rattle.std.specs.Prelude.{IfOk, OnOk, OnErr, None};
 ghost use Rattle.kob_script.specs.Requests.{lines_in_blocks, lines_left, steps_left, answers_after};
-ghost use Rattle.kob_script.specs.Requests.{first_answer, line_words, requests_in, requests_of};
+ghost use Rattle.kob_script.specs.Requests.{first_answer, requests_in, requests_of};
+ghost use Rattle.kob_script.specs.Script.{line_words};
 
 use crate::blocks::{Blocks, first_line};
 use crate::checks::is_setting;
-use crate::command_lines::{Asked, asks_clap, events_in};
+use crate::command_lines::{asks_clap, events_in};
 use crate::words::{Word, words_of};
 use kob_acl_cli::CliArgs;
 use kob_names::{Bytes, Principal};
@@ -77,98 +78,102 @@ impl Requests {
         ensures same { OnErr result (self.new ≡ self.old) }
     {
         while self.asked.is_empty() {
-            let asked = read_on(alloc, &mut self.last, &mut self.blocks, &mut self.answers)?;
-            let Asked { first, others } = asked;
-            self.asked = others;
-            if let Some(event) = first {
-                self.left -= 1;
-                return Ok(event);
-            }
+            read_on(
+                alloc,
+                &mut self.last,
+                &mut self.blocks,
+                &mut self.answers,
+                &mut self.asked,
+            )?;
         }
         self.left -= 1;
         Ok(self.asked.pop_front().unwrap())
     }
 }
 
-// Reads a line and returns what it asks for, or moves to the next block.
+// Reads a line and what it asks for, or moves to the next block.
 fn read_on(
     alloc: Global,
     last: &mut Option<Principal>,
     blocks: &mut Blocks,
     answers: &mut VecDeque<Option<CliArgs>>,
-) -> Result<Asked, AllocError>
-    requires { 0 < steps_left blocks.old }
-    ensures asked { IfOk result (λ asked. requests_in (lines_left blocks.old) answers.old.items
-        ≡ asked ++ requests_in (lines_left blocks.new) answers.new.items) }
+    asked: &mut VecDeque<Event>,
+) -> Result<(), AllocError>
+    requires some { 0 < steps_left blocks.old }
+    requires none { asked.old.items ≡ [] }
+    ensures same { asked.new.items ++ requests_in (lines_left blocks.new) answers.new.items
+        ≡ asked.old.items ++ requests_in (lines_left blocks.old) answers.old.items }
     ensures nearer { OnOk result (steps_left blocks.new < steps_left blocks.old) }
-    ensures same { OnErr result (requests_in (lines_left blocks.new) answers.new.items
-        ≡ requests_in (lines_left blocks.old) answers.old.items) }
 {
-    let Some(line) = first_line(blocks.rest()) else {
+    let Some((line, size)) = first_line(blocks.rest()) else {
         blocks.enter_next();
-        return Ok(Asked::nothing(alloc));
+        return Ok(());
     };
-    let size = line.size;
-    let asked = read_again(alloc, last, line.text, answers)?;
+    read_again(alloc, last, line, answers, asked)?;
     blocks.pass(size);
-    Ok(asked)
+    Ok(())
 }
 
-// What a line without a fault asks for. If clap was asked about it, its answer is removed.
+// Reads what a line without a fault asks for. If clap was asked about it, its answer is removed.
 #[inline(always)]
 fn read_again(
     alloc: Global,
     last: &mut Option<Principal>,
     line: &[u8],
     answers: &mut VecDeque<Option<CliArgs>>,
-) -> Result<Asked, AllocError>
-    ensures asked { IfOk result (λ asked. asked
+    asked: &mut VecDeque<Event>,
+) -> Result<(), AllocError>
+    requires { asked.old.items ≡ [] }
+    ensures asked { OnOk result (asked.new.items
         ≡ requests_of (first_answer (line_words line.now) answers.old.items)
         (line_words line.now)) }
     ensures used { OnOk result (answers.new.items
         ≡ answers_after (line_words line.now) answers.old.items) }
-    ensures same { OnErr result (answers.new.items ≡ answers.old.items) }
+    ensures same { OnErr result ((asked.new.items ≡ asked.old.items)
+        × (answers.new.items ≡ answers.old.items)) }
 {
-    let Ok(words) = words_of(alloc, line) else {
-        return Err(AllocError);
-    };
+    let words = words_of(alloc, line).or(Err(AllocError))?;
     if !asks_clap(&words) {
-        return requests_of(alloc, last, &words, &None);
+        return read_words(alloc, last, &words, &None, asked);
     }
-    let asked = asked_first(alloc, last, &words, answers)?;
+    read_by_first(alloc, last, &words, answers, asked)?;
     answers.pop_front();
-    Ok(asked)
+    Ok(())
 }
 
-// What words ask for, by the first answer.
-fn asked_first(
+// Reads what words ask for, by the first answer.
+fn read_by_first(
     alloc: Global,
     last: &mut Option<Principal>,
     words: &[Word<'_>],
     answers: &VecDeque<Option<CliArgs>>,
-) -> Result<Asked, AllocError>
-    ensures { IfOk result (λ asked. asked
+    asked: &mut VecDeque<Event>,
+) -> Result<(), AllocError>
+    requires { asked.old.items ≡ [] }
+    ensures asked { OnOk result (asked.new.items
         ≡ requests_of (slice_index_or answers.now.items 0 None) words.now) }
+    ensures same { OnErr result (asked.new.items ≡ asked.old.items) }
 {
     let unasked = None;
-    requests_of(alloc, last, words, answers.front().unwrap_or(&unasked))
+    let answer = answers.front().unwrap_or(&unasked);
+    read_words(alloc, last, words, answer, asked)
 }
 
 #[inline(always)]
-fn requests_of(
+fn read_words(
     alloc: Global,
     last: &mut Option<Principal>,
     words: &[Word<'_>],
     answer: &Option<CliArgs>,
-) -> Result<Asked, AllocError>
-    ensures { IfOk result (λ asked. asked ≡ requests_of answer.now words.now) }
+    asked: &mut VecDeque<Event>,
+) -> Result<(), AllocError>
+    requires { asked.old.items ≡ [] }
+    ensures asked { OnOk result (asked.new.items ≡ requests_of answer.now words.now) }
+    ensures same { OnErr result (asked.new.items ≡ asked.old.items) }
 {
     match words {
-        [] => Ok(Asked::nothing(alloc)),
-        [first, ..] if is_setting(first) => Ok(Asked::nothing(alloc)),
-        _ => match events_in(alloc, last, words, answer) {
-            Ok(asked) => Ok(asked),
-            Err(_) => Err(AllocError),
-        },
+        [] => Ok(()),
+        [first, ..] if is_setting(first) => Ok(()),
+        _ => events_in(alloc, last, words, answer, asked).or(Err(AllocError)),
     }
 }

@@ -1,7 +1,7 @@
 //! A script: settings, and then requests, one a line.
 
-ghost use Rattle.std.specs.Prelude.{◌≡◌, ◌∷◌, [], IfOk};
-ghost use Rattle.kob_script.specs.Script.{script_of, HasNoAclLine, MayRead, Reads};
+ghost use Rattle.std.specs.Prelude.{◌≡◌, IfOk};
+ghost use Rattle.kob_script.specs.Script.{script_of, HasNoAclLine, IfRead, ReadsAs};
 
 use crate::checks::{CheckedScript, check_script};
 use crate::fault::ScriptError;
@@ -22,24 +22,16 @@ pub struct Script {
 /// first line with a fault, or `Memory`. `clap` tells what the words of an `acl` line mean, and for
 /// some words its port may return more than one result. A script without such lines has one reading.
 pub fn read_script(alloc: Global, text: &[u8]) -> Result<Script, ScriptError>
-    ensures any { MayRead text.now result }
-    ensures plain { HasNoAclLine text.now → Reads result (script_of text.now) }
+    ensures any { IfRead result (ReadsAs text.now) }
+    ensures plain { HasNoAclLine text.now → IfRead result (λ read. script_of text.now ≡ read) }
 {
-    let blocks = one_block(alloc, text)?;
+    let blocks = vec![in alloc; Bytes::copied(alloc, text)?].or(Err(ScriptError::Memory))?;
     let CheckedScript { settings, requests } = check_script(alloc, blocks)?;
     let events = all_events(alloc, requests)?;
     Ok(Script {
         settings,
         events: Items::from_vec(events),
     })
-}
-
-fn one_block(alloc: Global, text: &[u8]) -> Result<Vec<Bytes>, AllocError>
-    ensures { IfOk result (λ blocks. blocks.items ≡ text.now ∷ []) }
-{
-    let mut blocks = Vec::with_capacity(alloc, 1)?;
-    blocks.push(Bytes::copied(alloc, text)?)?;
-    Ok(blocks)
 }
 
 fn all_events(alloc: Global, mut requests: Requests) -> Result<Vec<Event>, AllocError>

@@ -35,8 +35,7 @@ pub fn lent_text_of<'w>(word: &'w Word<'_>) -> Result<&'w str, LineError>
 pub fn text_of(alloc: Global, word: &Word<'_>) -> Result<Text, LineError>
     ensures { Gives result (text_of word.now) }
 {
-    let text = lent_text_of(word)?;
-    Ok(Text::copied(alloc, text)?)
+    Ok(Text::copied(alloc, lent_text_of(word)?)?)
 }
 
 /// The texts of the words, in order, borrowed from them.
@@ -148,8 +147,7 @@ pub fn before_of(word: &Word<'_>) -> Result<Before, LineError>
     if word.decoded() == b"-1".as_slice() {
         return Ok(Before::End);
     }
-    let offset = number_of(word)?;
-    Ok(Before::Offset(offset))
+    Ok(Before::Offset(number_of(word)?))
 }
 
 /// What a table has for a word. The fault is `BadWord`.
@@ -178,12 +176,8 @@ pub fn idem_of(alloc: Global, word: &Word<'_>) -> Result<Option<Idem>, LineError
     if word.is_dash() {
         return Ok(None);
     }
-    let Some((id, others)) = cut_at(b':', word.raw()) else {
-        return Err(LineError::Fault(FaultKind::BadLine));
-    };
-    let Some((epoch, base)) = cut_at(b':', others) else {
-        return Err(LineError::Fault(FaultKind::BadLine));
-    };
+    let (id, others) = cut_at(b':', word.raw()).ok_or(LineError::Fault(FaultKind::BadLine))?;
+    let (epoch, base) = cut_at(b':', others).ok_or(LineError::Fault(FaultKind::BadLine))?;
     if cut_at(b':', base).is_some() {
         return Err(LineError::Fault(FaultKind::BadLine));
     }

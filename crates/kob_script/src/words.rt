@@ -2,10 +2,10 @@
 
 ghost use Rattle.std.specs.Option.{option_copied};
 ghost use Rattle.std.specs.Prelude.{◌≡◌, ◌≤◌, codes, length, bytes_eq, Some, IfOk, IfSome};
-ghost use Rattle.std.specs.Prelude.{MatchBool, if◌then◌else◌, find, not, option_map, ⊤};
+ghost use Rattle.std.specs.Prelude.{MatchBool, find, not, option_map, ⊤};
 ghost use Rattle.kob_script.specs.Reading.{Gives, GivesSeen, each};
-ghost use Rattle.kob_script.specs.Words.{are_hexadecimal, byte_at, bytes_of, cut_at, hexadecimal};
-ghost use Rattle.kob_script.specs.Words.{is_blank, is_skipped, raw_words, unescaped, word_of, words_of};
+ghost use Rattle.kob_script.specs.Words.{byte_at, bytes_of, cut_at, hexadecimal, is_blank};
+ghost use Rattle.kob_script.specs.Words.{is_skipped, raw_words, unescaped, word_of, words_of};
 
 use crate::fault::{FaultKind, LineError};
 use kob_names::Bytes;
@@ -45,13 +45,11 @@ impl<'a> Word<'a> {
                 replaced: None,
             });
         }
-        match unescaped(alloc, raw)? {
-            Some(bytes) => Ok(Word {
-                raw,
-                replaced: Some(bytes),
-            }),
-            None => Err(LineError::Fault(FaultKind::BadEscape)),
-        }
+        let bytes = unescaped(alloc, raw)?.ok_or(LineError::Fault(FaultKind::BadEscape))?;
+        Ok(Word {
+            raw,
+            replaced: Some(bytes),
+        })
     }
 
     /// The word as it is in the line.
@@ -195,7 +193,7 @@ fn byte_at(first: u8, others: &[u8]) -> Option<(u8, &[u8])>
 
 /// The byte that two hexadecimal digits write.
 fn hexadecimal(high: u8, low: u8) -> Option<u8>
-    ensures { result ≡ (if are_hexadecimal high low then Some (hexadecimal high low) else None) }
+    ensures { result ≡ hexadecimal high low }
 {
     match (char::from(high).to_digit(16), char::from(low).to_digit(16)) {
         (Some(high), Some(low)) => Some((16 * high + low) as u8),

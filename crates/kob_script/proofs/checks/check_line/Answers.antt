@@ -1,5 +1,5 @@
-use Rattle.kob_script.proofs.Imports.{err_from_is_err_and, script_so_far}
-use Rattle.kob_script.proofs.CheckedLines.{line_checked, line_fails, words_fail}
+use Rattle.kob_script.proofs.Imports.{err_from_is_err_and, rules, script_so_far, ◌∙◌}
+use Rattle.kob_script.proofs.CheckedLines.{keeps_none, keeps_one, line_checked, line_fails, words_fail}
 use Rattle.kob_script.proofs.checks.check_line.Goals as goal
 
 pub returns-in_err-words : goal.returns-in_err-words
@@ -18,10 +18,18 @@ returns-in_err-check_words c = λ events counts.
     c.in_ok-words.ensures (rw c.deref.ensures.value at c.in_ok-answer.ensures)
     (rw c.deref-2.ensures.value at (c.in_err-check_words.ensures events counts)))
 
+pub returns-then-not-asks_clap : goal.returns-then-not-asks_clap
+returns-then-not-asks_clap c = λ events counts.
+    line_checked (script_so_far c.args.checking.now events) c.args.line.now c.check_words.new.checking
+    c.args.answers.now.items c.args.answers.now.items c.in_ok-words.words.items c.in_ok-answer.answer
+    c.in_ok-words.ensures (rw c.deref.ensures.value at c.in_ok-answer.ensures)
+    (keeps_none _ c.in_ok-words.words.items c.in_ok-answer.answer (search rules))
+    (rw c.deref-2.ensures.value at (c.in_ok-check_words.ensures events counts))
+
 pub returns : goal.returns
 returns c = λ events counts.
     line_checked (script_so_far c.args.checking.now events) c.args.line.now c.check_words.new.checking
-    c.args.answers.now.items c.keep_answer.new.answers.items c.in_ok-words.words.items c.in_ok-answer.answer
+    c.args.answers.now.items _ c.in_ok-words.words.items c.in_ok-answer.answer
     c.in_ok-words.ensures (rw c.deref.ensures.value at c.in_ok-answer.ensures)
-    (rw c.deref-3.ensures.value at c.in_ok-keep_answer.ensures)
+    (c.in_ok-push.ensures.items ∙ keeps_one _ c.in_ok-words.words.items c.in_ok-answer.answer (search rules))
     (rw c.deref-2.ensures.value at (c.in_ok-check_words.ensures events counts))

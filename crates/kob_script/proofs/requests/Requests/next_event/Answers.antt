@@ -12,24 +12,31 @@ loop-alloc-init c = record {
 pub read_on-requires : goal.read_on-requires
 read_on-requires c =
     let inside = c.loop-alloc.self-inside in
-    some_lines inside.asked.items (lines_left inside.blocks) inside.answers.items c.args.self.now _
-    (nothing_at_zero inside.asked.items inside.asked.len inside.asked.ok.0 (sym c.is_empty.ensures ∙ c.loop-alloc-test.true))
-    c.loop-alloc.invariant.same c.requires
+    let none =
+    nothing_at_zero inside.asked.items inside.asked.len inside.asked.ok.0
+    (sym c.is_empty.ensures ∙ c.loop-alloc-test.true) in
+    record {
+      some = some_lines inside.asked.items (lines_left inside.blocks) inside.answers.items c.args.self.now _ none
+          c.loop-alloc.invariant.same c.requires;
+      none = none;
+    }
+
+pub loop-alloc-preserved : goal.loop-alloc-preserved
+loop-alloc-preserved c = record {
+  count = c.loop-alloc.invariant.count ∙ ap length (sym c.read_on.ensures.same);
+  same = c.read_on.ensures.same ∙ c.loop-alloc.invariant.same;
+}
 
 pub invariant_of-self : goal.invariant_of-self
-invariant_of-self c =
-    let asked = c.loop-alloc.self-inside.asked.items in
-    c.loop-alloc.invariant.count
-    ∙ ap length (sym (ap (λ (rest : List Event). asked ++ rest) c.in_err-asked.ensures.same))
+invariant_of-self c = c.loop-alloc.invariant.count ∙ ap length (sym c.read_on.ensures.same)
 
-pub returns-in_err-asked-clause-same : goal.returns-in_err-asked-clause-same
-returns-in_err-asked-clause-same c =
-    let asked = c.loop-alloc.self-inside.asked.items in
+pub returns-in_err-read_on-clause-same : goal.returns-in_err-read_on-clause-same
+returns-in_err-read_on-clause-same c =
     let p = err_from_is_err_and c.from_residual.result c.from_residual.ensures.1 in
-    rw (p.1) (ap (λ (rest : List Event). asked ++ rest) c.in_err-asked.ensures.same ∙ c.loop-alloc.invariant.same)
+    rw (p.1) (c.read_on.ensures.same ∙ c.loop-alloc.invariant.same)
 
 pub loop-alloc-smaller : goal.loop-alloc-smaller
-loop-alloc-smaller c = c.in_ok-asked.ensures.nearer
+loop-alloc-smaller c = c.in_ok-read_on.ensures.nearer
 
 pub overflow_sub-self : goal.overflow_sub-self
 overflow_sub-self c =
