@@ -7,17 +7,16 @@
 --     opens_end           the siblings, opened at their end
 --     link_lies           a link by value, whose word lies at a place, lies there
 --     closes_with         with a link at their end the siblings are closed again
-use Rattle.kob_prefix_tree.proofs.Words.{ !, Fml, Goal, Item, Lawfuls, Laws, Leads, Link, List, Logic, Member, Node, PartsBack, Ptr, RattleType, SProp, Seq, Step, Tree, Ura, Val, [], align, all, all_e, ap, apply∗, assume, block_ptr, box_owns, done, each, ent, fat, field_back, field_out, fields, fjoin, fsplit, fst∗, full_share, group, if_none, in_a_block, last_of, leaf, linked_row, lone, low, move, never, node, nodes_own, null_ptr, param, param_laws, part_at, part_in, part_out, pick, qed, raw, refl, rest_at, rewrite, rows_of, sem, sep, some, split, step, subst, sym, tree_of, up, use1, use2, use3, vunit, wand, with_others, ‵, ℕ, ◌$◌, ◌+◌, ◌∵◌, ◌∷◌, ◌≡◌, ◌⊛◌}
+use Rattle.kob_prefix_tree.proofs.Words.{ !, Fml, Goal, Item, Lawfuls, Laws, Leads, Link, List, Logic, Member, Node, PartsBack, Ptr, RattleType, SProp, Seq, Step, Tree, Ura, Val, [], align, all, all_e, ap, apply∗, assume, block_ptr, done, each, ent, fat, field_back, field_out, fields, full_share, group, if_none, last_of, leaf, linked_row, lone, low, move, node, nodes_own, param, param_laws, part_at, part_in, part_out, pick, qed, raw, refl, rest_at, rewrite, rows_of, sem, sep, some, split, step, subst, sym, tree_of, up, use1, use2, use3, vunit, wand, with_others, ‵, ℕ, ◌$◌, ◌+◌, ◌∵◌, ◌∷◌, ◌≡◌, ◌⊛◌}
 use prog.Memory.{size}
 use types.Kit.{drop}
-use mir.Raw.{raw as bare}
 use denote.Memory.{part_of}
-use Rattle.std.specs.contracts.impls.GlobalAllocator.TheImpl.{ghosts as heap_rights}
 use Rattle.std.proofs.alloc.Global.TheLaws as heap_laws
 use Rattle.kob_prefix_tree.specs.contracts.link.Link as link
 use Rattle.kob_prefix_tree.specs.contracts.node.Node as block
 use Rattle.kob_prefix_tree.proofs.link.Link.TheLaws as link_laws
-use Rattle.kob_prefix_tree.proofs.Firsts.{word, apart, together, has_first, is_first, is_node}
+use Rattle.kob_prefix_tree.proofs.Blocks.{FirstNode, close_first, may_free, open_first}
+use Rattle.kob_prefix_tree.proofs.Firsts.{word, apart, together, is_node}
 
 -- the node with another link beside it
 abbrev with_next : {X : Type 0} → Node X (Link X) (Link X) → Link X → Node X (Link X) (Link X)
@@ -53,9 +52,6 @@ module _ (Y : RattleType) (laws : Laws Y) where
   abbrev Kept : RattleType
   Kept = linked_row Item'
 
-  abbrev Made : Type 0
-  Made = Node Y.Denot (Link Y.Denot) (Link Y.Denot)
-
   abbrev each_member : List RattleType → List Member
   each_member [] = []
   each_member (first ∷ others) = record { ty = lone first.mir; row = first } ∷ each_member others
@@ -67,9 +63,6 @@ module _ (Y : RattleType) (laws : Laws Y) where
   end_offset =
       let behind_item = up (align (lone Item'.mir)) 0 + size (lone Item'.mir) in
       up (align (lone Linked.mir)) (up (align (lone Linked.mir)) behind_item + size (lone Linked.mir))
-
-  abbrev may_free : Made → ℕ → ℕ → Fml
-  may_free n b o = heap_rights.dealloc_token n.alloc (bare (lone Kept.mir)) (block_ptr b o)
 
   -- the word of a link, at the end of the node at that place
   abbrev at_end : ℕ → ℕ → Val → Fml
@@ -84,21 +77,21 @@ module _ (Y : RattleType) (laws : Laws Y) where
         let of_item = param_laws 0 Y laws in let of_link = (link_laws.the_row_laws Item' of_item).lawful logic in
         (of_item.lawful logic, (of_link, (of_link, (heap_laws.the_field_loose.lawful logic, tt))))
 
-    abbrev Others : Made → ℕ → ℕ → SProp ghosts
+    abbrev Others : FirstNode Y → ℕ → ℕ → SProp ghosts
     Others n b o =
         let rest = rest_at full_share members 0 ((block.the_type Item' Linked Linked).to n) b o 2 in
         sep ghosts (sem logic rest) (PartsBack logic full_share [] members b o)
 
-    abbrev Whole : Made → ℕ → ℕ → SProp ghosts
+    abbrev Whole : FirstNode Y → ℕ → ℕ → SProp ghosts
     Whole n b o = sem logic (part_at Kept full_share n b o)
 
-    next_out : (n : Made) (b o : ℕ)
+    next_out : (n : FirstNode Y) (b o : ℕ)
         → ent ghosts (Whole n b o) (sep ghosts (sem logic (link_at n.next b (o + end_offset))) (Others n b o))
     unfolding part_of
     next_out n b o =
         field_out logic full_share [] members members_lawful ((block.the_type Item' Linked Linked).to n) b o 2
 
-    next_in : (n : Made) (l : Link Y.Denot) (b o : ℕ)
+    next_in : (n : FirstNode Y) (l : Link Y.Denot) (b o : ℕ)
         → ent ghosts (sep ghosts (sem logic (link_at l b (o + end_offset))) (Others n b o)) (Whole (with_next n l) b o)
     unfolding part_of
     next_in n l b o =
@@ -112,22 +105,20 @@ module _ (Y : RattleType) (laws : Laws Y) where
     Closes t p b at = all ghosts (Closed t p b at)
 
     -- all of a node but its link to the next
-    abbrev AllBut : Made → ℕ → ℕ → Ptr → SProp ghosts
-    AllBut n b o p = sep ghosts (Others n b o) (sep ghosts (sem logic (may_free n b o)) (sem logic (low Item' p)))
+    abbrev AllBut : FirstNode Y → ℕ → ℕ → SProp ghosts
+    AllBut n b o =
+        let there = block_ptr b o in
+        sep ghosts (Others n b o) (sep ghosts (sem logic (may_free Y n.alloc there)) (sem logic (low Item' there)))
 
     -- a node whose `next` is there again is the first behind its pointer
-    node_again : (n : Made) (l : Link Y.Denot) (b o : ℕ) (p : Ptr) → p ≡ block_ptr b o
-        → ent ghosts (sep ghosts (sem logic (link_at l b (o + end_offset))) (AllBut n b o p))
+    node_again : (n : FirstNode Y) (l : Link Y.Denot) (b o : ℕ) (p : Ptr) → p ≡ block_ptr b o
+        → ent ghosts (sep ghosts (sem logic (link_at l b (o + end_offset))) (AllBut n b o))
         (sem logic (nodes_own Item' (tree_of (with_next n l)) p))
-    unfolding part_of
     node_again n l b o p lies =
-        let now = with_next n l in
-        qed logic (‵ (link_at l b (o + end_offset)) ∷ raw (Others n b o) ∷ ‵ (may_free n b o) ∷ ‵ (low Item' p) ∷ []) ∵
-        use2 logic (‵ (part_at Kept full_share now b o)) (next_in n l b o) $ fjoin ! $
-        rewrite ! 1 (λ (q : Ptr). ‵ (low Item' q)) lies refl $
-        -- [the node, with the right to free it; the comparison]
-        move ! (1 ∷ 0 ∷ []) $ use2 logic (‵ (nodes_own Item' (tree_of now) (block_ptr b o)))
-        (is_first Y logic now (block_ptr b o)) $
+        let now = with_next n l in let there = block_ptr b o in
+        qed logic
+        (‵ (link_at l b (o + end_offset)) ∷ raw (Others n b o) ∷ ‵ (may_free Y n.alloc there) ∷ ‵ (low Item' there) ∷ []) ∵
+        use2 logic (‵ (part_at Kept full_share now b o)) (next_in n l b o) $ close_first Y ! now b o $
         rewrite ! 0 (λ (q : Ptr). ‵ (nodes_own Item' (tree_of now) q)) (sym lies) refl $ done !
 
   module _ {World : Type 1} {ghosts : Ura World} {logic : Logic ghosts} {Mark : Type 0} {held : List (Item ghosts)}
@@ -146,13 +137,14 @@ module _ (Y : RattleType) (laws : Laws Y) where
         use2 logic (‵ (nodes_own Item' (with_others t l) p))
         (apply∗ ghosts (sem logic (link_at l b at)) (sem logic (nodes_own Item' (with_others t l) p))) $ rest)
 
-  module _ {World : Type 1} {ghosts : Ura World} (logic : Logic ghosts) (n : Made) (b o : ℕ) (p : Ptr)
+  module _ {World : Type 1} {ghosts : Ura World} (logic : Logic ghosts) (n : FirstNode Y) (b o : ℕ) (p : Ptr)
       (lies : p ≡ block_ptr b o) where
     -- the one node of its list
     closes_one : n.next.nodes ≡ leaf
-        → ent ghosts (AllBut logic n b o p) (Closes logic (tree_of n) p b (o + end_offset))
+        → ent ghosts (AllBut logic n b o) (Closes logic (tree_of n) p b (o + end_offset))
     closes_one last =
-        qed logic (raw (Others logic n b o) ∷ ‵ (may_free n b o) ∷ ‵ (low Item' p) ∷ []) ∵
+        let there = block_ptr b o in
+        qed logic (raw (Others logic n b o) ∷ ‵ (may_free Y n.alloc there) ∷ ‵ (low Item' there) ∷ []) ∵
         each ! (Closed logic (tree_of n) p b (o + end_offset)) (λ l.
         assume ! (‵ (link_at l b (o + end_offset))) $ group ! 4 $
         use1 logic (‵ (nodes_own Item' (tree_of (with_next n l)) p)) (node_again logic n l b o p lies) $
@@ -161,11 +153,12 @@ module _ (Y : RattleType) (laws : Laws Y) where
     -- a node with others behind it, which close
     closes_more : (far place : ℕ) → Leads n.next.nodes
         → ent ghosts (sep ghosts (Closes logic n.next.nodes n.next.first far place)
-        (sep ghosts (sem logic (at_end b o (word n.next.first))) (AllBut logic n b o p)))
+        (sep ghosts (sem logic (at_end b o (word n.next.first))) (AllBut logic n b o)))
         (Closes logic (tree_of n) p far place)
     closes_more far place leads =
+        let there = block_ptr b o in
         qed logic (raw (Closes logic n.next.nodes n.next.first far place) ∷ ‵ (at_end b o (word n.next.first)) ∷
-        raw (Others logic n b o) ∷ ‵ (may_free n b o) ∷ ‵ (low Item' p) ∷ []) ∵
+        raw (Others logic n b o) ∷ ‵ (may_free Y n.alloc there) ∷ ‵ (low Item' there) ∷ []) ∵
         each ! (Closed logic (tree_of n) p far place) (λ l.
         let behind : Link Y.Denot = record { nodes = with_others n.next.nodes l; first = n.next.first } in
         assume ! (‵ (link_at l far place)) $ move ! (1 ∷ []) $
@@ -179,17 +172,13 @@ module _ (Y : RattleType) (laws : Laws Y) where
   module _ {World : Type 1} {ghosts : Ura World} {logic : Logic ghosts} {Mark : Type 0}
       {goal : Goal ghosts logic.H} where
     -- a node's block: the place of its link to the next, and the rest
-    opens_node : Mark → (held : List (Item ghosts)) (n : Made) (p : Ptr)
+    opens_node : Mark → (held : List (Item ghosts)) (n : FirstNode Y) (p : Ptr)
         → ((b o : ℕ) (v : Val) → p ≡ block_ptr b o → v ∷ [] ≡ word n.next.first ∷ []
         → Seq Mark logic (‵ (at_end b o v) ∷ ‵ (nodes_own Item' n.next.nodes n.next.first) ∷
-        raw (Others logic n b o) ∷ ‵ (may_free n b o) ∷ ‵ (low Item' p) ∷ held) goal)
+        raw (Others logic n b o) ∷ ‵ (may_free Y n.alloc (block_ptr b o)) ∷ ‵ (low Item' (block_ptr b o)) ∷ held) goal)
         → Seq Mark logic (‵ (nodes_own Item' (tree_of n) p) ∷ held) goal
-    unfolding part_of
     opens_node mark held n p rest =
-        let boxed : Ptr → Fml = λ q. box_owns (heap_rights.dealloc_token n.alloc) Kept q n in
-        let freed = heap_rights.dealloc_token n.alloc (bare (lone Kept.mir)) null_ptr in
-        use1 logic (‵ (low Item' p) ⊛ ‵ (boxed p)) (has_first Y logic n p) $ split mark $ move mark (1 ∷ []) $
-        in_a_block mark p boxed (fst∗ ghosts (never ghosts) (sem logic freed)) (λ b o lies. fsplit mark $
+        open_first Y mark n p (λ b o lies.
         let place = o + end_offset in
         use1 logic (‵ (link_at n.next b place) ⊛ raw (Others logic n b o)) (next_out logic n b o) $ split mark $
         use1 logic (some (λ (v : Val). ‵ (at_end b o v) ⊛ ‵ (Linked.own_val n.next (v ∷ []))))
@@ -204,7 +193,7 @@ module _ (Y : RattleType) (laws : Laws Y) where
     opens_end mark held (node item heap c below m leaf) p leads rest =
         let child : Link Y.Denot = record { first = c; nodes = below } in
         let next : Link Y.Denot = record { first = m; nodes = leaf } in
-        let n : Made = record { item = item; child = child; next = next; alloc = heap } in
+        let n : FirstNode Y = record { item = item; child = child; next = next; alloc = heap } in
         opens_node mark held n p (λ b o v lies is_word. move mark (1 ∷ []) $ drop mark $ move mark (1 ∷ 2 ∷ 3 ∷ []) $
         use3 logic (raw (Closes logic (tree_of n) p b (o + end_offset))) (closes_one logic n b o p lies refl) $
         move mark (1 ∷ []) $ rest b o v lies)
@@ -212,12 +201,13 @@ module _ (Y : RattleType) (laws : Laws Y) where
         let behind = node item' heap' c' below' m' after in
         let child : Link Y.Denot = record { first = c; nodes = below } in
         let next : Link Y.Denot = record { first = m; nodes = behind } in
-        let n : Made = record { item = item; child = child; next = next; alloc = heap } in
+        let n : FirstNode Y = record { item = item; child = child; next = next; alloc = heap } in
         let more : Leads behind = λ e. subst is_node (sym e) tt in
         opens_node mark held n p (λ b o v lies is_word.
         rewrite mark 0 (λ (u : Val). ‵ (at_end b o u)) (ap head is_word) refl $ move mark (1 ∷ []) $
         opens_end mark
-        (‵ (at_end b o (word m)) ∷ raw (Others logic n b o) ∷ ‵ (may_free n b o) ∷ ‵ (low Item' p) ∷ held)
+        (‵ (at_end b o (word m)) ∷ raw (Others logic n b o) ∷ ‵ (may_free Y n.alloc (block_ptr b o)) ∷
+        ‵ (low Item' (block_ptr b o)) ∷ held)
         (node item' heap' c' below' m' after) m more (λ far place last there.
         move mark (1 ∷ 2 ∷ 3 ∷ 4 ∷ 5 ∷ []) $ group mark 5 $
         use1 logic (raw (Closes logic (tree_of n) p far (place + end_offset)))

@@ -2,12 +2,11 @@
 -- of their own.
 --     held_empty                              the empty map holds nothing
 --     held_added_same, held_added_other       after `added`, at the key and at any other
---     held_removed_same, held_removed_other   after `removed`
 --     held_removed_all_same, held_removed_all_other   after `removed_all`
 --     along_has_prefixed, along_has_literal   a walk of a name has the prefixed serials of each key that the name
 -- begins with, and its literal ones, in the whole tree and in a part of it
 --     walk_only                               and in the tree no others
-use Rattle.kob_prefix_tree.proofs.Words.{Contains, Contains-append_cases, Contains-append_left, Contains-append_right, Held, List, None, PatternKind, PrefixMap, Some, [], added, ap, append-nil, arith, cond, false, flat_map, flat_map-map, held, inl, inr, is_nothing, nat_cmp, nat_list_cmp_total, nothing, prefixes, refl, removed, removed_all, serials_along, slice_cmp, subst, sym, true, unwrap_or, with_serial, without_serial, without_serials, ℕ, ◌++◌, ◌∷◌, ◌≡◌, ◌≢◌, ◌⊎◌}
+use Rattle.kob_prefix_tree.proofs.Words.{Contains, Contains-append_cases, Contains-append_left, Contains-append_right, Held, List, None, PatternKind, PrefixMap, Some, [], added, ap, append-nil, arith, cond, false, flat_map, flat_map-map, held, inl, inr, is_nothing, nat_cmp, nat_list_cmp_total, nothing, prefixes, refl, removed_all, serials_along, slice_cmp, subst, sym, true, unwrap_or, with_serial, without_serials, ℕ, ◌++◌, ◌∷◌, ◌≡◌, ◌≢◌, ◌⊎◌}
 use Rattle.kob_prefix_tree.specs.PrefixMap.{walk_of}
 use Rattle.std.proofs.Common.{map as each}
 use Rattle.std.specs.FinMap as map
@@ -47,12 +46,6 @@ module _ (m : PrefixMap) (key : List ℕ) where
 
     pub held_added_other : (other : List ℕ) → other ≢ key → held (added m key kind serial) other ≡ held m other
     held_added_other other ne = grind (arith, inserted, apart)
-
-    pub held_removed_same : held (removed m key kind serial) key ≡ without_serial kind serial (held m key)
-    held_removed_same = left_same (without_serial kind serial (held m key))
-
-    pub held_removed_other : (other : List ℕ) → other ≢ key → held (removed m key kind serial) other ≡ held m other
-    held_removed_other = left_other (without_serial kind serial (held m key))
 
   module _ (kind : PatternKind) (serials : List ℕ) where
     pub held_removed_all_same : held (removed_all m key kind serials) key ≡ without_serials kind serials (held m key)

@@ -7,7 +7,6 @@ pub mod HeldLaws
 pub mod LevelsLemmas
 pub mod ListLemmas
 pub mod MapLemmas
-pub mod Moves
 pub mod PartLemmas
 pub mod PartsLemmas
 pub mod Read

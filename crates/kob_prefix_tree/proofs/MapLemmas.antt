@@ -1,5 +1,5 @@
 -- The tree as a finite map, before and after a change.
-use Rattle.kob_prefix_tree.proofs.Words.{Bool, ChangedAt, Contents, Decides, Entries, Held, IsLongestInUse, IsNeat, List, Literal, None, Option, PatternKind, PrefixMap, Prefixed, Some, Trie, [], added, ap, arith, behind, bytes_eq-Decides, cond, entries_below, entries_in, eq_by_cmp, find, held, held_in, is_eq-slice_cmp, is_nothing, nat_cmp, nat_cmp-IsAntisymmetric, nat_list_cmp_total, nat_tests, nil_from_length, nothing, option_or, refl, removed, removed_all, sibling, siblings, slice_cmp, slice_cmp-IsAntisymmetric, subst, sym, true, value_at, void, with_serial, without_first, without_in_turn, without_serial, without_serials, ℕ, ◌++◌, ◌==◌, ◌∙◌, ◌∷◌, ◌≡◌, ◌≢◌}
+use Rattle.kob_prefix_tree.proofs.Words.{Bool, ChangedAt, Contents, Decides, Entries, Held, IsLongestInUse, IsNeat, List, Literal, None, Option, PatternKind, PrefixMap, Prefixed, Some, Trie, [], added, ap, arith, behind, bytes_eq-Decides, cond, entries_below, entries_in, eq_by_cmp, find, held, held_in, is_eq-slice_cmp, is_nothing, nat_cmp, nat_cmp-IsAntisymmetric, nat_list_cmp_total, nat_tests, nil_from_length, nothing, option_or, refl, removed_all, sibling, siblings, slice_cmp, slice_cmp-IsAntisymmetric, subst, sym, true, value_at, void, with_serial, without_serials, ℕ, ◌++◌, ◌==◌, ◌∙◌, ◌∷◌, ◌≡◌, ◌≢◌}
 use Rattle.std.specs.FinMap as map
 use Rattle.kob_prefix_tree.proofs.SiblingLemmas.{neat_at, neat_list}
 
@@ -83,27 +83,14 @@ is_map : (c : Contents) (m : PrefixMap) → IsNeat c.1 → ((key : List ℕ) →
 is_map c m neat is = map.same_map nat_list_cmp_total (slice_cmp-IsAntisymmetric nat_cmp-IsAntisymmetric) (map_at c) m
     (λ key. get_at c key neat ∙ sym (is key))
 
-without_one_of : (y : ℕ) (xs : List ℕ) → without_in_turn (y ∷ []) xs ≡ without_first (λ x. x == y) xs
-without_one_of y [] = refl
-without_one_of y (x ∷ xs) = grind (arith, nat_tests, without_one_of y xs, all_left)
-  where
-    all_left : (zs : List ℕ) → without_in_turn [] zs ≡ zs
-    all_left [] = refl
-    all_left (z ∷ zs) = refl
-
-without_one : (kind : PatternKind) (serial : ℕ) (h : Held)
-    → without_serials kind (serial ∷ []) h ≡ without_serial kind serial h
-without_one Literal serial h i = (without_one_of serial h.0 i, h.1)
-without_one Prefixed serial h i = (h.0, without_one_of serial h.1 i)
-
 module _ (old new : Contents) (key : List ℕ) (neat : IsNeat old.1) where
   module _ (f : Held → Held) (done : ChangedAt key f old new) where
     left_get : (k : List ℕ) → map.get (cond (is_nothing (f (held (map_at old) key))) (map.remove (map_at old) key)
         (map.insert (map_at old) key (f (held (map_at old) key)))) k ≡ kept (held_in k new)
     left_get k =
-        let first = map.get-remove nat_list_cmp_total (map_at old) key k in
-        let second = map.get-insert nat_list_cmp_total (map_at old) key in let third = bytes_decide k key in
-        let fourth = get_at old k neat in let fifth = held_of_map key old neat in let sixth = done.elsewhere k in
+        let gone = map.get-remove nat_list_cmp_total (map_at old) key k in
+        let put = map.get-insert nat_list_cmp_total (map_at old) key in let same = bytes_decide k key in
+        let old_at = get_at old k neat in let held_old = held_of_map key old neat in let beside = done.elsewhere k in
         grind (arith, done.at)
 
     left_of : map_at new ≡ cond (is_nothing (f (held (map_at old) key))) (map.remove (map_at old) key)
@@ -123,6 +110,5 @@ module _ (old new : Contents) (key : List ℕ) (neat : IsNeat old.1) where
         → map_at new ≡ removed_all (map_at old) key kind serials
     removed_all_of serials done = left_of (without_serials kind serials) done
 
-    pub removed_of : (serial : ℕ) → ChangedAt key (without_serials kind (serial ∷ [])) old new
-        → map_at new ≡ removed (map_at old) key kind serial
-    removed_of serial done = grind (arith, left_of, without_one kind serial (held (map_at old) key))
+-- what a removal is proved by
+pub ruleset removing = (held_of_map, removed_all_of)

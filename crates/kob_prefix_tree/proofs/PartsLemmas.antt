@@ -39,8 +39,8 @@ led_by_parts n tail c = grind (arith, take-append-drop n tail, led_by_both (take
 pub nothing_at : (n : ℕ) (tail rest : List ℕ) (c : Contents) → LeadsNowhere rest (led_by (drop n tail) c)
     → (length rest ≡ 0 → n < length tail) → held_in (take n tail ++ rest) (led_by tail c) ≡ nothing
 nothing_at n tail rest c nowhere short =
-    let first = led_by_parts n tail c in let second = held_inside (take n tail) rest (led_by (drop n tail) c) in
-    let third = at (drop n tail) rest nowhere in let fourth = length-drop n tail in grind arith
+    let parts = led_by_parts n tail c in let inside = held_inside (take n tail) rest (led_by (drop n tail) c) in
+    let none = at (drop n tail) rest nowhere in let left = length-drop n tail in grind arith
   where
     at : (bytes rest : List ℕ) → LeadsNowhere rest (led_by bytes c) → (length rest ≡ 0 → 0 < length bytes)
         → held_in rest (led_by bytes c) ≡ nothing
@@ -57,8 +57,8 @@ module _ (count : ℕ) (rest : List ℕ) (here : Branch) (end : EndsAt count res
       → (false ≡ has_serials kind serials (held_in key (contents here)))
       × ChangedAt key (without_serials kind serials) (contents here) (contents here)
   none_here kind serials short =
-      let first = nothing_at count here.tail rest (end_of here) end.nowhere short in
-      let second = none_found kind serials in let third = none_taken kind serials in grind (arith, nat_tests)
+      let nowhere = nothing_at count here.tail rest (end_of here) end.nowhere short in
+      let found = none_found kind serials in let taken = none_taken kind serials in grind (arith, nat_tests)
 
   -- the key ends with the bytes of the branch
   at_end : length rest ≡ 0 → count ≡ length here.tail → key ≡ here.tail ++ []
@@ -71,7 +71,7 @@ module _ (count : ℕ) (rest : List ℕ) (here : Branch) (end : EndsAt count res
       → count ≡ length here.tail → bytes ≡ here.tail → after ≡ (f (end_of here).0, (end_of here).1)
       → now ≡ kept_behind bytes after → ChangedAt key f (contents here) now
   changed_at_end f none all bytes_are after_is now_is =
-      let first = at_end none all in
-      let second = through f here.tail [] (end_of here) (f (end_of here).0, (end_of here).1) end.neat in
-      let third = changed_here f (end_of here).0 (end_of here).1 (neat_inside here.tail (end_of here) end.neat) in
+      let key_is = at_end none all in
+      let inside = through f here.tail [] (end_of here) (f (end_of here).0, (end_of here).1) end.neat in
+      let at_place = changed_here f (end_of here).0 (end_of here).1 (neat_inside here.tail (end_of here) end.neat) in
       grind arith

@@ -31,3 +31,5 @@ none_found Prefixed (x ∷ serials) = refl
 pub no_nodes : (t : Tree Item) → trie_of t ≡ void → t ≡ leaf
 no_nodes leaf e = refl
 no_nodes (node item heap c below n after) e = cc
+
+pub ruleset nothing_behind = (tail_of_bare, no_nodes)

@@ -4,7 +4,7 @@ use Rattle.kob_prefix_tree.specs.declared.siblings.Item.{Item}
 use Rattle.kob_prefix_tree.proofs.MapLemmas.{is_nothing_true, with_some}
 use Rattle.kob_prefix_tree.proofs.SiblingLemmas.{at_first, at_without, neat_at, neat_list, neat_tree, neat_without, at_without_other}
 use Rattle.kob_prefix_tree.proofs.ChangeLemmas.{behind_tail, changed_here, held_in_bare, taken_out, stands}
-use Rattle.kob_prefix_tree.proofs.TailLemmas.{tail_of_bare}
+use Rattle.kob_prefix_tree.proofs.TailLemmas.{behind_none, tail_of_bare}
 
 -- a place where a serial was put is not bare
 pub some_put : (kind : PatternKind) (serial : ℕ) (key : List ℕ) (h : Held) {c : Contents}
@@ -102,11 +102,13 @@ module _ (key tail tail' rest : List ℕ) (byte : ℕ) (h : Held) (t : Trie) (ab
       → (f : Held → Held) (c : Contents) → ChangedAt rest f bare c → c ≢ bare
       → ChangedAt key f bare (unwound above' (led_by tail' c))
   along_on before f c done some =
-      let first = before f (led_by (byte ∷ tail') c) in let second = behind_tail f tail' rest done some in
-      let third = behind_tail f (byte ∷ tail') rest done some in grind (arith, none, on, child_put, kept_some)
+      let came = before f (led_by (byte ∷ tail') c) in let tail_done = behind_tail f tail' rest done some in
+      let byte_done = behind_tail f (byte ∷ tail') rest done some in grind (arith, none, on, child_put, kept_some)
 
 -- one serial alone
 pub put_alone : (kind : PatternKind) (serial : ℕ) {h h' : Held} {t t' : Trie} → (h, t) ≡ bare
     → h' ≡ with_serial kind serial h → t' ≡ t → ChangedAt [] (with_serial kind serial) bare (h', t')
 put_alone kind serial {h} {h'} {t} {t'} none is same =
     grind (arith, none, is, same, changed_here (with_serial kind serial) nothing void tt)
+
+pub ruleset neat_children = (behind_none, neat_at, neat_list)

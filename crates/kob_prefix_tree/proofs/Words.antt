@@ -2,18 +2,17 @@
 pub use Rattle.core.proofs.alloc.Calls.{Al, Goes-blank, handle_tells}
 pub use Rattle.core.proofs.alloc.Shapes.{after}
 pub use Rattle.core.proofs.atomic.Steps.{Ptr-Good}
-pub use Rattle.kob_prefix_tree.specs.Addition.{Addition}
 pub use Rattle.kob_prefix_tree.specs.Cells.{KnowsEnd, values_of}
 pub use Rattle.kob_prefix_tree.specs.Change.{ChangedAt}
 pub use Rattle.kob_prefix_tree.specs.Contents.{contents, end_of, seen, trie_of}
 pub use Rattle.kob_prefix_tree.specs.Entries.{Entries, behind, entries_below, entries_in}
-pub use Rattle.kob_prefix_tree.specs.Held.{Held, has_serial, has_serials, is_nothing, nothing, serials_of, with_serial, without_serial, without_serials}
-pub use Rattle.kob_prefix_tree.specs.Lists.{has_in_turn, without_first, without_in_turn}
+pub use Rattle.kob_prefix_tree.specs.Held.{Held, has_serials, is_nothing, nothing, serials_of, with_serial, without_serials}
+pub use Rattle.kob_prefix_tree.specs.Lists.{has_in_turn, without_in_turn}
 pub use Rattle.kob_prefix_tree.specs.Nodes.{Leads, if_none, last_of, leading_to, linked_row, size, tree_of, with_others}
 pub use Rattle.kob_prefix_tree.specs.Owned.{NodeOf, Pointer, low, node_of, nodes_lent, nodes_own, pointer_codes, way}
-pub use Rattle.kob_prefix_tree.specs.Part.{held_from, part_of}
+pub use Rattle.kob_prefix_tree.specs.Part.{held_from}
 pub use Rattle.kob_prefix_tree.specs.Path.{ArePacked, Parts, key_of}
-pub use Rattle.kob_prefix_tree.specs.PrefixMap.{IsLevels, PrefixMap, added, held, removed, removed_all}
+pub use Rattle.kob_prefix_tree.specs.PrefixMap.{IsLevels, PrefixMap, added, held, removed_all}
 pub use Rattle.kob_prefix_tree.specs.SerialsLeft.{unread_of}
 pub use Rattle.kob_prefix_tree.specs.Siblings.{IsNeat, behind_one, count, held_in, siblings, value_at, without}
 pub use Rattle.kob_prefix_tree.specs.Tree.{Tree, leaf, node}
@@ -30,11 +29,10 @@ pub use Rattle.kob_prefix_tree.specs.declared.node.Node.{Node}
 pub use Rattle.kob_prefix_tree.specs.declared.place.Place.{Place}
 pub use Rattle.kob_prefix_tree.specs.declared.serials.Unread.{Unread}
 pub use Rattle.kob_prefix_tree.specs.declared.walk.Ahead.{Ahead}
-pub use Rattle.std.proofs.Common.{Bool, Err, IsTrue, List, None, Ok, OnErr, OnOk, Option, Result, Some, [], ap, append-nil, append_assoc, arith, cond, drop, false, inl, inr, length, refl, subst, suc, sym, take, true, true≢false, unwrap_or, zero, ℕ, ◌++◌, ◌+◌, ◌<◌, ◌==◌, ◌^◌, ◌||◌, ◌∙◌, ◌∷◌, ◌≡◌, ◌≢◌, ◌≤◌, ◌⊎◌}
+pub use Rattle.std.proofs.Common.{Bool, Decides, Global, IsTrue, List, MatchOption, None, Option, Some, ap, append-nil, append_assoc, arith, cond, drop, eq-eqb, eqb-true, false, inl, inr, length, refl, subst, suc, sym, take, true, true≢false, unwrap_or, zero, [], ℕ, ◌++◌, ◌+◌, ◌<◌, ◌==◌, ◌^◌, ◌||◌, ◌↔◌, ◌∙◌, ◌∷◌, ◌≡◌, ◌≢◌, ◌≤◌, ◌⊎◌}
 pub use Rattle.std.proofs.Crossing.{frees}
 pub use Rattle.std.proofs.GlobalToken.{dealloc_token-Testable}
 pub use Rattle.std.proofs.Math.Bool.{and-true}
-pub use Rattle.std.proofs.lemmas.Bool.{eq-eqb, eqb-true, ne_eqb}
 pub use Rattle.std.proofs.lemmas.Bool.Decides.{nat_tests}
 pub use Rattle.std.proofs.lemmas.Grind.{common_steps}
 pub use Rattle.std.proofs.lemmas.List.{length-drop, nil_from_length, take-append-drop, take_all}
@@ -43,14 +41,11 @@ pub use Rattle.std.proofs.lemmas.List.Folds.{flat_map-map}
 pub use Rattle.std.proofs.lemmas.Map.Text.{is_eq-slice_cmp}
 pub use Rattle.std.proofs.lemmas.Slice.Eq.{bytes_eq-Decides}
 pub use Rattle.std.proofs.raw_atomic.Walks.{leaves, proved, proved_at}
-pub use Rattle.std.specs.Bool.{Decides}
 pub use Rattle.std.specs.Cmp.Lexicographic.{nat_list_cmp_total, slice_cmp}
 pub use Rattle.std.specs.FinMap.{find, nat_cmp-IsAntisymmetric, slice_cmp-IsAntisymmetric}
 pub use Rattle.std.specs.List.{Contains, flat_map, list_any}
 pub use Rattle.std.specs.Option.{option_or}
 pub use Rattle.std.specs.Ordering.{eq_by_cmp, nat_cmp}
-pub use Rattle.std.specs.Prelude.{MatchOption, ◌↔◌}
-pub use Rattle.std.specs.declared.alloc.Global.{Global}
 pub use Rattle.std_alloc.proofs.OfVacant.{Vacant-had, Vacant-made, vacant_ty, vacant_typed, vacant_val}
 pub use Rattle.std_alloc.proofs.Pairs.{pair_Typed, pair_of, pair_val}
 pub use Rattle.std_alloc.proofs.RawLayout.{as_raw, as_written}
@@ -93,15 +88,15 @@ pub use denote.Struct.Pick.{field_back, field_out, rest_at}
 pub use denote.Struct.Struct.{Struct, exits_of, within}
 pub use denote.Struct.Tuple.{Tuple}
 pub use denote.Triple.Walked.{Goes-dropped, Goes-none_ref, Goes-spent_ref, Stays, stay_dropped, stay_none_ref, walk_of}
-pub use lib.Dec.{lit<, ltb}
+pub use lib.Dec.{lit<}
 pub use mir.MapTy.{inst_fn}
-pub use mir.Syntax.{Ty, Width, a_type, addr_of, aggregate, copy, deref, dnil, field, impl, int, named, place, rv_opd, tnil, ty_ptr}
-pub use mir.Val.{Val, WT, bits, has_ty, of_list, ptr_same, vbool, vint, vnull, vptr, vstruct, vunit}
-pub use prog.Memory.{align, field_of, up}
-pub use prog.Wp.{Env, WpFn, spot_of}
+pub use mir.Syntax.{Ty, a_type, dnil, impl, named, tnil, ty_ptr}
+pub use mir.Val.{Val, WT, has_ty, of_list, ptr_same, vbool, vnull, vptr, vstruct, vunit}
+pub use prog.Memory.{align, up}
+pub use prog.Wp.{WpFn}
 pub use seplogic.Ra.Ura.{Ura}
-pub use types.ByLocal.{alloc_all, at, env, free_all, get, get_in, look_at, pass_all, sets, sets_last, through}
-pub use types.Kit.{ !, Goal, Item, Seq, Soaks, Step, assume, at_ret, await, by, done, each, feq_i, feq_l, fjoin, fjoin3, flt_i, flt_l, fpack, fpick, fsplit, fsplit3, group, join, keep, later, move, nth, pick, prop, qed, raw, regoal, rewrite, some, split, split3, step, use0, use1, use2, use3, ‵, ◌$◌, ◌∵◌, ◌⊛◌}
+pub use types.ByLocal.{alloc_all, env, free_all, get, get_in, look_at, pass_all, sets, sets_last, through}
+pub use types.Kit.{ !, Goal, Item, Seq, Soaks, Step, assume, at_ret, await, by, done, each, feq_i, feq_l, fjoin, fjoin3, flt_i, flt_l, fpack, fpick, fsplit, fsplit3, group, join, keep, later, move, pick, prop, qed, raw, regoal, rewrite, some, split, split3, step, use0, use1, use2, use3, ‵, ◌$◌, ◌∵◌, ◌⊛◌}
 pub use types.Logic.{Logic, sem}
-pub use types.Part.{Part, agg, look_in, sub, whole}
-pub use types.Run.{Finds, Reads, Rv, addr, and_then, assigns_last, bin, blocks, enter, exec, first, fld, hop, init, lit, load, look, no_more, of_opd, returns, stop, store, well_typed}
+pub use types.Part.{agg, look_in, sub, whole}
+pub use types.Run.{addr, and_then, assigns_last, bin, blocks, enter, exec, first, fld, hop, init, lit, load, look, no_more, of_opd, returns, stop, store, well_typed}

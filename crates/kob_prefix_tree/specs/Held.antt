@@ -3,7 +3,7 @@ use Rattle.std.specs.Prelude.{ℕ, ◌+◌, nat_eq, length, Bool, ◌==◌, List
 use Rattle.std.specs.List.{list_any}
 use Rattle.kob_prefix_tree.specs.declared.kind.PatternKind.{PatternKind}
 use Rattle.kob_prefix_tree.specs.declared.kind.PatternKind.TheVariants.{Literal, Prefixed}
-use Rattle.kob_prefix_tree.specs.Lists.{without_first, without_in_turn, has_in_turn}
+use Rattle.kob_prefix_tree.specs.Lists.{without_in_turn, has_in_turn}
 
 -- the literal serials, and the prefixed ones
 abbrev pub Held : Type 0
@@ -26,11 +26,6 @@ serials_of Prefixed held = held.1
 abbrev pub with_serial : PatternKind → ℕ → Held → Held
 with_serial Literal serial held = (held.0 ++ serial ∷ [], held.1)
 with_serial Prefixed serial held = (held.0, held.1 ++ serial ∷ [])
-
--- the serial taken out of the list of its kind
-abbrev pub without_serial : PatternKind → ℕ → Held → Held
-without_serial Literal serial held = (without_first (λ x. x == serial) held.0, held.1)
-without_serial Prefixed serial held = (held.0, without_first (λ x. x == serial) held.1)
 
 -- whether it is there
 abbrev pub has_serial : PatternKind → ℕ → Held → Bool

@@ -2,11 +2,6 @@
 use Rattle.std.specs.Prelude.{ℕ, Bool, false, ◌==◌, if◌then◌else◌, List, [], ◌∷◌}
 use Rattle.std.specs.List.{list_any}
 
--- xs less the first element that passes the test
-abbrev pub without_first : {A : Type 0} → (A → Bool) → List A → List A
-without_first test [] = []
-without_first test (x ∷ xs) = if test x then xs else x ∷ without_first test xs
-
 -- xs less these numbers, in one pass: each is taken out once, behind the one before it
 abbrev pub without_in_turn : List ℕ → List ℕ → List ℕ
 without_in_turn ys [] = []

@@ -1,11 +1,11 @@
 -- The tree as a finite map from keys to their serials, and what is read off it.
-use Rattle.std.specs.Prelude.{◌≡◌, ℕ, ◌+◌, if◌then◌else◌, List, unwrap_or}
+use Rattle.std.specs.Prelude.{◌≡◌, ℕ, ◌+◌, if◌then◌else◌, List, [], ◌∷◌, unwrap_or}
 use Rattle.std.specs.Ordering.{nat_cmp}
 use Rattle.std.specs.Cmp.Lexicographic.{slice_cmp}
 use Rattle.std.specs.FinMap as map
 use Rattle.kob_prefix_tree.specs.declared.kind.PatternKind.{PatternKind}
 use Rattle.kob_prefix_tree.specs.Held.{Held, nothing, is_nothing}
-use Rattle.kob_prefix_tree.specs.Held.{with_serial, without_serial, without_serials}
+use Rattle.kob_prefix_tree.specs.Held.{with_serial, without_serials}
 use Rattle.kob_prefix_tree.specs.Walked.{serials_along, IsLongestInUse}
 
 -- keys in use, each with what it holds
@@ -20,17 +20,15 @@ held m key = unwrap_or (map.get m key) nothing
 abbrev pub added : PrefixMap → List ℕ → PatternKind → ℕ → PrefixMap
 added m key kind serial = map.insert m key (with_serial kind serial (held m key))
 
--- the map after the serial is taken out. A key that then holds nothing goes
-abbrev pub removed : PrefixMap → List ℕ → PatternKind → ℕ → PrefixMap
-removed m key kind serial =
-    let left = without_serial kind serial (held m key) in
-    if is_nothing left then map.remove m key else map.insert m key left
-
--- the map after these serials are taken out, in one pass
+-- the map after these serials are taken out, in one pass. A key that then holds nothing goes
 abbrev pub removed_all : PrefixMap → List ℕ → PatternKind → List ℕ → PrefixMap
 removed_all m key kind serials =
     let left = without_serials kind serials (held m key) in
     if is_nothing left then map.remove m key else map.insert m key left
+
+-- the map after the serial is taken out
+abbrev pub removed : PrefixMap → List ℕ → PatternKind → ℕ → PrefixMap
+removed m key kind serial = removed_all m key kind (serial ∷ [])
 
 -- the prefixed serials of the keys with which the name begins, and then its literal ones
 abbrev pub walk_of : PrefixMap → List ℕ → List ℕ

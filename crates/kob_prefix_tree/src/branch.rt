@@ -56,7 +56,7 @@ impl Branch {
         }
     }
 
-    #[tactic(auto, using(crate::proofs::TailLemmas::tail_of_bare, crate::proofs::TailLemmas::no_nodes))]
+    #[tactic(auto, using(crate::proofs::TailLemmas::nothing_behind))]
     pub(crate) fn is_bare(&self) -> bool
         ensures { IsTrue result ↔ (contents self.now ≡ bare) }
     {

@@ -59,6 +59,7 @@ impl<'a> Part<'a> {
     }
 
     /// The place of a key, from which longer keys continue.
+    #[tactic(auto, using(crate::proofs::PartLemmas::from_match))]
     fn at(self, key: &[u8]) -> Option<Place<'a>>
         ensures { (more : List ℕ)
             → held_from result more ≡ part_of self.entry (key.now ++ more) }

@@ -50,7 +50,7 @@ impl<'a> Place<'a> {
     }
 
     /// The place after one byte.
-    #[tactic(auto, using(crate::proofs::TailLemmas::behind_none, crate::proofs::SiblingLemmas::neat_at, crate::proofs::SiblingLemmas::neat_list))]
+    #[tactic(auto, using(crate::proofs::WayLemmas::neat_children))]
     pub(crate) fn child(self, byte: u8) -> Option<Place<'a>>
         ensures held { MatchOption result
             ((key : List ℕ) → held_in (byte ∷ key) (seen self.entry) ≡ nothing)

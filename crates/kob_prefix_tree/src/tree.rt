@@ -149,7 +149,7 @@ impl PrefixTree {
     /// Removes the serial from the key's list of its kind, once if it is there more often, and
     /// returns whether it was there. Nodes that then have no serials and no children are freed.
     /// Does not allocate.
-    #[tactic(auto, using(crate::proofs::MapLemmas::held_of_map, crate::proofs::MapLemmas::removed_of))]
+    #[tactic(auto, using(crate::proofs::MapLemmas::removing))]
     pub fn remove(&mut self, key: &[u8], kind: PatternKind, serial: u64) -> bool
         ensures found { result ≡ has_serial kind serial (held self.old key.now) }
         ensures removed { self.new ≡ removed self.old key.now kind serial }
@@ -160,7 +160,7 @@ impl PrefixTree {
     /// Removes these serials from the key's list of their kind in one pass, and returns whether any
     /// was there. They must be in the order of that list: each is searched for after the one before
     /// it. Nodes that then have no serials and no children are freed. Does not allocate.
-    #[tactic(auto, using(crate::proofs::MapLemmas::held_of_map, crate::proofs::MapLemmas::removed_all_of))]
+    #[tactic(auto, using(crate::proofs::MapLemmas::removing))]
     pub fn remove_all(&mut self, key: &[u8], kind: PatternKind, serials: &[u64]) -> bool
         ensures found { result ≡ has_serials kind serials.now (held self.old key.now) }
         ensures removed { self.new ≡ removed_all self.old key.now kind serials.now }

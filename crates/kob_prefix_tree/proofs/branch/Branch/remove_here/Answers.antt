@@ -4,12 +4,12 @@ use Rattle.kob_prefix_tree.proofs.branch.Branch.remove_here.Goals as goal
 
 pub returns-then-not-is_empty : goal.returns-then-not-is_empty
 returns-then-not-is_empty c =
-    let first = none_here c.args.count c.args.key.now c.args.self.now c.requires c.args.kind c.args.serials.now in
+    let none = none_here c.args.count c.args.key.now c.args.self.now c.requires c.args.kind c.args.serials.now in
     grind (arith, nat_tests)
 
 pub returns-then-count-as_slice : goal.returns-then-count-as_slice
 returns-then-count-as_slice c =
-    let first = none_here c.args.count c.args.key.now c.args.self.now c.requires c.args.kind c.args.serials.now in
+    let none = none_here c.args.count c.args.key.now c.args.self.now c.requires c.args.kind c.args.serials.now in
     grind (arith, nat_tests, c.requires.within)
 
 pub returns : goal.returns

@@ -1,9 +1,9 @@
 -- `get` names the place where the pointer leads. What the link lends of its nodes has the `&` to the node that lies
 -- there.
-use Rattle.kob_prefix_tree.proofs.Words.{ !, Bor, Goes-none_ref, Leads, List, Stays, Tree, Val, [], a_type, after, alloc_all, at_ret, block_of, block_ptr, blocks, by, count_of, emp, enter, env, exec, fact, fact_i, feq_i, first, fjoin, flft, free_all, ftrue, inst_fn, keep, layouts, leaves, move, named, nodes_lent, param, pass_all, plain, proved, qed, raw, refl, returns, rewrite, sets, sets_last, shr_Tells, shr_vals, stay_none_ref, tables, tree_of, use0, vptr, walk_of, whole, yes, ‵, ◌$◌, ◌+◌, ◌∵◌, ◌∷◌, ◌≡◌, ◌⊑◌, ◌⊛◌}
+use Rattle.kob_prefix_tree.proofs.Words.{ !, Bor, Goes-none_ref, Leads, List, Stays, Tree, Val, [], a_type, after, alloc_all, at_ret, block_of, block_ptr, blocks, by, count_of, emp, enter, env, exec, fact, fact_i, feq_i, first, fjoin, flft, free_all, ftrue, inst_fn, keep, layouts, leaves, move, named, nodes_lent, param, pass_all, plain, proved, qed, raw, refl, returns, rewrite, sets, sets_last, shr_Tells, shr_vals, stay_none_ref, tables, tree_of, use0, vptr, walk_of, whole, yes, ‵, ◌$◌, ◌+◌, ◌∵◌, ◌∷◌, ◌≡◌, ◌⊑◌, ◌⊛◌, heard, of_opd, fld, stop, through, look, get, look_at, addr, hop, look_in, split}
+use types.Kit.{drop}
 use Rattle.kob_prefix_tree.proofs.Blocks.{FirstNode}
 use Rattle.kob_prefix_tree.proofs.Firsts.{first_of, sees_first}
-use Rattle.kob_prefix_tree.proofs.Moves.{heard_last, reaches, read_local, read_result}
 use Rattle.kob_prefix_tree.proofs.Read.{ends, enters, given, shut_pointer, with_pointer}
 use Rattle.kob_prefix_tree.specs.contracts.link.Link as link
 use Rattle.kob_prefix_tree.specs.contracts.link.Link.get as f
@@ -27,7 +27,7 @@ get_spec ghosts logic model runs wired Y laws =
     let token = flft lives.0 shares.0 in let others = ‵ (flft lives.1.0 shares.1.0) ⊛ ‵ ftrue in
     let wanted = raw (fact ghosts (lives.1.0 ⊑ Y.lives)) ⊛ raw (fact ghosts (Leads look.now.nodes)) in
     qed logic (((‵ token ⊛ others) ⊛ ‵ (given Y lives.0 look)) ∷ wanted ∷ []) ∵
-    move ! (1 ∷ []) $ heard_last ! (Leads look.now.nodes) (λ some_node.
+    move ! (1 ∷ []) $ split ! $ drop ! $ heard ! (Leads look.now.nodes) (λ some_node.
     let node = (first_of look.now.nodes some_node).0 in let is_tree = (first_of look.now.nodes some_node).1 in
     enters Y lives.0 look token others ! laws $
     rewrite ! 0 (λ (t : Tree Y.Denot). ‵ (nodes_lent (param 0 Y) t pointer lives.0)) is_tree refl $
@@ -39,10 +39,10 @@ get_spec ghosts logic model runs wired Y laws =
     enter ! table.C table.Λ body (shr_vals look) (walk.post state) $
     alloc_all ! (λ places. let local = env body.locals places in pass_all ! refl ((tt, tt), tt) $
     with_pointer pointer there lies b (o + 0) ! tt (λ part.
-    first ! $ blocks ! $ sets_last ! (reaches ! 0 refl refl (whole !)) refl (tt, tt) $
+    first ! $ blocks ! $ sets_last ! (addr ! (through ! refl (fld ! refl (hop ! (look_in ! 0 (whole !)) (stop !))))) refl (tt, tt) $
     exec ! table.C table.Λ local (after 1 body.body) (at_ret local (walk.post state)) $
     shut_pointer pointer there lies b (o + 0) ! tt $
-    sets ! (read_local ! refl) refl (tt, tt) $ returns ! (read_result ! refl) $ free_all ! refl $
+    sets ! (of_opd ! (get ! refl)) refl (tt, tt) $ returns ! (look_at ! 0 refl) $ free_all ! refl $
     move ! (2 ∷ 3 ∷ 0 ∷ 4 ∷ []) $ ends Y lives.0 look token others ! $
     -- [the tokens; the `&` to the link; the node]
     move ! (2 ∷ []) $ feq_i ! (List Val) (shr_vals seen) (shr_vals seen) refl $ fjoin ! $

@@ -1,8 +1,7 @@
 -- `is_null` compares a copy of the pointer with null. That this may be asked, and what the answer means, is told by
 -- what the link lends of its nodes.
-use Rattle.kob_prefix_tree.proofs.Words.{ !, Bool, Goes-none_ref, IsTrue, List, Ptr-Good, Stays, Val, [], a_type, alloc_all, bin, by, emp, enter, fact, fact_i, feq_i, flft, free_all, ftrue, get, inst_fn, keep, layouts, leaf, leaves, lit, move, named, param, pass_all, plain, proved, ptr_same, ptr_val, qed, raw, refl, returns, sets, shr_Tells, shr_vals, stay_none_ref, tables, tests_null, use0, vbool, vnull, walk_of, yes, ‵, ◌$◌, ◌+◌, ◌↔◌, ◌∵◌, ◌∷◌, ◌≡◌, ◌⊛◌}
+use Rattle.kob_prefix_tree.proofs.Words.{ !, Bool, Goes-none_ref, IsTrue, List, Ptr-Good, Stays, Val, [], a_type, alloc_all, bin, by, emp, enter, fact, fact_i, feq_i, flft, free_all, ftrue, get, inst_fn, keep, layouts, leaf, leaves, lit, move, named, param, pass_all, plain, proved, ptr_same, ptr_val, qed, raw, refl, returns, sets, shr_Tells, shr_vals, stay_none_ref, tables, tests_null, use0, vbool, vnull, walk_of, yes, ‵, ◌$◌, ◌+◌, ◌↔◌, ◌∵◌, ◌∷◌, ◌≡◌, ◌⊛◌, of_opd, fld, stop, load, through, look as of_item, look_at}
 use Rattle.kob_prefix_tree.proofs.Firsts.{tells_null}
-use Rattle.kob_prefix_tree.proofs.Moves.{read_beyond, read_result}
 use Rattle.kob_prefix_tree.proofs.Read.{ends, enters, given, shut_pointer, with_pointer}
 use Rattle.kob_prefix_tree.specs.contracts.link.Link as link
 use Rattle.kob_prefix_tree.specs.contracts.link.Link.is_null as f
@@ -32,9 +31,9 @@ is_null_spec ghosts logic model runs wired Y laws =
     enter ! table.C table.Λ body (shr_vals look) (walk.post state) $
     alloc_all ! (λ places. pass_all ! refl ((tt, tt), tt) $
     with_pointer first first refl b (o + 0) ! tt (λ part.
-    sets ! (read_beyond ! 0 refl refl refl) refl (Ptr-Good first) $ shut_pointer first first refl b (o + 0) ! tt $
+    sets ! (of_opd ! (load ! (through ! refl (fld ! refl (stop !))) (of_item ! 0 refl))) refl (Ptr-Good first) $ shut_pointer first first refl b (o + 0) ! tt $
     sets ! (bin ! (get ! refl) (lit ! tt) (tests_null first may_ask)) refl (tt, tt) $
-    returns ! (read_result ! refl) $ free_all ! refl $
+    returns ! (look_at ! 0 refl) $ free_all ! refl $
     keep ! (1 ∷ 2 ∷ 0 ∷ 3 ∷ []) $ ends Y lives.0 look token others ! $
     -- [the tokens; the `&`]
     let says = IsTrue answer ↔ (look.now.nodes ≡ leaf) in let told : List Val = vbool answer ∷ [] in

@@ -1,9 +1,9 @@
 -- `join` opens the siblings at their end, stores the other link there, and closes them with it.
-use Rattle.kob_prefix_tree.proofs.Words.{ !, Goes-blank, Goes-dropped, Leads, Link, List, Ptr, RattleType, RawPtr, SProp, Stays, Val, WpFn, [], a_type, after, alloc_all, ap, assigns_last, at_ret, blocks, by, emp, enter, env, exec, fact, fact_i, feq_l, first, flft, free_all, fsplit, ftrue, heard, inst_fn, join, keep, last_of, layouts, leaves, move, no, owns, param, pass_all, plain, prop, proved_at, ptr_val, qed, raw, refl, regoal, returns, sets, split, split3, stay_dropped, store, tables, types_at, use0, vptr, walk_of, with_others, yes, ‵, ◌$◌, ◌++◌, ◌+◌, ◌∙◌, ◌∵◌, ◌∷◌, ◌≡◌, ◌⊑◌, ◌⊛◌}
+use Rattle.kob_prefix_tree.proofs.Words.{ !, Goes-blank, Goes-dropped, Leads, Link, List, Ptr, RattleType, RawPtr, SProp, Stays, Val, WpFn, [], a_type, after, alloc_all, ap, assigns_last, at_ret, blocks, by, emp, enter, env, exec, fact, fact_i, feq_l, first, flft, free_all, fsplit, ftrue, heard, inst_fn, join, keep, last_of, layouts, leaves, move, no, owns, param, pass_all, plain, prop, proved_at, ptr_val, qed, raw, refl, regoal, returns, sets, split, split3, stay_dropped, store, tables, types_at, use0, vptr, walk_of, with_others, yes, ‵, ◌$◌, ◌++◌, ◌+◌, ◌∙◌, ◌∵◌, ◌∷◌, ◌≡◌, ◌⊑◌, ◌⊛◌, of_opd, fld, stop, through, get, no_more, look_at, fjoin, addr}
+use denote.Steps.{nothing}
 use types.Kit.{drop}
 use Rattle.kob_prefix_tree.proofs.Ends.{closes_with, end_offset, link_lies, opens_end}
 use Rattle.kob_prefix_tree.proofs.Firsts.{apart, together, word, word_fits}
-use Rattle.kob_prefix_tree.proofs.Moves.{leads_to, names_member, nothing_of_three, read_local, read_result}
 use Rattle.kob_prefix_tree.specs.contracts.link.Link as link
 use Rattle.kob_prefix_tree.specs.contracts.link.Link.join as f
 use Rattle.kob_prefix_tree.proofs.link.Link.join.Code as code
@@ -48,18 +48,18 @@ join_spec ghosts logic model runs wired Y laws =
     enter ! table.C table.Λ body (word these.first ∷ vptr b o ∷ word others.first ∷ []) (walk.post state) $
     alloc_all ! (λ places. let local = env body.locals places in
     pass_all ! refl (word_fits Y these.first, ((tt, tt), (word_fits Y others.first, tt))) $
-    first ! $ blocks ! $ sets ! (names_member ! refl refl) refl (tt, tt) $
-    sets ! (read_local ! refl) refl (word_fits Y others.first) $
-    assigns_last ! (read_local ! refl) (leads_to ! refl) (store ! 0 refl (word_fits Y others.first)) $
+    first ! $ blocks ! $ sets ! (addr ! (through ! refl (fld ! refl (stop !)))) refl (tt, tt) $
+    sets ! (of_opd ! (get ! refl)) refl (word_fits Y others.first) $
+    assigns_last ! (of_opd ! (get ! refl)) (through ! refl (stop !)) (store ! 0 refl (word_fits Y others.first)) $
     exec ! table.C table.Λ local (after 1 body.body) (at_ret local (walk.post state)) $
-    sets ! (read_local ! refl) refl (word_fits Y these.first) $ returns ! (read_result ! refl) $ free_all ! refl $
+    sets ! (of_opd ! (get ! refl)) refl (word_fits Y these.first) $ returns ! (look_at ! 0 refl) $ free_all ! refl $
     -- the other link lies there now
     move ! (1 ∷ []) $ link_lies Y laws ! others b place $ move ! (2 ∷ []) $
     closes_with Y laws ! others these.nodes these.first b place $ together Y ! made $
     -- [the link; nothing; the tokens]
     let starts = made.first ≡ these.first in let holds = made.nodes ≡ with_others these.nodes others in
     use0 logic (raw (fact ghosts holds)) (fact_i ghosts holds (emp ghosts) refl) $
-    use0 logic (raw (fact ghosts starts)) (fact_i ghosts starts (emp ghosts) refl) $ join ! $ nothing_of_three ! $
+    use0 logic (raw (fact ghosts starts)) (fact_i ghosts starts (emp ghosts) refl) $ join ! $ nothing ! $ nothing ! $ fjoin ! $ nothing ! $ fjoin ! $ nothing ! $ fjoin ! $
     -- [what is left of the three; what is promised; the link; nothing; the tokens]
     keep ! (4 ∷ 0 ∷ 2 ∷ 1 ∷ []) $
     let no_more : Unit {0} × Unit {0} = (tt, tt) in

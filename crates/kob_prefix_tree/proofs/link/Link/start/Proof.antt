@@ -1,6 +1,5 @@
 -- `start` hands out a copy of the pointer, which it opens and shuts.
-use Rattle.kob_prefix_tree.proofs.Words.{ !, Goes-none_ref, List, Ptr-Good, Stays, Val, [], a_type, alloc_all, by, emp, enter, fact, fact_i, feq_i, flft, free_all, ftrue, inst_fn, keep, layouts, leaves, move, named, param, pass_all, plain, proved, ptr_val, qed, raw, refl, returns, sets, shr_Tells, shr_vals, stay_none_ref, tables, use0, walk_of, yes, ‵, ◌$◌, ◌+◌, ◌∵◌, ◌∷◌, ◌≡◌, ◌⊛◌}
-use Rattle.kob_prefix_tree.proofs.Moves.{read_beyond, read_result}
+use Rattle.kob_prefix_tree.proofs.Words.{ !, Goes-none_ref, List, Ptr-Good, Stays, Val, [], a_type, alloc_all, by, emp, enter, fact, fact_i, feq_i, flft, free_all, ftrue, inst_fn, keep, layouts, leaves, move, named, param, pass_all, plain, proved, ptr_val, qed, raw, refl, returns, sets, shr_Tells, shr_vals, stay_none_ref, tables, use0, walk_of, yes, ‵, ◌$◌, ◌+◌, ◌∵◌, ◌∷◌, ◌≡◌, ◌⊛◌, of_opd, fld, stop, load, through, look as of_item, look_at}
 use Rattle.kob_prefix_tree.proofs.Read.{ends, enters, given, shut_pointer, with_pointer}
 use Rattle.kob_prefix_tree.specs.contracts.link.Link as link
 use Rattle.kob_prefix_tree.specs.contracts.link.Link.start as f
@@ -28,8 +27,8 @@ start_spec ghosts logic model runs wired Y laws =
     enter ! table.C table.Λ body (shr_vals look) (walk.post state) $
     alloc_all ! (λ places. pass_all ! refl ((tt, tt), tt) $
     with_pointer first first refl b (o + 0) ! tt (λ part.
-    sets ! (read_beyond ! 0 refl refl refl) refl (Ptr-Good first) $ shut_pointer first first refl b (o + 0) ! tt $
-    returns ! (read_result ! refl) $ free_all ! refl $
+    sets ! (of_opd ! (load ! (through ! refl (fld ! refl (stop !))) (of_item ! 0 refl))) refl (Ptr-Good first) $ shut_pointer first first refl b (o + 0) ! tt $
+    returns ! (look_at ! 0 refl) $ free_all ! refl $
     keep ! (2 ∷ 3 ∷ 0 ∷ 4 ∷ []) $ ends Y lives.0 look token others ! $
     -- [the tokens; the `&`]
     let answer : List Val = ptr_val first ∷ [] in feq_i ! (List Val) answer answer refl $
