@@ -1,5 +1,5 @@
 -- What a line asks for: its commands where no fault stands, and else the first fault that stands.
-use Rattle.std.specs.Prelude.{ℕ, not, List, [], ◌∷◌, ◌++◌, map, flat_map, if◌then◌else◌, Option, Some, None}
+use Rattle.std.specs.Prelude.{ℕ, not, List, [], ◌∷◌, ◌++◌, map, flat_map, if◌then◌else◌, Option, Some, None, option_map, unwrap_or}
 use Rattle.kob_names.specs.declared.filter.BindingFilter.{BindingFilter}
 use Rattle.kob_names.specs.declared.filter.FilterPattern.TheVariants.{Any}
 use Rattle.kob_acl_cli.specs.Accesses.{accesses}
@@ -30,19 +30,10 @@ rules parts args = product parts.allowed parts.denied (accesses parts.pattern pa
 
 -- a filter of what speaks of a resource and of a principal, each of them any where it is not set
 abbrev pub filter_on : Option Target → Option (List ℕ) → BindingFilter
-filter_on None principal = record {
-  resource = None;
-  name = None;
-  pattern = Any;
-  principal = principal;
-  host = None;
-  operation = None;
-  permission = None;
-}
-filter_on (Some target) principal = record {
-  resource = Some target.kind;
-  name = Some target.name;
-  pattern = target.pattern;
+filter_on target principal = record {
+  resource = option_map (λ it. it.kind) target;
+  name = option_map (λ it. it.name) target;
+  pattern = unwrap_or (option_map (λ it. it.pattern) target) Any;
   principal = principal;
   host = None;
   operation = None;

@@ -75,26 +75,6 @@ IsFlagBy (Some text) flag =
 abbrev pub IsFlag : List Row → List ℕ → Bool → Type 0
 IsFlag rows name flag = IsFlagBy (one_of name rows) flag
 
--- each option has what clap read for it
-pub record IsReadOf (rows : List Row) (args : CliArgs) : Type 0 where
-  pub allow_principals : args.allow_principals ≡ values_of rows (codes "allow-principal")
-  pub deny_principals : args.deny_principals ≡ values_of rows (codes "deny-principal")
-  pub allow_hosts : args.allow_hosts ≡ values_of rows (codes "allow-host")
-  pub deny_hosts : args.deny_hosts ≡ values_of rows (codes "deny-host")
-  pub operations : args.operations ≡ values_of rows (codes "operation")
-  pub topics : args.topics ≡ values_of rows (codes "topic")
-  pub groups : args.groups ≡ values_of rows (codes "group")
-  pub transactional_ids : args.transactional_ids ≡ values_of rows (codes "transactional-id")
-  pub principals : args.principals ≡ values_of rows (codes "principal")
-  pub pattern_type : args.pattern_type ≡ first_of (codes "resource-pattern-type") rows
-  pub add : IsFlag rows (codes "add") args.add
-  pub remove : IsFlag rows (codes "remove") args.remove
-  pub list : IsFlag rows (codes "list") args.list
-  pub cluster : IsFlag rows (codes "cluster") args.cluster
-  pub producer : IsFlag rows (codes "producer") args.producer
-  pub consumer : IsFlag rows (codes "consumer") args.consumer
-  pub idempotent : IsFlag rows (codes "idempotent") args.idempotent
-
 -- the options with the texts that clap read for them
 abbrev pub with_texts : List Row → CliArgs → CliArgs
 with_texts rows args = record args {
@@ -109,3 +89,14 @@ with_texts rows args = record args {
   principals = values_of rows (codes "principal");
   pattern_type = first_of (codes "resource-pattern-type") rows;
 }
+
+-- each option has what clap read for it
+pub record IsReadOf (rows : List Row) (args : CliArgs) : Type 0 where
+  pub texts : args ≡ with_texts rows args
+  pub add : IsFlag rows (codes "add") args.add
+  pub remove : IsFlag rows (codes "remove") args.remove
+  pub list : IsFlag rows (codes "list") args.list
+  pub cluster : IsFlag rows (codes "cluster") args.cluster
+  pub producer : IsFlag rows (codes "producer") args.producer
+  pub consumer : IsFlag rows (codes "consumer") args.consumer
+  pub idempotent : IsFlag rows (codes "idempotent") args.idempotent

@@ -4,6 +4,7 @@ use Rattle.kob_names.specs.declared.filter.FilterPattern.{FilterPattern}
 use Rattle.kob_names.specs.declared.filter.FilterPattern.TheVariants.{Literal}
 use Rattle.kob_names.specs.declared.kinds.Operation.{Operation}
 use Rattle.kob_names.specs.declared.kinds.Operation.TheVariants.{All}
+use Rattle.kob_names.specs.declared.kinds.Permission.{Permission}
 use Rattle.kob_names.specs.declared.kinds.Permission.TheVariants.{Allow, Deny}
 use Rattle.kob_words.specs.Operation.{operation_named}
 use Rattle.kob_words.specs.Pattern.{filter_pattern_named}
@@ -25,27 +26,18 @@ pattern_type None = Literal
 pattern_type (Some word) = unwrap_or (filter_pattern_named word) Literal
 
 -- without a host every host is meant
-abbrev pub allowed_holders : CliArgs → Holders
-allowed_holders args =
-    record {
-      permission = Allow;
-      principals = args.allow_principals;
-      hosts = or_default (codes "*") args.allow_hosts;
-    }
-
-abbrev pub denied_holders : CliArgs → Holders
-denied_holders args =
-    record {
-      permission = Deny;
-      principals = args.deny_principals;
-      hosts = or_default (codes "*") args.deny_hosts;
-    }
+abbrev pub holders : Permission → List (List ℕ) → List (List ℕ) → Holders
+holders permission principals hosts = record {
+  permission = permission;
+  principals = principals;
+  hosts = or_default (codes "*") hosts;
+}
 
 -- without an operation every operation is meant
 abbrev pub parts : CliArgs → Parts
 parts args = record {
-  allowed = allowed_holders args;
-  denied = denied_holders args;
+  allowed = holders Allow args.allow_principals args.allow_hosts;
+  denied = holders Deny args.deny_principals args.deny_hosts;
   operations = or_default All (operations_named args.operations);
   principals = args.principals;
   pattern = pattern_type args.pattern_type;

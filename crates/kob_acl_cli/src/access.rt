@@ -1,13 +1,16 @@
 //! The operations on each resource that the options of a command line mean.
 
-ghost use Rattle.std.specs.Prelude.{◌≡◌, ◌++◌, map, OnOk, IfOk};
-ghost use Rattle.kob_acl_cli.specs.Accesses.{accesses_to, topic_operations, plain_accesses};
+ghost use Rattle.std.specs.Prelude.{◌≡◌, ◌++◌, ◌∷◌, [], map, OnOk, IfOk};
+ghost use Rattle.kob_names.specs.declared.kinds.Operation.TheVariants.{IdempotentWrite};
+ghost use Rattle.kob_names.specs.declared.kinds.ResourceKind.TheVariants.{Topic};
+ghost use Rattle.kob_acl_cli.specs.Accesses.{access, accesses_to, topic_operations, plain_accesses};
 ghost use Rattle.kob_acl_cli.specs.Accesses.{convenience_accesses, accesses};
+ghost use Rattle.kob_acl_cli.specs.Targets.{cluster, targets_named};
 
 use crate::args::CliArgs;
 use crate::mixes::has_convenience;
 use crate::target::{Target, cluster, targets, targets_named};
-use kob_names::{FilterPattern, Items, Operation, PlainValue, ResourceKind};
+use kob_names::{FilterPattern, Items, Operation, PlainValue, ResourceKind, Text};
 use std::alloc::{AllocError, Global};
 
 /// Operations on a resource.
@@ -56,17 +59,82 @@ fn convenience_accesses(
     ensures { IfOk result (λ made. made.items ≡ convenience_accesses pattern args.now) }
 {
     let mut made = Vec::new(alloc);
-    let operations = topic_operations(alloc, args)?;
-    let topics = targets_named(alloc, ResourceKind::Topic, pattern, &args.topics)?;
-    push_accesses(alloc, &mut made, operations.as_slice(), topics.as_slice())?;
+    let Ok(()) = push_convenience(alloc, &mut made, args, pattern) else {
+        drop(made);
+        return Err(AllocError);
+    };
+    Ok(made)
+}
+
+fn push_convenience(
+    alloc: Global,
+    made: &mut Vec<Access>,
+    args: &CliArgs,
+    pattern: FilterPattern,
+) -> Result<(), AllocError>
+    ensures { OnOk result
+        (made.new.items ≡ made.old.items ++ convenience_accesses pattern args.now) }
+{
+    push_on_topics(alloc, made, args, pattern)?;
     if args.consumer {
-        let groups = targets_named(alloc, ResourceKind::Group, pattern, &args.groups)?;
-        push_accesses(alloc, &mut made, &[Operation::Read], groups.as_slice())?;
+        push_named(
+            alloc,
+            made,
+            &[Operation::Read],
+            ResourceKind::Group,
+            pattern,
+            &args.groups,
+        )?;
     }
     if args.idempotent {
-        made.push(access_to(alloc, &[Operation::IdempotentWrite], &cluster(alloc)?)?)?;
+        push_on_cluster(alloc, made)?;
     }
-    Ok(made)
+    Ok(())
+}
+
+fn push_on_topics(
+    alloc: Global,
+    made: &mut Vec<Access>,
+    args: &CliArgs,
+    pattern: FilterPattern,
+) -> Result<(), AllocError>
+    ensures { OnOk result (made.new.items ≡ made.old.items
+        ++ accesses_to (topic_operations args.now) (targets_named Topic pattern args.now.topics)) }
+{
+    let operations = topic_operations(alloc, args)?;
+    let kind = ResourceKind::Topic;
+    push_named(
+        alloc,
+        made,
+        operations.as_slice(),
+        kind,
+        pattern,
+        &args.topics,
+    )
+}
+
+fn push_named(
+    alloc: Global,
+    made: &mut Vec<Access>,
+    operations: &[Operation],
+    kind: ResourceKind,
+    pattern: FilterPattern,
+    names: &Items<Text>,
+) -> Result<(), AllocError>
+    ensures { OnOk result (made.new.items ≡ made.old.items
+        ++ accesses_to operations.now (targets_named kind pattern names.now)) }
+{
+    let targets = targets_named(alloc, kind, pattern, names)?;
+    push_accesses(alloc, made, operations, targets.as_slice())
+}
+
+fn push_on_cluster(alloc: Global, made: &mut Vec<Access>) -> Result<(), AllocError>
+    ensures { OnOk result (made.new.items ≡ made.old.items
+        ++ access (IdempotentWrite ∷ []) cluster ∷ []) }
+{
+    let cluster = cluster(alloc)?;
+    made.push(access_to(alloc, &[Operation::IdempotentWrite], &cluster)?)?;
+    Ok(())
 }
 
 fn topic_operations(alloc: Global, args: &CliArgs) -> Result<Vec<Operation>, AllocError>

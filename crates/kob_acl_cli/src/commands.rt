@@ -114,9 +114,20 @@ fn listings(alloc: Global, args: &CliArgs, parts: &Parts) -> Result<Vec<AclComma
 {
     let named = targets(alloc, args, parts.pattern)?;
     let wanted = each_or_any(alloc, named.as_slice())?;
-    let principals = each_or_any(alloc, parts.principals.as_slice())?;
+    listings_of(alloc, wanted.as_slice(), parts.principals.as_slice())
+}
+
+fn listings_of(
+    alloc: Global,
+    targets: &[Option<Target>],
+    principals: &[Principal],
+) -> Result<Vec<AclCommand>, AllocError>
+    ensures { IfOk result (λ made. made.items
+        ≡ commands.listings_by (commands.each_or_any principals.now) targets.now) }
+{
+    let principals = each_or_any(alloc, principals)?;
     let mut made = Vec::new(alloc);
-    for target in &wanted {
+    for target in targets {
         push_listings(alloc, &mut made, target, principals.as_slice())?;
     }
     Ok(made)

@@ -133,16 +133,38 @@ fn args_of(alloc: Global, matches: &ArgMatches<'_>) -> Result<CliArgs, AllocErro
 fn fill_texts(alloc: Global, matches: &ArgMatches<'_>, args: &mut CliArgs) -> Result<(), AllocError>
     ensures { OnOk result (args.new ≡ with_texts (rows_of (found_of matches.now)) args.old) }
 {
-    args.allow_principals = texts_of(alloc, matches, "allow-principal")?;
-    args.deny_principals = texts_of(alloc, matches, "deny-principal")?;
-    args.allow_hosts = texts_of(alloc, matches, "allow-host")?;
-    args.deny_hosts = texts_of(alloc, matches, "deny-host")?;
-    args.operations = texts_of(alloc, matches, "operation")?;
-    args.topics = texts_of(alloc, matches, "topic")?;
-    args.groups = texts_of(alloc, matches, "group")?;
-    args.transactional_ids = texts_of(alloc, matches, "transactional-id")?;
-    args.principals = texts_of(alloc, matches, "principal")?;
+    set_texts(
+        alloc,
+        matches,
+        "allow-principal",
+        &mut args.allow_principals,
+    )?;
+    set_texts(alloc, matches, "deny-principal", &mut args.deny_principals)?;
+    set_texts(alloc, matches, "allow-host", &mut args.allow_hosts)?;
+    set_texts(alloc, matches, "deny-host", &mut args.deny_hosts)?;
+    set_texts(alloc, matches, "operation", &mut args.operations)?;
+    set_texts(alloc, matches, "topic", &mut args.topics)?;
+    set_texts(alloc, matches, "group", &mut args.groups)?;
+    set_texts(
+        alloc,
+        matches,
+        "transactional-id",
+        &mut args.transactional_ids,
+    )?;
+    set_texts(alloc, matches, "principal", &mut args.principals)?;
     args.pattern_type = text_of(alloc, matches, "resource-pattern-type")?;
+    Ok(())
+}
+
+fn set_texts(
+    alloc: Global,
+    matches: &ArgMatches<'_>,
+    id: &str,
+    texts: &mut Items<Text>,
+) -> Result<(), AllocError>
+    ensures { OnOk result (texts.new ≡ values_of (rows_of (found_of matches.now)) id.now) }
+{
+    *texts = texts_of(alloc, matches, id)?;
     Ok(())
 }
 

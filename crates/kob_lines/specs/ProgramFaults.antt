@@ -1,5 +1,4 @@
 -- What each fault is for a program: out of memory stays what it is.
-use Rattle.std.specs.Prelude.{◌≡◌}
 use Rattle.kob_names.specs.declared.principal.PrincipalFault.{PrincipalFault}
 use Rattle.kob_names.specs.declared.principal.PrincipalFault.TheVariants as of_principal
 use Rattle.kob_names.specs.declared.host.HostFault.{HostFault}
@@ -25,62 +24,35 @@ abbrev pub fault_of_principal : PrincipalFault → ProgramFault
 fault_of_principal of_principal.Memory = Memory
 fault_of_principal _ = BadText
 
-abbrev pub IsOfPrincipal : PrincipalFault → ProgramFault → Type 0
-IsOfPrincipal fault then = then ≡ fault_of_principal fault
-
 abbrev pub fault_of_host : HostFault → ProgramFault
 fault_of_host of_host.Memory = Memory
 fault_of_host _ = BadText
-
-abbrev pub IsOfHost : HostFault → ProgramFault → Type 0
-IsOfHost fault then = then ≡ fault_of_host fault
 
 abbrev pub fault_of_route : RouteFault → ProgramFault
 fault_of_route of_route.Memory = Memory
 fault_of_route _ = BadText
 
-abbrev pub IsOfRoute : RouteFault → ProgramFault → Type 0
-IsOfRoute fault then = then ≡ fault_of_route fault
-
 abbrev pub fault_of_opening : OpenFault → ProgramFault
 fault_of_opening of_opening.Memory = Memory
 fault_of_opening of_opening.TooMany = NotBegun
-
-abbrev pub IsOfOpening : OpenFault → ProgramFault → Type 0
-IsOfOpening fault then = then ≡ fault_of_opening fault
 
 abbrev pub fault_of_record : RecordFault → ProgramFault
 fault_of_record of_record.Memory = Memory
 fault_of_record of_record.Store = Store
 fault_of_record _ = NotRecorded
 
-abbrev pub IsOfRecord : RecordFault → ProgramFault → Type 0
-IsOfRecord fault then = then ≡ fault_of_record fault
-
 abbrev pub fault_of_outbox : OutboxFault → ProgramFault
 fault_of_outbox of_outbox.Memory = Memory
 fault_of_outbox of_outbox.Store = Store
-
-abbrev pub IsOfOutbox : OutboxFault → ProgramFault → Type 0
-IsOfOutbox fault then = then ≡ fault_of_outbox fault
 
 abbrev pub fault_of_inbox : InboxFault → ProgramFault
 fault_of_inbox of_inbox.Memory = Memory
 fault_of_inbox of_inbox.Store = Store
 
-abbrev pub IsOfInbox : InboxFault → ProgramFault → Type 0
-IsOfInbox fault then = then ≡ fault_of_inbox fault
-
 abbrev pub fault_of_serving : ServeFault → ProgramFault
 fault_of_serving of_serving.Memory = Memory
 fault_of_serving of_serving.JournalFull = NotServed
 
-abbrev pub IsOfServing : ServeFault → ProgramFault → Type 0
-IsOfServing fault then = then ≡ fault_of_serving fault
-
 abbrev pub fault_of_call : CallFault → ProgramFault
 fault_of_call of_call.Memory = Memory
 fault_of_call _ = NotServed
-
-abbrev pub IsOfCall : CallFault → ProgramFault → Type 0
-IsOfCall fault then = then ≡ fault_of_call fault

@@ -1,5 +1,11 @@
 //! One fault for a program that runs services and consumers.
 
+ghost use Rattle.std.specs.Prelude.{◌≡◌};
+ghost use Rattle.kob_lines.specs.declared.program_fault.ProgramFault.TheVariants.{Memory};
+ghost use Rattle.kob_lines.specs.ProgramFaults.{fault_of_call, fault_of_host, fault_of_inbox};
+ghost use Rattle.kob_lines.specs.ProgramFaults.{fault_of_opening, fault_of_outbox, fault_of_principal};
+ghost use Rattle.kob_lines.specs.ProgramFaults.{fault_of_record, fault_of_route, fault_of_serving};
+
 use kob_broker::OpenFault;
 use kob_inbox::InboxFault;
 use kob_names::{HostFault, PrincipalFault};
@@ -38,9 +44,6 @@ pub enum ProgramFault {
 }
 
 impl From<AllocError> for ProgramFault {
-    ghost use Rattle.std.specs.Prelude.{◌≡◌};
-    ghost use Rattle.kob_lines.specs.declared.program_fault.ProgramFault.TheVariants.{Memory};
-
     ghost from_gives = { λ _ fault. fault ≡ Memory };
 
     fn from(_refused: AllocError) -> ProgramFault {
@@ -49,9 +52,6 @@ impl From<AllocError> for ProgramFault {
 }
 
 impl<T: Drop> From<AllocFailed<T>> for ProgramFault {
-    ghost use Rattle.std.specs.Prelude.{◌≡◌};
-    ghost use Rattle.kob_lines.specs.declared.program_fault.ProgramFault.TheVariants.{Memory};
-
     ghost from_gives = { λ _ fault. fault ≡ Memory };
 
     fn from(_refused: AllocFailed<T>) -> ProgramFault {
@@ -60,9 +60,7 @@ impl<T: Drop> From<AllocFailed<T>> for ProgramFault {
 }
 
 impl From<PrincipalFault> for ProgramFault {
-    ghost use Rattle.kob_lines.specs.ProgramFaults.{IsOfPrincipal};
-
-    ghost from_gives = { IsOfPrincipal };
+    ghost from_gives = { λ given fault. fault ≡ fault_of_principal given };
 
     fn from(fault: PrincipalFault) -> ProgramFault {
         match fault {
@@ -73,9 +71,7 @@ impl From<PrincipalFault> for ProgramFault {
 }
 
 impl From<HostFault> for ProgramFault {
-    ghost use Rattle.kob_lines.specs.ProgramFaults.{IsOfHost};
-
-    ghost from_gives = { IsOfHost };
+    ghost from_gives = { λ given fault. fault ≡ fault_of_host given };
 
     fn from(fault: HostFault) -> ProgramFault {
         match fault {
@@ -86,9 +82,7 @@ impl From<HostFault> for ProgramFault {
 }
 
 impl From<RouteFault> for ProgramFault {
-    ghost use Rattle.kob_lines.specs.ProgramFaults.{IsOfRoute};
-
-    ghost from_gives = { IsOfRoute };
+    ghost from_gives = { λ given fault. fault ≡ fault_of_route given };
 
     fn from(fault: RouteFault) -> ProgramFault {
         match fault {
@@ -99,9 +93,7 @@ impl From<RouteFault> for ProgramFault {
 }
 
 impl From<OpenFault> for ProgramFault {
-    ghost use Rattle.kob_lines.specs.ProgramFaults.{IsOfOpening};
-
-    ghost from_gives = { IsOfOpening };
+    ghost from_gives = { λ given fault. fault ≡ fault_of_opening given };
 
     fn from(fault: OpenFault) -> ProgramFault {
         match fault {
@@ -112,9 +104,7 @@ impl From<OpenFault> for ProgramFault {
 }
 
 impl From<RecordFault> for ProgramFault {
-    ghost use Rattle.kob_lines.specs.ProgramFaults.{IsOfRecord};
-
-    ghost from_gives = { IsOfRecord };
+    ghost from_gives = { λ given fault. fault ≡ fault_of_record given };
 
     fn from(fault: RecordFault) -> ProgramFault {
         match fault {
@@ -126,9 +116,7 @@ impl From<RecordFault> for ProgramFault {
 }
 
 impl From<OutboxFault> for ProgramFault {
-    ghost use Rattle.kob_lines.specs.ProgramFaults.{IsOfOutbox};
-
-    ghost from_gives = { IsOfOutbox };
+    ghost from_gives = { λ given fault. fault ≡ fault_of_outbox given };
 
     fn from(fault: OutboxFault) -> ProgramFault {
         match fault {
@@ -139,9 +127,7 @@ impl From<OutboxFault> for ProgramFault {
 }
 
 impl From<InboxFault> for ProgramFault {
-    ghost use Rattle.kob_lines.specs.ProgramFaults.{IsOfInbox};
-
-    ghost from_gives = { IsOfInbox };
+    ghost from_gives = { λ given fault. fault ≡ fault_of_inbox given };
 
     fn from(fault: InboxFault) -> ProgramFault {
         match fault {
@@ -152,9 +138,7 @@ impl From<InboxFault> for ProgramFault {
 }
 
 impl From<ServeFault> for ProgramFault {
-    ghost use Rattle.kob_lines.specs.ProgramFaults.{IsOfServing};
-
-    ghost from_gives = { IsOfServing };
+    ghost from_gives = { λ given fault. fault ≡ fault_of_serving given };
 
     fn from(fault: ServeFault) -> ProgramFault {
         match fault {
@@ -165,9 +149,7 @@ impl From<ServeFault> for ProgramFault {
 }
 
 impl From<CallFault> for ProgramFault {
-    ghost use Rattle.kob_lines.specs.ProgramFaults.{IsOfCall};
-
-    ghost from_gives = { IsOfCall };
+    ghost from_gives = { λ given fault. fault ≡ fault_of_call given };
 
     fn from(fault: CallFault) -> ProgramFault {
         match fault {

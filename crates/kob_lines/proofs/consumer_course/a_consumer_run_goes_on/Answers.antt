@@ -1,14 +1,10 @@
 use Rattle.kob_lines.proofs.ConsumerCourses as courses
 use Rattle.kob_lines.proofs.consumer_course.a_consumer_run_goes_on.Goals as goal
 
-pub returns-clause-begins : goal.returns-clause-begins
-returns-clause-begins c = courses.begins
-
-pub returns-clause-ticks : goal.returns-clause-ticks
-returns-clause-ticks c = courses.ticks
-
-pub returns-clause-restarts : goal.returns-clause-restarts
-returns-clause-restarts c = courses.restarts
-
-pub returns-clause-joined : goal.returns-clause-joined
-returns-clause-joined c = courses.joined
+pub returns : goal.returns
+returns c = record {
+  begins = courses.begins;
+  ticks = courses.ticks;
+  restarts = courses.restarts;
+  joined = courses.joined;
+}
