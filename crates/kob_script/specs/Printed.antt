@@ -1,5 +1,5 @@
 -- How replies and faults are printed.
-use Rattle.std.specs.Prelude.{ℕ, List, [], ◌++◌, codes, length, Option, Some, None, flat_map, ◌+◌, ◌∷◌, decimal}
+use Rattle.std.specs.Prelude.{ℕ, List, [], get_or, ◌++◌, codes, length, Option, Some, None, flat_map, ◌+◌, ◌∷◌, decimal}
 use Rattle.kob_names.specs.Binding.{Binding}
 use Rattle.kob_names.specs.declared.record.Record.{Record}
 use Rattle.kob_names.specs.declared.verdict.Verdict.TheVariants.{Super, AllowedBy, DeniedBy, NoAllow, NoAclFound}
@@ -14,7 +14,7 @@ use Rattle.kob_rights.specs.declared.reply.Reply.{Reply}
 use Rattle.kob_script.specs.declared.fault.Fault.{Fault}
 use Rattle.kob_words.specs.PrintedBinding.{binding_text}
 use Rattle.kob_words.specs.PrintedText.{bytes_text}
-use Rattle.kob_script.specs.Reading.{BadEscape, LateSetting, BadLine, BadText, BadPrincipal, BadHost, BadNumber, BadWord, Usage, NoAction, BadName, BadMix, NoResource, NoPrincipal, FaultKind}
+use Rattle.kob_script.specs.Reading.{FaultKind, rank}
 
 -- an item of a list, after a space
 abbrev pub serial_item : ℕ → List ℕ
@@ -101,21 +101,16 @@ text_of_replies replies = replies_text 1 replies
 abbrev pub stopped_text : ℕ → List ℕ
 stopped_text done = codes "stopped after " ++ decimal done ++ codes "\n"
 
+-- the names of the kinds, in their order
+abbrev pub kind_names : List (List ℕ)
+kind_names =
+    codes "BadEscape" ∷ codes "LateSetting" ∷ codes "BadLine" ∷ codes "BadText"
+    ∷ codes "BadPrincipal" ∷ codes "BadHost" ∷ codes "BadNumber" ∷ codes "BadWord"
+    ∷ codes "Usage" ∷ codes "NoAction" ∷ codes "BadName" ∷ codes "BadMix" ∷ codes "NoResource"
+    ∷ codes "NoPrincipal" ∷ []
+
 abbrev pub kind_text : FaultKind → List ℕ
-kind_text BadEscape = codes "BadEscape"
-kind_text LateSetting = codes "LateSetting"
-kind_text BadLine = codes "BadLine"
-kind_text BadText = codes "BadText"
-kind_text BadPrincipal = codes "BadPrincipal"
-kind_text BadHost = codes "BadHost"
-kind_text BadNumber = codes "BadNumber"
-kind_text BadWord = codes "BadWord"
-kind_text Usage = codes "Usage"
-kind_text NoAction = codes "NoAction"
-kind_text BadName = codes "BadName"
-kind_text BadMix = codes "BadMix"
-kind_text NoResource = codes "NoResource"
-kind_text NoPrincipal = codes "NoPrincipal"
+kind_text kind = get_or kind_names (rank kind) []
 
 -- the whole output for a script with a fault
 abbrev pub fault_text : Fault → List ℕ

@@ -130,14 +130,11 @@ fn with_digit(number: u64, digit: u8) -> Option<u64>
 pub fn which_of(word: &Word<'_>) -> Result<Which, LineError>
     ensures { Gives result (which_of word.now) }
 {
-    let name = word.decoded();
-    if name == b"-2".as_slice() {
-        return Ok(Which::Start);
+    match word.decoded() {
+        b"-2" => Ok(Which::Start),
+        b"-1" => Ok(Which::End),
+        _ => Err(LineError::Fault(FaultKind::BadLine)),
     }
-    if name == b"-1".as_slice() {
-        return Ok(Which::End);
-    }
-    Err(LineError::Fault(FaultKind::BadLine))
 }
 
 /// The offset to delete up to, the end for `-1`.
@@ -220,8 +217,7 @@ pub fn records_of(alloc: Global, words: &[Word<'_>]) -> Result<Items<Record>, Al
 {
     let mut records = Vec::with_capacity(alloc, words.len())?;
     for word in words {
-        let message = record_of(alloc, word)?;
-        records.push(message)?;
+        records.push(record_of(alloc, word)?)?;
     }
     Ok(Items::from_vec(records))
 }

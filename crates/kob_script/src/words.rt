@@ -95,10 +95,7 @@ pub fn words_of(alloc: Global, line: &[u8]) -> Result<Vec<Word<'_>>, LineError>
 fn is_skipped(line: &[u8]) -> bool
     ensures { result ≡ is_skipped line.now }
 {
-    match first_not_blank(line) {
-        Some(byte) => *byte == b'#',
-        None => true,
-    }
+    first_not_blank(line).copied().unwrap_or(b'#') == b'#'
 }
 
 fn first_not_blank(line: &[u8]) -> Option<&u8>
