@@ -1,18 +1,8 @@
 -- What keeps the bindings in force distinct.
-use Rattle.std.proofs.Common.{◌≡◌, ◌≢◌, ◌∙◌, refl, not, ℕ, List, [], ◌∷◌}
-use Rattle.std.specs.Prelude.{All, Option, Some, None}
-use Rattle.std.specs.List.{fold}
-use Rattle.std.proofs.lemmas.List.Kept.{AllPairs-filter}
-use Rattle.std.proofs.lemmas.List.Quantifiers.{all_pairs_push}
+use Rattle.kob_authorizer.proofs.Words.{Added, All, AllPairs-filter, AreDistinct, Binding, BindingFilter, List, None, Option, Some, [], add_one, all_pairs_push, bindings_left, fold, is_equal, not, refl, same_binding_decides, serial_of, takes, with_binding, ℕ, ◌∙◌, ◌∷◌, ◌≡◌, ◌≢◌}
+use Rattle.kob_authorizer.specs.Creation.{addition}
 use Rattle.kob_authorizer.proofs.Elements.{all_of}
 use Rattle.kob_authorizer.proofs.FirstHit.{first_serial_found, none_is}
-use Rattle.kob_authorizer.specs.LookUp.{is_equal}
-use Rattle.kob_authorizer.specs.Creation.{Added, AreDistinct, add_one, addition, with_binding, serial_of}
-use Rattle.kob_authorizer.specs.Deletion.{bindings_left}
-use Rattle.kob_names.proofs.SameBindings.{same_binding_decides}
-use Rattle.kob_names.specs.Filter.{takes}
-use Rattle.kob_names.specs.Binding.{Binding}
-use Rattle.kob_names.specs.declared.filter.BindingFilter.{BindingFilter}
 
 -- no entry has an equal binding
 abbrev NoneEqual : Binding → List (ℕ × Binding) → Type 0

@@ -1,5 +1,5 @@
 -- What is so of the elements of a list, of those that a filter keeps, and of what a function gives of them.
-use Rattle.kob_authorizer.proofs.Words.{All, All-contains, All-contains_itself, All-filter, All-from_recursion, All-map, All-weaker, AllByRecursion, Any-from_list_any, Bool, Contains, Contains-append_left, Contains-append_right, Contains-push, List, [], arith, cond, false, filter, filter_passes, inl, inr, list_any, list_any-from_Any, map, nat_tests, recursion_from_All, refl, subst, true, ◌∷◌, ◌≡◌, ◌⊎◌}
+use Rattle.kob_authorizer.proofs.Words.{All, All-contains, All-contains_itself, All-filter, All-from_recursion, All-map, All-weaker, AllByRecursion, Any-from_list_any, Bool, Contains, Contains-append_left, Contains-append_right, Contains-push, List, [], arith, cond, false, filter, filter_passes, inl, inr, list_any, list_any-from_Any, map, nat_tests, recursion_from_All, refl, true, ◌∷◌, ◌≡◌, ◌⊎◌}
 
 module _ {A : Type 0} where
   -- what holds of all holds of each that is there, and the other way round
@@ -51,10 +51,7 @@ module _ {A B : Type 0} (f : A → B) where
   pub among_mapped : (xs : List A) (y : A) → Contains xs y → Contains (map f xs) (f y)
   among_mapped [] y has = absurd (omega (arith, has.1))
   among_mapped (x ∷ xs) y has =
-      elim (first_or_rest x xs y has) as (λ _. Contains (f x ∷ map f xs) (f y)) [
-        | inl same ↦ subst (λ z. Contains (f x ∷ map f xs) (f z)) same (at_head (f x) (map f xs))
-        | inr later ↦ Contains-append_right (f x ∷ []) (map f xs) (f y) (among_mapped xs y later)
-      ]
+      grind (arith, nat_tests, first_or_rest, at_head, Contains-append_right (f x ∷ []), among_mapped xs y)
 
   -- and what is there is given of some element
   abbrev GivenBy : List A → B → Type 0

@@ -1,5 +1,5 @@
 -- New bindings that have their places for serials.
-use Rattle.kob_authorizer.proofs.Words.{AreRising, Binding, IfSome, IsRising, List, Option, Some, [], ap, arith, bindings_of, enumerate_from, length, length-enumerate_from, length-map, map_push, nat_tests, serial_of, sym, ℕ, ◌++◌, ◌+◌, ◌<◌, ◌∙◌, ◌∷◌, ◌≡◌, ◌≤◌}
+use Rattle.kob_authorizer.proofs.Words.{AreRising, Binding, IfSome, IsRising, List, Option, Some, [], arith, bindings_of, enumerate_from, length, length-enumerate_from, length-map, map_push, nat_tests, serial_of, ℕ, ◌++◌, ◌+◌, ◌<◌, ◌∷◌, ◌≡◌, ◌≤◌}
 use Rattle.kob_authorizer.proofs.Rising.{rising_enumerate_from}
 use Rattle.kob_authorizer.proofs.Serials.{enumerate_from_push}
 
@@ -25,12 +25,9 @@ below_high low high (x ∷ xs) binding serial rising found =
 place_below : (entries : List (ℕ × Binding)) (binding : Binding) (place : ℕ) → HavePlaces entries
     → serial_of entries binding ≡ Some place → place < length (bindings_of entries)
 place_below entries binding place places found =
-    let bindings : List Binding = bindings_of entries in
-    let below : place < 0 + length (enumerate_from 0 bindings) =
-    below_high 0 (0 + length (enumerate_from 0 bindings)) (enumerate_from 0 bindings) binding place
-    (rising_enumerate_from 0 bindings) (ap (λ es. serial_of es binding) (sym places) ∙ found) in
+    let bindings = bindings_of entries in let rising = rising_enumerate_from 0 bindings in
     let count = length-enumerate_from 0 bindings in
-    omega (arith, below, count)
+    grind (arith, nat_tests, below_high 0 (0 + length (enumerate_from 0 bindings)) (enumerate_from 0 bindings) binding place)
 
 -- the place of a binding is below the number of all
 pub places_below : (entries : List (ℕ × Binding)) (binding : Binding) (found : Option ℕ) → HavePlaces entries

@@ -25,16 +25,8 @@ found_at : (low high : ℕ) (entries : List (ℕ × Binding)) (k serial : ℕ) (
 found_at low high [] k serial d rising below is = absurd (omega (arith, below))
 found_at low high (x ∷ xs) zero serial d rising below is = grind (arith, nat_tests, eq-eqb)
 found_at low high (x ∷ xs) (suc k) serial d rising below is =
-    grind (
-      arith,
-      nat_tests,
-      at_least,
-      ne_eqb,
-      found_at (x.0 + 1) high xs k serial d rising.1 (omega (
-        arith,
-        below,
-      )) is,
-    )
+    let later = found_at (x.0 + 1) high xs k serial d rising.1 (omega (arith, below)) is in
+    grind (arith, nat_tests, at_least, ne_eqb)
 
 -- where each serial is another, none is found
 none_found : (entries : List (ℕ × Binding)) (serial : ℕ)

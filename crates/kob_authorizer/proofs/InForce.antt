@@ -1,5 +1,5 @@
 -- What was created is in force under the serials that were answered.
-use Rattle.kob_authorizer.proofs.Words.{Added, AreInForce, Binding, Contains, Contains-append_left, Contains-push, List, None, Option, Some, [], add_one, append-nil, append_assoc, arith, fold, is_equal, nat_tests, refl, same_binding_decides, serial_of, subst, with_binding, ℕ, ◌++◌, ◌∙◌, ◌∷◌, ◌≡◌}
+use Rattle.kob_authorizer.proofs.Words.{Added, AreInForce, Binding, Contains, Contains-append_left, Contains-push, List, None, Option, Some, [], add_one, append-nil, append_assoc, arith, fold, is_equal, nat_tests, refl, same_binding_decides, serial_of, with_binding, ℕ, ◌++◌, ◌∙◌, ◌∷◌, ◌≡◌}
 use Rattle.kob_authorizer.specs.Creation.{addition}
 use Rattle.kob_authorizer.proofs.FirstHit.{first_is, first_serial_found}
 
@@ -7,9 +7,8 @@ use Rattle.kob_authorizer.proofs.FirstHit.{first_is, first_serial_found}
 found_in_force : (entries : List (ℕ × Binding)) (binding : Binding) (serial : ℕ)
     → serial_of entries binding ≡ Some serial → Contains entries (serial, binding)
 found_in_force entries binding serial found =
-    let (entry, (kept, is)) =
-    first_is (is_equal binding) entries serial (first_serial_found (is_equal binding) entries ∙ found) in
-    subst (Contains entries) (λ i. (is i, (same_binding_decides entry.1 binding).0 kept.1 i)) kept.0
+    let it = first_is (is_equal binding) entries serial (first_serial_found (is_equal binding) entries ∙ found) in
+    grind (arith, nat_tests, same_binding_decides)
 
 -- what is in force stays so when more entries are put last
 still_in_force : (entries more : List (ℕ × Binding)) (bindings : List Binding) (serials : List ℕ)
@@ -36,21 +35,16 @@ step_in_force : (so_far : Added) (before : List Binding) (binding : Binding) (o 
     (with_binding o so_far binding).serials
 step_in_force so_far before binding (Some serial) is all = grind (arith, nat_tests, one_more_in_force, found_in_force)
 step_in_force so_far before binding None is all =
-    let entries : List (ℕ × Binding) = so_far.entries ++ (so_far.next, binding) ∷ [] in
-    one_more_in_force entries before so_far.serials binding so_far.next
-    (still_in_force so_far.entries ((so_far.next, binding) ∷ []) before so_far.serials all)
-    (Contains-push so_far.entries (so_far.next, binding))
+    let still = still_in_force so_far.entries ((so_far.next, binding) ∷ []) before so_far.serials all in
+    grind (arith, nat_tests, one_more_in_force, Contains-push so_far.entries (so_far.next, binding))
 
 all_in_force : (bindings : List Binding) (so_far : Added) (before : List Binding)
     → AreInForce so_far.entries before so_far.serials
     → AreInForce (fold add_one so_far bindings).entries (before ++ bindings) (fold add_one so_far bindings).serials
 all_in_force [] so_far before all = grind (arith, nat_tests, append-nil)
 all_in_force (binding ∷ bindings) so_far before all =
-    let after : Added = add_one so_far binding in
-    let rest : AreInForce (fold add_one after bindings).entries ((before ++ binding ∷ []) ++ bindings)
-    (fold add_one after bindings).serials =
-    all_in_force bindings after (before ++ binding ∷ [])
-    (step_in_force so_far before binding (serial_of so_far.entries binding) refl all) in
+    let step = step_in_force so_far before binding (serial_of so_far.entries binding) refl all in
+    let rest = all_in_force bindings (add_one so_far binding) (before ++ binding ∷ []) step in
     grind (arith, nat_tests, append_assoc)
 
 -- after a creation each of its bindings is in force under the serial answered for it

@@ -1,5 +1,5 @@
 -- Adding bindings at once is adding them one after another.
-use Rattle.kob_authorizer.proofs.Words.{Added, Binding, Creates, IsRising, List, None, OnlyAdds, Option, Some, [], add_one, added_at_once, ap, append-nil, append_assoc, arith, cond, create_fault, creation, enumerate_from, false, fold, is_known, is_some, length, length-append, length-enumerate_from, limit_fault, nat_tests, new_bindings, refl, same_binding_decides, serial_of, serials_in, sym, true, with_binding, with_new, ℕ, ◌++◌, ◌+◌, ◌∙◌, ◌∷◌, ◌≡◌}
+use Rattle.kob_authorizer.proofs.Words.{Added, Binding, Creates, IsRising, List, None, OnlyAdds, Option, Some, [], add_one, ap, append-nil, append_assoc, arith, cond, create_fault, created, creation, enumerate_from, false, fold, is_known, is_some, length, length-append, length-enumerate_from, limit_fault, nat_tests, new_bindings, refl, same_binding_decides, serial_of, serials_in, sym, true, with_binding, with_new, ℕ, ◌++◌, ◌+◌, ◌∷◌, ◌≡◌}
 use Rattle.kob_authorizer.specs.Creation.{addition}
 use Rattle.kob_authorizer.proofs.Rising.{rising_append, rising_enumerate_from}
 use Rattle.kob_authorizer.proofs.Serials.{enumerate_from_append, enumerate_from_push, place_among, serial_in_force, serial_of_append, serial_of_append_none, serial_of_append_some}
@@ -29,14 +29,8 @@ serial_stays : (n : ℕ) (entries : List (ℕ × Binding)) (fresh bs : List Bind
     → Some serial ≡ serial_of (grown n entries fresh) b
     → Some serial ≡ serial_of (grown n entries (fold (with_new entries) fresh bs)) b
 serial_stays n entries fresh bs b serial given =
-    grind (
-      arith,
-      nat_tests,
-      fresh_extends entries fresh bs,
-      append_assoc,
-      enumerate_from_append,
-      serial_of_append_some,
-    )
+    let extends = fresh_extends entries fresh bs in
+    grind (arith, nat_tests, append_assoc, enumerate_from_append, serial_of_append_some)
 
 -- the state after fresh bindings, with the serials answered so far
 abbrev reached : ℕ → List (ℕ × Binding) → List Binding → List ℕ → Added
@@ -70,27 +64,11 @@ one_step : (n : ℕ) (entries : List (ℕ × Binding)) (fresh : List Binding) (s
     ≡ reached n entries (with_new entries fresh b) (serials ++ serial ∷ []))
     × (Some serial ≡ serial_of (grown n entries (with_new entries fresh b)) b))
 one_step n entries fresh serials b (Some serial) is =
-    let known : is_known entries fresh b ≡ true = sym (known_has_serial n entries fresh b) ∙ ap is_some (sym is) in
-    let after : fresh ≡ with_new entries fresh b = ap (λ t. cond t fresh (fresh ++ b ∷ [])) (sym known) in (
-      serial,
-      (
-        ap (λ now. reached n entries now (serials ++ serial ∷ [])) after,
-        is ∙ ap (λ now. serial_of (grown n entries now) b) after,
-      ),
-    )
+    let known = known_has_serial n entries fresh b in (serial, grind (arith, nat_tests))
 one_step n entries fresh serials b None is =
-    let known : is_known entries fresh b ≡ false = sym (known_has_serial n entries fresh b) ∙ ap is_some (sym is) in
-    let after : fresh ++ b ∷ [] ≡ with_new entries fresh b = ap (λ t. cond t fresh (fresh ++ b ∷ [])) (sym known) in
-    let serial : ℕ = n + length fresh in
-    let longer : serial + 1 ≡ n + length (fresh ++ b ∷ []) = omega (arith, length-append fresh (b ∷ [])) in (
-      serial,
-      (
-        (λ i. state (grown_push n entries fresh b i) (longer i) (serials ++ serial ∷ []))
-            ∙ ap (λ now. reached n entries now (serials ++ serial ∷ [])) after,
-        new_serial n entries fresh b is ∙ ap (λ es. serial_of es b) (grown_push n entries fresh b)
-            ∙ ap (λ now. serial_of (grown n entries now) b) after,
-      ),
-    )
+    let known = known_has_serial n entries fresh b in let given = new_serial n entries fresh b is in
+    let pushed = grown_push n entries fresh b in let longer = length-append fresh (b ∷ []) in
+    (n + length fresh, grind (arith, nat_tests))
 
 in_turn_from : (n : ℕ) (entries : List (ℕ × Binding)) (bs fresh : List Binding) (serials : List ℕ)
     → fold add_one (reached n entries fresh serials) bs
@@ -99,16 +77,12 @@ in_turn_from : (n : ℕ) (entries : List (ℕ × Binding)) (bs fresh : List Bind
 in_turn_from n entries [] fresh serials = ap (λ all. reached n entries fresh all) (sym (append-nil serials))
 in_turn_from n entries (b ∷ bs) fresh serials =
     let (serial, (step, given)) = one_step n entries fresh serials b (serial_of (grown n entries fresh) b) refl in
-    let now : List Binding = with_new entries fresh b in
-    let all : List Binding = fold (with_new entries) now bs in
-    ap (λ from. fold add_one from bs) step
-    ∙ in_turn_from n entries bs now (serials ++ serial ∷ [])
-    ∙ ap (reached n entries all)
-    (one_more n entries all serials b bs serial (serial_stays n entries now bs b serial given))
+    let now = with_new entries fresh b in let rest = in_turn_from n entries bs now (serials ++ serial ∷ []) in
+    let stays = serial_stays n entries now bs b serial given in grind (arith, nat_tests, one_more)
 
 -- adding one after another gives what adding at once gives
 pub in_turn_at_once : (entries : List (ℕ × Binding)) (next : ℕ) (bindings : List Binding)
-    → addition entries next bindings ≡ added_at_once entries next bindings
+    → addition entries next bindings ≡ created entries next (creation entries next bindings)
 in_turn_at_once entries next bindings =
     grind (arith, nat_tests, length-enumerate_from, append-nil entries, in_turn_from next entries bindings [] [])
 
@@ -133,3 +107,6 @@ added_rises entries next bindings rising =
 pub only_adds : (entries : List (ℕ × Binding)) (next : ℕ) (bindings : List Binding)
     → OnlyAdds entries next (addition entries next bindings)
 only_adds entries next bindings = grind (arith, nat_tests, rising_enumerate_from, in_turn_at_once)
+
+-- what a creation is prepared by
+pub ruleset creating = (creation_creates, fault_by_count, length-enumerate_from, rising_enumerate_from)

@@ -1,41 +1,17 @@
 -- What an entry that comes or goes does to the index.
-use Rattle.std.proofs.Common.{◌≡◌, refl, sym, subst, arith, Bool, true, false, cond, ℕ, ◌+◌, ◌≤◌, not, List, [], ◌∷◌, ◌++◌, map, append-nil, append_assoc}
-use Rattle.std.specs.List.{fold}
-use Rattle.std.proofs.lemmas.List.Elements.{filter-append}
-use Rattle.kob_names.specs.Filter.{takes}
-use Rattle.kob_names.specs.Same.{same_resource}
-use Rattle.kob_names.specs.Binding.{Binding}
-use Rattle.kob_names.specs.declared.filter.BindingFilter.{BindingFilter}
-use Rattle.kob_names.specs.declared.kinds.ResourceKind.{ResourceKind}
-use Rattle.kob_names.specs.declared.kinds.ResourceKind.TheVariants.{Topic, Group, Cluster, TransactionalId}
-use Rattle.kob_prefix_tree.specs.PrefixMap.{PrefixMap}
+use Rattle.kob_authorizer.proofs.Words.{nat_tests}
+use Rattle.kob_authorizer.proofs.Words.{ArePatternsOf, Binding, BindingFilter, Bool, Index, Indexes, IsIndex, IsRising, List, Patterns, PrefixMap, ResourceKind, [], addition, append-nil, append_assoc, arith, bindings_left, bindings_taken, cond, empty_index, entries_on, false, filter-append, fold, key_place, leaf_of, map, no_patterns, not, pattern_place, patterns_of, same_resource, subst, sym, takes, tree_of, true, with_entry, with_leaf, with_tree, without_addition, ℕ, ◌++◌, ◌+◌, ◌∷◌, ◌≡◌}
 use Rattle.kob_authorizer.proofs.Rising.{rising_below}
 use Rattle.kob_authorizer.proofs.TreeSteps.{index_added, index_empty, index_removed, none_before}
-use Rattle.kob_authorizer.specs.Contents.{IsRising}
-use Rattle.kob_authorizer.specs.Deletion.{bindings_left, bindings_taken}
-use Rattle.kob_authorizer.specs.Index.{ArePatternsOf, Indexes, empty_index, entries_on, leaf_of, no_patterns, patterns_of, tree_of, with_entry, with_leaf, with_tree}
-use Rattle.kob_authorizer.specs.Places.{IsIndex, addition, key_place, pattern_place, with_addition, without_addition}
-use Rattle.kob_authorizer.specs.declared.index.Index.{Index}
-use Rattle.kob_authorizer.specs.declared.patterns.Patterns.{Patterns}
 
 -- a change of the tree of one kind of resource leaves the others
 pub tree_changed : (patterns : Patterns) (change : PrefixMap → PrefixMap) (resource other : ResourceKind)
     → tree_of (with_tree patterns resource (change (tree_of patterns resource))) other
     ≡ cond (same_resource resource other) (change (tree_of patterns other)) (tree_of patterns other)
-tree_changed patterns change Topic Topic = refl
-tree_changed patterns change Topic other = refl
-tree_changed patterns change Group Group = refl
-tree_changed patterns change Group other = refl
-tree_changed patterns change Cluster Cluster = refl
-tree_changed patterns change Cluster other = refl
-tree_changed patterns change TransactionalId TransactionalId = refl
-tree_changed patterns change TransactionalId other = refl
+tree_changed patterns change resource other = grind (arith, nat_tests)
 
 patterns_empty : ArePatternsOf no_patterns []
-patterns_empty Topic = index_empty pattern_place
-patterns_empty Group = index_empty pattern_place
-patterns_empty Cluster = index_empty pattern_place
-patterns_empty TransactionalId = index_empty pattern_place
+patterns_empty resource = grind (arith, nat_tests, index_empty pattern_place)
 
 -- the empty index is that of no entries
 pub indexes_empty : Indexes empty_index []
@@ -49,29 +25,16 @@ is_on resource entry = same_resource entry.1.resource resource
 patterns_put : (patterns : Patterns) (entries : List (ℕ × Binding)) (entry : ℕ × Binding)
     → ArePatternsOf patterns entries → ArePatternsOf (with_entry patterns entry) (entries ++ entry ∷ [])
 patterns_put patterns entries entry is resource =
-    let change : PrefixMap → PrefixMap = λ m. with_addition m (addition pattern_place entry) in
-    let tree : PrefixMap = tree_of patterns resource in
-    let old : List (ℕ × Binding) = entries_on resource entries in
-    let both : (b : Bool) → IsIndex pattern_place (cond b (change tree) tree) (old ++ cond b (entry ∷ []) []) =
-    λ b. elim b as (λ b. IsIndex pattern_place (cond b (change tree) tree) (old ++ cond b (entry ∷ []) [])) [
-      | true ↦ index_added pattern_place tree old entry (is resource)
-      | false ↦ subst (IsIndex pattern_place tree) (sym (append-nil old)) (is resource)
-    ] in
-    let entries_are : entries_on resource (entries ++ entry ∷ [])
-    ≡ old ++ cond (is_on resource entry) (entry ∷ []) [] = filter-append (is_on resource) entries (entry ∷ []) in
-    subst (λ m. IsIndex pattern_place m (entries_on resource (entries ++ entry ∷ [])))
-    (sym (tree_changed patterns change entry.1.resource resource))
-    (subst (IsIndex pattern_place (cond (is_on resource entry) (change tree) tree)) (sym entries_are)
-    (both (is_on resource entry)))
+    let old = is resource in let added = index_added pattern_place (tree_of patterns resource) (entries_on resource entries) entry old in
+    grind (arith, nat_tests, tree_changed, filter-append, append-nil)
 
 patterns_put_all : (fresh : List (ℕ × Binding)) (patterns : Patterns) (entries : List (ℕ × Binding))
     → ArePatternsOf patterns entries → ArePatternsOf (fold with_entry patterns fresh) (entries ++ fresh)
-patterns_put_all [] patterns entries is = subst (ArePatternsOf patterns) (sym (append-nil entries)) is
+patterns_put_all [] patterns entries is = rw (append-nil entries) is
 patterns_put_all (entry ∷ fresh) patterns entries is =
-    subst (ArePatternsOf (fold with_entry (with_entry patterns entry) fresh))
-    (append_assoc entries (entry ∷ []) fresh)
-    (patterns_put_all fresh (with_entry patterns entry) (entries ++ entry ∷ [])
-    (patterns_put patterns entries entry is))
+    let put = patterns_put patterns entries entry is in
+    rw (← append_assoc entries (entry ∷ []) fresh)
+    (patterns_put_all fresh (with_entry patterns entry) (entries ++ entry ∷ []) put)
 
 -- the patterns of some entries alone are those of these entries
 pub are_patterns : (entries : List (ℕ × Binding)) → ArePatternsOf (patterns_of entries) entries
@@ -80,10 +43,9 @@ are_patterns entries = patterns_put_all entries no_patterns [] patterns_empty
 -- more entries, put last one after another
 pub indexes_put_all : (fresh : List (ℕ × Binding)) (index : Index) (entries : List (ℕ × Binding))
     → Indexes index entries → Indexes (fold with_leaf index (map leaf_of fresh)) (entries ++ fresh)
-indexes_put_all [] index entries is = subst (Indexes index) (sym (append-nil entries)) is
+indexes_put_all [] index entries is = rw (append-nil entries) is
 indexes_put_all (entry ∷ fresh) index entries is =
-    subst (Indexes (fold with_leaf (with_leaf index (leaf_of entry)) (map leaf_of fresh)))
-    (append_assoc entries (entry ∷ []) fresh)
+    rw (← append_assoc entries (entry ∷ []) fresh)
     (indexes_put_all fresh (with_leaf index (leaf_of entry)) (entries ++ entry ∷ []) (record {
       patterns = patterns_put index.patterns entries entry is.patterns;
       keys = index_added key_place index.keys entries entry is.keys;
@@ -92,8 +54,7 @@ indexes_put_all (entry ∷ fresh) index entries is =
 -- serials still rise where one is left out
 rising_without : (low high : ℕ) (done : List (ℕ × Binding)) (entry : ℕ × Binding) (rest : List (ℕ × Binding))
     → IsRising low (done ++ entry ∷ rest) high → IsRising low (done ++ rest) high
-rising_without low high [] entry rest rising =
-    let lower : low ≤ entry.0 + 1 = omega (arith, rising.0) in rising_below low (entry.0 + 1) high rest lower rising.1
+rising_without low high [] entry rest rising = grind (arith, nat_tests, rising_below)
 rising_without low high (x ∷ done) entry rest rising =
     (rising.0, rising_without (x.0 + 1) high done entry rest rising.1)
 

@@ -1,6 +1,6 @@
 -- The least serial that passes, among serials that lead to every entry that passes, is that of the first entry that
 -- passes.
-use Rattle.kob_authorizer.proofs.Words.{All, All-head, All-nil, All-tail, All-weaker, AreRising, Binding, Bool, Contains, List, None, Some, [], and_from, and_parts, ap, append-nil, arith, cond, eq-eqb, eqb-true, false, filter, filter-append, filter_passes, first_serial, fold, fold-append, le-min, least_passing, lesser, min, min-le_left, min-le_right, nat_tests, passes_at, reduce, refl, subst, true, ℕ, ◌&&◌, ◌++◌, ◌==◌, ◌∙◌, ◌∷◌, ◌≡◌, ◌≤◌}
+use Rattle.kob_authorizer.proofs.Words.{All, All-head, All-nil, All-tail, All-weaker, AreRising, Binding, Bool, Contains, List, None, Some, [], and_from, ap, append-nil, arith, cond, eq-eqb, false, filter, filter-append, filter_passes, first_serial, fold, fold-append, le-min, least_passing, lesser, min, min-le_left, min-le_right, nat_tests, passes_at, reduce, refl, subst, true, ℕ, ◌&&◌, ◌++◌, ◌==◌, ◌∙◌, ◌∷◌, ◌≡◌, ◌≤◌}
 use Rattle.kob_authorizer.proofs.Elements.{any_passes, kept_by_filter, passing}
 use Rattle.kob_authorizer.proofs.FirstHit.{first_is, least_is, none_is}
 
@@ -23,9 +23,7 @@ least_among : (low : ℕ) (xs : List ℕ) → Contains xs low → All (λ y. low
 least_among low [] has all = absurd (omega (arith, has.1))
 least_among low (x ∷ xs) has all =
     let at_most : fold min x xs ≤ low = grind (arith, nat_tests, fold_at_most, fold_least) in
-    let at_least = fold_not_below low x xs (All-head (λ y. low ≤ y) x xs all) (All-tail (λ y. low ≤ y) x xs all) in
-    let same : fold min x xs ≡ low = omega (arith, at_most, at_least) in
-    ap Some same
+    grind (arith, nat_tests, fold_not_below low x xs, All-head (λ y. low ≤ y) x xs all, All-tail (λ y. low ≤ y) x xs all)
 
 -- the least of a list and of one more
 least_with : (x y : ℕ) (ys : List ℕ) → min x (fold min y ys) ≡ fold min (min x y) ys
@@ -41,9 +39,7 @@ module _ (test : ℕ × Binding → Bool) where
   of_serial : (entries : List (ℕ × Binding)) (serial : ℕ) → passes_at test entries serial ≡ true
       → (entry : ℕ × Binding) × ((Contains entries entry × (test entry ≡ true)) × (entry.0 ≡ serial))
   of_serial entries serial passes =
-      let (entry, (there, both)) = passing (λ (e : ℕ × Binding). (e.0 == serial) && test e) entries passes in
-      let parts = and_parts _ _ both in
-      (entry, ((there, parts.1), eqb-true entry.0 serial parts.0))
+      let it = passing (λ (e : ℕ × Binding). (e.0 == serial) && test e) entries passes in grind (arith, nat_tests)
 
   -- serials that lead to every entry that passes
   abbrev pub LeadToAll : List (ℕ × Binding) → List ℕ → Type 0

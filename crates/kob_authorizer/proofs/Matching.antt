@@ -29,37 +29,25 @@ looked_up_by : (held_at : List ℕ → Held) (kind : PatternKind) (key name : Li
     → matches_by kind key name ≡ true → Contains (serials_of (kind_in_tree kind) (held_at key)) serial
     → Contains (matching_serials held_at name) serial
 looked_up_by held_at Literal key name serial matched has =
-    elim (or_cases (same_text key name) (same_text key (codes "*")) matched) as
-    (λ _. Contains (matching_serials held_at name) serial) [
-      | inl equal ↦
-          Contains-append_left (serials_along held_at name) (held_at (codes "*")).0 serial
-          (along_has_literal held_at serial name (subst (λ k. Contains (held_at k).0 serial)
-          ((bytes_eq-Decides key name).0 equal) has))
-      | inr star ↦
-          Contains-append_right (serials_along held_at name) (held_at (codes "*")).0 serial
-          (subst (λ k. Contains (held_at k).0 serial) ((bytes_eq-Decides key (codes "*")).0 star) has)
+    let equal = bytes_eq-Decides key name in let star = bytes_eq-Decides key (codes "*") in
+    let left = Contains-append_left (serials_along held_at name) (held_at (codes "*")).0 serial in
+    let right = Contains-append_right (serials_along held_at name) (held_at (codes "*")).0 serial in
+    let along = along_has_literal held_at serial name in
+    elim (or_cases (same_text key name) (same_text key (codes "*")) matched) [
+      | inl same ↦ grind (arith, nat_tests)
+      | inr same ↦ grind (arith, nat_tests)
     ]
 looked_up_by held_at Prefixed key name serial matched has =
-    let whole : name ≡ key ++ drop (length key) name =
-    (starts_is Decides-eqb name key (starts_with nat_eq name key) refl).0 matched in
-    Contains-append_left (serials_along held_at name) (held_at (codes "*")).0 serial
-    (subst (λ n. Contains (serials_along held_at n) serial) (sym whole)
-    (along_has_prefixed held_at serial key (drop (length key) name) has))
+    let whole = (starts_is Decides-eqb name key (starts_with nat_eq name key) refl).0 matched in
+    let left = Contains-append_left (serials_along held_at name) (held_at (codes "*")).0 serial in
+    let along = along_has_prefixed held_at serial key (drop (length key) name) in grind (arith, nat_tests)
 
 -- what is given for a text is among what is given for two, of which it is one
 among_two : (given : List ℕ → List ℕ) (text one two : List ℕ) (serial : ℕ)
     → (same_text text one || same_text text two) ≡ true → Contains (given text) serial
     → Contains (given one ++ given two) serial
 among_two given text one two serial is_one has =
-    elim (or_cases (same_text text one) (same_text text two) is_one) as
-    (λ _. Contains (given one ++ given two) serial) [
-      | inl first ↦
-          Contains-append_left (given one) (given two) serial
-          (subst (λ t. Contains (given t) serial) ((bytes_eq-Decides text one).0 first) has)
-      | inr second ↦
-          Contains-append_right (given one) (given two) serial
-          (subst (λ t. Contains (given t) serial) ((bytes_eq-Decides text two).0 second) has)
-    ]
+    grind (arith, nat_tests, bytes_eq-Decides, Contains-append_left, Contains-append_right)
 
 module _ (index : Index) (entries : List (ℕ × Binding)) (indexed : Indexes index entries) where
   -- every binding that matches is looked up
@@ -67,13 +55,11 @@ module _ (index : Index) (entries : List (ℕ × Binding)) (indexed : Indexes in
       → entry.1.resource ≡ resource → IsTrue (matches entry.1.pattern name)
       → Contains (matching_serials (held (tree_of index.patterns resource)) name) entry.0
   looked_up resource name entry there of_kind matched =
-      let on : same_resource entry.1.resource resource ≡ true =
-      (resource_decides entry.1.resource resource).1 of_kind in
-      let among : Contains (entries_on resource entries) entry =
-      kept_by_filter (λ (e : ℕ × Binding). same_resource e.1.resource resource) entries entry there on in
-      looked_up_by (held (tree_of index.patterns resource)) entry.1.pattern.kind entry.1.pattern.name name entry.0 matched
-      (at_its_place pattern_place (tree_of index.patterns resource) (entries_on resource entries) entry
-      (indexed.patterns resource) among)
+      let among = kept_by_filter (λ (e : ℕ × Binding). same_resource e.1.resource resource) entries entry there
+      ((resource_decides entry.1.resource resource).1 of_kind) in
+      let at = at_its_place pattern_place (tree_of index.patterns resource) (entries_on resource entries) entry
+      (indexed.patterns resource) among in
+      looked_up_by (held (tree_of index.patterns resource)) entry.1.pattern.kind entry.1.pattern.name name entry.0 matched at
 
   -- every hit is looked up among the keys of who asks and of `User:*`
   hits_looked_up : (permission : Permission) (question : Question)
@@ -110,22 +96,14 @@ least_hit_is_first index entries permission question rising indexed =
 equals_looked_up : (m : PrefixMap) (entries : List (ℕ × Binding)) (binding : Binding) → IsIndex key_place m entries
     → LeadToAll (is_equal binding) entries (serials_of (key_place binding).kind (held m (key_place binding).key))
 equals_looked_up m entries binding indexed entry there is =
-    grind (
-      arith,
-      nat_tests,
-      same_binding_decides entry.1 binding,
-      at_its_place key_place m entries entry indexed there,
-    )
+    let same = same_binding_decides entry.1 binding in
+    let at = at_its_place key_place m entries entry indexed there in grind (arith, nat_tests)
 
 -- so the least serial of the equal ones that were looked up is that of the first equal one
 pub least_equal_is_first : (m : PrefixMap) (entries : List (ℕ × Binding)) (binding : Binding) → AreRising entries
     → IsIndex key_place m entries → least_passing (is_equal binding) entries
     (serials_of (key_place binding).kind (held m (key_place binding).key)) ≡ serial_of entries binding
 least_equal_is_first m entries binding rising indexed =
-    grind (
-      arith,
-      nat_tests,
-      least_is_first (is_equal binding) entries (serials_of (key_place binding).kind (held m (key_place binding).key)) rising (equals_looked_up m entries binding indexed),
-      equals_looked_up m entries binding indexed,
-      first_serial_found (is_equal binding) entries,
-    )
+    let serials = serials_of (key_place binding).kind (held m (key_place binding).key) in
+    let least = least_is_first (is_equal binding) entries serials rising (equals_looked_up m entries binding indexed) in
+    let found = first_serial_found (is_equal binding) entries in grind (arith, nat_tests)

@@ -1,5 +1,5 @@
 -- A verdict that is true is the only one.
-use Rattle.kob_authorizer.proofs.Words.{Binding, Contents, IsEarliest, IsTrueVerdict, List, NoneHits, NoneMatches, Permission, Question, Verdict, arith, common_steps, nat_tests, subst, ℕ, ◌≡◌, ◌≤◌}
+use Rattle.kob_authorizer.proofs.Words.{Binding, Contents, IsEarliest, IsTrueVerdict, List, NoneHits, NoneMatches, Permission, Question, Verdict, arith, common_steps, nat_tests, ℕ, ◌≡◌, ◌≤◌}
 use Rattle.kob_authorizer.specs.Meaning.{Hits}
 use Rattle.kob_authorizer.proofs.Elements.{each}
 use Rattle.kob_authorizer.proofs.Resources.{none_among}
@@ -8,9 +8,7 @@ module _ {question : Question} {entries : List (ℕ × Binding)} where
   lowest : (permission : Permission) (serial other : ℕ) → IsEarliest permission question entries serial
       → IsEarliest permission question entries other → serial ≤ other
   lowest permission serial other one two =
-      let le = each (λ entry. Hits permission question entry → serial ≤ entry.0) entries two.entry one.least
-      two.in_force two.hits in
-      subst (λ n. serial ≤ n) two.serial_is le
+      grind (arith, nat_tests, each (λ entry. Hits permission question entry → serial ≤ entry.0) entries two.entry)
 
   same_serial : (permission : Permission) (serial other : ℕ) → IsEarliest permission question entries serial
       → IsEarliest permission question entries other → serial ≡ other

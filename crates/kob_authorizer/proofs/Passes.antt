@@ -1,5 +1,5 @@
 -- One pass along the serials of a place takes out those of the entries that go, and leaves those of the others.
-use Rattle.kob_authorizer.proofs.Words.{Binding, Bool, IsRising, List, PatternKind, ResourceKind, [], arith, cond, entries_on, eq-eqb, filter, is_place, nat_tests, ne_eqb, not, pattern_place, refl, same_resource, serials_at, sym, without_in_turn, ℕ, ◌&&◌, ◌+◌, ◌∙◌, ◌∷◌, ◌≡◌, ◌≤◌}
+use Rattle.kob_authorizer.proofs.Words.{Binding, Bool, IsRising, List, PatternKind, ResourceKind, [], arith, cond, entries_on, eq-eqb, filter, is_place, nat_tests, ne_eqb, not, pattern_place, refl, same_resource, serials_at, without_in_turn, ℕ, ◌&&◌, ◌+◌, ◌∷◌, ◌≡◌, ◌≤◌, none_sought}
 use Rattle.kob_authorizer.proofs.Rising.{rising_filter}
 
 -- no serial is below a bound
@@ -10,11 +10,6 @@ AreFrom low (s ∷ ss) = (low ≤ s) × AreFrom low ss
 from_lower : (low more : ℕ) (ss : List ℕ) → low ≤ more → AreFrom more ss → AreFrom low ss
 from_lower low more [] le from = tt
 from_lower low more (s ∷ ss) le from = (omega (arith, le, from.0), from_lower low more ss le from.1)
-
--- where none is sought, all stay
-pub none_sought : (xs : List ℕ) → without_in_turn [] xs ≡ xs
-none_sought [] = refl
-none_sought (x ∷ xs) = refl
 
 -- where the first that is sought is below all, all stay
 not_there : (y : ℕ) (ys xs : List ℕ) → AreFrom (y + 1) xs → without_in_turn (y ∷ ys) xs ≡ xs
@@ -70,11 +65,8 @@ module _ (resource : ResourceKind) (kind : PatternKind) (key : List ℕ) where
       ≡ serials_there (filter (λ e. not (test e)) xs)
   pass_leaves test low high [] rising = refl
   pass_leaves test low high (x ∷ xs) rising =
-      (λ i. without_in_turn (one_more_kept test x xs i) (one_more_there x xs i))
-      ∙ pass_step (test x) (stands_at x) x.0 (serials_there (filter test xs)) (serials_there xs)
-      (serials_there (filter (λ e. not (test e)) xs)) (kept_from test (x.0 + 1) high xs rising.1)
-      (pass_leaves test (x.0 + 1) high xs rising.1)
-      ∙ sym (one_more_kept (λ e. not (test e)) x xs)
+      let rest = pass_leaves test (x.0 + 1) high xs rising.1 in
+      grind (arith, nat_tests, one_more_kept, one_more_there, pass_step, kept_from)
 
   -- and a second pass takes no more
   pub pass_again : (test : ℕ × Binding → Bool) (low high : ℕ) (xs : List (ℕ × Binding)) → IsRising low xs high
@@ -82,9 +74,18 @@ module _ (resource : ResourceKind) (kind : PatternKind) (key : List ℕ) where
       ≡ serials_there (filter (λ e. not (test e)) xs)
   pass_again test low high [] rising = refl
   pass_again test low high (x ∷ xs) rising =
-      let other : ℕ × Binding → Bool = λ e. not (test e) in
-      (λ i. without_in_turn (one_more_kept test x xs i) (one_more_kept other x xs i))
-      ∙ again_step (test x) (stands_at x) x.0 (serials_there (filter test xs)) (serials_there (filter other xs))
-      (kept_from test (x.0 + 1) high xs rising.1) (kept_from other (x.0 + 1) high xs rising.1)
-      (pass_again test (x.0 + 1) high xs rising.1)
-      ∙ sym (one_more_kept other x xs)
+      grind (
+        arith,
+        nat_tests,
+        one_more_kept,
+        again_step,
+        pass_again test (x.0 + 1) high xs rising.1,
+        from_lower,
+        not_there,
+        stays,
+        pass_step,
+        one_more_there,
+        there_from,
+        kept_from,
+        pass_leaves,
+      )

@@ -1,25 +1,8 @@
 -- What a deletion takes out of the trees of the patterns, place by place.
-use Rattle.kob_authorizer.proofs.Words.{Binding, BindingFilter, Bool, Held, Index, Indexes, IsRising, List, PatternKind, Patterns, PrefixMap, Removal, ResourceKind, [], addition, and_parts, ap, append-nil, append_assoc, arith, begins_with, bindings_left, bindings_taken, bytes_eq-Decides, cond, eq-eqb, false, filter, fold, held, held_removed_all_other, held_removed_all_same, is_first_there, key_place, list_any, map, nat_tests, patterns_of, refl, removal_of, removals_of, removed_all, resource_decides, same_kind, same_text, serials_beside, serials_of, sym, takes, tree_of, true, with_removal, without_addition, without_in_turn, without_removal, without_serials, ℕ, ◌&&◌, ◌++◌, ◌||◌, ◌∙◌, ◌∷◌, ◌≡◌}
+use Rattle.kob_authorizer.proofs.Words.{Binding, BindingFilter, Bool, Index, Indexes, IsRising, List, PatternKind, Patterns, Removal, ResourceKind, [], addition, and_parts, ap, append-nil, append_assoc, arith, begins_with, bindings_left, bindings_taken, bytes_eq-Decides, cond, eq-eqb, false, filter, fold, held, is_first_there, key_place, list_any, map, nat_tests, patterns_of, refl, removal_of, removals_of, resource_decides, serials_beside, serials_of, sym, takes, tree_of, true, with_removal, without_addition, without_in_turn, without_removal, ℕ, ◌++◌, ◌∙◌, ◌∷◌, ◌≡◌, none_sought}
 use Rattle.kob_authorizer.proofs.IndexSteps.{are_patterns, keys_removed, tree_changed}
-use Rattle.kob_authorizer.proofs.Passes.{none_sought, one_more_there, pass_again, pass_leaves, serials_there, stands_at}
-use Rattle.kob_authorizer.proofs.TreeSteps.{after_change}
-
--- the list after a pass, where there is one
-abbrev passed : Bool → List ℕ → List ℕ → List ℕ
-passed here ss xs = cond here (without_in_turn ss xs) xs
-
-pass_of_kind : (kind : PatternKind) (ss : List ℕ) (h : Held) (other : PatternKind)
-    → serials_of other (without_serials kind ss h) ≡ passed (same_kind kind other) ss (serials_of other h)
-pass_of_kind x0 ss h x3 = grind (arith, nat_tests)
-
--- a pass changes one list of one key
-after_pass : (m : PrefixMap) (key : List ℕ) (kind : PatternKind) (ss : List ℕ) (other : PatternKind) (name : List ℕ)
-    → serials_of other (held (removed_all m key kind ss) name)
-    ≡ passed (same_kind kind other && same_text key name) ss (serials_of other (held m name))
-after_pass m key kind ss =
-    after_change (without_in_turn ss) m (removed_all m key kind ss) key kind
-    (λ other. ap (serials_of other) (held_removed_all_same m key kind ss) ∙ pass_of_kind kind ss (held m key) other)
-    (held_removed_all_other m key kind ss)
+use Rattle.kob_authorizer.proofs.Passes.{one_more_there, pass_again, pass_leaves, serials_there, stands_at}
+use Rattle.kob_authorizer.proofs.TreeSteps.{after_pass, passed}
 
 -- each place is named where its first entry is met
 named : (patterns : Patterns) (rest : List (ℕ × Binding)) (so_far : List Removal)
@@ -27,13 +10,8 @@ named : (patterns : Patterns) (rest : List (ℕ × Binding)) (so_far : List Remo
     ≡ so_far ++ map (removal_of patterns) (filter (is_first_there patterns) rest)
 named patterns [] so_far = sym (append-nil so_far)
 named patterns (x ∷ xs) so_far =
-    grind (
-      arith,
-      nat_tests,
-      named patterns xs (so_far ++ removal_of patterns x ∷ []),
-      append_assoc,
-      named patterns xs so_far,
-    )
+    let put = named patterns xs (so_far ++ removal_of patterns x ∷ []) in
+    grind (arith, nat_tests, append_assoc, named patterns xs so_far)
 
 module _ (resource : ResourceKind) (kind : PatternKind) (key : List ℕ) where
   -- the serials of this place among the patterns
@@ -64,17 +42,13 @@ module _ (resource : ResourceKind) (kind : PatternKind) (key : List ℕ) where
         → found_there (without_places patterns ds) ≡ left
     left_stays [] patterns is = is
     left_stays (d ∷ ds) patterns is =
-        left_stays ds (without_removal patterns (removal_of (patterns_of taken) d))
-        (after_entry patterns d left is
-        ∙ elim (stands_at resource kind key d) as (λ b. passed b sought left ≡ left) [ true ↦ again | false ↦ refl ])
+        grind (arith, nat_tests, left_stays ds (without_removal patterns (removal_of (patterns_of taken) d)), after_entry patterns d left is)
 
     -- the place is passed where an entry that stands there is met
     after_entries : (ds : List (ℕ × Binding)) (patterns : Patterns) → found_there patterns ≡ before
         → found_there (without_places patterns ds) ≡ cond (list_any (stands_at resource kind key) ds) left before
     after_entries [] patterns is = is
-    after_entries (d ∷ ds) patterns is =
-        let after : Patterns = without_removal patterns (removal_of (patterns_of taken) d) in
-        grind (arith, nat_tests, left_stays, after_entry, after_entries ds after)
+    after_entries (d ∷ ds) patterns is = grind (arith, nat_tests, left_stays, after_entry, after_entries ds)
 
   -- where some of the entries stand there, one is the first
   some_first : (taken rest : List (ℕ × Binding)) (s : ℕ) (ss : List ℕ) → serials_there resource kind key rest ≡ s ∷ ss
@@ -82,19 +56,7 @@ module _ (resource : ResourceKind) (kind : PatternKind) (key : List ℕ) where
       → list_any (stands_at resource kind key) (filter (is_first_there (patterns_of taken)) rest) ≡ true
   some_first taken [] s ss is begins = absurd (cc)
   some_first taken (x ∷ xs) s ss is begins =
-      let stands : ℕ × Binding → Bool = stands_at resource kind key in
-      let firsts : List (ℕ × Binding) = filter (is_first_there (patterns_of taken)) xs in
-      let there : cond (stands x) (x.0 ∷ serials_there resource kind key xs) (serials_there resource kind key xs)
-      ≡ s ∷ ss = sym (one_more_there resource kind key x xs) ∙ is in
-      elim (stands x) as (λ b. stands x ≡ b
-      → cond b (x.0 ∷ serials_there resource kind key xs) (serials_there resource kind key xs) ≡ s ∷ ss
-      → list_any stands (cond (is_first_there (patterns_of taken) x) (x ∷ firsts) firsts) ≡ true) [
-        | true ↦ grind (arith, nat_tests, beside)
-        | false ↦ λ so later.
-            let more = some_first taken xs s ss later begins in
-            elim (is_first_there (patterns_of taken) x) as (λ b. list_any stands (cond b (x ∷ firsts) firsts) ≡ true)
-            [ true ↦ ap (λ b. b || list_any stands firsts) so ∙ more | false ↦ more ]
-      ] refl there
+      grind (arith, nat_tests, one_more_there, list_any, beside, some_first taken xs s ss)
 
   -- after all removals the place has the serials of the entries that stay
   pub place_after : (wanted : BindingFilter) (low high : ℕ) (entries : List (ℕ × Binding)) (patterns : Patterns)

@@ -1,5 +1,5 @@
 -- Whether a binding in force matches a resource, by the test and by what it means.
-use Rattle.kob_authorizer.proofs.Words.{Binding, Contains, Decides, List, Matches, NoneMatches, Question, SomeMatches, arith, false, is_match, list_any, nat_tests, resource_decides, sym, true, true≢false, ℕ, ◌∙◌, ◌≡◌}
+use Rattle.kob_authorizer.proofs.Words.{Binding, Contains, Decides, List, Matches, NoneMatches, Question, SomeMatches, arith, false, is_match, list_any, nat_tests, resource_decides, true, ℕ, ◌≡◌}
 use Rattle.kob_authorizer.proofs.Elements.{any_passes, each, of_each, passing}
 
 -- the test of a match says whether the binding matches
@@ -11,14 +11,12 @@ module _ (question : Question) (entries : List (ℕ × Binding)) where
   -- where the test finds one, a binding matches
   pub some_matches : list_any (is_match question) entries ≡ true → SomeMatches question entries
   some_matches found =
-      let (entry, (there, passes)) = passing (is_match question) entries found in
-      record { entry = entry; in_force = there; matches = (is_match_decides question entry).0 passes }
+      let (entry, (there, passes)) = passing (is_match question) entries found in grind (arith, nat_tests)
 
   -- and where it finds none, none does
   pub none_matches : list_any (is_match question) entries ≡ false → NoneMatches question entries
   none_matches none = of_each (λ entry. ¬ Matches question entry) entries (λ entry there both.
-      true≢false (sym (any_passes (is_match question) entries entry there ((is_match_decides question entry).1 both))
-      ∙ none))
+      grind (arith, nat_tests, any_passes (is_match question) entries entry, is_match_decides question entry))
 
   -- not both
   pub none_among : (entry : ℕ × Binding) → NoneMatches question entries → Contains entries entry

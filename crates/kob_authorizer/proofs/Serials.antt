@@ -1,5 +1,5 @@
 -- The serial of a binding in two lists, one after the other.
-use Rattle.kob_authorizer.proofs.Words.{Binding, List, None, Some, [], ap, arith, enumerate_from, find-append, is_among, is_in_force, is_some, length, length-enumerate_from, nat_tests, option_map, option_or, refl, serial_of, ℕ, ◌++◌, ◌+◌, ◌∙◌, ◌∷◌, ◌≡◌}
+use Rattle.kob_authorizer.proofs.Words.{Binding, List, None, Some, [], ap, arith, enumerate_from, find-append, is_among, is_in_force, is_some, length, nat_tests, option_map, option_or, refl, serial_of, ℕ, ◌++◌, ◌+◌, ◌∙◌, ◌∷◌, ◌≡◌}
 
 -- the serial in two lists is that in the first, where there is one
 pub serial_of_append : (binding : Binding) (xs ys : List (ℕ × Binding))
@@ -15,10 +15,6 @@ serial_of_append_some binding xs ys serial found = grind (arith, nat_tests, seri
 pub serial_of_append_none : (binding : Binding) (xs ys : List (ℕ × Binding)) → None ≡ serial_of xs binding
     → serial_of ys binding ≡ serial_of (xs ++ ys) binding
 serial_of_append_none binding xs ys none = grind (arith, nat_tests, serial_of_append)
-
--- numbering keeps the length
-pub length_enumerate_from : {A : Type 0} (n : ℕ) (xs : List A) → length (enumerate_from n xs) ≡ length xs
-length_enumerate_from = length-enumerate_from
 
 -- numbering two lists is numbering the one and then the other
 pub enumerate_from_append : {A : Type 0} (n : ℕ) (xs ys : List A)

@@ -1,5 +1,5 @@
 -- The tree of the super users' texts holds those that are listed, and no others.
-use Rattle.kob_authorizer.proofs.Words.{Held, List, PrefixMap, [], ap, arith, bytes_eq-Decides, common_steps, false, fold, held, held_added_other, held_added_same, held_empty, holds_text, is_super, length, nat_tests, ne_eqb, not, or-false, or-true, or_assoc, refl, same_text, sym, texts_of, true, with_text, ℕ, ◌++◌, ◌==◌, ◌||◌, ◌∙◌, ◌∷◌, ◌≡◌}
+use Rattle.kob_authorizer.proofs.Words.{List, PrefixMap, [], arith, bytes_eq-Decides, common_steps, fold, held_added_other, held_added_same, held_empty, holds_text, is_super, length, nat_tests, ne_eqb, not, or-false, or-true, or_assoc, same_text, sym, texts_of, true, with_text, ℕ, ◌++◌, ◌==◌, ◌||◌, ◌∷◌, ◌≡◌}
 use Rattle.kob_prefix_tree.specs.declared.kind.PatternKind.TheVariants.{Literal}
 
 -- a list that was added to is not empty
@@ -10,18 +10,8 @@ one_more x0 x = grind (arith, common_steps, ne_eqb)
 text_added : (texts : PrefixMap) (user text : List ℕ)
     → holds_text (with_text texts user) text ≡ (holds_text texts text || same_text text user)
 text_added texts user text =
-    elim (same_text text user) as (λ b. same_text text user ≡ b
-    → holds_text (with_text texts user) text ≡ (holds_text texts text || b)) [
-      | true ↦ λ is.
-          ap (holds_text (with_text texts user)) ((bytes_eq-Decides text user).0 is)
-          ∙ ap (λ (h : Held). not (length h.0 == 0)) (held_added_same texts user Literal 0)
-          ∙ one_more (held texts user).0 0
-          ∙ sym (or-true (holds_text texts text))
-      | false ↦ λ is.
-          ap (λ (h : Held). not (length h.0 == 0))
-          (held_added_other texts user Literal 0 text (λ same. let equal = (bytes_eq-Decides text user).1 same in cc))
-          ∙ sym (or-false (holds_text texts text))
-    ] refl
+    let decided = bytes_eq-Decides text user in let put = held_added_same texts user Literal 0 in
+    let beside = held_added_other texts user Literal 0 text in grind (arith, nat_tests, one_more, or-true, or-false)
 
 texts_hold_beside : (texts : PrefixMap) (users : List (List ℕ)) (text : List ℕ)
     → holds_text (fold with_text texts users) text ≡ (holds_text texts text || is_super users text)

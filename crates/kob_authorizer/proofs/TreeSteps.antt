@@ -1,13 +1,13 @@
 -- What a serial that comes or goes does to the serials that a tree holds.
-use Rattle.kob_authorizer.proofs.Words.{Binding, Bool, Held, IsIndex, IsRising, List, PatternKind, Place, PrefixMap, [], added, addition, and-false, and-true, ap, append-nil, arith, bytes_eq-Decides, cond, eq-eqb, false, filter, filter-append, held, held_added_other, held_added_same, held_empty, held_removed_other, held_removed_same, is_place, list_any, map, map-append, nat_tests, ne_eqb, refl, removed, same_kind, same_text, serials_at, serials_of, taken_of_second, true, with_addition, with_serial, without_addition, without_first, without_serial, ℕ, ◌&&◌, ◌++◌, ◌+◌, ◌==◌, ◌∙◌, ◌∷◌, ◌≡◌, ◌≢◌, ◌≤◌}
+use Rattle.kob_authorizer.proofs.Words.{Binding, Bool, Held, IsIndex, IsRising, List, PatternKind, Place, PrefixMap, [], added, addition, and-false, and-true, ap, append-nil, arith, bytes_eq-Decides, cond, eq-eqb, false, filter, filter-append, held, held_added_other, held_added_same, held_empty, is_place, list_any, map, map-append, nat_tests, ne_eqb, refl, same_kind, same_text, serials_at, serials_of, taken_of_second, true, with_addition, with_serial, without_addition, ℕ, ◌&&◌, ◌++◌, ◌+◌, ◌==◌, ◌∙◌, ◌∷◌, ◌≡◌, ◌≢◌, ◌≤◌, none_sought, without_in_turn, without_serials, removed_all, held_removed_all_same, held_removed_all_other}
 use Rattle.std.specs.FinMap as finite
 
 abbrev serial : ℕ × Binding → ℕ
 serial entry = entry.0
 
--- the list without the first of this serial, where the test passes
-abbrev less : Bool → ℕ → List ℕ → List ℕ
-less here s xs = cond here (without_first (λ x. x == s) xs) xs
+-- the list after a pass, where the test passes
+abbrev pub passed : Bool → List ℕ → List ℕ → List ℕ
+passed here ss xs = cond here (without_in_turn ss xs) xs
 
 -- the list with the serial put last, where the test passes
 abbrev more : Bool → ℕ → List ℕ → List ℕ
@@ -17,13 +17,13 @@ with_serials : (kind : PatternKind) (s : ℕ) (h : Held) (other : PatternKind)
     → serials_of other (with_serial kind s h) ≡ more (same_kind kind other) s (serials_of other h)
 with_serials x0 s h x3 = grind (arith, nat_tests)
 
-without_serials : (kind : PatternKind) (s : ℕ) (h : Held) (other : PatternKind)
-    → serials_of other (without_serial kind s h) ≡ less (same_kind kind other) s (serials_of other h)
-without_serials x0 s h x3 = grind (arith, nat_tests)
+pass_of_kind : (kind : PatternKind) (ss : List ℕ) (h : Held) (other : PatternKind)
+    → serials_of other (without_serials kind ss h) ≡ passed (same_kind kind other) ss (serials_of other h)
+pass_of_kind x0 ss h x3 = grind (arith, nat_tests)
 
 -- one list of one key changed
 module _ (change : List ℕ → List ℕ) (m now : PrefixMap) (key : List ℕ) (kind : PatternKind) where
-  pub after_change : ((other : PatternKind) → serials_of other (held now key)
+  after_change : ((other : PatternKind) → serials_of other (held now key)
       ≡ cond (same_kind kind other) (change (serials_of other (held m key))) (serials_of other (held m key)))
       → ((name : List ℕ) → name ≢ key → held now name ≡ held m name) → (other : PatternKind) (name : List ℕ)
       → serials_of other (held now name)
@@ -31,22 +31,23 @@ module _ (change : List ℕ → List ℕ) (m now : PrefixMap) (key : List ℕ) (
       (serials_of other (held m name))
   after_change at elsewhere other name = grind (arith, nat_tests, bytes_eq-Decides, and-true, and-false)
 
-module _ (m : PrefixMap) (key : List ℕ) (kind : PatternKind) (s : ℕ) where
+module _ (m : PrefixMap) (key : List ℕ) (kind : PatternKind) where
   -- a serial that was added stands at its place alone, after the others
-  after_added : (other : PatternKind) (name : List ℕ) → serials_of other (held (added m key kind s) name)
+  after_added : (s : ℕ) (other : PatternKind) (name : List ℕ) → serials_of other (held (added m key kind s) name)
       ≡ more (same_kind kind other && same_text key name) s (serials_of other (held m name))
-  after_added =
+  after_added s =
       after_change (λ xs. xs ++ s ∷ []) m (added m key kind s) key kind
       (λ other. ap (serials_of other) (held_added_same m key kind s) ∙ with_serials kind s (held m key) other)
       (held_added_other m key kind s)
 
-  -- a serial that was taken away is gone from its place alone
-  after_removed : (other : PatternKind) (name : List ℕ) → serials_of other (held (removed m key kind s) name)
-      ≡ less (same_kind kind other && same_text key name) s (serials_of other (held m name))
-  after_removed =
-      after_change (without_first (λ x. x == s)) m (removed m key kind s) key kind
-      (λ other. ap (serials_of other) (held_removed_same m key kind s) ∙ without_serials kind s (held m key) other)
-      (held_removed_other m key kind s)
+  -- a pass changes one list of one key
+  pub after_pass : (ss : List ℕ) (other : PatternKind) (name : List ℕ)
+      → serials_of other (held (removed_all m key kind ss) name)
+      ≡ passed (same_kind kind other && same_text key name) ss (serials_of other (held m name))
+  after_pass ss =
+      after_change (without_in_turn ss) m (removed_all m key kind ss) key kind
+      (λ other. ap (serials_of other) (held_removed_all_same m key kind ss) ∙ pass_of_kind kind ss (held m key) other)
+      (held_removed_all_other m key kind ss)
 
 -- no entry has this serial
 abbrev pub NoneHas : ℕ → List (ℕ × Binding) → Type 0
@@ -95,18 +96,13 @@ module _ (place : Binding → Place) where
   -- the list of a place without the serial of an entry, when none before has it
   taken_out : (done : List (ℕ × Binding)) (entry : ℕ × Binding) (rest : List (ℕ × Binding)) (kind : PatternKind)
       (key : List ℕ) → NoneHas entry.0 done → (b : Bool)
-      → less b entry.0 (serials_at place done kind key
+      → passed b (entry.0 ∷ []) (serials_at place done kind key
       ++ map serial (cond b (entry ∷ filter (stands kind key) rest) (filter (stands kind key) rest)))
       ≡ serials_at place done kind key ++ serials_at place rest kind key
   taken_out done entry rest kind key none true =
-      grind (
-        arith,
-        nat_tests,
-        none_any entry.0 (filter (stands kind key) done) (none_has_filter (stands kind key) entry.0 done none),
-        none_has_filter (stands kind key) entry.0 done none,
-        taken_of_second,
-        eq-eqb entry.0 entry.0 refl,
-      )
+      let gone = none_has_filter (stands kind key) entry.0 done none in
+      let absent = none_any entry.0 (filter (stands kind key) done) gone in let same = eq-eqb entry.0 entry.0 refl in
+      grind (arith, nat_tests, taken_of_second, none_sought)
   taken_out done entry rest kind key none false = refl
 
   -- an entry is taken away from among others
@@ -114,11 +110,7 @@ module _ (place : Binding → Place) where
       → NoneHas entry.0 done → IsIndex place m (done ++ entry ∷ rest)
       → IsIndex place (without_addition m (addition place entry)) (done ++ rest)
   index_removed m done entry rest none is kind key =
-      grind (
-        arith,
-        nat_tests,
-        after_removed m (place entry.1).key (place entry.1).kind entry.0 kind key,
-        serials_at_append done (entry ∷ rest) kind key,
-        taken_out done entry rest kind key none (stands kind key entry),
-        serials_at_append done rest kind key,
-      )
+      let passed = after_pass m (place entry.1).key (place entry.1).kind (entry.0 ∷ []) kind key in
+      let before = serials_at_append done (entry ∷ rest) kind key in
+      let out = taken_out done entry rest kind key none (stands kind key entry) in
+      let after = serials_at_append done rest kind key in grind (arith, nat_tests)

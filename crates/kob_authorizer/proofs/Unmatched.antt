@@ -1,5 +1,5 @@
 -- Where the trees give no serial for a name, no binding matches it, and the other way round.
-use Rattle.kob_authorizer.proofs.Words.{Binding, Bool, Contains, Contains-append_cases, Decides-eqb, Index, Indexes, List, Literal, PrefixMap, Prefixed, Question, SomeMatches, [], and_parts, arith, bytes_eq-Decides, codes, entries_on, false, filter, held, inl, inr, is_match, is_place, is_unmatched, kind_in_tree, length, list_any, map, matches_by, matching_serials, nat_eq, nat_tests, ne_eqb, not, pattern_place, refl, resource_decides, same_kind, same_resource, same_text, serials_of, starts_is, starts_with, subst, sym, tree_of, true, walk_of, walk_only, ℕ, ◌==◌, ◌||◌, ◌∷◌, ◌≡◌}
+use Rattle.kob_authorizer.proofs.Words.{Binding, Bool, Contains, Contains-append_cases, Decides-eqb, Index, Indexes, List, Literal, PrefixMap, Prefixed, Question, SomeMatches, [], and_parts, arith, bytes_eq-Decides, codes, entries_on, false, filter, held, inl, inr, is_match, is_place, is_unmatched, kind_in_tree, length, list_any, matches_by, matching_serials, nat_eq, nat_tests, ne_eqb, not, pattern_place, refl, resource_decides, same_kind, same_resource, same_text, serials_of, starts_is, starts_with, subst, sym, tree_of, true, walk_of, walk_only, ℕ, ◌==◌, ◌||◌, ◌∷◌, ◌≡◌}
 use Rattle.kob_names.specs.declared.kinds.PatternKind.{PatternKind}
 use Rattle.kob_authorizer.proofs.Elements.{at_head, given_by, was_kept}
 use Rattle.kob_authorizer.proofs.Matching.{looked_up}
@@ -16,21 +16,13 @@ module _ (index : Index) (entries : List (ℕ × Binding)) (indexed : Indexes in
   of_match : (kind : PatternKind) (key : List ℕ) (serial : ℕ) → matches_by kind key question.name ≡ true
       → Contains (serials_of (kind_in_tree kind) (held tree key)) serial → SomeMatches question entries
   of_match kind key serial matched has =
-      let on : List (ℕ × Binding) = entries_on question.resource entries in
       let test : ℕ × Binding → Bool = λ e. is_place (kind_in_tree kind) key (pattern_place e.1) in
-      let there : Contains (map (λ (e : ℕ × Binding). e.0) (filter test on)) serial =
-      subst (λ xs. Contains xs serial) (indexed.patterns question.resource (kind_in_tree kind) key) has in
-      let given = given_by (λ (e : ℕ × Binding). e.0) (filter test on) serial there in
-      let entry : ℕ × Binding = given.0 in
-      let kept = was_kept test on entry given.1.0 in
-      let both =
-      and_parts (same_kind (kind_in_tree entry.1.pattern.kind) (kind_in_tree kind))
-      (same_text entry.1.pattern.name key) kept.1 in
-      let of_kind : entry.1.pattern.kind ≡ kind = kind_is entry.1.pattern.kind kind both.0 in
-      let named : entry.1.pattern.name ≡ key = (bytes_eq-Decides entry.1.pattern.name key).0 both.1 in
+      let given = given_by (λ (e : ℕ × Binding). e.0) (filter test (entries_on question.resource entries)) serial
+      (subst (λ xs. Contains xs serial) (indexed.patterns question.resource (kind_in_tree kind) key) has) in
+      let kept = was_kept test (entries_on question.resource entries) given.0 given.1.0 in
       let in_force =
-      was_kept (λ (e : ℕ × Binding). same_resource e.1.resource question.resource) entries entry kept.0 in
-      grind (arith, nat_tests, resource_decides)
+      was_kept (λ (e : ℕ × Binding). same_resource e.1.resource question.resource) entries given.0 kept.0 in
+      grind (arith, nat_tests, resource_decides, and_parts, kind_is, bytes_eq-Decides)
 
   literal_itself : matches_by Literal question.name question.name ≡ true
   literal_itself = grind (arith, nat_tests, bytes_eq-Decides)

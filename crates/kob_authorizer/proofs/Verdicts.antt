@@ -39,16 +39,10 @@ earliest_hit : (wanted : Permission) (question : Question) (entries : List (ℕ 
     → IsRising low entries high → first_serial (hits entries wanted question) ≡ Some serial
     → IsEarliest wanted question entries serial
 earliest_hit wanted question entries low high serial rising found =
-    let (entry, (kept, is)) = first_is (is_hit wanted question) entries serial found in
-    record {
-      entry = entry;
-      in_force = kept.0;
-      hits = (is_hit_decides wanted question entry).0 kept.1;
-      serial_is = is;
-      least = of_each (λ other. Hits wanted question other → serial ≤ other.0) entries (λ other there hit.
-          least_is (is_hit wanted question) entries serial found low high rising other there
-          ((is_hit_decides wanted question other).1 hit));
-    }
+    let it = first_is (is_hit wanted question) entries serial found in
+    let least = of_each (λ other. Hits wanted question other → serial ≤ other.0) entries (λ other there hit.
+    least_is (is_hit wanted question) entries serial found low high rising other there
+    ((is_hit_decides wanted question other).1 hit)) in grind (arith, nat_tests, is_hit_decides)
 
 -- the test finds a super user exactly where there is one
 pub found_super : (supers : List (List ℕ)) (principal : List ℕ) → is_super supers principal ≡ true
@@ -83,26 +77,16 @@ by_bindings contents question off = grind (arith, nat_tests)
 no_serial : (wanted : Permission) (question : Question) (entries : List (ℕ × Binding))
     → NoneHits wanted question entries → first_serial (hits entries wanted question) ≡ None
 no_serial wanted question entries none =
-    elim (first_serial (hits entries wanted question)) as (λ o. first_serial (hits entries wanted question) ≡ o
-    → o ≡ None) [
-      | None ↦ λ _. refl
-      | Some serial ↦ λ found.
-          let (entry, (kept, _)) = first_is (is_hit wanted question) entries serial found in
-          absurd (each (λ e. ¬ Hits wanted question e) entries entry none kept.0
-          ((is_hit_decides wanted question entry).0 kept.1))
-    ] refl
+    let first = first_is (is_hit wanted question) entries in
+    grind (arith, nat_tests, each (λ e. ¬ Hits wanted question e) entries, is_hit_decides)
 
 open_where : (question : Question) (entries : List (ℕ × Binding)) (super : Bool) (deny allow : Option ℕ)
     (on found : Bool) → super ≡ false → deny ≡ None → allow ≡ None → on ≡ true
     → list_any (is_match question) entries ≡ found
     → IsTrue (is_granted (unless_open (on && not found) (verdict_of super deny allow))) ↔ NoneMatches question entries
-open_where question entries true deny allow on found s d a o f = cc
-open_where question entries false (Some serial) allow on found s d a o f = cc
-open_where question entries false None (Some serial) on found s d a o f = cc
-open_where question entries false None None false found s d a o f = cc
-open_where question entries false None None true true s d a o f =
-    grind (arith, nat_tests, some_matches question entries f, none_among)
-open_where question entries false None None true false s d a o f = (λ _. none_matches question entries f, λ _. refl)
+open_where question entries super deny allow on found s d a o f =
+    let some = some_matches question entries in let none = none_matches question entries in
+    grind (arith, nat_tests, none_among)
 
 -- with the switch on, one of whom no binding speaks is granted exactly what none matches
 pub granted_unmatched : (contents : Contents) (question : Question) → IsTrue contents.everyone

@@ -1,8 +1,8 @@
 -- The names that the lemmas cite, passed on from one place.
 pub use Rattle.kob_authorizer.specs.Asked.{question_view}
-pub use Rattle.kob_authorizer.specs.AtOnce.{added_at_once, creation, is_among, is_in_force, is_known, new_bindings, serials_in, with_new}
+pub use Rattle.kob_authorizer.specs.AtOnce.{creation, is_among, is_in_force, is_known, new_bindings, serials_in, with_new}
 pub use Rattle.kob_authorizer.specs.Contents.{Contents, IsRising, State}
-pub use Rattle.kob_authorizer.specs.Creation.{Added, AreDistinct, AreInForce, Creates, OnlyAdds, add_one, serial_of, with_binding}
+pub use Rattle.kob_authorizer.specs.Creation.{Added, AreDistinct, AreInForce, Creates, OnlyAdds, add_one, created, serial_of, with_binding}
 pub use Rattle.kob_authorizer.specs.Decide.{decide, decide_by_bindings, first_serial, hits, is_hit, is_match, is_super, is_unmatched, unless_open, verdict_of}
 pub use Rattle.kob_authorizer.specs.Deletion.{bindings_left, bindings_taken}
 pub use Rattle.kob_authorizer.specs.Fresh.{bindings_of}
@@ -25,26 +25,23 @@ pub use Rattle.kob_names.specs.Binding.{Binding}
 pub use Rattle.kob_names.specs.Filter.{takes}
 pub use Rattle.kob_names.specs.Granted.{is_granted}
 pub use Rattle.kob_names.specs.Same.{same_resource, same_text}
-pub use Rattle.kob_names.specs.SameBinding.{same_binding}
 pub use Rattle.kob_names.specs.declared.filter.BindingFilter.{BindingFilter}
 pub use Rattle.kob_names.specs.declared.kinds.PatternKind.TheVariants.{Literal, Prefixed}
 pub use Rattle.kob_names.specs.declared.kinds.Permission.{Permission}
 pub use Rattle.kob_names.specs.declared.kinds.Permission.TheVariants.{Allow, Deny}
 pub use Rattle.kob_names.specs.declared.kinds.ResourceKind.{ResourceKind}
-pub use Rattle.kob_names.specs.declared.kinds.ResourceKind.TheVariants.{Cluster, Group, Topic, TransactionalId}
 pub use Rattle.kob_names.specs.declared.verdict.Verdict.{Verdict}
-pub use Rattle.kob_names.specs.declared.verdict.Verdict.TheVariants.{AllowedBy, DeniedBy, NoAclFound, NoAllow, Super}
-pub use Rattle.kob_prefix_tree.proofs.HeldLaws.{along_has_literal, along_has_prefixed, held_added_other, held_added_same, held_empty, held_removed_all_other, held_removed_all_same, held_removed_other, held_removed_same, walk_only}
-pub use Rattle.kob_prefix_tree.proofs.ListLemmas.{taken_of_second}
-pub use Rattle.kob_prefix_tree.specs.Held.{Held, serials_of, with_serial, without_serial, without_serials}
-pub use Rattle.kob_prefix_tree.specs.Lists.{without_first, without_in_turn}
+pub use Rattle.kob_prefix_tree.proofs.HeldLaws.{along_has_literal, along_has_prefixed, held_added_other, held_added_same, held_empty, held_removed_all_other, held_removed_all_same, walk_only}
+pub use Rattle.kob_prefix_tree.proofs.ListLemmas.{none_sought, taken_of_second}
+pub use Rattle.kob_prefix_tree.specs.Held.{Held, serials_of, with_serial, without_serials}
+pub use Rattle.kob_prefix_tree.specs.Lists.{without_in_turn}
 pub use Rattle.kob_prefix_tree.specs.Part.{part_of}
-pub use Rattle.kob_prefix_tree.specs.PrefixMap.{PrefixMap, added, held, removed, removed_all, walk_of}
+pub use Rattle.kob_prefix_tree.specs.PrefixMap.{PrefixMap, added, held, removed_all, walk_of}
 pub use Rattle.kob_prefix_tree.specs.WalkLeft.{left_of}
 pub use Rattle.kob_prefix_tree.specs.Walked.{serials_along}
 pub use Rattle.kob_prefix_tree.specs.declared.kind.PatternKind.{PatternKind}
-pub use Rattle.std.proofs.Common.{Bool, Err, IfSome, List, MatchResult, None, Ok, Option, Result, Some, [], ap, append-nil, append_assoc, arith, codes, cond, drop, false, get_or, inl, inr, length, length-append, map, min, not, refl, rules, subst, suc, sym, take, true, vec_len, zero, ℕ, ◌&&◌, ◌++◌, ◌+◌, ◌<◌, ◌==◌, ◌||◌, ◌↔◌, ◌∙◌, ◌∷◌, ◌≡◌, ◌≢◌, ◌≤◌, ◌⊎◌}
-pub use Rattle.std.proofs.Math.Bool.{and-false, and-true, or-false, or-true, or_assoc, true≢false}
+pub use Rattle.std.proofs.Common.{All, Bool, Contains, Err, IfSome, IsTrue, List, MatchResult, None, Ok, Option, Result, Some, ap, append-nil, append_assoc, arith, codes, cond, drop, false, get_or, inl, inr, is_some, length, length-append, map, min, nat_eq, not, refl, rules, subst, suc, sym, take, true, vec_len, zero, [], ℕ, ◌&&◌, ◌++◌, ◌+◌, ◌<◌, ◌==◌, ◌||◌, ◌↔◌, ◌∙◌, ◌∷◌, ◌≡◌, ◌≢◌, ◌≤◌, ◌⊎◌}
+pub use Rattle.std.proofs.Math.Bool.{and-false, and-true, or-false, or-true, or_assoc}
 pub use Rattle.std.proofs.Math.Nat.{le-min, min-le_left, min-le_right}
 pub use Rattle.std.proofs.lemmas.Bool.{and_from, and_parts, both_ways, eq-eqb, eqb-true, ne_eqb, or_cases}
 pub use Rattle.std.proofs.lemmas.Bool.Decides.{Decides-and, Decides-eqb, Decides-like, nat_tests}
@@ -54,7 +51,7 @@ pub use Rattle.std.proofs.lemmas.Grind.{common_steps}
 pub use Rattle.std.proofs.lemmas.Iterator.Adapters.{option_map_id}
 pub use Rattle.std.proofs.lemmas.Iterator.Consumers.{YieldsList-from_chain, YieldsList-from_filter, YieldsList-from_first, fold_from_yields_List, min_from_yields_List}
 pub use Rattle.std.proofs.lemmas.List.{length-map, map-append, map_push}
-pub use Rattle.std.proofs.lemmas.List.Elements.{All-cons, All-contains, All-contains_itself, All-filter, All-from_recursion, All-head, All-map, All-nil, All-tail, All-weaker, Contains-append_cases, Contains-append_left, Contains-append_right, Contains-push, Contains-push_cases, filter-append, filter_passes, recursion_from_All}
+pub use Rattle.std.proofs.lemmas.List.Elements.{All-contains, All-contains_itself, All-filter, All-from_recursion, All-head, All-map, All-nil, All-tail, All-weaker, Contains-append_cases, Contains-append_left, Contains-append_right, Contains-push, filter-append, filter_passes, recursion_from_All}
 pub use Rattle.std.proofs.lemmas.List.Folds.{Any-from_list_any, find-append, list_any-from_Any}
 pub use Rattle.std.proofs.lemmas.List.FromFn.{length-enumerate_from}
 pub use Rattle.std.proofs.lemmas.List.Kept.{AllPairs-filter}
@@ -65,9 +62,8 @@ pub use Rattle.std.proofs.lemmas.Map.Views.{Contains-from_any, list_any-from_Con
 pub use Rattle.std.proofs.lemmas.Slice.Eq.{bytes_eq-Decides, starts_is}
 pub use Rattle.std.specs.Bool.{Decides, then_some}
 pub use Rattle.std.specs.Cmp.Lexicographic.{nat_list_eq_equiv}
-pub use Rattle.std.specs.List.{AllByRecursion, cons_option, enumerate_from, filter, find, fold, list_any, reduce, starts_with}
+pub use Rattle.std.specs.List.{AllByRecursion, enumerate_from, filter, find, fold, list_any, reduce, starts_with}
 pub use Rattle.std.specs.List.Sorted.{IsBinarySearchResult, IsNonDecreasingBy, IsSearchInRange}
 pub use Rattle.std.specs.Option.{option_map, option_or}
 pub use Rattle.std.specs.Ordering.{nat_cmp, ordering_index}
-pub use Rattle.std.specs.Prelude.{All, Contains, IsTrue, is_some, nat_eq}
 pub use Rattle.std.specs.Vec.Iter.{into_iter_len}

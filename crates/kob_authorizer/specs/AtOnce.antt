@@ -1,9 +1,9 @@
 -- How bindings are added at once: the new ones are found first, then numbered.
-use Rattle.std.specs.Prelude.{Bool, ◌||◌, if◌then◌else◌, List, [], ◌∷◌, ◌++◌, ℕ, ◌+◌, length}
+use Rattle.std.specs.Prelude.{Bool, ◌||◌, if◌then◌else◌, List, [], ◌∷◌, ◌++◌, ℕ, ◌+◌}
 use Rattle.std.specs.List.{enumerate_from, filter_map, fold, list_any}
 use Rattle.kob_names.specs.SameBinding.{same_binding}
 use Rattle.kob_names.specs.Binding.{Binding}
-use Rattle.kob_authorizer.specs.Creation.{Added, Creation, serial_of}
+use Rattle.kob_authorizer.specs.Creation.{Creation, serial_of}
 
 -- an equal binding is in force
 abbrev pub is_in_force : List (ℕ × Binding) → Binding → Bool
@@ -37,13 +37,3 @@ abbrev pub creation : List (ℕ × Binding) → ℕ → List Binding → Creatio
 creation entries next bindings =
     let fresh : List (ℕ × Binding) = enumerate_from next (new_bindings entries bindings) in
     record { fresh = fresh; serials = serials_in (entries ++ fresh) bindings }
-
--- the same, with the new bindings found first
-abbrev pub added_at_once : List (ℕ × Binding) → ℕ → List Binding → Added
-added_at_once entries next bindings =
-    let made : Creation = creation entries next bindings in
-    record {
-      entries = entries ++ made.fresh;
-      next = next + length made.fresh;
-      serials = made.serials;
-    }

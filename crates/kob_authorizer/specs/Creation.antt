@@ -65,13 +65,18 @@ pub record OnlyAdds (entries : List (ℕ × Binding)) (next : ℕ) (after : Adde
 abbrev pub AreDistinct : List (ℕ × Binding) → Type 0
 AreDistinct entries = AllPairs (λ (one two : ℕ × Binding). one.1 ≢ two.1) entries
 
--- adding the bindings puts these fresh entries last and answers these serials
-abbrev pub Creates : List (ℕ × Binding) → ℕ → List Binding → Creation → Type 0
-Creates entries next bindings made = addition entries next bindings ≡ record {
+-- the fresh entries are put last, and these serials answered
+abbrev pub created : List (ℕ × Binding) → ℕ → Creation → Added
+created entries next made = record {
   entries = entries ++ made.fresh;
   next = next + length made.fresh;
   serials = made.serials;
 }
+
+-- the creation does what adding the bindings does
+abbrev pub Creates : List (ℕ × Binding) → ℕ → List Binding → Creation → Type 0
+Creates entries next bindings made =
+    addition entries next bindings ≡ created entries next made
 
 -- the fresh entries are put last
 abbrev pub with_creation : Contents → Creation → Contents

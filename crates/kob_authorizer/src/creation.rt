@@ -43,7 +43,7 @@ impl Model for PreparedCreate {
 
 impl PreparedCreate {
     /// The creation of `bindings` with these entries in force, if no limit is exceeded.
-    #[tactic(auto, using(crate::proofs::InTurn::creation_creates, crate::proofs::InTurn::fault_by_count, crate::proofs::Serials::length_enumerate_from, crate::proofs::Rising::rising_enumerate_from))]
+    #[tactic(auto, using(crate::proofs::InTurn::creating))]
     pub(crate) fn make(
         alloc: Global,
         entries: &[(u64, Binding)],

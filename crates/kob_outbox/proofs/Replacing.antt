@@ -1,7 +1,6 @@
 -- What the statement on the business rows does.
-use Rattle.kob_outbox.proofs.statements.Words.{Abort, AreBusiness, AreConflicts, Business, Database, Enforced, Err, Error, ExecutesInside, Given, Has, Holds, InsertsOr, Int, IsChanging, IsJudged, IsUtf8, Judged, List, Meets, None, Null, Ok, OnOk, Option, Puts, Refusal, Result, Row, Some, State, States, Task, Text, Trees, Updates, Upserts, Values, Written, [], ap, arith, business_table, business_tree, contents_of, edit_of, edited, ids_of, insert, nat_tests, placed_row, pos, put_row, refl, rowid, service_schema, shown, subst, sym, true, with_state, without_rowid, ℕ, ◌++◌, ◌∙◌, ◌∷◌, ◌≡◌}
+use Rattle.kob_outbox.proofs.statements.Words.{Abort, AreBusiness, AreConflicts, Business, Database, Enforced, Err, Error, ExecutesInside, Given, Has, Holds, InsertsOr, Int, IsChanging, IsJudged, IsUtf8, Judged, List, Meets, None, Null, Ok, OnOk, Option, Puts, Refusal, Result, Row, Some, State, States, Task, Text, Trees, Updates, Upserts, Values, Written, [], ap, arith, business_table, business_tree, contents_of, edit_of, edited, ids_of, insert, nat_tests, placed_row, pos, put_row, refl, rowid, service_schema, shown, subst, sym, true, with_state, without_rowid, ℕ, ◌++◌, ◌∙◌, ◌∷◌, ◌≡◌, and-true}
 use Rattle.kob_outbox.proofs.statements.Steps.{IsAlone, KeepOthers, uncounted, task_on, tried, put, updated, candidate, cast_int, cast_null}
-use Rattle.kob_outbox.proofs.statements.Values.{and_true}
 use Rattle.kob_outbox.proofs.statements.Numbered.{none_conflicts, one_conflicts}
 use Rattle.kob_outbox.proofs.statements.Writing.{wrote}
 use Rattle.kob_outbox.proofs.statements.Selecting.{program_of}
@@ -75,7 +74,7 @@ module _ (limit : Option ℕ) (b : Business) (db : Trees) (states : States)
         updated limit Enforced service_schema business_table params alone (program_of business_there) given db one
         does in
         let answer : it.0 ≡ (Int (pos t.0) ∷ Int (pos t.0) ∷ Text t.1.kind ∷ Text t.1.id ∷ Text b.state ∷ []) ∷ [] =
-        one_at_most business_there given placed_row (is_it b t here) (λ p. and_true (is_it b t here p)) db has.placed
+        one_at_most business_there given placed_row (is_it b t here) (λ p. and-true (is_it b t here p)) db has.placed
         has.rows_are (t ∷ []) over.0 it.0 (it.1.answer Null) (omega arith) in
         let rows =
         it.2.rows ∙ ap (λ rows. edited db (edit_of db (uncounted business_table) (ids_of rows) Given 1 rows)) answer

@@ -1,6 +1,5 @@
 -- The map of the business rows' states.
-use Rattle.kob_outbox.proofs.statements.Words.{AllByRecursion, AreBusiness, Bool, Business, IsAntisymmetric, IsAscending, IsTotalOrder, IsUtf8, Key, List, Row, Some, States, Text, [], all_weaker, and_parts, ap, arith, bytes_eq, bytes_eq-Decides, cases_Bool, cond, entry_of, eq_by_cmp, false, filter, filter_none, find, from_entries, get, get-from_entries, get-insert, has_key, if◌then◌else◌, insert, is_eq, is_eq-slice_cmp, key_cmp, length, map, nat_cmp, nat_tests, on_texts, refl, same_map, shown_state, state_at, sym, then_total, true, ℕ, ◌&&◌, ◌∙◌, ◌∷◌, ◌≡◌, ◌≤◌}
-use Rattle.kob_outbox.proofs.statements.Values.{both_ways, not_true}
+use Rattle.kob_outbox.proofs.statements.Words.{AllByRecursion, AreBusiness, Bool, Business, IsAntisymmetric, IsAscending, IsTotalOrder, IsUtf8, Key, List, Row, Some, States, Text, [], all_weaker, and_parts, ap, arith, bytes_eq, bytes_eq-Decides, cases_Bool, cond, entry_of, eq_by_cmp, false, filter, filter_none, find, from_entries, get, get-from_entries, get-insert, has_key, if◌then◌else◌, insert, is_eq, is_eq-slice_cmp, key_cmp, length, map, nat_cmp, nat_tests, on_texts, refl, same_map, shown_state, state_at, sym, then_total, true, ℕ, ◌&&◌, ◌∙◌, ◌∷◌, ◌≡◌, ◌≤◌, both_ways, false_from_ne_true}
 
 abbrev pub Placed : Type 0
 Placed = ℕ × Business
@@ -39,45 +38,22 @@ upserted b n (p ∷ ps) = if has_key_of b p.1 then (p.0, b) ∷ ps else p ∷ up
 tied_once : (b : Business) (q : Key) (x : Business) → has_key_of b x ≡ false → eq_by_cmp key_cmp q (key x) ≡ true
     → ¬ (eq_by_cmp key_cmp q (key b) ≡ true)
 tied_once b q x other here there =
-    grind (
-      arith,
-      nat_tests,
-      same_key q (key x) (sym (ties q (key x)) ∙ here),
-      ties q (key x),
-      same_key q (key b) (sym (ties q (key b)) ∙ there),
-      ties q (key b),
-    )
+    grind (arith, nat_tests, ties q (key x), ties q (key b), same_key q (key x), same_key q (key b))
 
 exchange : {X : Type 0} (s t : Bool) (x y z : X) → (s ≡ true → ¬ (t ≡ true))
     → cond s x (cond t y z) ≡ cond t y (cond s x z)
-exchange true true x y z once = absurd (once refl refl)
-exchange true false x y z once = refl
-exchange false t x y z once = refl
+exchange s t x y z once = grind (arith, nat_tests)
 
 twice : {X : Type 0} (t : Bool) (x y z : X) → cond t x z ≡ cond t x (cond t y z)
-twice true x y z = refl
-twice false x y z = refl
+twice t x y z = grind (arith, nat_tests)
 
 -- the look-up finds the state under the key of the business row, and elsewhere what it found
 found : (b : Business) (n : ℕ) (q : Key) (ps : List Placed) → find key_cmp q (map entry_of (upserted b n ps))
     ≡ cond (eq_by_cmp key_cmp q (key b)) (Some b.state) (find key_cmp q (map entry_of ps))
 found b n q [] = refl
 found b n q (p ∷ ps) =
-    grind (
-      arith,
-      nat_tests,
-      cases_Bool (has_key_of b p.1),
-      eq_by_cmp key_cmp q,
-      same_key (key p.1) (key b),
-      twice (eq_by_cmp key_cmp q (key b)) (Some b.state) (Some p.1.state) (find key_cmp q (map entry_of ps)),
-      eq_by_cmp key_cmp q (key b),
-      find key_cmp q (map entry_of ps),
-      eq_by_cmp,
-      found b n q ps,
-      exchange,
-      find,
-      tied_once,
-    )
+    let again = twice (eq_by_cmp key_cmp q (key b)) (Some b.state) (Some p.1.state) (find key_cmp q (map entry_of ps)) in
+    grind (arith, nat_tests, cases_Bool (has_key_of b p.1), same_key (key p.1) (key b), found b n q ps, exchange, tied_once)
 
 pub states_upserted : (b : Business) (n : ℕ) (ps : List Placed)
     → from_entries {R = key_cmp} (map entry_of (upserted b n ps))
@@ -92,7 +68,7 @@ no_more : (kind id : List ℕ) (p : Placed) (ps : List Placed) → has_key kind 
     → AllByRecursion (λ (x : Placed). has_key x.1.kind x.1.id p.1 ≡ false) ps
     → filter (λ (x : Placed). has_key kind id x.1) ps ≡ []
 no_more kind id p ps is apart =
-    grind (arith, nat_tests, filter_none, all_weaker, not_true, same_key, bytes_eq-Decides)
+    grind (arith, nat_tests, filter_none, all_weaker, false_from_ne_true, same_key, bytes_eq-Decides)
 
 pub one_has_key : (kind id : List ℕ) (ps : List Placed) → AreApart ps
     → length (filter (λ (p : Placed). has_key kind id p.1) ps) ≤ 1

@@ -1,5 +1,5 @@
 -- The business rows where one is written over or put last.
-use Rattle.kob_outbox.proofs.statements.Words.{AllByRecursion, AreBusiness, Binary, Bool, Business, Has, Int, IsRisingFrom, IsUtf8, Key, List, Row, Some, States, [], add-one, all_has, ap, arith, business_table, bytes_eq, cases_Bool, conflicts, equal, false, filter, fold, has_key, id_in, inl, inr, insert, map, nat_tests, placed_row, pos, put_row, refl, rowid, service_schema, subst, suc, sym, true, without_rowid, ℕ, ◌&&◌, ◌+ℤ◌, ◌<◌, ◌||◌, ◌∙◌, ◌∷◌, ◌≡◌, ◌≤◌}
+use Rattle.kob_outbox.proofs.statements.Words.{AllByRecursion, AreBusiness, Binary, Bool, Business, Has, Int, IsRisingFrom, IsUtf8, Key, List, Row, Some, States, [], add-one, all_has, arith, business_table, bytes_eq, cases_Bool, conflicts, equal, false, filter, fold, has_key, id_in, inl, inr, insert, map, nat_tests, placed_row, pos, put_row, refl, rowid, service_schema, subst, suc, sym, true, without_rowid, ℕ, ◌&&◌, ◌+ℤ◌, ◌<◌, ◌∷◌, ◌≡◌, ◌≤◌}
 use Rattle.sqlite_value.specs.Keys.{first_key}
 use Rattle.kob_outbox.proofs.States.{AreApart, Placed, has_key_of, key, same_key, states_upserted, upserted}
 use Rattle.kob_outbox.proofs.statements.Values.{equal_itself, equal_texts, number_above, number_below, number_same, unequal_above, unequal_numbers}
@@ -25,11 +25,6 @@ at_least low (q ∷ ps) p rising (inl e) = subst (λ x. low ≤ x.0) (sym e) ris
 at_least low (q ∷ ps) p rising (inr h) = omega (arith, rising.0, at_least (suc q.0) ps p rising.1 h)
 
 -- ---- the row that conflicts is the one with the key
-
-settled : (a b : Bool) → ((a && (b && true)) || false) ≡ (a && b)
-settled true true = refl
-settled true false = refl
-settled false b = refl
 
 pub conflict_is : (old new : Placed)
     → conflicts (Some (1 ∷ 2 ∷ [])) service_schema.indexes business_table (placed_row new) (placed_row old)
@@ -71,14 +66,8 @@ module _ (b : Business) where
   pub business_upserted : (n : ℕ) (rows after : List Row) (states : States) (has : AreBusiness rows states)
       → next_after 1 has.placed ≤ n → IsUtf8 b.state → after ≡ map placed_row (upserted b n has.placed)
       → AreBusiness after (insert states (key b) b.state)
-  business_upserted n rows after states has up state is = record {
-    placed = upserted b n has.placed;
-    rows_are = is;
-    rising = rising_upserted n 1 has.placed has.rising up;
-    states_are = states_upserted b n has.placed ∙ ap (λ m. insert m (key b) b.state) has.states_are;
-    readable = all_upserted (λ x. IsUtf8 x.state) n has.placed state has.readable;
-    apart = apart_upserted n has.placed has.apart;
-  }
+  business_upserted n rows after states has up state is =
+      grind (arith, nat_tests, rising_upserted, states_upserted, all_upserted (λ x. IsUtf8 x.state), apart_upserted)
 
   -- ---- a row whose key is new goes last
 
@@ -111,12 +100,9 @@ module _ (b : Business) where
     pub put_over : (n low : ℕ) (ps : List Placed) → IsRisingFrom low ps → AreApart ps → Has ps t → Over n ps
     put_over n low [] rising apart h = elim h [ ]
     put_over n low (p ∷ ps) rising apart (inl e) =
-        let up : t.0 < suc p.0 = subst (λ (x : Placed). x.0 < suc p.0) (sym e) (omega arith) in
-        let more = past (suc p.0) ps up rising.1 in grind (arith, nat_tests, equal_itself, number_same)
+        let more = past (suc p.0) ps in grind (arith, nat_tests, equal_itself, number_same)
     put_over n low (p ∷ ps) rising apart (inr h) =
-        let below : p.0 < t.0 = omega (arith, at_least (suc p.0) ps t rising.1 h) in
-        let other : has_key_of b p.1 ≡ false =
-        ap (λ k. has_key k.0 k.1 p.1) (sym (same_key (key t.1) (key b) here))
-        ∙ all_has (λ (x : Placed). has_key x.1.kind x.1.id p.1 ≡ false) ps t apart.0 h in
+        let below = at_least (suc p.0) ps t rising.1 h in let same = same_key (key t.1) (key b) here in
+        let other = all_has (λ (x : Placed). has_key x.1.kind x.1.id p.1 ≡ false) ps t apart.0 h in
         let more = put_over n (suc p.0) ps rising.1 apart.1 h in
         grind (arith, nat_tests, unequal_numbers, number_below)

@@ -24,15 +24,7 @@ required_column name kind =
 
 -- a column that is the number of its row
 abbrev pub numbering : List ℕ → Column
-numbering name =
-    record {
-      name = name;
-      kind = Integer;
-      is_strict = false;
-      not_null = true;
-      default = Null;
-      collation = Binary;
-    }
+numbering name = required_column name Integer
 
 -- a table that is not in a schema yet
 abbrev pub table_of : List ℕ → List Column → Option ℕ → List ℕ → List (List ℕ) → List Order → Table

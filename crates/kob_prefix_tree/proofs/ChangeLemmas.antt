@@ -4,15 +4,14 @@ use Rattle.kob_prefix_tree.proofs.SiblingLemmas.{neat_list, neat_tree, neat_with
 
 -- the serials of the place itself
 pub changed_here : (f : Held → Held) (h : Held) (t : Trie) → IsNeat t → ChangedAt [] f (h, t) (f h, t)
-changed_here f h t neat =
-    record {
-      neat = neat;
-      at = refl;
-      elsewhere = λ other. elim other as (λ k. k ≢ [] → held_in k (
-        f h,
-        t,
-      ) ≡ held_in k (h, t)) [ [] ↦ λ ne. absurd (ne refl) | byte ∷ key ↦ λ ne. refl ];
-    }
+changed_here f h t neat = record {
+  neat = neat;
+  at = refl;
+  elsewhere = λ other. elim other as (λ k. k ≢ [] → held_in k (f h, t) ≡ held_in k (h, t)) [
+    | [] ↦ λ ne. absurd (ne refl)
+    | byte ∷ key ↦ λ ne. refl
+  ];
+}
 
 pub held_in_bare : (key : List ℕ) → held_in key bare ≡ nothing
 held_in_bare [] = refl
@@ -20,8 +19,7 @@ held_in_bare (byte ∷ key) = refl
 
 -- what stood behind a byte, or nothing
 pub held_behind : (o : Option Contents) (key : List ℕ) → held_in key (unwrap_or o bare) ≡ behind_one (held_in key) o
-held_behind None key = held_in_bare key
-held_behind (Some c) key = refl
+held_behind o key = grind (arith, nat_tests, held_in_bare)
 
 module _ (f : Held → Held) (byte : ℕ) (rest : List ℕ) (h : Held) (t t' : Trie) where
   changed_below : IsNeat t' → behind_one (held_in rest) (value_at byte (siblings t'))

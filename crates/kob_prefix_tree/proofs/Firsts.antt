@@ -6,6 +6,8 @@
 --     tells_null        what is lent of the nodes tells whether the pointer is null
 --     has_first, is_first     what is owned of the nodes: that the pointer may be compared with null, and the first of
 -- them as a box owns it
+use Rattle.kob_prefix_tree.proofs.Words.{nat_tests}
+use Rattle.kob_prefix_tree.proofs.Words.{arith}
 use Rattle.kob_prefix_tree.proofs.Words.{ !, Al, Fml, Global, Goal, InBlock, IsTrue, Item, Laws, Leads, Lft, Link, List, Logic, Node, Ptr, RattleType, SProp, Seq, Step, Testable, Tree, Ty, Typed, Ura, Val, Valss, WT, [], at_block, block_of, block_ptr, box_owns, count_of, dealloc_token-Testable, dnil, done, emp, ent, fact, fact_i, fact_use, feq_i, feq_l, fjoin, flt_l, fpack, fpick, fsplit, has_ty, heard, hidden_shr, hide, id⊢, impl, in_block_says, leaf, lent_at, linked_row, lit<, lone, low, node, nodes_lent, nodes_own, null_ptr, of_list, param, param_laws, ptr_same, ptr_val, qed, raw, refl, sem, sep, shape, split, step, subst, sym, tnil, tree_of, true≢false, use0, use1, vnull, vstruct, within, ‵, ◌$◌, ◌++◌, ◌↔◌, ◌∙◌, ◌∷◌, ◌≡◌, ◌⊛◌}
 use denote.Builtin.{RawPtr}
 use denote.Steps.{nothing}
@@ -104,24 +106,19 @@ module _ (Y : RattleType) where
 
     pub has_first : (p : Ptr) → ent ghosts (sem logic (nodes_own Item' (tree_of first) p)) (boxed p)
     unfolding part_of
-    has_first (block_ptr b o) = id⊢ ghosts _
-    has_first null_ptr = id⊢ ghosts _
+    has_first p = grind (arith, nat_tests)
 
     pub is_first : (p : Ptr) → ent ghosts (boxed p) (sem logic (nodes_own Item' (tree_of first) p))
     unfolding part_of
-    is_first (block_ptr b o) = id⊢ ghosts _
-    is_first null_ptr = id⊢ ghosts _
+    is_first p = grind (arith, nat_tests)
 
 -- a value of one MIR type is one machine value
 pub one_value : (type : Ty) (values : List Val) → Typed (type ∷ []) values
     → (only : Val) × ((values ≡ only ∷ []) × (IsFit (has_ty type only) × WT only))
-one_value type [] typed = absurd typed
-one_value type (only ∷ []) typed = (only, (refl, typed.0))
-one_value type (only ∷ second ∷ others) typed = absurd typed.1
+one_value type values typed = grind (arith, nat_tests)
 
 pub word_fits : (Y : RattleType) (p : Ptr) → IsFit (has_ty (lone (Linked Y).mir) (word p)) × WT (word p)
-word_fits Y (block_ptr b o) = (tt, (tt, tt))
-word_fits Y null_ptr = (tt, (record { fits = lit< tt }, tt))
+word_fits Y p = grind (arith, nat_tests)
 
 -- the heap as the steps about an allocator's handle take it
 abbrev pub the_heap : Al

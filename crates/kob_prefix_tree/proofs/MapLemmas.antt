@@ -1,5 +1,5 @@
 -- The tree as a finite map, before and after a change.
-use Rattle.kob_prefix_tree.proofs.Words.{Bool, ChangedAt, Contents, Decides, Entries, Held, IsLongestInUse, IsNeat, List, Literal, None, Option, PatternKind, PrefixMap, Prefixed, Some, Trie, [], added, ap, arith, behind, bytes_eq-Decides, cond, entries_below, entries_in, eq_by_cmp, find, held, held_in, is_eq-slice_cmp, is_nothing, nat_cmp, nat_cmp-IsAntisymmetric, nat_list_cmp_total, nat_tests, nil_from_length, nothing, option_or, refl, removed_all, sibling, siblings, slice_cmp, slice_cmp-IsAntisymmetric, subst, sym, true, value_at, void, with_serial, without_serials, ℕ, ◌++◌, ◌==◌, ◌∙◌, ◌∷◌, ◌≡◌, ◌≢◌}
+use Rattle.kob_prefix_tree.proofs.Words.{Bool, ChangedAt, Contents, Decides, Entries, Held, IsLongestInUse, IsNeat, List, None, Option, PatternKind, PrefixMap, Some, Trie, [], added, arith, behind, bytes_eq-Decides, cond, entries_below, entries_in, eq_by_cmp, find, held, held_in, is_eq-slice_cmp, is_nothing, nat_cmp, nat_cmp-IsAntisymmetric, nat_list_cmp_total, nat_tests, nil_from_length, nothing, option_or, refl, removed_all, sibling, siblings, slice_cmp, slice_cmp-IsAntisymmetric, subst, sym, true, value_at, void, with_serial, without_serials, ℕ, ◌++◌, ◌==◌, ◌∙◌, ◌∷◌, ◌≡◌, ◌≢◌}
 use Rattle.std.specs.FinMap as map
 use Rattle.kob_prefix_tree.proofs.SiblingLemmas.{neat_at, neat_list}
 
@@ -12,8 +12,7 @@ some_behind (y ∷ xs) x e = cc
 
 -- a key in whose list a serial was put holds something
 pub with_some : (kind : PatternKind) (serial : ℕ) (h : Held) → with_serial kind serial h ≢ nothing
-with_some Literal serial h e = some_behind h.0 serial (ap (λ x. x.0) e)
-with_some Prefixed serial h e = some_behind h.1 serial (ap (λ x. x.1) e)
+with_some kind serial h e = grind (arith, nat_tests, some_behind)
 
 abbrev pub bytes : List ℕ → List ℕ → Bool
 bytes x y = eq_by_cmp (slice_cmp nat_cmp) x y

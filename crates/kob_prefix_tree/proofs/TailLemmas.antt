@@ -1,4 +1,5 @@
 -- A place from which some bytes alone lead on.
+use Rattle.kob_prefix_tree.proofs.Words.{nat_tests}
 use Rattle.kob_prefix_tree.proofs.Words.{Contents, List, Literal, PatternKind, Prefixed, Tree, [], ap, arith, bare, false, has_serials, leaf, led_by, length, node, nothing, refl, serials_of, trie_of, true≢false, void, without_serials, ℕ, ◌==◌, ◌∷◌, ◌≡◌}
 use Rattle.kob_prefix_tree.specs.declared.siblings.Item.{Item}
 
@@ -19,14 +20,10 @@ tail_of_bare [] c e = refl
 tail_of_bare (x ∷ tail) c e = let e' : (led_by (x ∷ tail) c).1 ≡ void = ap (λ (y : Contents). y.1) e in cc
 
 pub none_taken : (kind : PatternKind) (serials : List ℕ) → nothing ≡ without_serials kind serials nothing
-none_taken Literal serials = refl
-none_taken Prefixed serials = refl
+none_taken kind serials = grind (arith, nat_tests)
 
 pub none_found : (kind : PatternKind) (serials : List ℕ) → false ≡ has_serials kind serials nothing
-none_found Literal [] = refl
-none_found Literal (x ∷ serials) = refl
-none_found Prefixed [] = refl
-none_found Prefixed (x ∷ serials) = refl
+none_found kind serials = grind (arith, nat_tests)
 
 pub no_nodes : (t : Tree Item) → trie_of t ≡ void → t ≡ leaf
 no_nodes leaf e = refl

@@ -1,5 +1,5 @@
 -- The way down to one place and up again: what is done there is done to the whole.
-use Rattle.kob_prefix_tree.proofs.Words.{ChangedAt, Contents, Held, IsNeat, IsWay, List, PatternKind, Some, Tree, Trie, [], and-true, ap, arith, bare, cond, false, held_in, is_bare, kept_behind, leaf, led_by, nat_tests, nothing, refl, sibling, siblings, sym, true, unwound, unwrap_or, value_at, void, with_child, with_serial, without, ℕ, ◌++◌, ◌∷◌, ◌≡◌, ◌≢◌}
+use Rattle.kob_prefix_tree.proofs.Words.{ChangedAt, Contents, Held, IsNeat, IsWay, List, PatternKind, Some, Tree, Trie, [], and-true, ap, arith, bare, held_in, is_bare, kept_behind, leaf, led_by, nat_tests, nothing, refl, sibling, siblings, sym, true, unwound, unwrap_or, value_at, void, with_child, with_serial, without, ℕ, ◌++◌, ◌∷◌, ◌≡◌, ◌≢◌}
 use Rattle.kob_prefix_tree.specs.declared.siblings.Item.{Item}
 use Rattle.kob_prefix_tree.proofs.MapLemmas.{is_nothing_true, with_some}
 use Rattle.kob_prefix_tree.proofs.SiblingLemmas.{at_first, at_without, neat_at, neat_list, neat_tree, neat_without, at_without_other}
@@ -12,8 +12,7 @@ pub some_put : (kind : PatternKind) (serial : ℕ) (key : List ℕ) (h : Held) {
 some_put kind serial key h put none = grind (arith, with_some, held_in_bare)
 
 pub bare_when : (c : Contents) → is_bare c ≡ true → c ≡ bare
-bare_when (h, void) e = grind (arith, and-true, is_nothing_true)
-bare_when (h, sibling byte held below after) e = grind arith
+bare_when c e = grind (arith, nat_tests, and-true, is_nothing_true)
 
 -- a child that is not bare stands in front
 pub child_put : (byte : ℕ) (c : Contents) (t : Trie) → c ≢ bare → with_child byte c t ≡ sibling byte c.0 c.1 t
@@ -45,13 +44,9 @@ module _ (f : Held → Held) where
       → ChangedAt rest f c d → ChangedAt (byte ∷ rest) f (h, t) (h, with_child byte d t')
   below_byte byte rest h t t' c d neat there is done =
       let was : c ≡ unwrap_or (value_at byte (siblings t)) bare = ap (λ o. unwrap_or o bare) (sym there) in
-      elim (is_bare d) as (λ b. is_bare d ≡ b
-      → ChangedAt (byte ∷ rest) f (h, t) (h, cond b t' (sibling byte d.0 d.1 t'))) [
-        | true ↦ λ e. taken_out f byte rest h t t' neat was done (bare_when d e) is
-        | false ↦ λ e. stands f byte rest h t (sibling byte d.0 d.1 t') neat was done
-            (grind (arith, is, at_without, neat_list, neat_tree, neat_without, e, done.neat))
-            (at_first byte d (siblings t')) (λ b ne. grind (arith, nat_tests, is, at_without_other))
-      ] refl
+      let some = stands f byte rest h t (sibling byte d.0 d.1 t') neat was done in
+      let none = taken_out f byte rest h t t' neat was done in
+      grind (arith, nat_tests, bare_when, at_without, neat_list, neat_tree, neat_without, at_first, at_without_other)
 
   -- what is done behind bytes that alone lead on
   pub through : (tail key : List ℕ) (c d : Contents) → IsNeat (led_by tail c).1 → ChangedAt key f c d

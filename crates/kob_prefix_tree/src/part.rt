@@ -25,7 +25,6 @@ impl<'a> Part<'a> {
     }
 
     /// The part of the keys that begin with a text and the byte after it.
-    #[tactic(auto, using(crate::proofs::PartLemmas::from_match))]
     pub fn behind(self, text: &[u8], byte: u8) -> Part<'a>
         ensures { part_of result ≡ (λ key. part_of self.entry (text.now ++ byte ∷ key)) }
     {

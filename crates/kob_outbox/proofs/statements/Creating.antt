@@ -32,12 +32,9 @@ module _ {schema : Schema} {text : List ℕ} {table : Table} (it : IsCreation sc
         nat_tests,
         runs_as text [] old new schema has CreateTable it.is it.plain count h,
         went,
-        created schema table,
         created,
-        created schema,
         lacks_sequence,
         same_value,
-        next_tree schema,
         next_tree,
       )
 
@@ -47,12 +44,5 @@ module _ {schema : Schema} {text : List ℕ} {table : Table} (it : IsCreation sc
       → OnOk r (IsBlank (created schema table) (database new))
   creates old new (Err e) has limit runs = tt
   creates old new (Ok count) has limit runs =
-      grind (
-        arith,
-        nat_tests,
-        made_table (database old) (database new) count has.schema (runs (memory_is_clean new)),
-        memory_is_clean new,
-        all-append,
-        next_tree schema,
-        still_empty,
-      )
+      let made = made_table (database old) (database new) count has.schema (runs (memory_is_clean new)) in
+      grind (arith, nat_tests, all-append, next_tree, still_empty)

@@ -1,5 +1,5 @@
 -- Over memory a query fails for want of memory alone.
-use Rattle.kob_outbox.proofs.statements.Words.{Bool, Broken, Command, CompileError, Compiled, Corrupt, Does, Err, Error, Escapes, Executes, Fails, Full, Io, IsMisplaced, IsNoStatement, IsPlain, IsReadError, List, None, Ok, Option, ProgramOverflows, Query, Result, Row, Schema, Select, Some, SqliteFailure, State, Trees, Unstorable, Value, [], accepts_program, ap, append-nil, arith, command_of, end, false, inl, inner, inr, is_pragma, is_query, length, mode_of, nat_tests, reads_listing, shows_rows, subst, sym, text_of, true, understood, ℕ, ◌&&◌, ◌||◌, ◌∙◌, ◌≡◌, ◌≢◌, ◌≤◌, ◌⊎◌}
+use Rattle.kob_outbox.proofs.statements.Words.{Bool, Command, CompileError, Compiled, Does, Err, Error, Escapes, Executes, Fails, IsMisplaced, IsNoStatement, IsPlain, IsReadError, List, None, Ok, Option, ProgramOverflows, Query, Result, Row, Schema, Select, Some, SqliteFailure, State, Trees, Value, [], accepts_program, ap, append-nil, arith, command_of, end, false, inl, inner, inr, is_pragma, is_query, length, mode_of, nat_tests, reads_listing, shows_rows, subst, sym, text_of, true, understood, ℕ, ◌&&◌, ◌||◌, ◌∙◌, ◌≡◌, ◌≢◌, ◌≤◌, ◌⊎◌}
 use Rattle.sqlite_trees.specs.declared.error.StoreError.TheVariants.{OutOfMemory}
 use Rattle.sqlite.specs.declared.error.ErrorCode.TheVariants as code
 use Rattle.sqlite.specs.State.{EndsScope, IsNotRun, FailsToQuery, ExecutesIn}
@@ -19,9 +19,7 @@ pub record NeverFails (old new : State) : Type 0 where
   pub faults : (old.faults ≡ 0) × (new.faults ≡ 0)
 
 quietly : (a b : Bool) → (a || b) ≡ false → (a || (true && (b || false))) ≡ false
-quietly true b h = h
-quietly false true h = absurd cc
-quietly false false h = h
+quietly a b h = grind (arith, nat_tests)
 
 -- a statement that does not end the transaction in which it runs
 pub stays_inside : (sql : List ℕ) (params : Row) (old : State) (schema : Schema) (command : Command)
@@ -33,12 +31,7 @@ stays_inside sql params old schema command has is not_out (c, it, out) =
 
 module _ (old new : State) (never : NeverFails old new) where
   fails_or : (TooBig : Type 0) (e : Error) → Fails old new TooBig e → IsMemory e ⊎ TooBig
-  fails_or TooBig e (OutOfMemory, is, h, back, told) = inl is
-  fails_or TooBig e (Io, is, h, back, told) = absurd (omega (arith, rw (never.faults.0, never.faults.1) at h))
-  fails_or TooBig e (Corrupt, is, h, back, told) = absurd (omega (arith, rw (never.faults.0, never.faults.1) at h))
-  fails_or TooBig e (Full, is, h, back, told) = absurd (omega (arith, rw (never.faults.0, never.faults.1) at h))
-  fails_or TooBig e (Broken, is, h, back, told) = absurd (let shut = sym never.is_open ∙ h in cc)
-  fails_or TooBig e (Unstorable, is, h, back, told) = inr h
+  fails_or TooBig e fails = grind (arith, nat_tests)
 
   fails_so : (e : Error) → Fails old new ⊥ e → IsMemory e
   fails_so e h = elim (fails_or ⊥ e h) [ inl is ↦ is | inr never ↦ absurd never ]
@@ -46,8 +39,7 @@ module _ (old new : State) (never : NeverFails old new) where
   module _ (sql : List ℕ) (params : Row) (schema : Schema) (has : old.now.schema ≡ schema)
       (plain : IsPlain (understood schema sql)) (whole : IsWhole (length params) sql (understood schema sql)) where
     is_statement : (e : Error) → ¬ (IsNoStatement old sql params e)
-    is_statement e (inl h) = subst IsPlain (sym (ap (λ s. understood s sql) has) ∙ h.1) plain
-    is_statement e (inr h) = grind (arith, nat_tests, understood)
+    is_statement e none = grind (arith, nat_tests)
 
     module _ (q : Query) (names : List (List ℕ))
         (is : command_of (understood schema sql) ≡ Select (record { lets = []; body = q }) names)
@@ -57,10 +49,8 @@ module _ (old new : State) (never : NeverFails old new) where
       -- a query fails for want of memory alone
       pub for_memory : (e : Error) → FailsToQuery sql params old new e → IsMemory e
       unfolding FailsToQuery IsNotRun
-      for_memory e (inl (inl h)) = absurd (is_statement e h.0)
-      for_memory e (inl (inr h)) = fails_so e h
-      for_memory e (inr h) =
-          grind (arith, nat_tests, understood, append-nil, reads_listing, command_of, accepts_program)
+      for_memory e fails =
+          grind (arith, nat_tests, is_statement, fails_so, append-nil, reads_listing, command_of, accepts_program)
 
     -- what a command that writes rows makes of the database, or why it stops
     abbrev Writing : Command → Type 0
@@ -95,14 +85,9 @@ abbrev pub Over : ℕ → Query → Type 0
 Over t q = (q.group ≡ None) × (q.from ≡ inner t end)
 
 pub no_sum : (q : Query) (t : ℕ) → Over t q → (params : Row) (db : Trees) → ¬ (ProgramOverflows db params [] [] q)
-no_sum q t over params db (inl h) = rw over.0 at h
-no_sum q t over params db (inr h) = let it = rw over.1 at h in it.4
+no_sum q t over params db overflows = grind (arith, nat_tests)
 
 -- a column that can be read is not read for want of memory alone
 pub readable_fails : (at : ℕ) (v : Value) (e : Error) (Readable : Type 0) → IsReadError at v e
     → (e ≢ SqliteFailure code.OutOfMemory → ¬ Readable) → Readable → e ≡ SqliteFailure code.OutOfMemory
-readable_fails at v e Readable (inl is) none readable = absurd (none (λ other. let no = sym is ∙ other in cc) readable)
-readable_fails at v e Readable (inr (inl is)) none readable = grind (arith, nat_tests)
-readable_fails at v e Readable (inr (inr (inl is))) none readable = grind (arith, nat_tests)
-readable_fails at v e Readable (inr (inr (inr (inl is)))) none readable = grind (arith, nat_tests)
-readable_fails at v e Readable (inr (inr (inr (inr is)))) none readable = is
+readable_fails at v e Readable is none readable = grind (arith, nat_tests)

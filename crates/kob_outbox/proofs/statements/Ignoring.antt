@@ -1,5 +1,5 @@
 -- INSERT OR IGNORE of one row.
-use Rattle.kob_outbox.proofs.statements.Words.{AllByRecursion, Among, AreConflicts, AtPlace, BadReference, Bool, Check, Clears, Command, Concludes, Database, Datatype, Enforced, Err, Error, Escapes, Executes, ForeignKey, Given, Has, Ignore, InsertOr, Int, IsJudged, IsMisplaced, Judged, Keys, List, Mismatch, Mode, NoRowid, None, NotNull, Ok, OnRows, OnTable, Option, Outcome, PrimaryKey, Refers, Refusal, Row, Schema, Some, Source, State, Table, Task, Term, TooDeep, Trees, Unique, Values, Violates, Written, [], accepts_terms, all_has, any_from_none, ap, arith, cast_row, conflicts, count_of, edit_of, edited, enumerate_from, false, fits_i64, id_in, if◌then◌else◌, inl, inr, length, list_any, map, mode_of, nat_tests, nothing, pos, put_row, refl, rowid, some_from, subst, suc, sym, true, understood, value_rows, ℕ, ◌++◌, ◌/◌, ◌<◌, ◌^◌, ◌∙◌, ◌∷◌, ◌≡◌}
+use Rattle.kob_outbox.proofs.statements.Words.{AllByRecursion, Among, AreConflicts, Bool, Clears, Command, Concludes, Database, Enforced, Err, Error, Escapes, Executes, Given, Has, Ignore, InsertOr, Int, IsJudged, IsMisplaced, Judged, Keys, List, Mode, None, Ok, OnRows, OnTable, Option, Outcome, Refers, Refusal, Row, Schema, Some, Source, State, Table, Task, Term, Trees, Values, Written, [], accepts_terms, all_has, any_from_none, ap, arith, cast_row, conflicts, count_of, edit_of, edited, enumerate_from, false, fits_i64, id_in, if◌then◌else◌, inl, inr, length, list_any, map, mode_of, nat_tests, pos, put_row, refl, rowid, some_from, subst, suc, sym, true, understood, value_rows, ℕ, ◌++◌, ◌/◌, ◌<◌, ◌^◌, ◌∙◌, ◌∷◌, ◌≡◌}
 use Rattle.kob_outbox.proofs.statements.Failing.{IsMemory, IsWhole, NeverFails, for_memory_or}
 use Rattle.kob_outbox.proofs.statements.Numbered.{all_below, any_numbered, none_conflicts, one_conflicts, put_last}
 use Rattle.kob_outbox.proofs.statements.Plain.{same_value}
@@ -13,16 +13,7 @@ IsSuited table new = (why : Refusal) → ¬ (IsJudged (uncounted table) new (Som
 
 -- as where a row passes each test on it
 pub suits_by : (table : Table) (row : Row) → IsJudged (uncounted table) row None → IsSuited table row
-suits_by table row fine (Violates NotNull) judged = let no = sym fine.2 ∙ judged in cc
-suits_by table row fine (Violates Check) judged = let no = sym fine.3 ∙ judged in cc
-suits_by table row fine (Violates Datatype) judged = let no = sym fine.1 ∙ judged in cc
-suits_by table row fine (Violates PrimaryKey) judged = judged
-suits_by table row fine (Violates Unique) judged = judged
-suits_by table row fine (Violates ForeignKey) judged = judged
-suits_by table row fine Mismatch judged = let no = sym fine.0 ∙ judged in cc
-suits_by table row fine NoRowid judged = judged
-suits_by table row fine BadReference judged = judged
-suits_by table row fine TooDeep judged = judged
+suits_by table row fine why judged = grind (arith, nat_tests)
 
 -- no table refers to another
 abbrev pub ReferToNone : Schema → Type 0
@@ -36,17 +27,10 @@ all_fine (row ∷ rows) = (refl, all_fine rows)
 -- the statement may stand anywhere, and ends no transaction
 module _ (at : ℕ) (from : Source) (old : State) where
   pub not_misplaced : (e : Error) → ¬ (IsMisplaced old (InsertOr at Ignore from []) e)
-  not_misplaced e (inl (is, inl (begins, h))) = cc
-  not_misplaced e (inl (is, inr (inl commits, h))) = cc
-  not_misplaced e (inl (is, inr (inr rolls, h))) = cc
-  not_misplaced e (inr (is, name, inl releases, h)) = cc
-  not_misplaced e (inr (is, name, inr goes, h)) = cc
+  not_misplaced e misplaced = grind (arith, nat_tests)
 
   pub not_escaping : ¬ (Escapes 0 old (InsertOr at Ignore from []))
-  not_escaping (inl (inl commits)) = cc
-  not_escaping (inl (inr rolls)) = cc
-  not_escaping (inr (name, inl releases, h)) = cc
-  not_escaping (inr (name, inr goes, h)) = cc
+  not_escaping escapes = grind (arith, nat_tests)
 
 module _ (limit : Option ℕ) (keys : Keys) (schema : Schema) (table : Table) (params : Row) where
   abbrev Here : Task
@@ -58,8 +42,7 @@ module _ (limit : Option ℕ) (keys : Keys) (schema : Schema) (table : Table) (p
       → Judged Here Ignore [] new db verdict out
       → (found : List Row) × AreConflicts None schema.indexes (uncounted table) (db table.tree) new found
       × Clears Here Ignore new db found out
-  judged_clears new suits db out None judged h = h
-  judged_clears new suits db out (Some why) judged h = absurd (suits why judged)
+  judged_clears new suits db out verdict judged h = grind (arith, nat_tests)
 
   -- what ends a statement does not stop it
   never_concludes : ReferToNone schema → (mode : Mode) (w : Written) (stop : Option Error)
@@ -160,12 +143,10 @@ module _ {schema : Schema} {text : List ℕ} {terms : List Term} {width at : ℕ
       × (new.in_transaction ≡ old.in_transaction)
   ignores new count h =
       let it = wrote write params old new has count h in
-      let u =
-      tried old.step_limit Enforced schema table params alone Ignore [] terms width source (row (n, x)) db it.written
-      given tried_as it.does in
-      let judged =
-      judged_clears old.step_limit Enforced schema table params (row (n, x)) suits db (Ok u.one) u.verdict
-      u.judged u.does in
+      let u = tried old.step_limit Enforced schema table params alone Ignore [] terms width source (row (n, x)) db
+      it.written given tried_as it.does in
+      let judged = judged_clears old.step_limit Enforced schema table params (row (n, x)) suits db (Ok u.one)
+      u.verdict u.judged u.does in
       let after : new.now.trees ≡ u.one.trees = ap (λ (d : Database). d.trees) it.now ∙ u.trees in
       grind (arith, nat_tests, cleared)
 
@@ -183,20 +164,8 @@ module _ {schema : Schema} {text : List ℕ} {terms : List Term} {width at : ℕ
             never_stops old.step_limit Enforced schema table params free alone at terms width source (row (n, x)) db
             (mode_of old) given never.unlimited accepted tried_as small suits
             (λ conf. let no = sym found ∙ none_found conf in cc) stopped.1
-            (on_task stopped.1 (subst (λ s. OnTable old.step_limit (mode_of old) params
+            (rw write.found at (subst (λ s. OnTable old.step_limit (mode_of old) params
             (record old.now { schema = s }) at (λ task. OnRows task (mode_of old) None putting db) (Err stopped.1)) has
             stopped.2))
             )
       ]
-    where
-      on_task : (stop : Option Error) → OnTable old.step_limit (mode_of old) params
-          (record { schema = schema; trees = db }) at
-          (λ task. OnRows task (mode_of old) None (InsertOr at Ignore (Values terms width) []) db) (Err stop)
-          → OnRows task (mode_of old) None (InsertOr at Ignore (Values terms width) []) db (Err stop)
-      on_task stop h = subst (λ o. AtPlace (λ t. OnRows (record {
-        limit = old.step_limit;
-        keys = Enforced;
-        schema = schema;
-        table = t;
-        params = params;
-      }) (mode_of old) None (InsertOr at Ignore (Values terms width) []) db) o (Err stop)) write.found h

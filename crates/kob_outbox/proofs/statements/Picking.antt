@@ -1,5 +1,5 @@
 -- The rows that a query over one table picks.
-use Rattle.kob_outbox.proofs.statements.Words.{Bool, Env, IsAnswer, IsAscending, IsPermutation, Less, List, Ordering, Output, Query, Row, Trees, [], ap, arith, ascending-map, ascending_weaker, cases_Bool, filter, flat_map, holds, if◌then◌else◌, length, length-map, length_permutation, list_all, map, map-map, nat_tests, one_permutation, output, output_cmp, output_cmp_total, overlay, page, refl, sorted_unique, subst, true, ℕ, ◌<◌, ◌∙◌, ◌∷◌, ◌≡◌, ◌≤◌}
+use Rattle.kob_outbox.proofs.statements.Words.{Bool, Env, IsAnswer, IsAscending, IsPermutation, Less, List, Ordering, Output, Query, Row, Trees, [], ap, arith, ascending-map, ascending_weaker, cases_Bool, filter, flat_map, holds, if◌then◌else◌, length, length-map, length_permutation, list_all, map, map-map, nat_tests, one_permutation, output, output_cmp, output_cmp_total, overlay, page, refl, sorted_unique, true, ℕ, ◌<◌, ◌∙◌, ◌∷◌, ◌≡◌, ◌≤◌}
 use Rattle.kob_outbox.proofs.statements.Selecting.{Scan, query_of}
 
 -- the permutations of a list of one element at most
@@ -42,7 +42,7 @@ module _ {X : Type 0} (s : Scan) (params : Row) (row : X → Row) (test : X → 
         let kept : a.kept ≡ outs =
         a.distinct ∙ ap (map (output q)) (a.grouped ∙ ap (flat_map pick) is ∙ picked xs ∙ ap (map env) found_is)
         ∙ map-map (output q) env found in
-        subst (λ k. IsPermutation k a.ordered) kept a.same
+        grind (arith, nat_tests)
 
     abbrev paged : List Output → List Row
     paged found = page q params (map (λ (o : Output). o.1) found)

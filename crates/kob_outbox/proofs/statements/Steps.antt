@@ -50,10 +50,8 @@ module _ (limit : Option ℕ) (keys : Keys) (schema : Schema) (table : Table) (p
       let late = went written.2 in
       let news = (edit_of db (uncounted table) [] Chosen 0 given.0).news in
       let left_with : Trees → Written = λ t. record { trees = t; rows = news; last = last_id news } in
-      let it =
-      left db written.0 [] news news (last_id news) w written.1
-      (same_value late.2 ∙ ap left_with (same_value late.1)) in
-      (given.0, given.1, it.0)
+      let it = left db written.0 [] news news (last_id news) w written.1 (same_value late.2 ∙ ap left_with (same_value
+      late.1)) in grind (arith, nat_tests)
 
   pub deleted : (q : Program) (db : Trees) (w : Written) → Deletes (task_on limit keys schema table params) q db (Ok w)
       → (rows : List Row) × Answers (record { schema = schema; trees = db }) q params rows

@@ -1,10 +1,11 @@
 -- How numbers and texts compare in SQL.
-use Rattle.kob_outbox.proofs.statements.Words.{Binary, Bool, Compare, Equal, Greater, Gt, Int, Le, Less, List, Some, Text, ap, arith, bytes_eq, equal, false, fits_i64, from_truth, is_eq, is_eq-slice_cmp, is_gt, is_le, is_true, nat_lt, not, pos, refl, sym, true, value_cmp, value_cmp-Int, value_cmp-Text, ℕ, ◌&&◌, ◌<◌, ◌^◌, ◌||◌, ◌∙◌, ◌≡◌}
+use Rattle.kob_outbox.proofs.statements.Words.{nat_tests}
+use Rattle.kob_outbox.proofs.statements.Words.{Binary, Bool, Compare, Equal, Greater, Gt, Int, Le, Less, List, Some, Text, ap, arith, bytes_eq, equal, false, fits_i64, from_truth, is_eq, is_eq-slice_cmp, is_gt, is_le, is_true, nat_lt, not, pos, sym, true, value_cmp, value_cmp-Int, value_cmp-Text, ℕ, ◌&&◌, ◌<◌, ◌^◌, ◌||◌, ◌∙◌, ◌≡◌, and-true}
+pub use Rattle.std.proofs.lemmas.Bool.{false_from_ne_true as not_true}
 use Rattle.sqlite_sql.specs.Ops.{binary}
 
 truth_back : (b : Bool) → is_true (from_truth (Some b)) ≡ b
-truth_back true = refl
-truth_back false = refl
+truth_back b = grind (arith, nat_tests)
 
 pub equal_texts : (s t : List ℕ) → equal Binary (Text s) (Text t) ≡ bytes_eq s t
 unfolding binary
@@ -39,11 +40,6 @@ pub at_most : (i k : ℕ) → is_true (binary (Compare Le Binary) (Int (pos i)) 
 unfolding binary
 at_most i k = truth_back _ ∙ ap is_le (value_cmp-Int (pos i) (pos k)) ∙ grind arith
 
-pub both_ways : (a b : Bool) → (a ≡ true → b ≡ true) → (b ≡ true → a ≡ true) → a ≡ b
-both_ways true b f g = sym (f refl)
-both_ways false true f g = g refl
-both_ways false false f g = refl
-
 pub equal_numbers : (i k : ℕ) → is_eq (value_cmp (Int (pos i)) (Int (pos k))) ≡ true → i ≡ k
 equal_numbers i k h = let same = sym (ap is_eq (value_cmp-Int (pos i) (pos k))) ∙ h in grind (arith, same)
 
@@ -52,18 +48,9 @@ fits n low = grind (arith, low)
 
 -- ---- tests
 
-pub and_true : (b : Bool) → (b && true) ≡ b
-and_true true = refl
-and_true false = refl
-
 -- one test alone
 pub alone_test : (b : Bool) → ((b && true) || false) ≡ b
-alone_test true = refl
-alone_test false = refl
+alone_test b = grind (arith, nat_tests)
 
 pub and_and_true : (a b : Bool) → (a && (b && true)) ≡ (a && b)
-and_and_true a b = ap (λ c. a && c) (and_true b)
-
-pub not_true : (b : Bool) → ¬ (b ≡ true) → b ≡ false
-not_true true h = absurd (h refl)
-not_true false h = refl
+and_and_true a b = ap (λ c. a && c) (and-true b)

@@ -21,7 +21,7 @@ pub use Rattle.sqlite.specs.Collation.TheVariants.{Binary}
 pub use Rattle.sqlite.specs.Command.{Command}
 pub use Rattle.sqlite.specs.Command.TheVariants.{CreateTable, Delete, DropTable, Insert, InsertOr, Select, Update}
 pub use Rattle.sqlite.specs.Compile.{table_defined_by}
-pub use Rattle.sqlite.specs.Does.{AtPlace, Concludes, Does, OnRows, OnTable, Tally, WritesRows, lacks_sequence}
+pub use Rattle.sqlite.specs.Does.{Concludes, Does, OnRows, OnTable, Tally, WritesRows, lacks_sequence}
 pub use Rattle.sqlite.specs.Effect.{Answers, Database, IsSource, is_query, value_rows}
 pub use Rattle.sqlite.specs.Held.{Held}
 pub use Rattle.sqlite.specs.Kind.TheVariants.{Integer}
@@ -59,7 +59,6 @@ pub use Rattle.sqlite_rules.specs.Keys.{AreConflicts, conflicts}
 pub use Rattle.sqlite_rules.specs.Lists.{Has}
 pub use Rattle.sqlite_rules.specs.Steps.{IsJudged}
 pub use Rattle.sqlite_rules.specs.declared.error.Refusal.{Refusal}
-pub use Rattle.sqlite_rules.specs.declared.error.Refusal.TheVariants.{BadReference, Mismatch, NoRowid, TooDeep, Violates}
 pub use Rattle.sqlite_rules.specs.declared.error.Rowids.TheVariants.{Chosen, Given}
 pub use Rattle.sqlite_schema.specs.Rules.{Refers, equal}
 pub use Rattle.sqlite_schema.specs.declared.command.Conflict.{Conflict}
@@ -68,7 +67,6 @@ pub use Rattle.sqlite_schema.specs.declared.command.Source.{Source}
 pub use Rattle.sqlite_schema.specs.declared.command.Upsert.{Upsert}
 pub use Rattle.sqlite_schema.specs.declared.program.Program.{Program}
 pub use Rattle.sqlite_schema.specs.declared.schema.Among.{Among}
-pub use Rattle.sqlite_schema.specs.declared.schema.Constraint.TheVariants.{Check, Datatype, ForeignKey, NotNull, PrimaryKey, Unique}
 pub use Rattle.sqlite_schema.specs.declared.schema.Keys.{Keys}
 pub use Rattle.sqlite_schema.specs.declared.schema.Keys.TheVariants.{Enforced}
 pub use Rattle.sqlite_sql.proofs.QueryLemmas.{output_cmp_total}
@@ -78,13 +76,13 @@ pub use Rattle.sqlite_sql.specs.Term.{Env, holds}
 pub use Rattle.sqlite_sql.specs.declared.ops.BinaryOp.TheVariants.{Compare}
 pub use Rattle.sqlite_sql.specs.declared.ops.CompareOp.TheVariants.{Eq, Gt, Le}
 pub use Rattle.sqlite_trees.proofs.ListLemmas.{all-append, all-filter, all-get_or, all_from_map, ascending-append, ascending-filter, filter-map, filter_same, map-map}
-pub use Rattle.sqlite_trees.specs.declared.error.StoreError.TheVariants.{Broken, Corrupt, Full, Io, Unstorable}
 pub use Rattle.sqlite_trees.specs.declared.memory.MemStore.{MemStore}
 pub use Rattle.sqlite_typing.specs.Types.{accepts_program, accepts_terms}
 pub use Rattle.sqlite_value.proofs.OrderLemmas.{value_cmp-Int, value_cmp-Text}
 pub use Rattle.sqlite_value.specs.Order.{column, value_cmp}
-pub use Rattle.std.proofs.Common.{Bool, Equal, Err, Greater, IfErr, IfOk, IsErrAnd, IsPermutation, IsTrue, Less, List, None, Ok, OnErr, OnOk, Option, Ordering, Result, Some, Vec, [], add-one, ap, append-nil, arith, bytes_eq, codes, cond, false, filter, flat_map, if◌then◌else◌, inl, inr, is_eq, is_gt, is_le, length, length-append, map, min, nat_cmp, nat_lt, negsuc, not, pos, refl, rules, slice_get, slice_index_or, string_bytes, subst, suc, sym, take, true, unwrap_or, zero, ℕ, ℤ, ◌&&◌, ◌++◌, ◌+ℤ◌, ◌+◌, ◌/◌, ◌<◌, ◌==◌, ◌^◌, ◌||◌, ◌∙◌, ◌∷◌, ◌≡◌, ◌≢◌, ◌≤◌, ◌⊎◌}
-pub use Rattle.std.proofs.lemmas.Bool.{and_parts, cases_Bool, cond-false, cond-true, or_from}
+pub use Rattle.std.proofs.Common.{Bool, Equal, Err, Global, Greater, IfErr, IfOk, IsErrAnd, IsPermutation, IsTrue, IsUtf8, Less, List, None, Ok, OnErr, OnOk, Option, Ordering, Result, Some, Vec, add-one, ap, append-nil, arith, bytes_eq, codes, cond, false, filter, flat_map, if◌then◌else◌, inl, inr, is_eq, is_gt, is_le, length, length-append, map, min, nat_cmp, nat_lt, negsuc, not, pos, refl, rules, slice_get, slice_index_or, string_bytes, subst, suc, sym, take, true, zero, [], ℕ, ℤ, ◌&&◌, ◌++◌, ◌+ℤ◌, ◌+◌, ◌/◌, ◌<◌, ◌==◌, ◌^◌, ◌||◌, ◌∙◌, ◌∷◌, ◌≡◌, ◌≢◌, ◌≤◌, ◌⊎◌}
+pub use Rattle.std.proofs.Math.Bool.{and-true, not-not}
+pub use Rattle.std.proofs.lemmas.Bool.{and_parts, cases_Bool, cond-true, false_from_ne_true, or_from}
 pub use Rattle.std.proofs.lemmas.Bool.Decides.{nat_tests}
 pub use Rattle.std.proofs.lemmas.Grind.{common_steps}
 pub use Rattle.std.proofs.lemmas.List.{length-map, length-take, map-append, take-map, take_all, take_more}
@@ -93,12 +91,10 @@ pub use Rattle.std.proofs.lemmas.List.Sorted.{IsPermutation-map, length_permutat
 pub use Rattle.std.proofs.lemmas.Map.Text.{is_eq-slice_cmp}
 pub use Rattle.std.proofs.lemmas.Slice.Eq.{bytes_eq-Decides}
 pub use Rattle.std.proofs.lemmas.Str.{IsUtf8-string_bytes}
-pub use Rattle.std.specs.Cmp.{IsTotalOrder, then_total}
+pub use Rattle.std.specs.Cmp.{IsTotalOrder, both_ways, then_total}
 pub use Rattle.std.specs.Cmp.Lexicographic.{on_texts}
 pub use Rattle.std.specs.FinMap.{IsAntisymmetric, find, from_entries, get, get-from_entries, get-insert, insert, same_map}
 pub use Rattle.std.specs.List.{AllByRecursion, enumerate_from, fold, list_all, list_any}
 pub use Rattle.std.specs.Option.{is_none, option_or}
 pub use Rattle.std.specs.Ordering.{eq_by_cmp}
-pub use Rattle.std.specs.Str.{IsUtf8}
-pub use Rattle.std.specs.declared.alloc.Global.{Global}
 pub use Rattle.uuid.specs.Text.{parsed}

@@ -1,5 +1,5 @@
 -- From a statement's text to the rows that it writes.
-use Rattle.kob_outbox.proofs.statements.Words.{AtPlace, Chosen, Command, Database, Does, Enforced, Executes, Insert, IsPlain, List, Mode, None, Ok, OnRows, OnTable, Option, Row, Runs, Schema, Some, State, Table, Tally, Term, Values, Writes, WritesRows, Written, [], ap, arith, command_of, edit_of, edited, if◌then◌else◌, length, mode_of, nat_tests, put_row, runs_as, slice_get, statement_of, subst, sym, understood, unwrap_or, value_rows, ℕ, ◌++◌, ◌/◌, ◌∙◌, ◌∷◌, ◌≡◌}
+use Rattle.kob_outbox.proofs.statements.Words.{Chosen, Command, Database, Does, Enforced, Executes, Insert, IsPlain, List, Mode, None, Ok, OnRows, OnTable, Option, Row, Runs, Schema, Some, State, Table, Tally, Term, Values, Writes, WritesRows, Written, [], ap, arith, command_of, edit_of, edited, if◌then◌else◌, length, mode_of, nat_tests, put_row, runs_as, slice_get, statement_of, subst, sym, understood, value_rows, ℕ, ◌++◌, ◌/◌, ◌∷◌, ◌≡◌}
 use Rattle.kob_outbox.proofs.statements.Plain.{went, same_value}
 use Rattle.kob_outbox.proofs.statements.Steps.{IsAlone, KeepOthers, inserted, uncounted, task_on}
 
@@ -33,44 +33,15 @@ module _ {schema : Schema} {sql : List ℕ} {command : Command} {at : ℕ} {tabl
     (it : IsWriting schema sql command at table) (params : Row) (old new : State) (has : old.now.schema ≡ schema) where
   pub wrote : (count : ℕ) → Executes sql params old new (Ok count) → Wrote schema table params command old new count
   wrote count h =
-      let w =
-      it.runs old new (statement_of sql (understood schema sql)) params count
-      (runs_as sql params old new schema has command it.is it.plain count h) in
-      let text = statement_of sql (understood schema sql) in
-      let mode = mode_of old in
-      let done =
-      it.on old.step_limit mode params (record { schema = schema; trees = old.now.trees }) text (w.tally, new.now)
+      let text = statement_of sql (understood schema sql) in let mode = mode_of old in
+      let w = it.runs old new text params count (runs_as sql params old new schema has command it.is it.plain count h) in
+      let done = it.on old.step_limit mode params (record { schema = schema; trees = old.now.trees }) text (w.tally, new.now)
       (subst (λ s. Does old.step_limit mode params (record old.now { schema = s }) text None command
       (Ok (w.tally, new.now))) has w.changed) in
       let placed : OnRows (task_on old.step_limit Enforced schema table params) mode None command old.now.trees
-      (Ok (w.tally, new.now)) =
-      subst (λ o. AtPlace (λ t. OnRows (record {
-        limit = old.step_limit;
-        keys = Enforced;
-        schema = schema;
-        table = t;
-        params = params;
-      }) mode None command old.now.trees) o (Ok (w.tally, new.now))) it.found done in
-      let rows = went placed in
-      let tested = went rows.2 in
-      let shown = went tested.2 in
-      let same : (w.tally, new.now) ≡ (
-        record {
-          rows = Some (length rows.0.rows);
-          last = rows.0.last;
-          shown = shown.0;
-          in_doubt = tested.0;
-        },
-        record { schema = schema; trees = rows.0.trees },
-      ) = same_value shown.2 in
-      record {
-        written = rows.0;
-        does = rows.1;
-        now = ap (λ (p : Tally × Database). p.1) same;
-        counted = w.counted ∙ ap (λ (p : Tally × Database). unwrap_or p.0.rows 0) same;
-        committed = w.shown.committed_is;
-        mode = w.shown.mode;
-      }
+      (Ok (w.tally, new.now)) = rw it.found at done in
+      let rows = went placed in let tested = went rows.2 in let shown = went tested.2 in let same = same_value shown.2 in
+      grind (arith, nat_tests)
 
 -- what an INSERT of one row leaves
 pub record Put (schema : Schema) (table : Table) (row : Row) (old new : State) : Type 0 where
