@@ -5,7 +5,8 @@ use Rattle.uuid.proofs.RoundTrips.{parses_hyphenated}
 use Rattle.uuid.proofs.TextLemmas.{by_index_at, by_index_cong, by_index_length}
 use Rattle.kob_outbox.specs.Contents.{Event, Contents}
 use Rattle.kob_router.specs.Route.{message_of}
-use Rattle.kob_pipeline.proofs.Lists.{all_last, all_weaker, any_last, bytes_are, bytes_turned, filter_last, filter_not_last, none_in_filter, same_bytes, same_here}
+use Rattle.kob_pipeline.proofs.Lists.{all_last, all_weaker, any_last, bytes_are, bytes_turned, none_in_filter, same_bytes, same_here}
+use Rattle.indexmap.proofs.SetLemmas.{filter_keep, filter_skip}
 use Rattle.kob_pipeline.proofs.RouterKept.{TellsIds, TellsItsId}
 use Rattle.kob_router.specs.Run.{May, Move, State, after, calls_of, events_of, start}
 use Rattle.kob_pipeline.proofs.Logged.{is_fresh}
@@ -82,10 +83,10 @@ module _ (test : Event → Bool) where
       elim (cases_Bool (test row)) [
         | inl on ↦
             of_ids (ids ++ row.id ∷ [])
-            (ap ids_of (filter_last test rows row on) ∙ map_push (λ (r : Event). r.id) (filter test rows) row)
+            (ap ids_of (filter_keep test rows row on) ∙ map_push (λ (r : Event). r.id) (filter test rows) row)
             (older rows rows row new h) (any_last (bytes_eq row.id) ids row.id (same_bytes row.id) ∙ sym on)
         | inr off ↦
-            of_ids ids (ap ids_of (filter_not_last test rows row off)) h
+            of_ids ids (ap ids_of (filter_skip test rows row off)) h
             (none_in_filter (bytes_eq row.id) (λ (r : Event). r.id) test rows new ∙ sym off)
       ]
     where

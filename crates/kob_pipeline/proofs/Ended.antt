@@ -18,9 +18,8 @@ all_ended : (workers : List Worker) (done : List (Done WorkerEnd)) → AllByRecu
     → AllZip (λ w d. IsLeft (planned_as w) d.notes d.end) workers done
     → AllZip (λ w d. HasEnded w d.notes d.end) (map planned_as workers) done
 all_ended [] [] kept all = tt
-all_ended [] (d ∷ done) kept all = absurd all
-all_ended (w ∷ workers) [] kept all = absurd all
 all_ended (w ∷ workers) (d ∷ done) kept all = grind (arith, nat_tests, all_ended workers done kept.1 all.1)
+all_ended _ _ kept all = absurd all
 
 all_answered : (done : List (Done WorkerEnd)) → AllByRecursion IsWhole done
     → EachIsAnswered (events_in (map (λ d. d.notes) done)) (told_in (map (λ d. d.notes) done))

@@ -1,5 +1,7 @@
 -- Lemmas on lists and places.
-use Rattle.kob_pipeline.proofs.Words.{All-contains, All-contains_itself, All-filter, All-from_recursion, AllByRecursion, Bool, Contains, List, Place, Some, [], and_from, and_parts, ap, append-nil, arith, bytes_eq, cases_Bool, eq-eqb, eqb-true, false, filter, filter-append, filter_passes, get_or_from_slice_get, inl, inr, length, list_any, map, nat_list_eq_equiv, nat_tests, recursion_from_All, refl, same_place, slice_get, slice_get_within, suc, true, zero, ℕ, ◌&&◌, ◌++◌, ◌+◌, ◌∙◌, ◌∷◌, ◌≡◌, ◌⊎◌}
+use Rattle.kob_pipeline.proofs.Words.{All-contains, All-filter, All-from_recursion, AllByRecursion, Bool, Contains, List, Place, Some, [], and_from, and_parts, arith, bytes_eq, cases_Bool, eq-eqb, eqb-true, false, filter, filter_passes, get_or_from_slice_get, inl, inr, list_any, map, nat_list_eq_equiv, nat_tests, recursion_from_All, refl, same_place, slice_get, slice_get_within, suc, true, ℕ, ◌&&◌, ◌++◌, ◌∙◌, ◌∷◌, ◌≡◌, ◌⊎◌}
+use Rattle.circular_buffer.proofs.Places.{slice_get-append_left}
+use Rattle.std.proofs.lemmas.List.Folds.{list_any-append}
 use Rattle.std.proofs.lemmas.Slice.Eq.{bytes_eq-Decides}
 
 pub same_bytes : (xs : List ℕ) → bytes_eq xs xs ≡ true
@@ -29,17 +31,10 @@ pub first_is : {A : Type 0} (xs : List A) (x : A) → slice_get xs 0 ≡ Some x 
 first_is [] x h = cc
 first_is (y ∷ rest) x h = (rest, cc)
 
--- what stands in a front, and behind it
+-- what stands in a front
 pub get_front : {A : Type 0} (xs ys : List A) (i : ℕ) (x : A) → slice_get xs i ≡ Some x
     → slice_get (xs ++ ys) i ≡ Some x
-get_front [] ys i x h = cc
-get_front (y ∷ xs) ys zero x h = h
-get_front (y ∷ xs) ys (suc i) x h = get_front xs ys i x h
-
-pub get_behind : {A : Type 0} (xs ys : List A) (n i : ℕ) → n ≡ length xs + i → slice_get (xs ++ ys) n ≡ slice_get ys i
-get_behind [] ys n i is = ap (slice_get ys) (omega (arith, is))
-get_behind (x ∷ xs) ys zero i is = absurd (omega (arith, is))
-get_behind (x ∷ xs) ys (suc n) i is = get_behind xs ys n i (omega (arith, is))
+get_front xs ys i x h = slice_get-append_left xs ys i (slice_get_within xs i x h) ∙ h
 
 pub contains_at : {A : Type 0} (xs : List A) (i : ℕ) (x : A) → slice_get xs i ≡ Some x → Contains xs x
 contains_at xs i x h = (i, slice_get_within xs i x h, get_or_from_slice_get xs i x x h)
@@ -63,35 +58,10 @@ pub filter_all : {A : Type 0} (p : A → Bool) (xs : List A) → AllByRecursion 
 filter_all p [] h = refl
 filter_all p (x ∷ xs) h = grind (arith, nat_tests, filter_all p xs h.1, h.0)
 
-pub filter_last : {A : Type 0} (p : A → Bool) (xs : List A) (x : A) → p x ≡ true
-    → filter p (xs ++ x ∷ []) ≡ filter p xs ++ x ∷ []
-filter_last p xs x h = filter-append p xs (x ∷ []) ∙ rw h refl
-
-pub filter_not_last : {A : Type 0} (p : A → Bool) (xs : List A) (x : A) → p x ≡ false
-    → filter p (xs ++ x ∷ []) ≡ filter p xs
-filter_not_last p xs x h = filter-append p xs (x ∷ []) ∙ rw h (append-nil (filter p xs))
-
 pub filter_map_turned : {A B : Type 0} (f : A → B) (test : B → Bool) (xs : List A)
     → filter test (map f xs) ≡ map f (filter (λ x. test (f x)) xs)
 filter_map_turned f test [] = refl
 filter_map_turned f test (x ∷ xs) = grind (arith, nat_tests, filter_map_turned f test xs)
-
--- what a filter keeps passes, and stood in the list
-pub kept_by : {A : Type 0} (test : A → Bool) (xs : List A) (x : A) → Contains (filter test xs) x → Contains xs x
-    × (test x ≡ true)
-kept_by test xs x c = grind (arith, nat_tests, All-contains (Contains xs) (filter test xs) x (All-filter test (Contains xs) xs (All-contains_itself xs)) c, All-contains (λ y. test y ≡ true) (filter test xs) x (filter_passes test xs) c)
-
--- what passes is kept
-pub keeps : {A : Type 0} (test : A → Bool) (xs : List A) (x : A) → Contains xs x → test x ≡ true
-    → Contains (filter test xs) x
-keeps test [] x (k, l, at) h = absurd (omega arith)
-keeps test (y ∷ xs) x (zero, l, at) h = rw (ap test at ∙ h) (0, omega arith, at)
-keeps test (y ∷ xs) x (suc k, l, at) h =
-    let rest = keeps test xs x (k, omega arith, at) h in
-    elim (cases_Bool (test y)) [
-      | inl on ↦ rw on (contains_more (filter test xs) y x rest)
-      | inr off ↦ rw off rest
-    ]
 
 -- a test that fails on all fails on what a filter keeps
 pub none_in_filter : {A B : Type 0} (t : B → Bool) (f : A → B) (p : A → Bool) (xs : List A)
@@ -103,8 +73,7 @@ pub and_as : (x p : Bool) → (p ≡ true → x ≡ true) → (x && p) ≡ p
 and_as x p h = grind (arith, nat_tests, h)
 
 pub any_last : {A : Type 0} (t : A → Bool) (xs : List A) (x : A) → t x ≡ true → list_any t (xs ++ x ∷ []) ≡ true
-any_last t [] x h = grind (arith, nat_tests)
-any_last t (y ∷ xs) x h = grind (arith, nat_tests, any_last t xs x h)
+any_last t xs x h = grind (arith, nat_tests, list_any-append)
 
 -- the same test on all elements
 pub any_same : {A : Type 0} (s t : A → Bool) → ((x : A) → s x ≡ t x) → (xs : List A) → list_any s xs ≡ list_any t xs
@@ -137,11 +106,6 @@ all_passing P test xs h =
     all_both P (λ x. test x ≡ true) (filter test xs)
     (recursion_from_All P (filter test xs) (All-filter test P xs (All-from_recursion P xs h)))
     (recursion_from_All (λ x. test x ≡ true) (filter test xs) (filter_passes test xs))
-
--- of each element that a list contains
-pub all_contained : {A : Type 0} (P : A → Type 0) (xs : List A) → ((x : A) → Contains xs x → P x) → AllByRecursion P xs
-all_contained P [] f = tt
-all_contained P (x ∷ xs) f = (f x (0, omega arith, refl), all_contained P xs (λ y c. f y (contains_more xs x y c)))
 
 pub all_in : {A : Type 0} (P : A → Type 0) (xs : List A) (x : A) → Contains xs x → AllByRecursion P xs → P x
 all_in P xs x c h = All-contains P xs x (All-from_recursion P xs h) c

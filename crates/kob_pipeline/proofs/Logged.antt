@@ -1,7 +1,8 @@
 -- What the outbox of a service keeps of the rows that were recorded, and a partition's log of those routed there.
 use Rattle.kob_pipeline.proofs.Words.{AllByRecursion, Batch, Change, Contains, Contains-append_left, Dispatching, IsGiven, IsRecordOf, IsRecordable, List, OutboxEvent, Place, Some, [], after_record, ap, append-nil, append_assoc, arith, bytes_eq, empty, false, filter, filter_map, filter_map-append, firsts, fold-append, goes_to, id_text, ids_of, later_than, le-ltb, length, length-append, length-map, length_push, list_any, lt-ltb, ltb-true, map-append, map_push, nat_lt, next_seq, records_of, records_of_push, refl, routed_to, stored_event, sym, told_id, true, with_new, without_sent, ℕ, ◌++◌, ◌+◌, ◌∙◌, ◌∷◌, ◌≡◌, ◌≤◌}
 use Rattle.kob_outbox.specs.Contents.{Contents, Event}
-use Rattle.kob_pipeline.proofs.Lists.{any_same, bytes_turned, filter_twice, filter_all, filter_last, all_last, all_weaker, any_last, filter_not_last, none_in_filter, same_bytes, same_here}
+use Rattle.kob_pipeline.proofs.Lists.{any_same, bytes_turned, filter_twice, filter_all, all_last, all_weaker, any_last, none_in_filter, same_bytes, same_here}
+use Rattle.indexmap.proofs.SetLemmas.{filter_keep, filter_skip}
 use Rattle.kob_names.specs.declared.record.Record.{Record}
 use Rattle.std.proofs.lemmas.Bool.Decides.{nat_tests}
 
@@ -44,7 +45,7 @@ pub kept_recorded : {rows : List Event} {c : Contents} {sent wait : List Event} 
     → IsRecordable c change event → IsKept rows c sent wait
     → IsKept (rows ++ stored_event (next_seq c) event ∷ []) (after_record c change event) sent
     (wait ++ stored_event (next_seq c) event ∷ [])
-kept_recorded {rows} {c} {sent} {wait} change event may k = grind (arith, nat_tests, length-map, length-append, map-append, append_assoc, map_push, filter_last, lt-ltb, order_last, is_fresh)
+kept_recorded {rows} {c} {sent} {wait} change event may k = grind (arith, nat_tests, length-map, length-append, map-append, append_assoc, map_push, filter_keep, lt-ltb, order_last, is_fresh)
 
 pub kept_swept : {rows : List Event} {c : Contents} {sent wait : List Event} → IsKept rows c sent wait
     → IsKept rows (without_sent c.mark c) sent wait
@@ -100,7 +101,7 @@ module _ (route : Dispatching) (q : Place) where
   -- a row that is routed elsewhere
   pub logged_elsewhere : {rows : List Event} {log : List Batch} {next : ℕ} {upto : List Event} (row : Event)
       → goes_to q (route row) ≡ false → IsLogged rows log next upto → IsLogged rows log next (upto ++ row ∷ [])
-  logged_elsewhere {upto = upto} row h k = grind (arith, nat_tests, filter_not_last)
+  logged_elsewhere {upto = upto} row h k = grind (arith, nat_tests, filter_skip)
 
   -- what a log holds with one more batch
   appended : {rows : List Event} {log : List Batch} {next : ℕ} {upto : List Event} {row : Event} {x : Record}
@@ -111,7 +112,7 @@ module _ (route : Dispatching) (q : Place) where
 
   routed_last : (sent : List Event) (row : Event) (x : Record) → route row ≡ Some (record { place = q; message = x })
       → ids_of (routed_to route q (sent ++ row ∷ [])) ≡ ids_of (routed_to route q sent) ++ row.id ∷ []
-  routed_last sent row x r = grind (arith, nat_tests, filter_last, same_here, map_push)
+  routed_last sent row x r = grind (arith, nat_tests, filter_keep, same_here, map_push)
 
   -- the first batch of a row
   pub logged_first : {rows : List Event} {log : List Batch} {next : ℕ} {sent : List Event} {row : Event} {x : Record}

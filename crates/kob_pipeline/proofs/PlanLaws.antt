@@ -6,12 +6,11 @@ use Rattle.kob_outbox.specs.Contents.{Event}
 use Rattle.kob_inbox.specs.Rows.{placed_intake}
 use Rattle.kob_pipeline.specs.PlanEnds.{IsNoneLost, TakesInOrder, inbox_in, outbox_in, records_at}
 use Rattle.kob_pipeline.proofs.BrokerSteps.{legal_is_history}
-use Rattle.kob_pipeline.proofs.Aggregates.{target_tells}
-use Rattle.kob_pipeline.proofs.ConsumerRun.{is_taken_in_order}
-use Rattle.kob_pipeline.proofs.DeliveryLaws.{holds_a_prefix}
-use Rattle.kob_pipeline.proofs.RouterRun.{is_delivered}
-use Rattle.kob_pipeline.proofs.RowsRun.{all_wait_or_sent}
-use Rattle.kob_pipeline.proofs.Lists.{all_weaker, get_behind, get_front}
+use Rattle.kob_pipeline.proofs.DeliveryLaws.{holds_a_prefix, partition_holds, takes_in_order, waits_or_sent}
+use Rattle.kob_pipeline.specs.Parts.{IsConsumerPart, IsServicePart}
+use Rattle.kob_router.specs.Dispatches.{Dispatching}
+use Rattle.kob_pipeline.proofs.Lists.{all_weaker, get_front}
+use Rattle.circular_buffer.proofs.Places.{slice_get-append_right}
 use Rattle.kob_pipeline.proofs.Rows.{rows_of_steps}
 use Rattle.kob_outbox.specs.Contents as outboxes
 use Rattle.kob_router.specs.Run as routers
@@ -68,6 +67,14 @@ map_at : {A B : Type 0} (v : A → B) (xs : List A) (k : ℕ) (x : A) → slice_
     → slice_get (map v xs) k ≡ Some (v x)
 map_at v xs k x there = slice_get-map v xs k ∙ ap (option_map v) there
 
+-- what waits waits where the outbox has the same mark and the same events
+waits_alike : (route : Dispatching) (worker : ℕ) (journal : List Entry) (one two : outboxes.Contents)
+    → one.mark ≡ two.mark → one.events ≡ two.events → (row : Event) → IsWaitingOrSent route worker journal one row
+    → IsWaitingOrSent route worker journal two row
+waits_alike route worker journal one two mark events row (inl waits) =
+    inl (record { past = rw mark at waits.past; there = rw events at waits.there })
+waits_alike route worker journal one two mark events row (inr sent) = inr sent
+
 -- ---- the laws of delivery, of a pipeline's plan and what it leaves
 
 without_places : (n : ℕ) (inbox : List Intake) → map (λ (x : ℕ × Intake). x.1) (enumerate_from n inbox) ≡ inbox
@@ -76,8 +83,8 @@ without_places n (i ∷ inbox) = ap (λ rest. i ∷ rest) (without_places (n + 1
 
 -- the inbox that is left is what the run leaves
 its_inbox : (consumer : ConsumerPlan) (noted : Noted) (left : InboxEnd) (run : IsConsumption consumer noted left)
-    → inbox_in left ≡ run.state.inbox
-its_inbox consumer noted left run = cc (map-map (λ (x : ℕ × Intake). x.1) placed_intake left.rows.items, without_places 1 run.state.inbox)
+    → inbox_in left ≡ run.work.state.inbox
+its_inbox consumer noted left run = cc (map-map (λ (x : ℕ × Intake). x.1) placed_intake left.rows.items, without_places 1 run.work.state.inbox)
 
 module _ (plan : Plan) (end : PipelineEnd) (of : IsPipeline plan end) where
   history : IsHistory opening_view end.journal (view_after plan.settings end.journal)
@@ -139,7 +146,7 @@ module _ (plan : Plan) (end : PipelineEnd) (of : IsPipeline plan end) where
       let own = map Consuming plan.consumers.items in
       let rest = map Administering plan.administrators.items in
       ended_at Consuming how (consumer_place plan k) consumer
-      (get_behind front (own ++ rest) (consumer_place plan k) k
+      (slice_get-append_right front (own ++ rest) (consumer_place plan k) k
       (omega (arith, length-map plan.services.items Serving))
       ∙ get_front own rest k (Consuming consumer) (map_at Consuming plan.consumers.items k consumer there))
     where
@@ -149,8 +156,18 @@ module _ (plan : Plan) (end : PipelineEnd) (of : IsPipeline plan end) where
       how consumer noted _ run = absurd run
 
   its_rows : (k : ℕ) (service : Service) (by : Serves k service)
-      → routers.events_of outboxes.empty by.run.moves ≡ rows_of_service service
-  its_rows k service by = grind (arith, nat_tests, rows_of_steps)
+      → routers.events_of outboxes.empty by.run.work.moves ≡ rows_of_service service
+  its_rows k service by =
+      rows_of_steps (dispatch_of service.target) routers.start by.run.work.state service.steps.items by.run.work.moves _
+      by.run.work.steps
+
+  service_part : (k : ℕ) (service : Service) (by : Serves k service)
+      → IsServicePart service.target (service_number plan k) end.journal by.run.work.moves by.run.work.state
+  service_part k service by = record { run = by.run.run; served = rw (← by.served) by.run.served }
+
+  consumer_part : (k : ℕ) (consumer : ConsumerPlan) (by : Consumes k consumer)
+      → IsConsumerPart consumer.subscription (consumer_number plan k) end.journal by.run.work.moves by.run.work.state
+  consumer_part k consumer by = record { run = by.run.run; served = rw (← by.served) by.run.served }
 
   pub its_partitions : (k : ℕ) (service : Service) (place : Place) → slice_get plan.services.items k ≡ Some service
       → IsSoleProducer (service_number plan k) place.topic end.journal → IsNeverDeleted place.topic end.journal
@@ -158,12 +175,26 @@ module _ (plan : Plan) (end : PipelineEnd) (of : IsPipeline plan end) where
   its_partitions k service place there sole never =
       let by : Serves k service = serves k service there in
       rw (← its_rows k service by)
-      (is_delivered (dispatch_of service.target) place (target_tells service.target) (service_number plan k)
-      (view_after plan.settings end.journal) end.journal by.run.moves by.run.state history by.run.run
-      (rw (← by.served) by.run.served) sole never)
+      (partition_holds service.target (service_number plan k) end.journal (view_after plan.settings end.journal)
+      by.run.work.moves by.run.work.state place history (service_part k service by) sole never)
 
   pub is_none_lost : IsNoneLost plan end
-  is_none_lost k service left there kept = let by : Serves k service = serves k service there in let route = dispatch_of service.target in let outbox = by.run.state.outbox in let ends : Some (Outbox by.left) ≡ Some (Outbox left) = sym (ap (option_map (λ (d : Done WorkerEnd). d.end)) by.done) ∙ kept in let same : by.left ≡ left = cc in let mark : outbox.mark ≡ left.mark = sym by.run.mark ∙ ap (λ (l : OutboxEnd). l.mark) same in let events : outbox.events ≡ (outbox_in left).events = sym by.run.rows ∙ ap (λ (l : OutboxEnd). (outbox_in l).events) same in rw (its_rows k service by) at (all_weaker (IsWaitingOrSent route (service_number plan k) end.journal outbox) (IsWaitingOrSent route (service_number plan k) end.journal (outbox_in left)) (λ row is. elim is [ inl waits ↦ inl (record { past = rw mark at waits.past; there = rw events at waits.there }) | inr sent ↦ inr sent ]) (routers.events_of outboxes.empty by.run.moves) (all_wait_or_sent route (service_number plan k) end.journal by.run.moves by.run.state by.run.run (rw (← by.served) by.run.served)))
+  is_none_lost k service left there kept =
+      let by : Serves k service = serves k service there in
+      let outbox = by.run.work.state.outbox in
+      let ends : Some (Outbox by.left) ≡ Some (Outbox left) =
+      sym (ap (option_map (λ (d : Done WorkerEnd). d.end)) by.done) ∙ kept in
+      let same : by.left ≡ left = cc in
+      let mark : outbox.mark ≡ left.mark = sym by.run.mark ∙ ap (λ (l : OutboxEnd). l.mark) same in
+      let events : outbox.events ≡ (outbox_in left).events =
+      sym by.run.rows ∙ ap (λ (l : OutboxEnd). (outbox_in l).events) same in
+      rw (its_rows k service by) at
+      (all_weaker (IsWaitingOrSent (dispatch_of service.target) (service_number plan k) end.journal outbox)
+      (IsWaitingOrSent (dispatch_of service.target) (service_number plan k) end.journal (outbox_in left))
+      (waits_alike (dispatch_of service.target) (service_number plan k) end.journal outbox (outbox_in left) mark events)
+      (routers.events_of outboxes.empty by.run.work.moves)
+      (waits_or_sent service.target (service_number plan k) end.journal by.run.work.moves by.run.work.state
+      (service_part k service by)))
 
   pub takes_its_records : (k : ℕ) (consumer : ConsumerPlan) (place : Place) → slice_get plan.consumers.items k
       ≡ Some consumer
@@ -178,12 +209,12 @@ module _ (plan : Plan) (end : PipelineEnd) (of : IsPipeline plan end) where
         done = by.done;
         run = by.run;
         order =
-            is_taken_in_order consumer.subscription place (consumer_number plan k)
-            (view_after plan.settings end.journal) end.journal by.run.moves by.run.state history by.run.run
-            (rw (← by.served) by.run.served) sole never;
+            takes_in_order consumer.subscription (consumer_number plan k) end.journal
+            (view_after plan.settings end.journal) by.run.work.moves by.run.work.state place history
+            (consumer_part k consumer by) sole never;
         inbox =
             its_inbox consumer by.noted by.left by.run
-            ∙ run_takes_in consumer.subscription by.run.moves consumers.start by.run.state by.run.run;
+            ∙ run_takes_in consumer.subscription by.run.work.moves consumers.start by.run.work.state by.run.run;
       }
 
   pub reaches_its_inbox : (i k : ℕ) (service : Service) (consumer : ConsumerPlan) (left : InboxEnd)
@@ -199,9 +230,8 @@ module _ (plan : Plan) (end : PipelineEnd) (of : IsPipeline plan end) where
       sym (ap (option_map (λ (d : Done WorkerEnd). d.end)) took.done) ∙ kept in
       let same : took.left ≡ left = cc in
       subst (λ (rows : List Event). ReachesInOrder rows (inbox_in left) kind id) (its_rows i service sent)
-      (subst (λ (inbox : List Intake). ReachesInOrder (routers.events_of outboxes.empty sent.run.moves) inbox kind id)
-      (sym (its_inbox consumer took.noted took.left took.run) ∙ ap inbox_in same)
+      (subst (λ (inbox : List Intake). ReachesInOrder (routers.events_of outboxes.empty sent.run.work.moves) inbox kind
+      id) (sym (its_inbox consumer took.noted took.left took.run) ∙ ap inbox_in same)
       (holds_a_prefix service.target consumer.subscription (service_number plan i) (consumer_number plan k) end.journal
-      (view_after plan.settings end.journal) sent.run.moves sent.run.state took.run.moves took.run.state kind id history
-      (record { run = sent.run.run; served = rw (← sent.served) sent.run.served })
-      (record { run = took.run.run; served = rw (← took.served) took.run.served }) private))
+      (view_after plan.settings end.journal) sent.run.work.moves sent.run.work.state took.run.work.moves
+      took.run.work.state kind id history (service_part i service sent) (consumer_part k consumer took) private))

@@ -7,7 +7,8 @@ use Rattle.kob_inbox.specs.Contents.{Contents}
 use Rattle.kob_pipeline.proofs.Aggregates.{IsToldById, one_place, passes_as, sent_message}
 use Rattle.kob_pipeline.proofs.Arriving.{filter_told, firsts_of_front, ids_told, inbox_ids, passes, record_told, told_by, with_told}
 use Rattle.kob_pipeline.proofs.ConsumerKept.{IsContent}
-use Rattle.kob_pipeline.proofs.Lists.{and_as, all_at, all_contained, all_in, all_last, all_passing, all_weaker, filter_both, filter_map_turned, keeps, kept_by, same_here, same_some}
+use Rattle.kob_pipeline.proofs.Lists.{and_as, all_at, all_in, all_last, all_passing, all_weaker, filter_both, filter_map_turned, same_here, same_some}
+use Rattle.kob_authorizer.proofs.Elements.{kept_by_filter, of_each, was_kept}
 use Rattle.kob_pipeline.proofs.Once.{filter_firsts, firsts_distinct, front_begins, prefix_filter, prefix_on}
 use Rattle.kob_pipeline.proofs.RouterKept.{TellsItsId}
 use Rattle.std.proofs.lemmas.Bool.Decides.{nat_tests}
@@ -23,13 +24,13 @@ module _ (target : Target) (rows : List Event) where
       → ((q : Place) → assigned q → AllByRecursion (IsRecordOf (dispatch_of target) q rows) (records q))
       → AllByRecursion (λ (a : Arrival). assigned a.place) arrived → AllByRecursion IsFromRow arrived
   from_rows assigned records arrived contents each places =
-      all_contained IsFromRow arrived
+      of_each IsFromRow arrived
       (λ a there.
       let q : Place = a.place in
       let at = all_in (λ (b : Arrival). assigned b.place) arrived a there places in
       all_at (IsRecordOf (dispatch_of target) q rows) (records q) a.offset a.message
       (all_in (IsContent (records q)) (from_place q arrived) a
-      (keeps (λ (b : Arrival). same_place b.place q) arrived a there (same_here q)) (contents q at)) (each q at))
+      (kept_by_filter (λ (b : Arrival). same_place b.place q) arrived a there (same_here q)) (contents q at)) (each q at))
 
   module _ (tell : AllByRecursion (TellsItsId (dispatch_of target)) rows) where
     tells_of : (a : Arrival) (f : IsFromRow a) → told_by a ≡ Some f.0.id
@@ -64,7 +65,7 @@ module _ (target : Target) (rows : List Event) where
       is_said row at h = sym (all_in (IsToldById (is_of_aggregate kind id) rows) rows row at said) ∙ h
 
       own_copy : (i : Intake) → IsCopy rows i × (in_aggregate i.id ≡ true) → IsCopy (rows_of_aggregate rows kind id) i
-      own_copy i (copy, h) = grind (arith, nat_tests, keeps, is_said)
+      own_copy i (copy, h) = grind (arith, nat_tests, kept_by_filter, is_said)
 
       own_copies : (inbox : Contents) → AllByRecursion (IsCopy rows) inbox
           → AllByRecursion (IsCopy (rows_of_aggregate rows kind id)) (taken_of_aggregate inbox rows kind id)
@@ -157,7 +158,7 @@ module _ (target : Target) (rows : List Event) where
           by [] is =
               (ids_of (rows_of_aggregate rows kind id), rw (filter_told in_aggregate arrived, is) refl)
           by (a ∷ more) is =
-              let (there, pass) = kept_by (λ b. passes in_aggregate (told_by b)) arrived a (rw is (0, omega arith, refl)) in
+              let (there, pass) = was_kept (λ b. passes in_aggregate (told_by b)) arrived a (rw is (0, omega arith, refl)) in
               let at = all_in (λ (b : Arrival). assigned b.place) arrived a there all_assigned in
               begins_here arrived a (records a.place) from (all_in IsFromRow arrived a there from) pass
               (delivered a.place at) (order a.place at)

@@ -13,11 +13,11 @@ use Rattle.kob_broker.specs.InForce.{access_after, in_force}
 use Rattle.kob_broker.specs.Justice.{Grants, IsJust}
 use Rattle.kob_broker.specs.State.{State}
 use Rattle.kob_rights.specs.declared.event.Event.{Event}
-use Rattle.kob_rights.specs.declared.request.Request.TheVariants as requests
 use Rattle.kob_broker.specs.Justice.{EachGranted}
 use Rattle.kob_shared.proofs.Decided.{entry_is_just}
 use Rattle.kob_pipeline.specs.Reserved.{ActsAlone, IsReserved, IsReservedFor, NoSuperUser}
-use Rattle.kob_pipeline.proofs.Lists.{all_at, all_contained, all_in, kept_by}
+use Rattle.kob_pipeline.proofs.Lists.{all_at, all_in}
+use Rattle.kob_authorizer.proofs.Elements.{of_each, was_kept}
 use Rattle.std.proofs.lemmas.Bool.Decides.{nat_tests}
 
 -- ---- super users stay
@@ -44,7 +44,7 @@ granted_how opened super deny found granted = grind (arith, nat_tests)
 of_first : {X : Type 0} (test : X → Bool) (P : Type 0) (xs : List X) (x : X) (rest : List X)
     → filter test xs ≡ x ∷ rest → AllByRecursion (λ y. IsTrue (test y) → P) xs → P
 of_first test P xs x rest first all =
-    let (there, passes) = kept_by test xs x (rw first (0, omega arith, refl)) in
+    let (there, passes) = was_kept test xs x (rw first (0, omega arith, refl)) in
     all_in (λ y. IsTrue (test y) → P) xs x there all passes
 
 -- so it is the principal, where the name is reserved and no super user asks
@@ -88,7 +88,7 @@ module _ (opening : Settings) (journal : List Entry) (now : State Retained) (wor
   own_at k e at is = grind (arith, nat_tests, supers_stay, all_at, by_reservation, slice_get_within, entry_is_just)
 
   all_own : AllByRecursion (λ (e : Entry). Kind e.event.request e.reply → e.worker ≡ worker) journal
-  all_own = grind (arith, nat_tests, all_contained, own_at, slice_get-get_or)
+  all_own = grind (arith, nat_tests, of_each, own_at, slice_get-get_or)
 
 -- what is just of an event that was done
 granted_where_done : (access : Contents) (event : Event) (reply : Reply) → IsJust access event reply → (body : Body)

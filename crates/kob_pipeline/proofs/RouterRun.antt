@@ -1,5 +1,5 @@
 -- What each call of a router keeps, served or not, and what its run leaves on a partition.
-use Rattle.kob_pipeline.proofs.Words.{Accepts, AreServed, Batch, Body, Bool, Call, Denied, Dispatching, Does, Done, Entry, Hand, InitProducerId, IsDelivered, IsHistory, IsNeverDeleted, IsNoDeletion, IsOwnProduce, IsRouterRun, IsSameView, IsSending, IsSoleProducer, Judgement, List, MayCall, Next, None, OldEpoch, Option, OutOfOrder, Place, Produce, Producer, Recorded, Refused, Repeat, Reply, Request, Sequence, Some, Step, Swept, Took, View, [], ap, append-nil, append_assoc, arith, batch_of, false, filter-append, goes_to, history, inl, inr, judge, map, map-append, opening_view, producer_after, records_of, refl, routed_to, sequence_of, served_to, subst, sym, true, true≢false, with_batch, with_producer, ℕ, ◌++◌, ◌∙◌, ◌∷◌, ◌≡◌}
+use Rattle.kob_pipeline.proofs.Words.{Accepts, AreServed, Batch, Body, Bool, Call, Denied, Dispatching, Does, Done, Entry, Hand, InitProducerId, IsDelivered, IsHistory, IsNeverDeleted, IsNoDeletion, IsOwnProduce, IsRouterRun, IsSameView, IsSending, IsSoleProducer, Judgement, List, MayCall, Next, None, Option, Place, Produce, Producer, Recorded, Refused, Repeat, Reply, Request, Sequence, Some, Step, Swept, Took, View, [], ap, append-nil, append_assoc, arith, batch_of, false, filter-append, goes_to, history, inl, inr, judge, map, map-append, opening_view, producer_after, records_of, refl, routed_to, sequence_of, served_to, subst, sym, true, true≢false, with_batch, with_producer, ℕ, ◌++◌, ◌∙◌, ◌∷◌, ◌≡◌}
 use Rattle.kob_names.specs.declared.record.Record.{Record}
 use Rattle.kob_outbox.specs.Contents.{Contents, Event}
 use Rattle.kob_rights.specs.declared.on_partitions.Produce.{Produce as ProduceRequest}
@@ -87,8 +87,7 @@ module _ (route : Dispatching) where
             rw (← e) (k', repeat_is_pending route rows c p ss h (v.log h.place) v.next_producer offset k' judged)
         | inr apart ↦ (k, inl apart)
       ])
-  accepted q rows c p ss h v w x OutOfOrder k to judged a = absurd a
-  accepted q rows c p ss h v w x OldEpoch k to judged a = absurd a
+  accepted q rows c p ss h v w x _ k to judged a = absurd a
 
 module _ (route : Dispatching) (q : Place) where
   -- what is in hand was sent, and that this is done was heard, or was not

@@ -1,5 +1,5 @@
 -- The moves of a router, one at a time: what they record, keep along a journal, and leave of the rows.
-use Rattle.kob_pipeline.proofs.Words.{All-filter, All-from_recursion, AllByRecursion, AreServed, Bool, Call, Dispatching, Entry, Hand, IsOfTick, IsRouterRun, IsServiceStep, List, Loss, None, Option, Recorded, ServiceStep, Some, Steps, Swept, Took, [], after_acknowledgement, after_record, ap, append-nil, append_assoc, arith, false, filter_map, id_text, later_than, lt-ltb, nat_lt, nat_tests, next_seq, recursion_from_All, refl, rows_from, served_to, stored_event, subst, sym, true, ℕ, ◌++◌, ◌<◌, ◌∷◌, ◌≡◌}
+use Rattle.kob_pipeline.proofs.Words.{All-filter, All-from_recursion, AllByRecursion, AreServed, Bool, Call, Dispatching, Entry, Hand, IsOfTick, IsRouterRun, IsServiceStep, List, None, Option, Recorded, Served, ServiceStep, Some, Steps, Swept, Took, [], after_acknowledgement, after_record, ap, append-nil, append_assoc, arith, false, filter_map, id_text, later_than, lt-ltb, nat_lt, nat_tests, next_seq, recursion_from_All, refl, rows_from, served_to, stored_event, subst, sym, true, ℕ, ◌++◌, ◌<◌, ◌∷◌, ◌≡◌}
 use Rattle.kob_outbox.specs.Contents.{Contents, Event}
 use Rattle.kob_router.specs.Run.{May, Move, State, after, calls_of, events_of, start}
 use Rattle.kob_router.specs.Run.Move.{Called, Restarted}
@@ -117,17 +117,17 @@ by_tick route c s new (_ ∷ moves) own run = absurd own.0
 
 module _ (route : Dispatching) where
   -- one step, and the rows of the steps after it
-  of_step : (s mid : State) (step : ServiceStep) (more : List ServiceStep) (these : List Move) (losses : List Loss)
-      → IsServiceStep route s step these losses mid
+  of_step : (s mid : State) (step : ServiceStep) (more : List ServiceStep) (these : List Move) (served : List Served)
+      → IsServiceStep route s step these served mid
       → events_of s.outbox these ++ rows_from mid.outbox.ids more ≡ rows_from s.outbox.ids (step ∷ more)
-  of_step s mid (steps.Record change event) more these losses does = grind (arith, nat_tests)
-  of_step s mid (steps.Tick loss) more these losses does = grind (arith, nat_tests, by_tick)
-  of_step s mid steps.Restart more these losses does = grind (arith, nat_tests)
-  of_step s mid steps.Sweep more these losses does = grind (arith, nat_tests)
+  of_step s mid (steps.Record change event) more these served does = grind (arith, nat_tests)
+  of_step s mid (steps.Tick loss) more these served does = grind (arith, nat_tests, by_tick)
+  of_step s mid steps.Restart more these served does = grind (arith, nat_tests)
+  of_step s mid steps.Sweep more these served does = grind (arith, nat_tests)
 
   -- the moves of a service's steps record the rows of its plan
-  pub rows_of_steps : (s new : State) (plan : List ServiceStep) (moves : List Move) (losses : List Loss)
-      → Steps (IsServiceStep route) s plan moves losses new
+  pub rows_of_steps : (s new : State) (plan : List ServiceStep) (moves : List Move) (served : List Served)
+      → Steps (IsServiceStep route) s plan moves served new
       → events_of s.outbox moves ≡ rows_from s.outbox.ids plan
-  rows_of_steps s new [] moves losses all = ap (events_of s.outbox) all.0
-  rows_of_steps s new (step ∷ plan) moves losses (mid, these, those, first, rest, does, later, made, lost) = cc (rows_split route s mid these those does.run, rows_of_steps mid new plan those rest later, of_step s mid step plan these first does)
+  rows_of_steps s new [] moves served all = ap (events_of s.outbox) all.0
+  rows_of_steps s new (step ∷ plan) moves served (mid, these, those, first, rest, does, later, made, all) = cc (rows_split route s mid these those does.run, rows_of_steps mid new plan those rest later, of_step s mid step plan these first does)

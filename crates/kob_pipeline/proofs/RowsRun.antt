@@ -5,7 +5,8 @@ use Rattle.kob_rights.specs.declared.on_partitions.Produce.{Produce as ProduceRe
 use Rattle.kob_router.specs.Run.{May, Move, State, after, calls_of, events_of, start}
 use Rattle.kob_router.specs.Run.Move.{Called}
 use Rattle.kob_pipeline.proofs.Logged.{kept_at_start}
-use Rattle.kob_pipeline.proofs.Lists.{all_append, all_contained, all_last, all_weaker, kept_by}
+use Rattle.kob_pipeline.proofs.Lists.{all_append, all_last, all_weaker}
+use Rattle.kob_authorizer.proofs.Elements.{of_each, was_kept}
 use Rattle.kob_pipeline.proofs.RouterKept.{IsHeld, IsUnmarked, held_by_move, held_marked}
 use Rattle.kob_pipeline.proofs.Rows.{call_of, kept_by_router, recorded}
 use Rattle.kob_pipeline.proofs.ServedRuns.{IsOf, IsServedBy, IsUnheard, all_pass}
@@ -50,4 +51,4 @@ module _ (route : Dispatching) (worker : ℕ) (journal : List Entry) where
   pub all_wait_or_sent : (moves : List Move) (final : State) → IsRouterRun route start moves final
       → AreServed (calls_of moves) (served_to worker journal)
       → AllByRecursion (IsWaitingOrSent route worker journal final.outbox) (events_of start.outbox moves)
-  all_wait_or_sent moves final run served = let k : Kept (events_of start.outbox moves) final = kept_by_router route worker (IsOf journal) (λ rows s b. Kept rows s) (λ m rows s b may u k. kept_unmarked m rows s may (unmarked_move m s may u) k) (λ c marks rows s e b d may by own there k. kept_call rows s c.request c.heard marks may (λ on asked i is done. acknowledged s asked c e i is done by own there) k) (λ rows s e b d other there k. k) moves final journal tt tt run served (all_pass journal) (record { sent = []; wait = []; held = record { kept = kept_at_start; holds = tt }; each = tt }) in let waits : AllByRecursion (IsWaitingOrSent route worker journal final.outbox) k.wait = all_contained (IsWaitingOrSent route worker journal final.outbox) k.wait (λ row c. let f = kept_by (λ r. nat_lt final.outbox.mark r.seq) final.outbox.events row (rw k.held.kept.waits c) in inl (record { past = ltb-true final.outbox.mark row.seq f.1; there = f.0 })) in let done : AllByRecursion (IsWaitingOrSent route worker journal final.outbox) k.sent = all_weaker (IsSent route worker journal) (IsWaitingOrSent route worker journal final.outbox) (λ row e. inr e) k.sent k.each in rw k.held.kept.rows_are (all_append (IsWaitingOrSent route worker journal final.outbox) k.sent k.wait done waits)
+  all_wait_or_sent moves final run served = let k : Kept (events_of start.outbox moves) final = kept_by_router route worker (IsOf journal) (λ rows s b. Kept rows s) (λ m rows s b may u k. kept_unmarked m rows s may (unmarked_move m s may u) k) (λ c marks rows s e b d may by own there k. kept_call rows s c.request c.heard marks may (λ on asked i is done. acknowledged s asked c e i is done by own there) k) (λ rows s e b d other there k. k) moves final journal tt tt run served (all_pass journal) (record { sent = []; wait = []; held = record { kept = kept_at_start; holds = tt }; each = tt }) in let waits : AllByRecursion (IsWaitingOrSent route worker journal final.outbox) k.wait = of_each (IsWaitingOrSent route worker journal final.outbox) k.wait (λ row c. let f = was_kept (λ r. nat_lt final.outbox.mark r.seq) final.outbox.events row (rw k.held.kept.waits c) in inl (record { past = ltb-true final.outbox.mark row.seq f.1; there = f.0 })) in let done : AllByRecursion (IsWaitingOrSent route worker journal final.outbox) k.sent = all_weaker (IsSent route worker journal) (IsWaitingOrSent route worker journal final.outbox) (λ row e. inr e) k.sent k.each in rw k.held.kept.rows_are (all_append (IsWaitingOrSent route worker journal final.outbox) k.sent k.wait done waits)

@@ -1,5 +1,5 @@
 -- The sequences of one producer on one partition, and how the broker judges its batches of one record.
-use Rattle.kob_pipeline.proofs.Words.{AllByRecursion, Batch, Bool, Contains, Idem, IsGiven, List, Next, None, Option, Place, Producer, Repeat, Sent, Sequence, Some, [], after_use, ap, append-nil, arith, batch_of, cases_Bool, eq-eqb, false, find, get_or, get_or-drop, get_or_append_left, get_or_push, history, history_from, inl, inr, is_same, judge, judge_same, length, length-drop, length_push, memory_length, nat_tests, refl, same_place, sent_batch, sent_in, sequence_of, slice_get, slice_get-get_or, sym, true, with_sequence_for, ℕ, ◌%◌, ◌++◌, ◌+◌, ◌-◌, ◌<◌, ◌∙◌, ◌∷◌, ◌≡◌, ◌≤◌}
+use Rattle.kob_pipeline.proofs.Words.{AllByRecursion, Batch, Bool, Contains, Idem, IsGiven, List, Next, None, Option, Place, Producer, Repeat, Sent, Sequence, Some, [], after_use, ap, append-nil, arith, batch_of, cases_Bool, eq-eqb, false, find, get_or, get_or-drop, get_or_append_left, get_or_push, history, history_from, inl, inr, is_same, judge, judge_same, length, length-drop, length_push, memory_length, nat_tests, refl, same_place, sent_batch, sent_in, sequence_of, slice_get, slice_get-get_or, sym, true, with_sequence_for, ℕ, ◌%◌, ◌++◌, ◌+◌, ◌<◌, ◌∙◌, ◌∷◌, ◌≡◌, ◌≤◌}
 use Rattle.circular_buffer.specs.Buffer.{keep_last}
 use Rattle.kob_names.specs.declared.record.Record.{Record}
 use Rattle.kob_producers.specs.Sequence.{next_sequence}

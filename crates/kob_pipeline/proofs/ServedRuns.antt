@@ -1,6 +1,6 @@
 -- A run of a worker whose calls a journal served, along the journal: its moves and the entries, each at its pace.
 use Rattle.kob_pipeline.proofs.Words.{AllByRecursion, AreServed, Call, Contains, Entry, IsHistory, IsSameView, List, None, Option, Reply, Served, Some, Step, View, [], append-nil, append_assoc, cases_Bool, cons_option, eqb-false, eqb-true, filter_map, inl, inr, refl, served_in, served_to, subst, ℕ, ◌++◌, ◌==◌, ◌∷◌, ◌≡◌, ◌⊎◌}
-use Rattle.kob_pipeline.proofs.Lists.{all_contained}
+use Rattle.kob_authorizer.proofs.Elements.{of_each}
 use Rattle.std.proofs.Common.{arith}
 use Rattle.std.proofs.lemmas.Bool.Decides.{nat_tests}
 
@@ -107,7 +107,7 @@ abbrev pub IsOf : List Entry → Unit {0} → Entry → Unit {0} → Type 0
 IsOf journal b e c = Contains journal e
 
 pub all_pass : (journal : List Entry) → Passes (IsOf journal) tt journal tt
-all_pass journal = go journal (all_contained (Contains journal) journal (λ e there. there))
+all_pass journal = go journal (of_each (Contains journal) journal (λ e there. there))
   where
     go : (es : List Entry) → AllByRecursion (Contains journal) es → Passes (IsOf journal) tt es tt
     go [] each = refl

@@ -1,5 +1,5 @@
 -- A tick over a line at a desk is a step of its worker.
-use Rattle.kob_pipeline.proofs.Words.{AreMade, AtDesk, Call, CallFault, Dispatching, Leads, List, Loss, Option, Subscription, losses_of, refl, subst, ℕ, ◌≡◌}
+use Rattle.kob_pipeline.proofs.Words.{AreMade, AreNotedOrLost, AtDesk, Call, CallFault, Dispatching, Leads, List, Loss, Option, Subscription, sym, ℕ, ◌++◌, ◌≡◌}
 use Rattle.kob_inbox.specs.declared.tick.Tick.{Tick as ConsumerAnswer}
 use Rattle.kob_inbox.specs.Run as consumers
 use Rattle.kob_inbox.specs.Tick as consumer_ticks
@@ -23,56 +23,50 @@ consumer_scene state calls unmade = record { state = state; calls = calls; unmad
 module _ {loss set then_loss : Loss} {fault : Option CallFault} {calls then_calls : List Call} {unmade then_unmade : ℕ}
     {before begun desk : AtDesk} (is_set : set ≡ loss) (same : begun ≡ before) (none : unmade ≡ 0)
     (still_none : then_unmade ≡ 0) (made : AreMade fault set then_loss calls then_calls begun desk) where
-  here : AreMade fault loss then_loss calls then_calls before desk
-  here = subst (λ l. AreMade fault l then_loss calls then_calls before desk) is_set
-      (subst (λ d. AreMade fault set then_loss calls then_calls d desk) same made)
+  of_tick : (these : List Call) → then_calls ≡ calls ++ these → AreNotedOrLost loss these before desk
+  of_tick these is =
+      calls_of_a_tick fault loss then_loss calls then_calls these before desk (rw (is_set, same) at made) is
 
   pub service_ticked : {route : Dispatching} {old new : routers.State} {tick : RouterAnswer} → serving.GoesOn tick
       → router_ticks.Ticks router_ticks.IsOneTick route (router_scene old calls unmade)
       (router_scene new then_calls then_unmade) tick
-      → Leads (serving.IsServiceStep route) routers.calls_of (standing old before) (service_steps.Tick loss)
-      (standing new desk)
-  service_ticked {route} {new = new} {tick = tick} goes_on ticks = record {
-    moves = ticks.moves;
-    losses = losses_of loss (routers.calls_of ticks.moves);
-    done = record {
-      run = ticks.run;
-      own = record {
-        own = ticks.own;
-        few = ticks.few;
-        tick = tick;
-        goes_on = goes_on;
-        answer =
-            subst (λ u. router_ticks.IsAnswer route tick ticks.moves new u 0) none
-            (subst (λ u. router_ticks.IsAnswer route tick ticks.moves new unmade u) still_none ticks.answer);
-        lost = refl;
-      };
-    };
-    noted =
-        calls_of_a_tick fault loss then_loss calls then_calls (routers.calls_of ticks.moves) before desk here
-        ticks.calls;
-  }
+      → Leads (serving.IsServiceStep route) (standing old before) (service_steps.Tick loss) (standing new desk)
+  service_ticked {tick = tick} goes_on ticks =
+      let noted = of_tick (routers.calls_of ticks.moves) ticks.calls in
+      record {
+        moves = ticks.moves;
+        served = noted.served;
+        done = record {
+          run = ticks.run;
+          own = record {
+            own = ticks.own;
+            few = ticks.few;
+            tick = tick;
+            goes_on = goes_on;
+            answer = rw (none, still_none) at ticks.answer;
+            lost = noted.by_loss;
+          };
+        };
+        noted = noted.noted;
+      }
 
   pub consumer_ticked : {t : Subscription} {old new : consumers.State} {tick : ConsumerAnswer} → consuming.GoesOn tick
       → consumer_ticks.Ticks t (consumer_scene old calls unmade) (consumer_scene new then_calls then_unmade) tick
-      → Leads (consuming.IsConsumerStep t) consumers.calls_of (standing old before) (consumer_steps.Tick loss)
-      (standing new desk)
-  consumer_ticked {tick = tick} goes_on ticks = record {
-    moves = ticks.moves;
-    losses = losses_of loss (consumers.calls_of ticks.moves);
-    done = record {
-      run = ticks.run;
-      own = record {
-        tick = tick;
-        goes_on = goes_on;
-        answer = ticks.answer;
-        made =
-            subst (λ u. consumer_ticks.unmade_by tick ticks.moves u ≡ 0) none
-            (subst (λ u. u ≡ 0) ticks.counted still_none);
-        lost = refl;
-      };
-    };
-    noted =
-        calls_of_a_tick fault loss then_loss calls then_calls (consumers.calls_of ticks.moves) before desk here
-        ticks.calls;
-  }
+      → Leads (consuming.IsConsumerStep t) (standing old before) (consumer_steps.Tick loss) (standing new desk)
+  consumer_ticked {tick = tick} goes_on ticks =
+      let noted = of_tick (consumers.calls_of ticks.moves) ticks.calls in
+      record {
+        moves = ticks.moves;
+        served = noted.served;
+        done = record {
+          run = ticks.run;
+          own = record {
+            tick = tick;
+            goes_on = goes_on;
+            answer = ticks.answer;
+            made = rw (none, still_none) at (sym ticks.counted);
+            lost = noted.by_loss;
+          };
+        };
+        noted = noted.noted;
+      }

@@ -5,7 +5,7 @@ pub use Rattle.kob_inbox.proofs.Running.{run_takes_in}
 pub use Rattle.kob_inbox.specs.Contents.{Intake}
 pub use Rattle.kob_inbox.specs.Cursors.{cursor_of, with_cursor, with_progress}
 pub use Rattle.kob_inbox.specs.Intake.{Arrival, arrivals, intake_of, is_there, taken_in, with_intake, with_record}
-pub use Rattle.kob_inbox.specs.Run.{IsConsumerRun, IsDue, after_answer, behind, due, place_at, taken_by, taken_of}
+pub use Rattle.kob_inbox.specs.Run.{IsConsumerRun, IsDue, after_answer, behind, place_at, taken_by, taken_of}
 pub use Rattle.kob_inbox.specs.declared.cursors.Cursor.{Cursor}
 pub use Rattle.kob_inbox.specs.declared.fetcher.Subscription.{Subscription}
 pub use Rattle.kob_lines.specs.declared.lossy.Loss.{Loss}
@@ -16,7 +16,7 @@ pub use Rattle.kob_names.specs.declared.settings.Settings.{Settings}
 pub use Rattle.kob_outbox.specs.Contents.{IsRising, empty}
 pub use Rattle.kob_outbox.specs.Events.{id_text, stored_event, stored_row}
 pub use Rattle.kob_outbox.specs.Reading.{first_after, later_than, without_sent}
-pub use Rattle.kob_outbox.specs.Recording.{after_record, is_recorded, next_seq}
+pub use Rattle.kob_outbox.specs.Recording.{after_record, next_seq}
 pub use Rattle.kob_outbox.specs.declared.change.Change.{Change}
 pub use Rattle.kob_outbox.specs.declared.event.OutboxEvent.{OutboxEvent}
 pub use Rattle.kob_partition.proofs.Keeping.{records_of_append, records_of_push}
@@ -27,24 +27,24 @@ pub use Rattle.kob_pipeline.specs.BrokerView.{batches_of, view_after, view_of}
 pub use Rattle.kob_pipeline.specs.Consumers.{IsConsumerStep, IsConsumption}
 pub use Rattle.kob_pipeline.specs.Delivery.{IsDelivered, IsRecordOf, goes_to, ids_of, routed_to, rows_of, told_id}
 pub use Rattle.kob_pipeline.specs.Firsts.{IsPrefixOf, firsts, with_new}
-pub use Rattle.kob_pipeline.specs.Losses.{AreMade, AreNoted, AreServedByLoss, IsEventOf, losses_of}
+pub use Rattle.kob_pipeline.specs.Losses.{AreMade, AreNotedOrLost, AreServedByLoss, IsEventOf}
 pub use Rattle.kob_pipeline.specs.Pipelines.{HasDone, HasLeft, IsEnd, IsPipeline, consumer_number, consumer_place, notes_in, service_number}
-pub use Rattle.kob_pipeline.specs.PlanRows.{is_accepted, rows_from, rows_of_service}
+pub use Rattle.kob_pipeline.specs.PlanRows.{rows_from, rows_of_service}
 pub use Rattle.kob_pipeline.specs.Premises.{ArePrivate, Commits, Deletes, IsNeverDeleted, IsNoDeletion, IsOwnCommit, IsOwnProduce, IsSoleCommitter, IsSoleProducer, Produces}
 pub use Rattle.kob_pipeline.specs.Reaching.{IsCopy, ReachesInOrder, is_of_aggregate, rows_of_aggregate, taken_ids, taken_of_aggregate}
 pub use Rattle.kob_pipeline.specs.Served.{served_by_notes, served_in, served_to}
 pub use Rattle.kob_pipeline.specs.Services.{IsServiceRun, IsServiceStep}
-pub use Rattle.kob_pipeline.specs.Steps.{Doing, Leads, Standing, Steps}
+pub use Rattle.kob_pipeline.specs.Steps.{Doing, HasWorked, Leads, Standing, Steps}
 pub use Rattle.kob_pipeline.specs.Taking.{IsTakenInOrder, from_place}
 pub use Rattle.kob_pipeline.specs.View.{Accepts, Does, IsGiven, IsHistory, IsSameView, Step, View, judged_in, opening_view, read_from, with_batch, with_commit, with_producer}
 pub use Rattle.kob_pipeline.specs.Waiting.{IsSent, IsWaitingOrSent}
-pub use Rattle.kob_pipeline.specs.Workers.{HasEnded, IsInboxLeft, IsKeptByStore, IsLeft, IsOutboxLeft, IsWhole, Planned, planned_as, planned_workers}
+pub use Rattle.kob_pipeline.specs.Workers.{HasEnded, IsInboxLeft, IsLeft, IsOutboxLeft, IsWhole, Planned, planned_as, planned_workers}
 pub use Rattle.kob_pipeline.specs.Workers.Planned.{Administering, Consuming, Serving}
 pub use Rattle.kob_pipeline.specs.declared.end.InboxEnd.{InboxEnd}
 pub use Rattle.kob_pipeline.specs.declared.end.OutboxEnd.{OutboxEnd}
 pub use Rattle.kob_pipeline.specs.declared.end.PipelineEnd.{PipelineEnd}
 pub use Rattle.kob_pipeline.specs.declared.end.WorkerEnd.{WorkerEnd}
-pub use Rattle.kob_pipeline.specs.declared.end.WorkerEnd.TheVariants.{Inbox, Outbox, StoreRefused}
+pub use Rattle.kob_pipeline.specs.declared.end.WorkerEnd.TheVariants.{Inbox, Outbox}
 pub use Rattle.kob_pipeline.specs.declared.plan.ConsumerPlan.{ConsumerPlan}
 pub use Rattle.kob_pipeline.specs.declared.plan.Plan.{Plan}
 pub use Rattle.kob_pipeline.specs.declared.plan.Service.{Service}
@@ -55,7 +55,7 @@ pub use Rattle.kob_producers.specs.declared.judge.Judgement.{Judgement}
 pub use Rattle.kob_producers.specs.declared.judge.Judgement.TheVariants.{Next, OldEpoch, OutOfOrder, Repeat}
 pub use Rattle.kob_producers.specs.declared.sent.Sent.{Sent}
 pub use Rattle.kob_rights.specs.Check.{Check, on_group, on_topic}
-pub use Rattle.kob_rights.specs.Table.{produce_rights, rights}
+pub use Rattle.kob_rights.specs.Table.{rights}
 pub use Rattle.kob_rights.specs.declared.reply.Body.{Body}
 pub use Rattle.kob_rights.specs.declared.reply.Reply.{Reply}
 pub use Rattle.kob_rights.specs.declared.reply.Reply.TheVariants.{Denied, Done, Refused}
@@ -82,12 +82,12 @@ pub use Rattle.kob_shared.specs.Runs.{IsAsNoted, IsFullOnlyPast, IsNamedWithin, 
 pub use Rattle.kob_shared.specs.declared.faults.CallFault.{CallFault}
 pub use Rattle.kob_shared.specs.declared.journal.Entry.{Entry}
 pub use Rattle.kob_shared.specs.declared.journal.Receipt.{Receipt}
-pub use Rattle.std.proofs.Common.{All, Bool, Err, IfOk, List, None, Ok, Option, Result, Some, [], ap, append-nil, append_assoc, arith, cond, drop, eqb-true, false, find, get_or, if◌then◌else◌, inl, inr, is_none, is_some, length, length-append, ltb, map, max, min, nat_eq, nat_lt, not, option_map, refl, slice_get, slice_index, slice_index_or, subst, suc, sym, take, take-suc, true, true≢false, zero, ℕ, ◌%◌, ◌&&◌, ◌++◌, ◌+◌, ◌-◌, ◌/◌, ◌<◌, ◌==◌, ◌^◌, ◌||◌, ◌∙◌, ◌∷◌, ◌≡◌, ◌≤◌, ◌⊎◌}
-pub use Rattle.std.proofs.lemmas.Bool.{and_from, and_parts, both_ways, cases_Bool, cases_cond, cases_eq, cond-false, eq-eqb, eqb-false, le-ltb, leb-false, lt-ltb, ltb-true}
+pub use Rattle.std.proofs.Common.{All, Bool, Err, IfOk, List, None, Ok, Option, Result, Some, [], ap, append-nil, append_assoc, arith, cond, drop, eqb-true, false, find, get_or, inl, inr, length, length-append, map, max, min, nat_eq, nat_lt, option_map, refl, slice_get, slice_index, slice_index_or, subst, suc, sym, take, take-suc, true, true≢false, zero, ℕ, ◌%◌, ◌&&◌, ◌++◌, ◌+◌, ◌-◌, ◌<◌, ◌==◌, ◌||◌, ◌∙◌, ◌∷◌, ◌≡◌, ◌≤◌, ◌⊎◌}
+pub use Rattle.std.proofs.lemmas.Bool.{and_from, and_parts, both_ways, cases_Bool, cond-false, eq-eqb, eqb-false, le-ltb, leb-false, lt-ltb, ltb-true}
 pub use Rattle.std.proofs.lemmas.Bool.Decides.{nat_tests}
 pub use Rattle.std.proofs.lemmas.Cmp.{nat_list_eq_equiv}
 pub use Rattle.std.proofs.lemmas.List.{append_cancel_left, drop-drop, get_or-drop, get_or-map, get_or_append_left, get_or_push, length-drop, length-map, length_push, map-append, map_push, take-append-drop, take_more}
-pub use Rattle.std.proofs.lemmas.List.Elements.{All-cons, All-contains, All-contains_itself, All-filter, All-from_recursion, All-nil, Contains-append_left, Contains-append_right, filter-append, filter_map-append, filter_passes, recursion_from_All}
+pub use Rattle.std.proofs.lemmas.List.Elements.{All-cons, All-contains, All-filter, All-from_recursion, All-nil, Contains-append_left, Contains-append_right, filter-append, filter_map-append, filter_passes, recursion_from_All}
 pub use Rattle.std.proofs.lemmas.List.Folds.{list_any-append}
 pub use Rattle.std.proofs.lemmas.List.Sums.{fold-append}
 pub use Rattle.std.proofs.lemmas.Option.{get_or_from_slice_get, slice_get-get_or, slice_get-map, slice_get_within}

@@ -1,6 +1,6 @@
 -- What the steps of a consumer do.
 use Rattle.std.specs.Prelude.{◌≡◌, List, [], ◌∷◌, map}
-use Rattle.std.specs.List.{All, enumerate_from}
+use Rattle.std.specs.List.{enumerate_from}
 use Rattle.kob_inbox.specs.Rows.{placed_intake}
 use Rattle.kob_inbox.specs.Run.{IsConsumerRun, Move, State, calls_of, start}
 use Rattle.kob_inbox.specs.Run.Move.{Restarted}
@@ -15,10 +15,10 @@ use Rattle.kob_pipeline.specs.declared.plan.ConsumerPlan.{ConsumerPlan}
 use Rattle.kob_pipeline.specs.declared.plan.ConsumerStep.{ConsumerStep}
 use Rattle.kob_pipeline.specs.declared.plan.ConsumerStep.TheVariants as steps
 use Rattle.kob_lines.specs.declared.lossy.Loss.{Loss}
-use Rattle.kob_pipeline.specs.Losses.{AreServedByLoss, losses_of}
-use Rattle.kob_router.specs.Served.{AreServed}
+use Rattle.kob_pipeline.specs.Losses.{AreServedByLoss}
+use Rattle.kob_router.specs.Served.{AreServed, Served}
 use Rattle.kob_pipeline.specs.Served.{served_by_notes}
-use Rattle.kob_pipeline.specs.Steps.{Steps}
+use Rattle.kob_pipeline.specs.Steps.{HasWorked}
 
 -- neither memory nor the database stopped the tick
 abbrev pub GoesOn : Tick → Type 0
@@ -28,35 +28,30 @@ GoesOn tick = Unit {0}
 
 -- a tick of the consumer: what it answers tells of its one move, whose call has the loss
 pub record IsConsumerTick (t : Subscription) (loss : Loss) (moves : List Move)
-    (losses : List Loss) : Type 0 where
+    (served : List Served) : Type 0 where
   pub tick : Tick
   pub goes_on : GoesOn tick
   pub answer : IsAnswer t tick moves
   pub made : unmade_by tick moves 0 ≡ 0
-  pub lost : losses ≡ losses_of loss (calls_of moves)
+  pub lost : AreServedByLoss loss (calls_of moves) served
 
 -- the moves of one step
-abbrev pub IsOfStep : Subscription → ConsumerStep → List Move → List Loss → Type 0
-IsOfStep t (steps.Tick loss) moves losses = IsConsumerTick t loss moves losses
-IsOfStep t steps.Restart moves losses = (moves ≡ Restarted ∷ []) × (losses ≡ [])
+abbrev pub IsOfStep : Subscription → ConsumerStep → List Move → List Served → Type 0
+IsOfStep t (steps.Tick loss) moves served = IsConsumerTick t loss moves served
+IsOfStep t steps.Restart moves served = (moves ≡ Restarted ∷ []) × (served ≡ [])
 
 -- what one step does
 pub record IsConsumerStep (t : Subscription) (old : State) (step : ConsumerStep)
-    (moves : List Move) (losses : List Loss) (new : State) : Type 0 where
+    (moves : List Move) (served : List Served) (new : State) : Type 0 where
   pub run : IsConsumerRun t old moves new
-  pub own : IsOfStep t step moves losses
+  pub own : IsOfStep t step moves served
 
 -- The steps of a consumer, with what it noted, are a consumer's run over an inbox that was empty,
 -- and this is left of the inbox. Its transcript tells which of the run's calls were served: all but
 -- those that were lost before.
 pub record IsConsumption (consumer : ConsumerPlan) (noted : Noted) (left : InboxEnd) : Type 0 where
-  pub moves : List Move
-  pub losses : List Loss
-  pub state : State
-  pub steps : Steps (IsConsumerStep consumer.subscription) start consumer.steps.items
-      moves losses state
-  pub run : IsConsumerRun consumer.subscription start moves state
-  pub served : AreServed (calls_of moves) (served_by_notes noted.events noted.told)
-  pub lost : AreServedByLoss losses (calls_of moves) (served_by_notes noted.events noted.told)
-  pub own : All (λ e. (e.principal ≡ consumer.principal) × (e.host ≡ consumer.host)) noted.events
-  pub rows : map placed_intake left.rows.items ≡ enumerate_from 1 state.inbox
+  pub work : HasWorked (IsConsumerStep consumer.subscription) start consumer.steps.items
+      consumer.principal consumer.host noted
+  pub run : IsConsumerRun consumer.subscription start work.moves work.state
+  pub served : AreServed (calls_of work.moves) (served_by_notes noted.events noted.told)
+  pub rows : map placed_intake left.rows.items ≡ enumerate_from 1 work.state.inbox

@@ -48,8 +48,8 @@ pub record TakesInOrder (plan : Plan) (end : PipelineEnd) (k : ℕ) (consumer : 
   pub left : InboxEnd
   pub done : HasDone end (consumer_place plan k) noted (Inbox left)
   pub run : IsConsumption consumer noted left
-  pub order : IsTakenInOrder place (records_at plan end place) (taken_of run.moves)
-  pub inbox : inbox_in left ≡ taken_in [] (taken_of run.moves)
+  pub order : IsTakenInOrder place (records_at plan end place) (taken_of run.work.moves)
+  pub inbox : inbox_in left ≡ taken_in [] (taken_of run.work.moves)
 
 -- no row that a service recorded is lost: it stands past the mark in the outbox that is left, or the
 -- journal has a PRODUCE of its record that was done

@@ -26,7 +26,7 @@ use Rattle.kob_pipeline.specs.Steps.{Leads, Steps, standing}
 -- the steps of a service lead to a state, and this is left of its outbox
 pub record IsOutboxLeft (service : Service) (old new : AtDesk) (left : OutboxEnd) : Type 0 where
   pub state : routers.State
-  pub leads : Leads (Steps (IsServiceStep (dispatch_of service.target))) routers.calls_of
+  pub leads : Leads (Steps (IsServiceStep (dispatch_of service.target)))
       (standing routers.start old) service.steps.items (standing state new)
   pub rows : map stored_row left.rows.items ≡ state.outbox.events
   pub mark : left.mark ≡ state.outbox.mark
@@ -34,7 +34,7 @@ pub record IsOutboxLeft (service : Service) (old new : AtDesk) (left : OutboxEnd
 -- the steps of a consumer lead to a state, and this is left of its inbox
 pub record IsInboxLeft (consumer : ConsumerPlan) (old new : AtDesk) (left : InboxEnd) : Type 0 where
   pub state : consumers.State
-  pub leads : Leads (Steps (IsConsumerStep consumer.subscription)) consumers.calls_of
+  pub leads : Leads (Steps (IsConsumerStep consumer.subscription))
       (standing consumers.start old) consumer.steps.items (standing state new)
   pub rows : map placed_intake left.rows.items ≡ enumerate_from 1 state.inbox
 

@@ -3,7 +3,7 @@
 ghost use Rattle.std.specs.Prelude.{◌≡◌, map, IfOk, OnErr, OnOk};
 ghost use Rattle.std.specs.List.{enumerate_from};
 ghost use Rattle.kob_inbox.specs.Rows.{placed_intake};
-ghost use Rattle.kob_inbox.specs.Run.{calls_of, start};
+ghost use Rattle.kob_inbox.specs.Run.{start};
 ghost use Rattle.kob_inbox.specs.Tick.{state_of};
 ghost use Rattle.kob_pipeline.specs.declared.plan.ConsumerStep.TheVariants as steps;
 ghost use Rattle.kob_pipeline.specs.Consumers.{GoesOn, IsConsumerStep};
@@ -54,7 +54,6 @@ impl Consuming {
     ) -> Result<(), StepFault>
         requires { line.old.calls.unmade ≡ 0 }
         ensures { OnOk result (Leads (Steps (IsConsumerStep self.old.consumer.subscription))
-            calls_of
             (standing (state_of self.old.consumer self.old.inbox) line.old.desk)
             steps.now
             (standing (state_of self.new.consumer self.new.inbox) line.new.desk)) }
@@ -78,7 +77,6 @@ impl Consuming {
         ensures same { OnOk result
             (self.new.consumer.subscription ≡ self.old.consumer.subscription) }
         ensures done { OnOk result (Leads (IsConsumerStep self.old.consumer.subscription)
-            calls_of
             (standing (state_of self.old.consumer self.old.inbox) line.old.desk)
             step.now
             (standing (state_of self.new.consumer self.new.inbox) line.new.desk)) }
@@ -104,7 +102,6 @@ impl Consuming {
         ensures same { OnOk result
             (self.new.consumer.subscription ≡ self.old.consumer.subscription) }
         ensures done { OnOk result (Leads (IsConsumerStep self.old.consumer.subscription)
-            calls_of
             (standing (state_of self.old.consumer self.old.inbox) line.old.desk)
             (steps.Tick loss)
             (standing (state_of self.new.consumer self.new.inbox) line.new.desk)) }

@@ -6,7 +6,7 @@ ghost use Rattle.std.specs.Prelude.{vec_capacity, vec_len};
 ghost use Rattle.kob_lines.specs.Heard.{reply_of};
 ghost use Rattle.kob_rights.specs.Bodies.{Fits};
 ghost use Rattle.kob_rights.specs.Offsets.{OffsetsWithin};
-ghost use Rattle.kob_pipeline.specs.Losses.{AreNoted};
+ghost use Rattle.kob_pipeline.specs.Losses.{AreNotedOrLost};
 ghost use Rattle.kob_router.specs.Line.{Adds, IsFaithful};
 
 use kob_lines::{Calls, Loss};
@@ -114,7 +114,7 @@ impl<'a, R: Wait, G: Gate> DeskLine<'a, R, G> {
         ensures loss { self.new.loss ≡ self.old.loss }
         ensures fault { self.new.fault ≡ None → self.old.fault ≡ None }
         ensures unsent { loss ≡ Loss.BeforeServe → self.new ≡ self.old }
-        ensures noted { self.new.fault ≡ None → AreNoted (loss ∷ [])
+        ensures noted { self.new.fault ≡ None → AreNotedOrLost loss
             (record { request = request; heard = result } ∷ []) self.old.desk self.new.desk }
         ensures fits { IfSome result (λ reply. Fits request reply) }
         ensures within { IfSome result (λ reply. OffsetsWithin reply) }
@@ -139,7 +139,7 @@ impl<'a, R: Wait, G: Gate> DeskLine<'a, R, G> {
         ensures loss { self.new.loss ≡ self.old.loss }
         ensures fault { IfSome result (λ _. self.new.fault ≡ self.old.fault) }
         ensures unserved { IfNone result (self.new.fault ≡ None → ⊥) }
-        ensures noted { IfSome result (λ reply. AreNoted (Loss.None ∷ [])
+        ensures noted { IfSome result (λ reply. AreNotedOrLost Loss.None
             (record { request = request; heard = Some reply } ∷ []) self.old.desk self.new.desk) }
         ensures fits { IfSome result (λ reply. Fits request reply) }
         ensures within { IfSome result (λ reply. OffsetsWithin reply) }
@@ -233,7 +233,7 @@ fn reply_at<R: Wait>(
     desk: &mut Desk<'_>,
     request: Request,
 ) -> Result<Reply, CallFault>
-    ensures noted { IfOk result (λ reply. AreNoted (Loss.None ∷ [])
+    ensures noted { IfOk result (λ reply. AreNotedOrLost Loss.None
         (record { request = request; heard = Some reply } ∷ []) desk.old desk.new) }
     ensures fits { IfOk result (λ reply. Fits request reply) }
     ensures within { IfOk result (λ reply. OffsetsWithin reply) }

@@ -7,7 +7,7 @@ ghost use Rattle.kob_outbox.specs.Fields.{first_bad};
 ghost use Rattle.kob_outbox.specs.Reading.{later_than};
 ghost use Rattle.kob_outbox.specs.Recording.{is_recorded, next_seq};
 ghost use Rattle.kob_router.specs.Dispatches.{dispatch_of};
-ghost use Rattle.kob_router.specs.Run.{calls_of, start};
+ghost use Rattle.kob_router.specs.Run.{start};
 ghost use Rattle.kob_router.specs.Tick.{IsFirst, hand_of, state_of};
 ghost use Rattle.kob_pipeline.specs.declared.plan.ServiceStep.TheVariants as steps;
 ghost use Rattle.kob_pipeline.specs.Firsts.{IsPrefixOf};
@@ -64,7 +64,6 @@ impl Posting {
         requires first { IsFirst (option_map hand_of self.old.router.hand) self.old.outbox }
         requires made { line.old.calls.unmade ≡ 0 }
         ensures { OnOk result (Leads (Steps (IsServiceStep (dispatch_of self.old.router.target)))
-            calls_of
             (standing (state_of self.old.router self.old.outbox) line.old.desk)
             steps.now
             (standing (state_of self.new.router self.new.outbox) line.new.desk)) }
@@ -90,7 +89,6 @@ impl Posting {
         ensures made { OnOk result (line.new.calls.unmade ≡ 0) }
         ensures same { OnOk result (self.new.router.target ≡ self.old.router.target) }
         ensures done { OnOk result (Leads (IsServiceStep (dispatch_of self.old.router.target))
-            calls_of
             (standing (state_of self.old.router self.old.outbox) line.old.desk)
             step.now
             (standing (state_of self.new.router self.new.outbox) line.new.desk)) }
@@ -114,7 +112,7 @@ impl Posting {
             self.new.outbox) }
         ensures same { OnOk result (self.new.router ≡ self.old.router) }
         ensures done { OnOk result ((desk : AtDesk)
-            → Leads (IsServiceStep (dispatch_of self.old.router.target)) calls_of
+            → Leads (IsServiceStep (dispatch_of self.old.router.target))
             (standing (state_of self.old.router self.old.outbox) desk)
             (steps.Record change.now event.now)
             (standing (state_of self.new.router self.new.outbox) desk)) }
@@ -141,7 +139,7 @@ impl Posting {
             self.new.outbox) }
         ensures same { OnOk result (self.new.router ≡ self.old.router) }
         ensures done { OnOk result ((desk : AtDesk)
-            → Leads (IsServiceStep (dispatch_of self.old.router.target)) calls_of
+            → Leads (IsServiceStep (dispatch_of self.old.router.target))
             (standing (state_of self.old.router self.old.outbox) desk)
             steps.Sweep
             (standing (state_of self.new.router self.new.outbox) desk)) }
@@ -164,7 +162,6 @@ impl Posting {
         ensures made { OnOk result (line.new.calls.unmade ≡ 0) }
         ensures same { OnOk result (self.new.router.target ≡ self.old.router.target) }
         ensures done { OnOk result (Leads (IsServiceStep (dispatch_of self.old.router.target))
-            calls_of
             (standing (state_of self.old.router self.old.outbox) line.old.desk)
             (steps.Tick loss)
             (standing (state_of self.new.router self.new.outbox) line.new.desk)) }

@@ -1,5 +1,4 @@
 use Rattle.std.proofs.Common.{◌≡◌, take}
-use Rattle.kob_inbox.specs.Run.{calls_of}
 use Rattle.kob_inbox.specs.Tick.{state_of}
 use Rattle.kob_pipeline.specs.Consumers.{IsConsumerStep}
 use Rattle.kob_pipeline.specs.Steps.{Leads, Steps, standing}
@@ -9,7 +8,7 @@ abbrev pub invariant-loop-step : goal.invariant-loop-step
 invariant-loop-step g l =
     (l.line.calls.unmade ≡ 0)
     × (l.self.consumer.subscription ≡ l.fn.self.consumer.subscription)
-    × Leads (Steps (IsConsumerStep l.fn.self.consumer.subscription)) calls_of
+    × Leads (Steps (IsConsumerStep l.fn.self.consumer.subscription))
     (standing (state_of l.fn.self.consumer l.fn.self.inbox) l.fn.line.desk)
     (take l.step-index l.steps)
     (standing (state_of l.self.consumer l.self.inbox) l.line.desk)

@@ -15,7 +15,7 @@ returns-in-Ok-clause-first c =
 pub returns-in-Ok-clause-done : goal.returns-in-Ok-clause-done
 returns-in-Ok-clause-done c = λ desk.
     let made = c.in-Ok.ensures in
-    leads_still (Recorded c.args.change.now c.args.event.now ∷ []) refl
+    leads_still (Recorded c.args.change.now c.args.event.now ∷ [])
     (record {
       run = (
         record { fits = made.good; fresh = made.fresh; room = made.room },

@@ -1,5 +1,4 @@
 use Rattle.std.proofs.Common.{length, ◌<◌, arith, refl, ◌∙◌}
-use Rattle.kob_router.proofs.Runs.{calls_append}
 use Rattle.kob_pipeline.proofs.Worked.{leads_more, no_step}
 use Rattle.kob_pipeline.proofs.posting.Posting.run.Goals as goal
 
@@ -11,9 +10,9 @@ loop-step-preserved g c =
       made.made,
       made.first,
       made.same ∙ was.invariant.2,
-      leads_more c.args.steps.now was.step-index calls_append within c.step-item.is was.invariant.3
+      leads_more c.args.steps.now was.step-index within c.step-item.is was.invariant.3
           (rw was.invariant.2 at made.done),
     )
 
 pub loop-step-init : goal.loop-step-init
-loop-step-init g c = (c.requires.made, c.requires.first, refl, no_step c.args.line.now.desk refl)
+loop-step-init g c = (c.requires.made, c.requires.first, refl, no_step c.args.line.now.desk)

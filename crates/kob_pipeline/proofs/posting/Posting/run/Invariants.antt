@@ -1,5 +1,4 @@
 use Rattle.kob_pipeline.proofs.Words.{IsServiceStep, dispatch_of, option_map, take, ◌≡◌}
-use Rattle.kob_router.specs.Run.{calls_of}
 use Rattle.kob_router.specs.Tick.{IsFirst, hand_of, state_of}
 use Rattle.kob_pipeline.specs.Steps.{Leads, Steps, standing}
 use Rattle.kob_pipeline.proofs.posting.Posting.run.Given as goal
@@ -9,7 +8,7 @@ invariant-loop-step g l =
     (l.line.calls.unmade ≡ 0)
     × IsFirst (option_map hand_of l.self.router.hand) l.self.outbox
     × (l.self.router.target ≡ l.fn.self.router.target)
-    × Leads (Steps (IsServiceStep (dispatch_of l.fn.self.router.target))) calls_of
+    × Leads (Steps (IsServiceStep (dispatch_of l.fn.self.router.target)))
     (standing (state_of l.fn.self.router l.fn.self.outbox) l.fn.line.desk)
     (take l.step-index l.steps)
     (standing (state_of l.self.router l.self.outbox) l.line.desk)

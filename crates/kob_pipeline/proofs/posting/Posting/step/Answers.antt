@@ -6,5 +6,5 @@ use Rattle.kob_pipeline.proofs.posting.Posting.step.Goals as goal
 pub returns-in-Restart-clause-done : goal.returns-in-Restart-clause-done
 returns-in-Restart-clause-done g c =
     rw c.in-Restart.is
-    (leads_still (Restarted ∷ []) refl
+    (leads_still (Restarted ∷ [])
     (record { run = (tt, c.restart.ensures.done c.args.self.now.outbox); own = (refl, refl) }))

@@ -12,5 +12,5 @@ returns-clause-first c =
 
 pub returns-clause-done : goal.returns-clause-done
 returns-clause-done c = λ desk.
-    leads_still (Swept ∷ []) refl
+    leads_still (Swept ∷ [])
     (record { run = (tt, ap (state_of c.args.self.now.router) c.in_ok-sweep.ensures.ok); own = (refl, refl) })
