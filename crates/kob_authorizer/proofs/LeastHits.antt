@@ -1,5 +1,6 @@
 -- The least hits of some serials, one by one and list by list.
-use Rattle.kob_authorizer.proofs.Words.{Binding, Bool, Hits, List, Question, [], ap, append-nil, append_assoc, arith, fold, least_hits, least_passing, lesser_hits, nat_tests, no_hits, passes_at, sym, then_some, ℕ, ◌++◌, ◌∙◌, ◌∷◌, ◌≡◌}
+use Rattle.kob_authorizer.proofs.Words.{Binding, Bool, Hits, List, Question, [], ap, append-nil, append_assoc, arith, fold, least_hits, least_passing, lesser_hits, nat_tests, no_hits, passes_at, sym, then_some, ℕ, ◌++◌, ◌∙◌, ◌∷◌, ◌≡◌, common_steps}
+use Rattle.kob_authorizer.proofs.Halving.{passes_none, passes_some}
 use Rattle.kob_authorizer.proofs.LeastPassing.{least_of_two}
 
 -- a serial alone is the least that passes, if it does
@@ -28,3 +29,5 @@ module _ (entries : List (ℕ × Binding)) (question : Question) where
   -- serial after serial the least hits come together
   pub one_by_one : (xs : List ℕ) → fold with_serial no_hits xs ≡ least_hits entries question xs
   one_by_one xs = hits_from [] xs
+
+pub ruleset one_hit = (common_steps, passes_alone, passes_none, passes_some)

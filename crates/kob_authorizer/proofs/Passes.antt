@@ -1,5 +1,5 @@
 -- One pass along the serials of a place takes out those of the entries that go, and leaves those of the others.
-use Rattle.kob_authorizer.proofs.Words.{Binding, Bool, IsRising, List, PatternKind, ResourceKind, [], arith, cond, entries_on, eq-eqb, filter, is_place, nat_tests, ne_eqb, not, pattern_place, refl, same_resource, serials_at, without_in_turn, ℕ, ◌&&◌, ◌+◌, ◌∷◌, ◌≡◌, ◌≤◌, none_sought}
+use Rattle.kob_authorizer.proofs.Words.{Binding, Bool, IsRising, List, PatternKind, ResourceKind, [], arith, cond, entries_on, eq-eqb, filter, is_place, nat_tests, ne_eqb, not, pattern_place, refl, same_resource, serials_at, without_in_turn, ℕ, ◌&&◌, ◌+◌, ◌∷◌, ◌≡◌, ◌≤◌, none_sought, sym, ◌∙◌}
 use Rattle.kob_authorizer.proofs.Rising.{rising_filter}
 
 -- no serial is below a bound
@@ -74,18 +74,9 @@ module _ (resource : ResourceKind) (kind : PatternKind) (key : List ℕ) where
       ≡ serials_there (filter (λ e. not (test e)) xs)
   pass_again test low high [] rising = refl
   pass_again test low high (x ∷ xs) rising =
-      grind (
-        arith,
-        nat_tests,
-        one_more_kept,
-        again_step,
-        pass_again test (x.0 + 1) high xs rising.1,
-        from_lower,
-        not_there,
-        stays,
-        pass_step,
-        one_more_there,
-        there_from,
-        kept_from,
-        pass_leaves,
-      )
+      let other : ℕ × Binding → Bool = λ e. not (test e) in
+      (λ i. without_in_turn (one_more_kept test x xs i) (one_more_kept other x xs i))
+      ∙ again_step (test x) (stands_at x) x.0 (serials_there (filter test xs)) (serials_there (filter other xs))
+      (kept_from test (x.0 + 1) high xs rising.1) (kept_from other (x.0 + 1) high xs rising.1)
+      (pass_again test (x.0 + 1) high xs rising.1)
+      ∙ sym (one_more_kept other x xs)

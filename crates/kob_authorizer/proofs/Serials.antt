@@ -1,5 +1,5 @@
 -- The serial of a binding in two lists, one after the other.
-use Rattle.kob_authorizer.proofs.Words.{Binding, List, None, Some, [], ap, arith, enumerate_from, find-append, is_among, is_in_force, is_some, length, nat_tests, option_map, option_or, refl, serial_of, ℕ, ◌++◌, ◌+◌, ◌∙◌, ◌∷◌, ◌≡◌}
+use Rattle.kob_authorizer.proofs.Words.{Binding, List, None, Some, [], ap, arith, enumerate_from, find-append, is_among, is_in_force, is_some, length, nat_tests, option_map, option_or, refl, serial_of, ℕ, ◌++◌, ◌+◌, ◌∙◌, ◌∷◌, ◌≡◌, common_steps}
 
 -- the serial in two lists is that in the first, where there is one
 pub serial_of_append : (binding : Binding) (xs ys : List (ℕ × Binding))
@@ -60,3 +60,5 @@ moved_some next place bindings b found = ap (option_map (λ place. next + place)
 pub moved_none : (next : ℕ) (bindings : List Binding) (b : Binding) → None ≡ serial_of (enumerate_from 0 bindings) b
     → None ≡ serial_of (enumerate_from next bindings) b
 moved_none next bindings b found = ap (option_map (λ place. next + place)) found ∙ moved next bindings b
+
+pub ruleset in_either = (common_steps, serial_of_append_some, serial_of_append_none)

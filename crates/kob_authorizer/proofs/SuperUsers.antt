@@ -21,3 +21,5 @@ texts_hold_beside texts (user ∷ users) text =
 
 pub texts_hold : (users : List (List ℕ)) (text : List ℕ) → holds_text (texts_of users) text ≡ is_super users text
 texts_hold users text = grind (arith, nat_tests, texts_hold_beside, held_empty)
+
+pub ruleset listed_texts = (common_steps, texts_hold)

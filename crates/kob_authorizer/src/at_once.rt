@@ -84,6 +84,7 @@ pub fn serials_in(
 
 /// The serial of the first entry with an equal binding: one in force, or otherwise a new one. The
 /// new ones get the serials from `next` on.
+#[tactic(auto, using(crate::proofs::Serials::in_either))]
 fn serial_in_either(
     entries: &[(u64, Binding)],
     keys: &PrefixTree,

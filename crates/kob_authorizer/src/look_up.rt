@@ -101,6 +101,7 @@ fn hits_at(entries: &[(u64, Binding)], names: Part<'_>, question: &Question) -> 
 }
 
 /// The serial, if its binding is a hit.
+#[tactic(auto, using(crate::proofs::LeastHits::one_hit))]
 fn hit_with(entries: &[(u64, Binding)], serial: u64, question: &Question) -> Hits
     requires { AreRising entries.now }
     ensures { result ≡ least_hits entries.now (question_view question.now) (serial ∷ []) }

@@ -64,6 +64,7 @@ impl SuperUsers {
     }
 
     /// Whether the principal is equal to a super user. Does not allocate.
+    #[tactic(auto, using(crate::proofs::SuperUsers::listed_texts))]
     pub fn contains(&self, who: &Principal) -> bool
         ensures { result ≡ is_super self.now who.now }
     {

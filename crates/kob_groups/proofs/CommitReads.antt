@@ -5,13 +5,11 @@ use Rattle.kob_groups.proofs.Maps.{found_inserted}
 -- the value that is read, or none
 or_none : {X : Type 0} (b : Bool) (x : List X) (found : Option (List X))
     → unwrap_or (cond b (Some x) found) [] ≡ cond b x (unwrap_or found [])
-or_none true x found = refl
-or_none false x found = refl
+or_none b x found = grind (arith, nat_tests)
 
 none_or : {X Y : Type 0} (read : List X → Option Y) (b : Bool) (found : Option (List X)) → read [] ≡ None
     → read (unwrap_or (cond b None found) []) ≡ cond b None (read (unwrap_or found []))
-none_or read true found nothing = nothing
-none_or read false found nothing = refl
+none_or read b found nothing = grind (arith, nat_tests)
 
 -- the test of equality of places
 abbrev pub same_place : CommitPlace → CommitPlace → Bool

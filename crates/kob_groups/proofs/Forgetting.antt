@@ -1,8 +1,7 @@
 -- What is left when the commits on a topic go from the groups of some names.
-use Rattle.kob_groups.proofs.Words.{AllByRecursion, AreListed, Bool, Commits, Groups, GroupsByTopic, IsDistinct, IsDistinct-head, IsDistinct-tail, List, None, Some, [], ap, arith, commits_in, cond, equal_names, false, groups_in, has_commits, is_listed, is_some, keys_of, lookup, nat_list_eq_equiv, nat_tests, none_of, not, refl, removed_absent, removed_others, same_text, set_value, slice_get, subst, suc, sym, true, without_offsets, without_topic, without_topic_at, ℕ, ◌||◌, ◌∙◌, ◌∷◌, ◌≡◌}
+use Rattle.kob_groups.proofs.Words.{AllByRecursion, AreListed, Bool, Commits, Groups, GroupsByTopic, IsDistinct, IsDistinct-head, IsDistinct-tail, List, None, Some, [], ap, arith, commits_in, cond, equal_names, false, groups_in, has_commits, is_listed, is_some, keys_of, keys_of-map_values, lookup, nat_list_eq_equiv, nat_tests, none_of, refl, removed_absent, removed_others, same_text, set_value, slice_get, subst, suc, sym, true, without_offsets, without_topic, without_topic_at, ℕ, ◌||◌, ◌∙◌, ◌∷◌, ◌≡◌}
 use Rattle.kob_groups.specs.declared.commits.Commits.{Commits as CommitsKept}
 use Rattle.kob_groups.proofs.Listings.{Group, each_listed}
-use Rattle.kob_groups.proofs.Maps.{seen_keys}
 
 abbrev pub Entries : Type 0
 Entries = List (List ℕ × CommitsKept)
@@ -30,20 +29,7 @@ pub forgotten_first : {V : Type 0} (name topic : List ℕ) (value : V) (names : 
     → without_topic_at (λ other. is_some (lookup (same_text other) names)) topic
     (without_topic_at (same_text name) topic groups)
     ≡ without_topic_at (λ other. is_some (lookup (same_text other) ((name, value) ∷ names))) topic groups
-forgotten_first name topic value names groups =
-    forgotten_twice (same_text name) (λ other. is_some (lookup (same_text other) names)) topic groups
-    ∙ (λ j. without_topic_at (λ other. one other j) topic groups)
-  where
-    by : (other : List ℕ) (hit : Bool) → (hit || is_some (lookup (same_text other) names))
-        ≡ is_some (cond hit (Some value) (lookup (same_text other) names))
-    by other true = refl
-    by other false = refl
-
-    one : (other : List ℕ) → (same_text name other || is_some (lookup (same_text other) names))
-        ≡ is_some (lookup (same_text other) ((name, value) ∷ names))
-    one other =
-        ap (λ b. b || is_some (lookup (same_text other) names)) (nat_list_eq_equiv.symm name other)
-        ∙ by other (same_text other name)
+forgotten_first name topic value names groups = grind (arith, nat_tests, forgotten_twice, is_some, nat_list_eq_equiv)
 
 pub forgotten_none : (topic : List ℕ) (groups : Groups) → without_topic_at (λ other. false) topic groups ≡ groups
 forgotten_none topic [] = refl
@@ -98,14 +84,8 @@ forgotten_all : (passes : List ℕ → Bool) (topic : List ℕ) (groups : Groups
     → without_topic_at passes topic groups ≡ without_topic topic groups
 forgotten_all passes topic [] all = refl
 forgotten_all passes topic (group ∷ groups) all =
-    λ i. (group.0, by (passes group.0) refl (has_commits topic group.1) refl i)
-    ∷ forgotten_all passes topic groups (λ place. all (suc place)) i
-  where
-    by : (hit : Bool) → passes group.0 ≡ hit → (some : Bool) → has_commits topic group.1 ≡ some
-        → cond hit (without_offsets topic group.1) group.1 ≡ without_offsets topic group.1
-    by true is some has = refl
-    by false is false has = sym (absent_stay topic group.1 (none_of (lookup (same_text topic) group.1) has))
-    by false is true has = let passed = all 0 group refl has in cc
+    let rest = forgotten_all passes topic groups (λ place. all (suc place)) in let first = all 0 group in
+    grind (arith, nat_tests, absent_stay topic group.1, none_of (lookup (same_text topic) group.1))
 
 -- where those pass that are listed for the topic
 pub forgotten_listed : (entries : Entries) (lists : GroupsByTopic) (topic : List ℕ) (passes : List ℕ → Bool)
@@ -113,4 +93,4 @@ pub forgotten_listed : (entries : Entries) (lists : GroupsByTopic) (topic : List
     → ((group : List ℕ) → passes group ≡ is_listed topic group lists)
     → without_topic_at passes topic (groups_in entries) ≡ without_topic topic (groups_in entries)
 forgotten_listed entries lists topic passes listed distinct same =
-    grind (arith, nat_tests, forgotten_all, each_listed, seen_keys commits_in entries)
+    grind (arith, nat_tests, forgotten_all, each_listed, keys_of-map_values commits_in entries)

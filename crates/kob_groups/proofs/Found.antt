@@ -1,13 +1,12 @@
 -- What is found in what the maps of the groups show.
-use Rattle.kob_groups.proofs.Words.{List, None, Some, [], ap, commits_in, commits_of, cond, groups_in, has_group, is_some, length, length-map, lookup, lookup-map_values, lookup-set_value, name_is, nat_list_eq_equiv, offsets_in, offsets_on, one_name, option_map, remove_entry, same_text, set_value, set_value_mapped, set_value_same, some_mapped, stands_there, true, unwrap_or, without_group, ℕ, ◌∙◌, ◌≡◌}
-use Rattle.kob_groups.proofs.Maps.{seen_removed}
+use Rattle.kob_groups.proofs.Words.{List, None, Some, [], ap, commits_in, commits_of, cond, groups_in, has_group, is_some, length, length-map, lookup, lookup-map_values, lookup-set_value, name_is, nat_list_eq_equiv, offsets_in, offsets_on, one_name, option_map, remove_entry, same_text, set_value, set_value_mapped, set_value_same, stands_there, true, unwrap_or, without_group, ℕ, ◌∙◌, ◌≡◌, common_steps}
+use Rattle.kob_groups.proofs.Names.{alike_written}
+use Rattle.kob_groups.proofs.Maps.{seen_has, seen_removed}
 use Rattle.kob_groups.specs.declared.commits.Commits.{Commits as CommitsKept}
 
 pub has_found : (name : List ℕ) (entries : List (List ℕ × CommitsKept))
     → has_group name (groups_in entries) ≡ is_some (lookup (same_text name) entries)
-has_found name entries =
-    ap is_some (lookup-map_values commits_in (same_text name) entries)
-    ∙ some_mapped commits_in (lookup (same_text name) entries)
+has_found name entries = seen_has commits_in (same_text name) entries
 
 pub count_found : (entries : List (List ℕ × CommitsKept)) → length (groups_in entries) ≡ length entries
 count_found entries = length-map entries (λ group. (group.0, commits_in group.1))
@@ -47,3 +46,6 @@ groups_removed name entries gone = seen_removed commits_in (same_text name) entr
 
 -- what a commit is reserved by
 pub ruleset reserving = (commits_found, offsets_found, groups_as_before, written_found, name_is, stands_there)
+
+-- what a place in a list is reserved by
+pub ruleset reserving_name = (common_steps, alike_written, written_found, is_some)

@@ -1,5 +1,5 @@
 -- How each change of the groups keeps those listed for a topic that have commits on it.
-use Rattle.kob_groups.proofs.Words.{AllByRecursion, AreListed, Bool, CommitPlace, Commits, Groups, GroupsByTopic, IsDistinct, IsDistinct-head, IsDistinct-tail, List, None, Option, Some, [], ap, arith, commits_of, cond, equal_names, false, has_commits, insert_entry, is_listed, is_pair, is_some, keys_of, lookup, lookup-map_values, lookup_without, nat_eq, nat_list_eq_equiv, nat_tests, not, offsets_on, option_map, refl, same_name, same_text, slice_get, suc, sym, true, unwrap_or, with_commit, with_offset, without_group, without_offsets, without_topic, zero, ℕ, ◌&&◌, ◌||◌, ◌∙◌, ◌∷◌, ◌≡◌}
+use Rattle.kob_groups.proofs.Words.{AllByRecursion, AreListed, Bool, CommitPlace, Commits, Groups, GroupsByTopic, IsDistinct, IsDistinct-head, IsDistinct-tail, List, None, Option, Some, [], ap, arith, commits_of, cond, equal_names, false, has_commits, is_listed, is_pair, is_some, keys_of, lookup, lookup-map_values, lookup_without, nat_list_eq_equiv, nat_tests, not, option_map, refl, same_name, same_text, slice_get, suc, sym, true, unwrap_or, with_commit, with_offset, without_group, without_offsets, without_topic, zero, ℕ, ◌&&◌, ◌||◌, ◌∙◌, ◌∷◌, ◌≡◌}
 use Rattle.kob_groups.proofs.Maps.{found_inserted}
 
 abbrev pub Group : Type 0
@@ -8,58 +8,23 @@ Group = List ℕ × Commits
 -- commits after an offset is put in
 put_commits : (topic t : List ℕ) (partition offset : ℕ) (commits : Commits)
     → has_commits t (with_offset topic partition offset commits) ≡ (same_text topic t || has_commits t commits)
-put_commits topic t partition offset commits =
-    ap is_some (found_inserted nat_list_eq_equiv commits topic t (insert_entry nat_eq (offsets_on topic commits) partition offset))
-    ∙ by (same_text topic t)
-  where
-    by : (b : Bool)
-        → is_some (cond b (Some (insert_entry nat_eq (offsets_on topic commits) partition offset))
-        (lookup (same_text t) commits))
-        ≡ (b || has_commits t commits)
-    by true = refl
-    by false = refl
+put_commits topic t partition offset commits = grind (arith, nat_tests, found_inserted nat_list_eq_equiv commits topic t)
 
 pub listed_committed : (groups : Groups) (old new : GroupsByTopic) (place : CommitPlace) (offset : ℕ)
     → AreListed groups old
     → ((t g : List ℕ) → is_listed t g new ≡ (is_pair place.topic place.group t g || is_listed t g old))
     → AreListed (with_commit place offset groups) new
 listed_committed groups old new place offset listed put topic group =
-    grind (
-      arith,
-      nat_tests,
-      unwrap_or,
-      found_inserted nat_list_eq_equiv groups place.group group,
-      put_commits place.topic topic place.partition offset (commits_of place.group groups),
-      equal_names place.group group,
-    )
+    let found = found_inserted nat_list_eq_equiv groups place.group group in
+    let commits = put_commits place.topic topic place.partition offset (commits_of place.group groups) in
+    let same = equal_names place.group group in grind (arith, nat_tests, unwrap_or)
 
 pub listed_removed : (groups : Groups) (old new : GroupsByTopic) (name : List ℕ) → AreListed groups old
     → ((t g : List ℕ) → is_listed t g new
     ≡ (is_listed t g old && not (same_text name g && has_commits t (commits_of name groups))))
     → AreListed (without_group name groups) new
 listed_removed groups old new name listed left topic group =
-    left topic group
-    ∙ ap (λ b. b && not (same_text name group && has_commits topic (commits_of name groups))) (listed topic group)
-    ∙ by (same_text name group) refl
-    ∙ sym (ap (λ found. has_commits topic (unwrap_or found [])) (lookup_without name group groups))
-  where
-    none : (b : Bool) → (b && not (true && b)) ≡ false
-    none true = refl
-    none false = refl
-
-    all : (a b : Bool) → (a && not (false && b)) ≡ a
-    all true b = refl
-    all false b = refl
-
-    by : (hit : Bool) → same_text name group ≡ hit
-        → (has_commits topic (commits_of group groups)
-        && not (hit && has_commits topic (commits_of name groups)))
-        ≡ has_commits topic (unwrap_or (cond hit None (lookup (same_text group) groups)) [])
-    by true is =
-        ap (λ n. has_commits topic (commits_of n groups) && not (true && has_commits topic (commits_of name groups)))
-        (sym (equal_names name group is))
-        ∙ none (has_commits topic (commits_of name groups))
-    by false is = all (has_commits topic (commits_of group groups)) (has_commits topic (commits_of name groups))
+    grind (arith, nat_tests, left topic group, listed topic group, lookup_without name group groups, equal_names name group)
 
 pub listed_forgotten : (groups : Groups) (old new : GroupsByTopic) (topic : List ℕ) → AreListed groups old
     → ((t g : List ℕ) → is_listed t g new ≡ (not (same_text topic t) && is_listed t g old))
@@ -98,22 +63,18 @@ own_entry : {X : Type 0} (entries : List (List ℕ × X)) (place : ℕ) (e : Lis
 own_entry [] place e distinct there = cc
 own_entry {X} (head ∷ entries) zero e distinct there = grind (arith, nat_tests, same_name)
 own_entry {X} (head ∷ entries) (suc place) e distinct there =
-    ap (λ b. cond b (Some head.1) (lookup (same_text e.0) entries))
-    (nat_list_eq_equiv.symm e.0 head.0
-    ∙ names_apart (λ k. same_text head.0 k ≡ false) entries place e
-    (IsDistinct-head same_text head.0 (keys_of entries) distinct) there)
-    ∙ own_entry entries place e (IsDistinct-tail same_text head.0 (keys_of entries) distinct) there
+    let apart = names_apart (λ k. same_text head.0 k ≡ false) entries place e
+    (IsDistinct-head same_text head.0 (keys_of entries) distinct) there in
+    let later = own_entry entries place e (IsDistinct-tail same_text head.0 (keys_of entries) distinct) there in
+    grind (arith, nat_tests, nat_list_eq_equiv.symm e.0 head.0)
 
 -- a group with commits on a topic is listed for it
 pub each_listed : (groups : Groups) (lists : GroupsByTopic) (topic : List ℕ) → AreListed groups lists
     → IsDistinct same_text (keys_of groups) → (place : ℕ) (group : Group) → slice_get groups place ≡ Some group
     → has_commits topic group.1 ≡ true → is_listed topic group.0 lists ≡ true
 each_listed groups lists topic listed distinct place group there some =
-    listed topic group.0
-    ∙ ap (λ found. has_commits topic (unwrap_or found [])) (own_entry groups place group distinct there) ∙ some
+    let own = own_entry groups place group distinct there in grind (arith, nat_tests, listed topic group.0)
 
 -- where no list is left to leave
 pub none_to_leave : (listed here : Bool) → listed ≡ (listed && not (here && false))
-none_to_leave true true = refl
-none_to_leave true false = refl
-none_to_leave false here = refl
+none_to_leave listed here = grind (arith, nat_tests)

@@ -1,5 +1,5 @@
 -- What a map shows whose values are seen by a part of them: the same for groups and for topics.
-use Rattle.kob_groups.proofs.Words.{Bool, Err, IsEquivalence, List, None, Ok, OnErr, Result, Some, [], ap, arith, cases_Bool, cond, filter, insert_entry, is_some, keys_of, keys_of-map_values, length, length-map, lookup, lookup-map_values, map, map_filter, nat_tests, not, refl, remove_entry, removed_others, set_value, set_value_mapped, set_value_same, some_mapped, unwrap_or, ◌++◌, ◌∙◌, ◌∷◌, ◌≡◌}
+use Rattle.kob_groups.proofs.Words.{Bool, IsEquivalence, List, None, OnErr, Result, Some, [], ap, arith, cases_Bool, cond, filter, insert_entry, is_some, lookup, lookup-map_values, map, map_filter, nat_tests, not, refl, remove_entry, removed_others, set_value, set_value_mapped, set_value_same, some_mapped, unwrap_or, ◌++◌, ◌∙◌, ◌∷◌, ◌≡◌}
 
 module _ {K X : Type 0} (same : K → K → Bool) where
   -- a write of a key that is there is an insertion
@@ -33,12 +33,6 @@ module _ {K X Y : Type 0} (part : X → Y) where
       → unwrap_or (lookup test (seen entries)) none ≡ none
   seen_none test entries none absent = grind (arith, nat_tests, unwrap_or, lookup-map_values)
 
-  pub seen_keys : (entries : List (K × X)) → keys_of (seen entries) ≡ keys_of entries
-  seen_keys entries = keys_of-map_values part entries
-
-  pub seen_length : (entries : List (K × X)) → length (seen entries) ≡ length entries
-  seen_length entries = length-map entries (λ entry. (entry.0, part entry.1))
-
   -- whether a key is there
   pub seen_has : (test : K → Bool) (entries : List (K × X))
       → is_some (lookup test (seen entries)) ≡ is_some (lookup test entries)
@@ -64,13 +58,8 @@ module _ {K X Y : Type 0} (part : X → Y) where
       → seen (entries ++ (key, final) ∷ [])
       ≡ insert_entry same (seen entries) key (change (unwrap_or (lookup (same key) (seen entries)) none))
   seen_put same entries key final none change absent changed =
-      grind (
-        arith,
-        nat_tests,
-        inserted_new same entries key final absent,
-        seen_inserted same entries key final,
-        seen_none (same key) entries none absent,
-      )
+      let new = inserted_new same entries key final absent in
+      grind (arith, nat_tests, seen_inserted, unwrap_or, lookup-map_values)
 
   -- a value that is written and seen as before
   pub seen_written : (test : K → Bool) (entries : List (K × X)) (old x : X) → lookup test entries ≡ Some old
@@ -87,5 +76,4 @@ module _ {K X Y : Type 0} (part : X → Y) where
 
 -- what holds after any error
 pub on_err : {T E P : Type 0} (r : Result T E) → P → OnErr r P
-on_err (Ok t) p = tt
-on_err (Err e) p = p
+on_err r p = grind (arith, nat_tests)

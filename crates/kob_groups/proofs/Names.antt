@@ -1,5 +1,5 @@
 -- What the lists of names hold after a change.
-use Rattle.kob_groups.proofs.Words.{AreFilled, List, None, Option, Ordered, Some, [], ap, arith, cond, equal_names, false, is_among, is_pair, is_some, length, length-append, lookup, lookup-set_value, lookup_without, nat_list_eq_equiv, nat_tests, none_of, not, one_name, refl, remove_entry, removed_others, same_text, set_value, subst, sym, ℕ, ◌&&◌, ◌++◌, ◌<◌, ◌||◌, ◌∙◌, ◌∷◌, ◌≡◌}
+use Rattle.kob_groups.proofs.Words.{AreFilled, List, None, Option, Ordered, Some, [], ap, arith, cond, equal_names, false, is_among, is_pair, is_some, length, length-append, lookup, lookup-set_value, lookup_without, nat_list_eq_equiv, nat_tests, nil_from_length, none_of, not, one_name, remove_entry, removed_others, same_text, set_value, subst, sym, ℕ, ◌&&◌, ◌++◌, ◌<◌, ◌||◌, ◌∙◌, ◌∷◌, ◌≡◌}
 use Rattle.kob_groups.proofs.Maps.{found_inserted, inserted_new}
 
 module _ {X : Type 0} where
@@ -12,12 +12,6 @@ module _ {X : Type 0} where
       → ChangesAt name (Some x) es (set_value (same_text name) es x)
   changes_written name old x es found q =
       lookup-set_value nat_list_eq_equiv (same_text name) (one_name name) q x es (ap is_some found)
-
-  pub found_written : (name : List ℕ) (old x : X) (es : List (List ℕ × X)) → lookup (same_text name) es ≡ Some old
-      → lookup (same_text name) (set_value (same_text name) es x) ≡ Some x
-  found_written name old x es found =
-      changes_written name old x es found name
-      ∙ ap (λ b. cond b (Some x) (lookup (same_text name) es)) (nat_list_eq_equiv.refl name)
 
   pub changes_pushed : (name : List ℕ) (x : X) (es : List (List ℕ × X)) → lookup (same_text name) es ≡ None
       → ChangesAt name (Some x) es (es ++ (name, x) ∷ [])
@@ -115,8 +109,5 @@ module _ {V : Type 0} (group : List ℕ) (old new : Ordered V)
 
     pub none_is_less : length new.entries ≡ 0
         → (g : List ℕ) → false ≡ (is_some (lookup (same_text g) old.entries) && not (same_text group g))
-    none_is_less none g = sym (empty new.entries none) ∙ taken_less g
-      where
-        empty : {X : Type 0} (es : List (List ℕ × X)) → length es ≡ 0 → is_some (lookup (same_text g) es) ≡ false
-        empty [] is = refl
-        empty (e ∷ es) is = absurd (omega (arith, is))
+    none_is_less none g =
+        ap (λ es. is_some (lookup (same_text g) es)) (sym (nil_from_length new.entries none)) ∙ taken_less g

@@ -12,18 +12,18 @@ pub use Rattle.kob_ordered.proofs.Places.{equal_names, same_name}
 pub use Rattle.kob_ordered.proofs.Seen.{lookup_without, map_filter, removed_others, set_value_mapped, some_mapped}
 pub use Rattle.kob_ordered.proofs.Standing.{name_is, stands_there}
 pub use Rattle.kob_ordered.specs.Ordered.{Ordered, name_at}
-pub use Rattle.std.proofs.Common.{Bool, IfSome, List, None, Option, Some, [], ap, append-nil, arith, cond, false, filter, inl, inr, is_some, length, length-append, map, nat_eq, not, option_map, refl, slice_get, subst, suc, sym, true, unwrap_or, zero, ℕ, ◌&&◌, ◌++◌, ◌<◌, ◌||◌, ◌∙◌, ◌∷◌, ◌≡◌}
-pub use Rattle.std.proofs.lemmas.Bool.{cases_Bool}
+pub use Rattle.std.proofs.Common.{Bool, List, None, OnErr, Option, Result, Some, ap, append-nil, arith, cond, false, filter, inl, inr, is_some, length, length-append, map, nat_eq, not, option_map, refl, slice_get, subst, suc, sym, true, unwrap_or, zero, [], ℕ, ◌&&◌, ◌++◌, ◌<◌, ◌||◌, ◌∙◌, ◌∷◌, ◌≡◌}
 pub use Rattle.std.proofs.lemmas.Bool.Decides.{nat_tests}
+pub use Rattle.std.proofs.lemmas.Bool.{cases_Bool}
 pub use Rattle.std.proofs.lemmas.Cmp.{nat_eq_equiv}
-pub use Rattle.std.proofs.lemmas.List.{length-map}
-pub use Rattle.std.proofs.lemmas.Map.{lookup-set_value}
+pub use Rattle.std.proofs.lemmas.Grind.{common_steps}
+pub use Rattle.std.proofs.lemmas.List.{length-map, nil_from_length}
 pub use Rattle.std.proofs.lemmas.Map.Keys.{IsDistinct-head, IsDistinct-tail}
 pub use Rattle.std.proofs.lemmas.Map.Made.{keys_of-map_values, lookup-map_values}
 pub use Rattle.std.proofs.lemmas.Map.Steps.{set_value_same}
-pub use Rattle.std.specs.Cmp.{IsEquivalence}
+pub use Rattle.std.proofs.lemmas.Map.{lookup-set_value}
 pub use Rattle.std.specs.Cmp.Lexicographic.{nat_list_eq_equiv}
+pub use Rattle.std.specs.Cmp.{IsEquivalence}
 pub use Rattle.std.specs.List.{AllByRecursion, IsDistinct}
 pub use Rattle.std.specs.Map.{keys_of, lookup, remove_entry, set_value}
 pub use Rattle.std.specs.Option.{option_copied_mut}
-pub use Rattle.std.specs.Prelude.{Err, Ok, OnErr, Result}

@@ -67,6 +67,7 @@ impl GroupsByTopic {
     }
 
     /// Reserves capacity for a group in the list at a place, unless it is there.
+    #[tactic(auto, using(crate::proofs::Found::reserving_name))]
     fn reserve_name(
         &mut self,
         alloc: Global,

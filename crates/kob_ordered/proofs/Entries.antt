@@ -1,5 +1,5 @@
 -- What entries are after a change, and that the names of no two are the same.
-use Rattle.kob_ordered.proofs.Words.{All-from_recursion, All-map-remove_entry, AllByRecursion, Bool, IsDistinct, IsDistinct-cons, IsDistinct-head, IsDistinct-tail, List, None, Option, Some, [], ap, arith, cond, false, is_some, keys_of, length, lookup, lookup-remove_entry, nat_list_eq_equiv, nat_tests, recursion_from_All, refl, remove_entry, same_text, true, ℕ, ◌+◌, ◌∙◌, ◌∷◌, ◌≡◌}
+use Rattle.kob_ordered.proofs.Words.{All-from_recursion, All-map-remove_entry, AllByRecursion, IsDistinct, IsDistinct-cons, IsDistinct-head, IsDistinct-tail, List, None, Option, Some, [], ap, arith, cond, false, is_some, keys_of, length, lookup, lookup-remove_entry, nat_list_eq_equiv, nat_tests, recursion_from_All, refl, remove_entry, same_text, true, ℕ, ◌+◌, ◌∙◌, ◌∷◌, ◌≡◌}
 use Rattle.kob_ordered.proofs.Places.{equal_names}
 
 pub one_name : (name x y : List ℕ) → same_text name x ≡ true → same_text name y ≡ same_text x y
@@ -36,13 +36,7 @@ pub distinct_removed : {V : Type 0} (name : List ℕ) (es : List (List ℕ × V)
     → IsDistinct same_text (keys_of (remove_entry (same_text name) es))
 distinct_removed name [] distinct = distinct
 distinct_removed name (e ∷ es) distinct =
-    by (same_text name e.0) (IsDistinct-tail same_text e.0 (keys_of es) distinct)
-    (IsDistinct-head same_text e.0 (keys_of es) distinct) (distinct_removed name es)
-  where
-    by : (hit : Bool) → IsDistinct same_text (keys_of es) → AllByRecursion (λ k. same_text e.0 k ≡ false) (keys_of es)
-        → (IsDistinct same_text (keys_of es) → IsDistinct same_text (keys_of (remove_entry (same_text name) es)))
-        → IsDistinct same_text (keys_of (cond hit es (e ∷ remove_entry (same_text name) es)))
-    by true later head rest = later
-    by false later head rest =
-        IsDistinct-cons same_text e.0 (keys_of (remove_entry (same_text name) es))
-        (all_removed name (λ k. same_text e.0 k ≡ false) es head) (rest later)
+    let later = IsDistinct-tail same_text e.0 (keys_of es) distinct in
+    let head = IsDistinct-head same_text e.0 (keys_of es) distinct in
+    let rest = distinct_removed name es later in
+    let apart = all_removed name (λ k. same_text e.0 k ≡ false) es head in grind (arith, nat_tests, IsDistinct-cons)

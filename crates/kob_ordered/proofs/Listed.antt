@@ -25,17 +25,12 @@ module _ (names : List (Option (List ℕ))) (by_name : List ℕ) (sound : AreLis
 
     old : (k p : ℕ) (n : List ℕ) → slice_get by_name k ≡ Some p → slice_get more p ≡ Some (Some n)
         → slice_get names p ≡ Some (Some n)
-    old k p n at there =
-        let (m, was) = sound.stand k p at in
-        grind (arith, nat_tests, get_push names (Some name) p, slice_get_within names p (Some m) was)
+    old k p n at there = grind (arith, nat_tests, get_push, slice_get_within, not_later, only_one)
 
     -- the entry that is k-th now was there before, or is the new one
     came : (k : ℕ) (n : List ℕ) → Nth more listed n k → ((k < i) × Nth names by_name n k)
         ⊎ (((k ≡ i) × (n ≡ name)) ⊎ ((i < k) × Nth names by_name n (k - 1)))
-    came k n nth =
-        let first = get_insert by_name i (length names) k gap.within in let second = old k nth.place n in
-        let third = old (k - 1) nth.place n in let fourth = get_push names (Some name) nth.place in
-        grind (arith, nat_tests)
+    came k n nth = grind (arith, nat_tests, get_insert, old, get_push, not_later, only_one)
 
     pub listed_pushed : AreListed (names ++ Some name ∷ []) (insert by_name i (length names))
     listed_pushed = record {

@@ -1,5 +1,5 @@
 -- How names compare.
-use Rattle.kob_ordered.proofs.Words.{Equal, Greater, Less, List, Ordering, ap, arith, is_eq, is_eq-slice_cmp, name_order, nat_list_cmp_total, nat_tests, ordering_index, ordering_reverse, refl, subst, sym, ℕ, ◌∙◌, ◌≡◌, ◌≤◌}
+use Rattle.kob_ordered.proofs.Words.{Equal, Greater, Less, List, ap, arith, is_eq, is_eq-slice_cmp, name_order, nat_list_cmp_total, nat_tests, ordering_index, ordering_reverse, refl, sym, ℕ, ◌∙◌, ◌≡◌, ◌≤◌}
 use Rattle.kob_ordered.proofs.Places.{equal_names, same_name}
 
 pub equal_from_order : (n m : List ℕ) → name_order n m ≡ Equal → n ≡ m
@@ -17,19 +17,5 @@ turned n m is = nat_list_cmp_total.antisymm m n ∙ ap ordering_reverse is
 -- a later name compares no lower
 pub rises : (n m name : List ℕ) → name_order n m ≡ Less
     → ordering_index (name_order n name) ≤ ordering_index (name_order m name)
-rises n m name less = by (name_order m name) refl
-  where
-    by : (o : Ordering) → name_order m name ≡ o
-        → ordering_index (name_order n name) ≤ ordering_index o
-    by Less is =
-        let lower = nat_list_cmp_total.trans n m name less is in
-        subst (λ o. ordering_index o ≤ 0) (sym lower) (omega arith)
-    by Equal is =
-        let lower = subst (λ k. name_order n k ≡ Less) (equal_from_order m name is) less in
-        subst (λ o. ordering_index o ≤ 1) (sym lower) (omega arith)
-    by Greater is = top (name_order n name)
-      where
-        top : (o : Ordering) → ordering_index o ≤ 2
-        top Less = omega arith
-        top Equal = omega arith
-        top Greater = omega arith
+rises n m name less =
+    grind (arith, nat_tests, nat_list_cmp_total.trans n m name less, equal_from_order m name)

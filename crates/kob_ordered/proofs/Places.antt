@@ -47,11 +47,8 @@ module _ {V : Type 0} where
 
   other_name : (head : List ℕ) (value : V) (slots : List (Slot V)) (name : List ℕ) (place : ℕ)
       → IsOnly (Entry head value ∷ slots) name (suc place) → same_text name head ≡ false
-  other_name head value slots name place only = by (same_text name head) refl
-    where
-      by : (hit : Bool) → same_text name head ≡ hit → hit ≡ false
-      by false is = refl
-      by true is = let zero_is = only 0 (ap (λ n. Some (Some n)) (sym (equal_names name head is))) in absurd (omega (arith, zero_is))
+  other_name head value slots name place only =
+      let first = only 0 in grind (arith, nat_tests, equal_names name head)
 
   pub found_at : (slots : List (Slot V)) (name : List ℕ) (place : ℕ) (value : V)
       → slice_get slots place ≡ Some (Entry name value) → IsOnly slots name place
@@ -62,9 +59,8 @@ module _ {V : Type 0} where
   found_at (Hole ∷ slots) name (suc place) value there only =
       found_at slots name place value there (only_later Hole slots name place only)
   found_at (Entry head other ∷ slots) name (suc place) value there only =
-      ap (λ b. cond b (Some other) (lookup (same_text name) (entries_in slots)))
-      (other_name head other slots name place only)
-      ∙ found_at slots name place value there (only_later (Entry head other) slots name place only)
+      let later = found_at slots name place value there (only_later (Entry head other) slots name place only) in
+      let differs = other_name head other slots name place only in grind (arith, nat_tests)
 
   -- a hole in the place of an entry
   pub holed_at : (slots : List (Slot V)) (name : List ℕ) (place : ℕ) (value : V)
@@ -76,9 +72,9 @@ module _ {V : Type 0} where
   holed_at (Hole ∷ slots) name (suc place) value there only =
       holed_at slots name place value there (only_later Hole slots name place only)
   holed_at (Entry head other ∷ slots) name (suc place) value there only =
-      let first = holed_at slots name place value there (only_later (Entry head other) slots name place only) in
-      let second = only_later (Entry head other) slots name place only in
-      let third = other_name head other slots name place only in grind (arith, nat_tests)
+      let later = holed_at slots name place value there (only_later (Entry head other) slots name place only) in
+      let others = only_later (Entry head other) slots name place only in
+      let differs = other_name head other slots name place only in grind (arith, nat_tests)
 
   -- another value in the place of an entry's
   pub written_at : (slots : List (Slot V)) (name : List ℕ) (place : ℕ) (value w : V)
@@ -90,9 +86,9 @@ module _ {V : Type 0} where
   written_at (Hole ∷ slots) name (suc place) value w there only =
       written_at slots name place value w there (only_later Hole slots name place only)
   written_at (Entry head other ∷ slots) name (suc place) value w there only =
-      let first = written_at slots name place value w there (only_later (Entry head other) slots name place only) in
-      let second = only_later (Entry head other) slots name place only in
-      let third = other_name head other slots name place only in grind (arith, nat_tests)
+      let later = written_at slots name place value w there (only_later (Entry head other) slots name place only) in
+      let others = only_later (Entry head other) slots name place only in
+      let differs = other_name head other slots name place only in grind (arith, nat_tests)
 
   -- an entry put last
   pub pushed : (slots : List (Slot V)) (name : List ℕ) (value : V)

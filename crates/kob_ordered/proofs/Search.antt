@@ -1,5 +1,6 @@
 -- What a search among the places in order of their names has found.
-use Rattle.kob_ordered.proofs.Words.{Bool, Entry, Equal, Err, IfErr, IfOk, IsBinarySearchResult, IsGap, IsNonDecreasingBy, IsSearchInRange, IsSound, List, Nth, Ok, Option, Ordering, Result, Slot, Some, ap, arith, cases_lt, entries_in, false, get_or, get_or_from_slice_get, inl, inr, is_ok, is_some, length, lookup, name_order, names_in, order_of, ordering_index, refl, same_text, slice_get, slice_get-get_or, slice_get_within, subst, sym, true, ℕ, ◌<◌, ◌∙◌, ◌≡◌, ◌≤◌}
+use Rattle.kob_ordered.proofs.Words.{nat_tests}
+use Rattle.kob_ordered.proofs.Words.{Bool, Entry, Equal, Err, IfErr, IfOk, IsBinarySearchResult, IsGap, IsNonDecreasingBy, IsSearchInRange, IsSound, List, Nth, Ok, Option, Ordering, Result, Slot, Some, ap, arith, cases_lt, entries_in, false, get_or, get_or_from_slice_get, is_ok, is_some, length, lookup, name_order, names_in, order_of, ordering_index, refl, same_text, slice_get, slice_get-get_or, slice_get_within, sym, true, ℕ, ◌<◌, ◌∙◌, ◌≡◌}
 use Rattle.kob_ordered.proofs.NameOrder.{equal_from_order, not_before_itself, rises, turned}
 use Rattle.kob_ordered.proofs.Places.{entry_at, stands_in}
 use Rattle.kob_ordered.proofs.Sound.{value_at}
@@ -18,27 +19,17 @@ module _ {V : Type 0} (slots : List (Slot V)) (by_name : List ℕ) (name : List 
 
   nth_of : (k : ℕ) → k < length by_name → (n : List ℕ) × Nth names by_name n k
   nth_of k lt =
-      let listed = slice_get-get_or by_name k 0 lt in
-      let (n, stands) = sound.listed.stand k (get_or by_name k 0) listed in
-      (n, record { place = get_or by_name k 0; listed = listed; stands = stands })
+      let listed = slice_get-get_or by_name k 0 lt in grind (arith, nat_tests)
 
   non_decreasing : IsNonDecreasingBy (λ place. ordering_index (compared place)) by_name
   non_decreasing i j d le lt =
       let (n, a) = nth_of i (omega (arith, le, lt)) in let (m, b) = nth_of j lt in
-      elim (cases_lt i j) [
-        | inl before ↦
-            let less = rises n m name (sound.listed.rising i j n m before a b) in
-            rw (compared_at i d n a, compared_at j d m b) less
-        | inr past ↦
-            let same : i ≡ j = omega (arith, le, past) in
-            subst (λ q. ordering_index (compared (get_or by_name i d)) ≤ ordering_index (compared (get_or by_name q d))) same
-            (omega arith)
-      ]
+      let at = compared_at i d n a in let past = compared_at j d m b in
+      grind (arith, cases_lt i j, rises n m name, sound.listed.rising i j n m)
 
   here : (i : ℕ) → i < length by_name → ((d : ℕ) → compared (get_or by_name i d) ≡ Equal) → Nth names by_name name i
   here i lt equal =
-      let (n, nth) = nth_of i lt in
-      subst (λ k. Nth names by_name k i) (equal_from_order n name (sym (compared_at i 0 n nth) ∙ equal 0)) nth
+      let (n, nth) = nth_of i lt in grind (arith, compared_at i 0 n nth, equal 0, equal_from_order n name)
 
   no_entry : (i : ℕ) → IsGap names by_name name i → is_some (lookup (same_text name) (entries_in slots)) ≡ false
   no_entry i gap = by (is_some (lookup (same_text name) (entries_in slots))) refl
@@ -48,10 +39,7 @@ module _ {V : Type 0} (slots : List (Slot V)) (by_name : List ℕ) (name : List 
       by true is =
           let (place, stands) = stands_in name slots is in let (k, listed) = sound.listed.all place name stands in
           let nth : Nth names by_name name k = record { place = place; listed = listed; stands = stands } in
-          elim (cases_lt k i) [
-            | inl lt ↦ absurd (not_before_itself name (gap.before k name lt nth))
-            | inr le ↦ absurd (not_before_itself name (gap.after k name le nth))
-          ]
+          grind (arith, cases_lt k i, not_before_itself name, gap.before k name, gap.after k name)
 
   pub found_by : (r : Result ℕ ℕ) → IsSearchInRange r (length by_name)
       → IsBinarySearchResult (λ place. order_of name (slice_get slots place)) by_name r
@@ -80,5 +68,4 @@ pub taken_at : {V : Type 0} {slots read : List (Slot V)} {by_name names name : L
     → names ≡ by_name → Nth (names_in read) names name i → place ≡ get_or by_name i place
     → Taken slots by_name name i place
 taken_at {V} {slots} {read} {by_name} {names} {name} {i} {place} same_slots same_names at is =
-    let (value, there) = entry_at read at.place name at.stands in
-    grind (arith, same_slots, same_names, at.listed, there, is, get_or_from_slice_get names i at.place place at.listed)
+    let (value, there) = entry_at read at.place name at.stands in grind (arith, nat_tests, get_or_from_slice_get)

@@ -1,5 +1,5 @@
 -- What entries show whose values are seen by a part of them, and what is read of them without a name.
-use Rattle.kob_ordered.proofs.Words.{Bool, List, None, Option, [], ap, arith, cond, false, filter, is_some, lookup, lookup-filter-keys, map, nat_tests, not, option_map, refl, remove_entry, same_text, set_value, sym, true, ℕ, ◌∙◌, ◌∷◌, ◌≡◌}
+use Rattle.kob_ordered.proofs.Words.{Bool, List, None, Option, [], ap, arith, cond, filter, is_some, lookup, lookup-filter-keys, map, nat_tests, not, option_map, refl, remove_entry, same_text, set_value, sym, ℕ, ◌∷◌, ◌≡◌}
 use Rattle.kob_ordered.proofs.Places.{equal_names}
 
 -- a test of what the items show leaves what is shown of the items that pass it
@@ -36,11 +36,5 @@ pub lookup_without : {X : Type 0} (name other : List ℕ) (entries : List (List 
     → lookup (same_text other) (filter (λ entry. not (same_text name entry.0)) entries)
     ≡ cond (same_text name other) None (lookup (same_text other) entries)
 lookup_without name other entries =
-    lookup-filter-keys (same_text other) (λ k. not (same_text name k)) (not (same_text name other))
-    (λ k hit. ap (λ n. not (same_text name n)) (sym (equal_names other k hit))) entries
-    ∙ by (same_text name other)
-  where
-    by : (b : Bool) → cond (not b) (lookup (same_text other) entries) None
-        ≡ cond b None (lookup (same_text other) entries)
-    by true = refl
-    by false = refl
+    let found = lookup-filter-keys (same_text other) (λ k. not (same_text name k)) (not (same_text name other))
+    (λ k hit. ap (λ n. not (same_text name n)) (sym (equal_names other k hit))) entries in grind (arith, nat_tests)

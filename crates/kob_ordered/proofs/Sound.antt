@@ -1,5 +1,5 @@
 -- How each change keeps the places of the entries in order of their names.
-use Rattle.kob_ordered.proofs.Words.{AreListed, Entry, Hole, IsDistinct-push, IsGap, IsSound, List, None, Nth, Ordered, Slot, Some, [], ap, arith, cases_lt, cond, entries_in, filter, filter-append, get_or_append_left, get_or_from_slice_get, get_or_push, insert, is_entry, is_some, is_some-lookup, keys-set_value, keys_of, length, length-append, length-insert, length-map, length-remove, length-set_value, lookup, map-append, map-set, named, names_in, nat_list_eq_equiv, nat_tests, rank, refl, remove, remove_entry, same_text, set, set_value, slice_get, slice_get-get_or, slice_get_within, slice_index_or, subst, suc, sym, take, take_more, with_value, with_value_in, zero, ℕ, ◌++◌, ◌+◌, ◌<◌, ◌∙◌, ◌∷◌, ◌≡◌, ◌≤◌}
+use Rattle.kob_ordered.proofs.Words.{Entry, Hole, IsDistinct-push, IsGap, IsSound, List, None, Nth, Ordered, Slot, Some, [], ap, arith, cases_lt, cond, entries_in, filter, filter-append, get_or_append_left, get_or_from_slice_get, get_or_push, insert, is_entry, is_some, is_some-lookup, keys-set_value, keys_of, length, length-append, length-insert, length-map, length-remove, length-set_value, lookup, map-append, map-set, named, names_in, nat_list_eq_equiv, nat_tests, rank, refl, remove, remove_entry, same_text, set, set_value, slice_get, slice_get-get_or, slice_get_within, slice_index_or, subst, suc, sym, take, take_more, with_value, with_value_in, zero, ℕ, ◌++◌, ◌+◌, ◌<◌, ◌∙◌, ◌∷◌, ◌≡◌, ◌≤◌}
 use Rattle.std.specs.List.{IsDistinct}
 use Rattle.kob_ordered.proofs.Listed.{listed_holed, listed_pushed, only_one}
 use Rattle.kob_ordered.proofs.Entries.{distinct_removed, length_removed}
@@ -20,12 +20,10 @@ module _ {V : Type 0} (slots : List (Slot V)) (by_name : List ℕ) (sound : IsSo
       written = written_at slots name place value w there only
 
       pub sound_written : IsSound (set slots place (Entry name w)) by_name
-      sound_written = record {
-        listed = subst (λ ns. AreListed ns by_name) (sym (names_written slots place name value w there)) sound.listed;
-        distinct = subst (IsDistinct same_text)
-            (sym (ap keys_of written ∙ keys-set_value (same_text name) (entries_in slots) w)) sound.distinct;
-        counted = sound.counted ∙ sym (ap length written ∙ length-set_value (same_text name) (entries_in slots) w);
-      }
+      sound_written =
+          let names = names_written slots place name value w there in let entries = written in
+          let keys = keys-set_value (same_text name) (entries_in slots) w in
+          let long = length-set_value (same_text name) (entries_in slots) w in grind (arith, nat_tests)
 
       -- the same, where the slot is read first
       pub sound_lent : (slot : Slot V) → slot ≡ Entry name value → IsSound (set slots place (with_value_in slot w)) by_name
@@ -39,66 +37,40 @@ module _ {V : Type 0} (slots : List (Slot V)) (by_name : List ℕ) (sound : IsSo
             holes = holes;
             names = names_in (set slots place (with_value_in slot w));
           } ≡ with_value m name w
-      view_lent slot is m room holes shown i = record {
-        entries = (ap (λ s. entries_in (set slots place (with_value_in s w))) is ∙ written
-            ∙ ap (λ (m : Ordered V). set_value (same_text name) m.entries w) shown) i;
-        room = ap (λ (m : Ordered V). m.room) shown i;
-        holes = ap (λ (m : Ordered V). m.holes) shown i;
-        names = (ap (λ s. names_in (set slots place (with_value_in s w))) is
-            ∙ names_written slots place name value w there ∙ ap (λ (m : Ordered V). m.names) shown) i;
-      }
+      view_lent slot is m room holes shown =
+          let entries = written in let names = names_written slots place name value w there in grind (arith, nat_tests)
 
     -- an entry taken away, with a hole left in its place
     pub left : entries_in (set slots place Hole) ≡ remove_entry (same_text name) (entries_in slots)
     left = holed_at slots name place value there only
 
     pub sound_holed : (i : ℕ) → slice_get by_name i ≡ Some place → IsSound (set slots place Hole) (remove by_name i)
-    sound_holed i at = record {
-      listed = subst (λ ns. AreListed ns (remove by_name i)) (sym (map-set named slots place Hole))
-          (listed_holed (names_in slots) by_name sound.listed name i place at (name_at slots place name value there));
-      distinct = subst (λ es. IsDistinct same_text (keys_of es)) (sym left)
-          (distinct_removed name (entries_in slots) sound.distinct);
-      counted = omega (
-        arith,
-        length-remove by_name i (slice_get_within by_name i place at),
-        sound.counted,
-        ap length left,
-        length_removed name (entries_in slots) value value_at,
-      );
-    }
+    sound_holed i at =
+        let entries = left in let fewer = length_removed name (entries_in slots) value value_at in
+        let names = map-set named slots place Hole in
+        let listed = listed_holed (names_in slots) by_name sound.listed name i place at (name_at slots place name value there) in
+        let distinct = distinct_removed name (entries_in slots) sound.distinct in
+        let long = length-remove by_name i (slice_get_within by_name i place at) in grind (arith, nat_tests)
 
   -- an entry put last
   pub sound_pushed : (name : List ℕ) (value : V) (i : ℕ) → IsGap (names_in slots) by_name name i
       → lookup (same_text name) (entries_in slots) ≡ None
       → IsSound (slots ++ Entry name value ∷ []) (insert by_name i (length slots))
-  sound_pushed name value i gap absent = record {
-    listed = subst (λ ns. AreListed ns (insert by_name i (length slots)))
-        (sym (map-append named slots (Entry name value ∷ [])))
-        (subst (λ n. AreListed (names_in slots ++ Some name ∷ []) (insert by_name i n)) (length-map slots named)
-        (listed_pushed (names_in slots) by_name sound.listed name i gap));
-    distinct = subst (λ es. IsDistinct same_text (keys_of es)) (sym (pushed slots name value))
-        (subst (IsDistinct same_text)
-        (sym (map-append (λ (e : List ℕ × V). e.0) (entries_in slots) ((name, value) ∷ [])))
-        (IsDistinct-push nat_list_eq_equiv (keys_of (entries_in slots)) name sound.distinct
-        (sym (is_some-lookup (same_text name) (entries_in slots)) ∙ ap is_some absent)));
-    counted = length-insert by_name i (length slots) gap.within ∙ ap (λ n. n + 1) sound.counted
-        ∙ sym (ap length (pushed slots name value) ∙ length-append (entries_in slots) ((name, value) ∷ []));
-  }
+  sound_pushed name value i gap absent =
+      let entries = pushed slots name value in let names = map-append named slots (Entry name value ∷ []) in
+      let long = length-map slots named in let more = length-append (entries_in slots) ((name, value) ∷ []) in
+      let listed = listed_pushed (names_in slots) by_name sound.listed name i gap in
+      let keys = map-append (λ (e : List ℕ × V). e.0) (entries_in slots) ((name, value) ∷ []) in
+      let distinct = IsDistinct-push nat_list_eq_equiv (keys_of (entries_in slots)) name sound.distinct
+      (sym (is_some-lookup (same_text name) (entries_in slots)) ∙ ap is_some absent) in
+      let count = length-insert by_name i (length slots) gap.within in grind (arith, nat_tests)
 
 none_twice : IsDistinct same_text []
 unfolding IsDistinct
 none_twice = tt
 
 pub sound_empty : {V : Type 0} → IsSound {V = V} [] []
-sound_empty = record {
-  listed = record {
-    rising = λ i j n m lt first second. let isnt = first.listed in cc;
-    stand = λ i place at. cc;
-    all = λ place name there. cc;
-  };
-  distinct = none_twice;
-  counted = refl;
-}
+sound_empty = grind (arith, nat_tests, none_twice)
 
 -- a listed place has a slot
 pub within_slots : {V : Type 0} (slots : List (Slot V)) (by_name : List ℕ) → IsSound slots by_name
@@ -111,11 +83,10 @@ within_slots slots by_name sound k lt =
 pub rank_next : {V : Type 0} (slots : List (Slot V)) (i : ℕ) (x : Slot V) → slice_get slots i ≡ Some x
     → rank slots (i + 1) ≡ cond (is_entry x) (rank slots i + 1) (rank slots i)
 rank_next {V} slots i x there =
-    let first = take_more slots i x (slice_get_within slots i x there) in
-    let second = slice_get_within slots i x there in let third = get_or_from_slice_get slots i x x there in
-    let fourth = filter-append is_entry (take i slots) (x ∷ []) in
-    let fifth = length-append (filter is_entry (take i slots)) (filter is_entry (x ∷ [])) in
-    grind (arith, nat_tests)
+    let within = slice_get_within slots i x there in let taken = take_more slots i x within in
+    let read = get_or_from_slice_get slots i x x there in
+    let more = filter-append is_entry (take i slots) (x ∷ []) in
+    let long = length-append (filter is_entry (take i slots)) (filter is_entry (x ∷ [])) in grind (arith, nat_tests)
 
 -- one more rank put last
 pub ranked_more : {V : Type 0} (slots : List (Slot V)) (ranks : List ℕ) (i r : ℕ) → length ranks ≡ i
@@ -126,9 +97,6 @@ ranked_more slots ranks i r size here before place lt =
 
 pub read_at : (xs : List ℕ) (k p : ℕ) → slice_get xs k ≡ Some p → slice_index_or xs k 0 ≡ p
 read_at xs k p there = get_or_from_slice_get xs k p 0 there
-
-some_at : (xs : List ℕ) (k : ℕ) → k < length xs → (p : ℕ) × (slice_get xs k ≡ Some p)
-some_at xs k lt = (slice_index_or xs k 0, slice_get-get_or xs k 0 lt)
 
 entries_packed : {V : Type 0} (slots : List (Slot V)) → length (entries_in slots) ≡ length (filter is_entry slots)
 entries_packed [] = refl
@@ -174,9 +142,8 @@ module _ {V : Type 0} (slots : List (Slot V)) (by_name ranked : List ℕ) (sound
     unranked : (k q : ℕ) → slice_get ranked k ≡ Some q
         → (p : ℕ) × (slice_get by_name k ≡ Some p) × (q ≡ rank slots p)
     unranked k q at =
-        let old = some_at by_name k (subst (λ n. k < n) size (slice_get_within ranked k q at)) in
-        let new = ranks k old.0 old.1 in
-        (old.0, old.1, cc)
+        let old = slice_get-get_or by_name k 0 (subst (λ n. k < n) size (slice_get_within ranked k q at)) in
+        let new = ranks k _ old in (slice_index_or by_name k 0, old, cc)
 
     nth_unpacked : (k : ℕ) (n : List ℕ) → Nth (names_in (filter is_entry slots)) ranked n k → Nth (names_in slots) by_name n k
     nth_unpacked k n nth =

@@ -4,7 +4,7 @@ pub use Rattle.kob_ordered.specs.Ordered.{Ordered, StandsAt, name_at, with_value
 pub use Rattle.kob_ordered.specs.Slots.{AreListed, IsGap, IsSound, Nth, entries_in, is_entry, name_order, named, names_in, order_of, rank, with_value_in}
 pub use Rattle.kob_ordered.specs.declared.slot.Slot.{Slot}
 pub use Rattle.kob_ordered.specs.declared.slot.Slot.TheVariants.{Entry, Hole}
-pub use Rattle.std.proofs.Common.{Bool, Err, IfErr, IfOk, IsSome, List, None, Ok, Option, Result, Some, [], ap, arith, cond, false, filter, get_or, inl, inr, is_ok, is_some, length, length-append, map, not, of_calls, option_map, refl, rules, set, slice_get, slice_index_or, subst, suc, sym, take, true, unwrap_or, vec_capacity, zero, ℕ, ◌++◌, ◌+◌, ◌-◌, ◌<◌, ◌==◌, ◌∙◌, ◌∷◌, ◌≡◌, ◌≤◌, ◌⊎◌}
+pub use Rattle.std.proofs.Common.{Bool, Equal, Err, Greater, IfErr, IfOk, IsSome, Less, List, None, Ok, Option, Ordering, Result, Some, ap, arith, cond, false, filter, get_or, inl, inr, is_ok, is_some, length, length-append, map, not, of_calls, option_map, refl, rules, set, slice_get, slice_index_or, subst, suc, sym, take, true, unwrap_or, vec_capacity, zero, [], ℕ, ◌++◌, ◌+◌, ◌-◌, ◌<◌, ◌==◌, ◌∙◌, ◌∷◌, ◌≡◌, ◌≤◌, ◌⊎◌}
 pub use Rattle.std.proofs.lemmas.Bool.{cases_lt}
 pub use Rattle.std.proofs.lemmas.Bool.Decides.{nat_tests}
 pub use Rattle.std.proofs.lemmas.Fn.{always_returns_same}
@@ -25,6 +25,4 @@ pub use Rattle.std.specs.List.{AllByRecursion, IsDistinct, insert, remove}
 pub use Rattle.std.specs.List.Sorted.{IsBinarySearchResult, IsNonDecreasingBy, IsSearchInRange}
 pub use Rattle.std.specs.Map.{keys_of, lookup, remove_entry, set_value}
 pub use Rattle.std.specs.Ordering.{is_eq, ordering_index, ordering_reverse}
-pub use Rattle.std.specs.declared.cmp.Ordering.{Ordering}
-pub use Rattle.std.specs.declared.cmp.Ordering.TheVariants.{Equal, Greater, Less}
 pub use lib.Dec.{ltb}

@@ -43,18 +43,10 @@ module _ (limit : Option ℕ) (b : Business) (db : Trees) (states : States)
 
   puts_last : (one : Written) → NoneHas b has.placed → Puts task row db (Ok one) → Done one.trees
   puts_last one none h =
-      grind (
-        arith,
-        nat_tests,
-        put limit Enforced service_schema business_table params alone row db one h,
-        edit_of db (uncounted business_table) [] Given 0 (row ∷ []),
-        cast_int (pos n),
-        pos n,
-        edited db,
-        put_row row,
-        put_new b n 1 has.placed has.rising (omega arith) none,
-        business_upserted b n _ (one.trees business_tree) states has (omega arith) state,
-      )
+      let applies = put limit Enforced service_schema business_table params alone row db one h in
+      let new = put_new b n 1 has.placed has.rising (omega arith) none in
+      let business = business_upserted b n _ (one.trees business_tree) states has (omega arith) state in
+      grind (arith, nat_tests, edit_of, cast_int, edited)
 
   -- where the key is new, it makes no difference what OR would say
   inserts : (one : Written) → NoneHas b has.placed → Upserts task Abort row db [] (Ok one) → Done one.trees

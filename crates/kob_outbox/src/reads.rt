@@ -1,7 +1,6 @@
 //! Reads of the tables. As these are in memory, a read fails only if out of memory.
 
-ghost use Rattle.std.specs.Prelude.{◌≡◌, option_map, string_bytes, map, IfErr};
-ghost use Rattle.std.specs.Prelude.{IfOk};
+ghost use Rattle.std.specs.Prelude.{◌≡◌, option_map, string_bytes, map, IfErr, IfOk};
 ghost use Rattle.kob_outbox.specs.Events.{stored_row};
 ghost use Rattle.kob_outbox.specs.Reading.{first_after, state_at};
 ghost use Rattle.kob_outbox.specs.Service.{IsService, contents, database};

@@ -62,12 +62,9 @@ has_beginning f [] rest x has =
     subst (λ ps. Contains (flat_map f ps) x) (sym (prefixes_longer rest)) (Contains-append_left (f []) _ x has)
 has_beginning f (byte ∷ begin) rest x has =
     let later = has_beginning (λ prefix. f (byte ∷ prefix)) begin rest x has in
-    grind (
-      arith,
-      Contains-append_right (f []) (flat_map f (each (λ prefix. byte ∷ prefix) (prefixes (begin ++ rest)))) x,
-      flat_map-map f (λ prefix. byte ∷ prefix) (prefixes (begin ++ rest)),
-      later,
-    )
+    let longer = each (λ prefix. byte ∷ prefix) (prefixes (begin ++ rest)) in
+    let right = Contains-append_right (f []) (flat_map f longer) x in
+    let mapped = flat_map-map f (λ prefix. byte ∷ prefix) (prefixes (begin ++ rest)) in grind arith
 
 -- a beginning of a name for which a function gives a value
 abbrev pub BeginningWith : (List ℕ → List ℕ) → List ℕ → ℕ → Type 0
@@ -77,12 +74,10 @@ only_beginnings : (f : List ℕ → List ℕ) (name : List ℕ) (x : ℕ) → Co
     → BeginningWith f name x
 only_beginnings f [] x has = ([], ([], (refl, subst (λ ys. Contains ys x) (append-nil (f [])) has)))
 only_beginnings f (byte ∷ name) x has =
-    elim (Contains-append_cases (f []) (flat_map f (each (λ prefix. byte ∷ prefix) (prefixes name))) x has) as
-    (λ _. BeginningWith f (byte ∷ name) x) [
+    elim (Contains-append_cases (f []) (flat_map f (each (λ prefix. byte ∷ prefix) (prefixes name))) x has) [
       | inl here ↦ ([], (byte ∷ name, (refl, here)))
       | inr there ↦
-          let (begin, (rest, (is, at))) =
-          only_beginnings (λ prefix. f (byte ∷ prefix)) name x
+          let (begin, (rest, (is, at))) = only_beginnings (λ prefix. f (byte ∷ prefix)) name x
           (subst (λ ys. Contains ys x) (flat_map-map f (λ prefix. byte ∷ prefix) (prefixes name)) there) in
           (byte ∷ begin, (rest, (ap (λ ys. byte ∷ ys) is, at)))
     ]
@@ -103,8 +98,7 @@ module _ (m : PrefixMap) (serial : ℕ) where
   pub walk_only : (name : List ℕ) → Contains (walk_of m name) serial
       → BeginningWith (λ key. (held m key).1) name serial ⊎ Contains (held m name).0 serial
   walk_only name has =
-      elim (Contains-append_cases (flat_map prefixed (prefixes name)) (held m name).0 serial has) as
-      (λ _. BeginningWith prefixed name serial ⊎ Contains (held m name).0 serial) [
+      elim (Contains-append_cases (flat_map prefixed (prefixes name)) (held m name).0 serial has) [
         | inl before ↦ inl (only_beginnings prefixed name serial before)
         | inr last ↦ inr last
       ]

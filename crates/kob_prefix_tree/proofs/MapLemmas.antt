@@ -88,9 +88,8 @@ module _ (old new : Contents) (key : List ℕ) (neat : IsNeat old.1) where
         (map.insert (map_at old) key (f (held (map_at old) key)))) k ≡ kept (held_in k new)
     left_get k =
         let gone = map.get-remove nat_list_cmp_total (map_at old) key k in
-        let put = map.get-insert nat_list_cmp_total (map_at old) key in let same = bytes_decide k key in
-        let old_at = get_at old k neat in let held_old = held_of_map key old neat in let beside = done.elsewhere k in
-        grind (arith, done.at)
+        let put = map.get-insert nat_list_cmp_total (map_at old) key in
+        grind (arith, done.at, done.elsewhere k, bytes_decide k key, get_at old k neat, held_of_map key old neat)
 
     left_of : map_at new ≡ cond (is_nothing (f (held (map_at old) key))) (map.remove (map_at old) key)
         (map.insert (map_at old) key (f (held (map_at old) key)))

@@ -12,7 +12,7 @@ pub use Rattle.kob_prefix_tree.specs.Nodes.{Leads, if_none, last_of, leading_to,
 pub use Rattle.kob_prefix_tree.specs.Owned.{NodeOf, Pointer, low, node_of, nodes_lent, nodes_own, pointer_codes, way}
 pub use Rattle.kob_prefix_tree.specs.Part.{held_from}
 pub use Rattle.kob_prefix_tree.specs.Path.{ArePacked, Parts, key_of}
-pub use Rattle.kob_prefix_tree.specs.PrefixMap.{IsLevels, PrefixMap, added, held, removed_all}
+pub use Rattle.kob_prefix_tree.specs.PrefixMap.{PrefixMap, added, held, removed_all}
 pub use Rattle.kob_prefix_tree.specs.SerialsLeft.{unread_of}
 pub use Rattle.kob_prefix_tree.specs.Siblings.{IsNeat, behind_one, count, held_in, siblings, value_at, without}
 pub use Rattle.kob_prefix_tree.specs.Tree.{Tree, leaf, node}

@@ -1,6 +1,5 @@
 //! A place of the tree, for reading.
-ghost use Rattle.std.specs.Prelude.{◌≡◌, ◌≢◌, ◌∷◌, ◌++◌, ◌≤◌, ℕ, List, length};
-ghost use Rattle.std.specs.Prelude.{IfSome, MatchOption};
+ghost use Rattle.std.specs.Prelude.{◌≡◌, ◌≢◌, ◌∷◌, ◌++◌, ◌≤◌, ℕ, List, length, IfSome, MatchOption};
 ghost use Rattle.kob_prefix_tree.specs.Held.{nothing, serials_of};
 ghost use Rattle.kob_prefix_tree.specs.Trie.{bare};
 ghost use Rattle.kob_prefix_tree.specs.Siblings.{held_in, IsNeat};

@@ -36,8 +36,7 @@ sent_by_ring rings q ring is = sent_by_shown rings q ∙ ap (λ o. unwrap_or (op
 pub same_recent : (old new : List (ℕ × Buffer Sent)) → ((q : ℕ) → lookup (nat_eq q) new ≡ lookup (nat_eq q) old)
     → recent_in new ≡ recent_in old
 same_recent old new same =
-    fin.same_map nat_cmp_total fin.nat_cmp-IsAntisymmetric _ _
-    (λ q. get_shown new q ∙ ap (option_map items) (same q) ∙ sym (get_shown old q))
+    fin.same_map nat_cmp_total fin.nat_cmp-IsAntisymmetric _ _ (λ q. grind (arith, nat_tests, get_shown, same q))
 
 written_is : (here : Bool) (ring : Buffer Sent) (o : Option (Buffer Sent))
     → option_map items (cond here (Some ring) o) ≡ cond here (Some ring.items) (option_map items o)

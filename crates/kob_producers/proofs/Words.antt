@@ -8,8 +8,7 @@ pub use Rattle.kob_producers.specs.Table.{CanAccept, TableKept, table_of}
 pub use Rattle.kob_producers.specs.declared.judge.Judgement.{Judgement}
 pub use Rattle.kob_producers.specs.declared.judge.Judgement.TheVariants.{Repeat}
 pub use Rattle.kob_producers.specs.declared.sent.Sent.{Sent}
-pub use Rattle.std.proofs.Common.{Bool, IfSome, IsSome, List, None, Option, Some, [], ap, arith, cond, drop, drop-drop, eq-eqb, eqb-true, false, find, is_some, length, length-append, length-drop, ltb-true, map, nat_cmp, nat_eq, nat_lt, option_map, refl, rules, slice_get, subst, suc, sym, true, unwrap_or, zero, ℕ, ◌&&◌, ◌++◌, ◌+◌, ◌-◌, ◌<◌, ◌==◌, ◌||◌, ◌∙◌, ◌∷◌, ◌≡◌, ◌≤◌}
-pub use Rattle.std.proofs.lemmas.Bool.{le-ltb}
+pub use Rattle.std.proofs.Common.{Bool, IfSome, IsSome, List, None, Option, Some, ap, arith, cond, drop, drop-drop, eq-eqb, eqb-true, false, find, is_some, le-ltb, length, length-append, length-drop, ltb-true, map, nat_cmp, nat_eq, nat_lt, option_map, refl, rules, slice_get, subst, suc, sym, true, unwrap_or, zero, [], ℕ, ◌&&◌, ◌++◌, ◌+◌, ◌-◌, ◌<◌, ◌==◌, ◌||◌, ◌∙◌, ◌∷◌, ◌≡◌, ◌≤◌}
 pub use Rattle.std.proofs.lemmas.Bool.Decides.{nat_tests}
 pub use Rattle.std.proofs.lemmas.Cmp.{eq_by_cmp_equiv, nat_cmp_total}
 pub use Rattle.std.proofs.lemmas.List.{drop-append-le}

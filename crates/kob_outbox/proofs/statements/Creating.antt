@@ -27,16 +27,8 @@ module _ {schema : Schema} {text : List ℕ} {table : Table} (it : IsCreation sc
   pub made_table : (old new : State) (count : ℕ) → old.now.schema ≡ schema → Executes text [] old new (Ok count)
       → Created schema table old new
   made_table old new count has h =
-      grind (
-        arith,
-        nat_tests,
-        runs_as text [] old new schema has CreateTable it.is it.plain count h,
-        went,
-        created,
-        lacks_sequence,
-        same_value,
-        next_tree,
-      )
+      let ran = runs_as text [] old new schema has CreateTable it.is it.plain count h in
+      grind (arith, nat_tests, went, created, lacks_sequence, same_value, next_tree)
 
   pub creates : (old new : Held MemStore) (r : Result ℕ Error) → IsBlank schema (database old)
       → (database new).step_limit ≡ (database old).step_limit

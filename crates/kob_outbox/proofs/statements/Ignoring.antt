@@ -1,5 +1,5 @@
 -- INSERT OR IGNORE of one row.
-use Rattle.kob_outbox.proofs.statements.Words.{AllByRecursion, Among, AreConflicts, Bool, Clears, Command, Concludes, Database, Enforced, Err, Error, Escapes, Executes, Given, Has, Ignore, InsertOr, Int, IsJudged, IsMisplaced, Judged, Keys, List, Mode, None, Ok, OnRows, OnTable, Option, Outcome, Refers, Refusal, Row, Schema, Some, Source, State, Table, Task, Term, Trees, Values, Written, [], accepts_terms, all_has, any_from_none, ap, arith, cast_row, conflicts, count_of, edit_of, edited, enumerate_from, false, fits_i64, id_in, if◌then◌else◌, inl, inr, length, list_any, map, mode_of, nat_tests, pos, put_row, refl, rowid, some_from, subst, suc, sym, true, understood, value_rows, ℕ, ◌++◌, ◌/◌, ◌<◌, ◌^◌, ◌∙◌, ◌∷◌, ◌≡◌}
+use Rattle.kob_outbox.proofs.statements.Words.{AllByRecursion, Among, AreConflicts, Bool, Clears, Command, Concludes, Database, Enforced, Err, Error, Escapes, Executes, Has, Ignore, InsertOr, Int, IsJudged, IsMisplaced, Judged, Keys, List, Mode, None, Ok, OnRows, OnTable, Option, Outcome, Refers, Refusal, Row, Schema, Some, Source, State, Table, Task, Term, Trees, Values, Written, [], accepts_terms, all_has, any_from_none, ap, arith, cast_row, conflicts, count_of, edit_of, edited, enumerate_from, false, fits_i64, id_in, if◌then◌else◌, inl, inr, length, list_any, map, mode_of, nat_tests, pos, refl, rowid, some_from, subst, suc, sym, true, understood, value_rows, ℕ, ◌++◌, ◌/◌, ◌<◌, ◌^◌, ◌∙◌, ◌∷◌, ◌≡◌}
 use Rattle.kob_outbox.proofs.statements.Failing.{IsMemory, IsWhole, NeverFails, for_memory_or}
 use Rattle.kob_outbox.proofs.statements.Numbered.{all_below, any_numbered, none_conflicts, one_conflicts, put_last}
 use Rattle.kob_outbox.proofs.statements.Plain.{same_value}
@@ -125,16 +125,9 @@ module _ {schema : Schema} {text : List ℕ} {terms : List Term} {width at : ℕ
   cleared : (one : Written) (found : List Row) → Found found → Clears task Ignore (row (n, x)) db found (Ok one)
       → Left one.trees (length one.rows)
   cleared one [] conf h =
-      grind (
-        arith,
-        nat_tests,
-        put old.step_limit Enforced schema table params alone (row (n, x)) db one h,
-        edit_of db (uncounted table) [] Given 0 (row (n, x) ∷ []),
-        edited,
-        put_row (row (n, x)),
-        put_last row numbered n xs x next,
-        none_found conf,
-      )
+      let applies = put old.step_limit Enforced schema table params alone (row (n, x)) db one h in
+      let last = put_last row numbered n xs x next in let none = none_found conf in
+      grind (arith, nat_tests, edit_of, edited)
   cleared one (f ∷ more) conf h = grind (arith, nat_tests, same_value, some_found, all_same)
 
   pub ignores : (new : State) (count : ℕ) → Executes text params old new (Ok count)

@@ -1,5 +1,5 @@
 -- What a write does to the trees, where no foreign key and no AUTOINCREMENT is about.
-use Rattle.kob_outbox.proofs.statements.Words.{AllByRecursion, Answers, Applies, Chosen, Conflict, Counter, Counts, Deletes, Edit, Edited, Given, Gives, Inserts, InsertsOr, Int, Integer, IsJudged, IsSource, Judged, Keys, List, None, Null, Ok, Option, Program, Puts, Refusal, Row, Schema, Source, Table, Task, Term, Then, Trees, TriesEach, Updates, Upsert, Values, Written, [], ap, arith, cast, cast_row, count_of, edit_of, false, ids_of, last_id, length, mended, nat_tests, nothing, one_step, option_or, subst, sym, taken_by, value_rows, with_rowid, works, ℕ, ℤ, ◌++◌, ◌/◌, ◌∙◌, ◌∷◌, ◌≡◌, ◌≢◌}
+use Rattle.kob_outbox.proofs.statements.Words.{AllByRecursion, Answers, Applies, Chosen, Conflict, Counter, Counts, Deletes, Edit, Edited, Given, Gives, Inserts, InsertsOr, Int, Integer, IsJudged, IsSource, Judged, Keys, List, None, Null, Ok, Option, Program, Puts, Refusal, Row, Schema, Source, Table, Task, Term, Then, Trees, TriesEach, Updates, Upsert, Values, Written, [], ap, arith, cast, cast_row, count_of, edit_of, false, ids_of, last_id, length, mended, nat_tests, nothing, one_step, option_or, taken_by, value_rows, with_rowid, works, ℕ, ℤ, ◌++◌, ◌/◌, ◌∙◌, ◌∷◌, ◌≡◌, ◌≢◌}
 use Rattle.sqlite.specs.Ops.{unary}
 use Rattle.kob_outbox.proofs.statements.Plain.{went, same_value}
 
@@ -33,11 +33,8 @@ module _ (limit : Option ℕ) (keys : Keys) (schema : Schema) (table : Table) (p
       → w ≡ record { trees = next; rows = rows; last = last }
       → Applies schema keys db (record { table = uncounted table; gone = gone; news = news }) w.trees × (w.rows ≡ rows)
   left db next gone news rows last w h is =
-      let edit : Edit = record { table = uncounted table; gone = gone; news = news } in (
-        subst (Applies schema keys db edit) (sym (ap (λ (it : Written). it.trees) is))
-            (one_step schema keys db next edit (alone (taken_by db edit) news) h),
-        ap (λ (it : Written). it.rows) is,
-      )
+      let edit : Edit = record { table = uncounted table; gone = gone; news = news } in
+      let step = one_step schema keys db next edit (alone (taken_by db edit) news) h in grind (arith, nat_tests)
 
   pub inserted : (from : Source) (db : Trees) (w : Written)
       → Inserts (task_on limit keys schema table params) from db (Ok w)

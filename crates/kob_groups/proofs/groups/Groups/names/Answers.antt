@@ -1,6 +1,5 @@
-use Rattle.kob_groups.proofs.Words.{ap, append-nil, keys_of, sym, ◌++◌, ◌∙◌}
+use Rattle.kob_groups.proofs.Words.{ap, append-nil, keys_of, keys_of-map_values, sym, ◌++◌, ◌∙◌}
 use Rattle.kob_groups.specs.Kept.{commits_in}
-use Rattle.kob_groups.proofs.Maps.{seen_keys}
 use Rattle.kob_groups.proofs.groups.Groups.names.Goals as goal
 
 pub returns : goal.returns
@@ -8,4 +7,4 @@ returns c =
     let ended = rw c.in-None.is at c.next.ensures.steps in
     c.from_vec.ensures ∙ sym (append-nil c.loop-name.names.items)
     ∙ ap (λ rest. c.loop-name.names.items ++ keys_of rest) (sym ended.0)
-    ∙ c.loop-name.invariant ∙ sym (seen_keys commits_in c.args.self.now.by_name.entries)
+    ∙ c.loop-name.invariant ∙ sym (keys_of-map_values commits_in c.args.self.now.by_name.entries)

@@ -1,15 +1,12 @@
+use Rattle.std.proofs.lemmas.Grind.{common_steps}
+use Rattle.kob_groups.proofs.Words.{arith}
 use Rattle.kob_groups.proofs.Words.{AreListed, [], ap, commits_in, groups_in, groups_of, has_commits, is_listed, lookup, not, removed_absent, same_text, subst, sym, without_group, ◌&&◌, ◌∙◌, ◌≡◌}
 use Rattle.kob_groups.proofs.Listings.{listed_removed}
 use Rattle.kob_groups.proofs.Maps.{seen_removed, seen_some}
 use Rattle.kob_groups.proofs.groups.Groups.remove.Goals as goal
 
 pub invariant_of-self : goal.invariant_of-self
-invariant_of-self c =
-    let name = c.args.name.now in let entries = c.args.self.now.by_name.entries in
-    let same = c.remove.ensures.entries
-    ∙ removed_absent name entries (sym c.remove.ensures.value ∙ c.in_default.is) in record {
-      listed = subst (λ es. AreListed (groups_in es) c.args.self.now.lists) (sym same) c.args.self.now.listed;
-    }
+invariant_of-self c = grind (arith, common_steps, removed_absent)
 
 pub invariant_of-self-2 : goal.invariant_of-self-2
 invariant_of-self-2 c =

@@ -1,16 +1,11 @@
+use Rattle.std.proofs.lemmas.Grind.{common_steps}
+use Rattle.kob_groups.proofs.Words.{arith}
 use Rattle.kob_groups.proofs.Words.{HasRoomFor, List, ap, false, group_of, is_among, is_listed, is_pair, is_some, lookup, name_at, same_text, set_value, subst, sym, topic_of, ℕ, ◌||◌, ◌∙◌, ◌≡◌}
 use Rattle.kob_groups.proofs.Names.{changes_to, changes_written, filled_changed, listed_put, one_more_filled, pushed_more}
 use Rattle.kob_groups.proofs.lists.GroupsByTopic.put_new.Goals as goal
 
 pub invariant_of-self : goal.invariant_of-self
-invariant_of-self c =
-    let lists = c.args.self.now in let topic = name_at lists.by_topic c.in-InList.place in
-    let old = lists.by_topic.entries in let was = c.value_at_mut.result.now in let final = c.insert.new.self in record {
-      filled = filled_changed topic final old (set_value (same_text topic) old final)
-          (changes_written topic was final old c.value_at_mut.ensures.value)
-          (one_more_filled c.in-InList.group _ was final c.insert.ensures.entries)
-          lists.filled;
-    }
+invariant_of-self c = grind (arith, common_steps, filled_changed, set_value, changes_written, one_more_filled)
 
 pub invariant_of-self-in-NewList : goal.invariant_of-self-in-NewList
 invariant_of-self-in-NewList c =

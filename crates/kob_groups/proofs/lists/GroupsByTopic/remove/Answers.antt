@@ -1,3 +1,4 @@
+use Rattle.std.proofs.lemmas.Grind.{common_steps}
 use Rattle.kob_groups.proofs.Words.{None, Some, ap, arith, is_among, length, not, option_copied_mut, same_text, set_value, sym, ◌&&◌, ◌∙◌, ◌≡◌}
 use Rattle.kob_groups.proofs.Names.{changes_taken, changes_twice, changes_written, filled_changed, filled_without, listed_left, none_is_less, taken_less}
 use Rattle.kob_groups.proofs.lists.GroupsByTopic.remove.Goals as goal
@@ -16,12 +17,7 @@ invariant_of-self-then-len-eq0 c =
 
 pub invariant_of-self-else-len-eq0 : goal.invariant_of-self-else-len-eq0
 invariant_of-self-else-len-eq0 c =
-    let topic = c.args.topic.now in let old = c.args.self.now.by_topic.entries in let final = c.remove.new.self in
-    let found = sym c.get_mut.ensures.value ∙ ap option_copied_mut c.in-Some.is in record {
-      filled = filled_changed topic final old (set_value (same_text topic) old final)
-          (changes_written topic c.in-Some.names.now final old found)
-          (omega (arith, c.len.ensures.count, c.if-len-eq0.false)) c.args.self.now.filled;
-    }
+    grind (arith, common_steps, option_copied_mut, filled_changed, set_value, changes_written)
 
 pub returns-then-len-eq0 : goal.returns-then-len-eq0
 returns-then-len-eq0 c =

@@ -1,4 +1,4 @@
-use Rattle.kob_prefix_tree.proofs.Words.{IsWay, arith, common_steps, contents, subst, take, ◌++◌, ◌∙◌}
+use Rattle.kob_prefix_tree.proofs.Words.{arith, common_steps, contents}
 use Rattle.kob_prefix_tree.proofs.PartsLemmas.{ends}
 use Rattle.kob_prefix_tree.proofs.branch.Branch.descend.Goals as goal
 
@@ -10,9 +10,6 @@ returns-then-not-enter-clause-end c =
 
 pub loop-byte-preserved : goal.loop-byte-preserved
 loop-byte-preserved c =
-    let old = contents c.args.self.now in
-    let key_is = c.parted-count.ensures.key_is
-    ∙ (λ i. take c.parted-count.result.0 (c.as_slice.ensures.bytes i) ++ c.in-Some.ensures.cases.0 i) in
-    c.enter.ensures.way c.in-Some.others.now c.args.key.now old c.if-not-enter.false
-    (subst (λ key. IsWay c.loop-byte.above.nodes key c.args.key.now old (contents c.loop-byte.self))
-    key_is c.loop-byte.invariant)
+    let key_is = c.parted-count.ensures.key_is in
+    let way = c.enter.ensures.way c.in-Some.others.now c.args.key.now (contents c.args.self.now) c.if-not-enter.false in
+    grind (arith, common_steps)

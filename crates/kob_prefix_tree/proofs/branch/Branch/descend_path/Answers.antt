@@ -1,4 +1,4 @@
-use Rattle.kob_prefix_tree.proofs.Words.{IsWay, ap, arith, common_steps, contents, key_of, subst, sym, take, ◌++◌, ◌∙◌, ◌∷◌}
+use Rattle.kob_prefix_tree.proofs.Words.{arith, common_steps, contents, key_of}
 use Rattle.kob_prefix_tree.proofs.PartsLemmas.{ends}
 use Rattle.kob_prefix_tree.proofs.branch.Branch.descend_path.Goals as goal
 
@@ -10,10 +10,6 @@ returns-then-not-enter-clause-end c =
 
 pub loop-byte-preserved : goal.loop-byte-preserved
 loop-byte-preserved c =
-    let old = contents c.args.self.now in let rest = key_of c.drop_byte.new.self.nodes in
-    let rest_is = c.in-Some.ensures ∙ ap (λ r. c.in-Some.byte ∷ r) (sym c.drop_byte.ensures) in
-    let key_is = c.drop_common-count.ensures.key_is
-    ∙ (λ i. take c.drop_common-count.result (c.as_slice.ensures.bytes i) ++ rest_is i) in
-    c.enter.ensures.way rest (key_of c.args.path.now.nodes) old c.if-not-enter.false
-    (subst (λ key. IsWay c.loop-byte.above.nodes key (key_of c.args.path.now.nodes) old (contents c.loop-byte.self))
-    key_is c.loop-byte.invariant)
+    let key_is = c.drop_common-count.ensures.key_is in
+    let way = c.enter.ensures.way (key_of c.drop_byte.new.self.nodes) (key_of c.args.path.now.nodes) (contents c.args.self.now)
+    c.if-not-enter.false in grind (arith, common_steps)

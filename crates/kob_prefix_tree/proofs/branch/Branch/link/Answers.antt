@@ -1,3 +1,5 @@
+use Rattle.kob_prefix_tree.proofs.Words.{common_steps}
+use Rattle.kob_prefix_tree.proofs.Words.{arith}
 use Rattle.kob_prefix_tree.proofs.Words.{ChangedAt, Contents, Held, LeadsNowhere, [], ap, bare, contents, end_of, key_of, led_by, siblings, subst, sym, trie_of, unwrap_or, with_serial, ◌++◌, ◌∙◌, ◌∷◌}
 use Rattle.kob_prefix_tree.proofs.ChangeLemmas.{changed_here, linked_front}
 use Rattle.kob_prefix_tree.proofs.WayLemmas.{behind, neat_inside, some_put}
@@ -6,15 +8,10 @@ use Rattle.kob_prefix_tree.proofs.branch.Branch.link.Goals as goal
 pub returns-then-is_null : goal.returns-then-is_null
 returns-then-is_null c =
     let b = c.args.self.now in let now = c.put.new.self in let f : Held → Held = with_serial c.args.kind c.args.serial in
-    let neat = neat_inside b.tail (end_of b) c.requires.neat in
-    let done : ChangedAt [] f (end_of b) (end_of now) =
-    subst (ChangedAt [] f (end_of b)) (λ i. (sym c.put.ensures.held i, trie_of (sym c.put.ensures.below i).nodes))
-    (changed_here f (end_of b).0 (end_of b).1 neat) in
-    let all = behind f b.tail [] (end_of b) (end_of now) c.requires.neat done
-    (some_put c.args.kind c.args.serial [] (end_of b).0 done.at) in
-    subst (λ k. ChangedAt (b.tail ++ k) f (contents b) (contents now))
-    (sym (ap key_of (c.is_null.ensures.0 c.if-is_null.true)))
-    (subst (λ bytes. ChangedAt (b.tail ++ []) f (contents b) (led_by bytes (end_of now))) (sym c.put.ensures.tail) all)
+    let here = changed_here f (end_of b).0 (end_of b).1 (neat_inside b.tail (end_of b) c.requires.neat) in
+    let none = c.is_null.ensures.0 c.if-is_null.true in
+    let all = behind f b.tail [] (end_of b) (end_of now) c.requires.neat in
+    grind (arith, common_steps, some_put c.args.kind c.args.serial [] (end_of b).0)
 
 pub returns : goal.returns
 returns c =

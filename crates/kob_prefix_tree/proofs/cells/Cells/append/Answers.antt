@@ -1,4 +1,6 @@
-use Rattle.kob_prefix_tree.proofs.Words.{Link, Serial, ap, sym, true≢false, with_others, ◌++◌, ◌∙◌}
+use Rattle.kob_prefix_tree.proofs.Words.{common_steps}
+use Rattle.kob_prefix_tree.proofs.Words.{arith}
+use Rattle.kob_prefix_tree.proofs.Words.{Link, Serial, ap, sym, true≢false, with_others, ◌∙◌}
 use Rattle.kob_prefix_tree.proofs.CellLemmas.{end_joined, values_are}
 use Rattle.kob_prefix_tree.proofs.cells.Cells.append.Goals as goal
 
@@ -13,9 +15,6 @@ invariant_of-self-2 c =
 
 pub returns : goal.returns
 returns c =
-    let self = c.self.inside.link in let others = c.other.inside.link in let kept = c.replace-link.ensures.value in
-    values_are self others c.join.result c.get-2.result.now c.get_mut.result.now
-    (λ none. true≢false (sym (c.is_null.ensures.1 none) ∙ c.if-is_null.false))
-    (λ none. true≢false (sym (c.is_null-2.ensures.1 none) ∙ c.if-is_null-2.false))
-    (c.join.ensures.nodes ∙ ap (λ (l : Link Serial). with_others l.nodes others) kept) c.get_mut.ensures.value
-    ∙ (λ i. c.self.view_is i ++ c.other.view_is i)
+    let self = c.self.inside.link in let others = c.other.inside.link in
+    let values = values_are self others c.join.result c.get-2.result.now c.get_mut.result.now in
+    grind (arith, common_steps)
