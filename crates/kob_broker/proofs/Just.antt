@@ -1,6 +1,5 @@
 -- Why each reply is just.
 use Rattle.kob_broker.proofs.Words.{Bool, Check, Contents, EachBlamed, EachGranted, EachJust, Event, HoldsInForce, IsBlame, IsDenial, IsJust, IsRising, List, Meaning, None, Option, Settings, Some, SomeGranted, State, Write, [], access_after, added_rises, after_write, arith, changed_access, cond, denial_code, false, first_unmet, is_granted, is_met, map, named, nat_tests, open_state, or_cases, or_parts, question, refl, removed_rises, rights, slice_get, state_after, step, subst, suc, take, true, true_verdict, verdict, write_of, zero, ℕ, ◌+◌, ◌∷◌, ◌≡◌}
-use Rattle.kob_rights.specs.Writes as writes
 use Rattle.kob_broker.proofs.Runs.{reply_at}
 use Rattle.kob_broker.proofs.Steps.{state_keeps, step_fits}
 

@@ -1,11 +1,8 @@
 -- A meaning of partitions that is carried to another gives the same steps.
 use Rattle.kob_broker.proofs.Words.{Carries, Contents, CreateTopics, DeleteRecords, DeleteTopics, Event, Fetch, List, ListOffsets, Meaning, None, OffsetCommit, Option, Outcome, Plain, Reason, Request, RunsAlike, Some, State, StepsAlike, Topic, [], ap, arith, counted, effect_by, has_topic_mapped, length-map, listed_mapped, map, map-append, metadata_of, metadata_reasons, nat_tests, option_map, partition_count_mapped, partition_in, partition_of_mapped, reasons_against, refl, replicate, replies_of, retaining_carries, state_after, state_map, step, suc, topics_map, with_batch, with_partition_mapped, with_start, without_topic_mapped, zero, ℕ, ◌∷◌, ◌≡◌}
 use Rattle.kob_rights.specs.declared.request.Request.TheVariants.{Metadata, Produce}
-use Rattle.kob_groups.specs.Groups as groups
-use Rattle.kob_rights.specs.Writes as writes
 use Rattle.kob_rights.specs.declared.on_partitions.DeleteRecords.{DeleteRecords as DeleteAsked}
 use Rattle.kob_rights.specs.declared.on_partitions.Produce.{Produce as ProduceAsked}
-use Rattle.kob_rights.specs.declared.reply.Body.TheVariants as bodies
 use Rattle.kob_broker.proofs.EachPartition.{unless_alike}
 
 module _ {P Q : Type 0} (f : P → Q) where

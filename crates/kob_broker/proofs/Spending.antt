@@ -1,6 +1,5 @@
 -- A limit of 63 or 64 bits is spent only where as many offsets, producer ids or serials were asked for.
 use Rattle.kob_broker.proofs.Words.{Added, All, All-nil, Binding, Bool, Draft, Event, IfSome, List, Option, Reason, Request, Retained, SaysNothingSpent, Settings, Some, State, Write, [], add_one, after_write, and_right, arith, asked_by, asked_in, asked_of, draft_reasons, false, first_reason, flat_map, fold, is_spent, le-ltb, length, list_any, list_any-append, named, nat_tests, offset_limit, open_state, or_from, or_parts, plain_meaning, reasons_against, refl, replies_of, retained_meaning, step, true, write_of, ℕ, ◌&&◌, ◌+◌, ◌∷◌, ◌≡◌, ◌≤◌}
-use Rattle.kob_rights.specs.Writes as writes
 use Rattle.kob_broker.proofs.EachPartition.{EachOf, each_after, of_request, unless_alike, written}
 use Rattle.kob_broker.proofs.Lifting.{runs_alike}
 use Rattle.kob_broker.proofs.Steps.{replies_keep, step_fits}

@@ -76,7 +76,7 @@ pub use Rattle.kob_rights.specs.declared.reply.Reply.{Reply}
 pub use Rattle.kob_rights.specs.declared.reply.Reply.TheVariants.{Denied, Done, Refused}
 pub use Rattle.kob_rights.specs.declared.request.Request.{Request}
 pub use Rattle.kob_rights.specs.declared.request.Request.TheVariants.{CreateTopics, DeleteGroups, DeleteRecords, DeleteTopics, Fetch, ListOffsets, OffsetCommit, OffsetFetch}
-pub use Rattle.std.proofs.Common.{All, Bool, IfSome, List, None, Option, Some, [], ap, arith, cond, drop, false, filter, find, get_or, inl, inr, is_some, le-ltb, length, length-append, length-drop, length-take, ltb-false, map, nat_eq, not, option_map, refl, replicate, rules, slice_get, slice_set, subst, suc, sym, take, true, unwrap_or, zero, ℕ, ◌&&◌, ◌++◌, ◌+◌, ◌-◌, ◌<◌, ◌↔◌, ◌∙◌, ◌∷◌, ◌≡◌, ◌≤◌}
+pub use Rattle.std.proofs.Common.{All, Bool, IfSome, List, None, Option, Some, [], ap, arith, cond, drop, false, filter, find, get_or, inl, inr, is_some, le-ltb, length, length-append, length-drop, length-take, ltb-false, map, nat_eq, not, option_map, refl, replicate, rules, slice_get, slice_set, subst, suc, sym, take, true, unwrap_or, zero, ℕ, ◌&&◌, ◌++◌, ◌+◌, ◌<◌, ◌↔◌, ◌∙◌, ◌∷◌, ◌≡◌, ◌≤◌}
 pub use Rattle.std.proofs.lemmas.Bool.{and_right, cond_both, or_cases, or_from, or_parts}
 pub use Rattle.std.proofs.lemmas.Bool.Decides.{nat_tests}
 pub use Rattle.std.proofs.lemmas.Fn.{filter_same}

@@ -85,7 +85,6 @@ fn binding_of(alloc: Global, draft: &Draft) -> Result<Binding, DraftFault>
 }
 
 /// The bindings of all drafts, or the first rule that one breaks.
-#[tactic(auto, using(crate::proofs::FirstReasons::first_some, crate::proofs::FirstReasons::first_none))]
 fn bindings_of(alloc: Global, drafts: &[Draft]) -> Result<Vec<Binding>, DraftFault>
     ensures ok { IfOk result (λ made. made.items ≡ drafts.now) }
     ensures allowed { OnOk result (first_reason (flat_map draft_reasons drafts.now) ≡ None) }

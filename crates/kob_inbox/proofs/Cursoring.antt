@@ -1,5 +1,5 @@
 -- A cursor that is moved, or that is new.
-use Rattle.kob_inbox.proofs.Words.{Bool, Cursor, List, None, Place, [], and_parts, arith, bytes_eq, bytes_eq-Decides, cases_Bool, cond-false, cond-true, cursor_of, drop, drop_more, eqb-true, get_or, length, nat_tests, refl, same_place, set, set_split, standing, take, true, with_cursor, ℕ, ◌++◌, ◌+◌, ◌<◌, ◌∷◌, ◌≡◌}
+use Rattle.kob_inbox.proofs.Words.{Bool, Cursor, List, None, Place, [], and_parts, arith, bytes_eq, bytes_eq-Decides, cases_Bool, cond-false, cond-true, cursor_of, drop, drop_more, eqb-true, get_or, length, nat_tests, refl, same_place, set, set_split, standing, take, true, with_cursor, ℕ, ◌++◌, ◌<◌, ◌∷◌, ◌≡◌}
 
 pub moved_new : (cs : List Cursor) (c : Cursor) → standing (cursor_of cs c.place) ≡ None
     → with_cursor cs c ≡ cs ++ c ∷ []

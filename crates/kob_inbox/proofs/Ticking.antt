@@ -1,6 +1,7 @@
 -- A tick of a consumer is put together.
-use Rattle.kob_inbox.proofs.Words.{Adds, Body, Call, Called, Committed, Contents, Cursor, Denied, Done, Fetch, Hears, IfNone, IfSome, InboxFault, IsDue, List, Lost, None, OffsetCommit, Option, Place, Record, Refused, Repeat, Reply, Request, Scene, Some, Standing, Stopped, Subscription, Tick, Ticks, [], after_answer, after_done, ap, append-nil, arith, arrivals, behind, cond-true, cursor_of, due, event_id, inl, inr, length, nat_tests, refl, slice_get, standing, sym, take, taken_in, true, with_progress, with_record, ℕ, ◌++◌, ◌+◌, ◌<◌, ◌∙◌, ◌∷◌, ◌≡◌}
+use Rattle.kob_inbox.proofs.Words.{Adds, Body, Call, Called, Committed, Contents, Cursor, Denied, Done, Fetch, Hears, IfNone, IfSome, InboxFault, IsDue, List, Lost, None, OffsetCommit, Option, Place, Record, Refused, Repeat, Reply, Request, Scene, Some, Standing, Stopped, Subscription, Tick, Ticks, [], after_answer, after_done, append-nil, arith, arrivals, behind, cond-true, cursor_of, due, event_id, inl, inr, length, nat_tests, refl, slice_get, standing, take, taken_in, true, with_progress, with_record, ℕ, ◌++◌, ◌+◌, ◌<◌, ◌∷◌, ◌≡◌}
 use Rattle.kob_inbox.specs.Run.{State}
+use Rattle.kob_router.specs.declared.line.Delivery.TheVariants.{Delivered}
 use Rattle.kob_inbox.specs.Tick.{IsAnswer}
 use Rattle.kob_rights.specs.declared.reply.Body.TheVariants as bodies
 use Rattle.kob_inbox.specs.declared.tick.StopReason.TheVariants as stop
@@ -21,17 +22,12 @@ behind_last n (y ∷ ys) x = behind_last (y.0 + 1) ys x
 
 -- ---- the request that is due
 
-pub is_due : (t : Subscription) (s : State) (p assigned : Place) (places : List Place) (cursors : List Cursor)
-    (stood : Option Standing) (request : Request) → places ≡ t.assignment → slice_get places s.turn ≡ Some assigned
-    → p ≡ assigned → cursors ≡ s.cursors → stood ≡ standing (cursor_of cursors p) → request ≡ due t p stood
-    → IsDue t s request
-is_due t s p assigned places cursors stood request whole turn copied same stands asked = record {
-  place = p;
-  its_turn = ap (λ (ps : List Place). slice_get ps s.turn) (sym whole) ∙ turn
-      ∙ ap (λ (q : Place). Some q) (sym copied);
-  is_due = asked ∙ ap (λ (x : Option Standing). due t p x) stands
-      ∙ ap (λ (cs : List Cursor). due t p (standing (cursor_of cs p))) same;
-}
+pub is_due : {t : Subscription} {s : State} {assigned : Place} {places : List Place} {cursors : List Cursor}
+    (p : Place) (stood : Option Standing) (request : Request) → places ≡ t.assignment
+    → slice_get places s.turn ≡ Some assigned → p ≡ assigned → cursors ≡ s.cursors
+    → stood ≡ standing (cursor_of cursors p) → request ≡ due t p stood → IsDue t s request
+is_due p stood request whole turn copied same stands asked =
+    record { place = p; its_turn = rw (← whole, copied) turn; is_due = rw (asked, stands, same) refl }
 
 abbrev pub commit_at : Subscription → Place → ℕ → Request
 commit_at t p position =
@@ -46,43 +42,45 @@ fetch_at t p position = Fetch (record { topic = p.topic; partition = p.partition
 abbrev pub scene : State → List Call → ℕ → Scene
 scene s calls unmade = record { state = s; calls = calls; unmade = unmade }
 
--- a call after which all stands as it did
-ticks_still : (t : Subscription) (s : State) (request : Request) (heard : Option Reply) (before now : List Call)
-    (u v : ℕ) (tick : Tick) → IsDue t s request → after_answer t s request heard 0 ≡ s
-    → now ≡ before ++ record { request = request; heard = heard } ∷ [] → v ≡ u
-    → IsAnswer t tick (Called (record { request = request; heard = heard }) 0 ∷ [])
-    → Ticks t (scene s before u) (scene s now v) tick
-ticks_still t s request heard before now u v tick due same made noted answer = grind (arith, nat_tests)
+abbrev pub state_with : Contents → List Cursor → ℕ → State
+state_with inbox cursors turn = record { inbox = inbox; cursors = cursors; turn = turn }
 
-heard_as : (before now : List Call) (request : Request) (a b : Reply)
-    → now ≡ before ++ record { request = request; heard = Some a } ∷ [] → a ≡ b
-    → now ≡ before ++ record { request = request; heard = Some b } ∷ []
-heard_as before now request a b made same = grind (arith, nat_tests)
+-- a tick over cursors that a growth left as they were
+module _ {t : Subscription} {inbox : Contents} {cs ds : List Cursor} {turn : ℕ} {asked : Request}
+    {before now : List Call} {u v : ℕ} (same : cs ≡ ds) (due : IsDue t (state_with inbox ds turn) asked) where
+  -- a call after which all stands as it did
+  ticks_still : (heard : Option Reply) {tick : Tick}
+      → after_answer t (state_with inbox ds turn) asked heard 0 ≡ state_with inbox ds turn
+      → now ≡ before ++ record { request = asked; heard = heard } ∷ [] → v ≡ u
+      → IsAnswer t tick (Called (record { request = asked; heard = heard }) 0 ∷ [])
+      → Ticks t (scene (state_with inbox ds turn) before u) (scene (state_with inbox cs turn) now v) tick
+  ticks_still heard {tick} stays made noted answer = grind (arith, nat_tests)
 
-module _ (t : Subscription) (s : State) (asked : Request) (before now : List Call) (u v : ℕ)
-    (due : IsDue t s asked) where
-  pub ticks_lost : Adds before now u v asked Lost → Ticks t (scene s before u) (scene s now v) Repeat
-  ticks_lost (inl made) = ticks_still t s asked None before now u v Repeat due refl made.0 made.1 (inr (asked, refl))
+  pub ticks_lost : Adds before now u v asked Lost
+      → Ticks t (scene (state_with inbox ds turn) before u) (scene (state_with inbox cs turn) now v) Repeat
+  ticks_lost (inl made) = ticks_still None refl made.0 made.1 (inr (asked, refl))
   ticks_lost (inr unmade) = grind (arith, nat_tests, append-nil)
 
-  module _ (reply : Reply)
-      (made : (now ≡ before ++ record { request = asked; heard = Some reply } ∷ []) × (v ≡ u)) where
-    pub ticks_denied : (code : _) (verdicts : _) → reply ≡ Denied code verdicts
-        → Ticks t (scene s before u) (scene s now v) (Stopped (stop.Denied code verdicts))
-    ticks_denied code verdicts is =
-        ticks_still t s asked (Some (Denied code verdicts)) before now u v (Stopped (stop.Denied code verdicts)) due
-        refl (heard_as before now asked reply (Denied code verdicts) made.0 is) made.1 (asked, refl)
+  pub ticks_denied : {reply : Reply} (code : _) (verdicts : _) → reply ≡ Denied code verdicts
+      → Adds before now u v asked (Delivered reply)
+      → Ticks t (scene (state_with inbox ds turn) before u) (scene (state_with inbox cs turn) now v)
+      (Stopped (stop.Denied code verdicts))
+  ticks_denied code verdicts is added =
+      let (made, noted) = rw is at added in ticks_still _ refl made noted (asked, refl)
 
-    pub ticks_refused : (code : _) (reason : _) → reply ≡ Refused code reason
-        → Ticks t (scene s before u) (scene s now v) (Stopped (stop.Refused code reason))
-    ticks_refused code reason is =
-        ticks_still t s asked (Some (Refused code reason)) before now u v (Stopped (stop.Refused code reason)) due refl
-        (heard_as before now asked reply (Refused code reason) made.0 is) made.1 (asked, refl)
+  pub ticks_refused : {reply : Reply} (code : _) (reason : _) → reply ≡ Refused code reason
+      → Adds before now u v asked (Delivered reply)
+      → Ticks t (scene (state_with inbox ds turn) before u) (scene (state_with inbox cs turn) now v)
+      (Stopped (stop.Refused code reason))
+  ticks_refused code reason is added =
+      let (made, noted) = rw is at added in ticks_still _ refl made noted (asked, refl)
 
-    -- a body was heard
-    pub ticks_heard : (new : State) (request : Request) (body : Body) (tick : Tick) → asked ≡ request
-        → reply ≡ Done body → Hears t s new request body tick → Ticks t (scene s before u) (scene new now v) tick
-    ticks_heard new request body tick same is k = grind (arith, nat_tests, heard_as)
+  -- a body was heard
+  pub ticks_heard : {new : State} {reply : Reply} (request : Request) (body : Body) {tick : Tick} → asked ≡ request
+      → reply ≡ Done body → Adds before now u v asked (Delivered reply)
+      → Hears t (state_with inbox cs turn) new request body tick
+      → Ticks t (scene (state_with inbox ds turn) before u) (scene new now v) tick
+  ticks_heard {new} {reply} request body {tick} due_is is added k = grind (arith, nat_tests)
 
 -- ---- what becomes of a body
 
@@ -92,22 +90,12 @@ pub hears_committed : (t : Subscription) (s new : State) (p : Place) (stood : Op
     → Hears t s new (due t p stood) body Committed
 hears_committed t s new p stood st body is on heard changed = grind (arith, nat_tests, cond-true)
 
-abbrev pub state_with : Contents → List Cursor → ℕ → State
-state_with inbox cursors turn = record { inbox = inbox; cursors = cursors; turn = turn }
-
 -- so many of the records were taken in
 pub took : (t : Subscription) (s : State) (p : Place) (position n after turn : ℕ) (rs : List (ℕ × Record))
     (inbox : Contents) (cursors : List Cursor) → 0 < length rs → inbox ≡ taken_in s.inbox (arrivals p (take n rs))
     → cursors ≡ with_progress s.cursors p n after → after ≡ behind position (take n rs) → turn ≡ s.turn
     → state_with inbox cursors turn ≡ after_done t s (fetch_at t p position) (bodies.Records rs) n
 took t s p position n after turn rs inbox cursors some taken moved passed stays = grind (arith, nat_tests)
-
--- the same over cursors that a growth left as they were
-pub regrown : (t : Subscription) (inbox : Contents) (cs ds : List Cursor) (turn : ℕ) (before now : List Call) (u v : ℕ)
-    (tick : Tick) → cs ≡ ds
-    → Ticks t (scene (state_with inbox ds turn) before u) (scene (state_with inbox ds turn) now v) tick
-    → Ticks t (scene (state_with inbox ds turn) before u) (scene (state_with inbox cs turn) now v) tick
-regrown t inbox cs ds turn before now u v tick e k = grind (arith, nat_tests)
 
 -- nothing kept a record out
 pub all_passed : (fault : Option InboxFault) (P : Type 0) → IfNone fault P → fault ≡ None → P

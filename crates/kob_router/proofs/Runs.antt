@@ -1,6 +1,5 @@
 -- A tick is put together from its parts.
-use Rattle.kob_router.proofs.Words.{AllByRecursion, Call, Called, Dispatching, EndsHeard, EndsUnmarked, Idle, InitProducerId, IsAnswer, IsAtMostOne, IsDone, IsOfTick, IsOneTick, IsRouterRun, List, Move, Moved, Recorded, Repeat, Reply, Restarted, Scene, State, StopReason, Stopped, Swept, Tick, Ticks, Took, [], after, ap, append_assoc, arith, calls_of, inl, inr, nat_tests, refl, subst, sym, ℕ, ◌++◌, ◌∙◌, ◌∷◌, ◌≡◌}
-use Rattle.kob_router.specs.declared.tick.StopReason.TheVariants as stop
+use Rattle.kob_router.proofs.Words.{AllByRecursion, Bool, Call, Called, Dispatching, EndsHeard, EndsUnmarked, Idle, InitProducerId, IsAnswer, IsAtMostOne, IsDone, IsHeld, IsOfTick, IsOneTick, IsRouterRun, List, MayCall, Move, Moved, Recorded, Repeat, Reply, Restarted, Scene, State, Stopped, Swept, Tick, Ticks, Took, [], after, ap, append_assoc, arith, calls_of, inl, inr, nat_tests, refl, subst, sym, ℕ, ◌++◌, ◌∙◌, ◌∷◌, ◌≡◌}
 
 -- a router with its outbox, and what its line tells
 abbrev pub scene : State → List Call → ℕ → Scene
@@ -52,20 +51,43 @@ answer_behind route Repeat ms ns new u t begins (inr (nothing, more)) = grind (a
 answer_behind route (Stopped reason) ms ns new u t begins (is, same) =
     grind (arith, nat_tests, heard_behind, unmarked_behind, calls_append)
 
+-- the moves up to a point of a tick
+pub record Begins (route : Dispatching) (old new : State) (before now : List Call) : Type 0 where
+  pub moves : List Move
+  pub own : AllByRecursion IsOfTick moves
+  pub run : IsRouterRun route old moves new
+  pub calls : now ≡ before ++ calls_of moves
+  pub begins : IsBeginning (calls_of moves)
+  pub held : IsHeld route new
+
 -- a tick is its beginning and its last part
-pub ticks_behind : (route : Dispatching) (ms : List Move) (a b c : State) (before middle now : List Call) (u t : ℕ)
-    (tick : Tick)
-    → AllByRecursion IsOfTick ms → IsRouterRun route a ms b → middle ≡ before ++ calls_of ms → IsBeginning (calls_of ms)
-    → Ticks IsAtMostOne route (scene b middle u) (scene c now t) tick
+pub ticks_behind : {route : Dispatching} {a b c : State} {before middle now : List Call} {u v t : ℕ} {tick : Tick}
+    → Begins route a b before middle → v ≡ u → Ticks IsAtMostOne route (scene b middle v) (scene c now t) tick
     → Ticks IsOneTick route (scene a before u) (scene c now t) tick
-ticks_behind route ms a b c before middle now u t tick own run calls begins last =
+ticks_behind {route = route} {a = a} {b = b} {c = c} {before = before} {u = u} {t = t} {tick = tick} k same last =
     grind (
       arith,
       nat_tests,
-      own_append ms last.moves own last.own,
-      run_append route ms last.moves a b c run last.run,
-      append_assoc before (calls_of ms) (calls_of last.moves),
-      calls_append ms last.moves,
-      few_more (calls_of ms) (calls_of last.moves) begins last.few,
-      answer_behind route tick ms last.moves c u t begins last.answer,
+      own_append k.moves last.moves k.own last.own,
+      run_append route k.moves last.moves a b c k.run last.run,
+      append_assoc before (calls_of k.moves) (calls_of last.moves),
+      calls_append k.moves last.moves,
+      few_more (calls_of k.moves) (calls_of last.moves) k.begins last.few,
+      answer_behind route tick k.moves last.moves c u t k.begins (rw same at last.answer),
     )
+
+-- a tick, or a part of one, of one call
+pub ticks_once : {shape : List Call → Type 0} {route : Dispatching} {s new : State} {before now : List Call} {u t : ℕ}
+    {tick : Tick} (call : Call) (marks : Bool)
+    → MayCall route s call.request call.heard marks → new ≡ after s (Called call marks) → now ≡ before ++ call ∷ []
+    → shape (call ∷ []) → IsAnswer route tick (Called call marks ∷ []) new u t → IsHeld route new
+    → Ticks shape route (scene s before u) (scene new now t) tick
+ticks_once call marks may is made few answer held = record {
+  moves = Called call marks ∷ [];
+  own = (tt, tt);
+  run = (may, is);
+  calls = made;
+  few = few;
+  answer = answer;
+  held = held;
+}

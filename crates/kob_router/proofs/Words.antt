@@ -1,6 +1,5 @@
 -- The names that the lemmas cite, passed on from one place.
 pub use Rattle.kob_names.specs.TopicRules.{is_topic_byte, topic_fault}
-pub use Rattle.kob_names.specs.declared.topic_name.TopicNameFault.TheVariants.{BadByte, Dots, Empty, TooLong}
 pub use Rattle.kob_outbox.specs.Contents.{Contents, Event}
 pub use Rattle.kob_outbox.specs.Events.{stored_event, stored_row}
 pub use Rattle.kob_outbox.specs.declared.event.OutboxEvent.{OutboxEvent}
@@ -21,7 +20,7 @@ pub use Rattle.kob_router.specs.Route.{id_header, message_of, placed_header, top
 pub use Rattle.kob_router.specs.Run.{Hand, IsDone, IsRouterRun, IsSending, KeepsRow, May, MayCall, Move, State, after, after_acknowledgement, calls_of, producer_after}
 pub use Rattle.kob_router.specs.Run.Move.{Called, Recorded, Restarted, Swept, Took}
 pub use Rattle.kob_router.specs.Template.{each_dollar_begins, is_template, with_routed_value}
-pub use Rattle.kob_router.specs.Tick.{EndsHeard, EndsUnmarked, IsAnswer, IsAtMostOne, IsHeld, IsOfTick, IsOneTick, Scene, Ticks, hand_of, scene_of, state_of}
+pub use Rattle.kob_router.specs.Tick.{EndsHeard, EndsUnmarked, IsAnswer, IsAtMostOne, IsHeld, IsOfTick, IsOneTick, Scene, Ticks, hand_of, state_of}
 pub use Rattle.kob_router.specs.declared.dispatch.Target.{Target}
 pub use Rattle.kob_router.specs.declared.line.Call.{Call}
 pub use Rattle.kob_router.specs.declared.line.Delivery.TheVariants.{Lost}
@@ -36,8 +35,8 @@ pub use Rattle.kob_router.specs.declared.settings.Routing.{Routing}
 pub use Rattle.kob_router.specs.declared.tick.StopReason.{StopReason}
 pub use Rattle.kob_router.specs.declared.tick.Tick.{Tick}
 pub use Rattle.kob_router.specs.declared.tick.Tick.TheVariants.{Idle, Moved, Repeat, Stopped}
-pub use Rattle.std.proofs.Common.{All, Bool, Err, IfOk, IsOk, List, None, Ok, Option, Result, Some, [], ap, append-nil, append_assoc, arith, cond, drop, false, get_or, if◌then◌else◌, inl, inr, length, lit<, map, not, refl, set, subst, suc, sym, take, true, true≢false, ℕ, ◌++◌, ◌+◌, ◌-◌, ◌<◌, ◌^◌, ◌↔◌, ◌∙◌, ◌∷◌, ◌≡◌, ◌≤◌}
-pub use Rattle.std.proofs.lemmas.Bool.{both_ways, cases_Bool, cases_lt, cond-false, cond-true, eq-eqb, or_cases, or_left, or_parts, or_right}
+pub use Rattle.std.proofs.Common.{All, Bool, Err, IfOk, IsOk, List, None, Ok, Option, Result, Some, [], ap, append-nil, append_assoc, arith, drop, false, get_or, if◌then◌else◌, inl, inr, length, lit<, map, not, refl, set, subst, suc, sym, take, true, true≢false, ℕ, ◌++◌, ◌+◌, ◌-◌, ◌<◌, ◌^◌, ◌↔◌, ◌∙◌, ◌∷◌, ◌≡◌, ◌≤◌}
+pub use Rattle.std.proofs.lemmas.Bool.{cases_Bool, cases_lt, cond-false, cond-true, eq-eqb, or_left, or_right}
 pub use Rattle.std.proofs.lemmas.Bool.Decides.{nat_tests}
 pub use Rattle.std.proofs.lemmas.Iterator.Consumers.{map_from_collect}
 pub use Rattle.std.proofs.lemmas.Iterator.Splits.{YieldsList-from_str_split}
@@ -45,10 +44,10 @@ pub use Rattle.std.proofs.lemmas.List.{drop_more, get_or_past, set_split}
 pub use Rattle.std.proofs.lemmas.List.Sums.{prefix_len_passes}
 pub use Rattle.std.proofs.lemmas.Slice.Eq.{bytes_eq-Decides}
 pub use Rattle.std.proofs.lemmas.Str.{IsUtf8-from_ascii}
-pub use Rattle.std.specs.List.{AllByRecursion, position, prefix_len}
+pub use Rattle.std.specs.List.{AllByRecursion, prefix_len}
 pub use Rattle.std.specs.Option.{is_some}
-pub use Rattle.std.specs.Prelude.{codes, nat_lt, option_map, ◌==◌, ◌||◌}
+pub use Rattle.std.specs.Prelude.{codes, option_map}
 pub use Rattle.std.specs.Result.{result_ok}
-pub use Rattle.std.specs.Str.{IsUtf8, bytes_eq}
+pub use Rattle.std.specs.Str.{IsUtf8}
 pub use Rattle.uuid.proofs.RoundTrips.{parses_hyphenated}
 pub use Rattle.uuid.specs.Text.{lower, parsed}

@@ -44,6 +44,7 @@ pub fn a_batch_is_repeated_as_it_was()
 }
 
 /// Rows of one aggregate go to one topic and one partition, and with one key.
+#[tactic(auto, using(crate::proofs::Lawful::one_place))]
 pub fn an_aggregate_has_one_partition()
     ensures place { (target : Target) (one two : Event)
         → one.aggregate_type ≡ two.aggregate_type → one.aggregate_id ≡ two.aggregate_id

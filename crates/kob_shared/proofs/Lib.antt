@@ -13,7 +13,6 @@ pub mod Differences
 pub mod Compared
 pub mod Counted
 pub mod Beginnings
-pub mod FaultCases
 pub mod NamedWorkers
 pub mod Noted
 pub mod FleetEnds

@@ -3,35 +3,33 @@ pub use Rattle.kob_authorizer.proofs.InTurn.{added_rises, in_turn_at_once}
 pub use Rattle.kob_broker.proofs.Runs.{replies_of_append, reply_at, state_after_append}
 pub use Rattle.kob_broker.specs.Change.{state_of}
 pub use Rattle.kob_broker.specs.State.{State, settings_of, with_bindings}
-pub use Rattle.kob_broker.specs.Step.{replies_of, state_after, step, step_by}
+pub use Rattle.kob_broker.specs.Step.{replies_of, step, step_by}
 pub use Rattle.kob_broker.specs.declared.broker.Broker.{Broker}
 pub use Rattle.kob_names.specs.declared.settings.Settings.{Settings}
 pub use Rattle.kob_partition.specs.Retained.{Retained, retained_meaning}
-pub use Rattle.kob_rights.specs.Bodies.{Fits, IsBodyOf}
+pub use Rattle.kob_rights.specs.Bodies.{Fits}
 pub use Rattle.kob_rights.specs.Offsets.{OffsetsWithin}
 pub use Rattle.kob_rights.specs.declared.event.Event.{Event}
 pub use Rattle.kob_rights.specs.declared.reply.Reply.{Reply}
 pub use Rattle.kob_shared.specs.Fleets.{BeginsWith, DifferAt, EachIsAnswered, Follows, IsAnswered, IsDifference, IsFirstDifference, IsFleet, IsKept, IsRising, IsTornAt, RisesWithin, asked_of_all, claims, claims_of, entries_asked, entries_told, events_of_script, mine, mine_from}
-pub use Rattle.kob_shared.specs.Journals.{IsLegal, IsSound, Record, after_event, entry, events_of, journaled_replies, outcome_of}
+pub use Rattle.kob_shared.specs.Journals.{IsLegal, IsSound, Record, after_event, entry, events_of, outcome_of}
 pub use Rattle.kob_shared.specs.Noted.{Noted}
 pub use Rattle.kob_shared.specs.Openings.{IsFresh, opened_by}
-pub use Rattle.kob_shared.specs.Runs.{IsAsNoted, IsFirstFault, IsFullOnlyPast, IsNamedWithin, IsTaken, IsTear, NamesFirstFault, NamesNoWorker, as_fault, as_of_worker, events_in, notes_of, told_in}
+pub use Rattle.kob_shared.specs.Runs.{IsAsNoted, IsFirstFault, IsFullOnlyPast, IsNamedWithin, IsTaken, IsTear, NamesFirstFault, NamesNoWorker, NamesOneOf, as_of_worker, events_in, notes_of, told_in}
 pub use Rattle.kob_shared.specs.Sessions.{IsServed, event_by}
-pub use Rattle.kob_shared.specs.Tears.{IsLater, IsTornOnlyWhere, NamesWorkerWithin}
 pub use Rattle.kob_shared.specs.declared.compare.Difference.{Difference}
 pub use Rattle.kob_shared.specs.declared.faults.CallFault.{CallFault}
 pub use Rattle.kob_shared.specs.declared.faults.ServeFault.{ServeFault}
 pub use Rattle.kob_shared.specs.declared.fleet_stop.FleetStop.{FleetStop}
-pub use Rattle.kob_shared.specs.declared.fleet_stop.FleetStop.TheVariants.{Full, Memory, NotBegun, Stale}
 pub use Rattle.kob_shared.specs.declared.journal.Entry.{Entry}
 pub use Rattle.kob_shared.specs.declared.journal.Receipt.{Receipt}
 pub use Rattle.kob_shared.specs.declared.script.Script.{Script}
 pub use Rattle.kob_shared.specs.declared.work.Done.{Done}
-pub use Rattle.std.proofs.Common.{Bool, Err, IfOk, List, None, Ok, Option, Result, Some, [], add-one, ap, append-nil, append_assoc, arith, cond, false, get_or, inl, inr, length, length-append, map, option_map, refl, slice_get, subst, suc, sym, take, take-suc, true, vec_len, zero, ℕ, ◌++◌, ◌+◌, ◌<◌, ◌∙◌, ◌∷◌, ◌≡◌, ◌≢◌, ◌≤◌, ◌⊎◌}
+pub use Rattle.std.proofs.Common.{Bool, Err, IfOk, List, Ok, Option, Result, Some, [], add-one, ap, append-nil, append_assoc, arith, get_or, inl, inr, length, length-append, map, refl, slice_get, subst, suc, sym, take, take-suc, vec_len, zero, ℕ, ◌++◌, ◌+◌, ◌<◌, ◌∙◌, ◌∷◌, ◌≡◌, ◌≢◌, ◌≤◌}
 pub use Rattle.std.proofs.Math.Numerals.{suc-eq-add-one}
-pub use Rattle.std.proofs.lemmas.Bool.{cases_Bool, cases_eq, cases_lt, eq-eqb, eqb-true, ne_eqb}
+pub use Rattle.std.proofs.lemmas.Bool.{cases_Bool, cases_lt, eq-eqb, ne_eqb}
 pub use Rattle.std.proofs.lemmas.Bool.Decides.{nat_tests}
 pub use Rattle.std.proofs.lemmas.List.{get_or-map, get_or_past, length-map, length-take, length-take-le, map-append, take-map}
 pub use Rattle.std.proofs.lemmas.Option.{get_or_from_slice_get, slice_get-get_or, slice_get-map, slice_get_cases, slice_get_read, slice_get_within}
 pub use Rattle.std.specs.List.{All, AllZip, enumerate_from, fold, sum_by}
-pub use Rattle.std.specs.Prelude.{IfSome, MatchOption, OnErr, OnOk, filter, if◌then◌else◌, nat_le, ◌==◌}
+pub use Rattle.std.specs.Prelude.{IfSome, MatchOption, OnErr, OnOk, if◌then◌else◌, ◌==◌}

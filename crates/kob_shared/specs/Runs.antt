@@ -5,13 +5,11 @@ use Rattle.kob_names.specs.declared.settings.Settings.{Settings}
 use Rattle.kob_shared.specs.declared.compare.Difference.{Difference}
 use Rattle.kob_shared.specs.declared.faults.CallFault.{CallFault}
 use Rattle.kob_shared.specs.declared.faults.CallFault.TheVariants as calls
-use Rattle.kob_shared.specs.declared.fleet_fault.FleetFault.{FleetFault}
-use Rattle.kob_shared.specs.declared.fleet_fault.FleetFault.TheVariants as faults
 use Rattle.kob_shared.specs.declared.fleet_stop.FleetStop.{FleetStop}
 use Rattle.kob_shared.specs.declared.fleet_stop.FleetStop.TheVariants.{NotBegun, Memory, Stale, Full}
 use Rattle.kob_shared.specs.declared.journal.Receipt.{Receipt}
 use Rattle.kob_shared.specs.declared.work.Done.{Done}
-use Rattle.kob_shared.specs.Fleets.{IsAnswered, IsKept, IsTornAt, entries_told}
+use Rattle.kob_shared.specs.Fleets.{IsAnswered, IsKept, IsTornAt, IsWorkerWithin, entries_told}
 use Rattle.kob_shared.specs.Limits.{entry_limit}
 use Rattle.kob_shared.specs.Journals.{Record}
 use Rattle.kob_shared.specs.Noted.{Noted}
@@ -47,9 +45,15 @@ as_of_worker worker calls.JournalFull = Full worker
 
 -- the worker is one of worker 0 and so many more, and worker 0 is not stale
 abbrev pub IsNamedWithin : ℕ → FleetStop → Type 0
-IsNamedWithin count (Stale worker length) = (1 ≤ worker) × (worker ≤ count)
+IsNamedWithin count (Stale worker length) = IsWorkerWithin count worker
 IsNamedWithin count (Full worker) = worker ≤ count
 IsNamedWithin count stop = Unit {0}
+
+-- a worker that is named is one of so many, and not worker 0
+abbrev pub NamesOneOf : ℕ → FleetStop → Type 0
+NamesOneOf count (Stale worker length) = IsWorkerWithin count worker
+NamesOneOf count (Full worker) = IsWorkerWithin count worker
+NamesOneOf count stop = Unit {0}
 
 -- no worker is named
 abbrev pub NamesNoWorker : FleetStop → Type 0
@@ -85,12 +89,3 @@ NamesFirstFault results (Full worker) =
     (k : ℕ) × (worker ≡ k + 1) × IsFirstFault results k calls.JournalFull
 NamesFirstFault results Memory = (k : ℕ) × IsFirstFault results k calls.Memory
 NamesFirstFault results NotBegun = ⊥
-
-abbrev pub as_fault : FleetStop → FleetFault
-as_fault NotBegun = faults.NotBegun
-as_fault Memory = faults.Memory
-as_fault (Stale worker length) = faults.Stale worker length
-as_fault (Full worker) = faults.Full worker
-
-abbrev pub IsAsFault : FleetStop → FleetFault → Type 0
-IsAsFault stop fault = fault ≡ as_fault stop

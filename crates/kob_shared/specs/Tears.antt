@@ -3,8 +3,9 @@ use Rattle.std.specs.Prelude.{ℕ, List}
 use Rattle.kob_rights.specs.declared.event.Event.{Event}
 use Rattle.kob_names.specs.declared.settings.Settings.{Settings}
 use Rattle.kob_shared.specs.declared.fleet_fault.FleetFault.{FleetFault}
-use Rattle.kob_shared.specs.declared.fleet_fault.FleetFault.TheVariants.{TooManyWorkers, JournalFull, Stale, Full, Torn}
-use Rattle.kob_shared.specs.Fleets.{EachIsAnswered, IsTornAt, IsWorkerWithin}
+use Rattle.kob_shared.specs.declared.fleet_fault.FleetFault.TheVariants.{TooManyWorkers, JournalFull, Stopped, Torn}
+use Rattle.kob_shared.specs.Fleets.{EachIsAnswered, IsTornAt}
+use Rattle.kob_shared.specs.Runs.{NamesOneOf}
 
 -- the journal that is given back is torn there, and each transcript has a receipt for each event
 abbrev pub IsTornOnlyWhere : Settings → List (List Event) → FleetFault → Type 0
@@ -18,8 +19,7 @@ IsLater TooManyWorkers = ⊥
 IsLater JournalFull = ⊥
 IsLater fault = Unit {0}
 
--- the worker is one of so many, and not worker 0, whose events fit
+-- a worker that is named is one of so many, and not worker 0, whose events fit
 abbrev pub NamesWorkerWithin : ℕ → FleetFault → Type 0
-NamesWorkerWithin count (Stale worker length) = IsWorkerWithin count worker
-NamesWorkerWithin count (Full worker) = IsWorkerWithin count worker
+NamesWorkerWithin count (Stopped stop) = NamesOneOf count stop
 NamesWorkerWithin count fault = Unit {0}

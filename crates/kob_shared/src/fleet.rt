@@ -10,9 +10,8 @@ ghost use Rattle.kob_shared.specs.Openings.{IsFresh};
 ghost use Rattle.kob_shared.specs.Journals.{IsSound};
 ghost use Rattle.kob_shared.specs.Fleets.{Follows, entries_told};
 ghost use Rattle.kob_shared.specs.Runs.{HasBegun, IsAsNoted, IsFullOnlyPast, IsNamedWithin, IsTear};
-ghost use Rattle.kob_shared.specs.Runs.{NamesFirstFault, NamesNoWorker, as_fault, as_of_worker};
+ghost use Rattle.kob_shared.specs.Runs.{NamesFirstFault, NamesNoWorker, NamesOneOf, as_of_worker};
 ghost use Rattle.kob_shared.specs.Runs.{notes_of};
-ghost use Rattle.kob_shared.specs.Tears.{NamesWorkerWithin};
 
 use crate::compare::{Difference, compare};
 use crate::faults::{CallFault, ServeFault};
@@ -271,8 +270,7 @@ where
     ensures first { IfOk result (λ ran. ran.first ≡ noted) }
     ensures each { IfOk result
         (λ ran. AllZip (λ w d. W.keeps w d.notes d.end) works.now ran.done.items) }
-    ensures named { IfErr result
-        (λ stop. NamesWorkerWithin (length works.now) (as_fault stop)) }
+    ensures named { IfErr result (NamesOneOf (length works.now)) }
 {
     let shared = SharedBroker::open(recorded);
     match run_and_gather(rt, alloc, &shared, works, room, gate) {
@@ -307,8 +305,7 @@ where
     requires room { length works.now ≤ vec_capacity room }
     ensures each { IfOk result
         (λ done. AllZip (λ w d. W.keeps w d.notes d.end) works.now done.items) }
-    ensures named { IfErr result
-        (λ stop. NamesWorkerWithin (length works.now) (as_fault stop)) }
+    ensures named { IfErr result (NamesOneOf (length works.now)) }
 {
     match run_workers(rt, alloc, shared, works, gate) {
         Ok(results) => gather(room, results),

@@ -16,6 +16,7 @@ ghost use Rattle.kob_shared.specs.Runs.{IsTaken, notes_of};
 use crate::compare::Difference;
 use crate::fleet::{Ran, find_tear, run_fleet};
 use crate::fleet_fault::FleetFault;
+use crate::fleet_stop::FleetStop;
 use crate::journal::Journal;
 use crate::notes::Notes;
 use crate::recorded::{ENTRY_LIMIT, Recorded};
@@ -99,7 +100,7 @@ fn end_of(
     } = ran;
     let Ok(transcripts) = transcripts_of(alloc, noted, done) else {
         drop(found);
-        return Err(FleetFault::Memory);
+        return Err(FleetFault::Stopped(FleetStop::Memory));
     };
     if let Some(difference) = difference {
         return Err(torn(difference, found, transcripts));
@@ -206,7 +207,7 @@ fn run_fitting<R: Threads + Wait + Sync, G: Gate + Sync>(
         drop(broker);
         drop(first);
         drop(scripts);
-        return Err(FleetFault::Memory);
+        return Err(FleetFault::Stopped(FleetStop::Memory));
     };
     let end = run_from(rt, alloc, &opening, broker, first, scripts.as_slice(), gate);
     drop(opening);
@@ -216,7 +217,6 @@ fn run_fitting<R: Threads + Wait + Sync, G: Gate + Sync>(
 
 /// Runs scripts over a broker that was opened with these settings, and compares the journal with
 /// the workers' receipts.
-#[tactic(auto, using(crate::proofs::FaultCases::later_stopped))]
 fn run_from<R: Threads + Wait + Sync, G: Gate + Sync>(
     rt: &R,
     alloc: Global,

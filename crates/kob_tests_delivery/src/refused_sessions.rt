@@ -11,7 +11,7 @@ use crate::pipelines::run;
 use crate::plans::plan_of_two;
 use crate::sessions::{place_of, session};
 use kob_pipeline::{PipelineEnd, PipelineFault};
-use kob_shared::{CallFault, FleetFault, Session, SharedBroker};
+use kob_shared::{CallFault, FleetFault, FleetStop, Session, SharedBroker};
 use std::alloc::Global;
 use std::sync::Wait;
 use std::test::Fail;
@@ -80,7 +80,7 @@ fn serves_two<R: Threads + Wait + Sync>(rt: &R, alloc: Global) -> Option<bool> {
     let ended = ended(rt, Vec::new(alloc), Vec::new(alloc), scripts, &gate, alloc)?;
     let told = match &ended {
         Ok(end) => Some(tells_two_each(end, 2)),
-        Err(FleetFault::Memory | FleetFault::NotBegun) => None,
+        Err(FleetFault::Stopped(FleetStop::Memory | FleetStop::NotBegun)) => None,
         Err(_) => Some(false),
     };
     drop(ended);

@@ -1,6 +1,5 @@
-use Rattle.kob_shared.proofs.Words.{AllZip, IfOk, NamesFirstFault, Ok, arith, as_fault, length, map, ◌≡◌}
+use Rattle.kob_shared.proofs.Words.{AllZip, IfOk, NamesFirstFault, NamesOneOf, Ok, arith, length, map, ◌≡◌}
 use Rattle.std.proofs.lemmas.Result.{IfErr-weaker, IfOk-weaker}
-use Rattle.kob_shared.specs.Tears.{NamesWorkerWithin}
 use Rattle.kob_shared.proofs.NamedWorkers.{within_first, within_more, within_none}
 use Rattle.kob_shared.proofs.Noted.{kept_done}
 use Rattle.std.proofs.lemmas.Slice.Zip.{AllZip-long}
@@ -30,9 +29,8 @@ returns-in-Ok-clause-named g c =
     let same =
     AllZip-long (λ w r. IfOk r (λ d. g.W.Work.keeps w d.notes d.end)) works results c.in-Ok.ensures.each in
     IfErr-weaker c.gather.result (NamesFirstFault results)
-    (λ f. NamesWorkerWithin (length works) (as_fault f))
-    (λ f named.
-    within_more (length results) (length works) (as_fault f) (omega (arith, same)) (within_first results f named))
+    (NamesOneOf (length works))
+    (λ f named. within_more (length results) (length works) f (omega (arith, same)) (within_first results f named))
     c.gather.ensures.named
 
 pub returns-in-Err-clause-named : goal.returns-in-Err-clause-named

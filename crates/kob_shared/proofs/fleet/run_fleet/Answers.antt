@@ -1,7 +1,6 @@
-use Rattle.kob_shared.proofs.Words.{Follows, IsFullOnlyPast, IsNamedWithin, arith, as_fault, length, subst, sym, vec_len, ◌≡◌}
+use Rattle.kob_shared.proofs.Words.{Follows, IsFullOnlyPast, IsNamedWithin, NamesOneOf, arith, length, subst, sym, vec_len, ◌≡◌}
 use Rattle.std.proofs.lemmas.Result.{IfErr-weaker, IfOk-weaker}
 use Rattle.kob_shared.specs.Limits.{entry_limit}
-use Rattle.kob_shared.specs.Tears.{NamesWorkerWithin}
 use Rattle.kob_shared.proofs.NamedWorkers.{full_within, named_more, named_within}
 use Rattle.kob_shared.proofs.fleet.run_fleet.Goals as goal
 
@@ -15,14 +14,14 @@ returns-in-Ok-begin-clause-first g c =
 pub returns-in-Ok-begin-clause-named : goal.returns-in-Ok-begin-clause-named
 returns-in-Ok-begin-clause-named g c =
     let count = length c.args.works.now in
-    IfErr-weaker c.run_begun.result (λ f. NamesWorkerWithin count (as_fault f)) (IsNamedWithin count)
+    IfErr-weaker c.run_begun.result (NamesOneOf count) (IsNamedWithin count)
     (named_within count) c.run_begun.ensures.named
 
 pub returns-in-Ok-begin-clause-full : goal.returns-in-Ok-begin-clause-full
 returns-in-Ok-begin-clause-full g c =
     let count = length c.args.works.now in
     let events = vec_len c.args.first in
-    IfErr-weaker c.run_begun.result (λ f. NamesWorkerWithin count (as_fault f)) (IsFullOnlyPast entry_limit events)
+    IfErr-weaker c.run_begun.result (NamesOneOf count) (IsFullOnlyPast entry_limit events)
     (full_within entry_limit events count) c.run_begun.ensures.named
 
 pub returns-in-Err-clause-named : goal.returns-in-Err-clause-named

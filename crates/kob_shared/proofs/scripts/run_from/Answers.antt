@@ -1,7 +1,7 @@
+use Rattle.kob_shared.proofs.Words.{nat_tests}
 use Rattle.std.proofs.Common.{arith, length}
 use Rattle.std.proofs.lemmas.Result.{IfErr-weaker}
 use Rattle.kob_shared.specs.Tears.{NamesWorkerWithin}
-use Rattle.kob_shared.proofs.NamedWorkers.{within_more}
 use Rattle.kob_shared.proofs.scripts.run_from.Goals as goal
 
 pub returns-clause-ok : goal.returns-clause-ok
@@ -12,6 +12,5 @@ returns-clause-torn g c = rw (← (c.in_ok-ran.ensures.first.0)) c.end_of.ensure
 
 pub returns-clause-named : goal.returns-clause-named
 returns-clause-named g c =
-    let count = length c.args.scripts.now in
-    IfErr-weaker c.end_of.result (NamesWorkerWithin 0) (NamesWorkerWithin count)
-    (λ f. within_more 0 count f (omega arith)) c.end_of.ensures.named
+    IfErr-weaker c.end_of.result (NamesWorkerWithin 0) (NamesWorkerWithin (length c.args.scripts.now))
+    (λ f named. grind (arith, nat_tests)) c.end_of.ensures.named

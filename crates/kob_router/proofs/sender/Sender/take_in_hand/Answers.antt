@@ -1,13 +1,10 @@
-use Rattle.kob_router.proofs.Words.{List, None, Option, Sequence, Some, ap, false, inl, inr, is_some, option_map, refl, stored_row, sym, true, true≢false, ◌∙◌, ◌≡◌}
+use Rattle.std.proofs.lemmas.Grind.{common_steps}
+use Rattle.kob_router.proofs.Words.{None, Option, Some, ap, arith, inl, inr, is_some, option_map, refl, stored_row, sym, true, true≢false, ◌∙◌, ◌≡◌}
 use Rattle.kob_router.proofs.sender.Sender.take_in_hand.Goals as goal
 
 some_there : {A : Type 0} (o : Option A) → is_some o ≡ true → (x : A) × (o ≡ Some x)
 some_there None there = absurd (true≢false (sym there))
 some_there (Some x) there = (x, refl)
-
-none_there : {A : Type 0} (o : Option A) → is_some o ≡ false → o ≡ None
-none_there None there = refl
-none_there (Some x) there = absurd (true≢false there)
 
 pub returns-then-is_some-clause-done : goal.returns-then-is_some-clause-done
 returns-then-is_some-clause-done c =
@@ -19,14 +16,8 @@ returns-clause-done c =
     inr
     (record {
       held = record { row = c.in-Ok-Some.row; place = c.in-Ok.place };
-      nothing_before = none_there c.args.self.now.hand (sym c.is_some.ensures ∙ c.if-is_some.false);
+      nothing_before = grind (arith, common_steps);
       first_waits = sym c.in-Ok-Some.ensures.row ∙ ap (option_map stored_row) c.in-Ok-Some.field-0-is;
       goes = c.in-Ok.ensures;
-      taken = ap (λ (ss : List Sequence). record {
-        target = c.args.self.now.target;
-        producer = c.args.self.now.producer;
-        sequences = ss;
-        hand = Some
-            (record { row = c.in-Ok-Some.row; place = c.in-Ok.place });
-      }) c.in-Ok-prepare.ensures.ok;
+      taken = rw c.in-Ok-prepare.ensures.ok refl;
     })

@@ -1,26 +1,14 @@
-use Rattle.kob_router.proofs.Words.{List, Place, Sequence, [], ap, both_ways, cases_Bool, cond-false, cond-true, false, has_place, inl, inr, or_cases, or_parts, refl, same_place, sym, true, true≢false, with_sequence_for, ◌++◌, ◌∙◌, ◌∷◌, ◌≡◌}
+use Rattle.kob_router.proofs.Words.{List, Place, Sequence, [], ap, arith, false, has_place, nat_tests, refl, sym, true, true≢false, with_sequence_for, ◌++◌, ◌∙◌, ◌∷◌, ◌≡◌}
 use Rattle.kob_router.proofs.sequences.Sequences.prepare.Goals as goal
 
 prepared_there : (ss : List Sequence) (p : Place) → has_place ss p ≡ true → with_sequence_for ss p ≡ ss
 prepared_there [] p there = absurd (true≢false (sym there))
-prepared_there (s ∷ ss) p there =
-    elim (cases_Bool (same_place s.place p)) [
-      | inl on ↦ cond-true (same_place s.place p) (s ∷ ss) (s ∷ with_sequence_for ss p) on
-      | inr off ↦
-          cond-false (same_place s.place p) (s ∷ ss) (s ∷ with_sequence_for ss p) off
-          ∙ elim (or_cases (same_place s.place p) (has_place ss p) there) [
-            | inl on ↦ absurd (both_ways (same_place s.place p) off on)
-            | inr later ↦ ap (λ (xs : List Sequence). s ∷ xs) (prepared_there ss p later)
-          ]
-    ]
+prepared_there (s ∷ ss) p there = grind (arith, nat_tests, prepared_there ss p)
 
 prepared_new : (ss : List Sequence) (p : Place) → has_place ss p ≡ false
     → with_sequence_for ss p ≡ ss ++ record { place = p; next = 0 } ∷ []
 prepared_new [] p new = refl
-prepared_new (s ∷ ss) p new =
-    let parts = or_parts (same_place s.place p) (has_place ss p) new in
-    cond-false (same_place s.place p) (s ∷ ss) (s ∷ with_sequence_for ss p) parts.0
-    ∙ ap (λ (xs : List Sequence). s ∷ xs) (prepared_new ss p parts.1)
+prepared_new (s ∷ ss) p new = grind (arith, nat_tests, prepared_new ss p)
 
 pub returns-then-has_place-clause-ok : goal.returns-then-has_place-clause-ok
 returns-then-has_place-clause-ok c =
