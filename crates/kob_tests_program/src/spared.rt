@@ -11,7 +11,7 @@ const CUE: usize = 7_654_321;
 
 /// From here on nothing is allocated, and if `.ci/refuse` runs the test, every allocation is
 /// refused.
-fn spare(alloc: Global) -> bool {
+pub(crate) fn spare(alloc: Global) -> bool {
     Vec::<u8>::with_capacity(alloc, CUE).is_ok()
 }
 

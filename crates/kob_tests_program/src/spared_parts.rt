@@ -1,22 +1,14 @@
-//! Second steps, which do not allocate: the first steps made all allocations. `.ci/refuse` runs
-//! them with every allocation refused from `spare` on.
+//! Second steps of lists, trees and authorizers, which do not allocate: the first steps made all
+//! allocations. `.ci/refuse` runs them with every allocation refused from `spare` on.
 
 use crate::chunks::put_below;
 use crate::names::copied_twice;
+use crate::spared::spare;
 use kob_authorizer::Authorizer;
 use kob_chunks::ChunkList;
 use kob_names::{Host, Operation, Principal, ResourceKind, Verdict};
 use kob_prefix_tree::{PatternKind, PrefixTree};
 use std::alloc::{AllocError, Global};
-
-/// The size of an allocation after which `.ci/refuse` refuses all others.
-const CUE: usize = 7_654_321;
-
-/// From here on nothing is allocated, and if `.ci/refuse` runs the test, every allocation is
-/// refused.
-pub(crate) fn spare(alloc: Global) -> bool {
-    Vec::<u8>::with_capacity(alloc, CUE).is_ok()
-}
 
 /// Whether an authorizer is opened, and grants a super user at once.
 fn opens(alloc: Global, supers: Vec<Principal>, (root, from): &(Principal, Host)) -> bool {
