@@ -10,7 +10,7 @@ pub use Rattle.kob_script.specs.Reading.{BadLine, BadNumber, Fails, Fault, Fault
 pub use Rattle.kob_script.specs.Requests.{AreWholeLines, answers_after, first_answer, lines_in_blocks, lines_left, requests_in, requests_left, requests_of, rest_of, steps_left}
 pub use Rattle.kob_script.specs.Script.{HasNoAclLine, IfRead, IsAnswerTo, IsAnswerToLine, ReadsAs, Script, ScriptError, ThenLines, asks_clap, empty_script, line_words, lines_in, then_lines, with_words}
 pub use Rattle.kob_script.specs.Values.{named_principal, number_in, record_of, text_of}
-pub use Rattle.kob_script.specs.Words.{LeavesWhole, Word, before, byte_at, cut_at, escaped, has_whole_escapes, hexadecimal, is_blank, raw_words, unescaped, word_of, words_of}
+pub use Rattle.kob_script.specs.Words.{LeavesWhole, Word, before, byte_at, cut_at, escaped, has_whole_escapes, is_blank, raw_words, unescaped, word_of, words_of}
 pub use Rattle.kob_script.specs.declared.checks.Checking.{Checking}
 pub use Rattle.kob_script.specs.declared.command.Place.TheVariants.{Texts}
 pub use Rattle.memchr.proofs.lemmas.ValueLemmas.{IsFirstByte-value}
