@@ -10,12 +10,12 @@ pub use Rattle.kob_script.specs.Reading.{BadLine, BadNumber, Fails, Fault, Fault
 pub use Rattle.kob_script.specs.Requests.{AreWholeLines, answers_after, first_answer, lines_in_blocks, lines_left, requests_in, requests_left, requests_of, rest_of, steps_left}
 pub use Rattle.kob_script.specs.Script.{HasNoAclLine, IfRead, IsAnswerTo, IsAnswerToLine, ReadsAs, Script, ScriptError, ThenLines, asks_clap, empty_script, line_words, lines_in, then_lines, with_words}
 pub use Rattle.kob_script.specs.Values.{named_principal, number_in, record_of, text_of}
-pub use Rattle.kob_script.specs.Words.{LeavesWhole, Word, before, byte_at, cut_at, escaped, has_whole_escapes, hexadecimal, is_blank, raw_words, unescaped, word_of, words_of}
+pub use Rattle.kob_script.specs.Words.{LeavesWhole, Word, before, byte_at, cut_at, escaped, has_whole_escapes, is_blank, raw_words, unescaped, word_of, words_of}
 pub use Rattle.kob_script.specs.declared.checks.Checking.{Checking}
 pub use Rattle.kob_script.specs.declared.command.Place.TheVariants.{Texts}
 pub use Rattle.memchr.proofs.lemmas.ValueLemmas.{IsFirstByte-value}
 pub use Rattle.memchr.specs.Find.{IsFirstByte, Nowhere, Passes, is_byte}
-pub use Rattle.std.proofs.Common.{Bool, Bor, Err, IsUtf8, List, MatchOption, None, Ok, Option, Result, Some, [], ap, append-nil, append_assoc, arith, bytes_eq, codes, cond, drop, drop-drop, drop_of_length-le, eqb-true, false, flat_map, get_or, if◌then◌else◌, inl, inr, is_none, is_some, length, length-append, length-drop, length-take-le, ltb-false, ltb-true, map, nat_lt, not, option_map, refl, rules, subst, sym, take, take_all, tests, true, ℕ, ◌&&◌, ◌*◌, ◌++◌, ◌+◌, ◌-◌, ◌<◌, ◌==◌, ◌^◌, ◌∙◌, ◌∷◌, ◌≡◌, ◌≤◌}
+pub use Rattle.std.proofs.Common.{Bool, Bor, Err, IsUtf8, List, MatchOption, None, Ok, Option, Result, Some, [], ap, append-nil, append_assoc, arith, bytes_eq, codes, cond, drop, drop-drop, drop_of_length-le, eqb-true, false, flat_map, get_or, if◌then◌else◌, inl, inr, is_some, length, length-append, length-drop, length-take-le, ltb-false, ltb-true, map, nat_lt, not, option_map, refl, rules, subst, sym, take, take_all, tests, true, ℕ, ◌&&◌, ◌*◌, ◌++◌, ◌+◌, ◌-◌, ◌<◌, ◌==◌, ◌^◌, ◌∙◌, ◌∷◌, ◌≡◌, ◌≤◌}
 pub use Rattle.std.proofs.lemmas.Bool.Decides.{nat_tests}
 pub use Rattle.std.proofs.lemmas.Grind.{get_or_default_zero}
 pub use Rattle.std.proofs.lemmas.Iterator.Consumers.{YieldsList-end, YieldsList-from_filter, YieldsList-turn}

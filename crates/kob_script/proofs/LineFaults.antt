@@ -1,7 +1,6 @@
 -- The fault of a line is the first kind among those of its words, and how much words without one ask
 -- for; the faults of options, and what they stand for in a script.
 use Rattle.kob_script.proofs.Imports.{AclCommand, BadLine, Bool, CliArgs, Command, CommandFault, Err, Event, Fails, Fault, FaultKind, Finds, IsAmong, IsFirstFault, LineError, List, Memory, None, Ok, Option, Result, Some, Texts, Word, [], acl_commands, acl_request, arith, asked_row, asking, asks_by_acl, bytes_eq, codes, command_named, counted, earlier, error_of, false, first_kind, found_or, if◌then◌else◌, inl, inr, length, length-map, line_fault, ltb-false, ltb-true, map, nat_tests, option_map, rank, refl, request_of, row, row_fault, true, unless_faults, unless_found, ℕ, ◌>>=◌, ◌∷◌, ◌≡◌, ◌≤◌}
-use Rattle.kob_acl_cli.specs.declared.fault.CommandFault.TheVariants as options
 use Rattle.kob_script.specs.CommandLines.{asked_by, events_of}
 use Rattle.kob_script.proofs.Choices.{chosen_false}
 

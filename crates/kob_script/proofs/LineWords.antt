@@ -1,7 +1,7 @@
 -- The words of a line. A word is read byte by byte, one without a percent sign
 -- stands for itself, and a cut at a byte that is neither a percent sign nor a hexadecimal digit leaves
 -- each escape whole. And the seven words of a row.
-use Rattle.kob_script.proofs.Imports.{Bool, IsFirstByte, IsFirstByte-value, LeavesWhole, List, None, Nowhere, Option, Passes, Some, Word, [], ap, append-nil, append_assoc, arith, before, byte_at, cut_at, digit_value, drop, escaped, false, get_or, get_or_default_zero, has_whole_escapes, hexadecimal, if◌then◌else◌, is_byte, is_some, length, length-drop, list_all, list_all-from_AllPass, nat_lt, nat_tests, not, option_map, refl, sym, take, take_all, true, unescaped, ℕ, ◌++◌, ◌+◌, ◌-◌, ◌<◌, ◌==◌, ◌∙◌, ◌∷◌, ◌≡◌, ◌≤◌}
+use Rattle.kob_script.proofs.Imports.{Bool, IsFirstByte, IsFirstByte-value, LeavesWhole, List, None, Nowhere, Option, Passes, Some, Word, [], ap, append-nil, append_assoc, arith, before, byte_at, cut_at, digit_value, drop, escaped, false, get_or, get_or_default_zero, has_whole_escapes, if◌then◌else◌, is_byte, is_some, length, length-drop, list_all, list_all-from_AllPass, nat_lt, nat_tests, not, option_map, refl, sym, take, take_all, true, unescaped, ℕ, ◌++◌, ◌+◌, ◌-◌, ◌<◌, ◌==◌, ◌∙◌, ◌∷◌, ◌≡◌, ◌≤◌}
 use Rattle.kob_script.proofs.Choices.{chosen_false, false_from}
 use Rattle.kob_script.specs.Words.{unescaped_from}
 

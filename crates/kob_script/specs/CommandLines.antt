@@ -1,6 +1,6 @@
 -- The commands by which a line asks: their names, the words that each takes, one row a command, the
 -- fault of a line's words, and what a line asks for by them.
-use Rattle.std.specs.Prelude.{ℕ, List, Option, Result, Ok, codes, if◌then◌else◌, [], ◌∷◌, Some, None, Err, drop, map, Bool, false, find, option_map, bytes_eq}
+use Rattle.std.specs.Prelude.{ℕ, List, Option, Result, Ok, codes, if◌then◌else◌, [], ◌∷◌, Some, None, Err, map, Bool, false, find, option_map, bytes_eq}
 use Rattle.std.specs.Result.{result_err, result_ok, result_unwrap_or}
 use Rattle.kob_acl_cli.specs.Commands.{commands, faults}
 pub use Rattle.kob_acl_cli.specs.declared.args.CliArgs.{CliArgs}
