@@ -13,6 +13,8 @@ returns-in-Ok c =
 pub returns-in-Err : goal.returns-in-Err
 returns-in-Err c =
     let facts = c.binary_search_by_key.ensures in
-    let by_serial = facts.position (λ (entry : ℕ × Binding). entry.0) (answers_always _ _ _ (λ f a r g called. search rules)) in
-    let found = searched c.args.entries.now c.requires c.args.serial c.binary_search_by_key.result facts.bound by_serial in
+    let by_serial = facts.position (λ (entry : ℕ × Binding). entry.0) (answers_always _ _ _
+    (λ f a r g called. search rules)) in
+    let found = searched c.args.entries.now c.requires c.args.serial c.binary_search_by_key.result facts.bound
+    by_serial in
     grind (arith, common_steps)

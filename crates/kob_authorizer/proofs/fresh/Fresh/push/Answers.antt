@@ -9,5 +9,6 @@ pub invariant_of-self-2 : goal.invariant_of-self-2
 invariant_of-self-2 c =
     let before : List (ℕ × Binding) = c.self.inside.entries.items in
     let places = places_push before c.len-place.result c.args.binding.now c.self.invariant.0 in
-    let indexed = index_added key_place c.self.inside.keys before (c.len-place.result, c.args.binding.now) c.self.invariant.1 in
+    let indexed = index_added key_place c.self.inside.keys before (c.len-place.result, c.args.binding.now)
+    c.self.invariant.1 in
     grind (arith, common_steps)
