@@ -62,7 +62,8 @@ module _ (limit : Option ℕ) (b : Business) (db : Trees) (states : States)
     resolves : (one : Written) → Updates task (program_of business_there) given db (Ok one) → Done one.trees
     resolves one does =
         let over = put_over b t here n 1 has.placed has.rising has.apart h in
-        let it = updated limit Enforced service_schema business_table params alone (program_of business_there) given db one
+        let it = updated limit Enforced service_schema business_table params alone (program_of business_there) given
+        db one
         does in
         let answer : it.0 ≡ (Int (pos t.0) ∷ Int (pos t.0) ∷ Text t.1.kind ∷ Text t.1.id ∷ Text b.state ∷ []) ∷ [] =
         one_at_most business_there given placed_row (is_it b t here) (λ p. and-true (is_it b t here p)) db has.placed
