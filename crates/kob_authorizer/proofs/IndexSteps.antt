@@ -25,7 +25,8 @@ is_on resource entry = same_resource entry.1.resource resource
 patterns_put : (patterns : Patterns) (entries : List (ℕ × Binding)) (entry : ℕ × Binding)
     → ArePatternsOf patterns entries → ArePatternsOf (with_entry patterns entry) (entries ++ entry ∷ [])
 patterns_put patterns entries entry is resource =
-    let old = is resource in let added = index_added pattern_place (tree_of patterns resource) (entries_on resource entries) entry old in
+    let old = is resource in let added = index_added pattern_place (tree_of patterns resource) (entries_on resource
+    entries) entry old in
     grind (arith, nat_tests, tree_changed, filter-append, append-nil)
 
 patterns_put_all : (fresh : List (ℕ × Binding)) (patterns : Patterns) (entries : List (ℕ × Binding))

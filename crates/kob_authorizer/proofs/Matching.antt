@@ -59,7 +59,8 @@ module _ (index : Index) (entries : List (ℕ × Binding)) (indexed : Indexes in
       ((resource_decides entry.1.resource resource).1 of_kind) in
       let at = at_its_place pattern_place (tree_of index.patterns resource) (entries_on resource entries) entry
       (indexed.patterns resource) among in
-      looked_up_by (held (tree_of index.patterns resource)) entry.1.pattern.kind entry.1.pattern.name name entry.0 matched at
+      looked_up_by (held (tree_of index.patterns resource)) entry.1.pattern.kind entry.1.pattern.name name entry.0
+      matched at
 
   -- every hit is looked up among the keys of who asks and of `User:*`
   hits_looked_up : (permission : Permission) (question : Question)
@@ -105,5 +106,6 @@ pub least_equal_is_first : (m : PrefixMap) (entries : List (ℕ × Binding)) (bi
     (serials_of (key_place binding).kind (held m (key_place binding).key)) ≡ serial_of entries binding
 least_equal_is_first m entries binding rising indexed =
     let serials = serials_of (key_place binding).kind (held m (key_place binding).key) in
-    let least = least_is_first (is_equal binding) entries serials rising (equals_looked_up m entries binding indexed) in
+    let least = least_is_first (is_equal binding) entries serials rising (equals_looked_up m entries binding indexed)
+    in
     let found = first_serial_found (is_equal binding) entries in grind (arith, nat_tests)

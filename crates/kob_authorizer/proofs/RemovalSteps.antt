@@ -42,7 +42,8 @@ module _ (resource : ResourceKind) (kind : PatternKind) (key : List ℕ) where
         → found_there (without_places patterns ds) ≡ left
     left_stays [] patterns is = is
     left_stays (d ∷ ds) patterns is =
-        grind (arith, nat_tests, left_stays ds (without_removal patterns (removal_of (patterns_of taken) d)), after_entry patterns d left is)
+        let step = after_entry patterns d left is in
+        grind (arith, nat_tests, left_stays ds (without_removal patterns (removal_of (patterns_of taken) d)))
 
     -- the place is passed where an entry that stands there is met
     after_entries : (ds : List (ℕ × Binding)) (patterns : Patterns) → found_there patterns ≡ before

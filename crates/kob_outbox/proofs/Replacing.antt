@@ -1,5 +1,5 @@
 -- What the statement on the business rows does.
-use Rattle.kob_outbox.proofs.statements.Words.{Abort, AreBusiness, AreConflicts, Business, Database, Enforced, Err, Error, ExecutesInside, Given, Has, Holds, InsertsOr, Int, IsChanging, IsJudged, IsUtf8, Judged, List, Meets, None, Null, Ok, OnOk, Option, Puts, Refusal, Result, Row, Some, State, States, Task, Text, Trees, Updates, Upserts, Values, Written, [], ap, arith, business_table, business_tree, contents_of, edit_of, edited, ids_of, insert, nat_tests, placed_row, pos, put_row, refl, rowid, service_schema, shown, subst, sym, true, with_state, without_rowid, ℕ, ◌++◌, ◌∙◌, ◌∷◌, ◌≡◌, and-true}
+use Rattle.kob_outbox.proofs.statements.Words.{Abort, AreBusiness, AreConflicts, Business, Database, Enforced, Err, Error, ExecutesInside, Has, Holds, InsertsOr, Int, IsChanging, IsJudged, IsUtf8, Judged, List, Meets, None, Null, Ok, OnOk, Option, Puts, Refusal, Result, Row, Some, State, States, Task, Text, Trees, Updates, Upserts, Values, Written, [], ap, arith, business_table, business_tree, contents_of, edit_of, edited, insert, nat_tests, placed_row, pos, refl, rowid, service_schema, shown, subst, sym, true, with_state, ℕ, ◌++◌, ◌∙◌, ◌∷◌, ◌≡◌, and-true}
 use Rattle.kob_outbox.proofs.statements.Steps.{IsAlone, KeepOthers, uncounted, task_on, tried, put, updated, candidate, cast_int, cast_null}
 use Rattle.kob_outbox.proofs.statements.Numbered.{none_conflicts, one_conflicts}
 use Rattle.kob_outbox.proofs.statements.Writing.{wrote}
@@ -62,20 +62,15 @@ module _ (limit : Option ℕ) (b : Business) (db : Trees) (states : States)
     resolves : (one : Written) → Updates task (program_of business_there) given db (Ok one) → Done one.trees
     resolves one does =
         let over = put_over b t here n 1 has.placed has.rising has.apart h in
-        let it =
-        updated limit Enforced service_schema business_table params alone (program_of business_there) given db one
+        let it = updated limit Enforced service_schema business_table params alone (program_of business_there) given
+        db one
         does in
         let answer : it.0 ≡ (Int (pos t.0) ∷ Int (pos t.0) ∷ Text t.1.kind ∷ Text t.1.id ∷ Text b.state ∷ []) ∷ [] =
         one_at_most business_there given placed_row (is_it b t here) (λ p. and-true (is_it b t here p)) db has.placed
         has.rows_are (t ∷ []) over.0 it.0 (it.1.answer Null) (omega arith) in
-        let rows =
-        it.2.rows ∙ ap (λ rows. edited db (edit_of db (uncounted business_table) (ids_of rows) Given 1 rows)) answer
-        ∙ rw (cast_int (pos t.0))
-        (ap (λ k. put_row (Int (pos t.0) ∷ Text k.0 ∷ Text k.1 ∷ Text b.state ∷ [])
-        (without_rowid (pos t.0) (db business_tree))) (same_key (key t.1) (key b) here))
-        ∙ ap (λ rows. put_row (placed_row (t.0, b)) (without_rowid (pos t.0) rows)) has.rows_are
-        ∙ over.1 in
-        (business_upserted b n _ (one.trees business_tree) states has (omega arith) state rows, it.2.tables)
+        let key_is = same_key (key t.1) (key b) here in let cast = cast_int (pos t.0) in let changed = it.2.rows in
+        let business = business_upserted b n _ (one.trees business_tree) states has (omega arith) state in
+        grind (arith, nat_tests, edit_of, edited)
 
   there : (x : Row) (more : List Row) → Found (Some (1 ∷ 2 ∷ [])) (x ∷ more)
       → (t : Placed) × (has_key_of b t.1 ≡ true) × Has has.placed t × (x ≡ Int (pos t.0) ∷ [])

@@ -117,7 +117,8 @@ module _ (Y : RattleType) (laws : Laws Y) where
     node_again n l b o p lies =
         let now = with_next n l in let there = block_ptr b o in
         qed logic
-        (‵ (link_at l b (o + end_offset)) ∷ raw (Others n b o) ∷ ‵ (may_free Y n.alloc there) ∷ ‵ (low Item' there) ∷ []) ∵
+        (‵ (link_at l b (o + end_offset)) ∷ raw (Others n b o) ∷ ‵ (may_free Y n.alloc there) ∷ ‵ (low Item' there) ∷
+        []) ∵
         use2 logic (‵ (part_at Kept full_share now b o)) (next_in n l b o) $ close_first Y ! now b o $
         rewrite ! 0 (λ (q : Ptr). ‵ (nodes_own Item' (tree_of now) q)) (sym lies) refl $ done !
 
@@ -175,7 +176,8 @@ module _ (Y : RattleType) (laws : Laws Y) where
     opens_node : Mark → (held : List (Item ghosts)) (n : FirstNode Y) (p : Ptr)
         → ((b o : ℕ) (v : Val) → p ≡ block_ptr b o → v ∷ [] ≡ word n.next.first ∷ []
         → Seq Mark logic (‵ (at_end b o v) ∷ ‵ (nodes_own Item' n.next.nodes n.next.first) ∷
-        raw (Others logic n b o) ∷ ‵ (may_free Y n.alloc (block_ptr b o)) ∷ ‵ (low Item' (block_ptr b o)) ∷ held) goal)
+        raw (Others logic n b o) ∷ ‵ (may_free Y n.alloc (block_ptr b o)) ∷ ‵ (low Item' (block_ptr b o)) ∷ held)
+        goal)
         → Seq Mark logic (‵ (nodes_own Item' (tree_of n) p) ∷ held) goal
     opens_node mark held n p rest =
         open_first Y mark n p (λ b o lies.

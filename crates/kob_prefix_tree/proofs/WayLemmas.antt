@@ -54,7 +54,8 @@ module _ (f : Held → Held) where
   through [] key c d neat done = grind (arith, kept_here)
   through (x ∷ tail) key c d neat done =
       let one = one_behind x tail d in let behind = through tail key c d neat.1.1.0 done in
-      let below = below_byte x (tail ++ key) nothing (led_by (x ∷ tail) c).1 void (led_by tail c) (kept_behind tail d) neat in
+      let below = below_byte x (tail ++ key) nothing (led_by (x ∷ tail) c).1 void (led_by tail c) (kept_behind tail
+      d) neat in
       grind (arith, nat_tests)
 
   -- the same, where something stays

@@ -67,16 +67,13 @@ module _ (old new : State) (never : NeverFails old new) where
       for_memory_or e (inl (inl h)) = absurd (is_statement e h.0)
       for_memory_or e (inl (inr h)) = inl (fails_so e h)
       for_memory_or e (inr h) =
-          let known = sym h.1.is ∙ ap (λ s. understood s sql) has in
-          let bare = subst IsPlain (sym known) plain in
+          let known = sym h.1.is ∙ ap (λ s. understood s sql) has in let bare = subst IsPlain (sym known) plain in
           let same : h.0.command ≡ command = ap command_of known ∙ is in
           let silent : shows_rows false h.0 ≡ false =
           rw (same, bare.0) (quietly (is_query command) (is_pragma command) quiet) in
           elim (rw (silent, bare.0, bare.1, append-nil params, same) at h.2) [
-            | inl refused ↦ elim refused.0 [
-              | inl misplaced ↦ absurd (placed e misplaced)
-              | inr stopped ↦ inr (text_of sql h.0, Some e, stopped.1)
-            ]
+            | inl ((inl misplaced), more) ↦ absurd (placed e misplaced)
+            | inl ((inr stopped), more) ↦ inr (text_of sql h.0, Some e, stopped.1)
             | inr failed ↦ grind (arith, nat_tests, fails_or)
           ]
 

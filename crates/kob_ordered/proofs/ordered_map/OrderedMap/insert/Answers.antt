@@ -4,10 +4,7 @@ use Rattle.kob_ordered.proofs.Sound.{sound_pushed}
 use Rattle.kob_ordered.proofs.ordered_map.OrderedMap.insert.Goals as goal
 
 pub invariant_of-self : goal.invariant_of-self
-invariant_of-self g c =
-    let sound = sound_pushed c.self.inside.slots.items c.self.inside.by_name.items c.self.invariant c.args.name c.args.value
-    c.unwrap_err.result in
-    grind (arith, common_steps)
+invariant_of-self g c = grind (arith, common_steps, sound_pushed)
 
 pub returns-clause-entries : goal.returns-clause-entries
 returns-clause-entries g c =

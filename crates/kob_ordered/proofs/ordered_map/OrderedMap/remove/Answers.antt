@@ -5,12 +5,10 @@ use Rattle.kob_ordered.proofs.Sound.{left, sound_holed, value_at}
 use Rattle.kob_ordered.proofs.ordered_map.OrderedMap.remove.Goals as goal
 
 pub returns-in_default-clause-entries : goal.returns-in_default-clause-entries
-returns-in_default-clause-entries g c =
-    grind (arith, common_steps, none_of, removed_absent c.args.name.now (entries_in c.self.inside.slots.items))
+returns-in_default-clause-entries g c = grind (arith, common_steps, none_of, removed_absent)
 
 pub remove-place-requires : goal.remove-place-requires
-remove-place-requires g c =
-    grind (arith, common_steps, c.in-Ok.ensures.found.listed, slice_get_within c.self.inside.by_name.items c.in-Ok.index)
+remove-place-requires g c = grind (arith, common_steps, slice_get_within)
 
 pub invariant_of-self : goal.invariant_of-self
 invariant_of-self g c =

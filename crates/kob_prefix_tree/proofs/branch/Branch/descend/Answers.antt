@@ -11,5 +11,6 @@ returns-then-not-enter-clause-end c =
 pub loop-byte-preserved : goal.loop-byte-preserved
 loop-byte-preserved c =
     let key_is = c.parted-count.ensures.key_is in
-    let way = c.enter.ensures.way c.in-Some.others.now c.args.key.now (contents c.args.self.now) c.if-not-enter.false in
+    let way = c.enter.ensures.way c.in-Some.others.now c.args.key.now (contents c.args.self.now) c.if-not-enter.false
+    in
     grind (arith, common_steps)

@@ -11,5 +11,6 @@ returns-then-not-enter-clause-end c =
 pub loop-byte-preserved : goal.loop-byte-preserved
 loop-byte-preserved c =
     let key_is = c.drop_common-count.ensures.key_is in
-    let way = c.enter.ensures.way (key_of c.drop_byte.new.self.nodes) (key_of c.args.path.now.nodes) (contents c.args.self.now)
+    let way = c.enter.ensures.way (key_of c.drop_byte.new.self.nodes) (key_of c.args.path.now.nodes) (contents
+    c.args.self.now)
     c.if-not-enter.false in grind (arith, common_steps)

@@ -39,7 +39,8 @@ get_spec ghosts logic model runs wired Y laws =
     enter ! table.C table.Λ body (shr_vals look) (walk.post state) $
     alloc_all ! (λ places. let local = env body.locals places in pass_all ! refl ((tt, tt), tt) $
     with_pointer pointer there lies b (o + 0) ! tt (λ part.
-    first ! $ blocks ! $ sets_last ! (addr ! (through ! refl (fld ! refl (hop ! (look_in ! 0 (whole !)) (stop !))))) refl (tt, tt) $
+    first ! $ blocks ! $ sets_last ! (addr ! (through ! refl (fld ! refl (hop ! (look_in ! 0 (whole !)) (stop !)))))
+    refl (tt, tt) $
     exec ! table.C table.Λ local (after 1 body.body) (at_ret local (walk.post state)) $
     shut_pointer pointer there lies b (o + 0) ! tt $
     sets ! (of_opd ! (get ! refl)) refl (tt, tt) $ returns ! (look_at ! 0 refl) $ free_all ! refl $

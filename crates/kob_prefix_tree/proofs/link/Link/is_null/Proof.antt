@@ -31,7 +31,8 @@ is_null_spec ghosts logic model runs wired Y laws =
     enter ! table.C table.Λ body (shr_vals look) (walk.post state) $
     alloc_all ! (λ places. pass_all ! refl ((tt, tt), tt) $
     with_pointer first first refl b (o + 0) ! tt (λ part.
-    sets ! (of_opd ! (load ! (through ! refl (fld ! refl (stop !))) (of_item ! 0 refl))) refl (Ptr-Good first) $ shut_pointer first first refl b (o + 0) ! tt $
+    sets ! (of_opd ! (load ! (through ! refl (fld ! refl (stop !))) (of_item ! 0 refl))) refl (Ptr-Good first) $
+    shut_pointer first first refl b (o + 0) ! tt $
     sets ! (bin ! (get ! refl) (lit ! tt) (tests_null first may_ask)) refl (tt, tt) $
     returns ! (look_at ! 0 refl) $ free_all ! refl $
     keep ! (1 ∷ 2 ∷ 0 ∷ 3 ∷ []) $ ends Y lives.0 look token others ! $

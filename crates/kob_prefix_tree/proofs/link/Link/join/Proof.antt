@@ -59,7 +59,8 @@ join_spec ghosts logic model runs wired Y laws =
     -- [the link; nothing; the tokens]
     let starts = made.first ≡ these.first in let holds = made.nodes ≡ with_others these.nodes others in
     use0 logic (raw (fact ghosts holds)) (fact_i ghosts holds (emp ghosts) refl) $
-    use0 logic (raw (fact ghosts starts)) (fact_i ghosts starts (emp ghosts) refl) $ join ! $ nothing ! $ nothing ! $ fjoin ! $ nothing ! $ fjoin ! $ nothing ! $ fjoin ! $
+    use0 logic (raw (fact ghosts starts)) (fact_i ghosts starts (emp ghosts) refl) $ join ! $ nothing ! $ nothing ! $
+    fjoin ! $ nothing ! $ fjoin ! $ nothing ! $ fjoin ! $
     -- [what is left of the three; what is promised; the link; nothing; the tokens]
     keep ! (4 ∷ 0 ∷ 2 ∷ 1 ∷ []) $
     let no_more : Unit {0} × Unit {0} = (tt, tt) in

@@ -27,7 +27,8 @@ start_spec ghosts logic model runs wired Y laws =
     enter ! table.C table.Λ body (shr_vals look) (walk.post state) $
     alloc_all ! (λ places. pass_all ! refl ((tt, tt), tt) $
     with_pointer first first refl b (o + 0) ! tt (λ part.
-    sets ! (of_opd ! (load ! (through ! refl (fld ! refl (stop !))) (of_item ! 0 refl))) refl (Ptr-Good first) $ shut_pointer first first refl b (o + 0) ! tt $
+    sets ! (of_opd ! (load ! (through ! refl (fld ! refl (stop !))) (of_item ! 0 refl))) refl (Ptr-Good first) $
+    shut_pointer first first refl b (o + 0) ! tt $
     returns ! (look_at ! 0 refl) $ free_all ! refl $
     keep ! (2 ∷ 3 ∷ 0 ∷ 4 ∷ []) $ ends Y lives.0 look token others ! $
     -- [the tokens; the `&`]
