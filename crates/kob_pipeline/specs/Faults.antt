@@ -1,22 +1,10 @@
 -- How a pipeline may fail.
-use Rattle.std.specs.Prelude.{◌≡◌, ℕ}
+use Rattle.std.specs.Prelude.{ℕ}
 use Rattle.kob_names.specs.declared.settings.Settings.{Settings}
-use Rattle.kob_shared.specs.declared.fleet_stop.FleetStop.{FleetStop}
-use Rattle.kob_shared.specs.declared.fleet_stop.FleetStop.TheVariants as stops
-use Rattle.kob_shared.specs.Fleets.{EachIsAnswered, IsTornAt, IsWorkerWithin}
-use Rattle.kob_shared.specs.Runs.{events_in, notes_of, told_in}
+use Rattle.kob_shared.specs.Fleets.{EachIsAnswered, IsTornAt}
+use Rattle.kob_shared.specs.Runs.{NamesOneOf, events_in, notes_of, told_in}
 use Rattle.kob_pipeline.specs.declared.fault.PipelineFault.{PipelineFault}
-use Rattle.kob_pipeline.specs.declared.fault.PipelineFault.TheVariants.{TooManyWorkers, JournalFull, NotBegun, Memory, Stale, Full, Torn}
-
--- what stops a fleet is a fault of the pipeline
-abbrev pub as_fault : FleetStop → PipelineFault
-as_fault stops.NotBegun = NotBegun
-as_fault stops.Memory = Memory
-as_fault (stops.Stale worker length) = Stale worker length
-as_fault (stops.Full worker) = Full worker
-
-abbrev pub IsAsFault : FleetStop → PipelineFault → Type 0
-IsAsFault stop fault = fault ≡ as_fault stop
+use Rattle.kob_pipeline.specs.declared.fault.PipelineFault.TheVariants.{TooManyWorkers, JournalFull, Stopped, Torn}
 
 -- the journal that is given back is torn there, and all notes have a receipt for each event
 abbrev pub IsTornOnlyWhere : Settings → PipelineFault → Type 0
@@ -32,8 +20,7 @@ IsLater TooManyWorkers = ⊥
 IsLater JournalFull = ⊥
 IsLater fault = Unit {0}
 
--- the worker is one of so many, and not worker 0, whose events fit
+-- a worker that is named is one of so many, and not worker 0, whose events fit
 abbrev pub NamesWorkerWithin : ℕ → PipelineFault → Type 0
-NamesWorkerWithin count (Stale worker length) = IsWorkerWithin count worker
-NamesWorkerWithin count (Full worker) = IsWorkerWithin count worker
+NamesWorkerWithin count (Stopped stop) = NamesOneOf count stop
 NamesWorkerWithin count fault = Unit {0}

@@ -12,19 +12,9 @@ pub enum PipelineFault {
     /// The first events, the administrators' requests and two calls for each step of a service or a
     /// consumer are more than 1,000,000.
     JournalFull,
-    /// A thread could not be started.
-    NotBegun,
-    /// Out of memory, also if that kept a row from a worker's database or a call from its notes.
-    Memory,
-    /// A session found a journal with fewer entries than it had seen.
-    Stale {
-        worker: usize,
-        length: usize,
-    },
-    /// A session found the journal full although the counts fit.
-    Full {
-        worker: usize,
-    },
+    /// The workers stopped before their notes were compared. `Memory` is also what kept a row from a
+    /// worker's database or a call from its notes. `Full` is a session's, although the counts fit.
+    Stopped(FleetStop),
     /// A worker's database failed for another cause than out of memory.
     Store,
     /// The journal and the worker's receipts differ at the place.
@@ -37,37 +27,35 @@ pub enum PipelineFault {
 
 impl From<AllocError> for PipelineFault {
     ghost use Rattle.std.specs.Prelude.{◌≡◌};
-    ghost use Rattle.kob_pipeline.specs.declared.fault.PipelineFault.TheVariants.{Memory};
+    ghost use Rattle.kob_pipeline.specs.declared.fault.PipelineFault.TheVariants.{Stopped};
+    ghost use Rattle.kob_shared.specs.declared.fleet_stop.FleetStop.TheVariants.{Memory};
 
-    ghost from_gives = { λ _ fault. fault ≡ Memory };
+    ghost from_gives = { λ _ fault. fault ≡ Stopped Memory };
 
     fn from(_refused: AllocError) -> PipelineFault {
-        PipelineFault::Memory
+        PipelineFault::Stopped(FleetStop::Memory)
     }
 }
 
 impl<T: Drop> From<AllocFailed<T>> for PipelineFault {
     ghost use Rattle.std.specs.Prelude.{◌≡◌};
-    ghost use Rattle.kob_pipeline.specs.declared.fault.PipelineFault.TheVariants.{Memory};
+    ghost use Rattle.kob_pipeline.specs.declared.fault.PipelineFault.TheVariants.{Stopped};
+    ghost use Rattle.kob_shared.specs.declared.fleet_stop.FleetStop.TheVariants.{Memory};
 
-    ghost from_gives = { λ _ fault. fault ≡ Memory };
+    ghost from_gives = { λ _ fault. fault ≡ Stopped Memory };
 
     fn from(_refused: AllocFailed<T>) -> PipelineFault {
-        PipelineFault::Memory
+        PipelineFault::Stopped(FleetStop::Memory)
     }
 }
 
 impl From<FleetStop> for PipelineFault {
-    ghost use Rattle.kob_pipeline.specs.Faults.{IsAsFault};
+    ghost use Rattle.std.specs.Prelude.{◌≡◌};
+    ghost use Rattle.kob_pipeline.specs.declared.fault.PipelineFault.TheVariants.{Stopped};
 
-    ghost from_gives = { IsAsFault };
+    ghost from_gives = { λ stop fault. fault ≡ Stopped stop };
 
     fn from(stop: FleetStop) -> PipelineFault {
-        match stop {
-            FleetStop::NotBegun => PipelineFault::NotBegun,
-            FleetStop::Memory => PipelineFault::Memory,
-            FleetStop::Stale { worker, length } => PipelineFault::Stale { worker, length },
-            FleetStop::Full { worker } => PipelineFault::Full { worker },
-        }
+        PipelineFault::Stopped(stop)
     }
 }

@@ -61,7 +61,6 @@ pub fn pipeline<R: Threads + Wait + Sync, G: Gate + Sync>(
     run_plan(rt, alloc, plan, gate)
 }
 
-#[tactic(auto, using(crate::proofs::PipelineFaults::later_stopped))]
 fn run_plan<R: Threads + Wait + Sync, G: Gate + Sync>(
     rt: &R,
     alloc: Global,

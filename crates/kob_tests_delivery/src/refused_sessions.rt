@@ -111,7 +111,7 @@ fn delivers_two<R: Threads + Wait + Sync>(rt: &R, alloc: Global) -> Option<bool>
     drop(plan);
     let delivered = match &mut ran {
         Some(Ok(end)) => Some(is_whole(alloc, end)),
-        Some(Err(PipelineFault::Memory | PipelineFault::NotBegun)) => None,
+        Some(Err(PipelineFault::Stopped(FleetStop::Memory | FleetStop::NotBegun))) => None,
         _ => Some(false),
     };
     drop(ran);
