@@ -12,14 +12,6 @@ pub use Rattle.kob_lines.proofs.ServiceCourses.{records, ticks}
 pub use Rattle.kob_lines.specs.ConsumerCourse.{HasConsumerRun}
 pub use Rattle.kob_lines.specs.Relayed.{IsTick, Relayed}
 pub use Rattle.kob_lines.specs.ServiceCourse.{HasServiceRun}
-pub use Rattle.kob_names.specs.Access.{covers, reaches}
-pub use Rattle.kob_names.specs.declared.draft.Draft.{Draft}
-pub use Rattle.kob_names.specs.declared.kinds.Operation.{Operation}
-pub use Rattle.kob_names.specs.declared.kinds.Operation.TheVariants.{Read, Write}
-pub use Rattle.kob_names.specs.declared.kinds.PatternKind.TheVariants.{Literal}
-pub use Rattle.kob_names.specs.declared.kinds.Permission.TheVariants.{Allow}
-pub use Rattle.kob_names.specs.declared.kinds.ResourceKind.{ResourceKind}
-pub use Rattle.kob_names.specs.declared.kinds.ResourceKind.TheVariants.{Group, Topic}
 pub use Rattle.kob_names.specs.declared.settings.Settings.{Settings}
 pub use Rattle.kob_outbox.specs.Contents.{Contents, Event, empty}
 pub use Rattle.kob_outbox.specs.Events.{id_text, stored_event}
@@ -32,14 +24,9 @@ pub use Rattle.kob_partition.specs.Retained.{Retained}
 pub use Rattle.kob_pipeline.proofs.BrokerSteps.{legal_is_history}
 pub use Rattle.kob_pipeline.proofs.DeliveryLaws.{holds_a_prefix}
 pub use Rattle.kob_pipeline.specs.BrokerView.{view_after}
-pub use Rattle.kob_pipeline.specs.Premises.{ArePrivate, Commits, Produces}
+pub use Rattle.kob_pipeline.specs.Premises.{ArePrivate}
 pub use Rattle.kob_pipeline.specs.Reaching.{ReachesInOrder}
-pub use Rattle.kob_pipeline.specs.Reserved.{ActsAlone, IsReserved, NoSuperUser}
 pub use Rattle.kob_pipeline.specs.Served.{served_in, served_to}
-pub use Rattle.kob_rights.specs.declared.reply.Reply.{Reply}
-pub use Rattle.kob_rights.specs.declared.reply.Reply.TheVariants.{Done}
-pub use Rattle.kob_rights.specs.declared.request.Request.{Request}
-pub use Rattle.kob_rights.specs.declared.request.Request.TheVariants.{CreateAcls, CreateTopics, OffsetCommit, Produce}
 pub use Rattle.kob_router.specs.Dispatches.{dispatch_of}
 pub use Rattle.kob_router.specs.Served.{AreServed}
 pub use Rattle.kob_router.specs.Tick.{scene_of}
@@ -48,15 +35,12 @@ pub use Rattle.kob_router.specs.declared.line.Call.{Call}
 pub use Rattle.kob_router.specs.declared.place.Place.{Place}
 pub use Rattle.kob_router.specs.declared.sender.Sender.{Sender}
 pub use Rattle.kob_router.specs.declared.tick.Tick.{Tick}
-pub use Rattle.kob_shared.specs.Decided.{standing_after}
 pub use Rattle.kob_shared.specs.Journals.{IsLegal, events_of}
 pub use Rattle.kob_shared.specs.Openings.{opened_by}
 pub use Rattle.kob_shared.specs.declared.journal.Entry.{Entry}
-pub use Rattle.std.proofs.Common.{List, [], ap, arith, drop, false, get_or, length, refl, rules, subst, suc, sym, take, true, zero, ℕ, ◌&&◌, ◌++◌, ◌+◌, ◌<◌, ◌==◌, ◌^◌, ◌∙◌, ◌∷◌, ◌≡◌, ◌≤◌}
-pub use Rattle.std.proofs.Math.Bool.{or-false}
-pub use Rattle.std.proofs.lemmas.Bool.{and_parts, eq-eqb, ne_eqb, true≢false}
+pub use Rattle.std.proofs.Common.{List, [], ap, arith, drop, false, get_or, length, refl, rules, subst, suc, sym, take, true, zero, ℕ, ◌++◌, ◌+◌, ◌<◌, ◌==◌, ◌^◌, ◌∙◌, ◌∷◌, ◌≡◌, ◌≤◌}
+pub use Rattle.std.proofs.lemmas.Bool.{eq-eqb, ne_eqb}
 pub use Rattle.std.proofs.lemmas.Bool.Decides.{nat_tests}
-pub use Rattle.std.proofs.lemmas.List.{length-map}
+pub use Rattle.std.proofs.lemmas.List.{drop_more, length-map}
 pub use Rattle.std.proofs.lemmas.List.FromFn.{length-enumerate_from}
-pub use Rattle.std.proofs.lemmas.Slice.Eq.{bytes_eq-Decides}
-pub use Rattle.std.specs.Prelude.{Err, IsTrue, None, Ok, OnErr, OnOk, Result, Some, codes, if◌then◌else◌, slice_get, ◌⊎◌}
+pub use Rattle.std.specs.Prelude.{Err, None, Ok, OnErr, OnOk, Result, Some, if◌then◌else◌, slice_get, ◌⊎◌}

@@ -1,5 +1,5 @@
 -- A file is read line by line, and a line thing by thing.
-use Rattle.kob_policy_text.proofs.Words.{Err, Fails, Fault, FaultKind, FileMakes, GivesSeen, IsStopped, Item, LineError, List, MayFail, MayGive, Memory, Ok, Origin, Policy, Result, Says, [], ap, arith, at_file, fault_at, length, lines_in, nat_tests, place, refl, sym, with_item, ℕ, ◌+◌, ◌∙◌, ◌∷◌, ◌≡◌}
+use Rattle.kob_policy_text.proofs.Words.{Err, Fails, Fault, FaultKind, FileMakes, GivesSeen, IsStopped, Item, LineError, List, MayFail, MayGive, Memory, Ok, Origin, Policy, Result, Says, [], ap, arith, at_file, fault_at, lines_in, nat_tests, place, refl, sym, with_item, ℕ, ◌+◌, ◌∙◌, ◌∷◌, ◌≡◌}
 use Rattle.kob_script.specs.declared.fault.Fault as fault
 use Rattle.kob_policy_text.specs.Policy.{LineMakes, LinesMake, with_items}
 
@@ -56,10 +56,6 @@ pub item_fails : (policy : Policy) (origin : Origin) (rest more : List Item) (fi
 unfolding with_items
 item_fails policy origin rest more first whole Memory kept split fails = tt
 item_fails policy origin rest more first whole (Fault kind) kept split fails = grind (arith, nat_tests)
-
-pub none_left : {A : Type 0} (xs : List A) → length xs ≡ 0 → xs ≡ []
-none_left [] empty = refl
-none_left (x ∷ xs) empty = absurd (omega (arith, empty))
 
 -- none is left
 pub items_end : (policy : Policy) (origin : Origin) (rest : List Item) (whole : Result Policy FaultKind)

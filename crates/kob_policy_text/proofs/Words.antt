@@ -1,6 +1,6 @@
 -- The names that the lemmas cite, passed on from one place.
-pub use Rattle.kob_authorizer.specs.Question.{Question, question_of}
-pub use Rattle.kob_policy_text.specs.Answers.{answer_line, answers_text, change_line, omission_line, seen_text, shadowed_line, shadowed_lines, unused_line, unused_lines, who_line}
+pub use Rattle.kob_authorizer.specs.Question.{question_of}
+pub use Rattle.kob_policy_text.specs.Answers.{answer_line, answers_text, change_line, lines_up_to, omission_line, seen_text, shadowed_line, unused_line, who_line}
 pub use Rattle.kob_policy_text.specs.AtHand.{asked_by, asked_from, asked_on, operations, topic_target, with_bindings}
 pub use Rattle.kob_policy_text.specs.Lines.{Says, SaysBy, SaysByWords, is_listed, listed_items, rule_items, script_line, super_item}
 pub use Rattle.kob_policy_text.specs.Outcomes.{MayFail, MayGive}
@@ -20,7 +20,7 @@ pub use Rattle.std.proofs.Common.{Bool, Err, List, None, Ok, Result, [], ap, app
 pub use Rattle.std.proofs.lemmas.Bool.Decides.{nat_tests}
 pub use Rattle.std.proofs.lemmas.Iterator.Consumers.{YieldsList-at, YieldsList-from_filter, map_from_collect}
 pub use Rattle.std.proofs.lemmas.Iterator.Splits.{YieldsList-from_slice_split}
-pub use Rattle.std.proofs.lemmas.List.{drop_more}
+pub use Rattle.std.proofs.lemmas.List.{drop_more, nil_from_length}
 pub use Rattle.std.proofs.lemmas.Result.{err_from_is_err_and}
 pub use Rattle.std.proofs.lemmas.Str.{IsUtf8-from_is_utf8, is_utf8-from_IsUtf8}
 pub use Rattle.std.specs.Borrow.{Bor}

@@ -182,9 +182,7 @@ is_unused policy asked place = is_same policy (without policy place) asked
 abbrev pub is_beaten : Verdict → Bool
 is_beaten (verdict.DeniedBy serial) = true
 is_beaten verdict.Super = true
-is_beaten (verdict.AllowedBy serial) = false
-is_beaten verdict.NoAllow = false
-is_beaten verdict.NoAclFound = false
+is_beaten _ = false
 
 abbrev pub is_beaten_at : Policy → Binding → authorizer.Question → Bool
 is_beaten_at policy binding asked =
@@ -193,10 +191,7 @@ is_beaten_at policy binding asked =
 -- a deny decides what the allow speaks of
 abbrev pub is_denied : Verdict → Bool
 is_denied (verdict.DeniedBy serial) = true
-is_denied verdict.Super = false
-is_denied (verdict.AllowedBy serial) = false
-is_denied verdict.NoAllow = false
-is_denied verdict.NoAclFound = false
+is_denied _ = false
 
 abbrev pub is_denied_at : Policy → Binding → authorizer.Question → Bool
 is_denied_at policy binding asked =
@@ -220,11 +215,10 @@ abbrev pub unused_line : Policy → List authorizer.Question → ℕ → List �
 unused_line policy asked place =
     if is_unused policy asked place then line_at policy (Some place) else []
 
--- the lines of those at the first places
-unfoldable pub unused_lines : Policy → List authorizer.Question → ℕ → List ℕ
-unused_lines policy asked zero = []
-unused_lines policy asked (suc place) =
-    unused_lines policy asked place ++ unused_line policy asked place
+-- the lines of the first places
+unfoldable pub lines_up_to : (ℕ → List ℕ) → ℕ → List ℕ
+lines_up_to line zero = []
+lines_up_to line (suc place) = lines_up_to line place ++ line place
 
 abbrev pub is_shadowed_one : Policy → List authorizer.Question → Option Binding → Bool
 is_shadowed_one policy asked None = false
@@ -240,18 +234,13 @@ abbrev pub shadowed_line : Policy → List authorizer.Question → ℕ → List 
 shadowed_line policy asked place =
     if is_shadowed_at policy asked place then line_at policy (Some place) else []
 
--- the lines of those at the first places
-unfoldable pub shadowed_lines : Policy → List authorizer.Question → ℕ → List ℕ
-shadowed_lines policy asked zero = []
-shadowed_lines policy asked (suc place) =
-    shadowed_lines policy asked place ++ shadowed_line policy asked place
-
 abbrev pub unused_text : Policy → List authorizer.Question → List ℕ
-unused_text policy asked = codes "unused\n" ++ unused_lines policy asked (length policy.bindings)
+unused_text policy asked =
+    codes "unused\n" ++ lines_up_to (unused_line policy asked) (length policy.bindings)
 
 abbrev pub shadowed_text : Policy → List authorizer.Question → List ℕ
 shadowed_text policy asked =
-    codes "shadowed\n" ++ shadowed_lines policy asked (length policy.bindings)
+    codes "shadowed\n" ++ lines_up_to (shadowed_line policy asked) (length policy.bindings)
 
 -- the answer to a question, with the names of topics that are given
 abbrev pub question_text : Policy → List (List ℕ) → Question → List ℕ

@@ -43,6 +43,4 @@ place_of policy serial = position (λ other. other == serial) (serials_of policy
 abbrev pub deciding : Verdict → Option ℕ
 deciding (verdict.DeniedBy serial) = Some serial
 deciding (verdict.AllowedBy serial) = Some serial
-deciding verdict.Super = None
-deciding verdict.NoAllow = None
-deciding verdict.NoAclFound = None
+deciding _ = None

@@ -5,7 +5,7 @@ ghost use Rattle.kob_authorizer.specs.Decide.{is_hit};
 ghost use Rattle.kob_names.specs.declared.kinds.Permission.TheVariants.{Allow};
 ghost use Rattle.kob_policy_text.specs.Answers.{hand_of, is_always_beaten, is_beaten, is_denied};
 ghost use Rattle.kob_policy_text.specs.Answers.{is_ever_denied, is_shadowed_at};
-ghost use Rattle.kob_policy_text.specs.Answers.{shadowed_line, shadowed_lines, shadowed_text};
+ghost use Rattle.kob_policy_text.specs.Answers.{lines_up_to, shadowed_line, shadowed_text};
 ghost use Rattle.kob_policy_text.specs.AtHand.{asked_at_hand};
 
 use crate::asked::Asked;
@@ -63,7 +63,7 @@ fn push_shadowed_lines(
     asked: &[Asked<'_>],
 ) -> Result<(), AllocError>
     ensures { OnOk result (out.new.items ≡ out.old.items
-        ++ shadowed_lines judge.now asked.now (length judge.now.bindings)) }
+        ++ lines_up_to (shadowed_line judge.now asked.now) (length judge.now.bindings)) }
 {
     for place in 0..judge.policy().bindings().len() {
         push_shadowed_line(out, judge, asked, place)?;

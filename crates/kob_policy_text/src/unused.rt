@@ -1,7 +1,7 @@
 //! Bindings that no other needs: if one of them is removed, no answer changes.
 
 ghost use Rattle.std.specs.Prelude.{◌≡◌, ◌++◌, ◌<◌, IfOk, OnOk, length};
-ghost use Rattle.kob_policy_text.specs.Answers.{hand_of, is_unused, unused_line, unused_lines};
+ghost use Rattle.kob_policy_text.specs.Answers.{hand_of, is_unused, lines_up_to, unused_line};
 ghost use Rattle.kob_policy_text.specs.Answers.{unused_text};
 ghost use Rattle.kob_policy_text.specs.AtHand.{asked_at_hand};
 
@@ -35,7 +35,7 @@ fn push_unused_lines(
     asked: &[Asked<'_>],
 ) -> Result<(), AllocError>
     ensures { OnOk result (out.new.items ≡ out.old.items
-        ++ unused_lines judge.now asked.now (length judge.now.bindings)) }
+        ++ lines_up_to (unused_line judge.now asked.now) (length judge.now.bindings)) }
 {
     for place in 0..judge.policy().bindings().len() {
         push_unused_line(alloc, out, judge, asked, place)?;

@@ -1,35 +1,14 @@
 -- A history in which a reply is lost, the router begins anew, and a stranger is denied: two rows, three records,
 -- two events in the inbox. All that the laws ask holds of it.
-use Rattle.std.proofs.Common.{◌≡◌, ℕ, zero, suc, List, [], ◌∷◌, ◌||◌, Bool, true, false, refl, ap, sym, subst, inl, inr, arith}
-use Rattle.std.specs.Prelude.{Option, None, Some, codes}
-use Rattle.std.proofs.lemmas.Bool.{true≢false}
+use Rattle.kob_service.proofs.Words.{ArePrivate, Bool, Call, Denied, Done, Entry, Fetch, InitProducerId, IsConsumerPart, IsHistory, IsPrivate, IsSameView, IsServicePart, List, None, OffsetCommit, OffsetFetch, Option, Place, Produce, ReachesInOrder, Record, Reply, Request, Some, Subscription, TopicAuthorizationFailed, View, [], ap, arith, codes, dispatch_of, false, holds_a_prefix, id_text, inr, nat_tests, opening_view, place_of, records_of, refl, rows_of, rows_of_aggregate, subst, suc, sym, taken_ids, true, true≢false, with_batch, with_commit, with_producer, zero, ℕ, ◌||◌, ◌∷◌, ◌≡◌}
 use Rattle.uuid.specs.Text.{by_index}
-use Rattle.kob_names.specs.declared.record.Record.{Record}
-use Rattle.kob_outbox.specs.Events.{id_text}
-use Rattle.kob_partition.specs.Batches.{records_of}
-use Rattle.kob_rights.specs.declared.code.Code.TheVariants.{TopicAuthorizationFailed}
 use Rattle.kob_rights.specs.declared.on_groups.OffsetCommit.{OffsetCommit as CommitRequest}
 use Rattle.kob_rights.specs.declared.on_groups.OffsetFetch.{OffsetFetch as PositionRequest}
 use Rattle.kob_rights.specs.declared.on_partitions.Fetch.{Fetch as FetchRequest}
 use Rattle.kob_rights.specs.declared.on_partitions.Produce.{Produce as ProduceRequest}
 use Rattle.kob_rights.specs.declared.reply.Body.TheVariants as bodies
-use Rattle.kob_rights.specs.declared.reply.Reply.{Reply}
-use Rattle.kob_rights.specs.declared.reply.Reply.TheVariants.{Denied, Done}
-use Rattle.kob_rights.specs.declared.request.Request.{Request}
-use Rattle.kob_rights.specs.declared.request.Request.TheVariants.{Fetch, InitProducerId, OffsetCommit, OffsetFetch, Produce}
-use Rattle.kob_router.specs.Dispatches.{dispatch_of, place_of}
 use Rattle.kob_router.specs.Run as router
-use Rattle.kob_router.specs.declared.line.Call.{Call}
-use Rattle.kob_router.specs.declared.place.Place.{Place}
 use Rattle.kob_inbox.specs.Run as consumer
-use Rattle.kob_inbox.specs.declared.fetcher.Subscription.{Subscription}
-use Rattle.kob_shared.specs.declared.journal.Entry.{Entry}
-use Rattle.kob_pipeline.specs.Delivery.{rows_of}
-use Rattle.kob_pipeline.specs.Parts.{IsConsumerPart, IsServicePart}
-use Rattle.kob_pipeline.specs.Premises.{ArePrivate, IsPrivate}
-use Rattle.kob_pipeline.specs.Reaching.{ReachesInOrder, rows_of_aggregate, taken_ids}
-use Rattle.kob_pipeline.specs.View.{IsHistory, IsSameView, View, opening_view, with_batch, with_commit, with_producer}
-use Rattle.kob_pipeline.proofs.DeliveryLaws.{holds_a_prefix}
 use Rattle.kob_service.proofs.Samples.{batch, change, event, goes_here, held, here, id_of, message, producer, row, second_is_new, target}
 
 -- what is asked
@@ -114,8 +93,8 @@ is_sent s id base n has_producer has_hand next = record {
   same_batch = ap (λ (k : ℕ). batch id k n) (sym next);
 }
 
-no_mark : {A : Type 0} → false ≡ true → A
-no_mark e = absurd (true≢false (sym e))
+pub never : {A : Type 0} → false ≡ true → A
+never e = absurd (true≢false (sym e))
 
 runs : router.IsRouterRun (dispatch_of target) router.start moves (after_all router.start moves)
 runs = (
@@ -131,7 +110,7 @@ runs = (
           (
             (refl, refl, placed 2),
             (
-              (is_sent _ 0 1 2 refl refl refl, no_mark),
+              (is_sent _ 0 1 2 refl refl refl, never),
               (tt, ((refl, refl), ((refl, refl, placed 2), ((is_sent _ 1 0 2 refl refl refl, λ _. tt), refl)))),
             ),
           ),
@@ -144,16 +123,7 @@ runs = (
 service_part : IsServicePart target 1 journal moves (after_all router.start moves)
 service_part = record {
   run = runs;
-  served = inr (
-    refl,
-    inr refl,
-    inr (
-      refl,
-      inr refl,
-      inr
-          (refl, inl refl, inr (refl, inr refl, inr (refl, inr refl, tt))),
-    ),
-  );
+  served = grind (arith, nat_tests);
 }
 
 -- what the consumer does
@@ -238,27 +208,9 @@ history = (
 
 private_topic : IsPrivate 1 2 (codes "g") (codes "t") journal
 private_topic = record {
-  producer = (
-    λ p. absurd p,
-    (
-      λ p. refl,
-      (
-        λ p. absurd p,
-        (λ p. refl, (λ p. absurd p, (λ p. absurd p, (λ p. refl, (λ p. absurd p, (λ p. absurd p, tt)))))),
-      ),
-    ),
-  );
-  committer = (
-    λ p. absurd p,
-    (
-      λ p. absurd p,
-      (
-        λ p. absurd p,
-        (λ p. absurd p, (λ p. absurd p, (λ p. absurd p, (λ p. absurd p, (λ p. absurd p, (λ p. refl, tt)))))),
-      ),
-    ),
-  );
-  kept = (λ p. p, (λ p. p, (λ p. p, (λ p. p, (λ p. p, (λ p. p, (λ p. p, (λ p. p, (λ p. p, tt)))))))));
+  producer = grind (arith, nat_tests);
+  committer = grind (arith, nat_tests);
+  kept = grind (arith, nat_tests);
 }
 
 all_private : ArePrivate 1 2 (codes "g") (here ∷ []) journal

@@ -1,3 +1,5 @@
+mod Words
 mod Samples
 mod Example
 mod Needed
+mod ReservedExample

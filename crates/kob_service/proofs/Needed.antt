@@ -1,26 +1,9 @@
 -- Each premise is needed: a law without it is false, by a journal of a few entries.
-use Rattle.std.proofs.Common.{◌≡◌, ℕ, zero, suc, List, [], ◌∷◌, refl, inr, ap, get_or, arith}
-use Rattle.std.specs.Prelude.{None, Some, codes, slice_get}
-use Rattle.std.specs.List.{range_with_len}
-use Rattle.kob_names.specs.declared.batch.Batch.{Batch}
-use Rattle.kob_names.specs.declared.record.Record.{Record}
-use Rattle.kob_partition.specs.Batches.{records_of}
+use Rattle.kob_service.proofs.Words.{Batch, DeleteTopics, Done, Entry, Fetch, IsConsumerPart, IsDelivered, IsHistory, IsNeverDeleted, IsServicePart, IsSoleCommitter, IsTakenInOrder, List, None, OffsetCommit, OffsetFetch, Place, Produce, Record, Some, Subscription, Target, View, [], ap, arith, codes, dispatch_of, get_or, inr, opening_view, range_with_len, records_of, refl, rows_of, slice_get, suc, with_batch, with_commit, without_topic, zero, ℕ, ◌∷◌, ◌≡◌}
 use Rattle.kob_rights.specs.declared.on_partitions.Fetch.{Fetch as FetchRequest}
 use Rattle.kob_rights.specs.declared.reply.Body.TheVariants as bodies
-use Rattle.kob_rights.specs.declared.reply.Reply.TheVariants.{Done}
-use Rattle.kob_rights.specs.declared.request.Request.TheVariants.{DeleteTopics, Fetch, OffsetCommit, OffsetFetch, Produce}
-use Rattle.kob_router.specs.Dispatches.{dispatch_of}
 use Rattle.kob_router.specs.Run as router
-use Rattle.kob_router.specs.declared.dispatch.Target.{Target}
-use Rattle.kob_router.specs.declared.place.Place.{Place}
 use Rattle.kob_inbox.specs.Run as consumer
-use Rattle.kob_inbox.specs.declared.fetcher.Subscription.{Subscription}
-use Rattle.kob_shared.specs.declared.journal.Entry.{Entry}
-use Rattle.kob_pipeline.specs.Delivery.{IsDelivered, rows_of}
-use Rattle.kob_pipeline.specs.Parts.{IsConsumerPart, IsServicePart}
-use Rattle.kob_pipeline.specs.Premises.{IsNeverDeleted, IsSoleCommitter}
-use Rattle.kob_pipeline.specs.Taking.{IsTakenInOrder}
-use Rattle.kob_pipeline.specs.View.{IsHistory, View, opening_view, with_batch, with_commit, without_topic}
 use Rattle.kob_service.proofs.Example.{call, entry, position, same, subscription, taken_all}
 use Rattle.kob_service.proofs.Samples.{here, message, target}
 

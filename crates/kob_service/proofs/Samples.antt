@@ -1,25 +1,8 @@
 -- Two events of one aggregate, and where they go: for the example of a history.
-use Rattle.std.proofs.Common.{◌≡◌, ℕ, zero, suc, ◌<◌, List, [], ◌∷◌, false, refl, arith, Global, String}
-use Rattle.std.specs.Prelude.{Some, bytes_eq, codes}
-use Rattle.std.specs.List.{AllByRecursion}
-use Rattle.std.specs.Str.{IsAscii}
-use Rattle.std.proofs.lemmas.Str.{IsUtf8-from_ascii}
+use Rattle.kob_service.proofs.Words.{AllByRecursion, Batch, Change, Event, Global, Hand, IsAscii, IsUtf8-from_ascii, List, OutboxEvent, Place, Producer, Record, Some, String, Target, [], arith, batch_of, bytes_eq, codes, dispatch_of, false, id_text, null_ptr, refl, stored_event, suc, told_id, zero, ℕ, ◌<◌, ◌∷◌, ◌≡◌}
 use Rattle.bstr.proofs.Computing.{computing}
 use Rattle.uuid.specs.Text.{by_index}
-use denote.RawPtr.{null_ptr}
-use Rattle.kob_names.specs.declared.batch.Batch.{Batch}
-use Rattle.kob_names.specs.declared.record.Record.{Record}
-use Rattle.kob_outbox.specs.Contents.{Event}
-use Rattle.kob_outbox.specs.Events.{id_text, stored_event}
-use Rattle.kob_outbox.specs.declared.change.Change.{Change}
-use Rattle.kob_outbox.specs.declared.event.OutboxEvent.{OutboxEvent}
-use Rattle.kob_router.specs.Dispatches.{dispatch_of}
-use Rattle.kob_router.specs.Run.{Hand, batch_of}
-use Rattle.kob_router.specs.declared.dispatch.Target.{Target}
-use Rattle.kob_router.specs.declared.place.Place.{Place}
-use Rattle.kob_router.specs.declared.sender.Producer.{Producer}
 use Rattle.kob_router.specs.declared.settings.RouteBy.TheVariants as by
-use Rattle.kob_pipeline.specs.Delivery.{told_id}
 
 -- a text of one letter
 

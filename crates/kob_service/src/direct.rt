@@ -1,8 +1,7 @@
 //! Without threads: a service records two orders, its router sends their events, and a consumer takes
 //! them in.
 
-use crate::workers::{consumer, service};
-use crate::{Delivered, Worked, broker, reached, send};
+use crate::{Delivered, Worked, broker, reached, workers};
 use kob_embedding::{ConsumerEnd, ServiceEnd};
 use kob_lines::{Loss, Lossy, RecordedLine};
 use kob_names::{Host, Principal};
@@ -29,9 +28,7 @@ fn serve(alloc: Global, recorded: &mut Recorded) -> Worked<ServiceEnd> {
     let line = RecordedLine::open(alloc, recorded, 1, orders, host);
     let mut line = Lossy::over(alloc, line);
     line.lose(Loss::AfterServe);
-    let mut service = service(alloc, line)?;
-    let sent = send(alloc, &mut service);
-    service.end(1, sent)
+    workers::serve(alloc, line)
 }
 
 /// Worker 2 takes the events in until it finds none.
@@ -39,7 +36,5 @@ fn consume(alloc: Global, recorded: &mut Recorded) -> Worked<ConsumerEnd> {
     let host = Host::parse(alloc, "10.0.0.1")?;
     let mail = Principal::parse(alloc, "User:mail")?;
     let line = RecordedLine::open(alloc, recorded, 2, mail, host);
-    let mut consumer = consumer(alloc, line)?;
-    let taken = consumer.take_all(alloc, 100);
-    consumer.end(2, taken)
+    workers::take_all(alloc, line)
 }

@@ -1,7 +1,6 @@
 //! In threads: a service, a consumer and an administrator share a broker.
 
-use crate::workers::{consumer, service};
-use crate::{Delivered, Worked, broker, reached, script, send};
+use crate::{Delivered, Worked, broker, reached, script, workers};
 use kob_embedding::{ConsumerEnd, ServiceEnd, session_of};
 use kob_lines::SessionLine;
 use kob_names::PlainValue;
@@ -47,17 +46,13 @@ pub(crate) fn deliver<R: Threads + Wait + Sync>(rt: &R, alloc: Global) -> Worked
 /// Worker 1 sends two orders, also while its right is revoked.
 fn serve<R: Wait>(rt: &R, alloc: Global, shared: &SharedBroker) -> Worked<ServiceEnd> {
     let session = session_of(alloc, shared, 1, "User:orders", "h")?;
-    let mut service = service(alloc, SessionLine::open(rt, alloc, session))?;
-    let sent = send(alloc, &mut service);
-    service.end(1, sent)
+    workers::serve(alloc, SessionLine::open(rt, alloc, session))
 }
 
 /// Worker 2 takes the events in until both are there.
 fn consume<R: Wait>(rt: &R, alloc: Global, shared: &SharedBroker) -> Worked<ConsumerEnd> {
     let session = session_of(alloc, shared, 2, "User:mail", "h")?;
-    let mut consumer = consumer(alloc, SessionLine::open(rt, alloc, session))?;
-    let taken = consumer.take_rows(alloc, 2, u32::MAX);
-    consumer.end(2, taken)
+    workers::take_both(alloc, SessionLine::open(rt, alloc, session))
 }
 
 /// Worker 3 revokes the service's right to write, and grants it again.

@@ -1,5 +1,5 @@
-use Rattle.kob_policy_text.proofs.Words.{ap, arith, err_from_is_err_and, into_iter_items, length, suc, ◌≡◌}
-use Rattle.kob_policy_text.proofs.Making.{item_keeps, item_fails, items_end, none_left}
+use Rattle.kob_policy_text.proofs.Words.{ap, arith, err_from_is_err_and, into_iter_items, length, nil_from_length, suc, ◌≡◌}
+use Rattle.kob_policy_text.proofs.Making.{item_keeps, item_fails, items_end}
 use Rattle.kob_policy_text.proofs.policy.add_items.Goals as goal
 
 pub loop-item-preserved : goal.loop-item-preserved
@@ -19,4 +19,4 @@ returns-in_err-add_item c =
 pub returns : goal.returns
 returns c =
     items_end _ _ _ _ c.loop-item.invariant.0
-    (none_left _ (omega (arith, c.loop-item.invariant.1, c.in-None.ensures.steps.0)))
+    (nil_from_length _ (omega (arith, c.loop-item.invariant.1, c.in-None.ensures.steps.0)))

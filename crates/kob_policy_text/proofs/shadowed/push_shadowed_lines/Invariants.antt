@@ -1,5 +1,5 @@
-use Rattle.kob_policy_text.proofs.Words.{shadowed_lines, ◌++◌, ◌≡◌}
+use Rattle.kob_policy_text.proofs.Words.{lines_up_to, shadowed_line, ◌++◌, ◌≡◌}
 use Rattle.kob_policy_text.proofs.shadowed.push_shadowed_lines.Given as goal
 
 abbrev pub invariant-loop-place : goal.invariant-loop-place
-invariant-loop-place l = l.out.items ≡ l.initial.out.items ++ shadowed_lines l.judge l.asked l.place
+invariant-loop-place l = l.out.items ≡ l.initial.out.items ++ lines_up_to (shadowed_line l.judge l.asked) l.place

@@ -1,10 +1,8 @@
-use Rattle.kob_policy_text.proofs.Growing.{begins, grows, unused_more, unused_none}
+use Rattle.kob_policy_text.proofs.Growing.{begins, grows}
 use Rattle.kob_policy_text.proofs.unused.push_unused_lines.Goals as goal
 
 pub loop-place-init : goal.loop-place-init
-loop-place-init c = begins _ _ (unused_none c.args.judge.now c.args.asked.now)
+loop-place-init c = begins _ _
 
 pub loop-place-preserved : goal.loop-place-preserved
-loop-place-preserved c =
-    grows _ _ _ _ _ _ c.loop-place.invariant c.in_ok-push_unused_line.ensures
-    (unused_more c.args.judge.now c.args.asked.now c.loop-place.place)
+loop-place-preserved c = grows _ _ _ _ _ c.loop-place.invariant c.in_ok-push_unused_line.ensures

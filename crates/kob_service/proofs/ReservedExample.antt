@@ -1,8 +1,9 @@
 -- A history that fulfils what the laws of reserved names ask, of a producer and of a committer: a super user creates a
 -- topic, and bindings by which one principal alone may write to it and another alone may read a group; each of the two
 -- then does so.
-use Rattle.kob_embedding.proofs.Words.{ActsAlone, Allow, Commits, CreateAcls, CreateTopics, Done, Draft, Entry, Group, IsLegal, IsReserved, IsTrue, List, Literal, NoSuperUser, None, OffsetCommit, Operation, Produce, Produces, Read, Reply, Request, ResourceKind, Retained, Settings, State, Topic, Write, [], and_parts, arith, bytes_eq-Decides, codes, covers, false, nat_tests, opened_by, or-false, reaches, refl, standing_after, suc, sym, true, true≢false, zero, ℕ, ◌&&◌, ◌∷◌, ◌≡◌}
+use Rattle.kob_service.proofs.Words.{ActsAlone, Allow, Commits, CreateAcls, CreateTopics, Done, Draft, Entry, Group, IsLegal, IsReserved, IsTrue, List, Literal, NoSuperUser, None, OffsetCommit, Operation, Produce, Produces, Read, Reply, Request, ResourceKind, Retained, Settings, State, Topic, Write, [], and_parts, arith, bytes_eq-Decides, codes, covers, false, nat_tests, opened_by, or-false, reaches, refl, standing_after, suc, zero, ℕ, ◌&&◌, ◌∷◌, ◌≡◌}
 use Rattle.kob_rights.specs.declared.reply.Body.TheVariants as bodies
+use Rattle.kob_service.proofs.Example.{never}
 
 abbrev admin : List ℕ
 admin = codes "User:a"
@@ -76,9 +77,6 @@ writes who host hit = grind (arith, nat_tests, and_parts, bytes_eq-Decides, or-f
 reads : (who host : List ℕ)
     → IsTrue (covers (allow reader Read Group group) who host && reaches Allow Read Read) → who ≡ reader
 reads who host hit = grind (arith, nat_tests, and_parts, bytes_eq-Decides, or-false)
-
-never : {A : Type 0} → false ≡ true → A
-never hit = absurd (true≢false (sym hit))
 
 pub reserved_to_write : IsReserved settings journal writer Write Topic topic
 reserved_to_write zero within = record { allowed = λ who host. tt; closed = λ who host. refl }

@@ -1,0 +1,53 @@
+-- The names that the lemmas cite, passed on from one place.
+pub use Rattle.kob_broker.specs.State.{State}
+pub use Rattle.kob_inbox.specs.declared.fetcher.Subscription.{Subscription}
+pub use Rattle.kob_names.specs.Access.{covers, reaches}
+pub use Rattle.kob_names.specs.declared.batch.Batch.{Batch}
+pub use Rattle.kob_names.specs.declared.draft.Draft.{Draft}
+pub use Rattle.kob_names.specs.declared.kinds.Operation.{Operation}
+pub use Rattle.kob_names.specs.declared.kinds.Operation.TheVariants.{Read, Write}
+pub use Rattle.kob_names.specs.declared.kinds.PatternKind.TheVariants.{Literal}
+pub use Rattle.kob_names.specs.declared.kinds.Permission.TheVariants.{Allow}
+pub use Rattle.kob_names.specs.declared.kinds.ResourceKind.{ResourceKind}
+pub use Rattle.kob_names.specs.declared.kinds.ResourceKind.TheVariants.{Group, Topic}
+pub use Rattle.kob_names.specs.declared.record.Record.{Record}
+pub use Rattle.kob_names.specs.declared.settings.Settings.{Settings}
+pub use Rattle.kob_outbox.specs.Contents.{Event}
+pub use Rattle.kob_outbox.specs.Events.{id_text, stored_event}
+pub use Rattle.kob_outbox.specs.declared.change.Change.{Change}
+pub use Rattle.kob_outbox.specs.declared.event.OutboxEvent.{OutboxEvent}
+pub use Rattle.kob_partition.specs.Batches.{records_of}
+pub use Rattle.kob_partition.specs.Retained.{Retained}
+pub use Rattle.kob_pipeline.proofs.DeliveryLaws.{holds_a_prefix}
+pub use Rattle.kob_pipeline.specs.Delivery.{IsDelivered, rows_of, told_id}
+pub use Rattle.kob_pipeline.specs.Parts.{IsConsumerPart, IsServicePart}
+pub use Rattle.kob_pipeline.specs.Premises.{ArePrivate, Commits, IsNeverDeleted, IsPrivate, IsSoleCommitter, Produces}
+pub use Rattle.kob_pipeline.specs.Reaching.{ReachesInOrder, rows_of_aggregate, taken_ids}
+pub use Rattle.kob_pipeline.specs.Reserved.{ActsAlone, IsReserved, NoSuperUser}
+pub use Rattle.kob_pipeline.specs.Taking.{IsTakenInOrder}
+pub use Rattle.kob_pipeline.specs.View.{IsHistory, IsSameView, View, opening_view, with_batch, with_commit, with_producer, without_topic}
+pub use Rattle.kob_rights.specs.declared.code.Code.TheVariants.{TopicAuthorizationFailed}
+pub use Rattle.kob_rights.specs.declared.reply.Reply.{Reply}
+pub use Rattle.kob_rights.specs.declared.reply.Reply.TheVariants.{Denied, Done}
+pub use Rattle.kob_rights.specs.declared.request.Request.{Request}
+pub use Rattle.kob_rights.specs.declared.request.Request.TheVariants.{CreateAcls, CreateTopics, DeleteTopics, Fetch, InitProducerId, OffsetCommit, OffsetFetch, Produce}
+pub use Rattle.kob_router.specs.Dispatches.{dispatch_of, place_of}
+pub use Rattle.kob_router.specs.Run.{Hand, batch_of}
+pub use Rattle.kob_router.specs.declared.dispatch.Target.{Target}
+pub use Rattle.kob_router.specs.declared.line.Call.{Call}
+pub use Rattle.kob_router.specs.declared.place.Place.{Place}
+pub use Rattle.kob_router.specs.declared.sender.Producer.{Producer}
+pub use Rattle.kob_shared.specs.Decided.{standing_after}
+pub use Rattle.kob_shared.specs.Journals.{IsLegal}
+pub use Rattle.kob_shared.specs.Openings.{opened_by}
+pub use Rattle.kob_shared.specs.declared.journal.Entry.{Entry}
+pub use Rattle.std.proofs.Common.{Bool, Global, List, String, [], ap, arith, false, get_or, inr, refl, subst, suc, sym, true, zero, ℕ, ◌&&◌, ◌<◌, ◌||◌, ◌∷◌, ◌≡◌}
+pub use Rattle.std.proofs.Math.Bool.{or-false}
+pub use Rattle.std.proofs.lemmas.Bool.{and_parts, true≢false}
+pub use Rattle.std.proofs.lemmas.Bool.Decides.{nat_tests}
+pub use Rattle.std.proofs.lemmas.Slice.Eq.{bytes_eq-Decides}
+pub use Rattle.std.proofs.lemmas.Str.{IsUtf8-from_ascii}
+pub use Rattle.std.specs.List.{AllByRecursion, range_with_len}
+pub use Rattle.std.specs.Prelude.{IsTrue, None, Option, Some, bytes_eq, codes, slice_get}
+pub use Rattle.std.specs.Str.{IsAscii}
+pub use denote.RawPtr.{null_ptr}
