@@ -1,15 +1,11 @@
 -- A script reads as the scene that it is.
-use Rattle.kob_scene_text.proofs.Words.{Bool, CliArgs, Consumer, Err, Event, HasNoWorkerLine, Head, Journal, LateSetting, Law, List, Of, Ok, Option, ReadsAs, Request, Result, SceneFaultKind, Script, Seen, Service, Setting, Settings, ThenLines, Unknown, Word, [], ap, arith, as_line, as_scene, as_scripts, false, if◌then◌else◌, is_request, is_script_line, list_all, map-append, nat_lt, nat_tests, refl, rules, scene_of, suc, tests, true, with_head, with_setting, words_of, ℕ, ◌&&◌, ◌+◌, ◌==◌, ◌>>=◌, ◌>>>◌, ◌∙◌, ◌∷◌, ◌≡◌}
+use Rattle.kob_scene_text.proofs.Words.{Bool, CliArgs, Consumer, Err, Event, HasNoWorkerLine, Head, Journal, LateSetting, Law, List, Of, Ok, Option, ReadsAs, Request, Result, SceneFaultKind, Script, Seen, Service, Setting, Settings, ThenLines, Unknown, Word, [], and_parts, ap, arith, as_line, as_scene, as_scripts, false, if◌then◌else◌, is_request, is_script_line, list_all, map-append, nat_lt, nat_tests, refl, rules, scene_of, suc, tests, true, with_head, with_setting, words_of, ℕ, ◌+◌, ◌==◌, ◌>>=◌, ◌>>>◌, ◌∙◌, ◌∷◌, ◌≡◌}
 use Rattle.kob_script.specs.declared.fault.Fault as script_fault
 use Rattle.kob_script.specs.declared.fault.FaultKind as script_kind
 use Rattle.kob_script.specs.Script as script
 use Rattle.kob_scene_text.specs.declared.fault.SceneFaultKind.TheVariants as kinds
 use Rattle.kob_scene_text.specs.SceneReadings.{LinesFrom}
 use Rattle.kob_scene_text.specs.Scenes.{with_line, with_words}
-
-both : (a b : Bool) → (a && b) ≡ true → (a ≡ true) × (b ≡ true)
-both true b e = (refl, e)
-both false b e = absurd cc
 
 not_none : (n : ℕ) → (suc n == 0) ≡ false
 not_none n = search (rules, tests)
@@ -65,7 +61,7 @@ lines_alike : (s : Script) (number : ℕ) (lines : List (List ℕ)) (read : Resu
 unfolding LinesFrom script.LinesFrom with_line script.with_line
 lines_alike s number [] read plain may = ap as_scene may
 lines_alike s number (line ∷ lines) read plain (first, (answer, is, gives), others) =
-    let here = both (is_script_line (words_of line)) (list_all (λ l. is_script_line (words_of l)) lines) plain in (
+    let here = and_parts (is_script_line (words_of line)) (list_all (λ l. is_script_line (words_of l)) lines) plain in (
       as_line first,
       (answer, is, words_alike answer s (words_of line) here.0 ∙ ap as_line gives),
       then_alike number lines first read (λ next may. lines_alike next (number + 1) lines read here.1 may) others,

@@ -25,7 +25,8 @@ pub use Rattle.kob_script.specs.Words.{Word, words_of}
 pub use Rattle.kob_script.specs.declared.fault.FaultKind.TheVariants.{LateSetting}
 pub use Rattle.kob_script.specs.declared.fault.LineError.{LineError}
 pub use Rattle.kob_script.specs.declared.script.Script.{Script}
-pub use Rattle.std.proofs.Common.{Bool, Err, IsOk, List, None, Ok, OnOk, Option, Result, Some, [], ap, append_assoc, arith, codes, drop, false, flat_map, if◌then◌else◌, is_ok, length, map, nat_lt, refl, rules, subst, suc, sym, take, tests, true, ℕ, ◌&&◌, ◌++◌, ◌+◌, ◌==◌, ◌↔◌, ◌∙◌, ◌∷◌, ◌≡◌}
+pub use Rattle.std.proofs.Common.{Bool, Err, IsOk, List, None, Ok, OnOk, Option, Result, Some, [], ap, append_assoc, arith, codes, drop, false, flat_map, if◌then◌else◌, is_ok, length, map, nat_lt, refl, rules, subst, suc, sym, take, tests, true, ℕ, ◌++◌, ◌+◌, ◌==◌, ◌↔◌, ◌∙◌, ◌∷◌, ◌≡◌}
+pub use Rattle.std.proofs.lemmas.Bool.{and_parts}
 pub use Rattle.std.proofs.lemmas.Bool.Decides.{nat_tests}
 pub use Rattle.std.proofs.lemmas.List.{map-append}
 pub use Rattle.std.proofs.lemmas.Result.{err_from_is_err_and}

@@ -39,32 +39,28 @@ pattern_text patterns.Matching = codes " match"
 pattern_text patterns.Literal = codes " LITERAL"
 pattern_text patterns.Prefixed = codes " PREFIXED"
 
--- a text of a filter, `-` where any is meant
-abbrev pub text_or_dash : Option (List ℕ) → List ℕ
-text_or_dash None = codes " -"
-text_or_dash (Some text) = spaced text
+-- a part of a filter, `-` where any is meant
+abbrev pub or_dash : {A : Type 0} → (A → List ℕ) → Option A → List ℕ
+or_dash text None = codes " -"
+or_dash text (Some part) = text part
 
--- the words of a filter's kinds, `-` where any is meant
 abbrev pub resource_text : Option ResourceKind → List ℕ
-resource_text None = codes " -"
-resource_text (Some resource) = worded (resource_name resource)
+resource_text resource = or_dash (λ it. worded (resource_name it)) resource
 
 abbrev pub operation_text : Option Operation → List ℕ
-operation_text None = codes " -"
-operation_text (Some operation) = worded (operation_name operation)
+operation_text operation = or_dash (λ it. worded (operation_name it)) operation
 
 abbrev pub permission_text : Option Permission → List ℕ
-permission_text None = codes " -"
-permission_text (Some permission) = worded (permission_name permission)
+permission_text permission = or_dash (λ it. worded (permission_name it)) permission
 
 -- RESOURCE NAME PATTERN
 abbrev pub asked_target : BindingFilter → List ℕ
-asked_target f = resource_text f.resource ++ text_or_dash f.name ++ pattern_text f.pattern
+asked_target f = resource_text f.resource ++ or_dash spaced f.name ++ pattern_text f.pattern
 
 -- PRINCIPAL HOST OPERATION PERMISSION
 abbrev pub asked_grant : BindingFilter → List ℕ
 asked_grant f =
-    text_or_dash f.principal ++ text_or_dash f.host ++ operation_text f.operation
+    or_dash spaced f.principal ++ or_dash spaced f.host ++ operation_text f.operation
     ++ permission_text f.permission
 
 abbrev pub filter_text : BindingFilter → List ℕ

@@ -71,23 +71,14 @@ is_early s =
 
 -- with steps more
 abbrev pub with_steps : Seen → List Told → Seen
-with_steps s more = record {
-  settings = s.settings;
-  services = s.services;
-  consumers = s.consumers;
-  steps = s.steps ++ more;
-}
+with_steps s more = record s { steps = s.steps ++ more }
 
 -- a setting comes before every request, declaration and step
 abbrev pub with_setting : Seen → Word → List Word → Result Seen SceneFaultKind
 with_setting s first arguments =
     if is_early s then
-    (as_scripts (settings_with s.settings first arguments) >>> λ settings. Ok (record {
-      settings = settings;
-      services = s.services;
-      consumers = s.consumers;
-      steps = s.steps;
-    }))
+    (as_scripts (settings_with s.settings first arguments)
+    >>> λ settings. Ok (record s { settings = settings }))
     else Err (Script LateSetting)
 
 -- workers have numbers from 1 on, services and consumers counted together
@@ -108,12 +99,8 @@ service_at number name declared = record {
 abbrev pub with_service : Seen → List Word → Result Seen SceneFaultKind
 with_service s [] = Err bad_line
 with_service s (name ∷ words) =
-    new_name s.services s.consumers name >>> λ name. service_of words >>> λ declared. Ok (record {
-      settings = s.settings;
-      services = s.services ++ service_at (next_worker s) name declared ∷ [];
-      consumers = s.consumers;
-      steps = s.steps;
-    })
+    new_name s.services s.consumers name >>> λ name. service_of words >>> λ declared.
+    Ok (record s { services = s.services ++ service_at (next_worker s) name declared ∷ [] })
 
 abbrev pub consumer_at : ℕ → List ℕ → DeclaredConsumer → Consumer
 consumer_at number name declared = record {
@@ -129,12 +116,8 @@ abbrev pub with_consumer : Seen → List Word → Result Seen SceneFaultKind
 with_consumer s [] = Err bad_line
 with_consumer s (name ∷ words) =
     new_name s.services s.consumers name >>> λ name. as_scripts (consumer_of words)
-    >>> λ declared. Ok (record {
-      settings = s.settings;
-      services = s.services;
-      consumers = s.consumers ++ consumer_at (next_worker s) name declared ∷ [];
-      steps = s.steps;
-    })
+    >>> λ declared.
+    Ok (record s { consumers = s.consumers ++ consumer_at (next_worker s) name declared ∷ [] })
 
 -- journal
 abbrev pub with_journal : Seen → List Word → Result Seen SceneFaultKind

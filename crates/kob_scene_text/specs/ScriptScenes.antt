@@ -10,19 +10,13 @@ use Rattle.kob_scene_text.specs.declared.fault.SceneFault.{SceneFault}
 use Rattle.kob_scene_text.specs.declared.fault.SceneFaultKind.{SceneFaultKind}
 use Rattle.kob_scene_text.specs.declared.fault.SceneFaultKind.TheVariants as kinds
 use Rattle.kob_scene_text.specs.declared.line.Head.{Head}
-use Rattle.kob_scene_text.specs.declared.line.Head.TheVariants.{Setting, Service, Consumer, Journal, Law, Of, Unknown, Request}
+use Rattle.kob_scene_text.specs.declared.line.Head.TheVariants.{Request}
 use Rattle.kob_scene_text.specs.Heads.{head_by_word}
 use Rattle.kob_scene_text.specs.Scenes.{Seen, asked}
 
 abbrev pub is_request : Head → Bool
 is_request Request = true
-is_request Setting = false
-is_request Service = false
-is_request Consumer = false
-is_request Journal = false
-is_request Law = false
-is_request (Of worker) = false
-is_request Unknown = false
+is_request _ = false
 
 -- a line of a script: a setting, or no line of a worker where none is declared
 abbrev pub is_script_line : Result (List Word) FaultKind → Bool

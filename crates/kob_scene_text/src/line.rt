@@ -5,19 +5,21 @@ ghost use Rattle.kob_scene_text.specs.Heads.{asks_step, head_by, head_by_word, h
 ghost use Rattle.kob_scene_text.specs.Heads.{head_of};
 ghost use Rattle.kob_scene_text.specs.SceneReadings.{ReadsLine, ReadsNext};
 ghost use Rattle.kob_scene_text.specs.Scenes.{asked, is_early, next_worker, so_far, told};
-ghost use Rattle.kob_scene_text.specs.Scenes.{with_consumer, with_journal, with_law};
+ghost use Rattle.kob_scene_text.specs.Scenes.{consumer_at, service_at};
+ghost use Rattle.kob_scene_text.specs.Scenes.{with_consumer, with_head, with_journal, with_law};
 ghost use Rattle.kob_scene_text.specs.Scenes.{with_requests, with_service, with_setting};
 ghost use Rattle.kob_scene_text.specs.Scenes.{with_step, with_steps, with_words};
 ghost use Rattle.std.specs.Prelude.{Ok, [], ◌∷◌};
 
-use crate::consumer_lines::consumer_of;
+use crate::consumer_lines::{DeclaredConsumer, consumer_of};
 use crate::fault::{SceneFaultKind, StepError};
 use crate::name::{Worker, consumer_named, new_name, service_named, worker_named};
 use crate::reading::Reading;
 use crate::scene::{Consumer, Service, Step};
-use crate::service_lines::service_of;
+use crate::service_lines::{DeclaredService, service_of};
 use crate::step_lines::{begins_step, consumer_step, service_step};
 use kob_acl_cli::CliArgs;
+use kob_names::Text;
 use kob_rights::Event;
 use kob_script::{
     FaultKind, Word, answer_to, events_of, everyone_of, is_setting, is_super, super_of, words_of,
@@ -129,17 +131,35 @@ impl Reading {
             [] => Ok(()),
             [first, rest @ ..] => {
                 let worker = worker_named(&self.services, &self.consumers, first.decoded());
-                match head_of(worker, first, rest) {
-                    Head::Setting => self.add_setting(alloc, first, rest),
-                    Head::Service => self.add_service(alloc, rest),
-                    Head::Consumer => self.add_consumer(alloc, rest),
-                    Head::Journal => self.add_journal(rest),
-                    Head::Law => self.add_law(rest),
-                    Head::Of(worker) => self.add_step(alloc, worker, rest),
-                    Head::Unknown => Err(StepError::Fault(SceneFaultKind::UnknownWorker)),
-                    Head::Request => self.add_requests(alloc, words, answer),
-                }
+                let head = head_of(worker, first, rest);
+                self.add_by(alloc, head, first, rest, words, answer)
             }
+        }
+    }
+
+    /// Adds what a line says that begins so.
+    fn add_by(
+        &mut self,
+        alloc: Global,
+        head: Head,
+        first: &Word<'_>,
+        rest: &[Word<'_>],
+        words: &[Word<'_>],
+        answer: &Option<CliArgs>,
+    ) -> Result<(), StepError>
+        requires { words.now ≡ first.now ∷ rest.now }
+        ensures { ReadsNext self.new result
+            (with_head answer.now head (so_far self.old) first.now rest.now) }
+    {
+        match head {
+            Head::Setting => self.add_setting(alloc, first, rest),
+            Head::Service => self.add_service(alloc, rest),
+            Head::Consumer => self.add_consumer(alloc, rest),
+            Head::Journal => self.add_journal(rest),
+            Head::Law => self.add_law(rest),
+            Head::Of(worker) => self.add_step(alloc, worker, rest),
+            Head::Unknown => Err(StepError::Fault(SceneFaultKind::UnknownWorker)),
+            Head::Request => self.add_requests(alloc, words, answer),
         }
     }
 
@@ -189,7 +209,25 @@ impl Reading {
         };
         let worker = self.next_worker()?;
         let name = new_name(alloc, &self.services, &self.consumers, name)?;
-        let declared = service_of(alloc, rest)?;
+        match service_of(alloc, rest) {
+            Ok(declared) => self.push_service(worker, name, declared),
+            Err(error) => {
+                drop(name);
+                Err(error)
+            }
+        }
+    }
+
+    fn push_service(
+        &mut self,
+        worker: usize,
+        name: Text,
+        declared: DeclaredService,
+    ) -> Result<(), StepError>
+        ensures { ReadsNext self.new result (Ok (record (so_far self.old) {
+          services = self.old.services.items ++ service_at worker name declared ∷ [];
+        })) }
+    {
         self.services.push(Service {
             name,
             worker,
@@ -209,7 +247,25 @@ impl Reading {
         };
         let worker = self.next_worker()?;
         let name = new_name(alloc, &self.services, &self.consumers, name)?;
-        let declared = consumer_of(alloc, rest)?;
+        match consumer_of(alloc, rest) {
+            Ok(declared) => self.push_consumer(worker, name, declared),
+            Err(error) => {
+                drop(name);
+                Err(error.into())
+            }
+        }
+    }
+
+    fn push_consumer(
+        &mut self,
+        worker: usize,
+        name: Text,
+        declared: DeclaredConsumer,
+    ) -> Result<(), StepError>
+        ensures { ReadsNext self.new result (Ok (record (so_far self.old) {
+          consumers = self.old.consumers.items ++ consumer_at worker name declared ∷ [];
+        })) }
+    {
         self.consumers.push(Consumer {
             name,
             worker,

@@ -3,9 +3,9 @@
 ghost use Rattle.std.specs.Prelude.{◌≡◌, ◌++◌, OnOk, flat_map};
 ghost use Rattle.kob_scene_text.specs.PrintedBindings.{asked_grant, asked_target, draft_text};
 ghost use Rattle.kob_scene_text.specs.PrintedBindings.{filter_text, grant_text, operation_text};
-ghost use Rattle.kob_scene_text.specs.PrintedBindings.{pattern_text, permission_text};
-ghost use Rattle.kob_scene_text.specs.PrintedBindings.{resource_text, target_text, text_or_dash};
-ghost use Rattle.kob_scene_text.specs.PrintedBindings.{worded};
+ghost use Rattle.kob_scene_text.specs.PrintedBindings.{or_dash, pattern_text, permission_text};
+ghost use Rattle.kob_scene_text.specs.PrintedBindings.{resource_text, target_text, worded};
+ghost use Rattle.kob_scene_text.specs.PrintedRows.{spaced};
 
 use crate::printed_rows::push_spaced;
 use kob_names::{
@@ -89,7 +89,7 @@ fn push_asked_grant(out: &mut Vec<u8>, filter: &BindingFilter) -> Result<(), All
 
 #[tactic(auto, using(kob_words::proofs::Appending::appending))]
 fn push_text(out: &mut Vec<u8>, text: &Option<Text>) -> Result<(), AllocError>
-    ensures { OnOk result (out.new.items ≡ out.old.items ++ text_or_dash text.now) }
+    ensures { OnOk result (out.new.items ≡ out.old.items ++ or_dash spaced text.now) }
 {
     match text {
         None => out.extend_from_slice(b" -"),
@@ -99,7 +99,7 @@ fn push_text(out: &mut Vec<u8>, text: &Option<Text>) -> Result<(), AllocError>
 
 #[tactic(auto, using(kob_words::proofs::Appending::appending))]
 fn push_principal(out: &mut Vec<u8>, principal: &Option<Principal>) -> Result<(), AllocError>
-    ensures { OnOk result (out.new.items ≡ out.old.items ++ text_or_dash principal.now) }
+    ensures { OnOk result (out.new.items ≡ out.old.items ++ or_dash spaced principal.now) }
 {
     match principal {
         None => out.extend_from_slice(b" -"),
@@ -109,7 +109,7 @@ fn push_principal(out: &mut Vec<u8>, principal: &Option<Principal>) -> Result<()
 
 #[tactic(auto, using(kob_words::proofs::Appending::appending))]
 fn push_host(out: &mut Vec<u8>, host: &Option<Host>) -> Result<(), AllocError>
-    ensures { OnOk result (out.new.items ≡ out.old.items ++ text_or_dash host.now) }
+    ensures { OnOk result (out.new.items ≡ out.old.items ++ or_dash spaced host.now) }
 {
     match host {
         None => out.extend_from_slice(b" -"),
