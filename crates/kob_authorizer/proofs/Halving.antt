@@ -3,7 +3,7 @@ use Rattle.kob_authorizer.proofs.Words.{All-from_recursion, AreRising, Binding, 
 use Rattle.kob_authorizer.proofs.FirstHit.{none_below}
 
 -- in rising order no serial is below where they begin
-at_least : (low high : ℕ) (entries : List (ℕ × Binding)) (k : ℕ) (d : ℕ × Binding) → IsRising low entries high
+pub at_least : (low high : ℕ) (entries : List (ℕ × Binding)) (k : ℕ) (d : ℕ × Binding) → IsRising low entries high
     → k < length entries → low ≤ (get_or entries k d).0
 at_least low high entries k d rising below =
     All-from_recursion (λ (entry : ℕ × Binding). low ≤ entry.0) entries
@@ -20,7 +20,7 @@ in_order low high (x ∷ xs) (suc i) (suc j) d rising le below =
     in_order (x.0 + 1) high xs i j d rising.1 (omega (arith, le)) (omega (arith, below))
 
 -- the entry at a place is the one with its serial
-found_at : (low high : ℕ) (entries : List (ℕ × Binding)) (k serial : ℕ) (d : ℕ × Binding) → IsRising low entries high
+pub found_at : (low high : ℕ) (entries : List (ℕ × Binding)) (k serial : ℕ) (d : ℕ × Binding) → IsRising low entries high
     → k < length entries → (get_or entries k d).0 ≡ serial → Some (get_or entries k d) ≡ entry_at entries serial
 found_at low high [] k serial d rising below is = absurd (omega (arith, below))
 found_at low high (x ∷ xs) zero serial d rising below is = grind (arith, nat_tests, eq-eqb)

@@ -1,3 +1,4 @@
+pub mod Deleting
 pub mod Distinct
 pub mod Elements
 pub mod FirstHit

@@ -1,5 +1,5 @@
 -- How bindings are added at once: the new ones are found first, then numbered.
-use Rattle.std.specs.Prelude.{Bool, ◌||◌, if◌then◌else◌, List, [], ◌∷◌, ◌++◌, ℕ, ◌+◌}
+use Rattle.std.specs.Prelude.{Bool, ◌||◌, if◌then◌else◌, List, [], ◌∷◌, ◌++◌, ℕ}
 use Rattle.std.specs.List.{enumerate_from, filter_map, fold, list_any}
 use Rattle.kob_names.specs.SameBinding.{same_binding}
 use Rattle.kob_names.specs.Binding.{Binding}

@@ -174,6 +174,7 @@ impl Authorizer {
 
     /// The first step of [`create`](Authorizer::create): makes all allocations, and returns the
     /// serials with the prepared bindings. The contents are unchanged, also after an error.
+    #[tactic(auto, using(crate::proofs::Rising::are_rising))]
     pub fn prepare_create(
         &mut self,
         alloc: Global,
@@ -217,7 +218,7 @@ impl Authorizer {
     }
 
     /// Copies of the bindings that the filter selects, with their serials, by ascending serial.
-    #[tactic(auto, using(crate::proofs::Rising::rising_filter))]
+    #[tactic(auto, using(crate::proofs::Rising::rising_filter, crate::proofs::Rising::are_rising))]
     pub fn describe(
         &self,
         alloc: Global,
@@ -227,7 +228,7 @@ impl Authorizer {
             entries.items ≡ bindings_taken filter.now self.now.contents.entries) }
         ensures rising { IfOk result (λ entries. IsRising 1 entries.items self.now.contents.next) }
     {
-        copies_taken(alloc, self.entries.as_slice(), filter)
+        copies_taken(alloc, self.entries.as_slice(), &self.index.patterns, filter)
     }
 
     /// Deletes the bindings that the filter selects, and returns them by ascending serial. The
@@ -250,7 +251,7 @@ impl Authorizer {
 
     /// The first step of [`delete`](Authorizer::delete): makes all allocations, and returns the
     /// bindings that will be deleted.
-    #[tactic(auto, using(crate::proofs::Rising::rising_filter))]
+    #[tactic(auto, using(crate::proofs::Rising::rising_filter, crate::proofs::Rising::are_rising))]
     pub fn prepare_delete(
         &self,
         alloc: Global,
@@ -262,12 +263,12 @@ impl Authorizer {
         ensures rising { IfOk result (λ made. IsRising 1 made.taken self.now.contents.next) }
         ensures ready { IfOk result (λ made. CanDelete made self.now) }
     {
-        PreparedDelete::make(alloc, self.entries.as_slice(), filter)
+        PreparedDelete::make(alloc, self.entries.as_slice(), &self.index.patterns, filter)
     }
 
     /// The second step of [`delete`](Authorizer::delete): deletes the prepared entries and returns
     /// them. Does not allocate.
-    #[tactic(auto, using(crate::proofs::Rising::rising_filter))]
+    #[tactic(auto, using(crate::proofs::Rising::rising_filter, crate::proofs::Rising::are_rising))]
     pub fn commit_delete(&mut self, prepared: PreparedDelete) -> Vec<(u64, Binding)>
         requires { CanDelete prepared self.old }
         ensures contents { self.new.contents ≡ without_taken prepared.filter self.old.contents }
@@ -276,7 +277,7 @@ impl Authorizer {
         let (filter, taken, keys, removals) = prepared.into_parts();
         remove_keys(&mut self.index.keys, keys);
         remove_all(&mut self.index.patterns, removals);
-        remove_taken(&mut self.entries, &filter);
+        remove_taken(&mut self.entries, &filter, taken.as_slice());
         taken
     }
 }

@@ -1,10 +1,15 @@
 //! A deletion of bindings between its first and its second step.
 
-ghost use Rattle.std.specs.Prelude.{◌≡◌, ◌≤◌, IfOk, length, map};
+ghost use Rattle.std.specs.Prelude.{◌≡◌, ◌≤◌, ◌++◌, ◌∷◌, [], IfOk, OnOk, length, map};
+ghost use Rattle.std.specs.List.{filter_map};
 ghost use Rattle.kob_authorizer.specs.Deletion.{bindings_taken, bindings_left};
+ghost use Rattle.kob_authorizer.specs.Index.{ArePatternsOf};
+ghost use Rattle.kob_authorizer.specs.LookUp.{AreRising, entry_at};
 ghost use Rattle.kob_authorizer.specs.Places.{addition, key_place};
 ghost use Rattle.kob_authorizer.specs.Removal.{removals_of};
 
+use crate::look_up::{entry_of, place_of};
+use crate::patterns::Patterns;
 use crate::removal::{KeyRemoval, Removal, key_removals, removals_of};
 use kob_names::{Binding, BindingFilter, PlainValue};
 use std::alloc::{AllocError, Global};
@@ -40,12 +45,15 @@ impl PreparedDelete {
     pub(crate) fn make(
         alloc: Global,
         entries: &[(u64, Binding)],
+        patterns: &Patterns,
         filter: &BindingFilter,
     ) -> Result<PreparedDelete, AllocError>
+        requires rising { AreRising entries.now }
+        requires indexed { ArePatternsOf patterns.now entries.now }
         ensures filter { IfOk result (λ made. made.filter ≡ filter.now) }
         ensures taken { IfOk result (λ made. made.taken ≡ bindings_taken filter.now entries.now) }
     {
-        let taken = copies_taken(alloc, entries, filter)?;
+        let taken = copies_taken(alloc, entries, patterns, filter)?;
         let keys = key_removals(alloc, taken.as_slice())?;
         let removals = removals_of(alloc, taken.as_slice())?;
         let filter = filter.copy(alloc)?;
@@ -90,9 +98,28 @@ type DeletionParts = (
     Vec<Removal>,
 );
 
-/// Copies of the entries that the filter selects.
-#[tactic(auto, using(std::proofs::lemmas::List::Elements::filter_more))]
+/// Copies of the entries that the filter selects. If it names one pattern on one kind of resource,
+/// only the entries with that pattern are examined.
+#[tactic(auto, using(crate::proofs::Deleting::listed_lead))]
 pub fn copies_taken(
+    alloc: Global,
+    entries: &[(u64, Binding)],
+    patterns: &Patterns,
+    filter: &BindingFilter,
+) -> Result<Vec<(u64, Binding)>, AllocError>
+    requires rising { AreRising entries.now }
+    requires indexed { ArePatternsOf patterns.now entries.now }
+    ensures { IfOk result (λ made. made.items ≡ bindings_taken filter.now entries.now) }
+{
+    match patterns.listed_by(alloc, filter)? {
+        None => copies_among(alloc, entries, filter),
+        Some(serials) => copies_at(alloc, entries, serials.as_slice(), filter),
+    }
+}
+
+/// Copies of the entries that the filter selects. Each entry is examined.
+#[tactic(auto, using(std::proofs::lemmas::List::Elements::filter_more))]
+fn copies_among(
     alloc: Global,
     entries: &[(u64, Binding)],
     filter: &BindingFilter,
@@ -101,17 +128,64 @@ pub fn copies_taken(
 {
     let mut copies = Vec::new(alloc);
     for entry in entries {
-        if filter.takes(&entry.1) {
-            copies.push(entry.copy(alloc)?)?;
+        push_taken(alloc, &mut copies, entry, filter)?;
+    }
+    Ok(copies)
+}
+
+/// Copies of those of the entries with these serials that the filter selects.
+#[tactic(auto, using(crate::proofs::Deleting::found_more, crate::proofs::Deleting::none_more))]
+fn copies_at(
+    alloc: Global,
+    entries: &[(u64, Binding)],
+    serials: &[u64],
+    filter: &BindingFilter,
+) -> Result<Vec<(u64, Binding)>, AllocError>
+    requires { AreRising entries.now }
+    ensures { IfOk result (λ made. made.items
+        ≡ bindings_taken filter.now (filter_map (entry_at entries.now) serials.now)) }
+{
+    let mut copies = Vec::new(alloc);
+    for serial in serials {
+        if let Some(entry) = entry_of(entries, *serial) {
+            push_taken(alloc, &mut copies, entry, filter)?;
         }
     }
     Ok(copies)
 }
 
-/// Removes the entries that the filter selects.
-pub fn remove_taken(entries: &mut Vec<(u64, Binding)>, filter: &BindingFilter)
+/// Appends a copy of the entry, if the filter selects it.
+fn push_taken(
+    alloc: Global,
+    copies: &mut Vec<(u64, Binding)>,
+    entry: &(u64, Binding),
+    filter: &BindingFilter,
+) -> Result<(), AllocError>
+    ensures { OnOk result (copies.new.items
+        ≡ copies.old.items ++ bindings_taken filter.now (entry.now ∷ [])) }
+{
+    if filter.takes(&entry.1) {
+        copies.push(entry.copy(alloc)?)?;
+    }
+    Ok(())
+}
+
+/// Removes the entries that the filter selects. One alone is found by its serial.
+pub fn remove_taken(
+    entries: &mut Vec<(u64, Binding)>,
+    filter: &BindingFilter,
+    taken: &[(u64, Binding)],
+)
+    requires rising { AreRising entries.old.items }
+    requires taken { taken.now ≡ bindings_taken filter.now entries.old.items }
     ensures items { entries.new.items ≡ bindings_left filter.now entries.old.items }
     ensures bound { length entries.new.items ≤ length entries.old.items }
 {
+    if taken.len() == 1 {
+        if let Some(place) = place_of(entries.as_slice(), taken[0].0) {
+            entries.remove(place);
+            return;
+        }
+    }
     entries.retain(|entry| !filter.takes(&entry.1));
 }

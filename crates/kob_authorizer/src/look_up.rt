@@ -2,8 +2,9 @@
 //! examines bindings of the principal that asks and of `User:*`, for its host and for every host.
 //! They are on the kind of resource in question.
 
-ghost use Rattle.std.specs.Prelude.{◌≡◌, ◌∷◌, [], ◌&&◌, ◌==◌, false, length};
-ghost use Rattle.std.specs.Option.{option_copied};
+ghost use Rattle.std.specs.Prelude.{◌≡◌, ◌<◌, ◌∷◌, [], ◌&&◌, ◌==◌, ℕ, None, Some, false, get_or, length};
+ghost use Rattle.std.specs.Option.{MatchOption, option_copied};
+ghost use Rattle.kob_names.specs.Binding.{Binding};
 ghost use Rattle.kob_authorizer.specs.Asked.{question_view};
 ghost use Rattle.kob_authorizer.specs.Decide.{first_serial, hits, is_unmatched};
 ghost use Rattle.kob_authorizer.specs.Decide.{unless_open, verdict_of};
@@ -115,13 +116,23 @@ fn hit_with(entries: &[(u64, Binding)], serial: u64, question: &Question) -> Hit
     }
 }
 
-/// The entry with this serial, by binary search.
+/// The entry with this serial.
 pub fn entry_of(entries: &[(u64, Binding)], serial: u64) -> Option<&(u64, Binding)>
     requires { AreRising entries.now }
     ensures { option_copied result ≡ entry_at entries.now serial }
 {
-    match entries.binary_search_by_key(&serial, |entry| entry.0) {
-        Ok(place) => Some(&entries[place]),
-        Err(_) => None,
+    match place_of(entries, serial) {
+        Some(place) => Some(&entries[place]),
+        None => None,
     }
+}
+
+/// The place of the entry with this serial, by binary search.
+pub fn place_of(entries: &[(u64, Binding)], serial: u64) -> Option<usize>
+    requires { AreRising entries.now }
+    ensures { MatchOption result (None ≡ entry_at entries.now serial)
+        (λ place. (place < length entries.now) × ((d : ℕ × Binding)
+        → Some (get_or entries.now place d) ≡ entry_at entries.now serial)) }
+{
+    entries.binary_search_by_key(&serial, |entry| entry.0).ok()
 }

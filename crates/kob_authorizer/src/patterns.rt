@@ -1,16 +1,18 @@
 //! The trees that map the names of patterns to the serials of bindings.
 
-ghost use Rattle.std.specs.Prelude.{◌≡◌, IfOk, OnOk};
+ghost use Rattle.std.specs.Prelude.{◌≡◌, IfOk, OnOk, vec_items};
 ghost use Rattle.std.specs.List.{fold};
+ghost use Rattle.std.specs.Option.{option_map};
 ghost use Rattle.kob_prefix_tree.specs.WalkLeft.{left_of};
 ghost use Rattle.kob_authorizer.specs.Index.{no_patterns, patterns_of, tree_of};
 ghost use Rattle.kob_authorizer.specs.Index.{with_entry, with_pattern};
+ghost use Rattle.kob_authorizer.specs.Deletion.{listed_by};
 ghost use Rattle.kob_authorizer.specs.Removal.{serials_beside, without_removal};
 
 use crate::key::kind_in_tree;
 use crate::removal::Removal;
-use kob_names::{Binding, ResourceKind};
-use kob_prefix_tree::{PrefixTree, Prepared, Walk};
+use kob_names::{Binding, BindingFilter, FilterPattern, ResourceKind};
+use kob_prefix_tree::{PatternKind, PrefixTree, Prepared, Walk};
 use std::alloc::{AllocError, Global};
 
 /// One tree for the patterns on each kind of resource.
@@ -59,6 +61,29 @@ impl Patterns {
             ResourceKind::Group => &self.groups,
             ResourceKind::Cluster => &self.cluster,
             ResourceKind::TransactionalId => &self.transactional_ids,
+        }
+    }
+
+    /// The serials at the pattern that a filter names, in order, if it names one on one kind of
+    /// resource.
+    pub fn listed_by(
+        &self,
+        alloc: Global,
+        filter: &BindingFilter,
+    ) -> Result<Option<Vec<u64>>, AllocError>
+        ensures { IfOk result (λ made. option_map vec_items made ≡ listed_by self.now filter.now) }
+    {
+        let kind = match filter.pattern {
+            FilterPattern::Literal => PatternKind::Literal,
+            FilterPattern::Prefixed => PatternKind::Prefixed,
+            FilterPattern::Any | FilterPattern::Matching => return Ok(None),
+        };
+        match (filter.resource, &filter.name) {
+            (Some(resource), Some(name)) => {
+                let listed = self.tree(resource).listed(name.as_str().as_bytes(), kind);
+                Ok(Some(listed.collect(alloc)?))
+            }
+            _ => Ok(None),
         }
     }
 

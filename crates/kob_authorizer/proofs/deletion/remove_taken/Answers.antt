@@ -1,5 +1,15 @@
-use Rattle.kob_authorizer.proofs.Words.{filter_same, rules}
+use Rattle.kob_authorizer.proofs.Words.{Some, entry_at, filter_same, get_or, rules, subst, ◌∙◌, ◌≡◌}
+use Rattle.kob_authorizer.proofs.Deleting.{single_removed}
 use Rattle.kob_authorizer.proofs.deletion.remove_taken.Goals as goal
 
 pub returns-clause-items : goal.returns-clause-items
 returns-clause-items c = filter_same _ _ _ (λ x b f' k. search rules) _ _ c.retain.ensures.filtered
+
+pub returns-in-Some-clause-items : goal.returns-in-Some-clause-items
+returns-in-Some-clause-items c =
+    let it = c.index-taken-0.result in let (below, found) = c.in-Some.ensures in
+    c.remove.ensures.items
+    ∙ single_removed c.args.filter.now c.args.entries.now.items c.args.taken.now c.in-Some.place it c.requires.rising
+    c.requires.taken (search rules) (search rules)
+    (subst (λ es. Some (get_or es c.in-Some.place it) ≡ entry_at es (get_or c.args.taken.now 0 it).0)
+    c.as_slice.ensures.value (found it))

@@ -1,6 +1,5 @@
 use Rattle.kob_authorizer.proofs.Words.{common_steps}
 use Rattle.kob_authorizer.proofs.Words.{arith}
-use Rattle.kob_authorizer.proofs.Words.{serial_of}
 use Rattle.kob_authorizer.proofs.FreshSteps.{places_below, places_rise}
 use Rattle.kob_authorizer.proofs.fresh.Fresh.place_of.Goals as goal
 
