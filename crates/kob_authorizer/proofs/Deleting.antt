@@ -1,11 +1,9 @@
 -- A deletion examines the entries at one pattern alone, and removes a single entry at its place.
-use Rattle.kob_authorizer.proofs.Words.{All, All-contains_itself, All-filter, All-from_recursion, All-head, All-tail, AreRising, Binding, BindingFilter, Bool, Contains, IsRising, List, Literal, None, Option, PatternKind, Prefixed, ResourceKind, Some, [], and_parts, ap, append-nil, bytes_eq-Decides, arith, bindings_left, bindings_taken, entry_at, filter, filter-append, get_or, held, is_place, kind_in_tree, length, map, nat_tests, not, pattern_place, refl, resource_decides, same_kind, same_resource, same_text, serials_of, subst, suc, sym, take, takes, tree_of, true, zero, ℕ, ◌&&◌, ◌++◌, ◌+◌, ◌<◌, ◌∙◌, ◌∷◌, ◌≡◌, ◌≤◌}
+use Rattle.kob_authorizer.proofs.Words.{All, All-contains_itself, All-filter, All-from_recursion, All-head, All-tail, AreRising, Binding, BindingFilter, Bool, Contains, IsRising, List, Literal, None, Option, PatternKind, Prefixed, ResourceKind, Some, [], and_parts, ap, append-nil, bytes_eq-Decides, arith, bindings_left, bindings_taken, entry_at, filter, filter-append, get_or, held, is_place, length, map, nat_tests, not, pattern_place, refl, resource_decides, same_kind, same_resource, same_text, serials_of, subst, suc, sym, take, takes, tree_of, true, zero, ℕ, ◌&&◌, ◌++◌, ◌+◌, ◌<◌, ◌∙◌, ◌∷◌, ◌≡◌, ◌≤◌}
 use Rattle.std.proofs.lemmas.List.{take_more}
 use Rattle.std.proofs.lemmas.List.Elements.{filter_map-append}
 use Rattle.std.specs.List.{cons_option, filter_map, remove}
-use Rattle.kob_names.specs.Filter.{takes_pattern}
-use Rattle.kob_names.specs.Same.{same_pattern_kind}
-use Rattle.kob_names.specs.declared.kinds.PatternKind as names
+use Rattle.kob_names.proofs.SameBindings.{kind_decides}
 use Rattle.kob_names.specs.declared.filter.FilterPattern.{FilterPattern}
 use Rattle.kob_names.specs.declared.filter.FilterPattern.TheVariants as named
 use Rattle.kob_prefix_tree.specs.declared.kind.PatternKind.TheVariants as in_tree
@@ -28,16 +26,10 @@ module _ (wanted : BindingFilter) (entries : List (ℕ × Binding)) (serials : L
       ∙ filter-append (λ (entry : ℕ × Binding). takes wanted entry.1) (filter_map (entry_at entries) (take i serials))
       (filter_map (entry_at entries) (get_or serials i d ∷ []))
 
-  pub found_more : (entry : ℕ × Binding) → Some entry ≡ entry_at entries (get_or serials i d)
-      → taken_from (take i serials) ++ bindings_taken wanted (entry ∷ []) ≡ taken_from (take (i + 1) serials)
+  pub found_more : (entry : Option (ℕ × Binding)) → entry ≡ entry_at entries (get_or serials i d)
+      → taken_from (take i serials) ++ bindings_taken wanted (cons_option entry []) ≡ taken_from (take (i + 1) serials)
   found_more entry found =
       ap (λ o. taken_from (take i serials) ++ bindings_taken wanted (cons_option o [])) found ∙ sym taken_more
-
-  pub none_more : None ≡ entry_at entries (get_or serials i d)
-      → taken_from (take i serials) ≡ taken_from (take (i + 1) serials)
-  none_more none =
-      sym (append-nil (taken_from (take i serials)))
-      ∙ ap (λ o. taken_from (take i serials) ++ bindings_taken wanted (cons_option o [])) none ∙ sym taken_more
 
 -- elements that fail a test which each sought one passes may be left out first
 filter_within : {A : Type 0} (sought test : A → Bool) (xs : List A) → ((x : A) → sought x ≡ true → test x ≡ true)
@@ -46,37 +38,14 @@ filter_within sought test [] within = refl
 filter_within sought test (x ∷ xs) within =
     let here = within x in let rest = filter_within sought test xs within in grind (arith, nat_tests)
 
--- a pattern of the kind and name that a filter names stands at the place of these
-literal_there : (kind : names.PatternKind) (name text : List ℕ)
-    → (same_pattern_kind kind Literal && same_text name text) ≡ true
-    → (same_kind (kind_in_tree kind) in_tree.Literal && same_text text name) ≡ true
-literal_there Literal name text is = grind (arith, nat_tests, bytes_eq-Decides)
-literal_there Prefixed name text is = grind (arith, nat_tests)
-
-prefixed_there : (kind : names.PatternKind) (name text : List ℕ)
-    → (same_pattern_kind kind Prefixed && same_text name text) ≡ true
-    → (same_kind (kind_in_tree kind) in_tree.Prefixed && same_text text name) ≡ true
-prefixed_there Literal name text is = grind (arith, nat_tests)
-prefixed_there Prefixed name text is = grind (arith, nat_tests, bytes_eq-Decides)
-
--- the two parts of a filter that lead to a list, of all that it tests
-two_parts : (wanted : BindingFilter) (b : Binding) (pattern : FilterPattern) (resource : ResourceKind) (name : List ℕ)
-    → wanted.pattern ≡ pattern → wanted.resource ≡ Some resource → wanted.name ≡ Some name → takes wanted b ≡ true
-    → (same_resource resource b.resource ≡ true) × (takes_pattern pattern (Some name) b.pattern ≡ true)
-two_parts wanted b pattern resource name of_pattern on called is =
-    grind (arith, nat_tests, and_parts)
-
 module _ (entries : List (ℕ × Binding)) (rising : AreRising entries) where
-  found_itself : (entry : ℕ × Binding) → Contains entries entry → entry_at entries entry.0 ≡ Some entry
-  found_itself entry (k, below, is) =
-      let found = found_at 0 rising.0 entries k entry.0 entry rising.1 below in grind (arith, nat_tests)
-
   -- some of the entries are found by their serials
   all_found : (some : List (ℕ × Binding)) → All (Contains entries) some
       → filter_map (entry_at entries) (map (λ (entry : ℕ × Binding). entry.0) some) ≡ some
   all_found [] there = refl
   all_found (x ∷ xs) there =
-      let first = found_itself x (All-head (Contains entries) x xs there) in
+      let (k, below, is) = All-head (Contains entries) x xs there in
+      let first = found_at 0 rising.0 entries k x.0 x rising.1 below in
       let rest = all_found xs (All-tail (Contains entries) x xs there) in grind (arith, nat_tests)
 
   module _ (wanted : BindingFilter) (patterns : Patterns) (indexed : ArePatternsOf patterns entries) where
@@ -103,14 +72,10 @@ module _ (entries : List (ℕ × Binding)) (rising : AreRising entries) where
         → bindings_taken wanted (filter_map (entry_at entries) serials) ≡ bindings_taken wanted entries
     led_by named.Literal (Some resource) (Some name) serials of_pattern on called is =
         led_from resource in_tree.Literal name serials (λ entry takes_it.
-        let parts = two_parts wanted entry.1 named.Literal resource name of_pattern on called takes_it in
-        (grind (arith, nat_tests, resource_decides), literal_there entry.1.pattern.kind name entry.1.pattern.name parts.1))
-        (grind (arith, nat_tests))
+        grind (arith, nat_tests, and_parts, resource_decides, kind_decides, bytes_eq-Decides)) (grind (arith, nat_tests))
     led_by named.Prefixed (Some resource) (Some name) serials of_pattern on called is =
         led_from resource in_tree.Prefixed name serials (λ entry takes_it.
-        let parts = two_parts wanted entry.1 named.Prefixed resource name of_pattern on called takes_it in
-        (grind (arith, nat_tests, resource_decides), prefixed_there entry.1.pattern.kind name entry.1.pattern.name parts.1))
-        (grind (arith, nat_tests))
+        grind (arith, nat_tests, and_parts, resource_decides, kind_decides, bytes_eq-Decides)) (grind (arith, nat_tests))
     led_by pattern resource name serials of_pattern on called is = grind (arith, nat_tests)
 
     -- the serials at the pattern that a filter names lead to all that it takes
@@ -151,8 +116,7 @@ pub single_removed : (wanted : BindingFilter) (entries taken : List (ℕ × Bind
     → AreRising entries → taken ≡ bindings_taken wanted entries → length taken ≡ 1 → place < length entries
     → Some (get_or entries place d) ≡ entry_at entries (get_or taken 0 d).0
     → remove entries place ≡ bindings_left wanted entries
-single_removed wanted entries [] place d rising is one below found = absurd (omega (arith, one))
 single_removed wanted entries (entry ∷ []) place d rising is one below found =
     one_removed (λ (e : ℕ × Binding). takes wanted e.1) 0 rising.0 entries place d entry rising.1 below
     (of_serial entries entry.0 (get_or entries place d) found) (sym is)
-single_removed wanted entries (entry ∷ other ∷ rest) place d rising is one below found = absurd (omega (arith, one))
+single_removed wanted entries taken place d rising is one below found = absurd (omega (arith, one))

@@ -134,7 +134,6 @@ fn copies_among(
 }
 
 /// Copies of those of the entries with these serials that the filter selects.
-#[tactic(auto, using(crate::proofs::Deleting::found_more, crate::proofs::Deleting::none_more))]
 fn copies_at(
     alloc: Global,
     entries: &[(u64, Binding)],
