@@ -1,5 +1,5 @@
 -- A deletion examines the entries at one pattern alone, and removes a single entry at its place.
-use Rattle.kob_authorizer.proofs.Words.{All, All-contains_itself, All-filter, All-from_recursion, All-head, All-tail, AreRising, Binding, BindingFilter, Bool, Contains, IsRising, List, Literal, None, Option, PatternKind, Prefixed, ResourceKind, Some, [], and_parts, ap, append-nil, bytes_eq-Decides, arith, bindings_left, bindings_taken, entry_at, filter, filter-append, get_or, held, is_place, length, map, nat_tests, not, pattern_place, refl, resource_decides, same_kind, same_resource, same_text, serials_of, subst, suc, sym, take, takes, tree_of, true, zero, ℕ, ◌&&◌, ◌++◌, ◌+◌, ◌<◌, ◌∙◌, ◌∷◌, ◌≡◌, ◌≤◌}
+use Rattle.kob_authorizer.proofs.Words.{All, All-contains_itself, All-filter, All-from_recursion, All-head, All-tail, AreRising, Binding, BindingFilter, Bool, Contains, IsRising, List, Option, PatternKind, ResourceKind, Some, [], and_parts, ap, bytes_eq-Decides, arith, bindings_left, bindings_taken, entry_at, filter, filter-append, get_or, held, is_place, length, map, nat_tests, not, pattern_place, refl, resource_decides, same_resource, serials_of, subst, suc, sym, take, takes, tree_of, true, zero, ℕ, ◌++◌, ◌+◌, ◌<◌, ◌∙◌, ◌∷◌, ◌≡◌, ◌≤◌}
 use Rattle.std.proofs.lemmas.List.{take_more}
 use Rattle.std.proofs.lemmas.List.Elements.{filter_map-append}
 use Rattle.std.specs.List.{cons_option, filter_map, remove}

@@ -1,13 +1,13 @@
 -- The serials that the trees give lead to every binding that is sought.
 use Rattle.kob_authorizer.proofs.Words.{AreRising, Binding, Bool, Contains, Contains-append_left, Contains-append_right, Decides-eqb, Held, Index, Indexes, IsIndex, IsTrue, List, Literal, Permission, Place, PrefixMap, Prefixed, Question, ResourceKind, along_has_literal, along_has_prefixed, and_from, and_parts, arith, behind, bytes_eq-Decides, codes, drop, entries_on, filter, first_serial, held, hits, inl, inr, is_equal, is_hit, is_place, key_place, keys_on, kind_in_tree, least_passing, length, matches, matches_by, matching_serials, nat_eq, nat_tests, or_cases, pattern_place, refl, resource_decides, same_binding_decides, same_resource, same_text, serial_of, serials_along, serials_for, serials_from, serials_of, starts_is, starts_with, subst, sym, tree_of, true, ℕ, ◌++◌, ◌||◌, ◌≡◌}
 use Rattle.kob_names.specs.declared.kinds.PatternKind.{PatternKind}
-use Rattle.kob_authorizer.specs.Meaning.{Hits}
+use Rattle.kob_authorizer.specs.Decide.{Hits}
 use Rattle.kob_prefix_tree.specs.declared.kind.PatternKind as of_tree
 use Rattle.kob_authorizer.proofs.FirstHit.{first_serial_found}
 use Rattle.kob_authorizer.proofs.Elements.{among_mapped, kept_by_filter}
 use Rattle.kob_authorizer.proofs.LeastPassing.{LeadToAll, least_is_first}
 use Rattle.kob_authorizer.proofs.Verdicts.{is_hit_decides}
-use Rattle.kob_authorizer.specs.Key.{binding_key}
+use Rattle.kob_authorizer.specs.Index.{binding_key}
 
 stands_itself : (place : Place) → is_place place.kind place.key place ≡ true
 stands_itself place = grind (arith, nat_tests, and_from, bytes_eq-Decides)

@@ -1,6 +1,6 @@
 -- A verdict that is true is the only one.
 use Rattle.kob_authorizer.proofs.Words.{Binding, Contents, IsEarliest, IsTrueVerdict, List, NoneHits, NoneMatches, Permission, Question, Verdict, arith, common_steps, nat_tests, ℕ, ◌≡◌, ◌≤◌}
-use Rattle.kob_authorizer.specs.Meaning.{Hits}
+use Rattle.kob_authorizer.specs.Decide.{Hits}
 use Rattle.kob_authorizer.proofs.Elements.{each}
 use Rattle.kob_authorizer.proofs.Resources.{none_among}
 

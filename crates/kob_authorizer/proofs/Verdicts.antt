@@ -1,6 +1,6 @@
 -- What a search among the bindings in force finds.
 use Rattle.kob_authorizer.proofs.Words.{Allow, Binding, Bool, Contains, Contains-from_any, Contents, Decides, Decides-and, Decides-like, Deny, IsEarliest, IsRising, IsTrue, IsTrueVerdict, List, None, NoneHits, NoneMatches, Option, Permission, Question, Some, arith, both_ways, bytes_eq-Decides, covers, decide, decide_by_bindings, false, first_serial, hits, is_granted, is_hit, is_match, is_super, list_any, list_any-from_Contains, matches, nat_list_eq_equiv, nat_tests, not, permission_decides, reaches, refl, resource_decides, true, unless_open, verdict_of, ℕ, ◌&&◌, ◌↔◌, ◌≡◌, ◌≤◌}
-use Rattle.kob_authorizer.specs.Meaning.{Hits}
+use Rattle.kob_authorizer.specs.Decide.{Hits}
 use Rattle.kob_authorizer.proofs.Elements.{each, of_each}
 use Rattle.kob_authorizer.proofs.FirstHit.{first_is, least_is, none_is}
 use Rattle.kob_authorizer.proofs.Resources.{none_among, none_matches, some_matches}

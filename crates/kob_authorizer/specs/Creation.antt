@@ -1,12 +1,20 @@
--- What creating bindings does to the list in force.
-use Rattle.std.specs.Prelude.{◌≡◌, ◌≢◌, ◌≤◌, AllPairs, Contains, List, [], ◌∷◌, ◌++◌, ℕ, ◌+◌}
-use Rattle.std.specs.Prelude.{length, Option, Some, None, ⊤}
-use Rattle.std.specs.List.{find, fold}
+-- What creating bindings does to the list in force, and the limits on bindings and serials.
+use Rattle.std.specs.Prelude.{ℕ, ◌≡◌, ◌≢◌, ◌≤◌, AllPairs, Contains, List, [], ◌∷◌, ◌++◌, ◌+◌, length, Option, Some, None, ⊤, nat_lt, if◌then◌else◌, Bool, ◌||◌, map}
+use Rattle.std.specs.List.{find, fold, enumerate_from, filter_map, list_any}
 use Rattle.std.specs.Option.{option_map}
 use Rattle.kob_names.specs.SameBinding.{same_binding}
 use Rattle.kob_names.specs.Binding.{Binding}
 use Rattle.kob_authorizer.specs.Contents.{Contents, IsRising, State}
-use Rattle.kob_authorizer.specs.Limits.{binding_limit, serial_limit}
+use Rattle.kob_authorizer.specs.declared.fault.CreateFault.{CreateFault}
+use Rattle.kob_authorizer.specs.declared.fault.CreateFault.TheVariants.{TooMany, SerialsSpent}
+
+-- the most bindings that are in force at once
+abbrev pub binding_limit : ℕ
+binding_limit = 100000
+
+-- every serial is below this
+abbrev pub serial_limit : ℕ
+serial_limit = 18446744073709551615
 
 -- the bindings in force and the next serial after bindings were added, and the serials that were
 -- answered
@@ -92,3 +100,55 @@ pub record CanCreate (made : Creation) (state : State) : Type 0 where
   pub count : length state.contents.entries + length made.fresh ≤ binding_limit
   pub serials : state.contents.next + length made.fresh ≤ serial_limit
   pub numbered : IsRising state.contents.next made.fresh (state.contents.next + length made.fresh)
+
+-- the limit that so many bindings and this next serial pass
+abbrev pub limit_fault : ℕ → ℕ → Option CreateFault
+limit_fault in_force next =
+    if nat_lt binding_limit in_force then Some TooMany
+    else (if nat_lt serial_limit next then Some SerialsSpent
+    else None)
+
+-- the limit that would be passed if the bindings were added
+abbrev pub create_fault : List (ℕ × Binding) → ℕ → List Binding → Option CreateFault
+create_fault entries next bindings =
+    let after : Added = addition entries next bindings in
+    limit_fault (length after.entries) after.next
+
+-- How bindings are added at once: the new ones are found first, then numbered.
+
+-- an equal binding is in force
+abbrev pub is_in_force : List (ℕ × Binding) → Binding → Bool
+is_in_force entries binding =
+    list_any (λ (entry : ℕ × Binding). same_binding entry.1 binding) entries
+
+-- an equal binding is in the list
+abbrev pub is_among : List Binding → Binding → Bool
+is_among bindings binding = list_any (λ other. same_binding other binding) bindings
+
+-- an equal binding is in force, or among the new ones
+abbrev pub is_known : List (ℕ × Binding) → List Binding → Binding → Bool
+is_known entries fresh binding = is_in_force entries binding || is_among fresh binding
+
+-- the new bindings, with this one put last where it is not known yet
+abbrev pub with_new : List (ℕ × Binding) → List Binding → Binding → List Binding
+with_new entries fresh binding =
+    if is_known entries fresh binding then fresh else (fresh ++ binding ∷ [])
+
+-- the bindings to which none in force is equal, each once, in order
+abbrev pub new_bindings : List (ℕ × Binding) → List Binding → List Binding
+new_bindings entries bindings = fold (with_new entries) [] bindings
+
+-- the serials of the entries that are equal to the bindings, in their order
+abbrev pub serials_in : List (ℕ × Binding) → List Binding → List ℕ
+serials_in entries bindings = filter_map (serial_of entries) bindings
+
+-- the new bindings get the serials that come next, and each binding the serial under which it is in
+-- force then
+abbrev pub creation : List (ℕ × Binding) → ℕ → List Binding → Creation
+creation entries next bindings =
+    let fresh : List (ℕ × Binding) = enumerate_from next (new_bindings entries bindings) in
+    record { fresh = fresh; serials = serials_in (entries ++ fresh) bindings }
+
+-- the bindings without their serials
+abbrev pub bindings_of : List (ℕ × Binding) → List Binding
+bindings_of entries = map (λ (entry : ℕ × Binding). entry.1) entries

@@ -2,12 +2,10 @@
 
 ghost use Rattle.std.specs.Prelude.{◌≡◌, ◌+◌, ◌≤◌, ◌++◌, ◌||◌, IfOk, length};
 ghost use Rattle.std.specs.List.{enumerate_from};
-ghost use Rattle.kob_authorizer.specs.Limits.{serial_limit};
-ghost use Rattle.kob_authorizer.specs.AtOnce.{is_among, is_in_force, is_known};
-ghost use Rattle.kob_authorizer.specs.AtOnce.{new_bindings, serials_in};
-ghost use Rattle.kob_authorizer.specs.Creation.{serial_of};
-ghost use Rattle.kob_authorizer.specs.LookUp.{AreRising};
-ghost use Rattle.kob_authorizer.specs.Places.{IsIndex, key_place};
+ghost use Rattle.kob_authorizer.specs.Creation.{serial_limit, serial_of};
+ghost use Rattle.kob_authorizer.specs.Creation.{is_among, is_in_force, is_known};
+ghost use Rattle.kob_authorizer.specs.Creation.{new_bindings, serials_in};
+ghost use Rattle.kob_authorizer.specs.Index.{AreRising, IsIndex, key_place};
 
 use crate::equals::serial_of;
 use crate::fresh::Fresh;

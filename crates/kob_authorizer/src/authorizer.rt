@@ -3,13 +3,10 @@
 ghost use Rattle.std.specs.Prelude.{◌≡◌, ◌≢◌, ◌≤◌, IfErr, IfOk, None, OnErr, OnOk, Some, length};
 ghost use Rattle.kob_authorizer.specs.Contents.{IsRising, fresh_contents};
 ghost use Rattle.kob_authorizer.specs.Creation.{CanCreate, Creates, addition, with_creation};
-ghost use Rattle.kob_authorizer.specs.Decide.{decide};
+ghost use Rattle.kob_authorizer.specs.Decide.{decide, question_of, IsTrueVerdict};
 ghost use Rattle.kob_authorizer.specs.Deletion.{CanDelete, bindings_left, bindings_taken};
 ghost use Rattle.kob_authorizer.specs.Deletion.{without_taken};
-ghost use Rattle.kob_authorizer.specs.Limits.{binding_limit};
-ghost use Rattle.kob_authorizer.specs.Passing.{create_fault};
-ghost use Rattle.kob_authorizer.specs.Meaning.{IsTrueVerdict};
-ghost use Rattle.kob_authorizer.specs.Question.{question_of};
+ghost use Rattle.kob_authorizer.specs.Creation.{binding_limit, create_fault};
 
 use crate::creation::{PreparedCreate, put_last};
 use crate::deletion::{PreparedDelete, copies_taken, remove_taken};
@@ -43,7 +40,7 @@ impl Model for Authorizer {
     ghost use Rattle.std.specs.Prelude.{◌-◌, ◌≤◌, length, vec_len, vec_capacity};
     ghost use Rattle.kob_authorizer.specs.Contents.{IsRising, State};
     ghost use Rattle.kob_authorizer.specs.Index.{Indexes};
-    ghost use Rattle.kob_authorizer.specs.Limits.{binding_limit};
+    ghost use Rattle.kob_authorizer.specs.Creation.{binding_limit};
 
     ghost Value = { State };
 

@@ -3,11 +3,8 @@
 ghost use Rattle.std.specs.Prelude.{◌≡◌, ◌≢◌, ◌+◌, ◌≤◌, ◌++◌, IfErr, IfOk, None, OnOk, Some};
 ghost use Rattle.std.specs.Prelude.{length, map, vec_capacity, vec_len};
 ghost use Rattle.kob_authorizer.specs.Contents.{IsRising};
-ghost use Rattle.kob_authorizer.specs.Creation.{Creates};
-ghost use Rattle.kob_authorizer.specs.Index.{Indexes, leaf_of};
-ghost use Rattle.kob_authorizer.specs.Limits.{binding_limit, serial_limit};
-ghost use Rattle.kob_authorizer.specs.Passing.{create_fault};
-ghost use Rattle.kob_authorizer.specs.LookUp.{AreRising};
+ghost use Rattle.kob_authorizer.specs.Creation.{Creates, binding_limit, serial_limit, create_fault};
+ghost use Rattle.kob_authorizer.specs.Index.{Indexes, leaf_of, AreRising};
 
 use crate::at_once::{new_bindings, serials_in};
 use crate::fault::CreateFault;

@@ -4,8 +4,8 @@ ghost use Rattle.std.specs.Prelude.{◌≡◌};
 ghost use Rattle.kob_prefix_tree.specs.Held.{serials_of};
 ghost use Rattle.kob_prefix_tree.specs.PrefixMap.{held};
 ghost use Rattle.kob_authorizer.specs.Creation.{serial_of};
-ghost use Rattle.kob_authorizer.specs.LookUp.{AreRising, is_equal, least_passing, passes_at};
-ghost use Rattle.kob_authorizer.specs.Places.{IsIndex, key_place};
+ghost use Rattle.kob_authorizer.specs.Index.{AreRising, is_equal, least_passing, passes_at};
+ghost use Rattle.kob_authorizer.specs.Index.{IsIndex, key_place};
 
 use crate::key::{SEPARATOR, keys_on, kind_in_tree};
 use crate::look_up::entry_of;
@@ -22,7 +22,7 @@ pub fn serial_of(entries: &[(u64, Binding)], keys: &PrefixTree, binding: &Bindin
 }
 
 /// The least serial in the tree at the binding's key, of those whose binding is equal.
-#[tactic(auto, unfolding(crate::specs::Key::binding_key))]
+#[tactic(auto, unfolding(crate::specs::Index::binding_key))]
 fn least_equal(entries: &[(u64, Binding)], keys: &PrefixTree, binding: &Binding) -> Option<u64>
     requires { AreRising entries.now }
     ensures { result ≡ least_passing (is_equal binding.now) entries.now

@@ -3,9 +3,7 @@
 ghost use Rattle.std.specs.Prelude.{◌≡◌, ◌+◌, ◌<◌, ◌≤◌, [], ◌∷◌, ◌++◌, length, vec_len};
 ghost use Rattle.std.specs.Prelude.{IfOk, IfSome, OnOk};
 ghost use Rattle.std.specs.List.{enumerate_from};
-ghost use Rattle.kob_authorizer.specs.Limits.{serial_limit};
-ghost use Rattle.kob_authorizer.specs.Creation.{serial_of};
-ghost use Rattle.kob_authorizer.specs.Fresh.{bindings_of};
+ghost use Rattle.kob_authorizer.specs.Creation.{serial_limit, serial_of, bindings_of};
 
 use crate::equals::serial_of;
 use crate::key::{binding_key, kind_in_tree};
@@ -28,8 +26,8 @@ impl Model for Fresh {
     ghost use Rattle.std.specs.Prelude.{List, ◌≡◌};
     ghost use Rattle.std.specs.List.{enumerate_from};
     ghost use Rattle.kob_names.specs.Binding.{Binding};
-    ghost use Rattle.kob_authorizer.specs.Places.{IsIndex, key_place};
-    ghost use Rattle.kob_authorizer.specs.Fresh.{bindings_of};
+    ghost use Rattle.kob_authorizer.specs.Index.{IsIndex, key_place};
+    ghost use Rattle.kob_authorizer.specs.Creation.{bindings_of};
 
     ghost Value = { List Binding };
 

@@ -1,7 +1,7 @@
 //! What a search finds: the first deny and the first allow that hit the question.
 
 ghost use Rattle.std.specs.Prelude.{◌≡◌};
-ghost use Rattle.kob_authorizer.specs.Hits.{lesser, lesser_hits, no_hits};
+ghost use Rattle.kob_authorizer.specs.Index.{lesser, lesser_hits, no_hits};
 
 /// The serials of a deny and of an allow, if there are any.
 #[derive(Clone, Copy)]

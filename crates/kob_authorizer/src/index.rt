@@ -2,8 +2,7 @@
 
 ghost use Rattle.std.specs.Prelude.{◌≡◌, IfOk, map};
 ghost use Rattle.std.specs.List.{fold};
-ghost use Rattle.kob_authorizer.specs.Index.{empty_index, leaf_of, with_leaf};
-ghost use Rattle.kob_authorizer.specs.Places.{without_addition};
+ghost use Rattle.kob_authorizer.specs.Index.{empty_index, leaf_of, with_leaf, without_addition};
 
 use crate::key::{binding_key, kind_in_tree};
 use crate::patterns::Patterns;

@@ -3,9 +3,7 @@
 ghost use Rattle.std.specs.Prelude.{◌≡◌, IfOk};
 ghost use Rattle.kob_prefix_tree.specs.Part.{part_of};
 ghost use Rattle.kob_prefix_tree.specs.PrefixMap.{held};
-ghost use Rattle.kob_authorizer.specs.Key.{binding_key, kind_byte};
-ghost use Rattle.kob_authorizer.specs.LookUp.{keys_on};
-ghost use Rattle.kob_authorizer.specs.Places.{kind_in_tree};
+ghost use Rattle.kob_authorizer.specs.Index.{binding_key, kind_byte, kind_in_tree, keys_on};
 
 use kob_names::{Binding, PatternKind, ResourceKind};
 use kob_prefix_tree::{Part, PrefixTree};
@@ -19,7 +17,7 @@ pub const SEPARATOR: u8 = 255;
 /// No other kind, principal, host and name make the same key. A binding is in the list of its
 /// pattern's kind. So the bindings of one list differ in permission or operation, and there are at
 /// most 22.
-#[tactic(auto, unfolding(crate::specs::Key::binding_key), using(crate::proofs::Keys::in_turn))]
+#[tactic(auto, unfolding(crate::specs::Index::binding_key), using(crate::proofs::Keys::in_turn))]
 pub fn binding_key(alloc: Global, binding: &Binding) -> Result<Vec<u8>, AllocError>
     ensures { IfOk result (λ key. key.items ≡ binding_key binding.now) }
 {

@@ -3,10 +3,9 @@
 ghost use Rattle.std.specs.Prelude.{◌≡◌, ◌↔◌, Contains, IsTrue, List, ℕ, false};
 ghost use Rattle.kob_authorizer.specs.Contents.{Contents, IsRising};
 ghost use Rattle.kob_authorizer.specs.Creation.{AreDistinct, AreInForce, OnlyAdds, addition};
-ghost use Rattle.kob_authorizer.specs.Decide.{decide, decide_by_bindings};
+ghost use Rattle.kob_authorizer.specs.Decide.{decide, decide_by_bindings, Question};
 ghost use Rattle.kob_authorizer.specs.Deletion.{bindings_left};
-ghost use Rattle.kob_authorizer.specs.Meaning.{IsTrueVerdict, NoneHits, NoneMatches};
-ghost use Rattle.kob_authorizer.specs.Question.{Question};
+ghost use Rattle.kob_authorizer.specs.Decide.{IsTrueVerdict, NoneHits, NoneMatches};
 ghost use Rattle.kob_names.specs.Binding.{Binding};
 ghost use Rattle.kob_names.specs.Granted.{is_granted};
 ghost use Rattle.kob_names.specs.declared.filter.BindingFilter.{BindingFilter};

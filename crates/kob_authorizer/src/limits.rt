@@ -1,8 +1,7 @@
 //! The limits on bindings and serials, and which of them a creation would exceed.
 
 ghost use Rattle.std.specs.Prelude.{◌≡◌, ◌+◌, ◌≤◌, IfNone};
-ghost use Rattle.kob_authorizer.specs.Limits.{binding_limit, serial_limit};
-ghost use Rattle.kob_authorizer.specs.Passing.{limit_fault};
+ghost use Rattle.kob_authorizer.specs.Creation.{binding_limit, serial_limit, limit_fault};
 
 use crate::fault::CreateFault;
 

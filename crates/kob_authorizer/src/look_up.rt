@@ -5,12 +5,10 @@
 ghost use Rattle.std.specs.Prelude.{◌≡◌, ◌<◌, ◌∷◌, [], ◌&&◌, ◌==◌, ℕ, None, Some, false, get_or, length};
 ghost use Rattle.std.specs.Option.{MatchOption, option_copied};
 ghost use Rattle.kob_names.specs.Binding.{Binding};
-ghost use Rattle.kob_authorizer.specs.Asked.{question_view};
-ghost use Rattle.kob_authorizer.specs.Decide.{first_serial, hits, is_unmatched};
+ghost use Rattle.kob_authorizer.specs.Decide.{question_view, first_serial, hits, is_unmatched};
 ghost use Rattle.kob_authorizer.specs.Decide.{unless_open, verdict_of};
-ghost use Rattle.kob_authorizer.specs.Index.{Indexes, tree_of};
-ghost use Rattle.kob_authorizer.specs.LookUp.{AreRising, entry_at, least_hits};
-ghost use Rattle.kob_authorizer.specs.LookUp.{matching_serials, serials_from};
+ghost use Rattle.kob_authorizer.specs.Index.{Indexes, tree_of, AreRising, entry_at, least_hits};
+ghost use Rattle.kob_authorizer.specs.Index.{matching_serials, serials_from};
 ghost use Rattle.kob_prefix_tree.specs.Part.{part_of};
 ghost use Rattle.kob_prefix_tree.specs.PrefixMap.{held};
 

@@ -7,7 +7,7 @@ ghost use Rattle.kob_prefix_tree.specs.WalkLeft.{left_of};
 ghost use Rattle.kob_authorizer.specs.Index.{no_patterns, patterns_of, tree_of};
 ghost use Rattle.kob_authorizer.specs.Index.{with_entry, with_pattern};
 ghost use Rattle.kob_authorizer.specs.Deletion.{listed_by};
-ghost use Rattle.kob_authorizer.specs.Removal.{serials_beside, without_removal};
+ghost use Rattle.kob_authorizer.specs.Index.{serials_beside, without_removal};
 
 use crate::key::kind_in_tree;
 use crate::removal::Removal;

@@ -4,9 +4,8 @@
 
 ghost use Rattle.std.specs.Prelude.{◌≡◌, IfOk, OnOk, [], map};
 ghost use Rattle.std.specs.List.{fold};
-ghost use Rattle.kob_authorizer.specs.Places.{addition, key_place};
-ghost use Rattle.kob_authorizer.specs.Removal.{is_first_there, removal_of, removals_of};
-ghost use Rattle.kob_authorizer.specs.Removal.{with_removal};
+ghost use Rattle.kob_authorizer.specs.Index.{addition, key_place};
+ghost use Rattle.kob_authorizer.specs.Index.{is_first_there, removal_of, removals_of, with_removal};
 
 use crate::key::{binding_key, kind_in_tree};
 use crate::patterns::Patterns;
@@ -25,7 +24,7 @@ pub struct Removal {
 }
 
 impl Model for Removal {
-    ghost use Rattle.kob_authorizer.specs.Removal as seen;
+    ghost use Rattle.kob_authorizer.specs.Index as seen;
 
     ghost Value = { seen.Removal };
 

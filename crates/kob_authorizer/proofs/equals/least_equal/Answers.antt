@@ -1,5 +1,5 @@
 use Rattle.kob_authorizer.proofs.Words.{Binding, List, YieldsList-from_filter, YieldsList-from_first, ap, held, is_equal, key_place, keys_on, kind_in_tree, left_of, min_from_yields_List, option_map_id, passes_at, rules, serials_of, sym, ℕ, ◌++◌, ◌∙◌, ◌∷◌, ◌≡◌}
-use Rattle.kob_authorizer.specs.Key.{binding_key}
+use Rattle.kob_authorizer.specs.Index.{binding_key}
 use Rattle.kob_authorizer.proofs.equals.least_equal.Goals as goal
 
 pub returns : goal.returns
