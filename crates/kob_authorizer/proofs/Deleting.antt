@@ -10,8 +10,7 @@ use Rattle.kob_prefix_tree.specs.declared.kind.PatternKind.TheVariants as in_tre
 use Rattle.kob_authorizer.specs.Deletion.{listed_at, listed_by}
 use Rattle.kob_authorizer.specs.Index.{ArePatternsOf}
 use Rattle.kob_authorizer.specs.declared.patterns.Patterns.{Patterns}
-use Rattle.kob_authorizer.proofs.FirstHit.{none_below}
-use Rattle.kob_authorizer.proofs.Halving.{at_least, found_at}
+use Rattle.kob_authorizer.proofs.Entries.{none_below, at_least, found_at}
 
 -- what is taken of the entry with one more serial, where there is one
 module _ (wanted : BindingFilter) (entries : List (ℕ × Binding)) (serials : List ℕ) (i d : ℕ) (below : i < length serials) where

@@ -1,24 +1,8 @@
+pub mod Creating
 pub mod Deleting
-pub mod Distinct
-pub mod Elements
-pub mod FirstHit
-pub mod FreshSteps
-pub mod Halving
-pub mod InForce
-pub mod InTurn
+pub mod Entries
 pub mod IndexSteps
-pub mod Keys
 pub mod LeastHits
-pub mod LeastPassing
-pub mod Matching
-pub mod OneVerdict
-pub mod Passes
-pub mod RemovalSteps
-pub mod Resources
-pub mod Rising
-pub mod Serials
 pub mod SuperUsers
-pub mod TreeSteps
-pub mod Unmatched
 pub mod Verdicts
 mod Words

@@ -1,9 +1,34 @@
--- What a search among the bindings in force finds.
-use Rattle.kob_authorizer.proofs.Words.{Allow, Binding, Bool, Contains, Contains-from_any, Contents, Decides, Decides-and, Decides-like, Deny, IsEarliest, IsRising, IsTrue, IsTrueVerdict, List, None, NoneHits, NoneMatches, Option, Permission, Question, Some, arith, both_ways, bytes_eq-Decides, covers, decide, decide_by_bindings, false, first_serial, hits, is_granted, is_hit, is_match, is_super, list_any, list_any-from_Contains, matches, nat_list_eq_equiv, nat_tests, not, permission_decides, reaches, refl, resource_decides, true, unless_open, verdict_of, ℕ, ◌&&◌, ◌↔◌, ◌≡◌, ◌≤◌}
+-- Whether a binding in force matches a resource, by the test and by what it means.
+use Rattle.kob_authorizer.proofs.Words.{Binding, Contains, Decides, List, Matches, NoneMatches, Question, SomeMatches, arith, false, is_match, list_any, nat_tests, resource_decides, true, ℕ, ◌≡◌, Allow, Bool, Contains-from_any, Contents, Decides-and, Decides-like, Deny, IsEarliest, IsRising, IsTrue, IsTrueVerdict, None, NoneHits, Option, Permission, Some, both_ways, bytes_eq-Decides, covers, decide, decide_by_bindings, first_serial, hits, is_granted, is_hit, is_super, list_any-from_Contains, matches, nat_list_eq_equiv, not, permission_decides, reaches, refl, unless_open, verdict_of, ◌&&◌, ◌↔◌, ◌≤◌, AreRising, Contains-append_left, Contains-append_right, Decides-eqb, Held, Index, Indexes, IsIndex, Literal, Place, PrefixMap, Prefixed, ResourceKind, along_has_literal, along_has_prefixed, and_from, and_parts, behind, codes, drop, entries_on, filter, held, inl, inr, is_equal, is_place, key_place, keys_on, kind_in_tree, least_passing, length, matches_by, matching_serials, nat_eq, or_cases, pattern_place, same_binding_decides, same_resource, same_text, serial_of, serials_along, serials_for, serials_from, serials_of, starts_is, starts_with, subst, sym, tree_of, ◌++◌, ◌||◌, Verdict, common_steps, Contains-append_cases, [], is_unmatched, ne_eqb, same_kind, walk_of, walk_only, ◌==◌, ◌∷◌}
+use Rattle.kob_authorizer.proofs.Entries.{any_passes, each, of_each, passing, first_is, least_is, none_is, first_serial_found, among_mapped, kept_by_filter, at_head, given_by, was_kept}
 use Rattle.kob_authorizer.specs.Decide.{Hits}
-use Rattle.kob_authorizer.proofs.Elements.{each, of_each}
-use Rattle.kob_authorizer.proofs.FirstHit.{first_is, least_is, none_is}
-use Rattle.kob_authorizer.proofs.Resources.{none_among, none_matches, some_matches}
+use Rattle.kob_names.specs.declared.kinds.PatternKind.{PatternKind}
+use Rattle.kob_authorizer.proofs.LeastHits.{LeadToAll, least_is_first}
+use Rattle.kob_authorizer.specs.Index.{binding_key}
+use Rattle.kob_prefix_tree.specs.declared.kind.PatternKind as of_tree
+
+-- the test of a match says whether the binding matches
+pub is_match_decides : (question : Question) (entry : ℕ × Binding)
+    → Decides (is_match question entry) (Matches question entry)
+is_match_decides question entry = grind (arith, nat_tests, resource_decides)
+
+module _ (question : Question) (entries : List (ℕ × Binding)) where
+  -- where the test finds one, a binding matches
+  pub some_matches : list_any (is_match question) entries ≡ true → SomeMatches question entries
+  some_matches found =
+      let (entry, (there, passes)) = passing (is_match question) entries found in grind (arith, nat_tests)
+
+  -- and where it finds none, none does
+  pub none_matches : list_any (is_match question) entries ≡ false → NoneMatches question entries
+  none_matches none = of_each (λ entry. ¬ Matches question entry) entries (λ entry there both.
+      grind (arith, nat_tests, any_passes (is_match question) entries entry, is_match_decides question entry))
+
+  -- not both
+  pub none_among : (entry : ℕ × Binding) → NoneMatches question entries → Contains entries entry
+      → ¬ Matches question entry
+  none_among entry none there = each (λ entry. ¬ Matches question entry) entries entry none there
+
+-- What a search among the bindings in force finds.
 
 itself_decides : (b : Bool) → Decides b (IsTrue b)
 itself_decides b = ((λ h. h), (λ h. h))
@@ -95,3 +120,197 @@ pub granted_unmatched : (contents : Contents) (question : Question) → IsTrue c
     → IsTrue (is_granted (decide contents question)) ↔ NoneMatches question contents.entries
 granted_unmatched contents question on stranger deny allow =
     grind (arith, nat_tests, open_where, no_serial, found_super)
+
+-- The serials that the trees give lead to every binding that is sought.
+
+stands_itself : (place : Place) → is_place place.kind place.key place ≡ true
+stands_itself place = grind (arith, nat_tests, and_from, bytes_eq-Decides)
+
+-- the serial of an entry is at its place
+pub at_its_place : (place : Binding → Place) (m : PrefixMap) (entries : List (ℕ × Binding)) (entry : ℕ × Binding)
+    → IsIndex place m entries → Contains entries entry
+    → Contains (serials_of (place entry.1).kind (held m (place entry.1).key)) entry.0
+at_its_place place m entries entry is there =
+    let kind : of_tree.PatternKind = (place entry.1).kind in
+    let key : List ℕ = (place entry.1).key in
+    let test : ℕ × Binding → Bool = λ e. is_place kind key (place e.1) in
+    subst (λ xs. Contains xs entry.0) (sym (is kind key))
+    (among_mapped (λ (e : ℕ × Binding). e.0) (filter test entries) entry
+    (kept_by_filter test entries entry there (stands_itself (place entry.1))))
+
+-- the serials at a pattern that matches a name are looked up for it
+looked_up_by : (held_at : List ℕ → Held) (kind : PatternKind) (key name : List ℕ) (serial : ℕ)
+    → matches_by kind key name ≡ true → Contains (serials_of (kind_in_tree kind) (held_at key)) serial
+    → Contains (matching_serials held_at name) serial
+looked_up_by held_at Literal key name serial matched has =
+    let equal = bytes_eq-Decides key name in let star = bytes_eq-Decides key (codes "*") in
+    let left = Contains-append_left (serials_along held_at name) (held_at (codes "*")).0 serial in
+    let right = Contains-append_right (serials_along held_at name) (held_at (codes "*")).0 serial in
+    let along = along_has_literal held_at serial name in
+    elim (or_cases (same_text key name) (same_text key (codes "*")) matched) [
+      | inl same ↦ grind (arith, nat_tests)
+      | inr same ↦ grind (arith, nat_tests)
+    ]
+looked_up_by held_at Prefixed key name serial matched has =
+    let whole = (starts_is Decides-eqb name key (starts_with nat_eq name key) refl).0 matched in
+    let left = Contains-append_left (serials_along held_at name) (held_at (codes "*")).0 serial in
+    let along = along_has_prefixed held_at serial key (drop (length key) name) in grind (arith, nat_tests)
+
+-- what is given for a text is among what is given for two, of which it is one
+among_two : (given : List ℕ → List ℕ) (text one two : List ℕ) (serial : ℕ)
+    → (same_text text one || same_text text two) ≡ true → Contains (given text) serial
+    → Contains (given one ++ given two) serial
+among_two given text one two serial is_one has =
+    grind (arith, nat_tests, bytes_eq-Decides, Contains-append_left, Contains-append_right)
+
+module _ (index : Index) (entries : List (ℕ × Binding)) (indexed : Indexes index entries) where
+  -- every binding that matches is looked up
+  pub looked_up : (resource : ResourceKind) (name : List ℕ) (entry : ℕ × Binding) → Contains entries entry
+      → entry.1.resource ≡ resource → IsTrue (matches entry.1.pattern name)
+      → Contains (matching_serials (held (tree_of index.patterns resource)) name) entry.0
+  looked_up resource name entry there of_kind matched =
+      let among = kept_by_filter (λ (e : ℕ × Binding). same_resource e.1.resource resource) entries entry there
+      ((resource_decides entry.1.resource resource).1 of_kind) in
+      let at = at_its_place pattern_place (tree_of index.patterns resource) (entries_on resource entries) entry
+      (indexed.patterns resource) among in
+      looked_up_by (held (tree_of index.patterns resource)) entry.1.pattern.kind entry.1.pattern.name name entry.0
+      matched at
+
+  -- every hit is looked up among the keys of who asks and of `User:*`
+  hits_looked_up : (permission : Permission) (question : Question)
+      → LeadToAll (is_hit permission question) entries (serials_for index.keys question)
+  unfolding binding_key
+  hits_looked_up permission question entry there is =
+      let hit : Hits permission question entry = (is_hit_decides permission question entry).0 is in
+      let binding : Binding = entry.1 in
+      let covered =
+      and_parts (same_text binding.principal question.principal || same_text binding.principal (codes "User:*"))
+      (same_text binding.host question.host || same_text binding.host (codes "*")) hit.who in
+      let on : List ℕ → Held = keys_on question.resource (held index.keys) in
+      let of_principal : List ℕ → List ℕ → Held = λ principal. behind principal on in
+      among_two (λ principal. serials_from (of_principal principal) question) binding.principal question.principal
+      (codes "User:*") entry.0 covered.0
+      (among_two (λ host. matching_serials (behind host (of_principal binding.principal)) question.name) binding.host
+      question.host (codes "*") entry.0 covered.1
+      (looked_up_by (behind binding.host (of_principal binding.principal)) binding.pattern.kind binding.pattern.name
+      question.name entry.0 hit.name
+      (subst (λ resource. Contains (serials_of (kind_in_tree binding.pattern.kind)
+      (behind binding.host (behind binding.principal (keys_on resource (held index.keys))) binding.pattern.name)) entry.0)
+      hit.resource (at_its_place key_place index.keys entries entry indexed.keys there))))
+
+-- so the lesser of the least hits of who asks and of `User:*` is the first hit in force
+pub least_hit_is_first : (index : Index) (entries : List (ℕ × Binding)) (permission : Permission) (question : Question)
+    → AreRising entries → Indexes index entries
+    → least_passing (is_hit permission question) entries (serials_for index.keys question)
+    ≡ first_serial (hits entries permission question)
+least_hit_is_first index entries permission question rising indexed =
+    least_is_first (is_hit permission question) entries (serials_for index.keys question) rising
+    (hits_looked_up index entries indexed permission question)
+
+-- every entry with an equal binding is looked up by the key
+equals_looked_up : (m : PrefixMap) (entries : List (ℕ × Binding)) (binding : Binding) → IsIndex key_place m entries
+    → LeadToAll (is_equal binding) entries (serials_of (key_place binding).kind (held m (key_place binding).key))
+equals_looked_up m entries binding indexed entry there is =
+    let same = same_binding_decides entry.1 binding in
+    let at = at_its_place key_place m entries entry indexed there in grind (arith, nat_tests)
+
+-- so the least serial of the equal ones that were looked up is that of the first equal one
+pub least_equal_is_first : (m : PrefixMap) (entries : List (ℕ × Binding)) (binding : Binding) → AreRising entries
+    → IsIndex key_place m entries → least_passing (is_equal binding) entries
+    (serials_of (key_place binding).kind (held m (key_place binding).key)) ≡ serial_of entries binding
+least_equal_is_first m entries binding rising indexed =
+    let serials = serials_of (key_place binding).kind (held m (key_place binding).key) in
+    let least = least_is_first (is_equal binding) entries serials rising (equals_looked_up m entries binding indexed)
+    in
+    let found = first_serial_found (is_equal binding) entries in grind (arith, nat_tests)
+
+-- A verdict that is true is the only one.
+
+module _ {question : Question} {entries : List (ℕ × Binding)} where
+  lowest : (permission : Permission) (serial other : ℕ) → IsEarliest permission question entries serial
+      → IsEarliest permission question entries other → serial ≤ other
+  lowest permission serial other one two =
+      grind (arith, nat_tests, each (λ entry. Hits permission question entry → serial ≤ entry.0) entries two.entry)
+
+  same_serial : (permission : Permission) (serial other : ℕ) → IsEarliest permission question entries serial
+      → IsEarliest permission question entries other → serial ≡ other
+  same_serial permission serial other one two =
+      omega (arith, lowest permission serial other one two, lowest permission other serial two one)
+
+  none_or_one : (permission : Permission) (serial : ℕ) → NoneHits permission question entries
+      → IsEarliest permission question entries serial → ⊥
+  none_or_one permission serial none one =
+      each (λ entry. ¬ Hits permission question entry) entries one.entry none one.in_force one.hits
+
+  unmatched : (permission : Permission) (serial : ℕ) → NoneMatches question entries
+      → IsEarliest permission question entries serial → ⊥
+  unmatched permission serial none one = grind (arith, nat_tests, none_among)
+
+pub only_one : (contents : Contents) (question : Question) (one other : Verdict) → IsTrueVerdict contents question one
+    → IsTrueVerdict contents question other → one ≡ other
+only_one contents question x2 x3 a b = grind (arith, common_steps, same_serial, none_or_one, unmatched, none_among)
+
+-- Where the trees give no serial for a name, no binding matches it, and the other way round.
+
+kind_is : (one two : PatternKind) → same_kind (kind_in_tree one) (kind_in_tree two) ≡ true → one ≡ two
+kind_is x0 x1 same = grind (arith, nat_tests)
+
+module _ (index : Index) (entries : List (ℕ × Binding)) (indexed : Indexes index entries) (question : Question) where
+  abbrev tree : PrefixMap
+  tree = tree_of index.patterns question.resource
+
+  -- a serial at a pattern that matches the name is of a binding that does
+  of_match : (kind : PatternKind) (key : List ℕ) (serial : ℕ) → matches_by kind key question.name ≡ true
+      → Contains (serials_of (kind_in_tree kind) (held tree key)) serial → SomeMatches question entries
+  of_match kind key serial matched has =
+      let test : ℕ × Binding → Bool = λ e. is_place (kind_in_tree kind) key (pattern_place e.1) in
+      let given = given_by (λ (e : ℕ × Binding). e.0) (filter test (entries_on question.resource entries)) serial
+      (subst (λ xs. Contains xs serial) (indexed.patterns question.resource (kind_in_tree kind) key) has) in
+      let kept = was_kept test (entries_on question.resource entries) given.0 given.1.0 in
+      let in_force =
+      was_kept (λ (e : ℕ × Binding). same_resource e.1.resource question.resource) entries given.0 kept.0 in
+      grind (arith, nat_tests, resource_decides, and_parts, kind_is, bytes_eq-Decides)
+
+  literal_itself : matches_by Literal question.name question.name ≡ true
+  literal_itself = grind (arith, nat_tests, bytes_eq-Decides)
+
+  star : (same : Bool) → (same || same_text (codes "*") (codes "*")) ≡ true
+  star x0 = grind (arith, nat_tests, bytes_eq-Decides)
+
+  -- each serial that is given for the name is of a binding that matches it
+  of_given : (serial : ℕ) → Contains (matching_serials (held tree) question.name) serial → SomeMatches question entries
+  of_given serial has =
+      elim (Contains-append_cases (walk_of tree question.name) (held tree (codes "*")).0 serial has) as
+      (λ _. SomeMatches question entries) [
+        | inl along ↦
+            elim (walk_only tree serial question.name along) as (λ _. SomeMatches question entries) [
+              | inl beginning ↦
+                  of_match Prefixed beginning.0 serial
+                  ((starts_is Decides-eqb question.name beginning.0
+                  (starts_with nat_eq question.name beginning.0) refl).1 beginning.1.0 (sym beginning.1.1.0))
+                  beginning.1.1.1
+              | inr literal ↦ of_match Literal question.name serial literal_itself literal
+            ]
+        | inr all ↦
+            of_match Literal (codes "*") serial (star (same_text (codes "*") question.name)) all
+      ]
+
+  -- and each binding that matches gives its serial
+  given_for : (some : SomeMatches question entries)
+      → Contains (matching_serials (held tree) question.name) some.entry.0
+  given_for some =
+      looked_up index entries indexed question.resource question.name some.entry some.in_force some.matches.resource
+      some.matches.name
+
+  none_by : (serials : List ℕ) (found : Bool) → matching_serials (held tree) question.name ≡ serials
+      → list_any (is_match question) entries ≡ found → (length serials == 0) ≡ not found
+  none_by [] false is found = refl
+  none_by [] true is found =
+      grind (arith, nat_tests, some_matches question entries found, given_for (some_matches question entries found))
+  none_by (serial ∷ rest) true is found = grind (arith, nat_tests, ne_eqb)
+  none_by (serial ∷ rest) false is found =
+      let some = of_given serial (subst (λ xs. Contains xs serial) (sym is) (at_head serial rest)) in
+      absurd (none_among question entries some.entry (none_matches question entries found) some.in_force some.matches)
+
+  pub none_given : (length (matching_serials (held tree) question.name) == 0) ≡ is_unmatched entries question
+  none_given = grind (arith, nat_tests, none_by)

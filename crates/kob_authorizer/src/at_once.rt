@@ -43,7 +43,7 @@ fn is_known(entries: &[(u64, Binding)], keys: &PrefixTree, fresh: &Fresh, bindin
     is_in_force(entries, keys, binding) || is_among(fresh, binding)
 }
 
-#[tactic(auto, using(crate::proofs::Serials::serial_in_force))]
+#[tactic(auto, using(crate::proofs::Entries::serial_in_force))]
 fn is_in_force(entries: &[(u64, Binding)], keys: &PrefixTree, binding: &Binding) -> bool
     requires rising { AreRising entries.now }
     requires indexed { IsIndex key_place keys.now entries.now }
@@ -52,7 +52,7 @@ fn is_in_force(entries: &[(u64, Binding)], keys: &PrefixTree, binding: &Binding)
     serial_of(entries, keys, binding).is_some()
 }
 
-#[tactic(auto, using(crate::proofs::Serials::place_among))]
+#[tactic(auto, using(crate::proofs::Entries::place_among))]
 fn is_among(fresh: &Fresh, binding: &Binding) -> bool
     ensures { result ≡ is_among fresh.now binding.now }
 {
@@ -82,7 +82,7 @@ pub fn serials_in(
 
 /// The serial of the first entry with an equal binding: one in force, or otherwise a new one. The
 /// new ones get the serials from `next` on.
-#[tactic(auto, using(crate::proofs::Serials::in_either))]
+#[tactic(auto, using(crate::proofs::Entries::in_either))]
 fn serial_in_either(
     entries: &[(u64, Binding)],
     keys: &PrefixTree,
@@ -102,7 +102,7 @@ fn serial_in_either(
 }
 
 /// The serial of the first new binding that is equal. The new ones get the serials from `next` on.
-#[tactic(auto, using(crate::proofs::Serials::moved_some, crate::proofs::Serials::moved_none))]
+#[tactic(auto, using(crate::proofs::Entries::moved_some, crate::proofs::Entries::moved_none))]
 fn serial_among(next: u64, fresh: &Fresh, binding: &Binding) -> Option<u64>
     requires { next + length fresh.now ≤ serial_limit }
     ensures { result ≡ serial_of (enumerate_from next fresh.now) binding.now }

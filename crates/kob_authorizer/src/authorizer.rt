@@ -171,7 +171,7 @@ impl Authorizer {
 
     /// The first step of [`create`](Authorizer::create): makes all allocations, and returns the
     /// serials with the prepared bindings. The contents are unchanged, also after an error.
-    #[tactic(auto, using(crate::proofs::Rising::are_rising))]
+    #[tactic(auto, using(crate::proofs::Entries::are_rising))]
     pub fn prepare_create(
         &mut self,
         alloc: Global,
@@ -201,7 +201,7 @@ impl Authorizer {
 
     /// The second step of [`create`](Authorizer::create): puts the prepared bindings in force and
     /// returns the serials. Does not allocate.
-    #[tactic(auto, using(crate::proofs::Rising::put_rises))]
+    #[tactic(auto, using(crate::proofs::Entries::put_rises))]
     pub fn commit_create(&mut self, prepared: PreparedCreate) -> Vec<u64>
         requires { CanCreate prepared self.old }
         ensures contents { self.new.contents ≡ with_creation self.old.contents prepared }
@@ -215,7 +215,7 @@ impl Authorizer {
     }
 
     /// Copies of the bindings that the filter selects, with their serials, by ascending serial.
-    #[tactic(auto, using(crate::proofs::Rising::rising_filter, crate::proofs::Rising::are_rising))]
+    #[tactic(auto, using(crate::proofs::Entries::rising_filter, crate::proofs::Entries::are_rising))]
     pub fn describe(
         &self,
         alloc: Global,
@@ -248,7 +248,7 @@ impl Authorizer {
 
     /// The first step of [`delete`](Authorizer::delete): makes all allocations, and returns the
     /// bindings that will be deleted.
-    #[tactic(auto, using(crate::proofs::Rising::rising_filter, crate::proofs::Rising::are_rising))]
+    #[tactic(auto, using(crate::proofs::Entries::rising_filter, crate::proofs::Entries::are_rising))]
     pub fn prepare_delete(
         &self,
         alloc: Global,
@@ -265,7 +265,7 @@ impl Authorizer {
 
     /// The second step of [`delete`](Authorizer::delete): deletes the prepared entries and returns
     /// them. Does not allocate.
-    #[tactic(auto, using(crate::proofs::Rising::rising_filter, crate::proofs::Rising::are_rising))]
+    #[tactic(auto, using(crate::proofs::Entries::rising_filter, crate::proofs::Entries::are_rising))]
     pub fn commit_delete(&mut self, prepared: PreparedDelete) -> Vec<(u64, Binding)>
         requires { CanDelete prepared self.old }
         ensures contents { self.new.contents ≡ without_taken prepared.filter self.old.contents }

@@ -40,7 +40,7 @@ impl Model for PreparedCreate {
 
 impl PreparedCreate {
     /// The creation of `bindings` with these entries in force, if no limit is exceeded.
-    #[tactic(auto, using(crate::proofs::InTurn::creating))]
+    #[tactic(auto, using(crate::proofs::Creating::creating))]
     pub(crate) fn make(
         alloc: Global,
         entries: &[(u64, Binding)],

@@ -43,7 +43,7 @@ fn least_equal(entries: &[(u64, Binding)], keys: &PrefixTree, binding: &Binding)
 }
 
 /// Whether the binding with this serial is equal.
-#[tactic(auto, using(crate::proofs::Halving::passes_some, crate::proofs::Halving::passes_none))]
+#[tactic(auto, using(crate::proofs::Entries::passes_some, crate::proofs::Entries::passes_none))]
 fn is_equal_at(entries: &[(u64, Binding)], serial: u64, binding: &Binding) -> bool
     requires { AreRising entries.now }
     ensures { result ≡ passes_at (is_equal binding.now) entries.now serial }

@@ -89,7 +89,7 @@ impl Fresh {
 }
 
 /// The entries' bindings under serials from `next` on.
-#[tactic(auto, using(crate::proofs::FreshSteps::numbered_push))]
+#[tactic(auto, using(crate::proofs::Creating::numbered_push))]
 fn renumbered(
     alloc: Global,
     next: u64,

@@ -17,7 +17,7 @@ pub const SEPARATOR: u8 = 255;
 /// No other kind, principal, host and name make the same key. A binding is in the list of its
 /// pattern's kind. So the bindings of one list differ in permission or operation, and there are at
 /// most 22.
-#[tactic(auto, unfolding(crate::specs::Index::binding_key), using(crate::proofs::Keys::in_turn))]
+#[tactic(auto, unfolding(crate::specs::Index::binding_key), using(crate::proofs::IndexSteps::in_turn))]
 pub fn binding_key(alloc: Global, binding: &Binding) -> Result<Vec<u8>, AllocError>
     ensures { IfOk result (λ key. key.items ≡ binding_key binding.now) }
 {

@@ -27,7 +27,7 @@ pub fn verdicts_are_true()
 }
 
 /// At most one verdict is true: two that are true are equal.
-#[tactic(auto, using(crate::proofs::OneVerdict::only_one))]
+#[tactic(auto, using(crate::proofs::Verdicts::only_one))]
 pub fn a_true_verdict_is_the_only_one()
     ensures { (contents : Contents) (question : Question) (one other : Verdict)
         → IsTrueVerdict contents question one → IsTrueVerdict contents question other
@@ -61,7 +61,7 @@ pub fn everyone_is_granted_what_no_binding_matches()
 
 /// After a creation each binding of the call is in force, under the serial that was returned for
 /// it.
-#[tactic(auto, using(crate::proofs::InForce::created_in_force))]
+#[tactic(auto, using(crate::proofs::Creating::created_in_force))]
 pub fn created_bindings_are_in_force()
     ensures { (entries : List (ℕ × Binding)) (next : ℕ) (bindings : List Binding)
         → AreInForce (addition entries next bindings).entries bindings
@@ -71,7 +71,7 @@ pub fn created_bindings_are_in_force()
 }
 
 /// A creation keeps what was in force, and uses no serial that was used before.
-#[tactic(auto, using(crate::proofs::InTurn::only_adds))]
+#[tactic(auto, using(crate::proofs::Creating::only_adds))]
 pub fn creations_only_add()
     ensures { (entries : List (ℕ × Binding)) (next : ℕ) (bindings : List Binding)
         → OnlyAdds entries next (addition entries next bindings) }
@@ -80,7 +80,7 @@ pub fn creations_only_add()
 }
 
 /// Creations and deletions keep the serials ascending and below the next one.
-#[tactic(auto, using(crate::proofs::InTurn::added_rises, crate::proofs::Rising::removed_rises))]
+#[tactic(auto, using(crate::proofs::Creating::added_rises, crate::proofs::Entries::removed_rises))]
 pub fn serials_keep_rising()
     ensures created { (entries : List (ℕ × Binding)) (next : ℕ) (bindings : List Binding)
         → IsRising 1 entries next
@@ -94,7 +94,7 @@ pub fn serials_keep_rising()
 }
 
 /// If no two bindings in force are equal, no two are equal after a creation or a deletion.
-#[tactic(auto, using(crate::proofs::Distinct::added_distinct, crate::proofs::Distinct::removed_distinct))]
+#[tactic(auto, using(crate::proofs::Creating::added_distinct, crate::proofs::Creating::removed_distinct))]
 pub fn bindings_stay_distinct()
     ensures created { (entries : List (ℕ × Binding)) (next : ℕ) (bindings : List Binding)
         → AreDistinct entries

@@ -1,5 +1,5 @@
 use Rattle.kob_authorizer.proofs.Words.{◌∙◌}
-use Rattle.kob_authorizer.proofs.Matching.{least_equal_is_first}
+use Rattle.kob_authorizer.proofs.Verdicts.{least_equal_is_first}
 use Rattle.kob_authorizer.proofs.equals.serial_of.Goals as goal
 
 pub returns : goal.returns

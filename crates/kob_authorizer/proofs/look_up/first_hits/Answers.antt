@@ -1,6 +1,6 @@
 use Rattle.kob_authorizer.proofs.Words.{Allow, Binding, Deny, Held, Hits, Index, List, PrefixMap, Question, ap, behind, codes, held, keys_on, least_hits, lesser_hits, part_of, question_view, serials_for, serials_from, ℕ, ◌++◌, ◌∙◌, ◌∷◌, ◌≡◌}
 use Rattle.kob_authorizer.proofs.LeastHits.{hits_of_two}
-use Rattle.kob_authorizer.proofs.Matching.{least_hit_is_first}
+use Rattle.kob_authorizer.proofs.Verdicts.{least_hit_is_first}
 use Rattle.kob_authorizer.proofs.look_up.first_hits.Goals as goal
 
 pub returns : goal.returns

@@ -1,5 +1,5 @@
 use Rattle.kob_authorizer.proofs.Words.{Binding, answers_always, arith, common_steps, rules, ℕ}
-use Rattle.kob_authorizer.proofs.Halving.{searched}
+use Rattle.kob_authorizer.proofs.Entries.{searched}
 use Rattle.kob_authorizer.proofs.look_up.place_of.Goals as goal
 
 pub returns : goal.returns

@@ -1,7 +1,7 @@
 use Rattle.kob_authorizer.proofs.Words.{common_steps}
 use Rattle.kob_authorizer.proofs.Words.{arith}
 use Rattle.kob_authorizer.proofs.Words.{question_view}
-use Rattle.kob_authorizer.proofs.Unmatched.{none_given}
+use Rattle.kob_authorizer.proofs.Verdicts.{none_given}
 use Rattle.kob_authorizer.proofs.look_up.verdict.Goals as goal
 
 pub returns-in-None-allow : goal.returns-in-None-allow

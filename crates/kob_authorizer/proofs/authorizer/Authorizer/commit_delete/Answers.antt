@@ -1,7 +1,7 @@
 use Rattle.kob_authorizer.proofs.Words.{common_steps}
 use Rattle.kob_authorizer.proofs.Words.{Binding, List, arith, ℕ}
-use Rattle.kob_authorizer.proofs.RemovalSteps.{indexes_deleted}
-use Rattle.kob_authorizer.proofs.Rising.{removed_rises}
+use Rattle.kob_authorizer.proofs.IndexSteps.{indexes_deleted}
+use Rattle.kob_authorizer.proofs.Entries.{removed_rises}
 use Rattle.kob_authorizer.proofs.authorizer.Authorizer.commit_delete.Goals as goal
 
 pub invariant_of-self : goal.invariant_of-self

@@ -1,5 +1,5 @@
 use Rattle.kob_authorizer.proofs.Words.{key_place, refl}
-use Rattle.kob_authorizer.proofs.TreeSteps.{index_empty}
+use Rattle.kob_authorizer.proofs.IndexSteps.{index_empty}
 use Rattle.kob_authorizer.proofs.fresh.Fresh.new.Goals as goal
 
 pub invariant_of-result : goal.invariant_of-result

@@ -1,6 +1,6 @@
 use Rattle.kob_authorizer.proofs.Words.{common_steps}
 use Rattle.kob_authorizer.proofs.Words.{arith}
-use Rattle.kob_authorizer.proofs.FreshSteps.{places_below, places_rise}
+use Rattle.kob_authorizer.proofs.Creating.{places_below, places_rise}
 use Rattle.kob_authorizer.proofs.fresh.Fresh.place_of.Goals as goal
 
 pub serial_of-requires-clause-rising : goal.serial_of-requires-clause-rising

@@ -1,8 +1,8 @@
 use Rattle.kob_authorizer.proofs.Words.{common_steps}
 use Rattle.kob_authorizer.proofs.Words.{arith}
 use Rattle.kob_authorizer.proofs.Words.{Binding, List, key_place, ℕ}
-use Rattle.kob_authorizer.proofs.FreshSteps.{places_push}
-use Rattle.kob_authorizer.proofs.TreeSteps.{index_added}
+use Rattle.kob_authorizer.proofs.Creating.{places_push}
+use Rattle.kob_authorizer.proofs.IndexSteps.{index_added}
 use Rattle.kob_authorizer.proofs.fresh.Fresh.push.Goals as goal
 
 pub invariant_of-self-2 : goal.invariant_of-self-2
