@@ -7,8 +7,7 @@ use Rattle.kob_names.specs.declared.filter.BindingFilter.{BindingFilter}
 use Rattle.kob_names.specs.declared.filter.FilterPattern.{FilterPattern}
 use Rattle.kob_names.specs.declared.filter.FilterPattern.TheVariants as named
 use Rattle.kob_names.specs.declared.kinds.ResourceKind.{ResourceKind}
-use Rattle.kob_prefix_tree.specs.Held.{serials_of}
-use Rattle.kob_prefix_tree.specs.PrefixMap.{held}
+use Rattle.kob_prefix_tree.specs.Held.{serials_of, held}
 use Rattle.kob_prefix_tree.specs.declared.kind.PatternKind.TheVariants as tree
 use Rattle.kob_authorizer.specs.Contents.{Contents, State}
 use Rattle.kob_authorizer.specs.Index.{tree_of}

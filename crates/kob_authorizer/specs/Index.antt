@@ -7,16 +7,13 @@ use Rattle.std.specs.List.{filter, fold, find, list_any, reduce}
 use Rattle.kob_names.specs.Same.{same_text, same_resource}
 use Rattle.kob_names.specs.declared.kinds.PatternKind.{PatternKind}
 use Rattle.kob_names.specs.declared.kinds.PatternKind.TheVariants.{Literal, Prefixed}
-use Rattle.kob_prefix_tree.specs.Addition.{Addition}
-use Rattle.kob_prefix_tree.specs.Held.{serials_of, Held}
-use Rattle.kob_prefix_tree.specs.PrefixMap.{PrefixMap, held, added, removed, removed_all}
+use Rattle.kob_prefix_tree.specs.Held.{Addition, serials_of, Held, serials_along, PrefixMap, held, added, removed, removed_all}
 use Rattle.kob_authorizer.specs.declared.index.Index.{Index}
 use Rattle.kob_authorizer.specs.declared.index.Leaf.{Leaf}
 use Rattle.kob_authorizer.specs.declared.patterns.Patterns.{Patterns}
 use Rattle.kob_authorizer.specs.declared.hits.Hits.{Hits}
 use Rattle.kob_names.specs.SameBinding.{same_binding}
 use Rattle.kob_names.specs.declared.kinds.Permission.TheVariants.{Allow, Deny}
-use Rattle.kob_prefix_tree.specs.Walked.{serials_along}
 use Rattle.kob_authorizer.specs.Contents.{IsRising}
 use Rattle.kob_authorizer.specs.Decide.{is_hit, Question}
 use Rattle.kob_names.specs.declared.pattern.Pattern.{Pattern}

@@ -2,7 +2,7 @@
 use Rattle.std.specs.Prelude.{Bool, ◌==◌, not, ℕ, List, length}
 use Rattle.std.specs.List.{fold}
 use Rattle.std.specs.FinMap as map
-use Rattle.kob_prefix_tree.specs.PrefixMap.{PrefixMap, added, held}
+use Rattle.kob_prefix_tree.specs.Held.{PrefixMap, added, held}
 use Rattle.kob_prefix_tree.specs.declared.kind.PatternKind.TheVariants.{Literal}
 
 abbrev pub with_text : PrefixMap → List ℕ → PrefixMap

@@ -1,8 +1,7 @@
 //! The search for an equal binding, by its key; no other binding is examined.
 
 ghost use Rattle.std.specs.Prelude.{◌≡◌};
-ghost use Rattle.kob_prefix_tree.specs.Held.{serials_of};
-ghost use Rattle.kob_prefix_tree.specs.PrefixMap.{held};
+ghost use Rattle.kob_prefix_tree.specs.Held.{serials_of, held};
 ghost use Rattle.kob_authorizer.specs.Creation.{serial_of};
 ghost use Rattle.kob_authorizer.specs.Index.{AreRising, is_equal, least_passing, passes_at};
 ghost use Rattle.kob_authorizer.specs.Index.{IsIndex, key_place};

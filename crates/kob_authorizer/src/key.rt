@@ -1,8 +1,8 @@
 //! The keys of bindings, by which an equal one, and those of a principal at a host, are looked up.
 
 ghost use Rattle.std.specs.Prelude.{◌≡◌, IfOk};
-ghost use Rattle.kob_prefix_tree.specs.Part.{part_of};
-ghost use Rattle.kob_prefix_tree.specs.PrefixMap.{held};
+ghost use Rattle.kob_prefix_tree.specs.Contents.{part_of};
+ghost use Rattle.kob_prefix_tree.specs.Held.{held};
 ghost use Rattle.kob_authorizer.specs.Index.{binding_key, kind_byte, kind_in_tree, keys_on};
 
 use kob_names::{Binding, PatternKind, ResourceKind};

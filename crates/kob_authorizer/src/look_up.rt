@@ -9,8 +9,8 @@ ghost use Rattle.kob_authorizer.specs.Decide.{question_view, first_serial, hits,
 ghost use Rattle.kob_authorizer.specs.Decide.{unless_open, verdict_of};
 ghost use Rattle.kob_authorizer.specs.Index.{Indexes, tree_of, AreRising, entry_at, least_hits};
 ghost use Rattle.kob_authorizer.specs.Index.{matching_serials, serials_from};
-ghost use Rattle.kob_prefix_tree.specs.Part.{part_of};
-ghost use Rattle.kob_prefix_tree.specs.PrefixMap.{held};
+ghost use Rattle.kob_prefix_tree.specs.Contents.{part_of};
+ghost use Rattle.kob_prefix_tree.specs.Held.{held};
 
 use crate::hits::Hits;
 use crate::index::Index;

@@ -134,7 +134,7 @@ pub struct KeyRemoval {
 }
 
 impl Model for KeyRemoval {
-    ghost use Rattle.kob_prefix_tree.specs.Addition.{Addition};
+    ghost use Rattle.kob_prefix_tree.specs.Held.{Addition};
 
     ghost Value = { Addition };
 

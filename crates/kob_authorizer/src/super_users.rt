@@ -1,8 +1,7 @@
 //! The super users, and a tree of their texts, in which one is looked up.
 
 ghost use Rattle.std.specs.Prelude.{◌≡◌, ◌==◌, not, IfOk, length};
-ghost use Rattle.kob_prefix_tree.specs.Held.{serials_of};
-ghost use Rattle.kob_prefix_tree.specs.PrefixMap.{held};
+ghost use Rattle.kob_prefix_tree.specs.Held.{serials_of, held};
 ghost use Rattle.kob_authorizer.specs.Decide.{is_super};
 ghost use Rattle.kob_authorizer.specs.SuperUsers.{holds_text, texts_of};
 

@@ -6,9 +6,7 @@
 --     tells_null        what is lent of the nodes tells whether the pointer is null
 --     has_first, is_first     what is owned of the nodes: that the pointer may be compared with null, and the first of
 -- them as a box owns it
-use Rattle.kob_prefix_tree.proofs.Words.{nat_tests}
-use Rattle.kob_prefix_tree.proofs.Words.{arith}
-use Rattle.kob_prefix_tree.proofs.Words.{ !, Al, Fml, Global, Goal, InBlock, IsTrue, Item, Laws, Leads, Lft, Link, List, Logic, Node, Ptr, RattleType, SProp, Seq, Step, Testable, Tree, Ty, Typed, Ura, Val, Valss, WT, [], at_block, block_of, block_ptr, box_owns, count_of, dealloc_token-Testable, dnil, done, emp, ent, fact, fact_i, fact_use, feq_i, feq_l, fjoin, flt_l, fpack, fpick, fsplit, has_ty, heard, hidden_shr, hide, id⊢, impl, in_block_says, leaf, lent_at, linked_row, lit<, lone, low, node, nodes_lent, nodes_own, null_ptr, of_list, param, param_laws, ptr_same, ptr_val, qed, raw, refl, sem, sep, shape, split, step, subst, sym, tnil, tree_of, true≢false, use0, use1, vnull, vstruct, within, ‵, ◌$◌, ◌++◌, ◌↔◌, ◌∙◌, ◌∷◌, ◌≡◌, ◌⊛◌}
+use Rattle.kob_prefix_tree.proofs.Words.{nat_tests, arith, !, Al, Fml, Global, Goal, InBlock, IsTrue, Item, Laws, Leads, Lft, Link, List, Logic, Node, Ptr, RattleType, SProp, Seq, Step, Testable, Tree, Ty, Typed, Ura, Val, Valss, WT, [], at_block, block_of, block_ptr, box_owns, count_of, dealloc_token-Testable, dnil, done, emp, ent, fact, fact_i, fact_use, feq_i, feq_l, fjoin, flt_l, fpack, fpick, fsplit, has_ty, heard, hidden_shr, hide, id⊢, impl, in_block_says, leaf, lent_at, linked_row, lit<, lone, low, node, nodes_lent, nodes_own, null_ptr, of_list, param, param_laws, ptr_same, ptr_val, qed, raw, refl, sem, sep, shape, split, step, subst, sym, tnil, tree_of, true≢false, use0, use1, vnull, vstruct, within, ‵, ◌$◌, ◌++◌, ◌↔◌, ◌∙◌, ◌∷◌, ◌≡◌, ◌⊛◌}
 use denote.Builtin.{RawPtr}
 use denote.Steps.{nothing}
 use types.Kit.{drop}

@@ -7,11 +7,11 @@
 -- begins with, and its literal ones, in the whole tree and in a part of it
 --     walk_only                               and in the tree no others
 use Rattle.kob_prefix_tree.proofs.Words.{Contains, Contains-append_cases, Contains-append_left, Contains-append_right, Held, List, None, PatternKind, PrefixMap, Some, [], added, ap, append-nil, arith, cond, false, flat_map, flat_map-map, held, inl, inr, is_nothing, nat_cmp, nat_list_cmp_total, nothing, prefixes, refl, removed_all, serials_along, slice_cmp, subst, sym, true, unwrap_or, with_serial, without_serials, ℕ, ◌++◌, ◌∷◌, ◌≡◌, ◌≢◌, ◌⊎◌}
-use Rattle.kob_prefix_tree.specs.PrefixMap.{walk_of}
+use Rattle.kob_prefix_tree.specs.Held.{walk_of}
 use Rattle.std.proofs.Common.{map as each}
 use Rattle.std.specs.FinMap as map
 use Rattle.kob_prefix_tree.proofs.WalkLemmas.{prefixes_longer}
-use Rattle.kob_prefix_tree.proofs.MapLemmas.{bytes, bytes_decide, is_nothing_true}
+use Rattle.kob_prefix_tree.proofs.WayLemmas.{bytes, bytes_decide, is_nothing_true}
 
 itself : (key : List ℕ) → bytes key key ≡ true
 itself key = (bytes_decide key key).1 refl

@@ -1,8 +1,6 @@
 -- How many bytes a tail and a key have in common at their beginning, and what stands behind them.
 use Rattle.kob_prefix_tree.proofs.Words.{Branch, ChangedAt, Contents, EndsAt, Held, IsNeat, LeadsNowhere, List, Parts, PatternKind, [], arith, contents, drop, end_of, false, has_serials, held_in, kept_behind, led_by, length, length-drop, nat_tests, nothing, refl, subst, sym, take, take-append-drop, take_all, without_serials, ℕ, ◌++◌, ◌+◌, ◌<◌, ◌∷◌, ◌≡◌, ◌≢◌}
-use Rattle.kob_prefix_tree.proofs.ChangeLemmas.{changed_here}
-use Rattle.kob_prefix_tree.proofs.TailLemmas.{none_found, none_taken}
-use Rattle.kob_prefix_tree.proofs.WayLemmas.{held_inside, neat_inside, through}
+use Rattle.kob_prefix_tree.proofs.WayLemmas.{changed_here, held_inside, neat_inside, through, none_found, none_taken}
 
 pub one_more : {x : ℕ} {tail key xs ys rest : List ℕ} (n : ℕ) → tail ≡ x ∷ xs → key ≡ x ∷ ys → Parts xs ys n rest
     → Parts tail key (n + 1) rest

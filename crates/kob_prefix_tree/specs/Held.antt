@@ -1,9 +1,24 @@
--- What a key holds: its literal serials and its prefixed ones.
-use Rattle.std.specs.Prelude.{ℕ, ◌+◌, nat_eq, length, Bool, ◌==◌, List, [], ◌∷◌, ◌++◌}
-use Rattle.std.specs.List.{list_any}
+-- What a key holds, its literal serials and its prefixed ones; the tree as a finite map from keys to
+-- these, and what is read off it along a name.
+use Rattle.std.specs.Prelude.{ℕ, Bool, false, ◌==◌, if◌then◌else◌, List, [], ◌∷◌, ◌+◌, nat_eq, length, ◌++◌, ◌≡◌, ◌≢◌, ◌≤◌, map, unwrap_or}
+use Rattle.std.specs.List.{list_any, flat_map}
 use Rattle.kob_prefix_tree.specs.declared.kind.PatternKind.{PatternKind}
 use Rattle.kob_prefix_tree.specs.declared.kind.PatternKind.TheVariants.{Literal, Prefixed}
-use Rattle.kob_prefix_tree.specs.Lists.{without_in_turn, has_in_turn}
+use Rattle.std.specs.Ordering.{nat_cmp}
+use Rattle.std.specs.Cmp.Lexicographic.{slice_cmp}
+use Rattle.std.specs.FinMap as map
+
+-- xs less these numbers, in one pass: each is taken out once, behind the one before it
+abbrev pub without_in_turn : List ℕ → List ℕ → List ℕ
+without_in_turn ys [] = []
+without_in_turn [] (x ∷ xs) = x ∷ xs
+without_in_turn (y ∷ ys) (x ∷ xs) =
+    if x == y then without_in_turn ys xs else x ∷ without_in_turn (y ∷ ys) xs
+
+-- whether such a pass takes any out
+abbrev pub has_in_turn : List ℕ → List ℕ → Bool
+has_in_turn [] xs = false
+has_in_turn (y ∷ ys) xs = list_any (λ x. x == y) xs
 
 -- the literal serials, and the prefixed ones
 abbrev pub Held : Type 0
@@ -39,3 +54,63 @@ without_serials Prefixed serials held = (held.0, without_in_turn serials held.1)
 -- whether any of them is taken out
 abbrev pub has_serials : PatternKind → List ℕ → Held → Bool
 has_serials kind serials held = has_in_turn serials (serials_of kind held)
+
+-- the beginnings of a name, the shortest first
+abbrev pub prefixes : List ℕ → List (List ℕ)
+prefixes [] = [] ∷ []
+prefixes (byte ∷ name) = [] ∷ map (λ prefix. byte ∷ prefix) (prefixes name)
+
+-- how far two texts agree
+abbrev pub common_length : List ℕ → List ℕ → ℕ
+common_length [] key = 0
+common_length (x ∷ name) [] = 0
+common_length (x ∷ name) (y ∷ key) = if x == y then 1 + common_length name key else 0
+
+module _ (held : List ℕ → Held) (name : List ℕ) where
+  -- the prefixed serials of the keys with which the name begins, and then its literal ones
+  abbrev pub serials_along : List ℕ
+  serials_along =
+      flat_map (λ prefix. serials_of Prefixed (held prefix)) (prefixes name)
+      ++ serials_of Literal (held name)
+
+  -- n is the length of the longest beginning of the name that begins a key in use, or 0 where no
+  -- key is in use
+  pub record IsLongestInUse (n : ℕ) : Type 0 where
+    pub reached : n ≢ 0 → (key : List ℕ) × ((held key ≢ nothing) × (common_length name key ≡ n))
+    pub longest : (key : List ℕ) → held key ≢ nothing → common_length name key ≤ n
+
+-- keys in use, each with what it holds
+abbrev pub PrefixMap : Type 0
+PrefixMap = map.FinMap (slice_cmp nat_cmp) Held
+
+-- what stands at a key
+abbrev pub held : PrefixMap → List ℕ → Held
+held m key = unwrap_or (map.get m key) nothing
+
+-- the map after the serial is put last in the list of its kind
+abbrev pub added : PrefixMap → List ℕ → PatternKind → ℕ → PrefixMap
+added m key kind serial = map.insert m key (with_serial kind serial (held m key))
+
+-- the map after these serials are taken out, in one pass. A key that then holds nothing goes
+abbrev pub removed_all : PrefixMap → List ℕ → PatternKind → List ℕ → PrefixMap
+removed_all m key kind serials =
+    let left = without_serials kind serials (held m key) in
+    if is_nothing left then map.remove m key else map.insert m key left
+
+-- the map after the serial is taken out
+abbrev pub removed : PrefixMap → List ℕ → PatternKind → ℕ → PrefixMap
+removed m key kind serial = removed_all m key kind (serial ∷ [])
+
+-- the prefixed serials of the keys with which the name begins, and then its literal ones
+abbrev pub walk_of : PrefixMap → List ℕ → List ℕ
+walk_of m name = serials_along (held m) name
+
+-- one more than the length of the longest beginning of the name that begins a key in use
+abbrev pub IsLevels : PrefixMap → List ℕ → ℕ → Type 0
+IsLevels m name levels = (n : ℕ) × ((levels ≡ 1 + n) × IsLongestInUse (held m) name n)
+
+-- a serial, the key that it goes to, and in which of the key's lists
+pub record Addition : Type 0 where
+  pub key : List ℕ
+  pub kind : PatternKind
+  pub serial : ℕ

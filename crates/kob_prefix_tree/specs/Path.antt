@@ -1,9 +1,7 @@
 -- Nodes that are made ahead, in order beside one another.
-use Rattle.std.specs.Prelude.{◌≡◌, ◌≢◌, ◌≤◌, ℕ, ◌+◌, ◌*◌, ◌-◌, List, [], ◌∷◌, ◌++◌}
-use Rattle.std.specs.Prelude.{drop, length, take}
-use Rattle.kob_prefix_tree.specs.Tree.{Tree, leaf, node}
+use Rattle.std.specs.Prelude.{◌≡◌, ◌≢◌, ◌≤◌, ℕ, ◌+◌, ◌*◌, ◌-◌, List, [], ◌∷◌, ◌++◌, drop, length, take}
+use Rattle.kob_prefix_tree.specs.Tree.{Tree, leaf, node, count}
 use Rattle.kob_prefix_tree.specs.declared.siblings.Item.{Item}
-use Rattle.kob_prefix_tree.specs.Siblings.{count}
 
 -- the key that their bytes spell
 abbrev pub key_of : Tree Item → List ℕ

@@ -3,11 +3,8 @@
 ghost use Rattle.std.specs.Prelude.{◌≡◌, ◌++◌, [], ◌≤◌, ◌↔◌, drop, length, take};
 ghost use Rattle.std.specs.Prelude.{IsTrue, OnErr, OnOk};
 ghost use Rattle.kob_prefix_tree.specs.Held.{with_serial, without_serials, has_serials};
-ghost use Rattle.kob_prefix_tree.specs.Trie.{bare, led_by};
-ghost use Rattle.kob_prefix_tree.specs.Siblings.{held_in, IsNeat};
-ghost use Rattle.kob_prefix_tree.specs.Contents.{contents, end_of, seen};
-ghost use Rattle.kob_prefix_tree.specs.Change.{ChangedAt};
-ghost use Rattle.kob_prefix_tree.specs.Way.{EndsAt, LeadsNowhere};
+ghost use Rattle.kob_prefix_tree.specs.Tree.{bare, led_by, held_in, IsNeat, ChangedAt};
+ghost use Rattle.kob_prefix_tree.specs.Contents.{contents, end_of, seen, EndsAt, LeadsNowhere};
 ghost use Rattle.kob_prefix_tree.specs.Path.{key_of};
 
 use crate::kind::PatternKind;
@@ -56,7 +53,7 @@ impl Branch {
         }
     }
 
-    #[tactic(auto, using(crate::proofs::TailLemmas::nothing_behind))]
+    #[tactic(auto, using(crate::proofs::WayLemmas::nothing_behind))]
     pub(crate) fn is_bare(&self) -> bool
         ensures { IsTrue result ↔ (contents self.now ≡ bare) }
     {

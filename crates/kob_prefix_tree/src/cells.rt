@@ -1,6 +1,6 @@
 //! A linked list of serials, to which another list is appended in one step, however long it is.
 ghost use Rattle.std.specs.Prelude.{◌≡◌, ◌≢◌, [], ◌∷◌, ◌++◌, ◌↔◌, IfOk, IsTrue, MatchOption};
-ghost use Rattle.kob_prefix_tree.specs.Lists.{has_in_turn, without_in_turn};
+ghost use Rattle.kob_prefix_tree.specs.Held.{has_in_turn, without_in_turn};
 
 use crate::link::Link;
 use crate::node::Node;

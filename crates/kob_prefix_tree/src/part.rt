@@ -1,8 +1,7 @@
 //! The part of a tree whose keys have a common prefix.
 ghost use Rattle.std.specs.Prelude.{◌≡◌, ◌∷◌, ◌++◌, List, ℕ};
-ghost use Rattle.kob_prefix_tree.specs.Held.{serials_of};
-ghost use Rattle.kob_prefix_tree.specs.Part.{held_from, part_of};
-ghost use Rattle.kob_prefix_tree.specs.Walked.{serials_along};
+ghost use Rattle.kob_prefix_tree.specs.Held.{serials_of, serials_along};
+ghost use Rattle.kob_prefix_tree.specs.Contents.{held_from, part_of};
 ghost use Rattle.kob_prefix_tree.specs.WalkLeft.{left_of};
 
 use crate::kind::PatternKind;
@@ -58,7 +57,7 @@ impl<'a> Part<'a> {
     }
 
     /// The place of a key, from which longer keys continue.
-    #[tactic(auto, using(crate::proofs::PartLemmas::from_match))]
+    #[tactic(auto, using(crate::proofs::WalkLemmas::from_match))]
     fn at(self, key: &[u8]) -> Option<Place<'a>>
         ensures { (more : List ℕ)
             → held_from result more ≡ part_of self.entry (key.now ++ more) }

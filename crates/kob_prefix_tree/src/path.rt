@@ -3,7 +3,7 @@ ghost use Rattle.std.specs.Prelude.{◌≡◌, ◌≤◌, [], ◌∷◌, ◌+◌
 ghost use Rattle.std.specs.Prelude.{IfOk, MatchOption, OnOk};
 ghost use Rattle.kob_prefix_tree.specs.Nodes.{Leads};
 ghost use Rattle.kob_prefix_tree.specs.Path.{ArePacked, key_of, Parts};
-ghost use Rattle.kob_prefix_tree.specs.Siblings.{count};
+ghost use Rattle.kob_prefix_tree.specs.Tree.{count};
 
 use crate::link::Link;
 use crate::node::Node;

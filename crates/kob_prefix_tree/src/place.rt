@@ -1,11 +1,9 @@
 //! A place of the tree, for reading.
 ghost use Rattle.std.specs.Prelude.{◌≡◌, ◌≢◌, ◌∷◌, ◌++◌, ◌≤◌, ℕ, List, length, IfSome, MatchOption};
-ghost use Rattle.kob_prefix_tree.specs.Held.{nothing, serials_of};
-ghost use Rattle.kob_prefix_tree.specs.Trie.{bare};
-ghost use Rattle.kob_prefix_tree.specs.Siblings.{held_in, IsNeat};
+ghost use Rattle.kob_prefix_tree.specs.Held.{nothing, serials_of, IsLongestInUse};
+ghost use Rattle.kob_prefix_tree.specs.Tree.{bare, held_in, IsNeat};
 ghost use Rattle.kob_prefix_tree.specs.Contents.{node_contents, seen};
-ghost use Rattle.kob_prefix_tree.specs.SerialsLeft.{unread_of};
-ghost use Rattle.kob_prefix_tree.specs.Walked.{IsLongestInUse};
+ghost use Rattle.kob_prefix_tree.specs.WalkLeft.{unread_of};
 
 use crate::kind::PatternKind;
 use crate::link::Link;
@@ -35,7 +33,7 @@ impl<'a> Place<'a> {
     }
 
     /// The serials of one kind at this place.
-    #[tactic(auto, using(crate::proofs::TailLemmas::none_before))]
+    #[tactic(auto, using(crate::proofs::WayLemmas::none_before))]
     pub(crate) fn serials(self, kind: PatternKind) -> Unread<'a>
         ensures { unread_of result ≡ serials_of kind (seen self.entry).0 }
     {

@@ -1,8 +1,7 @@
 //! The child nodes of one place of the tree: siblings, each with another first byte. The one that
 //! was added last is the first.
 ghost use Rattle.std.specs.Prelude.{◌≡◌, Some, None, MatchOption};
-ghost use Rattle.kob_prefix_tree.specs.Trie.{sibling};
-ghost use Rattle.kob_prefix_tree.specs.Siblings.{value_at, without, siblings};
+ghost use Rattle.kob_prefix_tree.specs.Tree.{sibling, value_at, without, siblings};
 ghost use Rattle.kob_prefix_tree.specs.Contents.{contents, node_contents, trie_of};
 
 use crate::branch::Branch;

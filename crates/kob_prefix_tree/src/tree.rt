@@ -2,9 +2,8 @@
 ghost use Rattle.std.specs.Prelude.{◌≡◌, ◌∷◌, ◌++◌, ◌+◌, ◌≤◌, length, OnOk, OnErr, IfOk};
 ghost use Rattle.std.specs.FinMap as map;
 ghost use Rattle.kob_prefix_tree.specs.Held.{has_serial, has_serials, serials_of};
-ghost use Rattle.kob_prefix_tree.specs.Part.{part_of};
-ghost use Rattle.kob_prefix_tree.specs.PrefixMap.{held, added, removed, removed_all};
-ghost use Rattle.kob_prefix_tree.specs.PrefixMap.{walk_of, IsLevels};
+ghost use Rattle.kob_prefix_tree.specs.Contents.{part_of};
+ghost use Rattle.kob_prefix_tree.specs.Held.{held, added, removed, removed_all, walk_of, IsLevels};
 ghost use Rattle.kob_prefix_tree.specs.WalkLeft.{left_of};
 
 use crate::branch::Branch;
@@ -37,10 +36,9 @@ pub struct PrefixTree {
 impl Model for PrefixTree {
     ghost use Rattle.std.specs.Coded.{coded_ℕ, coded_list, coded×};
     ghost use Rattle.std.specs.FinMap as map;
-    ghost use Rattle.kob_prefix_tree.specs.Siblings.{IsNeat};
-    ghost use Rattle.kob_prefix_tree.specs.Entries.{entries_in};
+    ghost use Rattle.kob_prefix_tree.specs.Tree.{IsNeat, entries_in};
     ghost use Rattle.kob_prefix_tree.specs.Contents.{contents};
-    ghost use Rattle.kob_prefix_tree.specs.PrefixMap.{PrefixMap};
+    ghost use Rattle.kob_prefix_tree.specs.Held.{PrefixMap};
 
     ghost Value = { PrefixMap };
 
@@ -63,7 +61,7 @@ pub struct Prepared {
 }
 
 impl Model for Prepared {
-    ghost use Rattle.kob_prefix_tree.specs.Addition.{Addition};
+    ghost use Rattle.kob_prefix_tree.specs.Held.{Addition};
     ghost use Rattle.kob_prefix_tree.specs.Path.{key_of};
     ghost use Rattle.kob_prefix_tree.specs.Nodes.{Leads};
 
@@ -90,7 +88,7 @@ impl PrefixTree {
 
     /// Appends the serial to the key's list of its kind. The only error is out of memory. No node
     /// is made that is there already.
-    #[tactic(auto, using(crate::proofs::MapLemmas::added_of, crate::proofs::MapLemmas::same_of))]
+    #[tactic(auto, using(crate::proofs::WayLemmas::added_of, crate::proofs::WayLemmas::same_of))]
     pub fn add(
         &mut self,
         alloc: Global,
@@ -131,7 +129,7 @@ impl PrefixTree {
 
     /// The second step: links in what was made, whatever was added and removed since, and frees the
     /// nodes whose bytes are there already. Does not allocate.
-    #[tactic(auto, using(crate::proofs::MapLemmas::added_of))]
+    #[tactic(auto, using(crate::proofs::WayLemmas::added_of))]
     pub fn commit_add(&mut self, prepared: Prepared)
         ensures { self.new ≡ added self.old prepared.key prepared.kind prepared.serial }
     {
@@ -149,7 +147,7 @@ impl PrefixTree {
     /// Removes the serial from the key's list of its kind, once if it is there more often, and
     /// returns whether it was there. Nodes that then have no serials and no children are freed.
     /// Does not allocate.
-    #[tactic(auto, using(crate::proofs::MapLemmas::removing))]
+    #[tactic(auto, using(crate::proofs::WayLemmas::removing))]
     pub fn remove(&mut self, key: &[u8], kind: PatternKind, serial: u64) -> bool
         ensures found { result ≡ has_serial kind serial (held self.old key.now) }
         ensures removed { self.new ≡ removed self.old key.now kind serial }
@@ -160,7 +158,7 @@ impl PrefixTree {
     /// Removes these serials from the key's list of their kind in one pass, and returns whether any
     /// was there. They must be in the order of that list: each is searched for after the one before
     /// it. Nodes that then have no serials and no children are freed. Does not allocate.
-    #[tactic(auto, using(crate::proofs::MapLemmas::removing))]
+    #[tactic(auto, using(crate::proofs::WayLemmas::removing))]
     pub fn remove_all(&mut self, key: &[u8], kind: PatternKind, serials: &[u64]) -> bool
         ensures found { result ≡ has_serials kind serials.now (held self.old key.now) }
         ensures removed { self.new ≡ removed_all self.old key.now kind serials.now }

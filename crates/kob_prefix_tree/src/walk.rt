@@ -2,9 +2,8 @@
 ghost use Rattle.std.specs.Prelude.{◌≡◌, [], ◌++◌};
 ghost use Rattle.std.specs.Iterator.{YieldsFirst, item_count};
 ghost use Rattle.kob_prefix_tree.specs.Contents.{seen};
-ghost use Rattle.kob_prefix_tree.specs.Siblings.{held_in};
-ghost use Rattle.kob_prefix_tree.specs.WalkLeft.{left_of, serials_beyond};
-ghost use Rattle.kob_prefix_tree.specs.SerialsLeft.{unread_of};
+ghost use Rattle.kob_prefix_tree.specs.Tree.{held_in};
+ghost use Rattle.kob_prefix_tree.specs.WalkLeft.{left_of, serials_beyond, unread_of};
 
 use crate::kind::PatternKind;
 use crate::place::Place;

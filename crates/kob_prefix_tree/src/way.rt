@@ -4,12 +4,11 @@ ghost use Rattle.std.specs.Prelude.{◌≡◌, [], ◌∷◌, ◌++◌, ◌+◌,
 ghost use Rattle.std.specs.Prelude.{IsTrue, None, OnErr, OnOk};
 ghost use Rattle.kob_prefix_tree.specs.Nodes.{Leads};
 ghost use Rattle.kob_prefix_tree.specs.Held.{has_serials, with_serial, without_serials};
-ghost use Rattle.kob_prefix_tree.specs.Trie.{Contents, bare};
-ghost use Rattle.kob_prefix_tree.specs.Siblings.{count, held_in, IsNeat, siblings, value_at};
+ghost use Rattle.kob_prefix_tree.specs.Tree.{Contents, bare};
+ghost use Rattle.kob_prefix_tree.specs.Tree.{count, held_in, IsNeat, siblings, value_at, ChangedAt};
 ghost use Rattle.kob_prefix_tree.specs.Contents.{contents, end_of, trie_of};
 ghost use Rattle.kob_prefix_tree.specs.Path.{key_of};
-ghost use Rattle.kob_prefix_tree.specs.Change.{ChangedAt};
-ghost use Rattle.kob_prefix_tree.specs.Way.{EndsAt, IsWay, kept_behind, unwound, with_child};
+ghost use Rattle.kob_prefix_tree.specs.Contents.{EndsAt, IsWay, kept_behind, unwound, with_child};
 
 use crate::branch::Branch;
 use crate::kind::PatternKind;

@@ -1,5 +1,4 @@
-use Rattle.kob_authorizer.proofs.Words.{arith}
-use Rattle.kob_authorizer.proofs.Words.{Binding, List, Literal, Question, YieldsList-from_chain, YieldsList-from_first, ap, codes, fold, fold_from_yields_List, kind_in_tree, left_of, part_of, question_view, rules, serials_along, serials_of, ℕ, ◌++◌, ◌∙◌, ◌≡◌}
+use Rattle.kob_authorizer.proofs.Words.{arith, Binding, List, Literal, Question, YieldsList-from_chain, YieldsList-from_first, ap, codes, fold, fold_from_yields_List, kind_in_tree, left_of, part_of, question_view, rules, serials_along, serials_of, ℕ, ◌++◌, ◌∙◌, ◌≡◌}
 use Rattle.kob_authorizer.proofs.LeastHits.{one_by_one, with_serial}
 use Rattle.kob_authorizer.proofs.look_up.hits_at.Goals as goal
 

@@ -1,6 +1,4 @@
-use Rattle.kob_authorizer.proofs.Words.{common_steps}
-use Rattle.kob_authorizer.proofs.Words.{arith}
-use Rattle.kob_authorizer.proofs.Words.{question_view}
+use Rattle.kob_authorizer.proofs.Words.{common_steps, arith, question_view}
 use Rattle.kob_authorizer.proofs.Verdicts.{none_given}
 use Rattle.kob_authorizer.proofs.look_up.verdict.Goals as goal
 

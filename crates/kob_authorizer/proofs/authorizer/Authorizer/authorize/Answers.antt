@@ -1,6 +1,4 @@
-use Rattle.kob_authorizer.proofs.Words.{common_steps}
-use Rattle.kob_authorizer.proofs.Words.{arith}
-use Rattle.kob_authorizer.proofs.Words.{IsRising, State, question_of, subst}
+use Rattle.kob_authorizer.proofs.Words.{common_steps, arith, IsRising, State, question_of, subst}
 use Rattle.kob_authorizer.proofs.Entries.{are_rising}
 use Rattle.kob_authorizer.proofs.Verdicts.{found_super, true_verdict}
 use Rattle.kob_authorizer.proofs.authorizer.Authorizer.authorize.Goals as goal

@@ -1,6 +1,4 @@
-use Rattle.kob_authorizer.proofs.Words.{common_steps}
-use Rattle.kob_authorizer.proofs.Words.{arith}
-use Rattle.kob_authorizer.proofs.Words.{binding_limit}
+use Rattle.kob_authorizer.proofs.Words.{common_steps, arith, binding_limit}
 use Rattle.kob_authorizer.proofs.IndexSteps.{indexes_put_all}
 use Rattle.kob_authorizer.proofs.Entries.{put_rises}
 use Rattle.kob_authorizer.proofs.authorizer.Authorizer.commit_create.Goals as goal

@@ -1,5 +1,4 @@
-use Rattle.kob_authorizer.proofs.Words.{common_steps}
-use Rattle.kob_authorizer.proofs.Words.{Binding, List, arith, ℕ}
+use Rattle.kob_authorizer.proofs.Words.{common_steps, Binding, List, arith, ℕ}
 use Rattle.kob_authorizer.proofs.IndexSteps.{indexes_deleted}
 use Rattle.kob_authorizer.proofs.Entries.{removed_rises}
 use Rattle.kob_authorizer.proofs.authorizer.Authorizer.commit_delete.Goals as goal

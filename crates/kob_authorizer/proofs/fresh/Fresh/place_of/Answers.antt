@@ -1,5 +1,4 @@
-use Rattle.kob_authorizer.proofs.Words.{common_steps}
-use Rattle.kob_authorizer.proofs.Words.{arith}
+use Rattle.kob_authorizer.proofs.Words.{common_steps, arith}
 use Rattle.kob_authorizer.proofs.Creating.{places_below, places_rise}
 use Rattle.kob_authorizer.proofs.fresh.Fresh.place_of.Goals as goal
 

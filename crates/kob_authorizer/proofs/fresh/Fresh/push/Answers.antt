@@ -1,6 +1,4 @@
-use Rattle.kob_authorizer.proofs.Words.{common_steps}
-use Rattle.kob_authorizer.proofs.Words.{arith}
-use Rattle.kob_authorizer.proofs.Words.{Binding, List, key_place, ℕ}
+use Rattle.kob_authorizer.proofs.Words.{common_steps, arith, Binding, List, key_place, ℕ}
 use Rattle.kob_authorizer.proofs.Creating.{places_push}
 use Rattle.kob_authorizer.proofs.IndexSteps.{index_added}
 use Rattle.kob_authorizer.proofs.fresh.Fresh.push.Goals as goal

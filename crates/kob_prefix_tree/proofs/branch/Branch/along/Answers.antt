@@ -1,8 +1,6 @@
 use Rattle.kob_prefix_tree.proofs.Words.{Branch, ChangedAt, Held, Link, ap, bare, end_of, key_of, led_by, subst, sym, trie_of, unwound, with_serial, ◌++◌, ◌∙◌, ◌∷◌}
 use Rattle.kob_prefix_tree.specs.declared.siblings.Item.{Item}
-use Rattle.kob_prefix_tree.proofs.WayLemmas.{some_put}
-use Rattle.kob_prefix_tree.proofs.ChangeLemmas.{behind_tail}
-use Rattle.kob_prefix_tree.proofs.WayLemmas.{along_on, put_alone}
+use Rattle.kob_prefix_tree.proofs.WayLemmas.{some_put, behind_tail, along_on, put_alone}
 use Rattle.kob_prefix_tree.proofs.branch.Branch.along.Goals as goal
 
 pub loop-path-init : goal.loop-path-init

@@ -1,7 +1,5 @@
-use Rattle.kob_prefix_tree.proofs.Words.{common_steps}
-use Rattle.kob_prefix_tree.proofs.Words.{arith}
-use Rattle.kob_prefix_tree.proofs.Words.{Link, Serial, ap, sym, true≢false, with_others, ◌∙◌}
-use Rattle.kob_prefix_tree.proofs.CellLemmas.{end_joined, values_are}
+use Rattle.kob_prefix_tree.proofs.Words.{common_steps, arith, Link, Serial, ap, sym, true≢false, with_others, ◌∙◌}
+use Rattle.kob_prefix_tree.proofs.WalkLemmas.{end_joined, values_are}
 use Rattle.kob_prefix_tree.proofs.cells.Cells.append.Goals as goal
 
 pub invariant_of-self-2 : goal.invariant_of-self-2

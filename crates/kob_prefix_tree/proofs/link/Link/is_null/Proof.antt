@@ -2,7 +2,7 @@
 -- what the link lends of its nodes.
 use Rattle.kob_prefix_tree.proofs.Words.{ !, Bool, Goes-none_ref, IsTrue, List, Ptr-Good, Stays, Val, [], a_type, alloc_all, bin, by, emp, enter, fact, fact_i, feq_i, flft, free_all, ftrue, get, inst_fn, keep, layouts, leaf, leaves, lit, move, named, param, pass_all, plain, proved, ptr_same, ptr_val, qed, raw, refl, returns, sets, shr_Tells, shr_vals, stay_none_ref, tables, tests_null, use0, vbool, vnull, walk_of, yes, ‵, ◌$◌, ◌+◌, ◌↔◌, ◌∵◌, ◌∷◌, ◌≡◌, ◌⊛◌, of_opd, fld, stop, load, through, look as of_item, look_at}
 use Rattle.kob_prefix_tree.proofs.Firsts.{tells_null}
-use Rattle.kob_prefix_tree.proofs.Read.{ends, enters, given, shut_pointer, with_pointer}
+use Rattle.kob_prefix_tree.proofs.Blocks.{ends, enters, given, shut_pointer, with_pointer}
 use Rattle.kob_prefix_tree.specs.contracts.link.Link as link
 use Rattle.kob_prefix_tree.specs.contracts.link.Link.is_null as f
 use Rattle.kob_prefix_tree.proofs.link.Link.is_null.Code as code

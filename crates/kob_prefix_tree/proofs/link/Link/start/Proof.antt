@@ -1,6 +1,6 @@
 -- `start` hands out a copy of the pointer, which it opens and shuts.
 use Rattle.kob_prefix_tree.proofs.Words.{ !, Goes-none_ref, List, Ptr-Good, Stays, Val, [], a_type, alloc_all, by, emp, enter, fact, fact_i, feq_i, flft, free_all, ftrue, inst_fn, keep, layouts, leaves, move, named, param, pass_all, plain, proved, ptr_val, qed, raw, refl, returns, sets, shr_Tells, shr_vals, stay_none_ref, tables, use0, walk_of, yes, ‵, ◌$◌, ◌+◌, ◌∵◌, ◌∷◌, ◌≡◌, ◌⊛◌, of_opd, fld, stop, load, through, look as of_item, look_at}
-use Rattle.kob_prefix_tree.proofs.Read.{ends, enters, given, shut_pointer, with_pointer}
+use Rattle.kob_prefix_tree.proofs.Blocks.{ends, enters, given, shut_pointer, with_pointer}
 use Rattle.kob_prefix_tree.specs.contracts.link.Link as link
 use Rattle.kob_prefix_tree.specs.contracts.link.Link.start as f
 use Rattle.kob_prefix_tree.proofs.link.Link.start.Code as code

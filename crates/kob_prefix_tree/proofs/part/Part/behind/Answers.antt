@@ -1,5 +1,5 @@
 use Rattle.kob_prefix_tree.proofs.Words.{held_in, seen, ◌∙◌, ◌∷◌}
-use Rattle.kob_prefix_tree.proofs.PartLemmas.{from_match}
+use Rattle.kob_prefix_tree.proofs.WalkLemmas.{from_match}
 use Rattle.kob_prefix_tree.proofs.part.Part.behind.Goals as goal
 
 pub returns-in-None : goal.returns-in-None

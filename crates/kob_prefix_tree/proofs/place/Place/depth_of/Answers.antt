@@ -1,5 +1,5 @@
 use Rattle.kob_prefix_tree.proofs.Words.{arith, seen}
-use Rattle.kob_prefix_tree.proofs.LevelsLemmas.{deeper_at_end, deeper_without_child, deeper_with_child}
+use Rattle.kob_prefix_tree.proofs.WalkLemmas.{deeper_at_end, deeper_without_child, deeper_with_child}
 use Rattle.kob_prefix_tree.proofs.place.Place.depth_of.Goals as goal
 
 pub loop-byte-preserved : goal.loop-byte-preserved

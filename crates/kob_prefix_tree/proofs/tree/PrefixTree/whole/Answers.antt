@@ -1,5 +1,5 @@
 use Rattle.kob_prefix_tree.proofs.Words.{ap, contents, held, held_in, ◌∙◌}
-use Rattle.kob_prefix_tree.proofs.MapLemmas.{held_everywhere}
+use Rattle.kob_prefix_tree.proofs.WayLemmas.{held_everywhere}
 use Rattle.kob_prefix_tree.proofs.tree.PrefixTree.whole.Goals as goal
 
 pub returns : goal.returns
