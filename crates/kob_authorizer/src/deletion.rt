@@ -96,7 +96,7 @@ type DeletionParts = (
 );
 
 /// Copies of the entries that the filter selects. If it names one pattern on one kind of resource,
-/// only the entries with that pattern are examined.
+/// and few entries have it, only these are examined.
 #[tactic(auto, using(crate::proofs::Deleting::listed_lead))]
 pub fn copies_taken(
     alloc: Global,
@@ -109,8 +109,10 @@ pub fn copies_taken(
     ensures { IfOk result (λ made. made.items ≡ bindings_taken filter.now entries.now) }
 {
     match patterns.listed_by(alloc, filter)? {
-        None => copies_among(alloc, entries, filter),
-        Some(serials) => copies_at(alloc, entries, serials.as_slice(), filter),
+        Some(serials) if serials.len() < entries.len() / 8 => {
+            copies_at(alloc, entries, serials.as_slice(), filter)
+        }
+        _ => copies_among(alloc, entries, filter),
     }
 }
 
