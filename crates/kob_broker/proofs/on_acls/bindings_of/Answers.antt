@@ -1,6 +1,5 @@
-use Rattle.kob_broker.proofs.Words.{Draft, List, [], ap, arith, draft_reasons, drop, first_reason, flat_map, get_or, length, sym, take, ℕ, ◌++◌, ◌+◌, ◌<◌, ◌∙◌, ◌∷◌, ◌≡◌}
-use Rattle.std.proofs.lemmas.List.{drop_more, take_more}
-use Rattle.kob_broker.proofs.FirstReasons.{first_none, first_some}
+use Rattle.kob_broker.proofs.Words.{Draft, List, [], ap, arith, draft_reasons, drop, drop_more, first_reason, flat_map, get_or, length, sym, take, take_more, ℕ, ◌++◌, ◌+◌, ◌<◌, ◌∙◌, ◌∷◌, ◌≡◌}
+use Rattle.kob_broker.proofs.Decisions.{first_none, first_some}
 use Rattle.kob_broker.proofs.on_acls.bindings_of.Goals as goal
 
 -- the draft at a place, and those behind it
