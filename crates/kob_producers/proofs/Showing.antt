@@ -38,16 +38,12 @@ pub same_recent : (old new : List (ℕ × Buffer Sent)) → ((q : ℕ) → looku
 same_recent old new same =
     fin.same_map nat_cmp_total fin.nat_cmp-IsAntisymmetric _ _ (λ q. grind (arith, nat_tests, get_shown, same q))
 
-written_is : (here : Bool) (ring : Buffer Sent) (o : Option (Buffer Sent))
-    → option_map items (cond here (Some ring) o) ≡ cond here (Some ring.items) (option_map items o)
-written_is here ring o = grind (arith, nat_tests)
-
 -- a ring that is written, or put in
 pub written : (old new : List (ℕ × Buffer Sent)) (k : ℕ) (ring : Buffer Sent)
     → ((q : ℕ) → lookup (nat_eq q) new ≡ cond (nat_eq k q) (Some ring) (lookup (nat_eq q) old))
     → recent_in new ≡ fin.insert (recent_in old) k ring.items
 written old new k ring is = fin.same_map nat_cmp_total fin.nat_cmp-IsAntisymmetric _ _ (λ q.
-    get_shown new q ∙ ap (option_map items) (is q) ∙ written_is (nat_eq k q) ring (lookup (nat_eq q) old)
+    get_shown new q ∙ ap (option_map items) (is q) ∙ sym (found_is (nat_eq k q) ring (lookup (nat_eq q) old) _ refl)
     ∙ ap (cond (nat_eq k q) (Some ring.items)) (sym (get_shown old q))
     ∙ ap (λ b. cond b (Some ring.items) (fin.get (recent_in old) q))
     (sym (unsigned_tied k q) ∙ (eq_by_cmp_equiv nat_cmp_total).symm k q)
