@@ -15,10 +15,6 @@ pub none_after : (xs ys : List (Bool × Reason)) → first_reason (xs ++ ys) ≡
 none_after [] ys none = none
 none_after (x ∷ xs) ys none = grind (arith, nat_tests, none_after xs ys)
 
-pub none_here : (holds : Bool) (reason : Reason) (rest : List (Bool × Reason))
-    → first_reason ((holds, reason) ∷ rest) ≡ None → holds ≡ false
-none_here holds reason rest none = grind (arith, nat_tests)
-
 -- the test at a place of the list
 abbrev pub test_at : ℕ → List (Bool × Reason) → Bool
 test_at n [] = false
@@ -27,7 +23,7 @@ test_at (suc n) (x ∷ xs) = test_at n xs
 
 pub test_fails : (n : ℕ) (xs : List (Bool × Reason)) → first_reason xs ≡ None → test_at n xs ≡ false
 test_fails n [] none = refl
-test_fails zero (x ∷ xs) none = none_here x.0 x.1 xs none
+test_fails zero (x ∷ xs) none = grind (arith, nat_tests)
 test_fails (suc n) (x ∷ xs) none = grind (arith, nat_tests, test_fails n xs)
 
 -- Decisions that make an outcome.

@@ -118,8 +118,7 @@ module _ {P : Type 0} (m : Meaning P) where
   pub step_access : (s : State P) (event : Event)
       → (step m s event).state.access ≡ access_after (step m s event).reply event.request s.access
   step_access s event =
-      step_fits m s event (λ o. o.state.access ≡ access_after o.reply event.request s.access) (λ blamed is. refl)
-      (λ reason granted is. refl) (λ granted is. after_access s (named s event.request) (write_of event.request))
+      grind (arith, nat_tests, step_fits m s event, after_access s (named s event.request) (write_of event.request))
 
   -- and are numbered
   written_numbered : (s : State P) (found : Option P) (write : Option Write) → IsNumbered s.access
@@ -164,9 +163,6 @@ module _ {A : Type 0} (shown : A → Type 0) where
   all_in_order [] each = tt
   all_in_order (x ∷ xs) each = inl (each x, (refl, all_in_order xs each))
 
-  pub lists_all : (all : List A) → ((x : A) → shown x) → Lists shown all all
-  lists_all all each = grind (arith, nat_tests, all_in_order)
-
   -- a test that tells what is shown
   module _ (test : A → Bool) (yes : (x : A) → test x ≡ true → shown x) (no : (x : A) → shown x → test x ≡ true) where
     holds_of : (x : A) (all : List A) → StandsIn x (filter test all) ↔ (shown x × StandsIn x all)
@@ -191,7 +187,7 @@ topics_listed granted topics =
 
 groups_listed : (cluster : Bool) (granted : List ℕ → Bool) (names : List (List ℕ))
     → Lists (λ name. IsTrue cluster ⊎ IsTrue (granted name)) (cond cluster names (filter granted names)) names
-groups_listed true granted names = lists_all (λ name. IsTrue true ⊎ IsTrue (granted name)) names (λ name. inl refl)
+groups_listed true granted names = grind (arith, nat_tests, all_in_order)
 groups_listed false granted names =
     lists_passing (λ name. IsTrue false ⊎ IsTrue (granted name)) granted (λ name is. inr is)
     (λ name either. elim either [ inl untrue ↦ absurd (let false_is : false ≡ true = untrue in cc) | inr is ↦ is ])

@@ -111,5 +111,4 @@ module _ {P : Type 0} (m : Meaning P) (s : State P) where
 
   pub step_switch : (event : Event) → (step m s event).state.access.everyone ≡ s.access.everyone
   step_switch event =
-      step_fits m s event (λ o. o.state.access.everyone ≡ s.access.everyone) (λ blamed is. refl)
-      (λ reason granted is. refl) (λ granted is. written_switch (named s event.request) (write_of event.request))
+      grind (arith, nat_tests, step_fits m s event, written_switch (named s event.request) (write_of event.request))
