@@ -1,5 +1,5 @@
 use Rattle.std.proofs.lemmas.Grind.{common_steps}
-use Rattle.kob_broker.proofs.Words.{Draft, List, [], ap, arith, draft_reasons, drop, drop_more, first_reason, flat_map, get_or, length, sym, take, take_more, ℕ, ◌++◌, ◌+◌, ◌<◌, ◌∙◌, ◌∷◌, ◌≡◌}
+use Rattle.kob_broker.proofs.Words.{Draft, List, arith, draft_reasons, drop, drop_more, flat_map, get_or, length, take_more, ℕ, ◌++◌, ◌+◌, ◌<◌, ◌≡◌}
 use Rattle.kob_broker.proofs.Decisions.{first_none, first_some}
 use Rattle.kob_broker.proofs.on_acls.bindings_of.Goals as goal
 
