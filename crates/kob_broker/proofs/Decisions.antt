@@ -15,6 +15,10 @@ pub none_after : (xs ys : List (Bool × Reason)) → first_reason (xs ++ ys) ≡
 none_after [] ys none = none
 none_after (x ∷ xs) ys none = grind (arith, nat_tests, none_after xs ys)
 
+pub none_here : (holds : Bool) (reason : Reason) (rest : List (Bool × Reason))
+    → first_reason ((holds, reason) ∷ rest) ≡ None → holds ≡ false
+none_here holds reason rest none = grind (arith, nat_tests)
+
 -- the test at a place of the list
 abbrev pub test_at : ℕ → List (Bool × Reason) → Bool
 test_at n [] = false
