@@ -16,28 +16,20 @@ module _ {K X : Type 0} (Fits : X → Type 0) where
   put_in same [] key x fits all = grind (arith, nat_tests)
   put_in same (entry ∷ entries) key x fits all =
       let rest = All-tail (λ (e : K × X). Fits e.1) entry entries all in
-      cond_both (same key entry.0) ((entry.0, x) ∷ entries) (entry ∷ insert_entry same entries key x) EachFits
-      (λ _. All-cons (λ (e : K × X). Fits e.1) (entry.0, x) entries fits rest)
-      (λ _. All-cons (λ (e : K × X). Fits e.1) entry (insert_entry same entries key x)
-      (All-head (λ (e : K × X). Fits e.1) entry entries all) (put_in same entries key x fits rest))
+      let later = put_in same entries key x fits rest in
+      grind (arith, nat_tests, cond_both, All-cons, All-head (λ (e : K × X). Fits e.1) entry entries all)
 
   written_in : (test : K → Bool) (entries : List (K × X)) (x : X) → Fits x → EachFits entries
       → EachFits (set_value test entries x)
   written_in test [] x fits all = all
   written_in test (entry ∷ entries) x fits all =
       let rest = All-tail (λ (e : K × X). Fits e.1) entry entries all in
-      cond_both (test entry.0) ((entry.0, x) ∷ entries) (entry ∷ set_value test entries x) EachFits
-      (λ _. All-cons (λ (e : K × X). Fits e.1) (entry.0, x) entries fits rest)
-      (λ _. All-cons (λ (e : K × X). Fits e.1) entry (set_value test entries x)
-      (All-head (λ (e : K × X). Fits e.1) entry entries all) (written_in test entries x fits rest))
+      let later = written_in test entries x fits rest in
+      grind (arith, nat_tests, cond_both, All-cons, All-head (λ (e : K × X). Fits e.1) entry entries all)
 
   pub read : (test : K → Bool) (entries : List (K × X)) (none : X) → Fits none → EachFits entries
       → Fits (unwrap_or (lookup test entries) none)
-  read test entries none fits all = or_none (lookup test entries) (All-lookup Fits test entries all)
-    where
-      or_none : (found : Option X) → IfSome found Fits → Fits (unwrap_or found none)
-      or_none None at = fits
-      or_none (Some x) at = at
+  read test entries none fits all = grind (arith, nat_tests, unwrap_or, All-lookup Fits test entries all)
 
 module _ {P : Type 0} (Holds : P → Type 0) where
   -- it holds of each partition of the topic

@@ -1,7 +1,47 @@
+-- A denial is the same wherever the bindings in force and the super users are.
+use Rattle.kob_broker.proofs.Words.{AgreeOnAccess, Check, Code, Contents, Denied, Event, List, Meaning, Option, Reply, SameDenial, State, Verdict, [], ap, arith, denial_naming, denial_of, first_unmet, nat_tests, option_map, refl, rights, step, step_by, sym, ℕ, ◌+◌, ◌∙◌, ◌∷◌, ◌≡◌, Bool, EachBlamed, EachGranted, EachJust, HoldsInForce, IsBlame, IsDenial, IsJust, IsRising, None, Settings, Some, SomeGranted, Write, access_after, added_rises, after_write, changed_access, cond, denial_code, false, is_granted, is_met, map, named, open_state, or_cases, or_parts, question, removed_rises, slice_get, state_after, subst, suc, take, true, true_verdict, verdict, write_of, zero, AreThose, EachLists, IsTrue, Lists, ListsGroups, ListsTopics, StandsIn, Topic, describes_cluster, describes_group, describes_topic, filter, group_names, groups_shown, in_force_at, inl, inr, listed, listed_where, ◌↔◌, ◌⊎◌}
+use Rattle.kob_broker.proofs.Steps.{step_fits, reply_at, state_keeps}
+
+-- no decision reads the serial that comes next
+unmet_alike : (access : Contents) (next : ℕ) (event : Event) (n : ℕ) (clauses : List (List Check))
+    → first_unmet (record access { next = next }) event n clauses ≡ first_unmet access event n clauses
+unmet_alike access next event n [] = refl
+unmet_alike access next event n (clause ∷ clauses) =
+    grind (arith, nat_tests, unmet_alike access next event (n + 1) clauses)
+
+with_next : (one other : Contents) → AgreeOnAccess one other → record one { next = other.next } ≡ other
+with_next one other k = grind (arith, nat_tests)
+
+denial_alike : (one other : Contents) (event : Event) → AgreeOnAccess one other
+    → denial_of one event ≡ denial_of other event
+denial_alike one other event k =
+    ap (option_map (denial_naming one event)) (sym (unmet_alike one other.next event 0 (rights event.request)))
+    ∙ ap (λ (access : Contents). denial_of access event) (with_next one other k)
+
+agree_back : (one other : Contents) → AgreeOnAccess one other → AgreeOnAccess other one
+agree_back one other k = record { entries = sym k.entries; supers = sym k.supers; everyone = sym k.everyone }
+
+module _ {P Q : Type 0} (m : Meaning P) (n : Meaning Q) where
+  -- what is done or refused is no denial
+  denied_alike : (s : State P) (t : State Q) (event : Event) → AgreeOnAccess s.access t.access
+      → (code : Code) (verdicts : List Verdict)
+      → (step m s event).reply ≡ Denied code verdicts → (step n t event).reply ≡ Denied code verdicts
+  denied_alike s t event same code verdicts =
+      step_fits m s event (λ o. o.reply ≡ Denied code verdicts → (step n t event).reply ≡ Denied code verdicts)
+      (λ blamed is told.
+      ap (λ (denial : Option Reply). (step_by n denial t event).reply)
+      (sym (denial_alike s.access t.access event same) ∙ ap (option_map (denial_naming s.access event)) is)
+      ∙ told)
+      (λ reason granted is told. cc) (λ granted is told. cc)
+
+module _ {P Q : Type 0} (m : Meaning P) (n : Meaning Q) where
+  pub same_denial : (s : State P) (t : State Q) (event : Event) → AgreeOnAccess s.access t.access
+      → SameDenial (step m s event).reply (step n t event).reply
+  same_denial s t event same =
+      let back = denied_alike n m t s event (agree_back s.access t.access same) in
+      record { denied = λ code verdicts. (denied_alike m n s t event same code verdicts, back code verdicts) }
+
 -- Why each reply is just.
-use Rattle.kob_broker.proofs.Words.{Bool, Check, Contents, EachBlamed, EachGranted, EachJust, Event, HoldsInForce, IsBlame, IsDenial, IsJust, IsRising, List, Meaning, None, Option, Settings, Some, SomeGranted, State, Write, [], access_after, added_rises, after_write, arith, changed_access, cond, denial_code, false, first_unmet, is_granted, is_met, map, named, nat_tests, open_state, or_cases, or_parts, question, refl, removed_rises, rights, slice_get, state_after, step, subst, suc, take, true, true_verdict, verdict, write_of, zero, ℕ, ◌+◌, ◌∷◌, ◌≡◌}
-use Rattle.kob_broker.proofs.Runs.{reply_at}
-use Rattle.kob_broker.proofs.Steps.{state_keeps, step_fits}
 
 -- the bindings in force have rising serials
 abbrev pub IsNumbered : Contents → Type 0
@@ -78,8 +118,7 @@ module _ {P : Type 0} (m : Meaning P) where
   pub step_access : (s : State P) (event : Event)
       → (step m s event).state.access ≡ access_after (step m s event).reply event.request s.access
   step_access s event =
-      step_fits m s event (λ o. o.state.access ≡ access_after o.reply event.request s.access) (λ blamed is. refl)
-      (λ reason granted is. refl) (λ granted is. after_access s (named s event.request) (write_of event.request))
+      grind (arith, nat_tests, step_fits m s event, after_access s (named s event.request) (write_of event.request))
 
   -- and are numbered
   written_numbered : (s : State P) (found : Option P) (write : Option Write) → IsNumbered s.access
@@ -110,3 +149,69 @@ module _ {P : Type 0} (m : Meaning P) where
 
   pub opened_just : (settings : Settings) (events : List Event) → EachJust m events (open_state settings)
   opened_just settings events = grind (arith, nat_tests, run_just, added_rises)
+
+-- What a filter leaves stands in the list and passes the test, in the list's order.
+
+module _ {A : Type 0} (shown : A → Type 0) where
+  -- one more that is not shown
+  not_listed : (xs : List A) (y : A) (ys : List A) → ¬ shown y → AreThose shown xs ys → AreThose shown xs (y ∷ ys)
+  not_listed [] y ys hidden rest = (hidden, rest)
+  not_listed (x ∷ xs) y ys hidden rest = inr (hidden, rest)
+
+  -- where all are shown, all are listed
+  all_in_order : (all : List A) → ((x : A) → shown x) → AreThose shown all all
+  all_in_order [] each = tt
+  all_in_order (x ∷ xs) each = inl (each x, (refl, all_in_order xs each))
+
+  -- a test that tells what is shown
+  module _ (test : A → Bool) (yes : (x : A) → test x ≡ true → shown x) (no : (x : A) → shown x → test x ≡ true) where
+    holds_of : (x : A) (all : List A) → StandsIn x (filter test all) ↔ (shown x × StandsIn x all)
+    holds_of x [] = (λ nowhere. absurd nowhere, λ both. both.1)
+    holds_of x (y ∷ ys) = grind (arith, nat_tests, holds_of x ys)
+
+    order_of : (all : List A) → AreThose shown (filter test all) all
+    order_of [] = tt
+    order_of (y ∷ ys) = grind (arith, nat_tests, order_of ys, not_listed)
+
+    pub lists_passing : (all : List A) → Lists shown (filter test all) all
+    lists_passing all = record { holds = λ x. holds_of x all; in_order = order_of all }
+
+abbrev Pair : Type 0
+Pair = List ℕ × ℕ
+
+topics_listed : {P : Type 0} (granted : List ℕ → Bool) (topics : List (Topic P))
+    → Lists (λ (p : Pair). IsTrue (granted p.0)) (listed_where granted topics) (map listed topics)
+topics_listed granted topics =
+    lists_passing (λ (p : Pair). IsTrue (granted p.0)) (λ (p : Pair). granted p.0) (λ p is. is) (λ p is. is)
+    (map listed topics)
+
+groups_listed : (cluster : Bool) (granted : List ℕ → Bool) (names : List (List ℕ))
+    → Lists (λ name. IsTrue cluster ⊎ IsTrue (granted name)) (cond cluster names (filter granted names)) names
+groups_listed true granted names = grind (arith, nat_tests, all_in_order)
+groups_listed false granted names =
+    lists_passing (λ name. IsTrue false ⊎ IsTrue (granted name)) granted (λ name is. inr is)
+    (λ name either. elim either [ inl untrue ↦ absurd (let false_is : false ≡ true = untrue in cc) | inr is ↦ is ])
+    names
+
+module _ {P : Type 0} (m : Meaning P) where
+  lists_topics : (s : State P) (event : Event) → ListsTopics s.access s event (step m s event).reply
+  lists_topics s event asks = (
+    listed_where (describes_topic s.access event) s.topics,
+    rw asks refl,
+    topics_listed (describes_topic s.access event) s.topics,
+  )
+
+  lists_groups : (s : State P) (event : Event) → ListsGroups s.access s event (step m s event).reply
+  lists_groups s event asks = (
+    groups_shown s.access event (group_names s.groups),
+    rw asks refl,
+    groups_listed (describes_cluster s.access event) (describes_group s.access event) (group_names s.groups),
+  )
+
+  pub each_lists : (events : List Event) (s : State P) → EachLists m events s
+  each_lists events s k event reply at told =
+      let now : State P = state_after m (take k events) s in
+      let Both : Contents → Reply → Type 0 = λ access r. ListsTopics access now event r × ListsGroups access now event r in
+      subst (Both (in_force_at m events s k)) (reply_at m events s k event reply at told)
+      (subst (λ (a : Contents). Both a (step m now event).reply) (run_access m events s k)
+      (lists_topics now event, lists_groups now event))

@@ -1,5 +1,5 @@
 -- A limit of 63 or 64 bits is spent only where as many offsets, producer ids or serials were asked for.
-use Rattle.kob_broker.proofs.Words.{Added, All, All-nil, Binding, Bool, Draft, Event, IfSome, List, Option, Reason, Request, Retained, SaysNothingSpent, Settings, Some, State, Write, [], add_one, after_write, and_right, arith, asked_by, asked_in, asked_of, draft_reasons, false, first_reason, flat_map, fold, is_spent, le-ltb, length, list_any, list_any-append, named, nat_tests, offset_limit, open_state, or_from, or_parts, plain_meaning, reasons_against, refl, replies_of, retained_meaning, step, true, write_of, ℕ, ◌&&◌, ◌+◌, ◌∷◌, ◌≡◌, ◌≤◌}
+use Rattle.kob_broker.proofs.Words.{Added, All, All-nil, Binding, Bool, Draft, Event, IfSome, List, Option, Reason, Request, Retained, SaysNothingSpent, Settings, Some, State, Write, [], add_one, after_write, and_right, arith, asked_in, asked_of, draft_reasons, false, first_reason, flat_map, fold, is_spent, le-ltb, length, list_any, list_any-append, named, nat_tests, offset_limit, open_state, or_from, or_parts, plain_meaning, reasons_against, refl, replies_of, retained_meaning, step, true, write_of, ℕ, ◌&&◌, ◌+◌, ◌∷◌, ◌≡◌, ◌≤◌}
 use Rattle.kob_broker.proofs.EachPartition.{EachOf, each_after, of_request, unless_alike, written}
 use Rattle.kob_broker.proofs.Lifting.{runs_alike}
 use Rattle.kob_broker.proofs.Steps.{replies_keep, step_fits}
@@ -42,7 +42,7 @@ drafts_spend [] = refl
 drafts_spend (draft ∷ drafts) = drafts_spend drafts
 
 request_spends : (more : ℕ) (s : State Retained) (found : Option Retained) (request : Request)
-    → StateHasFor (asked_by request + more) s → IfSome found (HasFor (asked_by request + more))
+    → StateHasFor (asked_of (write_of request) + more) s → IfSome found (HasFor (asked_of (write_of request) + more))
     → spends (reasons_against retained_meaning s found request) ≡ false
 request_spends more s found request has =
     grind (arith, nat_tests, le-ltb, or_from, and_right, added_next, list_any-append, drafts_spend)
@@ -67,8 +67,8 @@ step_has event events s has =
     let more = asked_in events in
     let request = event.request in
     let found = named s request in
-    let less = fewer (asked_by request) more s has in
-    let at = of_request (HasFor (asked_by request + more)) s request has.topics in
+    let less = fewer (asked_of (write_of request)) more s has in
+    let at = of_request (HasFor (asked_of (write_of request) + more)) s request has.topics in
     step_fits retained_meaning s event (λ o. SaysNothingSpent o.reply × StateHasFor more o.state)
     (λ blamed is. (tt, less))
     (λ reason granted is. (

@@ -1,26 +1,20 @@
 -- What a prepared change does, and when there is room for it.
-use Rattle.std.specs.Prelude.{◌≡◌, true, ◌<◌, ◌≤◌, ◌+◌, ◌++◌, [], ◌∷◌}
+use Rattle.std.specs.Prelude.{◌≡◌, ◌<◌, ◌≤◌, ◌+◌, ◌++◌, true, [], ◌∷◌}
 use Rattle.kob_authorizer.specs.Creation.{CanCreate, with_creation}
 use Rattle.kob_authorizer.specs.Deletion.{CanDelete, without_taken}
-use Rattle.kob_catalog.specs.Creation.{CanAdd}
-use Rattle.kob_catalog.specs.Kept.{catalog_log, kept_of, topics_of}
-use Rattle.kob_catalog.specs.Topics.{has_partition, topic_map, with_partition}
+use Rattle.kob_catalog.specs.Kept.{CanAdd, catalog_log, kept_of, topics_of}
 use Rattle.kob_groups.specs.Groups as groups
 use Rattle.kob_groups.specs.Kept as groups_kept
 use Rattle.kob_groups.specs.Kept.{groups_of}
-use Rattle.kob_partition.specs.Log.{CanAppend}
-use Rattle.kob_partition.specs.Retained.{Retained, retained_meaning}
-use Rattle.kob_rights.specs.declared.event.Event.{Event}
-use Rattle.kob_rights.specs.declared.reply.Reply.{Reply}
-use Rattle.kob_rights.specs.declared.request.Request.{Request}
-use Rattle.kob_broker.specs.declared.broker.Broker.{Broker}
+use Rattle.kob_partition.specs.Retained.{CanAppend, Retained, retained_meaning}
+use Rattle.kob_broker.specs.Records.{producer_limit}
+use Rattle.kob_broker.specs.State.{Event, Reply, Request, State, has_partition, topic_map, with_partition}
+use Rattle.kob_broker.specs.Step.{Outcome, effect}
+use Rattle.kob_broker.specs.Topics.{delete_topics_after}
+pub use Rattle.kob_broker.specs.declared.broker.Broker.{Broker}
 use Rattle.kob_broker.specs.declared.prepared.Change.{Change}
 use Rattle.kob_broker.specs.declared.prepared.Change.TheVariants.{Unchanged, AddTopic, RemoveTopic, AddBindings, RemoveBindings, Append, AdvanceStart, Commit, RemoveGroup, GiveProducer}
 use Rattle.kob_broker.specs.declared.prepared.Prepared.{Prepared}
-use Rattle.kob_broker.specs.Limits.{producer_limit}
-use Rattle.kob_broker.specs.DeleteTopics.{delete_topics_after}
-use Rattle.kob_broker.specs.Effect.{Outcome, effect}
-use Rattle.kob_broker.specs.State.{State}
 
 -- the state of a broker: what it holds, without the room that is there for more
 abbrev pub state_of : Broker → State Retained

@@ -1,18 +1,18 @@
--- Which requests are denied, and how: by the event, the super users, the switch and the bindings in
--- force alone.
+-- Which requests are denied, and how, and what a principal may describe: by the event, the super
+-- users, the switch and the bindings in force alone.
 use Rattle.std.specs.Prelude.{ℕ, ◌+◌, List, [], ◌∷◌, Bool, Option, Some, None, map, if◌then◌else◌}
 use Rattle.std.specs.Option.{option_map}
 use Rattle.std.specs.List.{list_any}
-use Rattle.kob_names.specs.declared.verdict.Verdict.{Verdict}
-use Rattle.kob_names.specs.Granted.{is_granted}
-use Rattle.kob_authorizer.specs.Contents.{Contents}
+use Rattle.kob_names.specs.declared.kinds.Operation.TheVariants.{Describe}
+pub use Rattle.kob_names.specs.declared.verdict.Verdict.{Verdict}
+pub use Rattle.kob_names.specs.Granted.{is_granted}
 use Rattle.kob_authorizer.specs.Decide.{decide}
 use Rattle.kob_authorizer.specs.Question.{Question, question_of}
-use Rattle.kob_rights.specs.Check.{Check}
-use Rattle.kob_rights.specs.declared.event.Event.{Event}
-use Rattle.kob_rights.specs.declared.reply.Reply.{Reply}
-use Rattle.kob_rights.specs.declared.reply.Reply.TheVariants.{Denied}
-use Rattle.kob_rights.specs.Table.{rights, denial_code}
+pub use Rattle.kob_rights.specs.Table.{Check, on_cluster, on_group, on_topic, denial_code, rights}
+pub use Rattle.kob_rights.specs.declared.reply.Reply.TheVariants.{Denied, Done, Refused}
+use Rattle.kob_broker.specs.State.{Contents, Event, Reply}
+use Rattle.kob_broker.specs.declared.verdicts.Verdicts.{Verdicts}
+use Rattle.kob_broker.specs.declared.verdicts.Verdicts.TheVariants.{Only, Either}
 
 -- what is asked of the authorizer for an alternative
 abbrev pub question : Event → Check → Question
@@ -42,3 +42,18 @@ denial_naming access event blamed =
 abbrev pub denial_of : Contents → Event → Option Reply
 denial_of access event =
     option_map (denial_naming access event) (first_unmet access event 0 (rights event.request))
+
+-- the verdicts of one clause
+abbrev pub verdicts_view : Verdicts → List Verdict
+verdicts_view (Only verdict) = verdict ∷ []
+verdicts_view (Either first second) = first ∷ second ∷ []
+
+-- the bindings in force let the principal describe the topic, the group of that name, the cluster
+abbrev pub describes_topic : Contents → Event → List ℕ → Bool
+describes_topic access event name = is_granted (verdict access event (on_topic Describe name))
+
+abbrev pub describes_group : Contents → Event → List ℕ → Bool
+describes_group access event name = is_granted (verdict access event (on_group Describe name))
+
+abbrev pub describes_cluster : Contents → Event → Bool
+describes_cluster access event = is_granted (verdict access event (on_cluster Describe))

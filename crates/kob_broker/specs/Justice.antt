@@ -1,22 +1,46 @@
--- What the replies of a broker say, in terms of the bindings in force when each event came.
-use Rattle.std.specs.Prelude.{◌≡◌, ℕ, List, [], ◌∷◌, Some, false, take, slice_get, IsTrue, ◌⊎◌}
-use Rattle.std.specs.List.{AllByRecursion}
-use Rattle.kob_names.specs.declared.verdict.Verdict.{Verdict}
-use Rattle.kob_authorizer.specs.Contents.{Contents}
+-- The bindings in force at an event's place, and what the replies of a run say in their terms.
+use Rattle.std.specs.Prelude.{◌≡◌, ◌↔◌, ◌⊎◌, ◌+◌, ℕ, Bool, true, false, IsTrue, List, [], ◌∷◌, Option, Some, None, length, map, slice_get, take}
+use Rattle.std.specs.List.{AllByRecursion, AllZip}
+use Rattle.kob_authorizer.specs.Deletion.{without_taken}
 use Rattle.kob_authorizer.specs.Meaning.{IsTrueVerdict}
-use Rattle.kob_rights.specs.Table.{rights, denial_code}
-use Rattle.kob_rights.specs.Check.{Check}
-use Rattle.kob_rights.specs.declared.code.Code.{Code}
-use Rattle.kob_rights.specs.declared.event.Event.{Event}
-use Rattle.kob_rights.specs.declared.reason.Reason.{Reason}
-use Rattle.kob_rights.specs.declared.reply.Reply.{Reply}
-use Rattle.kob_rights.specs.declared.reply.Reply.TheVariants.{Denied, Refused, Done}
-use Rattle.kob_names.specs.Granted.{is_granted}
-use Rattle.kob_broker.specs.Denial.{question, verdict}
-use Rattle.kob_broker.specs.InForce.{in_force_at}
-use Rattle.kob_partition.specs.Meaning.{Meaning}
-use Rattle.kob_broker.specs.State.{State}
-use Rattle.kob_broker.specs.Step.{replies_of, step}
+use Rattle.kob_groups.specs.Groups.{group_names}
+use Rattle.kob_rights.specs.Requests.{AddBindings, Append, GiveProducerId, RemoveBindings, Write, write_of}
+pub use Rattle.kob_rights.specs.declared.code.Code.{Code}
+use Rattle.kob_rights.specs.declared.reason.Reason.TheVariants.{OffsetsSpent, ProducerIdsSpent, SerialsSpent}
+use Rattle.kob_rights.specs.declared.reply.Body.TheVariants.{Groups, Topics}
+use Rattle.kob_rights.specs.declared.request.Request.TheVariants.{ListGroups}
+use Rattle.kob_broker.specs.Denial.{Check, Denied, Done, Refused, Verdict, denial_code, describes_cluster, describes_group, describes_topic, is_granted, question, rights, verdict}
+use Rattle.kob_broker.specs.State.{Contents, Event, Meaning, Reason, Reply, Request, State, listed, with_bindings}
+use Rattle.kob_broker.specs.Step.{replies_of, state_after, step}
+use Rattle.kob_broker.specs.Topics.{metadata_request}
+
+-- what is written does this to the bindings; no other kind touches them
+abbrev pub changed_access : Option Write → Contents → Contents
+changed_access (Some (AddBindings create)) access = with_bindings create.drafts access
+changed_access (Some (RemoveBindings delete)) access = without_taken delete.filter access
+changed_access _ access = access
+
+-- they are changed by what was done, and by nothing else
+abbrev pub access_after : Reply → Request → Contents → Contents
+access_after (Done body) request access = changed_access (write_of request) access
+access_after reply request access = access
+
+-- the bindings in force after events with these replies
+abbrev pub in_force : List Event → List Reply → Contents → Contents
+in_force [] replies access = access
+in_force (event ∷ events) [] access = access
+in_force (event ∷ events) (reply ∷ replies) access =
+    in_force events replies (access_after reply event.request access)
+
+module _ {P : Type 0} (m : Meaning P) where
+  -- the bindings in force after the first k events of a run
+  abbrev pub in_force_at : List Event → State P → ℕ → Contents
+  in_force_at events s k = in_force (take k events) (take k (replies_of m events s)) s.access
+
+  -- at each place of a run the broker holds the bindings that are in force there
+  abbrev pub HoldsInForce : List Event → State P → Type 0
+  HoldsInForce events s = (k : ℕ)
+      → (state_after m (take k events) s).access ≡ in_force_at events s k
 
 -- the right is granted by the bindings in force
 abbrev pub Grants : Contents → Event → Check → Type 0
@@ -41,11 +65,7 @@ pub record IsBlame (access : Contents) (event : Event) (check : Check)
 
 -- a verdict for each alternative, in order
 abbrev pub EachBlamed : Contents → Event → List Check → List Verdict → Type 0
-EachBlamed access event [] [] = Unit {0}
-EachBlamed access event (check ∷ checks) (blamed ∷ rest) =
-    IsBlame access event check blamed × EachBlamed access event checks rest
-EachBlamed access event [] (blamed ∷ rest) = ⊥
-EachBlamed access event (check ∷ checks) [] = ⊥
+EachBlamed access event checks blamed = AllZip (IsBlame access event) checks blamed
 
 -- the denial is for the first clause of which no alternative is granted
 pub record IsDenial (access : Contents) (event : Event) (code : Code)
@@ -77,8 +97,7 @@ module _ {P : Type 0} (m : Meaning P) where
     pub refused : (code : Code) (reason : Reason)
         → (step m s event).reply ≡ Refused code reason → (step m s event).state ≡ s
 
--- equal bindings in force under equal serials, equal super users and an equal switch; the serials
--- that come next may differ
+-- equal bindings under equal serials, super users and switch; the serials to come may differ
 pub record AgreeOnAccess (one other : Contents) : Type 0 where
   pub entries : one.entries ≡ other.entries
   pub supers : one.supers ≡ other.supers
@@ -86,9 +105,76 @@ pub record AgreeOnAccess (one other : Contents) : Type 0 where
 
 -- one is a denial exactly where the other is the same denial
 pub record SameDenial (one other : Reply) : Type 0 where
-  pub from :
-      (code : Code) (verdicts : List Verdict) → one ≡ Denied code verdicts → other
-      ≡ Denied code verdicts
-  pub to :
-      (code : Code) (verdicts : List Verdict) → other ≡ Denied code verdicts → one
-      ≡ Denied code verdicts
+  pub denied : (code : Code) (verdicts : List Verdict)
+      → (one ≡ Denied code verdicts) ↔ (other ≡ Denied code verdicts)
+
+-- x stands in the list
+abbrev pub StandsIn : {A : Type 0} → A → List A → Type 0
+StandsIn x [] = ⊥
+StandsIn x (y ∷ ys) = (x ≡ y) ⊎ StandsIn x ys
+
+-- the listed are those of all that are shown, in the order of all
+abbrev pub AreThose : {A : Type 0} → (A → Type 0) → List A → List A → Type 0
+AreThose shown [] [] = Unit {0}
+AreThose shown (x ∷ xs) [] = ⊥
+AreThose shown [] (y ∷ ys) = (¬ shown y) × AreThose shown [] ys
+AreThose shown (x ∷ xs) (y ∷ ys) =
+    (shown y × ((x ≡ y) × AreThose shown xs ys)) ⊎ ((¬ shown y) × AreThose shown (x ∷ xs) ys)
+
+-- what is listed is shown and stands among all, and the other way round, in the order of all
+pub record Lists {A : Type 0} (shown : A → Type 0) (listed all : List A) : Type 0 where
+  pub holds : (x : A) → StandsIn x listed ↔ (shown x × StandsIn x all)
+  pub in_order : AreThose shown listed all
+
+-- the bindings let the principal describe the topic
+abbrev pub IsShownTopic : Contents → Event → List ℕ × ℕ → Type 0
+IsShownTopic access event topic = IsTrue (describes_topic access event topic.0)
+
+-- the bindings let the principal describe the group, or the cluster
+abbrev pub IsShownGroup : Contents → Event → List ℕ → Type 0
+IsShownGroup access event name =
+    IsTrue (describes_cluster access event) ⊎ IsTrue (describes_group access event name)
+
+module _ {P : Type 0} where
+  -- a listing of topics has those that are shown, each with its number of partitions, in order
+  abbrev pub ListsTopics : Contents → State P → Event → Reply → Type 0
+  ListsTopics access s event reply = event.request ≡ metadata_request None
+      → (topics : List (List ℕ × ℕ)) × (reply ≡ Done (Topics topics))
+      × Lists (IsShownTopic access event) topics (map listed s.topics)
+
+  -- the reply to a request for the groups lists those that are shown, in order of the first commit
+  abbrev pub ListsGroups : Contents → State P → Event → Reply → Type 0
+  ListsGroups access s event reply = event.request ≡ ListGroups
+      → (groups : List (List ℕ)) × (reply ≡ Done (Groups groups))
+      × Lists (IsShownGroup access event) groups (group_names s.groups)
+
+module _ {P : Type 0} (m : Meaning P) where
+  -- each listing of a run shows what the bindings in force at its place let its principal describe
+  abbrev pub EachLists : List Event → State P → Type 0
+  EachLists events s = (k : ℕ) (event : Event) (reply : Reply)
+      → slice_get events k ≡ Some event → slice_get (replies_of m events s) k ≡ Some reply
+      → ListsTopics (in_force_at m events s k) (state_after m (take k events) s) event reply
+      × ListsGroups (in_force_at m events s k) (state_after m (take k events) s) event reply
+
+-- what a write asks for: an offset for each record, a serial for each draft, or one producer id
+abbrev pub asked_of : Option Write → ℕ
+asked_of (Some (Append produce)) = length produce.batch.records
+asked_of (Some (AddBindings create)) = length create.drafts
+asked_of (Some GiveProducerId) = 1
+asked_of _ = 0
+
+abbrev pub asked_in : List Event → ℕ
+asked_in [] = 0
+asked_in (event ∷ events) = asked_of (write_of event.request) + asked_in events
+
+-- no offset, producer id or serial is left
+abbrev pub is_spent : Reason → Bool
+is_spent OffsetsSpent = true
+is_spent ProducerIdsSpent = true
+is_spent SerialsSpent = true
+is_spent _ = false
+
+-- the reply doesn't say that a limit is spent
+abbrev pub SaysNothingSpent : Reply → Type 0
+SaysNothingSpent (Refused code reason) = is_spent reason ≡ false
+SaysNothingSpent reply = Unit {0}

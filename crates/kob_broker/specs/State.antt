@@ -1,11 +1,17 @@
--- What a broker holds, whatever its partitions are.
+-- What a broker holds, whatever its partitions are. The types that the definitions of the broker
+-- speak of are passed on from here.
 use Rattle.std.specs.Prelude.{ℕ, List, [], map}
-use Rattle.kob_authorizer.specs.Contents.{Contents, fresh_contents}
+pub use Rattle.kob_authorizer.specs.Contents.{Contents, fresh_contents}
 use Rattle.kob_authorizer.specs.Creation.{addition}
-use Rattle.kob_catalog.specs.Topics.{Topic, topics_map}
+pub use Rattle.kob_catalog.specs.Topics.{Topic, has_partition, has_topic, listed, listed_where, partition_count, partition_of, topic_map, topics_map, with_partition, without_topic}
 use Rattle.kob_groups.specs.Groups.{Groups, no_groups}
-use Rattle.kob_names.specs.Binding.{Binding}
-use Rattle.kob_names.specs.declared.settings.Settings.{Settings}
+pub use Rattle.kob_names.specs.Binding.{Binding}
+pub use Rattle.kob_names.specs.declared.settings.Settings.{Settings}
+pub use Rattle.kob_partition.specs.Meaning.{Meaning}
+pub use Rattle.kob_rights.specs.declared.event.Event.{Event}
+pub use Rattle.kob_rights.specs.declared.reason.Reason.{Reason}
+pub use Rattle.kob_rights.specs.declared.reply.Reply.{Reply}
+pub use Rattle.kob_rights.specs.declared.request.Request.{Request}
 
 -- the topics in order of creation, the groups with their committed offsets, the bindings in force
 -- with the super users and the switch, and the producer id that is returned next

@@ -1,17 +1,112 @@
--- What a broker does: one event is one step.
-use Rattle.std.specs.Prelude.{List, [], ◌∷◌, Option, Some, None}
-use Rattle.kob_rights.specs.declared.event.Event.{Event}
-use Rattle.kob_rights.specs.declared.reply.Reply.{Reply}
-use Rattle.kob_broker.specs.Denial.{denial_of}
-use Rattle.kob_broker.specs.Effect.{Outcome, effect}
-use Rattle.kob_partition.specs.Meaning.{Meaning}
-use Rattle.kob_broker.specs.State.{State}
+-- What a broker does: one event is one step. The tables tell what each kind of request does.
+use Rattle.std.specs.Prelude.{◌≡◌, ◌+◌, ℕ, Bool, List, [], ◌∷◌, Option, Some, None}
+use Rattle.kob_authorizer.specs.Deletion.{bindings_taken, without_taken}
+use Rattle.kob_groups.specs.Groups as groups
+use Rattle.kob_partition.specs.Retained.{Plain, plain_meaning, retained_meaning, retained_of}
+use Rattle.kob_rights.specs.Requests.{AddBindings, AddTopic, AdvanceStart, Append, CommitOffset, GiveProducerId, RemoveBindings, RemoveGroup, RemoveTopic, Write, partition_named, write_of}
+use Rattle.kob_rights.specs.declared.reply.Body.{Body}
+use Rattle.kob_rights.specs.declared.reply.Body.TheVariants as bodies
+pub use Rattle.kob_rights.specs.declared.request.Request.TheVariants.{Produce, Fetch, ListOffsets, Metadata, OffsetCommit, OffsetFetch, ListGroups, DeleteGroups, CreateTopics, DeleteTopics, DeleteRecords, InitProducerId, DescribeAcls, CreateAcls, DeleteAcls}
+use Rattle.kob_broker.specs.Bindings.{create_acls_reasons, created_serials}
+use Rattle.kob_broker.specs.Denial.{Done, Refused, denial_of}
+use Rattle.kob_broker.specs.Groups.{delete_groups_reasons, groups_shown, offset_commit_after, offset_commit_reasons, offset_committed, offset_fetch_reasons}
+use Rattle.kob_broker.specs.Reasons.{end_at, first_reason, named_reasons}
+use Rattle.kob_broker.specs.Records.{code_of, delete_records_after, delete_records_reasons, fetch_reasons, fetched_at, init_producer_reasons, judged_at, offset_at, offset_told, produce_after, produce_reasons, start_after}
+use Rattle.kob_broker.specs.State.{Event, Meaning, Reason, Reply, Request, Settings, State, Topic, open_state, partition_of, state_map, with_bindings}
+use Rattle.kob_broker.specs.Topics.{create_topics_after, create_topics_reasons, delete_topics_after, delete_topics_reasons, metadata_of, metadata_reasons}
+
+-- a reply, and the state that it leaves
+pub record Outcome (P : Type 0) : Type 0 where
+  pub reply : Reply
+  pub state : State P
+
+module _ {P : Type 0} where
+  -- the partition of that number of the topic of that name, if there is one
+  abbrev pub partition_in : List (Topic P) → Option (List ℕ × ℕ) → Option P
+  partition_in topics None = None
+  partition_in topics (Some name) = partition_of name.0 name.1 topics
+
+  -- the partition that a request names, if there is one
+  abbrev pub named : State P → Request → Option P
+  named s request = partition_in s.topics (partition_named request)
 
 module _ {P : Type 0} (m : Meaning P) where
+  -- the reasons to refuse a request, in order, each with whether it holds
+  abbrev pub reasons_against : State P → Option P → Request → List (Bool × Reason)
+  reasons_against s found (Produce produce) = produce_reasons m s found produce
+  reasons_against s found (Fetch fetch) = fetch_reasons m s found fetch
+  reasons_against s found (ListOffsets asked) = named_reasons asked.topic s.topics found
+  reasons_against s found (Metadata asked) = metadata_reasons s.topics asked.topic
+  reasons_against s found (OffsetCommit commit) = offset_commit_reasons s found commit
+  reasons_against s found (OffsetFetch asked) = offset_fetch_reasons asked
+  reasons_against s found (DeleteGroups delete) = delete_groups_reasons s.groups delete
+  reasons_against s found (CreateTopics create) = create_topics_reasons m s create
+  reasons_against s found (DeleteTopics delete) = delete_topics_reasons s delete
+  reasons_against s found (DeleteRecords delete) = delete_records_reasons m s found delete
+  reasons_against s found InitProducerId = init_producer_reasons s.next_producer
+  reasons_against s found (CreateAcls create) = create_acls_reasons s.access create
+  reasons_against s found _ = []
+
+  -- the body of the reply to an event whose request is done
+  abbrev pub body : State P → Option P → Event → Request → Body
+  body s found event (Produce produce) =
+      bodies.Offset (offset_told (judged_at m found produce.batch) (end_at m found))
+  body s found event (Fetch fetch) = bodies.Records (fetched_at m found fetch)
+  body s found event (ListOffsets asked) = bodies.Offset (offset_at m found asked.which)
+  body s found event (Metadata asked) =
+      bodies.Topics (metadata_of s.access event s.topics asked.topic)
+  body s found event (OffsetCommit commit) = bodies.Committed
+  body s found event (OffsetFetch asked) = bodies.Commit (offset_committed s.groups asked)
+  body s found event ListGroups =
+      bodies.Groups (groups_shown s.access event (groups.group_names s.groups))
+  body s found event (DeleteGroups delete) = bodies.Deleted
+  body s found event (CreateTopics create) = bodies.Created
+  body s found event (DeleteTopics delete) = bodies.Deleted
+  body s found event (DeleteRecords delete) = bodies.Start (start_after m found delete.before)
+  body s found event InitProducerId = bodies.Producer s.next_producer 0
+  body s found event (DescribeAcls asked) =
+      bodies.Bindings (bindings_taken asked.filter s.access.entries)
+  body s found event (CreateAcls create) = bodies.Serials (created_serials s.access create)
+  body s found event (DeleteAcls delete) =
+      bodies.Bindings (bindings_taken delete.filter s.access.entries)
+
+  -- the state that it leaves; a request of a kind that only reads leaves the state as it was
+  abbrev pub after_write : State P → Option P → Option Write → State P
+  after_write s found None = s
+  after_write s found (Some (Append produce)) = produce_after m s found produce
+  after_write s found (Some (CommitOffset commit)) = offset_commit_after s commit
+  after_write s found (Some (RemoveGroup delete)) =
+      record s { groups = groups.without_group delete.group s.groups }
+  after_write s found (Some (AddTopic create)) = create_topics_after m s create
+  after_write s found (Some (RemoveTopic delete)) = delete_topics_after s delete.name
+  after_write s found (Some (AdvanceStart delete)) = delete_records_after m s found delete
+  after_write s found (Some GiveProducerId) =
+      record s { next_producer = s.next_producer + 1 }
+  after_write s found (Some (AddBindings create)) =
+      record s { access = with_bindings create.drafts s.access }
+  after_write s found (Some (RemoveBindings delete)) =
+      record s { access = without_taken delete.filter s.access }
+
+  abbrev pub after : State P → Option P → Request → State P
+  after s found request = after_write s found (write_of request)
+
+  abbrev pub refusal : State P → Request → Option Reason
+  refusal s request = first_reason (reasons_against s (named s request) request)
+
+  -- refused for the first reason that holds, or else done; `event` tells who asks
+  abbrev pub effect_by : Option Reason → State P → Option P → Event → Request → Outcome P
+  effect_by (Some reason) s found event request =
+      record { reply = Refused (code_of reason) reason; state = s }
+  effect_by None s found event request =
+      record { reply = Done (body s found event request); state = after s found request }
+
+  abbrev pub effect : State P → Event → Request → Outcome P
+  effect s event request = effect_by (refusal s request) s (named s request) event request
+
   -- denied with the state as it was, otherwise the request's effect
   abbrev pub step_by : Option Reply → State P → Event → Outcome P
   step_by (Some denial) s event = record { reply = denial; state = s }
-  step_by None s event = effect m s event event.request
+  step_by None s event = effect s event event.request
 
   abbrev pub step : State P → Event → Outcome P
   step s event = step_by (denial_of s.access event) s event
@@ -25,3 +120,24 @@ module _ {P : Type 0} (m : Meaning P) where
   abbrev pub state_after : List Event → State P → State P
   state_after [] s = s
   state_after (event ∷ events) s = state_after events (step s event).state
+
+-- what a fresh broker keeps of no batches is what a fresh broker over all accepted batches has
+abbrev pub OpensAlike : Settings → Type 0
+OpensAlike settings = state_map retained_of (open_state settings) ≡ open_state settings
+
+-- the same reply, and the state of which the same is kept
+pub record StepsAlike (s : State Plain) (event : Event) : Type 0 where
+  pub reply :
+      (step retained_meaning (state_map retained_of s) event).reply
+      ≡ (step plain_meaning s event).reply
+  pub state :
+      (step retained_meaning (state_map retained_of s) event).state
+      ≡ state_map retained_of (step plain_meaning s event).state
+
+pub record RunsAlike (s : State Plain) (events : List Event) : Type 0 where
+  pub replies :
+      replies_of retained_meaning events (state_map retained_of s)
+      ≡ replies_of plain_meaning events s
+  pub state :
+      state_after retained_meaning events (state_map retained_of s)
+      ≡ state_map retained_of (state_after plain_meaning events s)

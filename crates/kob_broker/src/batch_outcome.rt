@@ -1,7 +1,7 @@
 //! What becomes of a batch.
 
 ghost use Rattle.std.specs.Prelude.{◌≡◌, IfOk};
-ghost use Rattle.kob_broker.specs.BatchOutcome.{prepared_for};
+ghost use Rattle.kob_broker.specs.Records.{prepared_for};
 
 use crate::prepared::{Change, Prepared};
 use kob_names::PlainValue;

@@ -2,7 +2,7 @@
 
 ghost use Rattle.std.specs.Prelude.{◌≡◌, ◌+◌, ◌<◌, MatchOption, nat_le};
 ghost use Rattle.std.specs.List.{sum_by};
-ghost use Rattle.kob_broker.specs.BatchSize.{batch_bytes, header_bytes, key_bytes, record_bytes};
+ghost use Rattle.kob_broker.specs.Records.{batch_bytes, header_bytes, key_bytes, record_bytes};
 
 use kob_names::{Bytes, Header, Record};
 

@@ -28,10 +28,9 @@ impl Broker {
     ghost use Rattle.kob_authorizer.specs.Passing.{create_fault};
     ghost use Rattle.kob_authorizer.specs.declared.fault.CreateFault.TheVariants as limits;
     ghost use Rattle.kob_broker.specs.Change.{IsReady, Makes, reply_of, state_of, state_with};
-    ghost use Rattle.kob_broker.specs.DeleteTopics.{delete_topics_after};
-    ghost use Rattle.kob_broker.specs.Effect.{effect};
+    ghost use Rattle.kob_broker.specs.Topics.{delete_topics_after};
+    ghost use Rattle.kob_broker.specs.Step.{effect, step, replies_of, state_after};
     ghost use Rattle.kob_broker.specs.State.{open_state, settings_of};
-    ghost use Rattle.kob_broker.specs.Step.{step, replies_of, state_after};
     ghost use Rattle.kob_partition.specs.Retained.{retained_meaning};
 
     /// A broker with no topics and no groups, with the opening bindings in force under serials from
@@ -245,7 +244,7 @@ impl Broker {
     }
 
     /// Removes a topic, and the commits on it.
-    #[tactic(auto, using(kob_catalog::proofs::TopicReads::unknown_stays))]
+    #[tactic(auto, using(kob_catalog::proofs::Topics::unknown_stays))]
     fn remove_topic(&mut self, name: &Text)
         ensures { state_of self.new ≡ delete_topics_after (state_of self.old) name.now }
     {

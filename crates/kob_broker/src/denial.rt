@@ -2,9 +2,8 @@
 
 ghost use Rattle.std.specs.Prelude.{◌≡◌, map, IfOk, IfSome, is_none};
 ghost use Rattle.std.specs.Option.{option_map};
-ghost use Rattle.kob_broker.specs.Denial.{denial_of, is_met, verdict};
-ghost use Rattle.kob_broker.specs.Verdicts.{verdicts_view};
-ghost use Rattle.kob_rights.specs.Rights.{check_view, clause_view};
+ghost use Rattle.kob_broker.specs.Denial.{denial_of, is_met, verdict, verdicts_view};
+ghost use Rattle.kob_rights.specs.Table.{check_view, clause_view};
 
 use crate::verdicts::Verdicts;
 use kob_authorizer::Authorizer;

@@ -4,8 +4,7 @@ ghost use Rattle.std.specs.Prelude.{◌≡◌};
 ghost use Rattle.kob_authorizer.specs.Decide.{decide};
 ghost use Rattle.kob_authorizer.specs.Question.{question_of};
 ghost use Rattle.kob_names.specs.Granted.{is_granted};
-ghost use Rattle.kob_broker.specs.ListGroups.{describes_cluster, describes_group};
-ghost use Rattle.kob_broker.specs.Metadata.{describes_topic};
+ghost use Rattle.kob_broker.specs.Denial.{describes_cluster, describes_group, describes_topic};
 
 use kob_authorizer::Authorizer;
 use kob_catalog::Decider;

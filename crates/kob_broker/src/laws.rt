@@ -8,20 +8,17 @@ ghost use Rattle.std.specs.Prelude.{◌≡◌, ◌≤◌, ◌+◌, List, false, 
 ghost use Rattle.kob_authorizer.specs.Contents.{Contents};
 ghost use Rattle.kob_authorizer.specs.Decide.{decide_by_bindings};
 ghost use Rattle.kob_names.specs.declared.settings.Settings.{Settings};
-ghost use Rattle.kob_rights.specs.Offsets.{OffsetsWithin};
-ghost use Rattle.kob_rights.specs.Check.{Check};
+ghost use Rattle.kob_rights.specs.Requests.{OffsetsWithin};
+ghost use Rattle.kob_rights.specs.Table.{Check};
 ghost use Rattle.kob_rights.specs.declared.event.Event.{Event};
-ghost use Rattle.kob_partition.specs.Batches.{Plain};
-ghost use Rattle.kob_partition.specs.Limits.{offset_limit};
-ghost use Rattle.kob_partition.specs.Retained.{Retained, plain_meaning, retained_meaning};
+ghost use Rattle.kob_partition.specs.Retained.{Plain, Retained, plain_meaning, retained_meaning};
+ghost use Rattle.kob_partition.specs.Meaning.{offset_limit};
 ghost use Rattle.kob_broker.specs.Denial.{question, verdict};
-ghost use Rattle.kob_broker.specs.InForce.{HoldsInForce};
-ghost use Rattle.kob_broker.specs.Justice.{AgreeOnAccess, EachJust, LeavesUnlessDone, SameDenial};
-ghost use Rattle.kob_broker.specs.Listings.{EachLists};
-ghost use Rattle.kob_broker.specs.Plainly.{OpensAlike, RunsAlike, StepsAlike};
-ghost use Rattle.kob_broker.specs.Spending.{SaysNothingSpent, asked_in};
+ghost use Rattle.kob_broker.specs.Justice.{AgreeOnAccess, EachJust, EachLists, HoldsInForce};
+ghost use Rattle.kob_broker.specs.Justice.{LeavesUnlessDone, SameDenial, SaysNothingSpent};
+ghost use Rattle.kob_broker.specs.Justice.{asked_in};
+ghost use Rattle.kob_broker.specs.Step.{OpensAlike, RunsAlike, StepsAlike, replies_of, step};
 ghost use Rattle.kob_broker.specs.State.{State, open_state};
-ghost use Rattle.kob_broker.specs.Step.{replies_of, step};
 
 /// Whatever events come after the opening, each is served exactly if the bindings in force at its
 /// place grant every right of the operation table. Each denial names the earliest deny that hits,
@@ -61,7 +58,7 @@ pub fn replies_tell_the_bindings_in_force()
 /// Whether an event is denied, and how, depends only on the event, the settings and the bindings in
 /// force. Two brokers that agree on these give equal denials, whatever serial comes next, what
 /// topics and groups they hold, and however their partitions are kept.
-#[tactic(auto, using(crate::proofs::Denials::same_denial))]
+#[tactic(auto, using(crate::proofs::Just::same_denial))]
 pub fn denials_depend_on_bindings_alone()
     ensures plain { (s t : State Plain) (event : Event) → AgreeOnAccess s.access t.access
         → SameDenial (step plain_meaning s event).reply (step plain_meaning t event).reply }
@@ -108,7 +105,7 @@ pub fn what_is_kept_is_enough()
 /// in force there let the principal describe. They are in order of creation. The reply to
 /// LIST_GROUPS has the groups that they let it describe, or all for a principal that may describe
 /// the cluster. They are in order of their first commit.
-#[tactic(auto, using(crate::proofs::Shown::each_lists))]
+#[tactic(auto, using(crate::proofs::Just::each_lists))]
 pub fn listings_hold_what_is_described()
     ensures plain { (s : State Plain) (events : List Event) → EachLists plain_meaning events s }
     ensures retained { (s : State Retained) (events : List Event)

@@ -3,7 +3,7 @@
 ghost use Rattle.std.specs.List.{flat_map};
 ghost use Rattle.std.specs.Prelude.{◌≡◌, ◌++◌, ◌∷◌, [], IfOk, IfErr, OnOk, None};
 ghost use Rattle.kob_broker.specs.Change.{MakesFor, state_of};
-ghost use Rattle.kob_broker.specs.CreateAcls.{draft_reasons, IsUnlessRefused};
+ghost use Rattle.kob_broker.specs.Bindings.{draft_reasons, IsUnlessRefused};
 ghost use Rattle.kob_broker.specs.Reasons.{first_reason};
 ghost use Rattle.kob_rights.specs.declared.request.Request.TheVariants as requests;
 
@@ -15,7 +15,7 @@ use kob_rights::{Body, CreateAcls, DeleteAcls, DescribeAcls, Reason};
 use std::alloc::{AllocError, Global};
 
 impl Broker {
-    #[tactic(auto, using(crate::proofs::FirstReasons::first_some, crate::proofs::FirstReasons::first_none))]
+    #[tactic(auto, using(crate::proofs::Decisions::first_some, crate::proofs::Decisions::first_none))]
     pub(crate) fn prepare_create_acls(
         &mut self,
         alloc: Global,

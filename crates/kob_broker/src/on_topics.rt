@@ -2,8 +2,8 @@
 
 ghost use Rattle.std.specs.Prelude.{◌≡◌, IfOk, None, OnErr, Some};
 ghost use Rattle.kob_broker.specs.Change.{MakesFor, state_of, Makes};
-ghost use Rattle.kob_broker.specs.Effect.{refusal, effect};
-ghost use Rattle.kob_broker.specs.Metadata.{metadata_request};
+ghost use Rattle.kob_broker.specs.Step.{refusal, effect};
+ghost use Rattle.kob_broker.specs.Topics.{metadata_request};
 ghost use Rattle.kob_partition.specs.Retained.{retained_meaning};
 ghost use Rattle.kob_rights.specs.declared.request.Request.TheVariants as requests;
 

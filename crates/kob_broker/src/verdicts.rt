@@ -3,7 +3,7 @@
 ghost use Rattle.std.specs.Prelude.{◌≡◌, IfOk};
 ghost use Rattle.std.specs.List.{list_any};
 ghost use Rattle.kob_names.specs.Granted.{is_granted};
-ghost use Rattle.kob_broker.specs.Verdicts.{verdicts_view};
+ghost use Rattle.kob_broker.specs.Denial.{verdicts_view};
 
 use kob_names::{Items, Verdict};
 use std::alloc::{AllocError, Global};

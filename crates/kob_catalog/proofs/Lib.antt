@@ -1,5 +1,2 @@
-pub mod Lent
-pub mod Listings
-pub mod Mapped
-pub mod TopicReads
+pub mod Topics
 mod Words

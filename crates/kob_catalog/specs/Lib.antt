@@ -1,11 +1,6 @@
-pub mod Limits
 pub mod Topics
 pub mod Kept
-pub mod Creation
-pub mod TopicLends
-pub mod CatalogLends
+pub mod Lends
 pub use Rattle.kob_names.specs.Same
-pub use Rattle.kob_partition.specs.Append
-pub use Rattle.kob_partition.specs.Log
 pub use Rattle.kob_partition.specs.Meaning
 pub use Rattle.kob_partition.specs.Retained

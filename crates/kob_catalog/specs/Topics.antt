@@ -1,7 +1,15 @@
 -- Topics in order of creation, whatever their partitions are.
 use Rattle.std.specs.Prelude.{ℕ, List, [], Bool, not, Option, filter, is_some, length, map, option_map, slice_get, slice_set, unwrap_or}
 use Rattle.std.specs.Map.{lookup, set_value}
-use Rattle.kob_names.specs.Same.{same_text}
+pub use Rattle.kob_names.specs.Same.{same_text}
+
+-- the most topics at once
+abbrev pub topic_limit : ℕ
+topic_limit = 10000
+
+-- the most partitions of a topic
+abbrev pub partition_limit : ℕ
+partition_limit = 1000
 
 -- a topic's name, with its partitions by number
 abbrev pub Topic : Type 0 → Type 0

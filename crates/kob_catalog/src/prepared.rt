@@ -16,7 +16,7 @@ pub struct PreparedTopic {
 impl Model for PreparedTopic {
     ghost use Rattle.kob_catalog.specs.Kept.{topic_code};
     ghost use Rattle.kob_catalog.specs.Topics.{Topic};
-    ghost use Rattle.kob_partition.specs.Log.{LogKept};
+    ghost use Rattle.kob_partition.specs.Retained.{LogKept};
 
     ghost Value = { Topic LogKept };
 

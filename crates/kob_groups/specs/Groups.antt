@@ -1,9 +1,13 @@
 -- Groups in order of their first commit, and the offsets that they committed.
-use Rattle.std.specs.Prelude.{Bool, not, ◌&&◌, ℕ, List, [], Option, filter, is_some, length, map, nat_eq, nat_le, unwrap_or}
+use Rattle.std.specs.Prelude.{◌≡◌, ◌<◌, ◌&&◌, ℕ, Bool, false, not, List, [], Option, Some, None, filter, is_some, length, map, nat_eq, nat_le, unwrap_or}
 use Rattle.std.specs.Map.{keys_of, lookup}
-use Rattle.indexmap.specs.IndexMap.{insert_entry}
-use Rattle.kob_names.specs.Same.{same_text}
-use Rattle.kob_groups.specs.Limits.{group_limit}
+pub use Rattle.indexmap.specs.IndexMap.{insert_entry}
+pub use Rattle.kob_names.specs.Same.{same_text}
+pub use Rattle.kob_ordered.specs.Ordered.{Ordered, StandsAt, name_at}
+
+-- the most groups at once
+abbrev pub group_limit : ℕ
+group_limit = 10000
 
 -- the offsets on a topic, by partition
 abbrev pub Offsets : Type 0
@@ -78,3 +82,14 @@ without_offsets topic commits =
 abbrev pub without_topic : List ℕ → Groups → Groups
 without_topic topic groups =
     map (λ (group : List ℕ × Commits). (group.0, without_offsets topic group.1)) groups
+
+-- a list has the name; no list has none
+abbrev pub is_among : {V : Type 0} → List ℕ → Option (Ordered V) → Bool
+is_among group None = false
+is_among group (Some names) = is_some (lookup (same_text group) names.entries)
+
+-- no list is empty
+abbrev pub AreFilled : {V : Type 0} → List (List ℕ × Ordered V) → Type 0
+AreFilled {V} lists =
+    (topic : List ℕ) (names : Ordered V) → lookup (same_text topic) lists ≡ Some names
+    → 0 < length names.entries

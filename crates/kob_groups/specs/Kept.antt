@@ -1,21 +1,17 @@
--- What the groups hold, and when there is room for a commit.
-pub use Rattle.kob_groups.specs.Views.{commits_in, offsets_in}
-use Rattle.std.specs.Prelude.{◌≡◌, ℕ, ◌<◌, ◌⊎◌, List, [], IfSome, IsSome, None, Option, Some, nat_eq}
+-- When there is room for a commit.
+use Rattle.std.specs.Prelude.{◌≡◌, ◌<◌, ◌⊎◌, ℕ, nat_eq, List, [], IfSome, IsSome, Option, Some, None}
 use Rattle.std.specs.Map.{lookup}
 use Rattle.std.specs.declared.hash.BuildHasherDefault.{BuildHasherDefault}
 use Rattle.std.specs.declared.hash.FoldHasher.{FoldHasher}
 use Rattle.indexmap.specs.IndexMap.{IndexMap, spare}
-use Rattle.kob_names.specs.Same.{same_text}
-use Rattle.kob_ordered.specs.Ordered.{Ordered, StandsAt, name_at}
-use Rattle.kob_groups.specs.Groups.{CommitPlace, Groups, place_of}
-use Rattle.kob_groups.specs.Listed.{CanList}
-use Rattle.kob_groups.specs.Views.{commits_in, groups_in}
+use Rattle.kob_groups.specs.Groups.{CommitPlace, Groups, Ordered, StandsAt, name_at, place_of, same_text}
+use Rattle.kob_groups.specs.Listed.{CanList, CommitsKept, groups_in}
+pub use Rattle.kob_groups.specs.Listed.{commits_in, offsets_in}
 use Rattle.kob_groups.specs.declared.commit.GroupEntry.{GroupEntry}
 use Rattle.kob_groups.specs.declared.commit.GroupEntry.TheVariants.{GroupAt, NewGroup}
 use Rattle.kob_groups.specs.declared.commit.PreparedCommit.{PreparedCommit}
-use Rattle.kob_groups.specs.declared.commits.Commits.{Commits as CommitsKept}
 use Rattle.kob_groups.specs.declared.commits.TopicEntry.{TopicEntry}
-use Rattle.kob_groups.specs.declared.commits.TopicEntry.TheVariants.{TopicAt, NewTopic}
+use Rattle.kob_groups.specs.declared.commits.TopicEntry.TheVariants.{NewTopic, TopicAt}
 use Rattle.kob_groups.specs.declared.groups.Groups.{Groups as GroupsKept}
 
 abbrev pub groups_of : GroupsKept → Groups
@@ -35,8 +31,7 @@ abbrev pub topic_in : TopicEntry → CommitsKept → List ℕ
 topic_in (TopicAt place) commits = name_at commits.by_topic place
 topic_in (NewTopic topic offsets) commits = topic
 
--- there is room for the offset on the topic at the place; what is put in for a new topic has room
--- too, and no offsets
+-- there is room for the offset on the topic at the place, or on a new one, that has no offsets
 abbrev pub CanPut : TopicEntry → ℕ → CommitsKept → Type 0
 CanPut (TopicAt place) partition commits =
     StandsAt commits.by_topic place (name_at commits.by_topic place)
@@ -61,8 +56,7 @@ place_at (GroupAt place topic) partition groups =
 place_at (NewGroup group commits topic) partition groups =
     place_of group (topic_in topic commits) partition
 
--- there is room for the offset among the commits of the group at the place; what is put in for a
--- new group has room too, and no commits
+-- there is room for the offset among the commits of the group at the place, or of a new one
 abbrev pub CanEnter : GroupEntry → ℕ → Ordered CommitsKept → Type 0
 CanEnter (GroupAt place topic) partition groups =
     StandsAt groups place (name_at groups place)

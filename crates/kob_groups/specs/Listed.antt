@@ -1,14 +1,14 @@
--- Which groups are listed for which topics.
-use Rattle.std.specs.Prelude.{◌≡◌, ℕ, ◌<◌, Bool, true, false, ◌&&◌, List, [], IfSome, Option, Some, None, is_some}
+-- What the maps of the groups hold, and which groups are listed for which topics.
+use Rattle.std.specs.Prelude.{◌≡◌, ◌<◌, ◌&&◌, ℕ, Bool, true, false, List, [], map, IfSome, Option, Some, None, is_some, if◌then◌else◌}
 use Rattle.std.specs.Map.{lookup}
-use Rattle.kob_names.specs.Same.{same_text}
-use Rattle.kob_ordered.specs.Ordered.{StandsAt, name_at}
-use Rattle.kob_groups.specs.Filled.{is_among}
-use Rattle.kob_groups.specs.Groups.{Commits, Groups, commits_of}
-use Rattle.kob_groups.specs.declared.lists.GroupsByTopic.{GroupsByTopic}
+use Rattle.indexmap.specs.IndexMap.{IndexMap}
+use Rattle.kob_groups.specs.Groups.{Commits, Groups, Offsets, StandsAt, commits_of, is_among, name_at, same_text, without_offsets}
+pub use Rattle.kob_groups.specs.declared.commits.Commits.{Commits as CommitsKept}
+pub use Rattle.kob_groups.specs.declared.lists.GroupsByTopic.{GroupsByTopic}
 use Rattle.kob_groups.specs.declared.lists.Listing.{Listing}
 use Rattle.kob_groups.specs.declared.lists.Listing.TheVariants.{InList, NewList}
 
+-- the group is listed for the topic
 abbrev pub is_listed : List ℕ → List ℕ → GroupsByTopic → Bool
 is_listed topic group lists = is_among group (lookup (same_text topic) lists.by_topic.entries)
 
@@ -29,8 +29,7 @@ abbrev pub group_of : Listing → List ℕ
 group_of (InList place group) = group
 group_of (NewList topic group names) = group
 
--- there is room for the group in the list at the place; a new list is empty, has room too, and its
--- topic has none
+-- there is room for the group in the list at the place, or in a new one, for a topic that has none
 abbrev pub HasRoomFor : Listing → GroupsByTopic → Type 0
 HasRoomFor (InList place group) lists =
     StandsAt lists.by_topic place (name_at lists.by_topic place)
@@ -67,3 +66,19 @@ abbrev pub AreListed : Groups → GroupsByTopic → Type 0
 AreListed groups lists =
     (topic group : List ℕ)
     → is_listed topic group lists ≡ has_commits topic (commits_of group groups)
+
+-- the offsets on a topic, a group's commits and the groups, without the room that is there for more
+abbrev pub offsets_in : {S : Type 0} → IndexMap ℕ ℕ S → Offsets
+offsets_in kept = kept.entries
+
+abbrev pub commits_in : CommitsKept → Commits
+commits_in kept = map (λ on. (on.0, offsets_in on.1)) kept.by_topic.entries
+
+abbrev pub groups_in : List (List ℕ × CommitsKept) → Groups
+groups_in entries = map (λ group. (group.0, commits_in group.1)) entries
+
+-- the groups, where the commits on a topic went from those that pass
+abbrev pub without_topic_at : (List ℕ → Bool) → List ℕ → Groups → Groups
+without_topic_at passes topic groups =
+    map (λ (group : List ℕ × Commits).
+    (group.0, if passes group.0 then without_offsets topic group.1 else group.1)) groups

@@ -3,7 +3,7 @@
 ghost use Rattle.std.specs.Prelude.{◌≡◌, IfOk, None, OnErr};
 ghost use Rattle.kob_groups.specs.Groups.{committed_at, place_of, with_commit};
 ghost use Rattle.kob_groups.specs.Kept.{CanEnter, IsNewGroup, place_at};
-ghost use Rattle.kob_groups.specs.Views.{groups_in};
+ghost use Rattle.kob_groups.specs.Listed.{groups_in};
 
 use crate::commits::{Commits, TopicEntry};
 use crate::lists::Listing;
@@ -41,7 +41,7 @@ pub(crate) enum GroupEntry {
 
 /// Reserves capacity for a commit among those of the groups, and copies the names that are new. The
 /// groups are unchanged, also after an error, which is out of memory.
-#[tactic(auto, using(crate::proofs::Found::reserving))]
+#[tactic(auto, using(crate::proofs::Maps::reserving))]
 pub(crate) fn reserve_commit(
     groups: &mut OrderedMap<Commits>,
     alloc: Global,

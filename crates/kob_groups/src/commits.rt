@@ -29,7 +29,7 @@ pub(crate) enum TopicEntry {
 
 impl Commits {
     ghost use Rattle.kob_groups.specs.Kept.{CanPut, topic_in};
-    ghost use Rattle.kob_groups.specs.Views.{commits_in};
+    ghost use Rattle.kob_groups.specs.Listed.{commits_in};
 
     /// No commits. Does not allocate.
     pub(crate) fn new(alloc: Global) -> Commits
@@ -41,7 +41,7 @@ impl Commits {
     }
 
     /// The offset that was committed on a partition.
-    #[tactic(auto, using(crate::proofs::Found::offsets_found))]
+    #[tactic(auto, using(crate::proofs::Maps::offsets_found))]
     pub(crate) fn fetch(&self, topic: &Text, partition: u64) -> Option<u64>
         ensures { result
             ≡ lookup (nat_eq partition) (offsets_on topic.now (commits_in self.now)) }
@@ -51,7 +51,7 @@ impl Commits {
 
     /// Reserves capacity for an offset, unless the partition has one, and copies the name of a
     /// topic that is new. The commits are unchanged, also after an error, which is out of memory.
-    #[tactic(auto, using(crate::proofs::Found::reserving))]
+    #[tactic(auto, using(crate::proofs::Maps::reserving))]
     pub(crate) fn reserve(
         &mut self,
         alloc: Global,

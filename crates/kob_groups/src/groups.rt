@@ -31,7 +31,8 @@ pub struct Groups {
 }
 
 impl Groups {
-    ghost use Rattle.kob_groups.specs.Kept.{CanCommit, commits_in, groups_of, place_in};
+    ghost use Rattle.kob_groups.specs.Kept.{CanCommit, groups_of, place_in};
+    ghost use Rattle.kob_groups.specs.Listed.{commits_in};
 
     /// No groups. Does not allocate.
     pub fn new(alloc: Global) -> Groups
@@ -44,7 +45,7 @@ impl Groups {
     }
 
     /// The offset that a group committed on a partition of a topic. Does not allocate.
-    #[tactic(auto, using(crate::proofs::Found::commits_found))]
+    #[tactic(auto, using(crate::proofs::Maps::commits_found))]
     pub fn fetch(&self, group: &Text, topic: &Text, partition: u64) -> Option<u64>
         ensures { result
             ≡ committed_at (place_of group.now topic.now partition) (groups_of self.now) }
@@ -53,7 +54,7 @@ impl Groups {
     }
 
     /// Whether the group is a new one, and there is no room for one more.
-    #[tactic(auto, using(crate::proofs::Found::has_found, crate::proofs::Found::count_found))]
+    #[tactic(auto, using(crate::proofs::Maps::has_found, crate::proofs::Maps::count_found))]
     fn is_full_for(&self, group: &Text) -> bool
         ensures { result ≡ is_full_for group.now (groups_of self.now) }
     {
@@ -169,7 +170,7 @@ impl Groups {
     }
 
     /// Whether there is a group of that name. Does not allocate.
-    #[tactic(auto, using(crate::proofs::Found::has_found))]
+    #[tactic(auto, using(crate::proofs::Maps::has_found))]
     pub fn contains(&self, name: &Text) -> bool
         ensures { result ≡ has_group name.now (groups_of self.now) }
     {
@@ -177,7 +178,7 @@ impl Groups {
     }
 
     /// Removes a group, with its commits. Does not allocate.
-    #[tactic(auto, using(crate::proofs::Found::has_found, crate::proofs::Found::groups_removed, kob_ordered::proofs::Entries::removed_absent))]
+    #[tactic(auto, using(crate::proofs::Maps::has_found, crate::proofs::Maps::groups_removed, kob_ordered::proofs::Entries::removed_absent))]
     pub fn remove(&mut self, name: &Text) -> Result<(), GroupNotFound>
         ensures found { OnOk result (has_group name.now (groups_of self.old) ≡ true) }
         ensures removed { OnOk result
@@ -205,9 +206,9 @@ impl Groups {
 }
 
 ghost use Rattle.std.specs.Prelude.{ℕ, List, Some, not, ◌&&◌};
-ghost use Rattle.kob_groups.specs.Filled.{is_among};
-ghost use Rattle.kob_groups.specs.Listed.{AreListed, has_commits, is_listed};
-ghost use Rattle.kob_groups.specs.Views.{commits_in, groups_in, without_topic_at};
+ghost use Rattle.kob_groups.specs.Groups.{is_among};
+ghost use Rattle.kob_groups.specs.Listed.{AreListed, has_commits, is_listed, commits_in};
+ghost use Rattle.kob_groups.specs.Listed.{groups_in, without_topic_at};
 ghost use Rattle.kob_names.specs.Same.{same_text};
 
 /// Deletes the commits on a topic of the groups of these names.

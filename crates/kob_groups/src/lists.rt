@@ -3,7 +3,7 @@
 ghost use Rattle.std.specs.Prelude.{[], ◌≡◌, ◌∷◌, ◌<◌, ℕ, List, false, not, ◌&&◌, ◌||◌};
 ghost use Rattle.std.specs.Prelude.{IfOk, IfSome, None, OnErr};
 ghost use Rattle.std.specs.Map.{lookup};
-ghost use Rattle.kob_groups.specs.Filled.{AreFilled, is_among};
+ghost use Rattle.kob_groups.specs.Groups.{AreFilled, is_among};
 ghost use Rattle.kob_names.specs.Same.{same_text};
 ghost use Rattle.kob_ordered.specs.Ordered.{StandsAt, name_at};
 
@@ -67,7 +67,7 @@ impl GroupsByTopic {
     }
 
     /// Reserves capacity for a group in the list at a place, unless it is there.
-    #[tactic(auto, using(crate::proofs::Found::reserving_name))]
+    #[tactic(auto, using(crate::proofs::Maps::reserving_name))]
     fn reserve_name(
         &mut self,
         alloc: Global,

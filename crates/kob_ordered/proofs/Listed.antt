@@ -1,7 +1,58 @@
+-- An element by its place after an edit.
+use Rattle.kob_ordered.proofs.Words.{List, Some, [], arith, cond, insert, length, ltb, nat_tests, option_map, refl, remove, set, slice_get, suc, zero, ℕ, ◌++◌, ◌+◌, ◌-◌, ◌==◌, ◌∷◌, ◌≡◌, ◌≤◌, Equal, Greater, Less, ap, is_eq, is_eq-slice_cmp, name_order, nat_list_cmp_total, ordering_index, ordering_reverse, sym, ◌∙◌, AreListed, IsGap, None, Nth, Option, cases_lt, inl, inr, slice_get_within, ◌<◌, ◌⊎◌}
+use Rattle.kob_ordered.proofs.Places.{equal_names, same_name}
+
+module _ {X : Type 0} where
+  pub get_push : (xs : List X) (y : X) (k : ℕ) → slice_get (xs ++ y ∷ []) k ≡ cond (k == length xs) (Some y) (slice_get xs k)
+  get_push [] y zero = refl
+  get_push [] y (suc k) = grind (arith, nat_tests)
+  get_push (x ∷ xs) y zero = grind (arith, nat_tests)
+  get_push (x ∷ xs) y (suc k) = grind (arith, nat_tests, get_push xs y k)
+
+  pub get_set : (xs : List X) (p : ℕ) (y : X) (k : ℕ)
+      → slice_get (set xs p y) k ≡ cond (k == p) (option_map (λ _. y) (slice_get xs k)) (slice_get xs k)
+  get_set [] p y k = grind (arith, nat_tests)
+  get_set (x ∷ xs) zero y zero = refl
+  get_set (x ∷ xs) zero y (suc k) = grind (arith, nat_tests)
+  get_set (x ∷ xs) (suc p) y zero = grind (arith, nat_tests)
+  get_set (x ∷ xs) (suc p) y (suc k) = grind (arith, nat_tests, get_set xs p y k)
+
+  pub get_insert : (xs : List X) (i : ℕ) (y : X) (k : ℕ) → i ≤ length xs → slice_get (insert xs i y) k
+      ≡ cond (ltb k i) (slice_get xs k) (cond (k == i) (Some y) (slice_get xs (k - 1)))
+  get_insert [] i y k le = grind (arith, nat_tests)
+  get_insert (x ∷ xs) zero y zero le = refl
+  get_insert (x ∷ xs) zero y (suc k) le = grind (arith, nat_tests)
+  get_insert (x ∷ xs) (suc i) y zero le = grind (arith, nat_tests)
+  get_insert (x ∷ xs) (suc i) y (suc k) le = grind (arith, nat_tests, get_insert xs i y k)
+
+  pub get_remove : (xs : List X) (i k : ℕ) → slice_get (remove xs i) k ≡ cond (ltb k i) (slice_get xs k) (slice_get xs (k + 1))
+  get_remove [] zero k = grind (arith, nat_tests)
+  get_remove [] (suc i) k = grind (arith, nat_tests)
+  get_remove (x ∷ xs) zero k = grind (arith, nat_tests)
+  get_remove (x ∷ xs) (suc i) zero = grind (arith, nat_tests)
+  get_remove (x ∷ xs) (suc i) (suc k) = grind (arith, nat_tests, get_remove xs i k)
+
+-- How names compare.
+
+pub equal_from_order : (n m : List ℕ) → name_order n m ≡ Equal → n ≡ m
+equal_from_order n m is = equal_names n m (sym (is_eq-slice_cmp n m) ∙ ap is_eq is)
+
+pub order_of_equal : (n : List ℕ) → name_order n n ≡ Equal
+order_of_equal n = grind (arith, nat_tests, is_eq-slice_cmp n n, same_name n n refl)
+
+pub not_before_itself : (n : List ℕ) → name_order n n ≡ Less → ⊥
+not_before_itself n less = let same = order_of_equal n in cc
+
+pub turned : (n m : List ℕ) → name_order n m ≡ Greater → name_order m n ≡ Less
+turned n m is = nat_list_cmp_total.antisymm m n ∙ ap ordering_reverse is
+
+-- a later name compares no lower
+pub rises : (n m name : List ℕ) → name_order n m ≡ Less
+    → ordering_index (name_order n name) ≤ ordering_index (name_order m name)
+rises n m name less =
+    grind (arith, nat_tests, nat_list_cmp_total.trans n m name less, equal_from_order m name)
+
 -- The places of names in order of the names, after each change.
-use Rattle.kob_ordered.proofs.Words.{AreListed, IsGap, List, None, Nth, Option, Some, [], arith, cases_lt, inl, inr, insert, length, nat_tests, remove, set, slice_get, slice_get_within, ℕ, ◌++◌, ◌+◌, ◌-◌, ◌<◌, ◌∷◌, ◌≡◌, ◌≤◌, ◌⊎◌}
-use Rattle.kob_ordered.proofs.Edits.{get_insert, get_push, get_remove, get_set}
-use Rattle.kob_ordered.proofs.NameOrder.{not_before_itself}
 
 module _ (names : List (Option (List ℕ))) (by_name : List ℕ) (sound : AreListed names by_name) where
   not_later : (i j place : ℕ) → slice_get by_name i ≡ Some place → slice_get by_name j ≡ Some place → i < j → ⊥

@@ -1,5 +1,3 @@
 pub mod Histories
-pub mod Remembering
-pub mod Repeats
 pub mod Showing
 mod Words

@@ -19,18 +19,13 @@ pub get_shown : (rings : List (ℕ × Buffer Sent)) (q : ℕ)
 get_shown rings q =
     fin.get-from_entries nat_cmp_total (map (λ entry. (entry.0, entry.1.items)) rings) q ∙ find_shown rings q
 
--- what is kept of a producer is what its ring holds
-pub sent_by_shown : (rings : List (ℕ × Buffer Sent)) (q : ℕ)
-    → sent_by (recent_in rings) q ≡ unwrap_or (option_map items (lookup (nat_eq q) rings)) []
-sent_by_shown rings q = ap (λ o. unwrap_or o []) (get_shown rings q)
-
 pub sent_by_none : (rings : List (ℕ × Buffer Sent)) (q : ℕ) → lookup (nat_eq q) rings ≡ None
     → sent_by (recent_in rings) q ≡ []
-sent_by_none rings q is = sent_by_shown rings q ∙ ap (λ o. unwrap_or (option_map items o) []) is
+sent_by_none rings q is = grind (arith, nat_tests, unwrap_or, option_map, get_shown)
 
 pub sent_by_ring : (rings : List (ℕ × Buffer Sent)) (q : ℕ) (ring : Buffer Sent) → lookup (nat_eq q) rings ≡ Some ring
     → sent_by (recent_in rings) q ≡ ring.items
-sent_by_ring rings q ring is = sent_by_shown rings q ∙ ap (λ o. unwrap_or (option_map items o) []) is
+sent_by_ring rings q ring is = grind (arith, nat_tests, unwrap_or, option_map, get_shown)
 
 -- tables with the same rings show the same
 pub same_recent : (old new : List (ℕ × Buffer Sent)) → ((q : ℕ) → lookup (nat_eq q) new ≡ lookup (nat_eq q) old)
@@ -38,16 +33,12 @@ pub same_recent : (old new : List (ℕ × Buffer Sent)) → ((q : ℕ) → looku
 same_recent old new same =
     fin.same_map nat_cmp_total fin.nat_cmp-IsAntisymmetric _ _ (λ q. grind (arith, nat_tests, get_shown, same q))
 
-written_is : (here : Bool) (ring : Buffer Sent) (o : Option (Buffer Sent))
-    → option_map items (cond here (Some ring) o) ≡ cond here (Some ring.items) (option_map items o)
-written_is here ring o = grind (arith, nat_tests)
-
 -- a ring that is written, or put in
 pub written : (old new : List (ℕ × Buffer Sent)) (k : ℕ) (ring : Buffer Sent)
     → ((q : ℕ) → lookup (nat_eq q) new ≡ cond (nat_eq k q) (Some ring) (lookup (nat_eq q) old))
     → recent_in new ≡ fin.insert (recent_in old) k ring.items
 written old new k ring is = fin.same_map nat_cmp_total fin.nat_cmp-IsAntisymmetric _ _ (λ q.
-    get_shown new q ∙ ap (option_map items) (is q) ∙ written_is (nat_eq k q) ring (lookup (nat_eq q) old)
+    get_shown new q ∙ ap (option_map items) (is q) ∙ sym (found_is (nat_eq k q) ring (lookup (nat_eq q) old) _ refl)
     ∙ ap (cond (nat_eq k q) (Some ring.items)) (sym (get_shown old q))
     ∙ ap (λ b. cond b (Some ring.items) (fin.get (recent_in old) q))
     (sym (unsigned_tied k q) ∙ (eq_by_cmp_equiv nat_cmp_total).symm k q)
@@ -103,16 +94,13 @@ accepted_first old new recent idem count offset ring after s shown at fresh told
     (ap items pushed ∙ ap (λ r. keep_last r.capacity (r.items ++ s ∷ [])) fresh
     ∙ ap (λ x. keep_last memory_length (x ∷ [])) told) is
 
-shown_some : (o : Option (Buffer Sent)) → is_some (option_map items o) ≡ is_some o
-shown_some o = grind (arith, nat_tests)
-
 by_ready : {b : Bool} (ready : Bool) → b ≡ true → (b || ready) ≡ true
 by_ready ready is = ap (λ x. x || ready) is
 
 -- a producer that has a ring can be put in, and one that has none only with a ring that is ready
 pub can_accept : (rings : List (ℕ × Buffer Sent)) (kept : TableKept) (producer : ℕ) → recent_in rings ≡ kept.recent
     → is_some (lookup (nat_eq producer) rings) ≡ true → CanAccept kept producer
-can_accept rings kept producer shown there = grind (arith, nat_tests, by_ready, is_some, get_shown, shown_some)
+can_accept rings kept producer shown there = grind (arith, nat_tests, by_ready, is_some, get_shown)
 
 none_accepted : (recent : Recent) (producer : ℕ) (o : Option (List Sent)) (ready : Bool) → fin.get recent producer ≡ o
     → o ≡ None → ready ≡ false → (is_some (fin.get recent producer) || ready) ≡ true → ⊥
@@ -138,9 +126,6 @@ fresh_is o ring is at = grind (arith, nat_tests)
 pub some_is : (o : Option (Buffer Sent)) (ring : Buffer Sent) → Some ring ≡ o → IsSome o
 some_is o ring at = subst (λ x. IsSome x) at refl
 
-ready_if : (has ready : Bool) → has ≡ false → (has || ready) ≡ true → ready ≡ true
-ready_if has ready is can = ap (λ b. b || ready) (sym is) ∙ can
-
 and_right : (a b : Bool) → (a && b) ≡ true → b ≡ true
 and_right a b is = grind (arith, nat_tests)
 
@@ -149,4 +134,4 @@ pub room_for : (rings : List (ℕ × Buffer Sent)) (kept : TableKept) (producer 
     → recent_in rings ≡ kept.recent → (there && nat_lt 0 room) ≡ kept.ready → None ≡ lookup (nat_eq producer) rings
     → CanAccept kept producer → 0 < room
 room_for rings kept producer there room shown ready none can =
-    grind (arith, nat_tests, is_some, get_shown, ltb-true, and_right, ready_if)
+    grind (arith, nat_tests, is_some, get_shown, ltb-true, and_right)

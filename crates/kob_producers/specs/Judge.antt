@@ -1,14 +1,24 @@
 -- How a batch stands to those that its producer sent before: the rules of Kafka's idempotent
--- producer (KIP-98), whose broker looks at the last five batches.
-use Rattle.std.specs.Prelude.{ℕ, ◌==◌, ◌&&◌, List, Bool, nat_lt, Option, Some, None, if◌then◌else◌}
+-- producer (KIP-98), whose sequences wrap and whose broker looks at the last five batches.
+use Rattle.std.specs.Prelude.{◌+◌, ◌-◌, ◌%◌, ◌==◌, ◌&&◌, ℕ, Bool, nat_lt, List, Option, Some, None, if◌then◌else◌}
 use Rattle.std.specs.List.{find}
 use Rattle.circular_buffer.specs.Buffer.{keep_last, last_item}
-use Rattle.kob_names.specs.declared.batch.Idem.{Idem}
-use Rattle.kob_producers.specs.declared.sent.Sent.{Sent}
-use Rattle.kob_producers.specs.declared.judge.Judgement.{Judgement}
-use Rattle.kob_producers.specs.declared.judge.Judgement.TheVariants.{Next, Repeat}
-use Rattle.kob_producers.specs.declared.judge.Judgement.TheVariants.{OutOfOrder, OldEpoch}
-use Rattle.kob_producers.specs.Sequence.{next_sequence, last_of}
+pub use Rattle.kob_names.specs.declared.batch.Idem.{Idem}
+pub use Rattle.kob_producers.specs.declared.sent.Sent.{Sent}
+pub use Rattle.kob_producers.specs.declared.judge.Judgement.{Judgement}
+pub use Rattle.kob_producers.specs.declared.judge.Judgement.TheVariants.{Next, OldEpoch, OutOfOrder, Repeat}
+
+-- how many sequences there are
+abbrev pub sequences : ℕ
+sequences = 2147483648
+
+-- the sequence after this one
+abbrev pub next_sequence : ℕ → ℕ
+next_sequence sequence = (sequence + 1) % sequences
+
+-- the sequence of the last of so many records from base
+abbrev pub last_of : ℕ → ℕ → ℕ
+last_of base count = (base + (count - 1)) % sequences
 
 -- the batch is one that was sent before
 abbrev pub is_same : Idem → ℕ → Sent → Bool

@@ -3,7 +3,7 @@
 ghost use Rattle.std.specs.Prelude.{◌≡◌, ◌<◌, OnOk, IfSome, IsSome, Some, nat_eq};
 ghost use Rattle.std.specs.HashMap.{spare, Updates};
 ghost use Rattle.kob_producers.specs.Judge.{judge};
-ghost use Rattle.kob_producers.specs.Rings.{IsFresh};
+ghost use Rattle.kob_producers.specs.Recent.{IsFresh};
 
 use crate::judge::{Judgement, judge_first, judge_ring};
 use crate::sent::Sent;
@@ -30,8 +30,8 @@ pub(crate) struct Rings {
 impl Model for Rings {
     ghost use Rattle.std.specs.Prelude.{◌&&◌, nat_lt, is_some, IfSome};
     ghost use Rattle.std.specs.HashMap.{spare};
-    ghost use Rattle.kob_producers.specs.Rings.{recent_in, HasRings, IsFresh};
-    ghost use Rattle.kob_producers.specs.Table.{TableKept, table_code};
+    ghost use Rattle.kob_producers.specs.Recent.{recent_in, HasRings, IsFresh, TableKept};
+    ghost use Rattle.kob_producers.specs.Recent.{table_code};
 
     ghost Value = { TableKept };
 
@@ -47,8 +47,7 @@ impl Model for Rings {
 
 impl Rings {
     ghost use Rattle.std.specs.FinMap as map;
-    ghost use Rattle.kob_producers.specs.Recent.{sent_by, recent_after};
-    ghost use Rattle.kob_producers.specs.Table.{CanAccept};
+    ghost use Rattle.kob_producers.specs.Recent.{sent_by, recent_after, CanAccept};
 
     /// No rings. Does not allocate.
     pub(crate) fn new(alloc: Global) -> Self

@@ -2,7 +2,7 @@
 //! idempotent producer.
 
 ghost use Rattle.std.specs.Prelude.{◌≡◌, ◌<◌};
-ghost use Rattle.kob_producers.specs.Sequence.{sequences, next_sequence, last_of};
+ghost use Rattle.kob_producers.specs.Judge.{sequences, next_sequence, last_of};
 
 /// The number of sequences.
 const SEQUENCES: u64 = 2_147_483_648;

@@ -22,7 +22,7 @@ pub struct ProducerTable {
 
 impl Model for ProducerTable {
     ghost use Rattle.std.specs.Prelude.{option_map};
-    ghost use Rattle.kob_producers.specs.Table.{TableKept, table_code, table_of};
+    ghost use Rattle.kob_producers.specs.Recent.{TableKept, table_code, table_of};
 
     ghost Value = { TableKept };
 
@@ -35,7 +35,7 @@ impl ProducerTable {
     ghost use Rattle.std.specs.FinMap as map;
     ghost use Rattle.kob_producers.specs.declared.sent.Sent.{Sent};
     ghost use Rattle.kob_producers.specs.Recent.{sent_by, recent_after, Keeps, with_sent};
-    ghost use Rattle.kob_producers.specs.Table.{CanAccept};
+    ghost use Rattle.kob_producers.specs.Recent.{CanAccept};
 
     /// A table with no batches. Does not allocate.
     pub fn new(alloc: Global) -> Self

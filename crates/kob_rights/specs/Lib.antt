@@ -1,10 +1,4 @@
-pub mod Check
-pub mod Rights
-pub mod Code
 pub mod Reason
 pub mod Table
-pub mod Bodies
-pub mod Offsets
-pub mod Partitions
-pub mod Writes
+pub mod Requests
 pub use Rattle.kob_names.specs.Access

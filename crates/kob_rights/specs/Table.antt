@@ -1,14 +1,52 @@
--- The operation table (Kafka's documentation, "Authorization and ACLs").
-use Rattle.std.specs.Prelude.{ℕ, List, [], ◌∷◌, Option, Some, None, slice_index_or}
+-- The operation table (Kafka's documentation, "Authorization and ACLs"), and the codes of denials.
+use Rattle.std.specs.Prelude.{List, ℕ, codes, [], ◌∷◌, Option, Some, None, slice_index_or}
+use Rattle.kob_names.specs.declared.kinds.Operation.{Operation}
+use Rattle.kob_names.specs.declared.kinds.ResourceKind.{ResourceKind}
+use Rattle.kob_names.specs.declared.kinds.ResourceKind.TheVariants.{Topic, Group, Cluster}
+use Rattle.kob_rights.specs.declared.check.Clause.{Clause}
+use Rattle.kob_rights.specs.declared.check.Clause.TheVariants.{Only, Either}
+use Rattle.kob_rights.specs.declared.check.Rights.{Rights}
+use Rattle.kob_rights.specs.declared.check.Rights.TheVariants.{Free, One, Both}
 use Rattle.kob_names.specs.declared.batch.Idem.{Idem}
 use Rattle.kob_names.specs.declared.kinds.Operation.TheVariants.{Read, Write, Create, Delete, Alter, Describe, IdempotentWrite}
-use Rattle.kob_names.specs.declared.kinds.ResourceKind.{ResourceKind}
-use Rattle.kob_names.specs.declared.kinds.ResourceKind.TheVariants.{Group, Cluster}
-use Rattle.kob_rights.specs.Check.{Check, on_topic, on_group, on_cluster}
 use Rattle.kob_rights.specs.declared.code.Code.{Code}
 use Rattle.kob_rights.specs.declared.code.Code.TheVariants.{TopicAuthorizationFailed, GroupAuthorizationFailed, ClusterAuthorizationFailed}
 use Rattle.kob_rights.specs.declared.request.Request.{Request}
 use Rattle.kob_rights.specs.declared.request.Request.TheVariants.{Produce, Fetch, ListOffsets, Metadata, OffsetCommit, OffsetFetch, ListGroups, DeleteGroups, CreateTopics, DeleteTopics, DeleteRecords, InitProducerId, DescribeAcls, CreateAcls, DeleteAcls}
+use Rattle.kob_rights.specs.declared.check.Check as program
+
+-- one alternative of a clause: an operation on a resource
+pub record Check : Type 0 where
+  pub operation : Operation
+  pub resource : ResourceKind
+  pub name : List ℕ
+
+-- the one name of the cluster
+abbrev pub cluster_name : List ℕ
+cluster_name = codes "kafka-cluster"
+
+abbrev pub on_topic : Operation → List ℕ → Check
+on_topic operation name = record { operation = operation; resource = Topic; name = name }
+
+abbrev pub on_group : Operation → List ℕ → Check
+on_group operation name = record { operation = operation; resource = Group; name = name }
+
+abbrev pub on_cluster : Operation → Check
+on_cluster operation = record { operation = operation; resource = Cluster; name = cluster_name }
+
+-- the alternative, with the text in place of the reference to it
+abbrev pub check_view : program.Check → Check
+check_view check =
+    record { operation = check.operation; resource = check.resource; name = check.name.now }
+
+abbrev pub clause_view : Clause → List Check
+clause_view (Only check) = check_view check ∷ []
+clause_view (Either first second) = check_view first ∷ check_view second ∷ []
+
+abbrev pub rights_view : Rights → List (List Check)
+rights_view Free = []
+rights_view (One clause) = clause_view clause ∷ []
+rights_view (Both first second) = clause_view first ∷ clause_view second ∷ []
 
 -- an idempotent producer needs a right on the cluster first
 abbrev pub produce_rights : Option Idem → List ℕ → List (List Check)

@@ -1,8 +1,7 @@
 //! The rights of a request: clauses of alternatives, which borrow the request's names.
 
 ghost use Rattle.std.specs.Prelude.{◌≡◌, [], ◌∷◌};
-ghost use Rattle.kob_rights.specs.Check.{on_topic, on_group, on_cluster};
-ghost use Rattle.kob_rights.specs.Rights.{check_view, rights_view};
+ghost use Rattle.kob_rights.specs.Table.{on_topic, on_group, on_cluster, check_view, rights_view};
 
 use kob_names::{Operation, ResourceKind, Text};
 

@@ -1,7 +1,7 @@
 //! The error codes of Kafka's protocol that replies carry.
 
 ghost use Rattle.std.specs.Prelude.{◌≡◌};
-ghost use Rattle.kob_rights.specs.Code.{code_number, code_name};
+ghost use Rattle.kob_rights.specs.Reason.{code_number, code_name};
 
 use kob_names::PlainValue;
 use std::alloc::{AllocError, Global};

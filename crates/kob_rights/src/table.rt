@@ -1,9 +1,8 @@
 //! The operation table: the rights of each kind of request, and the code of a denial.
 
 ghost use Rattle.std.specs.Prelude.{◌≡◌, ◌<◌, length};
-ghost use Rattle.kob_rights.specs.Rights.{clause_view, rights_view};
-ghost use Rattle.kob_rights.specs.Table.{code_on, code_on_last, denial_code, metadata_rights};
-ghost use Rattle.kob_rights.specs.Table.{rights};
+ghost use Rattle.kob_rights.specs.Table.{clause_view, rights_view, code_on, code_on_last};
+ghost use Rattle.kob_rights.specs.Table.{denial_code, metadata_rights, rights};
 ghost use Rattle.kob_rights.specs.declared.code.Code.TheVariants as Code;
 ghost use Rattle.kob_rights.specs.declared.request.Request.TheVariants as requests;
 

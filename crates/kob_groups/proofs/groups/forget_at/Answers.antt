@@ -1,5 +1,5 @@
 use Rattle.kob_groups.proofs.Words.{ap, groups_in, is_some, lookup, option_copied_mut, same_text, sym, without_topic_at, ◌∙◌}
-use Rattle.kob_groups.proofs.Forgetting.{forgotten_absent, forgotten_first, forgotten_none, forgotten_written}
+use Rattle.kob_groups.proofs.Listings.{forgotten_absent, forgotten_first, forgotten_none, forgotten_written}
 use Rattle.kob_groups.proofs.groups.forget_at.Goals as goal
 
 pub loop-name-preserved-in-Some-get_mut : goal.loop-name-preserved-in-Some-get_mut

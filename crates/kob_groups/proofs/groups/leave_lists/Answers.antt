@@ -1,5 +1,4 @@
-use Rattle.kob_groups.proofs.Words.{ap, is_listed, is_some, lookup, not, same_text, sym, ◌&&◌, ◌∙◌}
-use Rattle.kob_groups.specs.Kept.{offsets_in}
+use Rattle.kob_groups.proofs.Words.{ap, is_listed, is_some, lookup, not, offsets_in, same_text, sym, ◌&&◌, ◌∙◌}
 use Rattle.kob_groups.proofs.Listings.{none_to_leave}
 use Rattle.kob_groups.proofs.Maps.{seen_has}
 use Rattle.kob_groups.proofs.groups.leave_lists.Goals as goal

@@ -1,7 +1,6 @@
 use Rattle.kob_broker.proofs.Words.{Some, ap, draft_reasons, first_reason, flat_map, sym, ◌∙◌}
 use Rattle.kob_rights.specs.declared.request.Request.TheVariants as requests
-use Rattle.kob_broker.proofs.Decisions.{refused_makes}
-use Rattle.kob_broker.proofs.FirstReasons.{first_some}
+use Rattle.kob_broker.proofs.Decisions.{refused_makes, first_some}
 use Rattle.kob_broker.proofs.broker.Broker.prepare_create_acls.Goals as goal
 
 pub returns-in-Err-Refused-clause-ok : goal.returns-in-Err-Refused-clause-ok

@@ -1,5 +1,5 @@
 use Rattle.kob_broker.proofs.Words.{length, retained_meaning, rules, state_of, ◌<◌}
-use Rattle.kob_broker.proofs.Runs.{one_event_more}
+use Rattle.kob_broker.proofs.Steps.{one_event_more}
 use Rattle.kob_broker.proofs.broker.Broker.run.Goals as goal
 
 pub loop-done-preserved : goal.loop-done-preserved

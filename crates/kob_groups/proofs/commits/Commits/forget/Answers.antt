@@ -1,5 +1,4 @@
-use Rattle.kob_groups.proofs.Words.{ap, lookup, same_text, sym, ◌∙◌}
-use Rattle.kob_groups.specs.Kept.{offsets_in}
+use Rattle.kob_groups.proofs.Words.{ap, lookup, offsets_in, same_text, sym, ◌∙◌}
 use Rattle.kob_groups.proofs.Maps.{seen, seen_removed}
 use Rattle.kob_groups.proofs.commits.Commits.forget.Goals as goal
 

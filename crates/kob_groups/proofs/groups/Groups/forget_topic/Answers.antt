@@ -1,6 +1,5 @@
 use Rattle.kob_groups.proofs.Words.{AreListed, Some, ap, false, groups_of, is_among, subst, sym, ◌∙◌}
-use Rattle.kob_groups.proofs.Forgetting.{forgotten_listed, forgotten_none}
-use Rattle.kob_groups.proofs.Listings.{listed_forgotten}
+use Rattle.kob_groups.proofs.Listings.{forgotten_listed, forgotten_none, listed_forgotten}
 use Rattle.kob_groups.proofs.groups.Groups.forget_topic.Goals as goal
 
 pub returns-in_default : goal.returns-in_default

@@ -1,5 +1,4 @@
-use Rattle.kob_groups.proofs.Words.{ap, append-nil, keys_of, keys_of-map_values, sym, ◌++◌, ◌∙◌}
-use Rattle.kob_groups.specs.Kept.{commits_in}
+use Rattle.kob_groups.proofs.Words.{ap, append-nil, commits_in, keys_of, keys_of-map_values, sym, ◌++◌, ◌∙◌}
 use Rattle.kob_groups.proofs.groups.Groups.names.Goals as goal
 
 pub returns : goal.returns

@@ -1,6 +1,4 @@
-use Rattle.std.proofs.lemmas.Grind.{common_steps}
-use Rattle.kob_groups.proofs.Words.{arith}
-use Rattle.kob_groups.proofs.Words.{AreListed, [], ap, commits_in, groups_in, groups_of, has_commits, is_listed, lookup, not, removed_absent, same_text, subst, sym, without_group, ◌&&◌, ◌∙◌, ◌≡◌}
+use Rattle.kob_groups.proofs.Words.{AreListed, [], ap, arith, commits_in, common_steps, groups_in, groups_of, has_commits, is_listed, lookup, not, removed_absent, same_text, subst, sym, without_group, ◌&&◌, ◌∙◌, ◌≡◌}
 use Rattle.kob_groups.proofs.Listings.{listed_removed}
 use Rattle.kob_groups.proofs.Maps.{seen_removed, seen_some}
 use Rattle.kob_groups.proofs.groups.Groups.remove.Goals as goal

@@ -1,7 +1,5 @@
-use Rattle.std.proofs.lemmas.Grind.{common_steps}
-use Rattle.kob_groups.proofs.Words.{arith}
-use Rattle.kob_groups.proofs.Words.{HasRoomFor, List, ap, false, group_of, is_among, is_listed, is_pair, is_some, lookup, name_at, same_text, set_value, subst, sym, topic_of, ℕ, ◌||◌, ◌∙◌, ◌≡◌}
-use Rattle.kob_groups.proofs.Names.{changes_to, changes_written, filled_changed, listed_put, one_more_filled, pushed_more}
+use Rattle.kob_groups.proofs.Words.{HasRoomFor, List, ap, arith, common_steps, false, group_of, is_among, is_listed, is_pair, is_some, lookup, name_at, same_text, set_value, subst, sym, topic_of, ℕ, ◌||◌, ◌∙◌, ◌≡◌}
+use Rattle.kob_groups.proofs.Maps.{changes_to, changes_written, filled_changed, listed_put, one_more_filled, pushed_more}
 use Rattle.kob_groups.proofs.lists.GroupsByTopic.put_new.Goals as goal
 
 pub invariant_of-self : goal.invariant_of-self

@@ -1,6 +1,5 @@
-use Rattle.std.proofs.lemmas.Grind.{common_steps}
-use Rattle.kob_groups.proofs.Words.{None, Some, ap, arith, is_among, length, not, option_copied_mut, same_text, set_value, sym, ◌&&◌, ◌∙◌, ◌≡◌}
-use Rattle.kob_groups.proofs.Names.{changes_taken, changes_twice, changes_written, filled_changed, filled_without, listed_left, none_is_less, taken_less}
+use Rattle.kob_groups.proofs.Words.{None, Some, ap, arith, common_steps, is_among, length, not, option_copied_mut, same_text, set_value, sym, ◌&&◌, ◌∙◌, ◌≡◌}
+use Rattle.kob_groups.proofs.Maps.{changes_taken, changes_twice, changes_written, filled_changed, filled_without, listed_left, none_is_less, taken_less}
 use Rattle.kob_groups.proofs.lists.GroupsByTopic.remove.Goals as goal
 
 pub invariant_of-self-then-len-eq0 : goal.invariant_of-self-then-len-eq0

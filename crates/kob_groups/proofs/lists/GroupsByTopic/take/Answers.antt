@@ -1,4 +1,4 @@
-use Rattle.kob_groups.proofs.Names.{changes_taken, filled_without, none_left}
+use Rattle.kob_groups.proofs.Maps.{changes_taken, filled_without, none_left}
 use Rattle.kob_groups.proofs.lists.GroupsByTopic.take.Goals as goal
 
 pub invariant_of-self : goal.invariant_of-self
