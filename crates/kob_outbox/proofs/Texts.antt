@@ -1,10 +1,7 @@
 -- What the fixed texts mean.
-use Rattle.kob_outbox.proofs.statements.Words.{Abort, Binary, Command, Compare, Delete, Eq, Gt, Ignore, Insert, InsertOr, Int, Le, List, Null, Some, Term, Text, Update, Upsert, Values, [], arith, business, business_table, codes, col, lit, mark, mark_table, nat_tests, no_schema, one_table, op2, outbox, outbox_table, pos, refl, service_schema, spent, spent_table, three_tables, two_tables, ℕ, ◌∷◌}
-use Rattle.sqlite_tied.specs.Compute.{everything}
-use Rattle.sqlite.specs.Listing.{understood}
-use Rattle.kob_outbox.proofs.statements.Creating.{IsCreation}
+use Rattle.kob_outbox.proofs.statements.Words.{understood, everything, [], Abort, Binary, Command, Compare, Delete, Eq, Gt, Ignore, Insert, InsertOr, Int, Le, List, Null, Some, Term, Text, Update, Upsert, Values, arith, business, business_table, codes, col, lit, mark, mark_table, nat_tests, no_schema, one_table, op2, outbox, outbox_table, pos, refl, service_schema, spent, spent_table, three_tables, two_tables, ℕ, ◌∷◌}
+use Rattle.kob_outbox.proofs.statements.Steps.{IsCreation, IsWriting}
 use Rattle.kob_outbox.proofs.statements.Selecting.{IsSelect, Scan, by_key, no_limit, over, program_of}
-use Rattle.kob_outbox.proofs.statements.Writing.{IsWriting}
 
 pub create_business : IsCreation no_schema
     (codes "CREATE TABLE business (kind TEXT NOT NULL, id TEXT NOT NULL, state TEXT NOT NULL, PRIMARY KEY (kind, id))")
