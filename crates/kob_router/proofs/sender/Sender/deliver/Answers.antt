@@ -1,5 +1,5 @@
 use Rattle.kob_router.proofs.Words.{[], refl}
-use Rattle.kob_router.proofs.Sendings.{ticks_call, ticks_lost, ticks_moved, ticks_unmarked}
+use Rattle.kob_router.proofs.Runs.{ticks_call, ticks_lost, ticks_moved, ticks_unmarked}
 use Rattle.kob_router.proofs.sender.Sender.deliver.Goals as goal
 
 pub returns-in-Lost-clause-done : goal.returns-in-Lost-clause-done

@@ -1,5 +1,5 @@
 use Rattle.kob_router.proofs.Words.{dispatch_of}
-use Rattle.kob_router.proofs.Beginnings.{has_hand, holds, idle_then, ready_then, stopped_then, ticks_unknown}
+use Rattle.kob_router.proofs.Runs.{has_hand, holds, idle_then, ready_then, stopped_then, ticks_unknown}
 use Rattle.kob_router.proofs.sender.Sender.tick.Goals as goal
 
 pub returns-in-Err-clause-done : goal.returns-in-Err-clause-done
