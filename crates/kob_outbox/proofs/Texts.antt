@@ -35,8 +35,7 @@ first_mark = lit (Int (pos 1)) ∷ lit Null ∷ lit (Int (pos 0)) ∷ []
 abbrev pub first_mark_text : List ℕ
 first_mark_text = codes "INSERT INTO mark (one, upto) VALUES (1, 0)"
 
-pub insert_mark : IsWriting service_schema first_mark_text
-    (Insert 2 (Values first_mark 3)) 2 mark_table
+pub insert_mark : IsWriting service_schema first_mark_text (Insert 2 (Values first_mark 3)) 2 mark_table
 unfolding understood everything
 insert_mark = grind (arith, nat_tests)
 
@@ -46,8 +45,7 @@ moved_marks = over 4 [] (col 1 0 ∷ col 1 0 ∷ lit Null ∷ col 0 0 ∷ []) []
 abbrev pub move_mark_text : List ℕ
 move_mark_text = codes "UPDATE mark SET upto = ?1"
 
-pub update_mark : IsWriting service_schema move_mark_text
-    (Update 2 (program_of moved_marks)) 2 mark_table
+pub update_mark : IsWriting service_schema move_mark_text (Update 2 (program_of moved_marks)) 2 mark_table
 unfolding understood everything
 update_mark = grind (arith, nat_tests)
 
@@ -143,7 +141,6 @@ select_sent upto =
 abbrev pub sweep_text : List ℕ
 sweep_text = codes "DELETE FROM outbox WHERE seq <= ?1"
 
-pub delete_sent : IsWriting service_schema sweep_text
-    (Delete 3 (program_of events_upto)) 3 outbox_table
+pub delete_sent : IsWriting service_schema sweep_text (Delete 3 (program_of events_upto)) 3 outbox_table
 unfolding understood everything
 delete_sent = grind (arith, nat_tests)

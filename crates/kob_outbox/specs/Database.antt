@@ -21,15 +21,14 @@ use Rattle.kob_outbox.specs.Layout.{Holds, contents_in}
 
 -- a column that takes no NULL
 abbrev pub required_column : List ℕ → Kind → Column
-required_column name kind =
-    record {
-      name = name;
-      kind = kind;
-      is_strict = false;
-      not_null = true;
-      default = Null;
-      collation = Binary;
-    }
+required_column name kind = record {
+  name = name;
+  kind = kind;
+  is_strict = false;
+  not_null = true;
+  default = Null;
+  collation = Binary;
+}
 
 -- a column that is the number of its row
 abbrev pub numbering : List ℕ → Column

@@ -49,13 +49,12 @@ module _ (limit : Option ℕ) (keys : Keys) (schema : Schema) (table : Table) (p
   never_concludes free mode w stop (inr (doubt, tested, inr h)) = let e = h.2 in cc
 
   -- where a row that conflicts is there, nothing stops the statement
-  pub never_stops : ReferToNone schema → (alone : IsAlone schema keys table.tree) (at : ℕ) (terms : List Term)
-      (width : ℕ) (source new : Row) (db : Trees) (mode : Mode)
-      → value_rows (params ++ []) width (length terms / width) terms ≡ source ∷ [] → limit ≡ None
-      → accepts_terms terms (params ++ []) ≡ true
+  pub never_stops : ReferToNone schema
+      → (alone : IsAlone schema keys table.tree) (at : ℕ) (terms : List Term) (width : ℕ) (source new : Row)
+      (db : Trees) (mode : Mode) → value_rows (params ++ []) width (length terms / width) terms ≡ source ∷ []
+      → limit ≡ None → accepts_terms terms (params ++ []) ≡ true
       → candidate limit keys schema table params alone Ignore db source ≡ new → fits_i64 (id_in (rowid new)) ≡ true
-      → IsSuited table new
-      → ¬ (AreConflicts None schema.indexes (uncounted table) (db table.tree) new [])
+      → IsSuited table new → ¬ (AreConflicts None schema.indexes (uncounted table) (db table.tree) new [])
       → (stop : Option Error) → ¬ (OnRows Here mode None (InsertOr at Ignore (Values terms width) []) db (Err stop))
   never_stops free alone at terms width source new db mode is unlimited accepted row fits suits conflicting stop
       (inr (w, did, h)) = never_concludes free mode w stop h

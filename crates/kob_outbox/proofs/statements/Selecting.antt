@@ -55,11 +55,10 @@ pub record Queried {C : Type 0} (tables : Schema) (Rows : Trees → Type 0) (vie
   pub rests : IsAtRest tables Rows (database new)
   pub same : view (database new).now.trees ≡ view (database old).now.trees
 
-pub queried : {schema : Schema} {Rows : Trees → Type 0} {text : List ℕ} {params : Row} {s : Scan}
-    {C : Type 0}
-    → IsSelect schema text params s → (view : Trees → C) (old new : Held MemStore) (r : Result (Vec Row Global) Error)
-    (Answer : List Row → Type 0) → IsAtRest schema Rows (database old)
-    → (database new).step_limit ≡ (database old).step_limit
+pub queried : {schema : Schema} {Rows : Trees → Type 0} {text : List ℕ} {params : Row} {s : Scan} {C : Type 0}
+    → IsSelect schema text params s
+    → (view : Trees → C) (old new : Held MemStore) (r : Result (Vec Row Global) Error) (Answer : List Row → Type 0)
+    → IsAtRest schema Rows (database old) → (database new).step_limit ≡ (database old).step_limit
     → ((rows : List Row) → IsAnswer (query_of s) (overlay (database old).now.trees []) params rows → Answer rows)
     → (HasCleanDisk (database new) → IfOk r (λ rows. Shown text params (database old) (database new) rows.items))
     → (HasCleanDisk (database new) → IfErr r (FailsToQuery text params (database old) (database new)))

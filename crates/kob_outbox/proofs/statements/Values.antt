@@ -65,8 +65,7 @@ module _ {X : Type 0} (row : X → Row) (number : X → ℕ) (numbered : (x : X)
 
 module _ {X : Type 0} where
   -- their numbers rise
-  all_above : (j k : ℕ) (xs : List X) → j < k
-      → AllByRecursion (λ (q : ℕ × X). j < q.0) (enumerate_from k xs)
+  all_above : (j k : ℕ) (xs : List X) → j < k → AllByRecursion (λ (q : ℕ × X). j < q.0) (enumerate_from k xs)
   all_above j k [] low = tt
   all_above j k (y ∷ xs) low = (low, all_above j (k + 1) xs (omega (arith, low)))
 
