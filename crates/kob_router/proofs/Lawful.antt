@@ -1,5 +1,5 @@
 -- What follows of the definitions.
-use Rattle.kob_router.proofs.Words.{All, Event, List, None, Option, OutboxEvent, Place, Routing, Some, Target, arith, dispatch_of, event_id, if◌then◌else◌, inl, is_some, length, lower, message_of, nat_tests, parsed, parses_hyphenated, partition_of, place_of, refl, stored_event, sym, topic_fault, ℕ, ◌<◌, ◌≡◌, AllByRecursion, Bool, Dispatching, IsRouterRun, IsSending, KeepsRow, May, MayCall, Move, Reply, Request, State, [], after, subst, ◌∙◌, ◌∷◌}
+use Rattle.kob_router.proofs.Words.{All, Event, List, None, Option, OutboxEvent, Place, Routing, Some, Target, arith, dispatch_of, event_id, if◌then◌else◌, inl, is_some, length, lower, message_of, nat_tests, parsed, parses_hyphenated, partition_of, place_of, refl, stored_event, sym, topic_fault, ℕ, ◌<◌, ◌≡◌, AllByRecursion, Bool, Dispatching, IsRouterRun, IsSending, KeepsRow, May, MayCall, Move, Reply, Request, State, [], after, subst, ◌∷◌}
 use Rattle.kob_rights.specs.declared.on_partitions.Produce.{Produce as ProduceRequest}
 use Rattle.kob_rights.specs.declared.request.Request.TheVariants as request
 
@@ -21,13 +21,10 @@ one_place target one two kind id = grind (arith, nat_tests)
 
 -- ---- a batch that is sent again is the same
 
-none_some : {A : Type 0} (o : Option A) (x : A) → o ≡ None → o ≡ Some x → ⊥
-none_some o x none some = let bad : None ≡ Some x = sym none ∙ some in cc
-
 -- no other request may be made
 only_this : (route : Dispatching) (s : State) (sent : ProduceRequest) (asked : Request) (heard : Option Reply)
     (marks : Bool) → IsSending route s sent → MayCall route s asked heard marks → asked ≡ request.Produce sent
-only_this route s sent asked heard marks is may = grind (arith, nat_tests, none_some)
+only_this route s sent asked heard marks is may = grind (arith, nat_tests)
 
 -- the outbox has no part in what is sent
 sends_still : (route : Dispatching) (s t : State) (sent : ProduceRequest) → IsSending route s sent
@@ -37,7 +34,7 @@ sends_still route s t sent is producer sequences hand = grind (arith, nat_tests)
 -- what was sent is what is sent after a move that keeps the row
 kept_once : (route : Dispatching) (s : State) (move : Move) (sent : ProduceRequest) → IsSending route s sent
     → May route s move → KeepsRow move → IsSending route (after s move) sent
-kept_once route s move sent is may keeps = grind (arith, nat_tests, sends_still, none_some, only_this)
+kept_once route s move sent is may keeps = grind (arith, nat_tests, sends_still, only_this)
 
 sends_on : (route : Dispatching) (old new : State) (moves : List Move) (sent : ProduceRequest)
     → IsSending route old sent → IsRouterRun route old moves new → AllByRecursion KeepsRow moves

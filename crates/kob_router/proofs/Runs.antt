@@ -209,10 +209,6 @@ begins_known outbox old new before now u t p rest (is, inr asked) held = record 
   held = grind (arith, nat_tests);
 }
 
-unmade_known : (old new : Option Producer) (before now : List Call) (u t : ℕ) (p : Producer)
-    → Introduces old new before now u t (Ok p) → t ≡ u
-unmade_known old new before now u t p given = grind (arith, nat_tests)
-
 -- a row was in hand, or is taken
 begins_taken : {route : Dispatching} {a : State} (outbox : Contents) (old new : Sender) {before now : List Call}
     → Takes route outbox old new (Ok true) → Begins route a (state_of old outbox) before now
@@ -239,7 +235,7 @@ module _ (outbox after : Contents) (old one two : Sender) (before middle : List 
     (made : Introduces old.producer one.producer before middle u v (Ok p))
     (held : IsHeld (dispatch_of old.target) (state_of old outbox)) (same : after ≡ outbox) where
   same_unmade : v ≡ u
-  same_unmade = unmade_known old.producer one.producer before middle u v p made
+  same_unmade = grind (arith, nat_tests)
 
   known : Begins (dispatch_of old.target) (state_of old outbox) (state_of one outbox) before middle
   known = begins_known outbox old one before middle u v p rest made held

@@ -1,5 +1,4 @@
-use Rattle.std.proofs.lemmas.Grind.{common_steps}
-use Rattle.kob_router.proofs.Words.{List, Place, Sequence, [], arith, false, has_place, nat_tests, refl, sym, true, true≢false, with_sequence_for, ◌++◌, ◌∷◌, ◌≡◌}
+use Rattle.kob_router.proofs.Words.{common_steps, List, Place, Sequence, [], arith, false, has_place, nat_tests, refl, sym, true, true≢false, with_sequence_for, ◌++◌, ◌∷◌, ◌≡◌}
 use Rattle.kob_router.proofs.sequences.Sequences.prepare.Goals as goal
 
 prepared_there : (ss : List Sequence) (p : Place) → has_place ss p ≡ true → with_sequence_for ss p ≡ ss
