@@ -1,5 +1,5 @@
 -- What taking an event in does, and what taking a record in answers.
-use Rattle.kob_inbox.proofs.Words.{Blob, Bor, List, Option, arith, bound_value, key_value, nat_tests, option_copied, or_null, ℕ, ◌≡◌, Chosen, Contents, Enforced, Err, Error, Executes, Holds, IfErr, IfOk, Ignored, Int, Intake, IsAlone, IsInbox, IsMemory, IsOnce, IsReadable, IsSuited, IsTrue, NeverFails, None, Ok, OnErr, OnOk, ReferToNone, Result, Row, State, Text, [], accepts_terms, all-append, all_fine, all_weaker, alone_test, ap, ascending-append, bytes_eq, bytes_eq-Decides, cases_Bool, cast_int, cast_null, cast_row, conflicts, contents_in, equal_texts, execute_stays, false, if◌then◌else◌, ignores, inbox_schema, inbox_table, inbox_tree, inl, inr, is_there, length, length-append, none_from_any, not_true, placed_row, pos, refl, rests, stopped_by_memory, suc, suits_by, true, uncounted, unequal_numbers, with_intake, with_rowid, ◌++◌, ◌<◌, ◌^◌, ◌∙◌, ◌∷◌, ◌≢◌, HasLast, InboxFault, IsErrAnd, IsErrOf, Seen, Some, Store, Taken, answer_to, fault_of, id_text, sym, ◌+◌}
+use Rattle.kob_inbox.proofs.Words.{Blob, Bor, List, Option, arith, bound_value, key_value, nat_tests, option_copied, or_null, ℕ, ◌≡◌, Chosen, Contents, Enforced, Err, Error, Executes, Holds, IfErr, IfOk, Ignored, Int, Intake, IsAlone, IsInbox, IsMemory, IsOnce, IsReadable, IsSuited, IsTrue, NeverFails, None, Ok, OnErr, OnOk, ReferToNone, Result, Row, State, Text, [], accepts_terms, all-append, all_fine, all_weaker, alone_test, ap, ascending-append, bytes_eq, bytes_eq-Decides, cases_Bool, cast_int, cast_null, cast_row, conflicts, contents_in, equal_texts, execute_stays, false, if◌then◌else◌, ignores, inbox_schema, inbox_table, inbox_tree, inl, inr, is_there, length, length-append, none_from_any, not_true, placed_row, pos, refl, rests, stopped_by_memory, suc, suits_by, true, uncounted, unequal_numbers, with_intake, with_rowid, ◌++◌, ◌<◌, ◌^◌, ◌∙◌, ◌∷◌, ◌≢◌, HasLast, InboxFault, IsErrAnd, IsErrOf, Some, Store, Taken, answer_to, fault_of, id_text, sym, ◌+◌}
 use Rattle.sqlite_value.specs.Keys.{first_key}
 use Rattle.sqlite_tied.specs.Compute.{everything}
 use Rattle.kob_inbox.proofs.Reading.{inbox_holds}
@@ -115,12 +115,6 @@ takes_again old new e r was never low h = grind (arith, nat_tests, goes_again)
 
 module _ {events view : Contents} {found : Option (List ℕ)} {uuid id : List ℕ} (same : events ≡ view)
     (is : Some uuid ≡ found) (text : id ≡ id_text uuid) where
-  pub seen : is_there events id ≡ true → Seen ≡ answer_to view found
-  seen there = grind (arith, nat_tests)
-
-  pub taken : is_there events id ≡ false → Taken ≡ answer_to view found
-  taken absent = grind (arith, nat_tests)
-
   -- where the id is there, only want of memory stops it
   pub stored : {A : Type 0} (r : Result A InboxFault) (e : Error) → IsErrAnd r (λ f. f ≡ fault_of e)
       → (IsTrue (is_there events id) → IsMemory e) → IsErrOf r Store → answer_to view found ≡ Taken

@@ -1,15 +1,12 @@
 -- What is read back of the events that the tree holds, and what the SELECTs answer.
-use Rattle.kob_inbox.proofs.Words.{Contents, Error, Holds, IsBlank, IsInbox, List, None, OnOk, Option, Result, State, [], arith, contents_in, false, inbox_schema, key_in, key_value, nat_tests, rows_back, ℕ, ◌≡◌, AllByRecursion, Intake, IsReadable, IsShown, Row, ap, blob_in, column, enumerate_from, map, map_back, number_in, shown_intake, sym, text_in, ◌+◌, ◌∙◌, ◌∷◌, Int, IsAnswer, Output, Trees, all_stay, in_order, inbox_tree, map-map, number_below, overlay, placed_row, pos, query_of, refl, rises, rising, true}
+use Rattle.kob_inbox.proofs.Words.{Contents, Error, Holds, IsBlank, IsInbox, List, None, OnOk, Result, State, [], arith, contents_in, false, inbox_schema, key_in, nat_tests, rows_back, ℕ, ◌≡◌, AllByRecursion, Intake, IsReadable, IsShown, Row, ap, blob_in, column, enumerate_from, map, map_back, number_in, shown_intake, sym, text_in, ◌+◌, ◌∙◌, ◌∷◌, Int, IsAnswer, Output, Trees, all_stay, in_order, inbox_tree, map-map, number_below, overlay, placed_row, pos, query_of, refl, rises, rising, true}
 use Rattle.kob_inbox.proofs.Texts.{all_taken}
-
-pub key_back : (key : Option (List ℕ)) → key_in (key_value key) ≡ key
-key_back key = grind (arith, nat_tests)
 
 -- the database is the inbox, with these events
 pub inbox_holds : (events : Contents) (s : State) → s.now.schema ≡ inbox_schema → s.committed ≡ s.now
     → s.in_transaction ≡ false → s.step_limit ≡ None → Holds events s.now.trees
     → IsInbox s × (contents_in s.now.trees ≡ events)
-inbox_holds events s schema settled idle unlimited holds = grind (arith, nat_tests, rows_back, key_back)
+inbox_holds events s schema settled idle unlimited holds = grind (arith, nat_tests, rows_back)
 
 -- a table that was made is an inbox without events
 pub opens : (s : State) (r : Result ℕ Error) → OnOk r (IsBlank inbox_schema s)
@@ -31,7 +28,7 @@ intake_shown row = (
 )
 
 shown_back : (events : List (ℕ × Intake)) → map intake_shown (map shown_intake events) ≡ events
-shown_back = grind (arith, nat_tests, map_back, key_back)
+shown_back = grind (arith, nat_tests, map_back)
 
 pub same_events : (xs ys : List (ℕ × Intake)) → map shown_intake xs ≡ map shown_intake ys → xs ≡ ys
 same_events xs ys h = sym (shown_back xs) ∙ ap (map intake_shown) h ∙ shown_back ys

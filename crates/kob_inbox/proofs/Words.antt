@@ -37,8 +37,8 @@ pub use Rattle.kob_router.specs.declared.place.Place.{Place}
 pub use Rattle.std.proofs.Common.{Bool, Err, IfErr, IfNone, IfOk, IfSome, IsErrAnd, IsErrOf, IsSome, IsTrue, List, None, Ok, OnErr, OnOk, Option, Result, Some, [], ap, append-nil, arith, bytes_eq, codes, drop, false, get_or, if◌then◌else◌, inl, inr, length, length-append, map, pos, refl, set, slice_get, subst, suc, sym, take, true, ℕ, ◌++◌, ◌+◌, ◌<◌, ◌^◌, ◌∙◌, ◌∷◌, ◌≡◌, ◌≢◌, ◌≤◌}
 pub use Rattle.std.proofs.lemmas.Bool.{and_parts, cases_Bool, cond-false, cond-true, eqb-true}
 pub use Rattle.std.proofs.lemmas.Bool.Decides.{nat_tests}
+pub use Rattle.std.proofs.lemmas.Grind.{common_steps}
 pub use Rattle.std.proofs.lemmas.List.{drop_more, set_split, take_more}
-pub use Rattle.std.proofs.lemmas.Result.{IfOk-weaker}
 pub use Rattle.std.proofs.lemmas.Slice.Eq.{bytes_eq-Decides}
 pub use Rattle.std.specs.Borrow.{Bor}
 pub use Rattle.std.specs.List.{AllByRecursion, enumerate_from}
