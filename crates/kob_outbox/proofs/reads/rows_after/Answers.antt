@@ -3,11 +3,7 @@ use Rattle.kob_outbox.proofs.Reading.{first_shown, rows_as}
 use Rattle.kob_outbox.proofs.reads.rows_after.Goals as goal
 
 pub rows_of-requires : goal.rows_of-requires
-rows_of-requires c =
-    let events = (contents_of (database c.args.conn.now)).events in
-    let is : c.in_ok-select_after.field-0.items ≡ map shown_event (first_after c.min.result c.args.limit events) =
-    rw (c.number-seq.ensures, c.number.ensures) at c.in_ok-select_after.ensures.rows in
-    let shown = first_shown c.min.result c.args.limit events c.requires.holds.readable in grind (arith, common_steps)
+rows_of-requires c = grind (arith, common_steps, first_shown)
 
 pub returns-clause-rows : goal.returns-clause-rows
 returns-clause-rows c =
