@@ -290,13 +290,15 @@ module _ (limit : Option ℕ) (b : Business) (db : Trees) (states : States)
   decided one None judged h = meets one h.0 h.1 h.2
   decided one (Some why) judged h = absurd (let e : Ok one ≡ Err _ = h in cc)
 
-  tried_row : candidate limit Enforced service_schema business_table params (alone business_tree) Abort db (Null ∷ params) ≡ row
+  tried_row : candidate limit Enforced service_schema business_table params (alone business_tree)
+      Abort db (Null ∷ params) ≡ row
   tried_row = rw (cast_null, has.rows_are, next_placed 1 has.placed)
 
   pub written : (w : Written) → InsertsOr task Abort (over_business ∷ []) (Values new_business 4) db (Ok w)
       → Done w.trees
   written w does =
-      let u = tried limit Enforced service_schema business_table params (alone business_tree) Abort (over_business ∷ []) new_business 4
+      let u = tried limit Enforced service_schema business_table params (alone business_tree) Abort
+      (over_business ∷ []) new_business 4
       (Null ∷ params) row db w refl tried_row does in
       subst Done (sym u.trees) (decided u.one u.verdict u.judged u.does)
 

@@ -168,7 +168,9 @@ pub record IsChanging (s : State) : Type 0 where
 
 -- each statement in a transaction leaves the last commit and the limit on steps
 abbrev pub KeepsLast : State → State → Type 0
-KeepsLast old new = ◌≡◌ {A = Database × Option ℕ} (new.committed, new.step_limit) (old.committed, old.step_limit)
+KeepsLast old new =
+    ◌≡◌ {A = Database × Option ℕ}
+    (new.committed, new.step_limit) (old.committed, old.step_limit)
 
 -- what the statement that spends an id did: it wrote a row, or found the id
 pub record Spends (id : List ℕ) (old new : State) (count : ℕ) : Type 0 where
