@@ -5,7 +5,14 @@ use Rattle.kob_router.proofs.partitioner.with_bytes.Goals as goal
 next_word : (bytes : List ℕ) (at : ℕ) → at + 4 ≤ length bytes
     → drop at bytes ≡ get_or bytes at 0 ∷ get_or bytes (at + 1) 0 ∷ get_or bytes (at + 2) 0 ∷ get_or bytes (at + 3)
     0 ∷ drop (at + 4) bytes
-next_word bytes at fits = grind (arith, nat_tests, drop_more bytes at 0, drop_more bytes (at + 1) 0, drop_more bytes (at + 2) 0, drop_more bytes (at + 3) 0)
+next_word bytes at fits = grind (
+  arith,
+  nat_tests,
+  drop_more bytes at 0,
+  drop_more bytes (at + 1) 0,
+  drop_more bytes (at + 2) 0,
+  drop_more bytes (at + 3) 0,
+)
 
 pub loop-at-preserved : goal.loop-at-preserved
 loop-at-preserved c =
