@@ -1,11 +1,5 @@
-pub mod Answering
-pub mod Cursoring
-pub mod Holding
 pub mod Intakes
-pub mod Keys
 pub mod Reading
-pub mod Running
-pub mod Shown
 pub mod Texts
 pub mod Ticking
 pub mod Words

@@ -32,8 +32,7 @@ put_whole = (omega arith, refl)
 -- ---- all events
 
 abbrev pub all_taken : Scan
-all_taken =
-    over 0 [] (col 1 0 ∷ col 1 2 ∷ col 1 3 ∷ col 1 4 ∷ col 1 5 ∷ col 1 6 ∷ col 1 7 ∷ []) by_key no_limit
+all_taken = over 0 [] (col 1 0 ∷ col 1 2 ∷ col 1 3 ∷ col 1 4 ∷ col 1 5 ∷ col 1 6 ∷ col 1 7 ∷ []) by_key no_limit
 
 pub select_taken : IsSelect inbox_schema
     (codes "SELECT place, id, topic, part, off, rkey, rvalue FROM inbox ORDER BY place") [] all_taken

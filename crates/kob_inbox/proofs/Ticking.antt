@@ -1,16 +1,28 @@
--- A tick of a consumer is put together.
-use Rattle.kob_inbox.proofs.Words.{Adds, Body, Call, Called, Committed, Contents, Cursor, Denied, Done, Fetch, Hears, IfNone, IfSome, InboxFault, IsDue, List, Lost, None, OffsetCommit, Option, Place, Record, Refused, Repeat, Reply, Request, Scene, Some, Standing, Stopped, Subscription, Tick, Ticks, [], after_answer, after_done, append-nil, arith, arrivals, behind, cond-true, cursor_of, due, event_id, inl, inr, length, nat_tests, refl, slice_get, standing, take, taken_in, true, with_progress, with_record, ℕ, ◌++◌, ◌+◌, ◌<◌, ◌∷◌, ◌≡◌}
+-- A tick of a consumer is put together, and what a run makes of the inbox.
+use Rattle.kob_inbox.proofs.Words.{Bool, Cursor, List, None, Place, [], and_parts, arith, bytes_eq, bytes_eq-Decides, cases_Bool, cond-false, cond-true, cursor_of, drop, drop_more, eqb-true, get_or, length, nat_tests, refl, same_place, set, set_split, standing, take, true, with_cursor, ℕ, ◌++◌, ◌<◌, ◌∷◌, ◌≡◌, Adds, Body, Call, Called, Committed, Contents, Denied, Done, Fetch, Hears, IfNone, IfSome, InboxFault, IsDue, Lost, OffsetCommit, Option, Record, Refused, Repeat, Reply, Request, Scene, Some, Standing, Stopped, Subscription, Tick, Ticks, after_answer, append-nil, arrivals, behind, due, event_id, inl, inr, slice_get, taken_in, with_progress, with_record, ◌+◌, Arrival, IsConsumerRun, Move, Restarted, after, ap, taken_of, ◌≤◌}
 use Rattle.kob_inbox.specs.Run.{State}
 use Rattle.kob_router.specs.declared.line.Delivery.TheVariants.{Delivered}
 use Rattle.kob_inbox.specs.Tick.{IsAnswer}
 use Rattle.kob_rights.specs.declared.reply.Body.TheVariants as bodies
 use Rattle.kob_inbox.specs.declared.tick.StopReason.TheVariants as stop
 
+pub moved_new : (cs : List Cursor) (c : Cursor) → standing (cursor_of cs c.place) ≡ None
+    → with_cursor cs c ≡ cs ++ c ∷ []
+moved_new [] c h = refl
+moved_new (x ∷ cs) c h = grind (arith, nat_tests, cases_Bool, cond-true, cond-false, moved_new cs c)
+
+-- the first cursor of the place is found at i
+pub changed : (cs : List Cursor) (i : ℕ) (d : Cursor) (place : Place) (position : ℕ) (uncommitted : Bool)
+    → i < length cs → same_place (get_or cs i d).place place ≡ true
+    → set cs i (record { place = (get_or cs i d).place; position = position; uncommitted = uncommitted })
+    ≡ take i cs ++ with_cursor (drop i cs) (record { place = place; position = position; uncommitted = uncommitted })
+changed cs i d place position uncommitted l same =
+    grind (arith, nat_tests, drop_more, cond-true, set, set_split, and_parts, bytes_eq, bytes_eq-Decides, eqb-true)
+
 -- ---- records, one more at a time
 
 pub taken_last : (events : Contents) (p : Place) (xs : List (ℕ × Record)) (x : ℕ × Record)
-    → taken_in events (arrivals p (xs ++ x ∷ []))
-    ≡ with_record (taken_in events (arrivals p xs)) (event_id x.1)
+    → taken_in events (arrivals p (xs ++ x ∷ [])) ≡ with_record (taken_in events (arrivals p xs)) (event_id x.1)
     (record { place = p; offset = x.0; message = x.1 })
 taken_last events p [] x = refl
 taken_last events p (y ∷ ys) x =
@@ -92,10 +104,14 @@ hears_committed t s new p stood st body is on heard changed = grind (arith, nat_
 
 -- so many of the records were taken in
 pub took : (t : Subscription) (s : State) (p : Place) (position n after turn : ℕ) (rs : List (ℕ × Record))
-    (inbox : Contents) (cursors : List Cursor) → 0 < length rs → inbox ≡ taken_in s.inbox (arrivals p (take n rs))
-    → cursors ≡ with_progress s.cursors p n after → after ≡ behind position (take n rs) → turn ≡ s.turn
-    → state_with inbox cursors turn ≡ after_done t s (fetch_at t p position) (bodies.Records rs) n
-took t s p position n after turn rs inbox cursors some taken moved passed stays = grind (arith, nat_tests)
+    (inbox : Contents) (cursors : List Cursor) {tick : Tick} → n ≤ length rs → 0 < length rs
+    → inbox ≡ taken_in s.inbox (arrivals p (take n rs)) → cursors ≡ with_progress s.cursors p n after
+    → after ≡ behind position (take n rs) → turn ≡ s.turn
+    → IsAnswer t tick
+    (Called (record { request = fetch_at t p position; heard = Some (Done (bodies.Records rs)) }) n ∷ [])
+    → Hears t s (state_with inbox cursors turn) (fetch_at t p position) (bodies.Records rs) tick
+took t s p position n after turn rs inbox cursors low some taken moved passed stays answer =
+    record { count = n; within = low; changed = grind (arith, nat_tests); answer = answer }
 
 -- nothing kept a record out
 pub all_passed : (fault : Option InboxFault) (P : Type 0) → IfNone fault P → fault ≡ None → P
@@ -104,3 +120,16 @@ all_passed fault P all is = grind (arith, nat_tests)
 -- something did
 pub cut_short : (fault : Option InboxFault) (f : InboxFault) (P : Type 0) → IfSome fault (λ _. P) → fault ≡ Some f → P
 cut_short fault f P cut is = grind (arith, nat_tests)
+
+-- ---- what a run makes of the inbox
+
+taken_more : (events : Contents) (xs ys : List Arrival) → taken_in events (xs ++ ys) ≡ taken_in (taken_in events xs) ys
+taken_more events [] ys = refl
+taken_more events (x ∷ xs) ys = taken_more (with_record events (event_id x.message) x) xs ys
+
+pub run_takes_in : (t : Subscription) (moves : List Move) (old new : State) → IsConsumerRun t old moves new
+    → new.inbox ≡ taken_in old.inbox (taken_of moves)
+run_takes_in t [] old new is = ap (λ (s : State). s.inbox) is
+run_takes_in t (Restarted ∷ moves) old new run = run_takes_in t moves (after t old Restarted) new run.1
+run_takes_in t (Called call count ∷ moves) old new run =
+    grind (arith, nat_tests, run_takes_in t moves (after t old (Called call count)) new run.1, taken_more)

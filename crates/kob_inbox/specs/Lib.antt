@@ -1,12 +1,5 @@
-pub mod Assigned
 pub mod Contents
-pub mod Cursors
 pub mod Database
 pub mod Faults
-pub mod Intake
-pub mod Layout
-pub mod Origin
-pub mod Rows
 pub mod Run
-pub mod Tables
 pub mod Tick

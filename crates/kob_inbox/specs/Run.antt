@@ -1,23 +1,53 @@
 -- What a consumer may do to a broker and an inbox.
-use Rattle.std.specs.Prelude.{◌≡◌, ℕ, ◌+◌, ◌%◌, ◌≤◌, List, [], ◌∷◌, ◌++◌, length, take, false, if◌then◌else◌, Option, None, Some, slice_get, unwrap_or}
-use Rattle.kob_names.specs.declared.record.Record.{Record}
-use Rattle.kob_rights.specs.declared.request.Request.{Request}
-use Rattle.kob_rights.specs.declared.request.Request.TheVariants.{Fetch, OffsetCommit, OffsetFetch}
-use Rattle.kob_rights.specs.declared.reply.Reply.{Reply}
-use Rattle.kob_rights.specs.declared.reply.Reply.TheVariants.{Denied, Refused, Done}
-use Rattle.kob_rights.specs.declared.reply.Body.{Body}
-use Rattle.kob_rights.specs.declared.reply.Body.TheVariants as bodies
-use Rattle.kob_router.specs.declared.line.Call.{Call}
+use Rattle.std.specs.Prelude.{ℕ, zero, suc, List, [], ◌∷◌, ◌++◌, true, if◌then◌else◌, Option, None, Some, ◌≡◌, ◌+◌, ◌%◌, ◌≤◌, length, take, false, slice_get, unwrap_or}
 use Rattle.kob_router.specs.declared.place.Place.{Place}
+use Rattle.kob_router.specs.Partitioner.{same_place}
 use Rattle.kob_inbox.specs.declared.cursors.Cursor.{Cursor}
 use Rattle.kob_inbox.specs.declared.cursors.Standing.{Standing}
-use Rattle.kob_inbox.specs.declared.fetcher.Subscription.{Subscription}
-use Rattle.kob_inbox.specs.Contents.{Contents}
-use Rattle.kob_inbox.specs.Cursors.{with_progress, cursor_of, with_cursor, standing}
-use Rattle.kob_inbox.specs.Intake.{Arrival, arrivals, taken_in}
+pub use Rattle.kob_names.specs.declared.record.Record.{Record}
+pub use Rattle.kob_rights.specs.declared.request.Request.{Request}
+pub use Rattle.kob_rights.specs.declared.request.Request.TheVariants.{Fetch, OffsetCommit, OffsetFetch}
+pub use Rattle.kob_rights.specs.declared.reply.Reply.{Reply}
+pub use Rattle.kob_rights.specs.declared.reply.Reply.TheVariants.{Denied, Refused, Done}
+pub use Rattle.kob_rights.specs.declared.reply.Body.{Body}
+pub use Rattle.kob_router.specs.declared.line.Call.{Call}
+pub use Rattle.kob_inbox.specs.declared.fetcher.Subscription.{Subscription}
+use Rattle.kob_inbox.specs.Contents.{Contents, Arrival, arrivals, taken_in}
+use Rattle.kob_rights.specs.declared.reply.Body.TheVariants as bodies
 
--- an inbox, how far its consumer has come on each partition, and the place in the assignment of the
--- partition that has the turn
+-- so many partitions of a topic, from 0 on
+abbrev pub first_partitions : List ℕ → ℕ → List Place
+first_partitions topic zero = []
+first_partitions topic (suc count) =
+    first_partitions topic count ++ record { topic = topic; partition = count } ∷ []
+
+-- ---- how far a consumer has come on each partition
+
+-- the cursor of a partition, where it has one
+abbrev pub cursor_of : List Cursor → Place → Option Cursor
+cursor_of [] place = None
+cursor_of (c ∷ cursors) place = if same_place c.place place then Some c else cursor_of cursors place
+
+-- the cursors with this one in place of that of its partition
+abbrev pub with_cursor : List Cursor → Cursor → List Cursor
+with_cursor [] new = new ∷ []
+with_cursor (c ∷ cursors) new =
+    if same_place c.place new.place then new ∷ cursors else c ∷ with_cursor cursors new
+
+-- a cursor without its partition
+abbrev pub standing : Option Cursor → Option Standing
+standing None = None
+standing (Some c) = Some (record { position = c.position; uncommitted = c.uncommitted })
+
+-- the cursors once so many records were taken in
+abbrev pub with_progress : List Cursor → Place → ℕ → ℕ → List Cursor
+with_progress cursors place zero position = cursors
+with_progress cursors place (suc count) position =
+    with_cursor cursors (record { place = place; position = position; uncommitted = true })
+
+-- ---- the runs of a consumer
+
+-- an inbox, a consumer's cursors, and the place in the assignment of the partition with the turn
 pub record State : Type 0 where
   pub inbox : Contents
   pub cursors : List Cursor
@@ -123,13 +153,10 @@ after_done t s request body count = record {
   turn = turn_after t s.turn request body;
 }
 
--- after a call, of whose records so many are taken in: a call that was lost, denied or refused
--- leaves all
+-- after a call that takes in so many records: one that was lost, denied or refused leaves all
 abbrev pub after_answer : Subscription → State → Request → Option Reply → ℕ → State
-after_answer t s request None count = s
-after_answer t s request (Some (Denied code verdicts)) count = s
-after_answer t s request (Some (Refused code reason)) count = s
 after_answer t s request (Some (Done body)) count = after_done t s request body count
+after_answer t s request _ count = s
 
 -- what is done leaves
 abbrev pub after : Subscription → State → Move → State
@@ -150,10 +177,8 @@ calls_of (Restarted ∷ moves) = calls_of moves
 
 -- what a call takes in
 abbrev pub taken_by : Request → Option Reply → ℕ → List Arrival
-taken_by request None count = []
-taken_by request (Some (Denied code verdicts)) count = []
-taken_by request (Some (Refused code reason)) count = []
 taken_by request (Some (Done body)) count = taken_from request body count
+taken_by request _ count = []
 
 -- what the moves take in, in order
 abbrev pub taken_of : List Move → List Arrival

@@ -1,25 +1,17 @@
 -- What one tick of a consumer does.
 use Rattle.std.specs.Prelude.{◌≡◌, ◌⊎◌, ℕ, ◌<◌, ◌≤◌, List, [], ◌∷◌, ◌++◌, length, Option, None, Some, unwrap_or}
-use Rattle.kob_names.specs.declared.record.Record.{Record}
-use Rattle.kob_rights.specs.declared.request.Request.{Request}
-use Rattle.kob_rights.specs.declared.request.Request.TheVariants.{Fetch, OffsetCommit, OffsetFetch}
 use Rattle.kob_rights.specs.declared.on_groups.OffsetCommit.{OffsetCommit as CommitRequest}
 use Rattle.kob_rights.specs.declared.on_groups.OffsetFetch.{OffsetFetch as PositionRequest}
 use Rattle.kob_rights.specs.declared.on_partitions.Fetch.{Fetch as FetchRequest}
-use Rattle.kob_rights.specs.declared.reply.Reply.{Reply}
-use Rattle.kob_rights.specs.declared.reply.Reply.TheVariants.{Denied, Refused, Done}
-use Rattle.kob_rights.specs.declared.reply.Body.{Body}
 use Rattle.kob_rights.specs.declared.reply.Body.TheVariants as bodies
 use Rattle.kob_router.specs.Line.{one_more}
-use Rattle.kob_router.specs.declared.line.Call.{Call}
 use Rattle.kob_inbox.specs.declared.fetcher.Fetcher.{Fetcher}
-use Rattle.kob_inbox.specs.declared.fetcher.Subscription.{Subscription}
 use Rattle.kob_inbox.specs.declared.tick.StopReason.{StopReason}
 use Rattle.kob_inbox.specs.declared.tick.StopReason.TheVariants as stop
 use Rattle.kob_inbox.specs.declared.tick.Tick.{Tick}
 use Rattle.kob_inbox.specs.declared.tick.Tick.TheVariants.{Placed, Took, Committed, Idle, Repeat, Stopped}
 use Rattle.kob_inbox.specs.Contents.{Contents}
-use Rattle.kob_inbox.specs.Run.{State, Move, IsConsumerRun, calls_of, after_answer, records_heard}
+use Rattle.kob_inbox.specs.Run.{Body, Call, Denied, Done, Fetch, OffsetCommit, OffsetFetch, Record, Refused, Reply, Request, Subscription, State, Move, IsConsumerRun, calls_of, after_answer, records_heard}
 use Rattle.kob_inbox.specs.Run.Move.{Called}
 
 -- a consumer with its inbox
@@ -79,19 +71,13 @@ IsAnswer t Idle moves =
 IsAnswer t Repeat moves = (moves ≡ []) ⊎ ((request : Request) × IsCall moves request None 0)
 IsAnswer t (Stopped reason) moves = IsReason reason moves
 
--- how often calls were not made for lack of memory, after a tick without a call: only a loss tells
--- of one
-abbrev pub unmade_after : Tick → ℕ → ℕ
-unmade_after Repeat unmade = one_more unmade
-unmade_after tick unmade = unmade
-
--- the same after a tick with these moves
+-- how often calls were not made for lack of memory: of a tick, only a loss without a call tells so
 abbrev pub unmade_by : Tick → List Move → ℕ → ℕ
-unmade_by tick [] unmade = unmade_after tick unmade
 unmade_by tick (move ∷ moves) unmade = unmade
+unmade_by Repeat [] unmade = one_more unmade
+unmade_by tick [] unmade = unmade
 
--- the one move of a tick, or none: it is a run, its call is what the line notes, and the answer
--- tells of it
+-- the one move of a tick, or none: a run, whose call the line notes and the answer tells of
 pub record Ticks (t : Subscription) (old new : Scene) (tick : Tick) : Type 0 where
   pub moves : List Move
   pub run : IsConsumerRun t old.state moves new.state

@@ -1,7 +1,7 @@
 //! The progress of a consumer on each partition.
 
-ghost use Rattle.std.specs.Prelude.{◌≡◌, ◌<◌, None, false, vec_len, vec_capacity};
-ghost use Rattle.kob_inbox.specs.Cursors.{IsKnown, cursor_of, with_cursor, standing};
+ghost use Rattle.std.specs.Prelude.{◌≡◌, ◌<◌, IsSome, None, false, vec_len, vec_capacity};
+ghost use Rattle.kob_inbox.specs.Run.{cursor_of, with_cursor, standing};
 
 use kob_router::{Place, is_same_place};
 
@@ -38,7 +38,7 @@ pub(crate) fn standing_of(cursors: &[Cursor], place: &Place) -> Option<Standing>
 }
 
 /// Adds the cursor of a partition that has none, in reserved capacity.
-#[tactic(auto, using(crate::proofs::Cursoring::moved_new))]
+#[tactic(auto, using(crate::proofs::Ticking::moved_new))]
 pub(crate) fn put(cursors: &mut Vec<Cursor>, place: Place, position: u64)
     requires room { vec_len cursors.old < vec_capacity cursors.old }
     requires unknown { standing (cursor_of cursors.old.items place) ≡ None }
@@ -53,9 +53,9 @@ pub(crate) fn put(cursors: &mut Vec<Cursor>, place: Place, position: u64)
 }
 
 /// Moves the cursor of a partition.
-#[tactic(auto, using(crate::proofs::Cursoring::changed))]
+#[tactic(auto, using(crate::proofs::Ticking::changed))]
 pub(crate) fn set(cursors: &mut [Cursor], place: &Place, position: u64, uncommitted: bool)
-    requires { IsKnown (cursor_of cursors.old place.now) }
+    requires { IsSome (cursor_of cursors.old place.now) }
     ensures { cursors.new ≡ with_cursor cursors.old
         (record { place = place.now; position = position; uncommitted = uncommitted }) }
 {

@@ -1,6 +1,6 @@
 //! A consumer's step.
 
-ghost use Rattle.std.specs.Prelude.{◌≡◌, ◌≤◌, MatchOption, length, slice_get, Some};
+ghost use Rattle.std.specs.Prelude.{◌≡◌, ◌≤◌, IsSome, MatchOption, length, slice_get, Some};
 
 use crate::cursors::{Cursor, Standing, put, set, standing_of};
 use crate::fault::InboxFault;
@@ -22,7 +22,7 @@ pub struct Subscription {
 
 impl Subscription {
     ghost use Rattle.std.specs.Prelude.{IfOk};
-    ghost use Rattle.kob_inbox.specs.Assigned.{first_partitions};
+    ghost use Rattle.kob_inbox.specs.Run.{first_partitions};
 
     /// The first partitions of a topic, for this group. The error is out of memory.
     pub fn of(
@@ -82,7 +82,7 @@ impl Fetcher {
     ghost use Rattle.kob_rights.specs.Bodies.{IsBodyOf};
     ghost use Rattle.kob_rights.specs.Offsets.{BodyWithin, greatest_offset};
     ghost use Rattle.kob_inbox.specs.Contents.{Contents};
-    ghost use Rattle.kob_inbox.specs.Cursors.{IsKnown, with_progress, cursor_of, standing};
+    ghost use Rattle.kob_inbox.specs.Run.{with_progress, cursor_of, standing};
     ghost use Rattle.kob_inbox.specs.Run.{after_answer, due};
     ghost use Rattle.kob_inbox.specs.Tick.{Hears, IsOnTurn, Ticks, scene_of, state_of};
 
@@ -203,7 +203,7 @@ impl Fetcher {
     /// Handles an acknowledged commit of the position.
     fn committed(&mut self, place: &Place, position: u64)
         requires turn { self.old.turn < length self.old.subscription.assignment }
-        requires known { IsKnown (cursor_of self.old.cursors.items place.now) }
+        requires known { IsSome (cursor_of self.old.cursors.items place.now) }
         ensures same { self.new.subscription ≡ self.old.subscription }
         ensures turn { self.new.turn < length self.new.subscription.assignment }
         ensures done { (inbox : Contents) → state_of self.new inbox
@@ -229,7 +229,7 @@ impl Fetcher {
         records: &[(u64, Record)],
     ) -> Tick
         requires turn { self.old.turn < length self.old.subscription.assignment }
-        requires known { IsKnown (cursor_of self.old.cursors.items place.now) }
+        requires known { IsSome (cursor_of self.old.cursors.items place.now) }
         requires within { All (λ (entry : ℕ × Record). entry.0 < greatest_offset) records.now }
         ensures same { self.new.subscription ≡ self.old.subscription }
         ensures turn { self.new.turn < length self.new.subscription.assignment }
@@ -258,7 +258,7 @@ impl Fetcher {
 
     /// Moves the position after the records that were processed.
     fn advance(&mut self, place: &Place, passed: Passed)
-        requires { IsKnown (cursor_of self.old.cursors.items place.now) }
+        requires { IsSome (cursor_of self.old.cursors.items place.now) }
         ensures same { self.new.subscription ≡ self.old.subscription }
         ensures turn { self.new.turn ≡ self.old.turn }
         ensures moved { self.new.cursors.items

@@ -3,10 +3,9 @@
 ghost use Rattle.std.specs.Prelude.{◌≡◌, ◌⊎◌, ◌<◌, ◌≤◌, ◌^◌, None, Ok, [], map, IfErr, IfOk, OnErr};
 ghost use Rattle.std.specs.Prelude.{OnOk, IsErrOf};
 ghost use Rattle.std.specs.List.{enumerate_from};
-ghost use Rattle.kob_router.specs.HeaderId.{event_id};
-ghost use Rattle.kob_inbox.specs.Contents.{IsOnce, next_place};
-ghost use Rattle.kob_inbox.specs.Intake.{answer_to, with_record};
-ghost use Rattle.kob_inbox.specs.Rows.{placed_intake};
+ghost use Rattle.kob_router.specs.Route.{event_id};
+ghost use Rattle.kob_inbox.specs.Contents.{IsOnce, next_place, answer_to, with_record};
+ghost use Rattle.kob_inbox.specs.Contents.{placed_intake};
 
 use crate::fault::InboxFault;
 use crate::inbox_row::InboxRow;
@@ -48,7 +47,7 @@ pub struct Inbox {
 impl Model for Inbox {
     ghost use Rattle.kob_inbox.specs.Contents.{Contents};
     ghost use Rattle.kob_inbox.specs.Database.{HasLast, contents};
-    ghost use Rattle.kob_outbox.specs.Service.{database};
+    ghost use Rattle.kob_outbox.specs.Database.{database};
 
     ghost Value = { Contents };
 
@@ -77,7 +76,7 @@ impl Inbox {
     /// unique id decides whether it is there already, so that the cost does not grow with the
     /// number of rows. If all 9,223,372,036,854,775,807 places are used, or the number of the
     /// partition is greater than that, the fault is `Store`.
-    #[tactic(auto, using(crate::proofs::Answering::stays, crate::proofs::Answering::stays_seen, crate::proofs::Answering::moves))]
+    #[tactic(auto, using(crate::proofs::Intakes::stays, crate::proofs::Intakes::stays_seen, crate::proofs::Intakes::moves))]
     pub fn take_in(
         &mut self,
         topic: &str,

@@ -5,14 +5,10 @@ ghost use Rattle.std.specs.Prelude.{IfOk, IfErr, OnOk, OnErr};
 ghost use Rattle.std.specs.List.{enumerate_from};
 ghost use Rattle.sqlite.specs.declared.types.Value.TheVariants.{Int};
 ghost use Rattle.std.specs.Option.{option_copied};
-ghost use Rattle.kob_outbox.specs.Blank.{IsBlank};
-ghost use Rattle.kob_outbox.specs.Service.{database};
-ghost use Rattle.kob_outbox.specs.Tables.{no_schema};
-ghost use Rattle.kob_inbox.specs.Contents.{next_place};
-ghost use Rattle.kob_inbox.specs.Database.{IsInbox, contents};
-ghost use Rattle.kob_inbox.specs.Intake.{intake_of, is_there, with_intake};
-ghost use Rattle.kob_inbox.specs.Layout.{IsReadable, shown_intake};
-ghost use Rattle.kob_inbox.specs.Origin.{arrival_from};
+ghost use Rattle.kob_outbox.specs.Database.{IsBlank, database, no_schema};
+ghost use Rattle.kob_inbox.specs.Contents.{next_place, intake_of, is_there, with_intake};
+ghost use Rattle.kob_inbox.specs.Contents.{arrival_from};
+ghost use Rattle.kob_inbox.specs.Database.{IsInbox, contents, IsReadable, shown_intake};
 
 use crate::origin::Origin;
 use kob_names::Record;

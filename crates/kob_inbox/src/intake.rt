@@ -4,7 +4,7 @@ ghost use Rattle.std.specs.Prelude.{◌≡◌, ℕ, ◌<◌, ◌≤◌, None, So
 ghost use Rattle.std.specs.List.{All};
 ghost use Rattle.kob_names.specs.declared.record.Record.{Record};
 ghost use Rattle.kob_rights.specs.Offsets.{greatest_offset};
-ghost use Rattle.kob_inbox.specs.Intake.{arrivals, taken_in};
+ghost use Rattle.kob_inbox.specs.Contents.{arrivals, taken_in};
 ghost use Rattle.kob_inbox.specs.Run.{behind};
 
 use crate::fault::InboxFault;

@@ -2,9 +2,9 @@
 
 ghost use Rattle.std.specs.Prelude.{◌≡◌, map, IfErr, IfOk};
 ghost use Rattle.std.specs.List.{enumerate_from};
-ghost use Rattle.kob_outbox.specs.Service.{database};
+ghost use Rattle.kob_outbox.specs.Database.{database};
 ghost use Rattle.kob_inbox.specs.Database.{IsInbox, contents};
-ghost use Rattle.kob_inbox.specs.Rows.{placed_intake};
+ghost use Rattle.kob_inbox.specs.Contents.{placed_intake};
 
 use crate::fault::InboxFault;
 use crate::inbox_row::InboxRow;
@@ -14,7 +14,7 @@ use sqlite::{Connection, MemStore};
 use std::alloc::Global;
 
 /// All events, in the order of their places.
-#[tactic(auto, using(crate::proofs::Shown::all_shown))]
+#[tactic(auto, using(crate::proofs::Reading::all_shown))]
 pub(crate) fn all_rows(
     conn: &mut Connection<MemStore>,
     alloc: Global,

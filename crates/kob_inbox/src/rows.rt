@@ -2,8 +2,8 @@
 
 ghost use Rattle.std.specs.Prelude.{◌≡◌, map, IfOk, IfErr};
 ghost use Rattle.std.specs.List.{AllByRecursion};
-ghost use Rattle.kob_inbox.specs.Layout.{IsShown, shown_intake};
-ghost use Rattle.kob_inbox.specs.Rows.{placed_intake};
+ghost use Rattle.kob_inbox.specs.Database.{IsShown, shown_intake};
+ghost use Rattle.kob_inbox.specs.Contents.{placed_intake};
 
 use crate::fault::InboxFault;
 use crate::inbox_row::InboxRow;

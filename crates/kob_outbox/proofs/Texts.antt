@@ -1,10 +1,7 @@
 -- What the fixed texts mean.
-use Rattle.kob_outbox.proofs.statements.Words.{Abort, Binary, Command, Compare, Delete, Eq, Gt, Ignore, Insert, InsertOr, Int, Le, List, Null, Some, Term, Text, Update, Upsert, Values, [], arith, business, business_table, codes, col, lit, mark, mark_table, nat_tests, no_schema, one_table, op2, outbox, outbox_table, pos, refl, service_schema, spent, spent_table, three_tables, two_tables, ℕ, ◌∷◌}
-use Rattle.sqlite_tied.specs.Compute.{everything}
-use Rattle.sqlite.specs.Listing.{understood}
-use Rattle.kob_outbox.proofs.statements.Creating.{IsCreation}
+use Rattle.kob_outbox.proofs.statements.Words.{understood, everything, [], Abort, Binary, Command, Compare, Delete, Eq, Gt, Ignore, Insert, InsertOr, Int, Le, List, Null, Some, Term, Text, Update, Upsert, Values, arith, business, business_table, codes, col, lit, mark, mark_table, nat_tests, no_schema, one_table, op2, outbox, outbox_table, pos, refl, service_schema, spent, spent_table, three_tables, two_tables, ℕ, ◌∷◌}
+use Rattle.kob_outbox.proofs.statements.Steps.{IsCreation, IsWriting}
 use Rattle.kob_outbox.proofs.statements.Selecting.{IsSelect, Scan, by_key, no_limit, over, program_of}
-use Rattle.kob_outbox.proofs.statements.Writing.{IsWriting}
 
 pub create_business : IsCreation no_schema
     (codes "CREATE TABLE business (kind TEXT NOT NULL, id TEXT NOT NULL, state TEXT NOT NULL, PRIMARY KEY (kind, id))")
@@ -38,8 +35,7 @@ first_mark = lit (Int (pos 1)) ∷ lit Null ∷ lit (Int (pos 0)) ∷ []
 abbrev pub first_mark_text : List ℕ
 first_mark_text = codes "INSERT INTO mark (one, upto) VALUES (1, 0)"
 
-pub insert_mark : IsWriting service_schema first_mark_text
-    (Insert 2 (Values first_mark 3)) 2 mark_table
+pub insert_mark : IsWriting service_schema first_mark_text (Insert 2 (Values first_mark 3)) 2 mark_table
 unfolding understood everything
 insert_mark = grind (arith, nat_tests)
 
@@ -49,8 +45,7 @@ moved_marks = over 4 [] (col 1 0 ∷ col 1 0 ∷ lit Null ∷ col 0 0 ∷ []) []
 abbrev pub move_mark_text : List ℕ
 move_mark_text = codes "UPDATE mark SET upto = ?1"
 
-pub update_mark : IsWriting service_schema move_mark_text
-    (Update 2 (program_of moved_marks)) 2 mark_table
+pub update_mark : IsWriting service_schema move_mark_text (Update 2 (program_of moved_marks)) 2 mark_table
 unfolding understood everything
 update_mark = grind (arith, nat_tests)
 
@@ -146,7 +141,6 @@ select_sent upto =
 abbrev pub sweep_text : List ℕ
 sweep_text = codes "DELETE FROM outbox WHERE seq <= ?1"
 
-pub delete_sent : IsWriting service_schema sweep_text
-    (Delete 3 (program_of events_upto)) 3 outbox_table
+pub delete_sent : IsWriting service_schema sweep_text (Delete 3 (program_of events_upto)) 3 outbox_table
 unfolding understood everything
 delete_sent = grind (arith, nat_tests)

@@ -1,5 +1,5 @@
 -- A search for a zero byte says whether a text has one.
-use Rattle.kob_outbox.proofs.statements.Words.{Bool, IsFirstByte, List, None, Nowhere, Option, Passes, Some, [], ap, arith, false, is_byte, is_none, length, list_any, list_any_at, not, or_from, refl, suc, sym, ℕ, ◌==◌, ◌∷◌, ◌≡◌, false_from_ne_true}
+use Rattle.kob_outbox.proofs.statements.Words.{[], Bool, IsFirstByte, List, None, Nowhere, Option, Passes, Some, ap, arith, false, is_byte, is_none, length, list_any, list_any_at, not, or_from, refl, suc, sym, ℕ, ◌==◌, ◌∷◌, ◌≡◌, false_from_ne_true}
 
 abbrev is_zero : ℕ → Bool
 is_zero byte = byte == 0

@@ -1,11 +1,4 @@
-pub mod Blank
 pub mod Contents
-pub mod Events
+pub mod Database
 pub mod Faults
-pub mod Fields
 pub mod Layout
-pub mod Numbers
-pub mod Reading
-pub mod Recording
-pub mod Service
-pub mod Tables

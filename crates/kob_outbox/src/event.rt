@@ -1,7 +1,7 @@
 //! Events of aggregates, and the rows that hold them.
 
 ghost use Rattle.std.specs.Prelude.{◌≡◌, IfOk, string_bytes};
-ghost use Rattle.kob_outbox.specs.Events.{id_text, stored_event};
+ghost use Rattle.kob_outbox.specs.Contents.{id_text, stored_event};
 
 use crate::change::Change;
 use std::alloc::{AllocError, Global};

@@ -1,7 +1,7 @@
 //! Which texts the tables may have.
 
 ghost use Rattle.std.specs.Prelude.{◌≡◌};
-ghost use Rattle.kob_outbox.specs.Fields.{first_bad, fits as fits_in};
+ghost use Rattle.kob_outbox.specs.Contents.{first_bad, fits as fits_in};
 
 use crate::change::Change;
 use crate::event::OutboxEvent;

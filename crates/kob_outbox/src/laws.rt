@@ -1,10 +1,8 @@
 //! What follows from the definitions.
 
 ghost use Rattle.std.specs.Prelude.{◌≡◌, ◌≢◌, ℕ, List, string_bytes, Some};
-ghost use Rattle.kob_outbox.specs.Contents.{Contents};
-ghost use Rattle.kob_outbox.specs.Events.{key_of};
-ghost use Rattle.kob_outbox.specs.Reading.{first_after, state_at, without_sent};
-ghost use Rattle.kob_outbox.specs.Recording.{after_record};
+ghost use Rattle.kob_outbox.specs.Contents.{Contents, key_of, first_after, state_at, without_sent};
+ghost use Rattle.kob_outbox.specs.Contents.{after_record};
 ghost use Rattle.kob_outbox.specs.declared.change.Change.{Change};
 ghost use Rattle.kob_outbox.specs.declared.event.OutboxEvent.{OutboxEvent};
 

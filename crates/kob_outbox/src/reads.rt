@@ -1,9 +1,8 @@
 //! Reads of the tables. As these are in memory, a read fails only if out of memory.
 
 ghost use Rattle.std.specs.Prelude.{◌≡◌, option_map, string_bytes, map, IfErr, IfOk};
-ghost use Rattle.kob_outbox.specs.Events.{stored_row};
-ghost use Rattle.kob_outbox.specs.Reading.{first_after, state_at};
-ghost use Rattle.kob_outbox.specs.Service.{IsService, contents, database};
+ghost use Rattle.kob_outbox.specs.Contents.{stored_row, first_after, state_at};
+ghost use Rattle.kob_outbox.specs.Database.{IsService, contents, database};
 
 use crate::business_table::select_business;
 use crate::event::Row;
@@ -15,7 +14,7 @@ use sqlite::{Connection, MemStore};
 use std::alloc::Global;
 
 /// The state of the business row with this kind and id.
-#[tactic(auto, using(crate::proofs::Shown::first_state))]
+#[tactic(auto, using(crate::proofs::Reading::first_state))]
 pub(crate) fn state_of(
     conn: &mut Connection<MemStore>,
     kind: &str,

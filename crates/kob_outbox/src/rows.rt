@@ -2,7 +2,7 @@
 
 ghost use Rattle.std.specs.Prelude.{◌≡◌, map, IfOk, IfErr};
 ghost use Rattle.std.specs.List.{AllByRecursion};
-ghost use Rattle.kob_outbox.specs.Events.{stored_row};
+ghost use Rattle.kob_outbox.specs.Contents.{stored_row};
 ghost use Rattle.kob_outbox.specs.Layout.{IsShown, shown_event};
 
 use crate::event::{OutboxEvent, Row};
@@ -10,7 +10,7 @@ use crate::fault::OutboxFault;
 use std::alloc::Global;
 use uuid::Uuid;
 
-#[tactic(auto, using(crate::proofs::statements::Failing::readable_fails))]
+#[tactic(auto, using(crate::proofs::statements::Plain::readable_fails))]
 fn row_of(row: &sqlite::Row) -> Result<Row, OutboxFault>
     requires { IsShown row.now }
     ensures row { IfOk result (λ r. shown_event (stored_row r) ≡ row.now) }

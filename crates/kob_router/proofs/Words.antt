@@ -1,7 +1,6 @@
 -- The names that the lemmas cite, passed on from one place.
 pub use Rattle.kob_names.specs.TopicRules.{is_topic_byte, topic_fault}
-pub use Rattle.kob_outbox.specs.Contents.{Contents, Event}
-pub use Rattle.kob_outbox.specs.Events.{stored_event, stored_row}
+pub use Rattle.kob_outbox.specs.Contents.{Contents, Event, stored_event, stored_row}
 pub use Rattle.kob_outbox.specs.declared.event.OutboxEvent.{OutboxEvent}
 pub use Rattle.kob_producers.specs.Sequence.{next_sequence}
 pub use Rattle.kob_rights.specs.declared.reply.Body.{Body}
@@ -9,18 +8,12 @@ pub use Rattle.kob_rights.specs.declared.reply.Reply.{Reply}
 pub use Rattle.kob_rights.specs.declared.reply.Reply.TheVariants.{Denied, Done, Refused}
 pub use Rattle.kob_rights.specs.declared.request.Request.{Request}
 pub use Rattle.kob_rights.specs.declared.request.Request.TheVariants.{InitProducerId}
-pub use Rattle.kob_router.specs.Dispatches.{Dispatching, dispatch_of, place_of}
-pub use Rattle.kob_router.specs.HeaderId.{event_id}
+pub use Rattle.kob_router.specs.Partitioner.{Dispatching, dispatch_of, place_of, murmur2, partition_of, with_bytes, with_word, after_use, has_place, same_place, sequence_of, with_sequence_for}
+pub use Rattle.kob_router.specs.Route.{event_id, each_entry, entries_of, id_header, message_of, placed_header, topic_named, each_dollar_begins, is_template, with_routed_value}
 pub use Rattle.kob_router.specs.Line.{Adds}
-pub use Rattle.kob_router.specs.Partitioner.{murmur2, partition_of, with_bytes, with_word}
-pub use Rattle.kob_router.specs.Parts.{Acknowledges, HasHand, Introduces, Requests, Takes}
-pub use Rattle.kob_router.specs.Placement.{each_entry, entries_of}
-pub use Rattle.kob_router.specs.Places.{after_use, has_place, same_place, sequence_of, with_sequence_for}
-pub use Rattle.kob_router.specs.Route.{id_header, message_of, placed_header, topic_named}
+pub use Rattle.kob_router.specs.Tick.{Acknowledges, HasHand, Introduces, Requests, Takes, EndsHeard, EndsUnmarked, IsAnswer, IsAtMostOne, IsHeld, IsOfTick, IsOneTick, Scene, Ticks, hand_of, state_of}
 pub use Rattle.kob_router.specs.Run.{Hand, IsDone, IsRouterRun, IsSending, KeepsRow, May, MayCall, Move, State, after, after_acknowledgement, calls_of, producer_after}
 pub use Rattle.kob_router.specs.Run.Move.{Called, Recorded, Restarted, Swept, Took}
-pub use Rattle.kob_router.specs.Template.{each_dollar_begins, is_template, with_routed_value}
-pub use Rattle.kob_router.specs.Tick.{EndsHeard, EndsUnmarked, IsAnswer, IsAtMostOne, IsHeld, IsOfTick, IsOneTick, Scene, Ticks, hand_of, state_of}
 pub use Rattle.kob_router.specs.declared.dispatch.Target.{Target}
 pub use Rattle.kob_router.specs.declared.line.Call.{Call}
 pub use Rattle.kob_router.specs.declared.line.Delivery.TheVariants.{Lost}
@@ -38,6 +31,7 @@ pub use Rattle.kob_router.specs.declared.tick.Tick.TheVariants.{Idle, Moved, Rep
 pub use Rattle.std.proofs.Common.{All, Bool, Err, IfOk, IsOk, List, None, Ok, Option, Result, Some, [], ap, append-nil, append_assoc, arith, drop, false, get_or, if◌then◌else◌, inl, inr, length, lit<, map, not, refl, set, subst, suc, sym, take, true, true≢false, ℕ, ◌++◌, ◌+◌, ◌-◌, ◌<◌, ◌^◌, ◌↔◌, ◌∙◌, ◌∷◌, ◌≡◌, ◌≤◌}
 pub use Rattle.std.proofs.lemmas.Bool.{cases_Bool, cases_lt, cond-false, cond-true, eq-eqb, or_left, or_right}
 pub use Rattle.std.proofs.lemmas.Bool.Decides.{nat_tests}
+pub use Rattle.std.proofs.lemmas.Grind.{common_steps}
 pub use Rattle.std.proofs.lemmas.Iterator.Consumers.{map_from_collect}
 pub use Rattle.std.proofs.lemmas.Iterator.Splits.{YieldsList-from_str_split}
 pub use Rattle.std.proofs.lemmas.List.{drop_more, get_or_past, set_split}

@@ -1,13 +1,5 @@
-pub mod Answers
-pub mod Dispatches
-pub mod HeaderId
 pub mod Line
 pub mod Partitioner
-pub mod Parts
-pub mod Placement
-pub mod Places
 pub mod Route
 pub mod Run
-pub mod Served
-pub mod Template
 pub mod Tick

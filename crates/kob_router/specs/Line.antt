@@ -1,4 +1,4 @@
--- What a line tells of its calls.
+-- What a line tells of its calls, and which of them were served.
 use Rattle.std.specs.Prelude.{◌≡◌, ◌⊎◌, ℕ, ◌+◌, min, List, [], ◌∷◌, ◌++◌, None, Some}
 use Rattle.kob_rights.specs.declared.request.Request.{Request}
 use Rattle.kob_rights.specs.Bodies.{Fits}
@@ -6,6 +6,7 @@ use Rattle.kob_rights.specs.Offsets.{OffsetsWithin}
 use Rattle.kob_router.specs.declared.line.Call.{Call}
 use Rattle.kob_router.specs.declared.line.Delivery.{Delivery}
 use Rattle.kob_router.specs.declared.line.Delivery.TheVariants.{Delivered, Lost}
+use Rattle.kob_rights.specs.declared.reply.Reply.{Reply}
 
 -- one more, counted up to the greatest number of 64 bits
 abbrev pub one_more : ℕ → ℕ
@@ -24,3 +25,19 @@ Adds before now unmade then_unmade request Lost =
 abbrev pub IsFaithful : Request → Delivery → Type 0
 IsFaithful request (Delivered reply) = Fits request reply × OffsetsWithin reply
 IsFaithful request Lost = Unit {0}
+
+-- a request that the broker served, and its reply
+pub record Served : Type 0 where
+  pub request : Request
+  pub reply : Reply
+
+-- each call that was heard was served with that reply; one that was lost was served, or was not
+abbrev pub AreServed : List Call → List Served → Type 0
+AreServed [] [] = Unit {0}
+AreServed [] (s ∷ ss) = ⊥
+AreServed (c ∷ cs) [] = (c.heard ≡ None) × AreServed cs []
+AreServed (c ∷ cs) (s ∷ ss) =
+    ((c.heard ≡ None) × AreServed cs (s ∷ ss))
+    ⊎ ((s.request ≡ c.request)
+    × ((c.heard ≡ None) ⊎ (c.heard ≡ Some s.reply))
+    × AreServed cs ss)

@@ -3,25 +3,20 @@ use Rattle.std.specs.Prelude.{◌≡◌, ℕ, ◌<◌, ◌^◌, List, [], ◌∷
 use Rattle.std.specs.List.{slice_get}
 use Rattle.kob_names.specs.declared.record.Record.{Record}
 use Rattle.kob_names.specs.declared.batch.Batch.{Batch}
-use Rattle.kob_rights.specs.declared.request.Request.{Request}
-use Rattle.kob_rights.specs.declared.request.Request.TheVariants.{InitProducerId, Produce}
-use Rattle.kob_rights.specs.declared.on_partitions.Produce.{Produce as ProduceRequest}
-use Rattle.kob_rights.specs.declared.reply.Reply.{Reply}
-use Rattle.kob_rights.specs.declared.reply.Reply.TheVariants.{Done}
+pub use Rattle.kob_rights.specs.declared.request.Request.{Request}
+pub use Rattle.kob_rights.specs.declared.request.Request.TheVariants.{InitProducerId, Produce}
+pub use Rattle.kob_rights.specs.declared.on_partitions.Produce.{Produce as ProduceRequest}
+pub use Rattle.kob_rights.specs.declared.reply.Reply.{Reply}
+pub use Rattle.kob_rights.specs.declared.reply.Reply.TheVariants.{Denied, Refused, Done}
 use Rattle.kob_rights.specs.declared.reply.Body.TheVariants as bodies
 use Rattle.kob_outbox.specs.declared.change.Change.{Change}
 use Rattle.kob_outbox.specs.declared.event.OutboxEvent.{OutboxEvent}
-use Rattle.kob_outbox.specs.Contents.{Contents, Event, empty}
-use Rattle.kob_outbox.specs.Events.{id_text, stored_event}
-use Rattle.kob_outbox.specs.Fields.{first_bad}
-use Rattle.kob_outbox.specs.Reading.{later_than, without_sent}
-use Rattle.kob_outbox.specs.Recording.{is_recorded, next_seq, after_record}
-use Rattle.kob_router.specs.declared.line.Call.{Call}
+use Rattle.kob_outbox.specs.Contents.{Contents, Event, empty, id_text, stored_event, first_bad, later_than, without_sent, is_recorded, next_seq, after_record}
+pub use Rattle.kob_router.specs.declared.line.Call.{Call}
 use Rattle.kob_router.specs.declared.place.Place.{Place}
-use Rattle.kob_router.specs.declared.sender.Producer.{Producer}
-use Rattle.kob_router.specs.declared.sequences.Sequence.{Sequence}
-use Rattle.kob_router.specs.Dispatches.{Dispatching, place_of}
-use Rattle.kob_router.specs.Places.{with_sequence_for, sequence_of, after_use}
+pub use Rattle.kob_router.specs.declared.sender.Producer.{Producer}
+pub use Rattle.kob_router.specs.declared.sequences.Sequence.{Sequence}
+use Rattle.kob_router.specs.Partitioner.{Dispatching, place_of, with_sequence_for, sequence_of, after_use}
 
 -- the row that is sent until it is acknowledged, and where it goes
 pub record Hand : Type 0 where
@@ -64,11 +59,10 @@ pub record IsRecordable (c : Contents) (change : Change) (event : OutboxEvent) :
 
 -- a batch of one record, with the producer's sequence
 abbrev pub batch_of : Producer → ℕ → Record → Batch
-batch_of producer base message =
-    record {
-      idem = Some (record { id = producer.id; epoch = producer.epoch; base = base });
-      records = message ∷ [];
-    }
+batch_of producer base message = record {
+  idem = Some (record { id = producer.id; epoch = producer.epoch; base = base });
+  records = message ∷ [];
+}
 
 -- the one request that sends what is in hand: to its place, with the next sequence there
 pub record IsSending (route : Dispatching) (s : State) (produce : ProduceRequest) : Type 0 where
@@ -115,26 +109,24 @@ producer_after old _ _ = old
 -- the row in hand is acknowledged: the mark moves to it, its sequence is used, nothing is in hand
 abbrev pub after_acknowledgement : State → Option Hand → State
 after_acknowledgement s None = s
-after_acknowledgement s (Some hand) =
-    record {
-      outbox = record s.outbox { mark = hand.event.seq };
-      producer = s.producer;
-      sequences = after_use s.sequences hand.place;
-      hand = None;
-    }
+after_acknowledgement s (Some hand) = record {
+  outbox = record s.outbox { mark = hand.event.seq };
+  producer = s.producer;
+  sequences = after_use s.sequences hand.place;
+  hand = None;
+}
 
 -- what is done leaves
 abbrev pub after : State → Move → State
 after s (Recorded change event) = record s { outbox = after_record s.outbox change event }
 after s Swept = record s { outbox = without_sent s.outbox.mark s.outbox }
 after s Restarted = record { outbox = s.outbox; producer = None; sequences = []; hand = None }
-after s (Took hand) =
-    record {
-      outbox = s.outbox;
-      producer = s.producer;
-      sequences = with_sequence_for s.sequences hand.place;
-      hand = Some hand;
-    }
+after s (Took hand) = record {
+  outbox = s.outbox;
+  producer = s.producer;
+  sequences = with_sequence_for s.sequences hand.place;
+  hand = Some hand;
+}
 after s (Called call marks) =
     if marks then after_acknowledgement s s.hand
     else record s { producer = producer_after s.producer call.request call.heard }

@@ -1,27 +1,19 @@
--- What one tick of a router does.
-use Rattle.std.specs.Prelude.{◌≡◌, ◌⊎◌, ℕ, ◌<◌, List, [], ◌∷◌, ◌++◌, true, false, Option, None, Some, IsSome, option_map}
+-- What one tick of a router does, and each of its parts.
+use Rattle.std.specs.Prelude.{◌≡◌, ◌⊎◌, ℕ, ◌<◌, List, [], ◌∷◌, ◌++◌, true, false, Option, None, Some, IsSome, option_map, Bool, Result, Ok, Err}
 use Rattle.std.specs.List.{AllByRecursion}
-use Rattle.kob_rights.specs.declared.request.Request.{Request}
-use Rattle.kob_rights.specs.declared.request.Request.TheVariants.{InitProducerId, Produce}
-use Rattle.kob_rights.specs.declared.on_partitions.Produce.{Produce as ProduceRequest}
-use Rattle.kob_rights.specs.declared.reply.Reply.{Reply}
-use Rattle.kob_rights.specs.declared.reply.Reply.TheVariants.{Denied, Refused, Done}
 use Rattle.kob_rights.specs.declared.reply.Body.{Body}
-use Rattle.kob_outbox.specs.Contents.{Contents, Event}
-use Rattle.kob_outbox.specs.Events.{stored_row}
-use Rattle.kob_router.specs.declared.line.Call.{Call}
+use Rattle.kob_outbox.specs.Contents.{Contents, Event, stored_row}
 use Rattle.kob_router.specs.declared.sender.HeldRow.{HeldRow}
 use Rattle.kob_router.specs.declared.sender.Sender.{Sender}
-use Rattle.kob_router.specs.declared.sequences.Sequence.{Sequence}
 use Rattle.kob_router.specs.declared.tick.Tick.{Tick}
 use Rattle.kob_router.specs.declared.tick.Tick.TheVariants.{Moved, Idle, Repeat, Stopped}
 use Rattle.kob_router.specs.declared.tick.StopReason.{StopReason}
-use Rattle.kob_router.specs.declared.tick.StopReason.TheVariants as stop
-use Rattle.kob_router.specs.Dispatches.{Dispatching, dispatch_of, place_of}
+use Rattle.kob_router.specs.Partitioner.{Dispatching, dispatch_of, place_of, has_place, with_sequence_for}
 use Rattle.kob_router.specs.Line.{one_more}
-use Rattle.kob_router.specs.Places.{has_place}
-use Rattle.kob_router.specs.Run.{Hand, State, Move, IsRouterRun, IsDone, calls_of, next_row}
+use Rattle.kob_router.specs.Run.{Call, Denied, Done, InitProducerId, Produce, ProduceRequest, Producer, Refused, Reply, Request, Sequence, Hand, State, Move, IsRouterRun, IsDone, calls_of, next_row, IsSending, after_acknowledgement}
 use Rattle.kob_router.specs.Run.Move.{Called, Took}
+use Rattle.kob_router.specs.declared.tick.StopReason.TheVariants as stop
+use Rattle.kob_rights.specs.declared.reply.Body.TheVariants as bodies
 
 -- a row that was read, with its place
 abbrev pub hand_of : HeldRow → Hand
@@ -29,13 +21,12 @@ hand_of held = record { event = stored_row held.row; place = held.place }
 
 -- a router with its outbox
 abbrev pub state_of : Sender → Contents → State
-state_of sender outbox =
-    record {
-      outbox = outbox;
-      producer = sender.producer;
-      sequences = sender.sequences;
-      hand = option_map hand_of sender.hand;
-    }
+state_of sender outbox = record {
+  outbox = outbox;
+  producer = sender.producer;
+  sequences = sender.sequences;
+  hand = option_map hand_of sender.hand;
+}
 
 -- a router with its outbox, and what its line tells
 pub record Scene : Type 0 where
@@ -68,8 +59,7 @@ IsFirst (Some hand) outbox = next_row outbox ≡ Some hand.event
 abbrev pub IsHeld : Dispatching → State → Type 0
 IsHeld route s = IsFirst s.hand s.outbox × IsPlaced route s.hand s.sequences
 
--- a tick takes a row in hand and makes calls; it records nothing, drops nothing and does not
--- restart
+-- a tick takes a row in hand and makes calls, and does nothing else
 abbrev pub IsOfTick : Move → Type 0
 IsOfTick (Took hand) = Unit {0}
 IsOfTick (Called call marks) = Unit {0}
@@ -142,8 +132,7 @@ IsAtMostOne [] = Unit {0}
 IsAtMostOne (c ∷ []) = Unit {0}
 IsAtMostOne (c ∷ d ∷ cs) = ⊥
 
--- the moves of a tick, or of a part of one: they are a run, their calls are what the line notes,
--- and the answer tells of them
+-- the moves of a tick or of a part of it: a run, whose calls the line notes and the answer tells of
 pub record Ticks (shape : List Call → Type 0) (route : Dispatching) (old new : Scene) (tick : Tick)
     : Type 0 where
   pub moves : List Move
@@ -153,3 +142,76 @@ pub record Ticks (shape : List Call → Type 0) (route : Dispatching) (old new :
   pub few : shape (calls_of moves)
   pub answer : IsAnswer route tick moves new.state old.unmade new.unmade
   pub held : IsHeld route new.state
+
+-- ---- the parts of a tick
+
+-- the one call for a producer id, as it was heard
+abbrev pub IsAsked
+    : Option Producer → Option Producer → List Call → List Call → ℕ → ℕ → Call → Type 0
+IsAsked old new before now unmade then_unmade call =
+    (old ≡ None) × (new ≡ None) × (now ≡ before ++ call ∷ []) × (then_unmade ≡ unmade)
+
+-- the call by which a producer id was given
+abbrev pub given_call : Producer → Call
+given_call p =
+    record { request = InitProducerId; heard = Some (Done (bodies.Producer p.id p.epoch)) }
+
+-- how a producer id came to be known, or why it is not
+abbrev pub Introduces
+    : Option Producer → Option Producer → List Call → List Call → ℕ → ℕ → Result Producer Tick
+    → Type 0
+Introduces old new before now unmade then_unmade (Ok p) =
+    (new ≡ Some p)
+    × (((old ≡ Some p) × (now ≡ before) × (then_unmade ≡ unmade))
+    ⊎ ((old ≡ None) × (now ≡ before ++ given_call p ∷ []) × (then_unmade ≡ unmade)))
+Introduces old new before now unmade then_unmade (Err Repeat) =
+    (old ≡ None) × (new ≡ None)
+    × (((now ≡ before ++ record { request = InitProducerId; heard = None } ∷ [])
+    × (then_unmade ≡ unmade))
+    ⊎ ((now ≡ before) × (then_unmade ≡ one_more unmade)))
+Introduces old new before now unmade then_unmade (Err (Stopped (stop.Denied code verdicts))) =
+    IsAsked old new before now unmade then_unmade
+    (record { request = InitProducerId; heard = Some (Denied code verdicts) })
+Introduces old new before now unmade then_unmade (Err (Stopped (stop.Refused code reason))) =
+    IsAsked old new before now unmade then_unmade
+    (record { request = InitProducerId; heard = Some (Refused code reason) })
+Introduces old new before now unmade then_unmade _ = ⊥
+
+-- the first row after the mark is in hand, where nothing was
+pub record IsTaken (route : Dispatching) (outbox : Contents) (old new : Sender) : Type 0 where
+  pub held : HeldRow
+  pub nothing_before : old.hand ≡ None
+  pub first_waits : next_row outbox ≡ Some (stored_row held.row)
+  pub goes : place_of (route (stored_row held.row)) ≡ Some held.place
+  pub taken : new ≡ record old {
+    sequences = with_sequence_for old.sequences held.place;
+    hand = Some held;
+  }
+
+-- whether a row is in hand, or why none could be taken
+abbrev pub Takes : Dispatching → Contents → Sender → Sender → Result Bool StopReason → Type 0
+Takes route outbox old new (Ok true) =
+    ((held : HeldRow) × (old.hand ≡ Some held) × (new ≡ old)) ⊎ IsTaken route outbox old new
+Takes route outbox old new (Ok false) = (old.hand ≡ None) × (next_row outbox ≡ None) × (new ≡ old)
+Takes route outbox old new (Err stop.BadTopic) =
+    (old.hand ≡ None) × (new ≡ old)
+    × ((event : Event) × (next_row outbox ≡ Some event) × (route event ≡ None))
+Takes route outbox old new (Err stop.Memory) = new ≡ old
+Takes route outbox old new (Err _) = ⊥
+
+-- a row is in hand
+abbrev pub HasHand : Sender → Type 0
+HasHand sender = (held : HeldRow) × (sender.hand ≡ Some held)
+
+-- the request that sends what is in hand
+abbrev pub Requests : Dispatching → Sender → Request → Type 0
+Requests route sender (Produce produce) =
+    (outbox : Contents) → IsSending route (state_of sender outbox) produce
+Requests route sender _ = ⊥
+
+-- the mark moves to the row in hand, or all stays
+abbrev pub Acknowledges : State → State → Result ℕ StopReason → Type 0
+Acknowledges old new (Ok seq) = (new ≡ after_acknowledgement old old.hand) × (new.outbox.mark ≡ seq)
+Acknowledges old new (Err stop.Memory) = new ≡ old
+Acknowledges old new (Err stop.Store) = new ≡ old
+Acknowledges old new (Err _) = ⊥

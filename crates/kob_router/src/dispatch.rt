@@ -1,9 +1,9 @@
 //! Where a row is sent, and as which record.
 
 ghost use Rattle.std.specs.Prelude.{◌≡◌, ◌<◌, IfOk};
-ghost use Rattle.kob_outbox.specs.Events.{stored_row};
-ghost use Rattle.kob_router.specs.Answers.{OkIfSome};
-ghost use Rattle.kob_router.specs.Dispatches.{dispatch_of, place_of};
+ghost use Rattle.kob_outbox.specs.Contents.{stored_row};
+ghost use Rattle.kob_router.specs.Route.{OkIfSome};
+ghost use Rattle.kob_router.specs.Partitioner.{dispatch_of, place_of};
 
 use crate::fault::RecordFault;
 use crate::partitioner::partition_of;

@@ -4,7 +4,7 @@ ghost use Rattle.std.specs.Prelude.{◌≡◌};
 ghost use Rattle.std.specs.List.{find};
 ghost use Rattle.std.specs.Option.{option_copied};
 ghost use Rattle.uuid.specs.Text.{parsed};
-ghost use Rattle.kob_router.specs.HeaderId.{event_id, is_id};
+ghost use Rattle.kob_router.specs.Route.{event_id, is_id};
 
 use kob_names::{Header, Record};
 use uuid::Uuid;

@@ -2,9 +2,8 @@
 
 ghost use Rattle.std.specs.Prelude.{◌≡◌, ◌==◌, IfOk, map};
 ghost use Rattle.std.specs.List.{slice_split};
-ghost use Rattle.kob_router.specs.Answers.{OkIfSome};
-ghost use Rattle.kob_router.specs.Placement.{column_named, each_entry, entries_of, entry_of};
-ghost use Rattle.kob_router.specs.Placement.{entry_of_parts, is_alias, placed_as};
+ghost use Rattle.kob_router.specs.Route.{OkIfSome, column_named, each_entry, entries_of, entry_of};
+ghost use Rattle.kob_router.specs.Route.{entry_of_parts, is_alias, placed_as};
 
 use crate::fault::RouteFault;
 use kob_names::{Items, PlainValue, Text};

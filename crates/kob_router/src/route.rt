@@ -1,8 +1,7 @@
 //! Routes.
 
 ghost use Rattle.std.specs.Prelude.{◌≡◌, ◌↔◌, Some, None, false, IfOk, IsErrOf};
-ghost use Rattle.kob_router.specs.Placement.{entries_of};
-ghost use Rattle.kob_router.specs.Template.{is_template};
+ghost use Rattle.kob_router.specs.Route.{entries_of, is_template};
 
 use crate::fault::RouteFault;
 use crate::placement::entries_of;

@@ -1,11 +1,10 @@
 //! The record of a row, and the topic to which it goes.
 
 ghost use Rattle.std.specs.Prelude.{◌≡◌, IfOk};
-ghost use Rattle.kob_outbox.specs.Events.{stored_row};
-ghost use Rattle.kob_router.specs.Answers.{OkIfSome};
-ghost use Rattle.kob_router.specs.Route.{headers_of, id_header, message_of, placed_header};
-ghost use Rattle.kob_router.specs.Route.{placed_value, routed_row, routed_value, topic_named};
-ghost use Rattle.kob_router.specs.Route.{topic_of};
+ghost use Rattle.kob_outbox.specs.Contents.{stored_row};
+ghost use Rattle.kob_router.specs.Route.{OkIfSome, headers_of, id_header, message_of};
+ghost use Rattle.kob_router.specs.Route.{placed_header, placed_value, routed_row, routed_value};
+ghost use Rattle.kob_router.specs.Route.{topic_named, topic_of};
 
 use crate::fault::RecordFault;
 use crate::placement::{Placed, PlacedColumn};

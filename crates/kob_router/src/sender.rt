@@ -1,7 +1,7 @@
 //! The state of a router, and the parts of its step.
 
 ghost use Rattle.std.specs.Prelude.{◌≡◌, ◌<◌, IfErr, IfOk, option_map};
-ghost use Rattle.kob_outbox.specs.Events.{stored_row};
+ghost use Rattle.kob_outbox.specs.Contents.{stored_row};
 ghost use Rattle.kob_router.specs.Run.{batch_of, next_row};
 
 use crate::dispatch::{Target, place_of};
@@ -41,8 +41,8 @@ pub struct Sender {
 
 impl Sender {
     ghost use Rattle.std.specs.Prelude.{[], Some, None};
-    ghost use Rattle.kob_router.specs.Dispatches.{dispatch_of};
-    ghost use Rattle.kob_router.specs.Parts.{Acknowledges, HasHand, Introduces, Requests, Takes};
+    ghost use Rattle.kob_router.specs.Partitioner.{dispatch_of};
+    ghost use Rattle.kob_router.specs.Tick.{Acknowledges, HasHand, Introduces, Requests, Takes};
     ghost use Rattle.kob_router.specs.Tick.{IsAtMostOne, IsHeld, IsOneTick, IsPlaced, Ticks};
     ghost use Rattle.kob_router.specs.Tick.{hand_of, scene_of, state_of};
 

@@ -1,7 +1,7 @@
 //! The template of a topic's name, with variables for the value by which a row is routed.
 
 ghost use Rattle.std.specs.Prelude.{◌≡◌, IfOk};
-ghost use Rattle.kob_router.specs.Template.{with_routed_value, is_template, routed_by_value};
+ghost use Rattle.kob_router.specs.Route.{with_routed_value, is_template, routed_by_value};
 
 use bstr::ByteSlice;
 use std::alloc::{AllocError, Global};

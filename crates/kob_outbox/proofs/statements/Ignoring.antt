@@ -1,11 +1,8 @@
 -- INSERT OR IGNORE of one row.
-use Rattle.kob_outbox.proofs.statements.Words.{AllByRecursion, Among, AreConflicts, Bool, Clears, Command, Concludes, Database, Enforced, Err, Error, Escapes, Executes, Has, Ignore, InsertOr, Int, IsJudged, IsMisplaced, Judged, Keys, List, Mode, None, Ok, OnRows, OnTable, Option, Outcome, Refers, Refusal, Row, Schema, Some, Source, State, Table, Task, Term, Trees, Values, Written, [], accepts_terms, all_has, any_from_none, ap, arith, cast_row, conflicts, count_of, edit_of, edited, enumerate_from, false, fits_i64, id_in, if◌then◌else◌, inl, inr, length, list_any, map, mode_of, nat_tests, pos, refl, rowid, some_from, subst, suc, sym, true, understood, value_rows, ℕ, ◌++◌, ◌/◌, ◌<◌, ◌^◌, ◌∙◌, ◌∷◌, ◌≡◌}
-use Rattle.kob_outbox.proofs.statements.Failing.{IsMemory, IsWhole, NeverFails, for_memory_or}
-use Rattle.kob_outbox.proofs.statements.Numbered.{all_below, any_numbered, none_conflicts, one_conflicts, put_last}
-use Rattle.kob_outbox.proofs.statements.Plain.{same_value}
-use Rattle.kob_outbox.proofs.statements.Steps.{IsAlone, KeepOthers, candidate, put, task_on, tried, uncounted}
-use Rattle.kob_outbox.proofs.statements.Values.{fits}
-use Rattle.kob_outbox.proofs.statements.Writing.{IsWriting, wrote}
+use Rattle.kob_outbox.proofs.statements.Words.{[], AllByRecursion, Among, AreConflicts, Bool, Clears, Command, Concludes, Database, Enforced, Err, Error, Escapes, Executes, Has, Ignore, InsertOr, Int, IsJudged, IsMisplaced, Judged, Keys, List, Mode, None, Ok, OnRows, OnTable, Option, Outcome, Refers, Refusal, Row, Schema, Some, Source, State, Table, Task, Term, Trees, Values, Written, accepts_terms, all_has, any_from_none, ap, arith, cast_row, conflicts, count_of, edit_of, edited, enumerate_from, false, fits_i64, id_in, if◌then◌else◌, inl, inr, length, list_any, map, mode_of, nat_tests, pos, refl, rowid, some_from, subst, suc, sym, true, understood, value_rows, ℕ, ◌++◌, ◌/◌, ◌<◌, ◌^◌, ◌∙◌, ◌∷◌, ◌≡◌}
+use Rattle.kob_outbox.proofs.statements.Plain.{IsMemory, IsWhole, NeverFails, for_memory_or, same_value}
+use Rattle.kob_outbox.proofs.statements.Values.{all_below, any_numbered, none_conflicts, one_conflicts, put_last, fits}
+use Rattle.kob_outbox.proofs.statements.Steps.{IsAlone, KeepOthers, candidate, put, task_on, tried, uncounted, IsWriting, wrote}
 
 -- nothing in the row alone speaks against it
 abbrev pub IsSuited : Table → Row → Type 0
@@ -52,13 +49,12 @@ module _ (limit : Option ℕ) (keys : Keys) (schema : Schema) (table : Table) (p
   never_concludes free mode w stop (inr (doubt, tested, inr h)) = let e = h.2 in cc
 
   -- where a row that conflicts is there, nothing stops the statement
-  pub never_stops : ReferToNone schema → (alone : IsAlone schema keys table.tree) (at : ℕ) (terms : List Term)
-      (width : ℕ) (source new : Row) (db : Trees) (mode : Mode)
-      → value_rows (params ++ []) width (length terms / width) terms ≡ source ∷ [] → limit ≡ None
-      → accepts_terms terms (params ++ []) ≡ true
+  pub never_stops : ReferToNone schema
+      → (alone : IsAlone schema keys table.tree) (at : ℕ) (terms : List Term) (width : ℕ) (source new : Row)
+      (db : Trees) (mode : Mode) → value_rows (params ++ []) width (length terms / width) terms ≡ source ∷ []
+      → limit ≡ None → accepts_terms terms (params ++ []) ≡ true
       → candidate limit keys schema table params alone Ignore db source ≡ new → fits_i64 (id_in (rowid new)) ≡ true
-      → IsSuited table new
-      → ¬ (AreConflicts None schema.indexes (uncounted table) (db table.tree) new [])
+      → IsSuited table new → ¬ (AreConflicts None schema.indexes (uncounted table) (db table.tree) new [])
       → (stop : Option Error) → ¬ (OnRows Here mode None (InsertOr at Ignore (Values terms width) []) db (Err stop))
   never_stops free alone at terms width source new db mode is unlimited accepted row fits suits conflicting stop
       (inr (w, did, h)) = never_concludes free mode w stop h

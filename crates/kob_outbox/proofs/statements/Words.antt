@@ -1,14 +1,8 @@
 -- The words of SQL, of its tables and of lists that the proofs cite, passed on from one place.
-pub use Rattle.kob_outbox.specs.Blank.{IsAtRest, IsBlank}
-pub use Rattle.kob_outbox.specs.Contents.{Contents, Event, IsRising, Key, States, empty, key_cmp}
-pub use Rattle.kob_outbox.specs.Events.{id_text, key_of, stored_event, stored_row}
+pub use Rattle.kob_outbox.specs.Database.{IsAtRest, IsBlank, IsChanging, IsService, KeepsLast, Spends, contents, contents_of, database, business, business_table, mark, mark_table, no_schema, one_table, outbox, outbox_table, service_schema, spent, spent_table, three_tables, two_tables}
+pub use Rattle.kob_outbox.specs.Contents.{Contents, Event, IsRising, Key, States, empty, key_cmp, id_text, key_of, stored_event, stored_row, first_after, later_than, state_at, up_to, without_sent, IsNext, after_record, is_recorded, with_event, with_id, with_state}
 pub use Rattle.kob_outbox.specs.Faults.{fault_of}
-pub use Rattle.kob_outbox.specs.Layout.{AreBusiness, Business, Holds, IsReadable, IsRisingFrom, IsShown, blob_in, business_tree, contents_in, entry_of, event_row, has_key, mark_row, mark_tree, outbox_tree, placed_row, shown_event, shown_state, spent_row, spent_rows, spent_tree, text_in}
-pub use Rattle.kob_outbox.specs.Numbers.{number_in}
-pub use Rattle.kob_outbox.specs.Reading.{first_after, later_than, state_at, up_to, without_sent}
-pub use Rattle.kob_outbox.specs.Recording.{IsNext, after_record, is_recorded, with_event, with_id, with_state}
-pub use Rattle.kob_outbox.specs.Service.{IsChanging, IsService, KeepsLast, Spends, contents, contents_of, database}
-pub use Rattle.kob_outbox.specs.Tables.{business, business_table, mark, mark_table, no_schema, one_table, outbox, outbox_table, service_schema, spent, spent_table, three_tables, two_tables}
+pub use Rattle.kob_outbox.specs.Layout.{AreBusiness, Business, Holds, IsReadable, IsRisingFrom, IsShown, blob_in, business_tree, contents_in, entry_of, event_row, has_key, mark_row, mark_tree, outbox_tree, placed_row, shown_event, shown_state, spent_row, spent_rows, spent_tree, text_in, number_in}
 pub use Rattle.kob_outbox.specs.declared.change.Change.{Change}
 pub use Rattle.kob_outbox.specs.declared.event.OutboxEvent.{OutboxEvent}
 pub use Rattle.kob_outbox.specs.declared.fault.OutboxFault.{OutboxFault}
@@ -25,7 +19,8 @@ pub use Rattle.sqlite.specs.Does.{Concludes, Does, OnRows, OnTable, Tally, Write
 pub use Rattle.sqlite.specs.Effect.{Answers, Database, IsSource, is_query, value_rows}
 pub use Rattle.sqlite.specs.Held.{Held}
 pub use Rattle.sqlite.specs.Kind.TheVariants.{Integer}
-pub use Rattle.sqlite.specs.Listing.{reads_listing, understood}
+pub use Rattle.sqlite.specs.Listing.{reads_listing}
+unfoldable pub use Rattle.sqlite.specs.Listing.{understood}
 pub use Rattle.sqlite.specs.Order.{Row}
 pub use Rattle.sqlite.specs.Program.{overlay}
 pub use Rattle.sqlite.specs.Query.{IsAnswer, Output, Query, end, inner, output, output_cmp, page}
@@ -77,8 +72,10 @@ pub use Rattle.sqlite_sql.specs.declared.ops.BinaryOp.TheVariants.{Compare}
 pub use Rattle.sqlite_sql.specs.declared.ops.CompareOp.TheVariants.{Eq, Gt, Le}
 pub use Rattle.sqlite_trees.proofs.ListLemmas.{all-append, all-filter, all-get_or, all_from_map, ascending-append, ascending-filter, filter-map, filter_same, map-map}
 pub use Rattle.sqlite_trees.specs.declared.memory.MemStore.{MemStore}
+unfoldable pub use Rattle.sqlite_tied.specs.Compute.{everything}
 pub use Rattle.sqlite_typing.specs.Types.{accepts_program, accepts_terms}
 pub use Rattle.sqlite_value.proofs.OrderLemmas.{value_cmp-Int, value_cmp-Text}
+unfoldable pub use Rattle.sqlite_value.specs.Keys.{first_key}
 pub use Rattle.sqlite_value.specs.Order.{column, value_cmp}
 pub use Rattle.std.proofs.Common.{Bool, Equal, Err, Global, Greater, IfErr, IfOk, IsErrAnd, IsPermutation, IsTrue, IsUtf8, Less, List, None, Ok, OnErr, OnOk, Option, Ordering, Result, Some, Vec, add-one, ap, append-nil, arith, bytes_eq, codes, cond, false, filter, flat_map, if◌then◌else◌, inl, inr, is_eq, is_gt, is_le, length, length-append, map, min, nat_cmp, nat_lt, negsuc, not, pos, refl, rules, slice_get, slice_index_or, string_bytes, subst, suc, sym, take, true, zero, [], ℕ, ℤ, ◌&&◌, ◌++◌, ◌+ℤ◌, ◌+◌, ◌/◌, ◌<◌, ◌==◌, ◌^◌, ◌||◌, ◌∙◌, ◌∷◌, ◌≡◌, ◌≢◌, ◌≤◌, ◌⊎◌}
 pub use Rattle.std.proofs.Math.Bool.{and-true, not-not}
@@ -89,6 +86,7 @@ pub use Rattle.std.proofs.lemmas.List.{length-map, length-take, map-append, take
 pub use Rattle.std.proofs.lemmas.List.Folds.{list_any_at}
 pub use Rattle.std.proofs.lemmas.List.Sorted.{IsPermutation-map, length_permutation, list_any-IsPermutation}
 pub use Rattle.std.proofs.lemmas.Map.Text.{is_eq-slice_cmp}
+pub use Rattle.std.proofs.lemmas.Result.{IfErr-weaker, IfOk-weaker}
 pub use Rattle.std.proofs.lemmas.Slice.Eq.{bytes_eq-Decides}
 pub use Rattle.std.proofs.lemmas.Str.{IsUtf8-string_bytes}
 pub use Rattle.std.specs.Cmp.{IsTotalOrder, both_ways, then_total}

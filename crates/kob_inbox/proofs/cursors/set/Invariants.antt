@@ -1,4 +1,4 @@
-use Rattle.kob_inbox.proofs.Words.{IsKnown, cursor_of, drop, take, with_cursor, ◌++◌, ◌≡◌}
+use Rattle.kob_inbox.proofs.Words.{IsSome, cursor_of, drop, take, with_cursor, ◌++◌, ◌≡◌}
 use Rattle.kob_inbox.proofs.cursors.set.Given as goal
 
 abbrev pub invariant-loop-i : goal.invariant-loop-i
@@ -7,5 +7,5 @@ invariant-loop-i l = record {
   rest : take l.i l.cursors ++ with_cursor (drop l.i l.cursors)
       (record { place = l.place; position = l.position; uncommitted = l.uncommitted })
       ≡ with_cursor l.cursors (record { place = l.place; position = l.position; uncommitted = l.uncommitted });
-  some : IsKnown (cursor_of (drop l.i l.cursors) l.place);
+  some : IsSome (cursor_of (drop l.i l.cursors) l.place);
 }

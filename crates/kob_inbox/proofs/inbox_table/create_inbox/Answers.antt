@@ -1,5 +1,5 @@
 use Rattle.kob_inbox.proofs.Words.{creates, database}
-use Rattle.kob_inbox.proofs.Holding.{opens}
+use Rattle.kob_inbox.proofs.Reading.{opens}
 use Rattle.kob_inbox.proofs.Texts.{create_inbox}
 use Rattle.kob_inbox.proofs.inbox_table.create_inbox.Goals as goal
 

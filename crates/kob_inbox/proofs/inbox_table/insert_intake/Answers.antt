@@ -1,13 +1,10 @@
 use Rattle.kob_inbox.proofs.Words.{arrival_from, database, intake_of, memory_is_clean, refl}
-use Rattle.kob_inbox.proofs.Intakes.{takes, takes_again}
-use Rattle.kob_inbox.proofs.Keys.{bound_key, lent_key}
+use Rattle.kob_inbox.proofs.Intakes.{takes, takes_again, bound_key, lent_key}
 use Rattle.kob_inbox.proofs.inbox_table.insert_intake.Goals as goal
 
 pub returns : goal.returns
 returns c =
-    let old = database c.args.conn.now in
-    let new = database c.execute.new.self in
-    let was = c.requires.inbox in
+    let old = database c.args.conn.now in let new = database c.execute.new.self in let was = c.requires.inbox in
     let e = intake_of c.args.id.now (arrival_from c.args.origin.now c.args.message.now) in
     let ran =
     rw (

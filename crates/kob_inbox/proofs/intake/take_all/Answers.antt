@@ -6,18 +6,14 @@ pub overflow_add-passed-in-loop-at : goal.overflow_add-passed-in-loop-at
 overflow_add-passed-in-loop-at c =
     let x : ℕ × Record = c.loop-at-item.result in
     let lt : c.loop-at.at-index < length c.args.records.now = omega arith in
-    let low : x.0 < 9223372036854775807 =
-    subst (λ (y : ℕ × Record). y.0 < 9223372036854775807) (sym c.loop-at-item.is)
-    (c.requires c.loop-at.at-index x lt) in
+    let low : x.0 < 9223372036854775807 = subst (λ (y : ℕ × Record). y.0 < 9223372036854775807)
+    (sym c.loop-at-item.is) (c.requires c.loop-at.at-index x lt) in
     omega (arith, low)
 
 pub loop-at-preserved : goal.loop-at-preserved
 loop-at-preserved c =
-    let rs = c.args.records.now in
-    let i = c.loop-at.at-index in
-    let x : ℕ × Record = c.loop-at-item.result in
-    let p = c.args.place.now in
-    let lt : i < length rs = omega arith in
+    let rs = c.args.records.now in let i = c.loop-at.at-index in let x : ℕ × Record = c.loop-at-item.result in
+    let p = c.args.place.now in let lt : i < length rs = omega arith in
     let front : take (i + 1) rs ≡ take i rs ++ x ∷ [] =
     take_more rs i x lt ∙ ap (λ (y : ℕ × Record). take i rs ++ y ∷ []) (sym c.loop-at-item.is) in
     record {

@@ -1,5 +1,5 @@
 use Rattle.kob_outbox.proofs.Texts.{create_business}
-use Rattle.kob_outbox.proofs.statements.Creating.{creates}
+use Rattle.kob_outbox.proofs.statements.Steps.{creates}
 use Rattle.kob_outbox.proofs.business_table.create_business.Goals as goal
 
 pub returns : goal.returns

@@ -1,5 +1,5 @@
 use Rattle.kob_outbox.proofs.Texts.{create_mark}
-use Rattle.kob_outbox.proofs.statements.Creating.{creates}
+use Rattle.kob_outbox.proofs.statements.Steps.{creates}
 use Rattle.kob_outbox.proofs.mark_table.create_mark.Goals as goal
 
 pub returns : goal.returns

@@ -1,5 +1,5 @@
 use Rattle.kob_outbox.proofs.statements.Words.{database, memory_is_clean, number_in, refl}
-use Rattle.kob_outbox.proofs.Marks.{moves}
+use Rattle.kob_outbox.proofs.Sweeping.{moves}
 use Rattle.kob_outbox.proofs.mark_table.update_mark.Goals as goal
 
 pub returns : goal.returns

@@ -1,22 +1,15 @@
-use Rattle.kob_outbox.proofs.statements.Words.{common_steps}
-use Rattle.kob_outbox.proofs.statements.Words.{arith}
-use Rattle.kob_outbox.proofs.statements.Words.{contents_of, database, first_after, map, map-map, min, shown_event, stored_row, ◌≡◌}
-use Rattle.kob_outbox.proofs.statements.Plain.{if_ok}
-use Rattle.kob_outbox.proofs.Shown.{first_shown, rows_as}
+use Rattle.kob_outbox.proofs.statements.Words.{IfOk-weaker, arith, common_steps, contents_of, database, first_after, map, map-map, min, shown_event, stored_row, ◌≡◌}
+use Rattle.kob_outbox.proofs.Reading.{first_shown, rows_as}
 use Rattle.kob_outbox.proofs.reads.rows_after.Goals as goal
 
 pub rows_of-requires : goal.rows_of-requires
-rows_of-requires c =
-    let events = (contents_of (database c.args.conn.now)).events in
-    let is : c.in_ok-select_after.field-0.items ≡ map shown_event (first_after c.min.result c.args.limit events) =
-    rw (c.number-seq.ensures, c.number.ensures) at c.in_ok-select_after.ensures.rows in
-    let shown = first_shown c.min.result c.args.limit events c.requires.holds.readable in grind (arith, common_steps)
+rows_of-requires c = grind (arith, common_steps, first_shown)
 
 pub returns-clause-rows : goal.returns-clause-rows
 returns-clause-rows c =
     let events = (contents_of (database c.args.conn.now)).events in
     let is : c.in_ok-select_after.field-0.items ≡ map shown_event (first_after c.min.result c.args.limit events) =
     rw (c.number-seq.ensures, c.number.ensures) at c.in_ok-select_after.ensures.rows in
-    if_ok c.rows_of.result (λ rows h. rows_as c.args.seq c.args.limit events (map stored_row rows.items)
+    IfOk-weaker c.rows_of.result _ _ (λ rows h. rows_as c.args.seq c.args.limit events (map stored_row rows.items)
     c.requires.holds.readable (grind (arith, common_steps, map-map shown_event stored_row rows.items, h)))
     c.rows_of.ensures.rows

@@ -1,5 +1,5 @@
 use Rattle.kob_outbox.proofs.Texts.{create_spent}
-use Rattle.kob_outbox.proofs.statements.Creating.{creates}
+use Rattle.kob_outbox.proofs.statements.Steps.{creates}
 use Rattle.kob_outbox.proofs.spent_table.create_spent.Goals as goal
 
 pub returns : goal.returns

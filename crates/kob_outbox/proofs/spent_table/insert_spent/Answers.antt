@@ -5,13 +5,10 @@ use Rattle.kob_outbox.proofs.spent_table.insert_spent.Goals as goal
 
 pub returns : goal.returns
 returns c =
-    let was = c.requires.changing in
-    let old = database c.args.tx.now.conn.now in
-    let new = database c.execute.new.self.conn.now in
-    let limit = c.execute.ensures.survives.limit in
-    let ran =
-    rw (c.params-to_sql.ensures, c.params-to_sql-2.ensures, c.requires.seq) at
-    (c.execute.ensures.runs (memory_is_clean c.execute.new.self.conn.now) was.begun) in
+    let was = c.requires.changing in let old = database c.args.tx.now.conn.now in
+    let new = database c.execute.new.self.conn.now in let limit = c.execute.ensures.survives.limit in
+    let ran = rw (c.params-to_sql.ensures, c.params-to_sql-2.ensures, c.requires.seq)
+    at (c.execute.ensures.runs (memory_is_clean c.execute.new.self.conn.now) was.begun) in
     record {
       same_reference = c.execute.ensures.same_reference;
       ok = adds old new c.args.id.now c.execute.result was c.requires.room limit ran;

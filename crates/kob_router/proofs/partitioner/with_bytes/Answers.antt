@@ -1,30 +1,22 @@
-use Rattle.kob_router.proofs.Words.{List, ap, arith, drop, drop_more, get_or, length, sym, with_bytes, with_word, ℕ, ◌+◌, ◌<◌, ◌∙◌, ◌∷◌, ◌≡◌, ◌≤◌}
+use Rattle.kob_router.proofs.Words.{nat_tests, List, ap, arith, drop, drop_more, get_or, length, sym, with_bytes, with_word, ℕ, ◌+◌, ◌∙◌, ◌∷◌, ◌≡◌, ◌≤◌}
 use Rattle.kob_router.proofs.partitioner.with_bytes.Goals as goal
-
--- the first of the bytes from a place on
-next_byte : (bytes : List ℕ) (at next : ℕ) → at < length bytes → next ≡ at + 1
-    → drop at bytes ≡ get_or bytes at 0 ∷ drop next bytes
-next_byte bytes at next within is = drop_more bytes at 0 within
-    ∙ ap (λ (k : ℕ). get_or bytes at 0 ∷ drop k bytes) (sym is)
 
 -- the first four of the bytes from a place on
 next_word : (bytes : List ℕ) (at : ℕ) → at + 4 ≤ length bytes
     → drop at bytes ≡ get_or bytes at 0 ∷ get_or bytes (at + 1) 0 ∷ get_or bytes (at + 2) 0 ∷ get_or bytes (at + 3)
     0 ∷ drop (at + 4) bytes
-next_word bytes at fits =
-    next_byte bytes at (at + 1) (omega arith) (omega arith)
-    ∙ ap (λ (rest : List ℕ). get_or bytes at 0 ∷ rest)
-    (next_byte bytes (at + 1) (at + 2) (omega arith) (omega arith)
-    ∙ ap (λ (rest : List ℕ). get_or bytes (at + 1) 0 ∷ rest)
-    (next_byte bytes (at + 2) (at + 3) (omega arith) (omega arith)
-    ∙ ap (λ (rest : List ℕ). get_or bytes (at + 2) 0 ∷ rest)
-    (next_byte bytes (at + 3) (at + 4) (omega arith) (omega arith))))
+next_word bytes at fits = grind (
+  arith,
+  nat_tests,
+  drop_more bytes at 0,
+  drop_more bytes (at + 1) 0,
+  drop_more bytes (at + 2) 0,
+  drop_more bytes (at + 3) 0,
+)
 
 pub loop-at-preserved : goal.loop-at-preserved
 loop-at-preserved c =
-    let bytes = c.args.bytes.now in
-    let at = c.loop-at.at in
-    let fits : at + 4 ≤ length bytes = omega arith in
+    let bytes = c.args.bytes.now in let at = c.loop-at.at in let fits : at + 4 ≤ length bytes = omega arith in
     record {
       within = fits;
       rest =

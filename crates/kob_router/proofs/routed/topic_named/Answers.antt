@@ -1,4 +1,4 @@
-use Rattle.kob_router.proofs.Words.{IsUtf8, IsUtf8-from_ascii, List, None, arith, cases_lt, false, get_or, get_or_past, inl, inr, is_some, is_topic_byte, length, nat_tests, not, prefix_len, prefix_len_passes, refl, topic_fault, topic_named, true, ℕ, ◌<◌, ◌≡◌, ◌≤◌}
+use Rattle.kob_router.proofs.Words.{common_steps, IsUtf8, IsUtf8-from_ascii, List, None, arith, cases_lt, false, get_or, get_or_past, inl, is_some, is_topic_byte, length, nat_tests, not, prefix_len, prefix_len_passes, refl, topic_fault, topic_named, true, ℕ, ◌<◌, ◌≡◌, ◌≤◌}
 use Rattle.kob_router.proofs.routed.topic_named.Goals as goal
 
 small : (byte : ℕ) → not (not (is_topic_byte byte)) ≡ true → byte < 128
@@ -11,12 +11,7 @@ whole text none = grind (arith, nat_tests)
 
 -- the bytes of a topic's name are ASCII
 ascii : (text : List ℕ) → is_some (topic_fault text) ≡ false → (k : ℕ) → get_or text k 0 < 128
-ascii text none k =
-    elim (cases_lt k (length text)) [
-      | inl within ↦ small (get_or text k 0)
-          (prefix_len_passes (λ byte. not (not (is_topic_byte byte))) text k 0 (omega (arith, whole text none)))
-      | inr past ↦ let none_there : get_or text k 0 ≡ 0 = get_or_past text k 0 past in omega (arith, none_there)
-    ]
+ascii text none k = grind (arith, common_steps, cases_lt, small, prefix_len_passes, whole, get_or_past)
 
 utf8 : (text : List ℕ) → is_some (topic_fault text) ≡ false → IsUtf8 text
 utf8 text none = IsUtf8-from_ascii text (ascii text none)

@@ -1,5 +1,5 @@
-use Rattle.kob_router.proofs.Words.{[], refl}
-use Rattle.kob_router.proofs.Sendings.{ticks_call, ticks_lost, ticks_moved, ticks_unmarked}
+use Rattle.kob_router.proofs.Words.{common_steps, arith, [], refl}
+use Rattle.kob_router.proofs.Runs.{ticks_call, ticks_lost, ticks_moved, ticks_unmarked}
 use Rattle.kob_router.proofs.sender.Sender.deliver.Goals as goal
 
 pub returns-in-Lost-clause-done : goal.returns-in-Lost-clause-done
@@ -19,13 +19,7 @@ returns-in-Delivered-Refused-clause-done g c =
     (([], c.in-Ok.request, refl), added.1)
 
 pub returns-in-Ok-acknowledge-clause-done : goal.returns-in-Ok-acknowledge-clause-done
-returns-in-Ok-acknowledge-clause-done g c =
-    ticks_moved c.args.self.now c.args.outbox.now c.in-Ok.request c.in-Delivered-Done.field-0-0 c.in-Ok.ensures
-    c.requires.full (rw c.in-Delivered-Done.field-0-is at c.in-Delivered-Done.ensures.added)
-    c.in-Ok-acknowledge.ensures.done
+returns-in-Ok-acknowledge-clause-done g c = grind (arith, common_steps, ticks_moved)
 
 pub returns-clause-done : goal.returns-clause-done
-returns-clause-done g c =
-    ticks_unmarked c.args.self.now c.args.outbox.now c.in-Ok.request c.in-Delivered-Done.field-0-0
-    c.in-Err-acknowledge.reason c.in-Ok.ensures c.requires.held (rw c.in-Delivered-Done.field-0-is at
-    c.in-Delivered-Done.ensures.added) c.in-Err-acknowledge.ensures.done
+returns-clause-done g c = grind (arith, common_steps, ticks_unmarked)

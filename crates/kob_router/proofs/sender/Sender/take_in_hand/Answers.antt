@@ -1,5 +1,4 @@
-use Rattle.std.proofs.lemmas.Grind.{common_steps}
-use Rattle.kob_router.proofs.Words.{None, Option, Some, ap, arith, inl, inr, is_some, option_map, refl, stored_row, sym, true, true≢false, ◌∙◌, ◌≡◌}
+use Rattle.kob_router.proofs.Words.{common_steps, None, Option, Some, ap, arith, inl, inr, is_some, option_map, refl, stored_row, sym, true, true≢false, ◌∙◌, ◌≡◌}
 use Rattle.kob_router.proofs.sender.Sender.take_in_hand.Goals as goal
 
 some_there : {A : Type 0} (o : Option A) → is_some o ≡ true → (x : A) × (o ≡ Some x)

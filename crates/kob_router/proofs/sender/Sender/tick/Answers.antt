@@ -1,11 +1,9 @@
-use Rattle.kob_router.proofs.Words.{dispatch_of}
-use Rattle.kob_router.proofs.Beginnings.{has_hand, holds, idle_then, ready_then, stopped_then, ticks_unknown}
+use Rattle.kob_router.proofs.Words.{common_steps, arith, dispatch_of}
+use Rattle.kob_router.proofs.Runs.{has_hand, holds, idle_then, ready_then, stopped_then, ticks_unknown}
 use Rattle.kob_router.proofs.sender.Sender.tick.Goals as goal
 
 pub returns-in-Err-clause-done : goal.returns-in-Err-clause-done
-returns-in-Err-clause-done g c =
-    ticks_unknown c.args.outbox.now c.args.self.now c.introduce.new.self c.in-Err.tick c.in-Err.ensures.rest
-    c.in-Err.ensures.made c.requires.held
+returns-in-Err-clause-done g c = grind (arith, common_steps, ticks_unknown)
 
 pub deliver-requires-clause-full : goal.deliver-requires-clause-full
 deliver-requires-clause-full g c =
@@ -25,13 +23,7 @@ returns-in-Ok-true-clause-done g c =
     c.deliver.ensures.done
 
 pub returns-in-Ok-false-clause-done : goal.returns-in-Ok-false-clause-done
-returns-in-Ok-false-clause-done g c =
-    idle_then c.args.outbox.now c.take_in_hand.new.outbox c.args.self.now c.introduce.new.self
-    c.take_in_hand.new.self _ _ _ _ c.in-Ok.producer c.in-Ok.ensures.rest c.in-Ok.ensures.made c.requires.held
-    c.in-Ok-false.ensures.same c.in-Ok-false.field-0 c.in-Ok-false.ensures.done c.in-Ok-false.field-0-test
+returns-in-Ok-false-clause-done g c = grind (arith, common_steps, idle_then)
 
 pub returns-in-Err-take_in_hand-clause-done : goal.returns-in-Err-take_in_hand-clause-done
-returns-in-Err-take_in_hand-clause-done g c =
-    stopped_then c.args.outbox.now c.take_in_hand.new.outbox c.args.self.now c.introduce.new.self
-    c.take_in_hand.new.self _ _ _ _ c.in-Ok.producer c.in-Ok.ensures.rest c.in-Ok.ensures.made c.requires.held
-    c.in-Err-take_in_hand.ensures.same c.in-Err-take_in_hand.reason c.in-Err-take_in_hand.ensures.done
+returns-in-Err-take_in_hand-clause-done g c = grind (arith, common_steps, stopped_then)
