@@ -1,7 +1,7 @@
 -- The lines that `kafka-acls --list` prints. Those of Kafka 2.3 and later name a resource by
 -- `ResourcePattern(..)` and a binding by `(principal=.., host=.., ..)`; those of earlier versions by
 -- `Topic:orders` or `Topic:LITERAL:orders`, and by `User:x has Allow permission for operations: ..`.
-use Rattle.std.specs.Prelude.{◌||◌, ℕ, Bool, List, Option, Some, None, Result, Ok, Err, codes, nat_eq, if◌then◌else◌}
+use Rattle.std.specs.Prelude.{◌||◌, ℕ, Bool, List, Option, Some, None, Result, Ok, Err, codes, nat_eq, if◌then◌else◌, ok_or}
 use Rattle.std.specs.List.{starts_with}
 use Rattle.std.specs.Option.{option_map}
 use Rattle.std.specs.Str.{bytes_eq}
@@ -19,8 +19,8 @@ use Rattle.kob_words.specs.Permission.{permission_named}
 use Rattle.kob_words.specs.Resource.{resource_named}
 use Rattle.kob_script.specs.declared.fault.FaultKind.{FaultKind}
 use Rattle.kob_script.specs.declared.fault.FaultKind.TheVariants.{BadLine, BadWord}
-use Rattle.kob_script.specs.Reading.{◌>>=◌, found_or}
-use Rattle.kob_script.specs.Values.{text_in, host_of}
+use Rattle.kob_script.specs.Reading.{◌>>=◌}
+use Rattle.kob_script.specs.Words.{text_in, host_of}
 use Rattle.kob_policy_text.specs.declared.item.Grant.{Grant}
 use Rattle.kob_policy_text.specs.declared.item.Item.{Item}
 use Rattle.kob_policy_text.specs.declared.item.Item.TheVariants as item
@@ -83,8 +83,8 @@ granted permission host (Some operation) (Some user) = item.Grant (record {
 
 unfoldable pub grant_item : GrantWords → Result Item FaultKind
 grant_item words = do
-  permission ← found_or BadWord (listed_permission words.permission)
-  operation ← found_or BadWord (listed_operation words.operation)
+  permission ← ok_or (listed_permission words.permission) BadWord
+  operation ← ok_or (listed_operation words.operation) BadWord
   user ← user_in words.principal
   text ← text_in words.host
   host ← host_of text
@@ -131,8 +131,8 @@ pub record TargetWords : Type 0 where
 
 unfoldable pub target_item : TargetWords → Result Item FaultKind
 target_item words = do
-  kind ← found_or BadWord (listed_resource words.resource)
-  pattern ← found_or BadWord (listed_pattern words.pattern)
+  kind ← ok_or (listed_resource words.resource) BadWord
+  pattern ← ok_or (listed_pattern words.pattern) BadWord
   name ← text_in words.name
   Ok (item.Resource (headed kind pattern name))
 

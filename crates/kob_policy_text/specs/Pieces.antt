@@ -1,10 +1,9 @@
 -- The parts of bytes around a mark.
-use Rattle.std.specs.Prelude.{◌+◌, ℕ, Bool, List, drop, take, length, is_some, Option, Result}
+use Rattle.std.specs.Prelude.{◌+◌, ℕ, Bool, List, drop, take, length, is_some, Option, Result, ok_or}
 use Rattle.std.specs.Char.{is_whitespace}
 use Rattle.std.specs.Option.{option_map}
 use Rattle.bstr.specs.Trim.{trim_start_by, trim_end_by}
 use Rattle.memchr.specs.Find.{first_of, matches, rmatches}
-use Rattle.kob_script.specs.Reading.{found_or}
 use Rattle.kob_script.specs.declared.fault.FaultKind.{FaultKind}
 use Rattle.kob_script.specs.declared.fault.FaultKind.TheVariants.{BadLine}
 
@@ -23,10 +22,10 @@ last_parts bytes mark = parts_at bytes mark (first_of (rmatches bytes mark (leng
 
 -- the parts, which have to be there
 abbrev pub around_first : List ℕ → List ℕ → Result (List ℕ × List ℕ) FaultKind
-around_first bytes mark = found_or BadLine (first_parts bytes mark)
+around_first bytes mark = ok_or (first_parts bytes mark) BadLine
 
 abbrev pub around_last : List ℕ → List ℕ → Result (List ℕ × List ℕ) FaultKind
-around_last bytes mark = found_or BadLine (last_parts bytes mark)
+around_last bytes mark = ok_or (last_parts bytes mark) BadLine
 
 -- the mark stands somewhere
 abbrev pub holds_mark : List ℕ → List ℕ → Bool

@@ -1,6 +1,6 @@
 -- A policy: the bindings of some files in the order in which they are read, the super users, and
 -- whether what no binding matches is open to everyone.
-use Rattle.std.specs.Prelude.{◌≡◌, ◌+◌, ℕ, Bool, false, List, [], ◌∷◌, ◌++◌, remove, Option, Some, None, Result, Ok, Err}
+use Rattle.std.specs.Prelude.{◌≡◌, ◌+◌, ℕ, Bool, false, List, [], ◌∷◌, ◌++◌, remove, Option, Some, None, Result, Ok, Err, is_none, if◌then◌else◌}
 use Rattle.kob_names.specs.Binding.{Binding}
 use Rattle.kob_names.specs.BindingRules.{draft_fault}
 use Rattle.kob_script.specs.declared.fault.FaultKind.{FaultKind}
@@ -10,7 +10,7 @@ use Rattle.kob_script.specs.declared.fault.ScriptError.{ScriptError}
 use Rattle.kob_script.specs.declared.fault.ScriptError.TheVariants as script_error
 use Rattle.kob_script.specs.declared.fault.LineError.{LineError}
 use Rattle.kob_script.specs.declared.fault.LineError.TheVariants as line_error
-use Rattle.kob_script.specs.Reading.{◌>>=◌, unless_fault}
+use Rattle.kob_script.specs.Reading.{◌>>=◌}
 use Rattle.kob_script.specs.Script.{lines_in}
 use Rattle.kob_policy_text.specs.declared.item.Grant.{Grant}
 use Rattle.kob_policy_text.specs.declared.item.Item.{Item}
@@ -70,7 +70,7 @@ with_binding policy origin binding = record policy {
 -- a binding whose pattern's name is one that a binding may have
 abbrev pub with_draft : Policy → Origin → Binding → Result Policy FaultKind
 with_draft policy origin draft =
-    unless_fault (draft_fault draft) BadName (with_binding policy origin draft)
+    if is_none (draft_fault draft) then Ok (with_binding policy origin draft) else Err BadName
 
 -- the listed binding with what its heading names
 abbrev pub draft_under : Target → Grant → Binding

@@ -5,7 +5,7 @@ use Rattle.std.specs.Str.{bytes_eq}
 use Rattle.kob_names.specs.PrincipalRules.{is_colon}
 use Rattle.kob_script.specs.declared.fault.FaultKind.{FaultKind}
 use Rattle.kob_script.specs.Reading.{◌>>=◌}
-use Rattle.kob_script.specs.Values.{text_in, principal_of}
+use Rattle.kob_script.specs.Words.{text_in, principal_of}
 
 -- the text before the first colon is another kind than `User`
 abbrev pub is_other_kind : List ℕ → Bool

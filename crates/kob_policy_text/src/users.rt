@@ -3,7 +3,7 @@
 ghost use Rattle.std.specs.Prelude.{◌≡◌};
 ghost use Rattle.kob_policy_text.specs.Users.{is_other_kind, user_in};
 ghost use Rattle.kob_script.specs.Reading.{Gives, GivesSeen};
-ghost use Rattle.kob_script.specs.Values.{text_in};
+ghost use Rattle.kob_script.specs.Words.{text_in};
 
 use bstr::ByteSlice;
 use kob_names::Principal;

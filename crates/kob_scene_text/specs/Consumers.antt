@@ -7,9 +7,8 @@ use Rattle.kob_inbox.specs.declared.fetcher.Subscription.{Subscription}
 use Rattle.kob_router.specs.declared.place.Place.{Place}
 use Rattle.kob_script.specs.declared.fault.FaultKind.{FaultKind}
 use Rattle.kob_script.specs.declared.fault.FaultKind.TheVariants.{BadLine}
-use Rattle.kob_script.specs.Values.{number_of, text_of}
+use Rattle.kob_script.specs.Words.{number_of, text_of, Word, word_of}
 use Rattle.kob_script.specs.Reading.{◌>>=◌, each}
-use Rattle.kob_script.specs.Words.{Word, word_of}
 use Rattle.kob_scene_text.specs.declared.consumer_lines.DeclaredConsumer.{DeclaredConsumer}
 use Rattle.kob_scene_text.specs.Names.{who_of}
 

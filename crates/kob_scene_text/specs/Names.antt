@@ -6,8 +6,7 @@ use Rattle.std.specs.Option.{is_some, option_map}
 use Rattle.std.specs.Str.{bytes_eq}
 use Rattle.kob_script.specs.declared.fault.FaultKind.{FaultKind}
 use Rattle.kob_script.specs.Reading.{◌>>=◌}
-use Rattle.kob_script.specs.Values.{text_of, principal_of, host_of}
-use Rattle.kob_script.specs.Words.{Word}
+use Rattle.kob_script.specs.Words.{text_of, principal_of, host_of, Word}
 use Rattle.kob_scene_text.specs.declared.fault.SceneFaultKind.{SceneFaultKind}
 use Rattle.kob_scene_text.specs.declared.fault.SceneFaultKind.TheVariants.{BadWorkerName, NameTaken}
 use Rattle.kob_scene_text.specs.declared.name.Who.{Who}

@@ -10,9 +10,8 @@ use Rattle.kob_router.specs.Placement.{entries_of}
 use Rattle.kob_router.specs.Template.{is_template}
 use Rattle.kob_script.specs.declared.fault.FaultKind.{FaultKind}
 use Rattle.kob_script.specs.declared.fault.FaultKind.TheVariants.{BadLine, BadWord}
-use Rattle.kob_script.specs.Values.{number_of, text_of}
+use Rattle.kob_script.specs.Words.{number_of, text_of, Word}
 use Rattle.kob_script.specs.Reading.{◌>>=◌}
-use Rattle.kob_script.specs.Words.{Word}
 use Rattle.kob_scene_text.specs.declared.fault.SceneFaultKind.{SceneFaultKind}
 use Rattle.kob_scene_text.specs.declared.fault.SceneFaultKind.TheVariants.{BadPartitions, BadRoute}
 use Rattle.kob_scene_text.specs.declared.service_lines.DeclaredRoute.{DeclaredRoute}

@@ -1,6 +1,6 @@
 use Rattle.kob_script.proofs.Imports.{err_from_is_err_and, rules, script_so_far, ◌∙◌}
 use Rattle.kob_script.proofs.CheckedLines.{keeps_none, keeps_one, line_checked, line_fails, words_fail}
-use Rattle.kob_script.proofs.checks.check_line.Goals as goal
+use Rattle.kob_script.proofs.script.check_line.Goals as goal
 
 pub returns-in_err-words : goal.returns-in_err-words
 returns-in_err-words c = λ events counts.
