@@ -148,6 +148,9 @@ pub keeps_one : (old : List (Option CliArgs)) (words : List Word) (answer : Opti
     → old ++ answer ∷ [] ≡ old ++ kept_answer words answer
 keeps_one old words answer asked = rw asked refl
 
+unasked_answer : (words : List Word) → asks_clap words ≡ false → IsAnswerTo words None
+unasked_answer words unasked = grind (arith, nat_tests)
+
 module _ (s : Script) (line : List ℕ) (new : Checking) (old kept : List (Option CliArgs)) where
   -- a line that was checked by clap's answer to its words
   pub line_checked : (words : List Word) (answer : Option CliArgs) → words_of line ≡ Ok words → IsAnswerTo words answer
@@ -161,6 +164,13 @@ module _ (s : Script) (line : List ℕ) (new : Checking) (old kept : List (Optio
   unfolding with_line
   words_fail words answer Memory has is fails = tt
   words_fail words answer (Fault kind) has is fails = rw has (answer, is, fails)
+
+  -- a line about which clap is not asked
+  pub unasked_checked : (r : Result (Unit {0}) LineError) (words : List Word) → words_of line ≡ Ok words
+      → asks_clap words ≡ false → ChecksNext new r (with_words None s words) → kept ≡ old → ChecksLine s line new old kept r
+  unasked_checked (Ok done) words has unasked reads same =
+      line_checked words None has (unasked_answer words unasked) (same ∙ keeps_none old words None unasked) reads
+  unasked_checked (Err e) words has unasked fails same = words_fail words None e has (unasked_answer words unasked) fails
 
   -- a line with an escape that is not whole
   pub line_fails : (e : LineError) → Fails e (words_of line) → ChecksLine s line new old kept (Err e)

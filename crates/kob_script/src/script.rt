@@ -138,11 +138,11 @@ fn check_line(
         answers.old.items answers.new.items result }
 {
     let words = words_of(alloc, line)?;
+    if !asks_clap(&words) {
+        return check_words(alloc, checking, &words, &None);
+    }
     let answer = answer_to(alloc, &words)?;
     check_words(alloc, checking, &words, &answer)?;
-    if !asks_clap(&words) {
-        return Ok(());
-    }
     // Another call of clap may return another answer.
     answers.push(answer)?;
     Ok(())

@@ -121,7 +121,7 @@ fn is_blank(byte: u8) -> bool
 pub fn may_have_escapes(word: &[u8]) -> bool
     ensures { MatchBool result ⊤ (unescaped word.now ≡ Some word.now) }
 {
-    memchr(b'%', word).is_some()
+    word.contains(&b'%')
 }
 
 /// The bytes that a word stands for, unless a percent sign in it begins no escape.

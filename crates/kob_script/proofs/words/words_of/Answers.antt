@@ -1,4 +1,4 @@
-use Rattle.kob_script.proofs.Imports.{Fails, Ok, [], each, is_skipped, subst, sym, ◌∙◌, false, YieldsList-end, YieldsList-from_filter, YieldsList-from_slice_split, YieldsList-turn, arith, err_from_is_err_and, is_blank, length, length_push, nat_lt, raw_words, rules, tests, word_of}
+use Rattle.kob_script.proofs.Imports.{Fails, Ok, [], each, is_skipped, subst, sym, ◌∙◌, YieldsList-end, YieldsList-from_filter, YieldsList-from_slice_split, YieldsList-turn, arith, err_from_is_err_and, is_blank, length, length_push, nat_lt, raw_words, rules, tests, word_of}
 use Rattle.kob_script.proofs.Choices.{chosen_false}
 use Rattle.kob_script.proofs.Each.{each_ends, each_fails, each_keeps}
 use Rattle.kob_script.proofs.words.words_of.Goals as goal
