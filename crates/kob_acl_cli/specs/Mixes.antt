@@ -111,7 +111,7 @@ is_bad_mix args =
 abbrev pub consumes_nothing : CliArgs → Bool
 consumes_nothing args = args.consumer && not (is_given args.topics && is_given args.groups)
 
--- --add or --remove without a resource, --producer without a topic, --consumer without a topic or group
+-- no resource for --add or --remove, no topic for --producer, no topic or group for --consumer
 abbrev pub lacks_resource : CliArgs → Bool
 lacks_resource args =
     ((args.add || args.remove) && not (has_resource args))

@@ -1,4 +1,4 @@
--- The resources that options name, the operations that a line means on each, and its rules for them.
+-- The resources that options name, the operations meant on each, and the rules for them.
 use Rattle.std.specs.Prelude.{ℕ, List, [], ◌∷◌, ◌++◌, map, codes, if◌then◌else◌, flat_map, Some}
 use Rattle.kob_names.specs.declared.filter.FilterPattern.{FilterPattern}
 use Rattle.kob_acl_cli.specs.Mixes.{only_if, has_convenience}

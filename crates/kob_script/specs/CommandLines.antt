@@ -1,4 +1,4 @@
--- The commands: their names, a row of words for each, the fault of a line's words, what they ask for.
+-- The commands: their names, a row of words for each, a line's fault, and what they ask for.
 use Rattle.std.specs.Prelude.{ℕ, List, Option, Result, Ok, codes, if◌then◌else◌, [], ◌∷◌, Some, None, Err, map, Bool, false, find, option_map, bytes_eq, ok_or}
 use Rattle.std.specs.Result.{result_err, result_ok, result_unwrap_or}
 use Rattle.kob_acl_cli.specs.Commands.{commands, faults}

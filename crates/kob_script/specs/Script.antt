@@ -1,4 +1,4 @@
--- A script: settings, then requests, a line each; what it may be read as; the requests that are left.
+-- A script: settings, then requests, a line each; what it may be read as; the requests left of it.
 use Rattle.std.specs.List.{list_all, concat}
 use Rattle.std.specs.Prelude.{IfOk, MatchOption, ℕ, Bool, true, false, ◌||◌, List, [], ◌∷◌, ◌++◌, Result, Ok, Err, codes, if◌then◌else◌, bytes_eq, ◌+◌, Option, None, map, nat_lt, length, ◌≡◌, ◌&&◌, not, Some, is_some, drop, slice_index_or}
 use Rattle.std.specs.Result.{result_unwrap_or}

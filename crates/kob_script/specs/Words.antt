@@ -51,7 +51,7 @@ abbrev pub cut_at : ℕ → List ℕ → Option (List ℕ × List ℕ)
 cut_at byte word =
     option_map (λ at. (take at word, drop (at + 1) word)) (first_of (places (is_byte byte) word))
 
--- the parts around this byte have whole escapes if the bytes have, so that each is read as it stands
+-- parts around this byte have whole escapes if the bytes have, so that each is read as it stands
 abbrev pub LeavesWhole : ℕ → Type 0
 LeavesWhole byte = (front back : List ℕ) → is_some (unescaped (front ++ byte ∷ back)) ≡ true
     → (is_some (unescaped front) ≡ true) × (is_some (unescaped back) ≡ true)
@@ -127,7 +127,7 @@ before_of word =
     if bytes_eq word.decoded (codes "-1") then Ok befores.End
     else (number_of word >>= λ offset. Ok (befores.Offset offset))
 
--- three numbers, if no part is behind them; escapes are replaced after the cuts, which leave them whole
+-- three numbers, if no part is behind them; escapes are replaced after the cuts
 abbrev pub three_of : List ℕ → List ℕ → List ℕ → Option (List ℕ × List ℕ)
     → Result (Option Idem) FaultKind
 three_of one two three None = do
