@@ -139,17 +139,10 @@ reads_plain text (Ok script) may plain = sym (one_reading text (Ok script) plain
 reads_plain text (Err script_error.Memory) may plain = tt
 reads_plain text (Err (script_error.Fault fault)) may plain = sym (one_reading text (Err fault) plain may)
 
--- what is kept of an answer, if clap was asked or was not
-pub keeps_none : (old : List (Option CliArgs)) (words : List Word) (answer : Option CliArgs) → asks_clap words ≡ false
-    → old ≡ old ++ kept_answer words answer
-keeps_none old words answer unasked = rw unasked (sym (append-nil old))
-
+-- what is kept of an answer, if clap was asked
 pub keeps_one : (old : List (Option CliArgs)) (words : List Word) (answer : Option CliArgs) → asks_clap words ≡ true
     → old ++ answer ∷ [] ≡ old ++ kept_answer words answer
 keeps_one old words answer asked = rw asked refl
-
-unasked_answer : (words : List Word) → asks_clap words ≡ false → IsAnswerTo words None
-unasked_answer words unasked = grind (arith, nat_tests)
 
 module _ (s : Script) (line : List ℕ) (new : Checking) (old kept : List (Option CliArgs)) where
   -- a line that was checked by clap's answer to its words
@@ -169,8 +162,8 @@ module _ (s : Script) (line : List ℕ) (new : Checking) (old kept : List (Optio
   pub unasked_checked : (r : Result (Unit {0}) LineError) (words : List Word) → words_of line ≡ Ok words
       → asks_clap words ≡ false → ChecksNext new r (with_words None s words) → kept ≡ old → ChecksLine s line new old kept r
   unasked_checked (Ok done) words has unasked reads same =
-      line_checked words None has (unasked_answer words unasked) (same ∙ keeps_none old words None unasked) reads
-  unasked_checked (Err e) words has unasked fails same = words_fail words None e has (unasked_answer words unasked) fails
+      line_checked words None has (grind (arith, nat_tests)) (grind (arith, nat_tests, append-nil)) reads
+  unasked_checked (Err e) words has unasked fails same = words_fail words None e has (grind (arith, nat_tests)) fails
 
   -- a line with an escape that is not whole
   pub line_fails : (e : LineError) → Fails e (words_of line) → ChecksLine s line new old kept (Err e)
