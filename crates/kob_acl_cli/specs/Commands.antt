@@ -2,12 +2,9 @@
 use Rattle.std.specs.Prelude.{ℕ, not, List, [], ◌∷◌, ◌++◌, map, flat_map, if◌then◌else◌, Option, Some, None, option_map, unwrap_or}
 use Rattle.kob_names.specs.declared.filter.BindingFilter.{BindingFilter}
 use Rattle.kob_names.specs.declared.filter.FilterPattern.TheVariants.{Any}
-use Rattle.kob_acl_cli.specs.Accesses.{accesses}
-use Rattle.kob_acl_cli.specs.Misread.{misread_words, bad_names}
-use Rattle.kob_acl_cli.specs.Mixes.{has_one_action, has_holder, refusals}
-use Rattle.kob_acl_cli.specs.Parts.{or_default, parts}
-use Rattle.kob_acl_cli.specs.Rules.{product, draft_of, filter_of}
-use Rattle.kob_acl_cli.specs.Targets.{only_if, targets}
+use Rattle.kob_acl_cli.specs.Targets.{accesses, product, draft_of, filter_of, targets}
+use Rattle.kob_acl_cli.specs.Parts.{misread_words, bad_names, or_default, parts}
+use Rattle.kob_acl_cli.specs.Mixes.{has_one_action, has_holder, only_if, refusals}
 use Rattle.kob_acl_cli.specs.declared.args.CliArgs.{CliArgs}
 use Rattle.kob_acl_cli.specs.declared.commands.AclCommand.{AclCommand}
 use Rattle.kob_acl_cli.specs.declared.commands.AclCommand.TheVariants.{Create, Delete, Describe}

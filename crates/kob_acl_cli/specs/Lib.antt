@@ -1,9 +1,6 @@
-pub mod Accesses
 pub mod Commands
 pub mod Lines
-pub mod Misread
 pub mod Mixes
 pub mod Parts
 pub mod PrintedList
-pub mod Rules
 pub mod Targets

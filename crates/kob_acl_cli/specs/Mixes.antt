@@ -1,10 +1,14 @@
 -- Which options may be used together, and what has to be beside them.
-use Rattle.std.specs.Prelude.{◌==◌, ◌&&◌, ◌||◌, ◌++◌, not, ℕ, Bool, false, List, [], ◌∷◌, length, nat_lt, count_by, codes, Option, Some, None}
+use Rattle.std.specs.Prelude.{◌==◌, ◌&&◌, ◌||◌, ◌++◌, not, ℕ, Bool, true, false, List, [], ◌∷◌, length, nat_lt, count_by, codes, Option, Some, None}
 use Rattle.std.specs.Str.{str_eq_ignore_ascii_case}
-use Rattle.kob_acl_cli.specs.Targets.{only_if}
 use Rattle.kob_acl_cli.specs.declared.args.CliArgs.{CliArgs}
 use Rattle.kob_acl_cli.specs.declared.fault.CommandFault.{CommandFault}
 use Rattle.kob_acl_cli.specs.declared.fault.CommandFault.TheVariants.{BadMix, NoResource, NoPrincipal}
+
+-- what stands where an option is given
+abbrev pub only_if : {A : Type 0} → Bool → List A → List A
+only_if true items = items
+only_if false items = []
 
 abbrev pub is_given : List (List ℕ) → Bool
 is_given texts = nat_lt 0 (length texts)
@@ -107,8 +111,7 @@ is_bad_mix args =
 abbrev pub consumes_nothing : CliArgs → Bool
 consumes_nothing args = args.consumer && not (is_given args.topics && is_given args.groups)
 
--- --add or --remove without a resource, --producer without a topic, --consumer without a topic or a
--- group
+-- no resource for --add or --remove, no topic for --producer, no topic or group for --consumer
 abbrev pub lacks_resource : CliArgs → Bool
 lacks_resource args =
     ((args.add || args.remove) && not (has_resource args))

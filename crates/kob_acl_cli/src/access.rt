@@ -3,9 +3,8 @@
 ghost use Rattle.std.specs.Prelude.{◌≡◌, ◌++◌, ◌∷◌, [], map, OnOk, IfOk};
 ghost use Rattle.kob_names.specs.declared.kinds.Operation.TheVariants.{IdempotentWrite};
 ghost use Rattle.kob_names.specs.declared.kinds.ResourceKind.TheVariants.{Topic};
-ghost use Rattle.kob_acl_cli.specs.Accesses.{access, accesses_to, topic_operations, plain_accesses};
-ghost use Rattle.kob_acl_cli.specs.Accesses.{convenience_accesses, accesses};
-ghost use Rattle.kob_acl_cli.specs.Targets.{cluster, targets_named};
+ghost use Rattle.kob_acl_cli.specs.Targets.{access, accesses, accesses_to, cluster};
+ghost use Rattle.kob_acl_cli.specs.Targets.{convenience_accesses, targets_named, topic_operations};
 
 use crate::args::CliArgs;
 use crate::mixes::has_convenience;
@@ -30,40 +29,29 @@ pub fn accesses(
 ) -> Result<Vec<Access>, AllocError>
     ensures { IfOk result (λ made. made.items ≡ accesses pattern operations.now args.now) }
 {
-    if has_convenience(args) {
-        convenience_accesses(alloc, args, pattern)
-    } else {
-        plain_accesses(alloc, args, pattern, operations)
-    }
-}
-
-fn plain_accesses(
-    alloc: Global,
-    args: &CliArgs,
-    pattern: FilterPattern,
-    operations: &[Operation],
-) -> Result<Vec<Access>, AllocError>
-    ensures { IfOk result (λ made. made.items ≡ plain_accesses pattern operations.now args.now) }
-{
     let mut made = Vec::new(alloc);
-    let named = targets(alloc, args, pattern)?;
-    push_accesses(alloc, &mut made, operations, named.as_slice())?;
-    Ok(made)
-}
-
-fn convenience_accesses(
-    alloc: Global,
-    args: &CliArgs,
-    pattern: FilterPattern,
-) -> Result<Vec<Access>, AllocError>
-    ensures { IfOk result (λ made. made.items ≡ convenience_accesses pattern args.now) }
-{
-    let mut made = Vec::new(alloc);
-    let Ok(()) = push_convenience(alloc, &mut made, args, pattern) else {
+    let Ok(()) = push_all(alloc, &mut made, args, pattern, operations) else {
         drop(made);
         return Err(AllocError);
     };
     Ok(made)
+}
+
+fn push_all(
+    alloc: Global,
+    made: &mut Vec<Access>,
+    args: &CliArgs,
+    pattern: FilterPattern,
+    operations: &[Operation],
+) -> Result<(), AllocError>
+    ensures { OnOk result
+        (made.new.items ≡ made.old.items ++ accesses pattern operations.now args.now) }
+{
+    if has_convenience(args) {
+        return push_convenience(alloc, made, args, pattern);
+    }
+    let named = targets(alloc, args, pattern)?;
+    push_accesses(alloc, made, operations, named.as_slice())
 }
 
 fn push_convenience(

@@ -4,14 +4,14 @@ pub use Rattle.kob_policy_text.specs.Answers.{answer_line, answers_text, change_
 pub use Rattle.kob_policy_text.specs.AtHand.{asked_by, asked_from, asked_on, operations, topic_target, with_bindings}
 pub use Rattle.kob_policy_text.specs.Lines.{Says, SaysBy, SaysByWords, is_listed, listed_items, rule_items, script_line, super_item}
 pub use Rattle.kob_policy_text.specs.Outcomes.{MayFail, MayGive}
-pub use Rattle.kob_policy_text.specs.Listing.{trimmed}
+pub use Rattle.kob_policy_text.specs.Pieces.{trimmed}
 pub use Rattle.kob_policy_text.specs.Policy.{FileMakes, IsStopped, Policy, at_file, fault_at, place, with_item, with_items}
 pub use Rattle.kob_policy_text.specs.Questions.{Questions, lines_from, with_line}
 pub use Rattle.kob_policy_text.specs.declared.item.Item.{Item}
 pub use Rattle.kob_policy_text.specs.declared.origin.Origin.{Origin}
 pub use Rattle.kob_script.proofs.Choices.{chosen_false, chosen_true, false_from}
-pub use Rattle.kob_script.proofs.Each.{each_ends, each_fails, each_fails_map, each_keeps, each_map}
-pub use Rattle.kob_script.specs.Reading.{Fails, GivesSeen, each, with_front, ◌>>=◌}
+pub use Rattle.kob_script.proofs.Each.{each_ends, each_fails, each_fails_map, each_keeps, each_map, with_front}
+pub use Rattle.kob_script.specs.Reading.{Fails, GivesSeen, each, ◌>>=◌}
 pub use Rattle.kob_script.specs.Script.{lines_in}
 pub use Rattle.kob_script.specs.declared.fault.FaultKind.{FaultKind}
 pub use Rattle.kob_script.specs.declared.fault.LineError.{LineError}

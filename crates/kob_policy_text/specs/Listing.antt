@@ -1,16 +1,10 @@
--- Principals of the kind `User`, and those of other kinds, which are left out.
-use Rattle.std.specs.Prelude.{Bool, false, not, ℕ, List, Option, Some, None, Result, Ok, Err, codes, is_none, if◌then◌else◌, ◌+◌, drop, take, length, is_some, ◌||◌, nat_eq}
-use Rattle.std.specs.List.{position, before_first, starts_with}
-use Rattle.std.specs.Str.{bytes_eq}
-use Rattle.kob_names.specs.PrincipalRules.{is_colon}
-use Rattle.kob_script.specs.declared.fault.FaultKind.{FaultKind}
-use Rattle.kob_script.specs.Reading.{◌>>=◌, found_or}
-use Rattle.kob_script.specs.Values.{text_in, principal_of, host_of}
-use Rattle.std.specs.Char.{is_whitespace}
+-- The lines that `kafka-acls --list` prints. Those of Kafka 2.3 and later name a resource by
+-- `ResourcePattern(..)` and a binding by `(principal=.., host=.., ..)`; those of earlier versions by
+-- `Topic:orders` or `Topic:LITERAL:orders`, and by `User:x has Allow permission for operations: ..`.
+use Rattle.std.specs.Prelude.{◌||◌, ℕ, Bool, List, Option, Some, None, Result, Ok, Err, codes, nat_eq, if◌then◌else◌, ok_or}
+use Rattle.std.specs.List.{starts_with}
 use Rattle.std.specs.Option.{option_map}
-use Rattle.bstr.specs.Trim.{trim_start_by, trim_end_by}
-use Rattle.memchr.specs.Find.{first_of, matches, rmatches}
-use Rattle.kob_script.specs.declared.fault.FaultKind.TheVariants.{BadLine, BadWord}
+use Rattle.std.specs.Str.{bytes_eq}
 use Rattle.kob_names.specs.declared.kinds.Operation.{Operation}
 use Rattle.kob_names.specs.declared.kinds.Operation.TheVariants.{ClusterAction, DescribeConfigs, AlterConfigs, IdempotentWrite}
 use Rattle.kob_names.specs.declared.kinds.PatternKind.{PatternKind}
@@ -23,60 +17,17 @@ use Rattle.kob_words.specs.Operation.{operation_named}
 use Rattle.kob_words.specs.Pattern.{pattern_named}
 use Rattle.kob_words.specs.Permission.{permission_named}
 use Rattle.kob_words.specs.Resource.{resource_named}
+use Rattle.kob_script.specs.declared.fault.FaultKind.{FaultKind}
+use Rattle.kob_script.specs.declared.fault.FaultKind.TheVariants.{BadLine, BadWord}
+use Rattle.kob_script.specs.Reading.{◌>>=◌}
+use Rattle.kob_script.specs.Words.{text_in, host_of}
 use Rattle.kob_policy_text.specs.declared.item.Grant.{Grant}
 use Rattle.kob_policy_text.specs.declared.item.Item.{Item}
-use Rattle.kob_policy_text.specs.declared.item.Target.{Target}
 use Rattle.kob_policy_text.specs.declared.item.Item.TheVariants as item
 use Rattle.kob_policy_text.specs.declared.item.LeftOut.TheVariants as left_out
-
--- the text before the first colon is another kind than `User`
-abbrev pub is_other_kind : List ℕ → Bool
-is_other_kind text =
-    if is_none (position is_colon text) then false
-    else not (bytes_eq (before_first is_colon text) (codes "User"))
-
--- a principal, or nothing for one of another kind
-abbrev pub user_named : List ℕ → Result (Option (List ℕ)) FaultKind
-user_named text =
-    if is_other_kind text then Ok None else (principal_of text >>= λ user. Ok (Some user))
-
--- the same of bytes
-abbrev pub user_in : List ℕ → Result (Option (List ℕ)) FaultKind
-user_in bytes = text_in bytes >>= user_named
-
--- The parts of bytes around a mark.
-
--- what stands before a place, and what stands after a mark there
-abbrev pub parts_at : List ℕ → List ℕ → Option ℕ → Option (List ℕ × List ℕ)
-parts_at bytes mark place =
-    option_map (λ at. (take at bytes, drop (at + length mark) bytes)) place
-
--- what stands before the first mark, and what stands after it
-unfoldable pub first_parts : List ℕ → List ℕ → Option (List ℕ × List ℕ)
-first_parts bytes mark = parts_at bytes mark (first_of (matches bytes mark 0))
-
--- the same of the last mark
-unfoldable pub last_parts : List ℕ → List ℕ → Option (List ℕ × List ℕ)
-last_parts bytes mark = parts_at bytes mark (first_of (rmatches bytes mark (length bytes)))
-
--- the parts, which have to be there
-abbrev pub around_first : List ℕ → List ℕ → Result (List ℕ × List ℕ) FaultKind
-around_first bytes mark = found_or BadLine (first_parts bytes mark)
-
-abbrev pub around_last : List ℕ → List ℕ → Result (List ℕ × List ℕ) FaultKind
-around_last bytes mark = found_or BadLine (last_parts bytes mark)
-
--- the mark stands somewhere
-abbrev pub holds_mark : List ℕ → List ℕ → Bool
-holds_mark bytes mark = is_some (first_parts bytes mark)
-
--- without white space at the ends
-unfoldable pub trimmed : List ℕ → List ℕ
-trimmed bytes = trim_end_by is_whitespace (trim_start_by is_whitespace bytes)
-
--- The lines that `kafka-acls --list` prints. Those of Kafka 2.3 and later name a resource by
--- `ResourcePattern(..)` and a binding by `(principal=.., host=.., ..)`; those of earlier versions by
--- `Topic:orders` or `Topic:LITERAL:orders`, and by `User:x has Allow permission for operations: ..`.
+use Rattle.kob_policy_text.specs.declared.item.Target.{Target}
+use Rattle.kob_policy_text.specs.Pieces.{around_first, around_last, first_parts}
+use Rattle.kob_policy_text.specs.Users.{user_in}
 
 -- an operation in capitals, with underscores, or as it stands in scripts; nothing for one that is
 -- left out
@@ -132,8 +83,8 @@ granted permission host (Some operation) (Some user) = item.Grant (record {
 
 unfoldable pub grant_item : GrantWords → Result Item FaultKind
 grant_item words = do
-  permission ← found_or BadWord (listed_permission words.permission)
-  operation ← found_or BadWord (listed_operation words.operation)
+  permission ← ok_or (listed_permission words.permission) BadWord
+  operation ← ok_or (listed_operation words.operation) BadWord
   user ← user_in words.principal
   text ← text_in words.host
   host ← host_of text
@@ -180,8 +131,8 @@ pub record TargetWords : Type 0 where
 
 unfoldable pub target_item : TargetWords → Result Item FaultKind
 target_item words = do
-  kind ← found_or BadWord (listed_resource words.resource)
-  pattern ← found_or BadWord (listed_pattern words.pattern)
+  kind ← ok_or (listed_resource words.resource) BadWord
+  pattern ← ok_or (listed_pattern words.pattern) BadWord
   name ← text_in words.name
   Ok (item.Resource (headed kind pattern name))
 

@@ -1,5 +1,5 @@
 -- Questions, a line each.
-use Rattle.std.specs.Prelude.{◌+◌, ℕ, List, [], ◌∷◌, ◌++◌, Bool, true, false, not, is_some, Option, Some, None, Result, Ok, Err, codes, if◌then◌else◌}
+use Rattle.std.specs.Prelude.{◌+◌, ℕ, List, [], ◌∷◌, ◌++◌, Bool, true, false, not, is_some, Option, Some, None, Result, Ok, Err, codes, if◌then◌else◌, ok_or}
 use Rattle.std.specs.Str.{bytes_eq}
 use Rattle.kob_names.specs.declared.batch.Idem.{Idem}
 use Rattle.kob_rights.specs.declared.event.Event.{Event}
@@ -9,10 +9,9 @@ use Rattle.kob_script.specs.CommandLines.{events_of}
 use Rattle.kob_script.specs.declared.fault.FaultKind.{FaultKind}
 use Rattle.kob_script.specs.declared.fault.FaultKind.TheVariants.{BadLine, BadWord}
 use Rattle.kob_script.specs.declared.fault.Fault.{Fault}
-use Rattle.kob_script.specs.Reading.{◌>>=◌, found_or}
+use Rattle.kob_script.specs.Reading.{◌>>=◌}
 use Rattle.kob_script.specs.Script.{lines_in}
-use Rattle.kob_script.specs.Values.{text_of, principal_of, host_of}
-use Rattle.kob_script.specs.Words.{Word, words_of}
+use Rattle.kob_script.specs.Words.{text_of, principal_of, host_of, Word, words_of}
 use Rattle.kob_words.specs.Operation.{operation_named}
 use Rattle.kob_words.specs.Resource.{resource_named}
 use Rattle.kob_policy_text.specs.declared.question.Asker.{Asker}
@@ -34,8 +33,8 @@ asker_of principal host = do
 -- OPERATION RESOURCE NAME
 unfoldable pub right_of : Word → Word → Word → Result Right FaultKind
 right_of operation resource name = do
-  kind ← found_or BadWord (operation_named operation.decoded)
-  on ← found_or BadWord (resource_named resource.decoded)
+  kind ← ok_or (operation_named operation.decoded) BadWord
+  on ← ok_or (resource_named resource.decoded) BadWord
   text ← text_of name
   Ok (record { operation = kind; resource = on; name = text })
 

@@ -1,13 +1,14 @@
 //! The lines that `kafka-acls --list` prints.
 
-ghost use Rattle.std.specs.Prelude.{◌≡◌, codes};
+ghost use Rattle.std.specs.Prelude.{◌≡◌, codes, ok_or};
 ghost use Rattle.kob_policy_text.specs.Listing.{grant_item, granted, headed, heading_item};
 ghost use Rattle.kob_policy_text.specs.Listing.{listed_operation, listed_pattern};
 ghost use Rattle.kob_policy_text.specs.Listing.{listed_permission, listed_resource};
 ghost use Rattle.kob_policy_text.specs.Listing.{is_pattern_word, newer_grant, newer_resource};
 ghost use Rattle.kob_policy_text.specs.Listing.{older_grant, older_resource, older_target};
-ghost use Rattle.kob_policy_text.specs.Listing.{resource_item, target_item, first_parts};
-ghost use Rattle.kob_script.specs.Reading.{Gives, GivesSeen, found_or};
+ghost use Rattle.kob_policy_text.specs.Listing.{resource_item, target_item};
+ghost use Rattle.kob_policy_text.specs.Pieces.{first_parts};
+ghost use Rattle.kob_script.specs.Reading.{Gives, GivesSeen};
 ghost use Rattle.kob_script.specs.declared.fault.FaultKind.TheVariants.{BadWord};
 
 use crate::item::{Grant, Item, LeftOut, Target};
@@ -131,7 +132,7 @@ fn listed_pattern(word: &[u8]) -> Option<PatternKind>
 
 /// What was found, or `BadWord`.
 pub fn known<T: Drop>(found: Option<T>) -> Result<T, LineError>
-    ensures { Gives result (found_or BadWord found) }
+    ensures { Gives result (ok_or found BadWord) }
 {
     match found {
         Some(value) => Ok(value),

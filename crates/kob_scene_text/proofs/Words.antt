@@ -3,11 +3,14 @@ pub use Rattle.kob_acl_cli.specs.declared.args.CliArgs.{CliArgs}
 pub use Rattle.kob_names.specs.declared.draft.Draft.{Draft}
 pub use Rattle.kob_names.specs.declared.settings.Settings.{Settings}
 pub use Rattle.kob_rights.specs.declared.event.Event.{Event}
-pub use Rattle.kob_scene_text.specs.Workers.{place_of}
-pub use Rattle.kob_scene_text.specs.PrintedRequest.{draft_text, record_text}
+pub use Rattle.kob_scene_text.specs.Consumers.{place_of}
+pub use Rattle.kob_scene_text.specs.PrintedBindings.{draft_text}
+pub use Rattle.kob_scene_text.specs.PrintedRequest.{record_text}
 pub use Rattle.kob_scene_text.specs.PrintedRows.{inbox_item, outbox_item}
 pub use Rattle.kob_scene_text.specs.Reading.{as_scripts, step_error, ◌>>>◌}
-pub use Rattle.kob_scene_text.specs.Scenes.{MayRead, ReadsAs, ReadsLine, ReadsNext, ThenLines, fault_at, Seen, asked, so_far, told, with_head, with_setting, with_words, HasNoWorkerLine, as_line, as_scene, is_request, is_script_line, scene_of}
+pub use Rattle.kob_scene_text.specs.SceneReadings.{MayRead, ReadsAs, ReadsLine, ReadsNext, ThenLines, fault_at}
+pub use Rattle.kob_scene_text.specs.Scenes.{Seen, asked, so_far, told, with_head, with_setting, with_words}
+pub use Rattle.kob_scene_text.specs.ScriptScenes.{HasNoWorkerLine, as_line, as_scene, is_request, is_script_line, scene_of}
 pub use Rattle.kob_scene_text.specs.Steps.{id_in}
 pub use Rattle.kob_scene_text.specs.declared.fault.SceneFaultKind.{SceneFaultKind}
 pub use Rattle.kob_scene_text.specs.declared.fault.SceneFaultKind.TheVariants.{BadId}
@@ -15,8 +18,8 @@ pub use Rattle.kob_scene_text.specs.declared.fault.StepError.{StepError}
 pub use Rattle.kob_scene_text.specs.declared.fault.StepError.TheVariants.{Fault, Memory}
 pub use Rattle.kob_scene_text.specs.declared.line.Head.{Head}
 pub use Rattle.kob_scene_text.specs.declared.line.Head.TheVariants.{Consumer, Journal, Law, Of, Request, Service, Setting, Unknown}
-pub use Rattle.kob_script.proofs.Each.{each_ends, each_fails, each_keeps}
-pub use Rattle.kob_script.specs.Reading.{each, with_front, ◌>>=◌}
+pub use Rattle.kob_script.proofs.Each.{each_ends, each_fails, each_keeps, with_front}
+pub use Rattle.kob_script.specs.Reading.{each, ◌>>=◌}
 pub use Rattle.kob_script.specs.Script.{IsAnswerTo, IsAnswerToLine, lines_in}
 pub use Rattle.kob_script.specs.Words.{Word, words_of}
 pub use Rattle.kob_script.specs.declared.fault.FaultKind.TheVariants.{LateSetting}

@@ -1,10 +1,8 @@
--- The lines of blocks; what a line asks for, when it is checked and when it is read again, and what is
--- left after it; and that a script without `acl` lines has one reading.
-use Rattle.kob_script.proofs.Imports.{AreWholeLines, Checking, ChecksLine, ChecksNext, CliArgs, Err, Event, Fails, Fault, FaultKind, HasNoAclLine, IfRead, IsAnswerTo, IsAnswerToLine, LineError, List, Memory, None, Ok, Option, ReadsAs, Result, Script, ScriptError, ThenLines, Word, [], answers_after, ap, append-nil, append_assoc, arith, asks_clap, concat, drop, drop-drop, drop_more, empty_script, eqb-true, false, fault_at, first_answer, get_or, kept_answer, length, length-lines, length-take-le, line_len-bounds, line_words, lines-nil, lines-step, lines_in, lines_in_blocks, lines_of, list_all, map, nat_tests, not, refl, requests_of, result_unwrap_or, script_so_far, subst, sym, then_lines, true, with_words, without_terminator, words_of, ℕ, ◌++◌, ◌+◌, ◌-◌, ◌<◌, ◌==◌, ◌>>=◌, ◌∙◌, ◌∷◌, ◌≡◌, ◌≤◌}
+-- The lines of blocks; what a line asks for, and what is left after it; one reading without `acl` lines.
+use Rattle.kob_script.proofs.Imports.{AreWholeLines, Checking, ChecksLine, ChecksNext, CliArgs, Err, Event, Fails, Fault, FaultKind, HasNoAclLine, IfRead, IsAnswerTo, IsAnswerToLine, LineError, List, Memory, None, Ok, Option, ReadsAs, Result, Script, ScriptError, ThenLines, Word, [], answers_after, ap, append-nil, append_assoc, arith, asks_clap, concat, drop, drop-drop, drop_more, empty_script, eqb-true, false, fault_at, get_or, kept_answer, length, length-lines, length-take-le, line_len-bounds, line_words, lines-nil, lines-step, lines_in, lines_in_blocks, lines_of, list_all, map, nat_tests, not, refl, requests_of, result_unwrap_or, script_so_far, slice_index_or, subst, sym, then_lines, true, with_words, without_terminator, words_of, ℕ, ◌++◌, ◌+◌, ◌-◌, ◌<◌, ◌==◌, ◌>>=◌, ◌∙◌, ◌∷◌, ◌≡◌, ◌≤◌, Bool, Some, asking, bytes_eq, codes, if◌then◌else◌, is_setting, is_some, ◌&&◌, Request}
 use Rattle.kob_script.proofs.Choices.{both}
-use Rattle.kob_script.specs.CommandLines.{events_of}
-use Rattle.kob_script.specs.Requests.{requests_in}
-use Rattle.kob_script.specs.Script.{with_line, lines_from, script_of, LinesFrom}
+use Rattle.kob_script.specs.CommandLines.{asked_by, events_of}
+use Rattle.kob_script.specs.Script.{requests_in, with_line, lines_from, script_of, LinesFrom}
 use Rattle.kob_script.specs.declared.fault.Fault as fault
 use Rattle.kob_script.specs.declared.fault.ScriptError.TheVariants as script_error
 
@@ -53,6 +51,22 @@ unfolding events_in events_of
 words_ask answer s next [] is = sym (ap events_in is) ∙ sym (append-nil s.events)
 words_ask answer s next (first ∷ arguments) is = grind (arith, nat_tests, append-nil)
 
+-- words that clap is not asked about ask for the same by any answer
+unasked_alike : (words : List Word) (one other : Option CliArgs) → asks_clap words ≡ false
+    → requests_of one words ≡ requests_of other words
+unfolding asked_by
+unasked_alike (first ∷ host ∷ command ∷ arguments) one other unasked =
+    by (is_setting first) (bytes_eq command.decoded (codes "acl")) _ _ _ unasked
+  where
+    by : (setting acl : Bool) (a b plain : Result (List Request) FaultKind)
+        → is_some (if not setting && acl then Some arguments else None) ≡ false
+        → (if setting then [] else result_unwrap_or (asking first host (if acl then a else plain)) [])
+        ≡ (if setting then [] else result_unwrap_or (asking first host (if acl then b else plain)) [])
+    by true acl a b plain none = refl
+    by false true a b plain none = absurd cc
+    by false false a b plain none = refl
+unasked_alike _ one other unasked = refl
+
 -- a line that was read asks, by the answer that was kept, for what comes after the events before it
 line_asks : (answer : Option CliArgs) (s next : Script) (line : List ℕ) (lines : List (List ℕ))
     (others : List (Option CliArgs))
@@ -60,7 +74,7 @@ line_asks : (answer : Option CliArgs) (s next : Script) (line : List ℕ) (lines
     → s.events ++ requests_in (line ∷ lines) (kept_answer (line_words line) answer ++ others)
     ≡ next.events ++ requests_in lines others
 unfolding with_line requests_in
-line_asks answer s next line lines others is reads = grind (arith, nat_tests, append_assoc, words_ask)
+line_asks answer s next line lines others is reads = grind (arith, nat_tests, append_assoc, words_ask, unasked_alike)
 
 -- if requests are left and none was read, some lines are left
 pub some_lines : (asked : List Event) (lines : List (List ℕ)) (answers : List (Option CliArgs)) (all : List Event) (n : ℕ)
@@ -81,7 +95,7 @@ nothing_at_zero (x ∷ more) count counts zero = grind (arith, nat_tests, eqb-tr
 -- a line was read that stood at the front
 pub line_read : (text : List ℕ) (lines left later last : List (List ℕ)) (answers kept : List (Option CliArgs))
     (none events : List Event) → none ≡ [] → lines ≡ text ∷ left → last ≡ later
-    → events ≡ requests_of (first_answer (line_words text) answers) (line_words text)
+    → events ≡ requests_of (slice_index_or answers 0 None) (line_words text)
     → kept ≡ answers_after (line_words text) answers
     → events ++ requests_in (left ++ last) kept ≡ none ++ requests_in (lines ++ later) answers
 unfolding requests_in
@@ -125,11 +139,7 @@ reads_plain text (Ok script) may plain = sym (one_reading text (Ok script) plain
 reads_plain text (Err script_error.Memory) may plain = tt
 reads_plain text (Err (script_error.Fault fault)) may plain = sym (one_reading text (Err fault) plain may)
 
--- what is kept of an answer, if clap was asked or was not
-pub keeps_none : (old : List (Option CliArgs)) (words : List Word) (answer : Option CliArgs) → asks_clap words ≡ false
-    → old ≡ old ++ kept_answer words answer
-keeps_none old words answer unasked = rw unasked (sym (append-nil old))
-
+-- what is kept of an answer, if clap was asked
 pub keeps_one : (old : List (Option CliArgs)) (words : List Word) (answer : Option CliArgs) → asks_clap words ≡ true
     → old ++ answer ∷ [] ≡ old ++ kept_answer words answer
 keeps_one old words answer asked = rw asked refl
@@ -147,6 +157,13 @@ module _ (s : Script) (line : List ℕ) (new : Checking) (old kept : List (Optio
   unfolding with_line
   words_fail words answer Memory has is fails = tt
   words_fail words answer (Fault kind) has is fails = rw has (answer, is, fails)
+
+  -- a line about which clap is not asked
+  pub unasked_checked : (r : Result (Unit {0}) LineError) (words : List Word) → words_of line ≡ Ok words
+      → asks_clap words ≡ false → ChecksNext new r (with_words None s words) → kept ≡ old → ChecksLine s line new old kept r
+  unasked_checked (Ok done) words has unasked reads same =
+      line_checked words None has (grind (arith, nat_tests)) (grind (arith, nat_tests, append-nil)) reads
+  unasked_checked (Err e) words has unasked fails same = words_fail words None e has (grind (arith, nat_tests)) fails
 
   -- a line with an escape that is not whole
   pub line_fails : (e : LineError) → Fails e (words_of line) → ChecksLine s line new old kept (Err e)

@@ -2,20 +2,18 @@
 pub use Rattle.bstr.proofs.lemmas.LengthLemmas.{length-lines}
 pub use Rattle.bstr.proofs.lemmas.LineLemmas.{line_len-bounds, lines-nil, lines-step}
 pub use Rattle.bstr.specs.Text.{lines_of, without_terminator}
-pub use Rattle.kob_acl_cli.specs.Misread.{IsFirstFault}
+pub use Rattle.kob_acl_cli.specs.Parts.{IsFirstFault}
 pub use Rattle.kob_names.specs.PrincipalRules.{principal_fault}
 pub use Rattle.kob_script.specs.Checks.{ChecksLine, ChecksNext, fault_at, kept_answer, script_so_far}
-pub use Rattle.kob_script.specs.CommandLines.{AclCommand, CliArgs, Command, CommandFault, Event, acl_commands, acl_request, asked_row, asking, asks_by_acl, command_named, error_of, events_by, faults_in, line_fault, request_of, row, row_fault, unless_faults}
-pub use Rattle.kob_script.specs.Reading.{BadLine, BadNumber, Fails, Fault, FaultKind, Finds, IsAmong, LineError, Memory, counted, each, earlier, first_kind, found_or, rank, unless_found, with_front, ◌>>=◌}
-pub use Rattle.kob_script.specs.Requests.{AreWholeLines, answers_after, first_answer, lines_in_blocks, lines_left, requests_in, requests_left, requests_of, rest_of, steps_left}
-pub use Rattle.kob_script.specs.Script.{HasNoAclLine, IfRead, IsAnswerTo, IsAnswerToLine, ReadsAs, Script, ScriptError, ThenLines, asks_clap, empty_script, line_words, lines_in, then_lines, with_words}
-pub use Rattle.kob_script.specs.Values.{named_principal, number_in, record_of, text_of}
-pub use Rattle.kob_script.specs.Words.{LeavesWhole, Word, before, byte_at, cut_at, escaped, has_whole_escapes, is_blank, raw_words, unescaped, word_of, words_of}
-pub use Rattle.kob_script.specs.declared.checks.Checking.{Checking}
-pub use Rattle.kob_script.specs.declared.command.Place.TheVariants.{Texts}
+pub use Rattle.kob_script.specs.CommandLines.{AclCommand, CliArgs, Command, CommandFault, Event, Request, acl_commands, acl_request, asking, asks_by_acl, command_named, error_of, events_by, faults_in, line_fault, request_of, row, row_fault, unless_faults}
+pub use Rattle.kob_script.specs.Reading.{BadLine, BadNumber, Fails, Fault, FaultKind, Finds, GivesSeen, IsAmong, LineError, Memory, counted, each, earlier, first_kind, rank, unless_found, ◌>>=◌}
+pub use Rattle.kob_script.specs.Script.{AreWholeLines, answers_after, is_setting, lines_in_blocks, lines_left, requests_in, requests_left, requests_of, rest_of, steps_left, HasNoAclLine, IfRead, IsAnswerTo, IsAnswerToLine, ReadsAs, Script, ScriptError, ThenLines, asks_clap, empty_script, line_words, lines_in, then_lines, with_words}
+pub use Rattle.kob_script.specs.Words.{is_skipped, named_principal, number_in, record_of, text_of, LeavesWhole, Word, before, cut_at, escaped, is_blank, raw_words, unescaped, word_of, words_of}
+pub use Rattle.kob_script.specs.declared.script.Checking.{Checking}
+pub use Rattle.kob_script.specs.declared.command.Place.TheVariants.{One, Texts}
 pub use Rattle.memchr.proofs.lemmas.ValueLemmas.{IsFirstByte-value}
 pub use Rattle.memchr.specs.Find.{IsFirstByte, Nowhere, Passes, is_byte}
-pub use Rattle.std.proofs.Common.{Bool, Bor, Err, IsUtf8, List, MatchOption, None, Ok, Option, Result, Some, [], ap, append-nil, append_assoc, arith, bytes_eq, codes, cond, drop, drop-drop, drop_of_length-le, eqb-true, false, flat_map, get_or, if◌then◌else◌, inl, inr, is_some, length, length-append, length-drop, length-take-le, ltb-false, ltb-true, map, nat_lt, not, option_map, refl, rules, subst, sym, take, take_all, tests, true, ℕ, ◌&&◌, ◌*◌, ◌++◌, ◌+◌, ◌-◌, ◌<◌, ◌==◌, ◌^◌, ◌∙◌, ◌∷◌, ◌≡◌, ◌≤◌}
+pub use Rattle.std.proofs.Common.{Bool, Bor, Err, IsUtf8, List, MatchOption, None, Ok, Option, Result, Some, [], ap, append-nil, append_assoc, arith, bytes_eq, codes, cond, drop, drop-drop, drop_of_length-le, eqb-true, false, flat_map, get_or, if◌then◌else◌, inl, inr, is_some, length, length-append, length-drop, length-take-le, ltb-false, ltb-true, map, nat_lt, not, ok_or, option_map, refl, rules, slice_index_or, subst, sym, take, take_all, tests, true, ℕ, ◌&&◌, ◌*◌, ◌++◌, ◌+◌, ◌-◌, ◌<◌, ◌==◌, ◌^◌, ◌∙◌, ◌∷◌, ◌≡◌, ◌≤◌}
 pub use Rattle.std.proofs.lemmas.Bool.Decides.{nat_tests}
 pub use Rattle.std.proofs.lemmas.Grind.{get_or_default_zero}
 pub use Rattle.std.proofs.lemmas.Iterator.Consumers.{YieldsList-end, YieldsList-from_filter, YieldsList-turn}
@@ -27,7 +25,7 @@ pub use Rattle.std.proofs.lemmas.Slice.Eq.{bytes_eq-Decides}
 pub use Rattle.std.proofs.lemmas.Str.{IsUtf8-from_is_utf8, is_utf8-from_IsUtf8}
 pub use Rattle.std.specs.Char.{digit_value, is_ascii_digit}
 pub use Rattle.std.specs.List.{concat, list_all}
-pub use Rattle.std.specs.Result.{result_err, result_unwrap_or}
+pub use Rattle.std.specs.Result.{result_and, result_err, result_ok, result_unwrap_or}
 pub use Rattle.std.specs.Str.{all_ascii_digits, is_utf8}
 pub use Rattle.std.specs.Str.Parse.{digits_value, digits_value_after}
 pub use Rattle.std.specs.Vec.Iter.{into_iter_items}

@@ -1,4 +1,3 @@
-pub mod Askers
 pub mod CheckedLines
 pub mod Choices
 pub mod Each

@@ -1,8 +1,9 @@
--- The fault of a line is the first kind among those of its words, and how much words without one ask
--- for; the faults of options, and what they stand for in a script.
-use Rattle.kob_script.proofs.Imports.{AclCommand, BadLine, Bool, CliArgs, Command, CommandFault, Err, Event, Fails, Fault, FaultKind, Finds, IsAmong, IsFirstFault, LineError, List, Memory, None, Ok, Option, Result, Some, Texts, Word, [], acl_commands, acl_request, arith, asked_row, asking, asks_by_acl, bytes_eq, codes, command_named, counted, earlier, error_of, false, first_kind, found_or, if◌then◌else◌, inl, inr, length, length-map, line_fault, ltb-false, ltb-true, map, nat_tests, option_map, rank, refl, request_of, row, row_fault, true, unless_faults, unless_found, ℕ, ◌>>=◌, ◌∷◌, ◌≡◌, ◌≤◌}
+-- The fault of a line, the first kind among those of its words, and how much words without one ask for.
+use Rattle.kob_script.proofs.Imports.{AclCommand, BadLine, Bool, CliArgs, Command, CommandFault, Err, Event, Fails, Fault, FaultKind, Finds, GivesSeen, IsAmong, IsFirstFault, LineError, List, Memory, None, Ok, One, Option, Result, Some, Texts, Word, [], acl_commands, acl_request, arith, asking, asks_by_acl, bytes_eq, codes, command_named, counted, earlier, error_of, false, first_kind, ok_or, if◌then◌else◌, inl, inr, length, length-map, line_fault, ltb-false, ltb-true, map, nat_tests, option_map, rank, refl, request_of, result_and, result_err, row, row_fault, true, unless_faults, unless_found, ℕ, ◌>>=◌, ◌∷◌, ◌≡◌, ◌≤◌, IsUtf8, MatchOption, is_utf8-from_IsUtf8, named_principal, principal_fault, get_or}
 use Rattle.kob_script.specs.CommandLines.{asked_by, events_of}
-use Rattle.kob_script.proofs.Choices.{chosen_false}
+use Rattle.kob_script.proofs.Choices.{chosen_false, chosen_true}
+use Rattle.kob_script.specs.Words.{principal_of}
+use Rattle.kob_script.specs.declared.command.Slot.TheVariants.{Host, Principal}
 
 -- the first of the faults is the one that reading gives
 pub fails_first_of : (faults : List CommandFault) (fault : CommandFault) (commands : List AclCommand)
@@ -11,15 +12,19 @@ fails_first_of [] fault commands is_first = rw is_first tt
 fails_first_of (first ∷ others) fault commands (inl is) = grind (arith, nat_tests)
 fails_first_of (first ∷ others) fault commands (inr is) = rw is tt
 
+-- what was read is dropped, and its fault kept
+pub keeps_fault : {A B : Type 0} (view : A → B) (read : Result A LineError) (told : Result B FaultKind)
+    (done : Result (Unit {0}) LineError) → GivesSeen view read told → done ≡ result_and read (Ok tt)
+    → Finds done (result_err told)
+keeps_fault view (Ok x) told done gives is = rw (is, gives) refl
+keeps_fault view (Err Memory) told done gives is = rw is tt
+keeps_fault view (Err (Fault kind)) told done gives is = rw (is, gives) refl
+
 -- This is the first of the kinds among faults, if there are any.
 abbrev pub IsFirst : Option FaultKind → List (Option FaultKind) → Type 0
 IsFirst None faults = (kind : FaultKind) → IsAmong kind faults → ⊥
 IsFirst (Some kind) faults =
     IsAmong kind faults × ((other : FaultKind) → IsAmong other faults → rank kind ≤ rank other)
-
-abbrev rank_in : Option FaultKind → ℕ
-rank_in None = 0
-rank_in (Some kind) = rank kind
 
 behind_none : {P : Type 0} (kind : FaultKind) (faults : List (Option FaultKind)) → (IsAmong kind faults → P)
     → IsAmong kind (None ∷ faults) → P
@@ -61,9 +66,9 @@ counted_by_fault answer (who ∷ from ∷ command ∷ words) =
     by (bytes_eq command.decoded (codes "acl")) (command_named command.decoded)
   where
     by : (acl : Bool) (found : Option Command)
-        → let fault = row_fault (option_map asked_row (if acl then Some (Texts ∷ []) else option_map row found)) (who ∷ from ∷ words)
+        → let fault = row_fault (option_map (λ places. One Principal ∷ One Host ∷ places) (if acl then Some (Texts ∷ []) else option_map row found)) (who ∷ from ∷ words)
         in counted (unless_found fault (asking who from (if acl then (acl_commands answer >>= λ commands. Ok (map acl_request commands))
-        else (found_or BadLine found >>= λ known. Ok (request_of known words ∷ [])))))
+        else (ok_or found BadLine >>= λ known. Ok (request_of known words ∷ [])))))
         ≡ unless_found fault (if acl then counted (acl_commands answer) else Ok 1)
     by true found = counted_unless _ _ _ (as_many who from (acl_commands answer))
     by false None = refl
@@ -74,6 +79,16 @@ counted_by_fault answer _ = refl
 pub line_counted : (answer : Option CliArgs) (words : List Word) → line_fault words ≡ None
     → counted (events_of answer words) ≡ (if asks_by_acl words then counted (acl_commands answer) else Ok 1)
 line_counted answer words none = rw none at (counted_by_fault answer words)
+
+-- whether a line asks by `acl` is told by its third word
+pub asks_acl : (words : List Word) (command : Word) → 3 ≤ length words → command ≡ get_or words 2 command
+    → bytes_eq command.decoded (codes "acl") ≡ true → asks_by_acl words ≡ true
+asks_acl (who ∷ from ∷ third ∷ arguments) command many is acl = rw is at acl
+asks_acl _ command many is acl = absurd (omega (arith, many))
+
+pub uncounts : {A : Type 0} (read : Result (List A) FaultKind) (e : LineError) → Fails e read → Fails e (counted read)
+uncounts read Memory fails = tt
+uncounts read (Fault kind) fails = rw fails refl
 
 pub one_counted : (answer : Option CliArgs) (words : List Word) → line_fault words ≡ None → asks_by_acl words ≡ false
     → counted (events_of answer words) ≡ Ok 1
@@ -101,3 +116,14 @@ pub uncounted : {A : Type 0} (read : Result (List A) FaultKind) (e : LineError) 
 uncounted read Memory fails = tt
 uncounted (Ok items) (Fault kind) fails = absurd cc
 uncounted (Err other) (Fault kind) fails = cc
+
+-- the principal that was read last, if a word names it again
+pub named_again : (word : Word) (kept : List ℕ) → IsUtf8 kept → principal_fault kept ≡ None → word.decoded ≡ kept
+    → named_principal word ≡ Ok kept
+unfolding principal_of
+named_again word kept text valid same = grind (arith, nat_tests, chosen_true, is_utf8-from_IsUtf8)
+
+pub has_no_fault : (last : Option (List ℕ)) (read : Result (List ℕ) FaultKind)
+    → MatchOption last ⊥ (λ kept. read ≡ Ok kept) → result_err read ≡ None
+has_no_fault (Some kept) read is = rw is refl
+has_no_fault None read none = absurd none

@@ -1,9 +1,12 @@
--- The words of a line. A word is read byte by byte, one without a percent sign
--- stands for itself, and a cut at a byte that is neither a percent sign nor a hexadecimal digit leaves
--- each escape whole. And the seven words of a row.
-use Rattle.kob_script.proofs.Imports.{Bool, IsFirstByte, IsFirstByte-value, LeavesWhole, List, None, Nowhere, Option, Passes, Some, Word, [], ap, append-nil, append_assoc, arith, before, byte_at, cut_at, digit_value, drop, escaped, false, get_or, get_or_default_zero, has_whole_escapes, if◌then◌else◌, is_byte, is_some, length, length-drop, list_all, list_all-from_AllPass, nat_lt, nat_tests, not, option_map, refl, sym, take, take_all, true, unescaped, ℕ, ◌++◌, ◌+◌, ◌-◌, ◌<◌, ◌==◌, ◌∙◌, ◌∷◌, ◌≡◌, ◌≤◌}
+-- The words of a line. A word is read byte by byte, one without a percent sign stands for itself, and a cut at
+-- `=` or `:` leaves each escape whole. And the seven words of a row.
+use Rattle.kob_script.proofs.Imports.{Bool, IsFirstByte, IsFirstByte-value, LeavesWhole, List, None, Nowhere, Option, Passes, Some, Word, [], ap, append-nil, append_assoc, arith, before, cut_at, digit_value, drop, escaped, false, get_or, get_or_default_zero, if◌then◌else◌, is_byte, is_some, length, length-drop, list_all, list_all-from_AllPass, nat_lt, nat_tests, not, option_map, refl, sym, take, take_all, true, unescaped, ℕ, ◌++◌, ◌+◌, ◌-◌, ◌<◌, ◌==◌, ◌∙◌, ◌∷◌, ◌≡◌, ◌≤◌}
 use Rattle.kob_script.proofs.Choices.{chosen_false, false_from}
 use Rattle.kob_script.specs.Words.{unescaped_from}
+
+-- the byte at the front of a word, and what comes after it; nothing for a `%` that begins no escape
+abbrev pub byte_at : ℕ → List ℕ → Option (ℕ × List ℕ)
+byte_at first others = if first == 37 then option_map (λ byte. (byte, drop 2 others)) (escaped others) else Some (first, others)
 
 -- the byte at the front, and then what the rest stands for
 abbrev then_rest : Option (ℕ × List ℕ) → Option (List ℕ)
@@ -107,8 +110,8 @@ module _ (byte : ℕ) (back : List ℕ) (other : (byte == 37) ≡ false) (none :
   cut (a ∷ high ∷ low ∷ rest) =
       grind (arith, nat_tests, front_joined, cut rest, before_joined, cut (high ∷ low ∷ rest))
 
-  pub leaves_whole : (front : List ℕ) → has_whole_escapes (front ++ byte ∷ back) ≡ true
-      → (has_whole_escapes front ≡ true) × (has_whole_escapes back ≡ true)
+  pub leaves_whole : (front : List ℕ) → is_some (unescaped (front ++ byte ∷ back)) ≡ true
+      → (is_some (unescaped front) ≡ true) × (is_some (unescaped back) ≡ true)
   leaves_whole front whole = both_whole byte (unescaped front) (unescaped back) (sym (ap is_some (cut front)) ∙ whole)
 
 pub at_equals : LeavesWhole 61

@@ -1,12 +1,10 @@
 -- A script as it is checked, line by line.
 use Rattle.std.specs.Prelude.{◌≡◌, ℕ, List, [], ◌∷◌, ◌++◌, Option, Result, Ok, Err, length, if◌then◌else◌}
-use Rattle.kob_script.specs.declared.checks.CheckedScript.{CheckedScript}
-use Rattle.kob_script.specs.declared.checks.Checking.{Checking}
-use Rattle.kob_script.specs.declared.fault.LineError.TheVariants as line_error
+use Rattle.kob_script.specs.declared.script.CheckedScript.{CheckedScript}
+use Rattle.kob_script.specs.declared.script.Checking.{Checking}
 use Rattle.kob_script.specs.declared.fault.ScriptError.TheVariants as script_error
-use Rattle.kob_script.specs.Reading.{Fails, FaultKind, LineError}
-use Rattle.kob_script.specs.Requests.{CliArgs, Event}
-use Rattle.kob_script.specs.Script.{asks_clap, line_words, with_line, IsAnswerToLine, LineReadsAs, Script, ScriptError}
+use Rattle.kob_script.specs.Reading.{Fails, Fault, FaultKind, LineError, Memory}
+use Rattle.kob_script.specs.Script.{CliArgs, Event, asks_clap, line_words, with_line, IsAnswerToLine, LineReadsAs, Script, ScriptError}
 use Rattle.kob_script.specs.Words.{Word, words_of}
 
 -- the script so far, without opening bindings, which asks for these events
@@ -31,21 +29,20 @@ ChecksNext checking (Err error) read = Fails error read
 abbrev pub kept_answer : List Word → Option CliArgs → List (Option CliArgs)
 kept_answer words answer = if asks_clap words then answer ∷ [] else []
 
--- A line more was read with an answer that clap may give, which is kept if clap was asked, unless
--- memory ran out.
+-- A line was read by an answer of clap's, which is kept if clap was asked, unless memory ran out.
 abbrev pub ChecksLine : Script → List ℕ → Checking → List (Option CliArgs) → List (Option CliArgs)
     → Result (Unit {0}) LineError → Type 0
 ChecksLine s line checking old new (Ok done) =
     (answer : Option CliArgs) × IsAnswerToLine (words_of line) answer
     × (new ≡ old ++ kept_answer (line_words line) answer)
     × ChecksNext checking (Ok done) (with_line answer s line)
-ChecksLine s line checking old new (Err line_error.Memory) = Unit {0}
-ChecksLine s line checking old new (Err (line_error.Fault kind)) = LineReadsAs s line (Err kind)
+ChecksLine s line checking old new (Err Memory) = Unit {0}
+ChecksLine s line checking old new (Err (Fault kind)) = LineReadsAs s line (Err kind)
 
 -- what was wrong, with the number of its line
 abbrev pub fault_at : ℕ → LineError → ScriptError
-fault_at line line_error.Memory = script_error.Memory
-fault_at line (line_error.Fault kind) = script_error.Fault (record { line = line; kind = kind })
+fault_at line Memory = script_error.Memory
+fault_at line (Fault kind) = script_error.Fault (record { line = line; kind = kind })
 
 -- the script that was checked, with all that it asks for
 abbrev pub checked : CheckedScript → Script

@@ -1,6 +1,5 @@
--- The commands by which a line asks: their names, the words that each takes, one row a command, the
--- fault of a line's words, and what a line asks for by them.
-use Rattle.std.specs.Prelude.{ℕ, List, Option, Result, Ok, codes, if◌then◌else◌, [], ◌∷◌, Some, None, Err, map, Bool, false, find, option_map, bytes_eq}
+-- The commands: their names, a row of words for each, a line's fault, and what they ask for.
+use Rattle.std.specs.Prelude.{ℕ, List, Option, Result, Ok, codes, if◌then◌else◌, [], ◌∷◌, Some, None, Err, map, Bool, false, find, option_map, bytes_eq, ok_or}
 use Rattle.std.specs.Result.{result_err, result_ok, result_unwrap_or}
 use Rattle.kob_acl_cli.specs.Commands.{commands, faults}
 pub use Rattle.kob_acl_cli.specs.declared.args.CliArgs.{CliArgs}
@@ -17,19 +16,16 @@ use Rattle.kob_names.specs.declared.kinds.Permission.TheVariants.{Allow}
 use Rattle.kob_names.specs.declared.kinds.ResourceKind.TheVariants.{Topic}
 pub use Rattle.kob_rights.specs.declared.event.Event.{Event}
 use Rattle.kob_rights.specs.declared.on_partitions.Before.TheVariants as befores
-use Rattle.kob_rights.specs.declared.on_partitions.Which.TheVariants.{End}
 use Rattle.kob_rights.specs.declared.request.Request.TheVariants as ask
-use Rattle.kob_rights.specs.declared.request.Request.{Request}
-use Rattle.kob_script.specs.Values.{idem_of, record_of, number_of, which_of, before_of, text_of, named_principal, named_host}
-use Rattle.kob_script.specs.Reading.{found_or, first_kind, each, unless_found, ◌>>=◌, BadWord, BadLine, Usage, NoAction, BadName, BadMix, NoResource, NoPrincipal, FaultKind, LineError}
-use Rattle.kob_script.specs.Words.{Word}
+pub use Rattle.kob_rights.specs.declared.request.Request.{Request}
+use Rattle.kob_script.specs.Words.{End, idem_of, record_of, number_of, which_of, before_of, text_of, named_principal, named_host, Word}
+use Rattle.kob_script.specs.Reading.{first_kind, each, unless_found, ◌>>=◌, BadWord, BadLine, Usage, NoAction, BadName, BadMix, NoResource, NoPrincipal, Fault, FaultKind, LineError, Memory}
 use Rattle.kob_script.specs.declared.command.Command.TheVariants.{CreateTopic, DeleteTopic, Metadata, Produce, Fetch, ListOffsets, DeleteRecords, InitProducer, Commit, Committed, Groups, DeleteGroup, CreateAcl, DescribeAcls, DeleteAcls}
 pub use Rattle.kob_script.specs.declared.command.Command.{Command}
 use Rattle.kob_script.specs.declared.command.Place.TheVariants.{One, OrDash, OrNone, Records, Texts}
 use Rattle.kob_script.specs.declared.command.Place.{Place}
 use Rattle.kob_script.specs.declared.command.Slot.TheVariants as slot
 use Rattle.kob_script.specs.declared.command.Slot.{Slot}
-use Rattle.kob_script.specs.declared.fault.LineError.TheVariants as line_error
 use Rattle.kob_words.specs.Operation.{operation_named}
 use Rattle.kob_words.specs.Pattern.{filter_pattern_named, pattern_named}
 use Rattle.kob_words.specs.Permission.{permission_named}
@@ -37,7 +33,7 @@ use Rattle.kob_words.specs.Resource.{resource_named}
 
 -- what a table has for a word
 abbrev pub known : {A : Type 0} → (List ℕ → Option A) → Word → Result A FaultKind
-known named word = found_or BadWord (named word.decoded)
+known named word = ok_or (named word.decoded) BadWord
 
 -- a filter takes any pattern by `-` too, which has to stand without escapes
 abbrev pub filter_pattern_of : Word → Result FilterPattern FaultKind
@@ -131,18 +127,14 @@ abbrev pub row_fault : Option (List Place) → List Word → Option FaultKind
 row_fault None words = Some BadLine
 row_fault (Some places) words = first_kind (faults_in places words)
 
--- the row of a line: the words that tell who asks, and the row of its command
-abbrev pub asked_row : List Place → List Place
-asked_row places = One slot.Principal ∷ One slot.Host ∷ places
-
 -- the fault of a line's words, PRINCIPAL HOST COMMAND and the command's words
 abbrev pub line_fault : List Word → Option FaultKind
 line_fault (who ∷ from ∷ command ∷ words) =
-    row_fault (option_map asked_row (row_named command.decoded)) (who ∷ from ∷ words)
+    row_fault (option_map (λ places. One slot.Principal ∷ One slot.Host ∷ places)
+    (row_named command.decoded)) (who ∷ from ∷ words)
 line_fault _ = Some BadLine
 
--- What a word without a fault stands for. The last value stands for a word with a fault, by which
--- nothing is asked.
+-- what a word without a fault stands for; nothing is asked by the other value
 abbrev pub value : {A : Type 0} → Result A FaultKind → A → A
 value read other = result_unwrap_or read other
 
@@ -241,8 +233,8 @@ kind_of options.Memory = Usage
 
 -- why options are no commands
 abbrev pub error_of : CommandFault → LineError
-error_of options.Memory = line_error.Memory
-error_of fault = line_error.Fault (kind_of fault)
+error_of options.Memory = Memory
+error_of fault = Fault (kind_of fault)
 
 -- the commands, unless there are faults, of which the first counts
 abbrev pub unless_faults : List CommandFault → List AclCommand → Result (List AclCommand) FaultKind
@@ -275,7 +267,7 @@ unfoldable pub asked_by : Option CliArgs → List Word → Result (List Event) F
 asked_by answer (who ∷ from ∷ command ∷ words) =
     asking who from (if bytes_eq command.decoded (codes "acl") then
     (acl_commands answer >>= λ commands. Ok (map acl_request commands))
-    else (found_or BadLine (command_named command.decoded)
+    else (ok_or (command_named command.decoded) BadLine
     >>= λ named. Ok (request_of named words ∷ [])))
 asked_by answer _ = Err BadLine
 
@@ -284,7 +276,6 @@ abbrev pub asks_by_acl : List Word → Bool
 asks_by_acl (principal ∷ host ∷ command ∷ words) = bytes_eq command.decoded (codes "acl")
 asks_by_acl _ = false
 
--- the events of a line, by clap's answer to the words after `acl`; or the line's fault, that of its
--- words before that of options
+-- the events of a line by clap's answer to it, or its fault, that of words before that of options
 unfoldable pub events_of : Option CliArgs → List Word → Result (List Event) FaultKind
 events_of answer words = unless_found (line_fault words) (asked_by answer words)

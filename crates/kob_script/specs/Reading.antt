@@ -1,6 +1,5 @@
--- Reading, up to the first fault, and the order of faults: of those in a line the one whose kind
--- comes first counts.
-use Rattle.std.specs.Prelude.{◌≡◌, ◌⊎◌, ℕ, List, [], ◌∷◌, Option, Some, None, Result, Ok, Err, nat_lt, if◌then◌else◌, ◌++◌, length}
+-- Reading up to a fault, and the order of faults: of those in a line the first kind counts.
+use Rattle.std.specs.Prelude.{◌≡◌, ◌⊎◌, ℕ, List, [], ◌∷◌, Option, Some, None, Result, Ok, Err, nat_lt, if◌then◌else◌, length}
 pub use Rattle.kob_script.specs.declared.fault.FaultKind.TheVariants.{BadEscape, LateSetting, BadLine, BadText, BadPrincipal, BadHost, BadNumber, BadWord, Usage, NoAction, BadName, BadMix, NoResource, NoPrincipal}
 pub use Rattle.kob_script.specs.declared.fault.FaultKind.{FaultKind}
 pub use Rattle.kob_script.specs.declared.fault.LineError.TheVariants.{Memory, Fault}
@@ -60,30 +59,18 @@ abbrev pub Fails : {A : Type 0} → LineError → Result A FaultKind → Type 0
 Fails Memory read = Unit {0}
 Fails (Fault kind) read = read ≡ Err kind
 
--- What a function returned is what reading gives, unless memory ran out.
-abbrev pub Gives : {A : Type 0} → Result A LineError → Result A FaultKind → Type 0
-Gives (Ok x) read = read ≡ Ok x
-Gives (Err error) read = Fails error read
-
--- the same of what is seen by a view
+-- What a function returned is by a view what reading gives, unless memory ran out.
 abbrev pub GivesSeen : {A B : Type 0} → (A → B) → Result A LineError → Result B FaultKind → Type 0
 GivesSeen view (Ok x) read = read ≡ Ok (view x)
 GivesSeen view (Err error) read = Fails error read
 
--- values that stand before what is read
-abbrev pub with_front : {A : Type 0} → List A → Result (List A) FaultKind
-    → Result (List A) FaultKind
-with_front front read = read >>= λ others. Ok (front ++ others)
+abbrev pub Gives : {A : Type 0} → Result A LineError → Result A FaultKind → Type 0
+Gives result read = GivesSeen (λ x. x) result read
 
 -- each in turn, up to the first fault
 unfoldable pub each : {A B : Type 0} → (A → Result B FaultKind) → List A → Result (List B) FaultKind
 each read [] = Ok []
 each read (x ∷ xs) = read x >>= λ first. each read xs >>= λ others. Ok (first ∷ others)
-
--- a value in which no fault was found
-abbrev pub unless_fault : {A E : Type 0} → Option E → FaultKind → A → Result A FaultKind
-unless_fault None kind x = Ok x
-unless_fault (Some fault) kind x = Err kind
 
 -- what is read, unless a fault was found
 abbrev pub unless_found : {A : Type 0} → Option FaultKind → Result A FaultKind → Result A FaultKind
@@ -93,8 +80,3 @@ unless_found (Some kind) read = Err kind
 -- how many values are read
 abbrev pub counted : {A : Type 0} → Result (List A) FaultKind → Result ℕ FaultKind
 counted read = read >>= λ items. Ok (length items)
-
--- what was found
-abbrev pub found_or : {A : Type 0} → FaultKind → Option A → Result A FaultKind
-found_or kind None = Err kind
-found_or kind (Some x) = Ok x

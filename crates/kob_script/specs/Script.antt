@@ -1,19 +1,19 @@
--- A script: settings, and then requests, a line each; and what it may be read as, by what clap may
--- answer to its `acl` lines.
-use Rattle.std.specs.List.{list_all}
-use Rattle.std.specs.Prelude.{IfOk, MatchOption, ℕ, Bool, true, false, ◌||◌, List, [], ◌∷◌, ◌++◌, Result, Ok, Err, codes, if◌then◌else◌, bytes_eq, ◌+◌, Option, None, map, nat_lt, length, ◌≡◌, ◌&&◌, not, Some, is_some}
+-- A script: settings, then requests, a line each; what it may be read as; the requests left of it.
+use Rattle.std.specs.List.{list_all, concat}
+use Rattle.std.specs.Prelude.{IfOk, MatchOption, ℕ, Bool, true, false, ◌||◌, List, [], ◌∷◌, ◌++◌, Result, Ok, Err, codes, if◌then◌else◌, bytes_eq, ◌+◌, Option, None, map, nat_lt, length, ◌≡◌, ◌&&◌, not, Some, is_some, drop, slice_index_or}
 use Rattle.std.specs.Result.{result_unwrap_or}
 use Rattle.bstr.specs.Text.{lines_of, without_terminator}
 use Rattle.kob_acl_cli.specs.Lines.{IsReadOf, is_taken, refusals, rows_of_line}
 use Rattle.kob_names.specs.declared.settings.Settings.{Settings}
-use Rattle.kob_script.specs.CommandLines.{events_of, CliArgs}
+pub use Rattle.kob_script.specs.CommandLines.{events_of, CliArgs, asked_by, Event}
 use Rattle.kob_script.specs.Reading.{◌>>=◌, each, BadLine, LateSetting, FaultKind}
-use Rattle.kob_script.specs.Values.{named_principal, text_of}
-use Rattle.kob_script.specs.Words.{Word, words_of}
+use Rattle.kob_script.specs.Words.{named_principal, text_of, Word, words_of}
 use Rattle.kob_script.specs.declared.fault.Fault.{Fault}
-use Rattle.kob_script.specs.declared.fault.ScriptError.TheVariants as script_error
 pub use Rattle.kob_script.specs.declared.fault.ScriptError.{ScriptError}
 pub use Rattle.kob_script.specs.declared.script.Script.{Script}
+use Rattle.kob_script.specs.declared.requests.Blocks.{Blocks}
+use Rattle.kob_script.specs.declared.requests.Requests.TheInside.{Inside}
+use Rattle.kob_script.specs.declared.fault.ScriptError.TheVariants as script_error
 
 -- the word that begins a line with a super user
 abbrev pub is_super : Word → Bool
@@ -39,8 +39,7 @@ everyone_of (word ∷ []) =
     else (if bytes_eq word.decoded (codes "off") then Ok false else Err BadLine)
 everyone_of _ = Err BadLine
 
--- the settings with what a line says that begins with this word; of the lines `everyone` the last
--- one counts
+-- the settings with what a line says that begins with this word; the last line `everyone` counts
 abbrev pub settings_with : Settings → Word → List Word → Result Settings FaultKind
 settings_with settings first arguments =
     if is_super first then
@@ -60,8 +59,7 @@ with_events answer s words =
     events_of answer words >>= λ events. Ok
     (record { settings = s.settings; events = s.events ++ events })
 
--- the script with a line more, which is a setting or asks for something; a skipped line has no
--- words
+-- the script with a line more: a skipped one, which has no words, a setting, or what it asks for
 abbrev pub with_words : Option CliArgs → Script → List Word → Result Script FaultKind
 with_words answer s [] = Ok s
 with_words answer s (first ∷ arguments) =
@@ -77,8 +75,7 @@ abbrev pub then_lines : ℕ → Result Script FaultKind → (Script → Result S
 then_lines number (Ok next) others = others next
 then_lines number (Err kind) others = Err (record { line = number; kind = kind })
 
--- the lines from one on, whose number is given, up to the first fault; clap is not asked, and so no
--- `acl` line is read
+-- the lines from one on, whose number is given, up to the first fault; clap is not asked
 unfoldable pub lines_from : Script → ℕ → List (List ℕ) → Result Script Fault
 lines_from s number [] = Ok s
 lines_from s number (line ∷ lines) =
@@ -95,8 +92,7 @@ empty_script = record { settings = no_settings; events = [] }
 unfoldable pub script_of : List ℕ → Result Script Fault
 script_of text = lines_from empty_script 1 (lines_in text)
 
--- clap may answer options only if they are what it reads of the texts, and refuse only texts
--- that it doesn't take
+-- clap may answer options that it reads of the texts, and refuse texts that it doesn't take
 abbrev pub MayAnswer : List (List ℕ) → Option CliArgs → Type 0
 MayAnswer texts (Some args) = IsReadOf (rows_of_line texts) args × (refusals texts ≡ [])
 MayAnswer texts None = is_taken texts ≡ true → ⊥
@@ -116,8 +112,7 @@ asks_clap words = is_some (after_acl words)
 abbrev pub line_words : List ℕ → List Word
 line_words line = result_unwrap_or (words_of line) []
 
--- clap may have answered this to a line with these words; of a line that doesn't ask by `acl` it
--- tells nothing, and it isn't asked about words that are no texts
+-- clap may have answered this to words of a line; it is asked about texts alone, behind `acl`
 abbrev pub IsAnswerTo : List Word → Option CliArgs → Type 0
 IsAnswerTo words answer =
     MatchOption (after_acl words) (answer ≡ None) (λ arguments.
@@ -159,3 +154,50 @@ abbrev pub IfRead : Result Script ScriptError → (Result Script Fault → Type 
 IfRead (Ok script) P = P (Ok script)
 IfRead (Err script_error.Memory) P = Unit {0}
 IfRead (Err (script_error.Fault fault)) P = P (Err fault)
+
+-- the lines of each block, one block after another
+abbrev pub lines_in_blocks : List (List ℕ) → List (List ℕ)
+lines_in_blocks [] = []
+lines_in_blocks (block ∷ blocks) = lines_in block ++ lines_in_blocks blocks
+
+-- No line reaches over the end of a block.
+abbrev pub AreWholeLines : List (List ℕ) → Type 0
+AreWholeLines blocks = lines_in_blocks blocks ≡ lines_in (concat blocks)
+
+-- the bytes of the block at the front that were not read
+abbrev pub rest_of : Blocks → List ℕ
+rest_of blocks = drop blocks.at blocks.front
+
+-- the lines that were not read
+abbrev pub lines_left : Blocks → List (List ℕ)
+lines_left blocks = lines_in (rest_of blocks) ++ lines_in_blocks blocks.later.items
+
+-- the number of lines that were not read and of blocks after the one at the front
+abbrev pub steps_left : Blocks → ℕ
+steps_left blocks = length (lines_left blocks) + length blocks.later.items
+
+-- what words without a fault ask for, by clap's answer to them; a setting asks for nothing
+abbrev pub requests_of : Option CliArgs → List Word → List Event
+requests_of answer [] = []
+requests_of answer (first ∷ arguments) =
+    if is_setting first then [] else result_unwrap_or (asked_by answer (first ∷ arguments)) []
+
+-- the answers that are left after words
+abbrev pub answers_after : List Word → List (Option CliArgs) → List (Option CliArgs)
+answers_after words answers = if asks_clap words then drop 1 answers else answers
+
+-- what lines ask for, in order; each that clap was asked about, by the first of the answers left
+unfoldable pub requests_in : List (List ℕ) → List (Option CliArgs) → List Event
+requests_in [] answers = []
+requests_in (line ∷ lines) answers =
+    requests_of (slice_index_or answers 0 None) (line_words line)
+    ++ requests_in lines (answers_after (line_words line) answers)
+
+-- the requests that were not given: those of the line that was read last, and of the lines after it
+abbrev pub requests_left : Inside → List Event
+requests_left requests =
+    requests.asked.items ++ requests_in (lines_left requests.blocks) requests.answers.items
+
+-- as many are left as are counted
+abbrev pub AreCounted : Inside → Type 0
+AreCounted requests = requests.left ≡ length (requests_left requests)

@@ -1,9 +1,19 @@
--- The words of a line, and the bytes that they stand for.
+-- The words of a line, and what they stand for: bytes, texts, names, numbers, parts of a batch.
 use Rattle.std.specs.Char.{digit_value}
 use Rattle.memchr.specs.Find.{first_of, is_byte, places}
 use Rattle.std.specs.List.{slice_split}
-use Rattle.std.specs.Prelude.{◌≡◌, ◌+◌, ◌*◌, ◌==◌, ◌&&◌, ℕ, zero, suc, Bool, true, List, [], ◌∷◌, ◌++◌, take, drop, Option, Some, None, is_some, nat_lt, unwrap_or, if◌then◌else◌, Result, Ok, ◌||◌, filter, find, length, option_map, not}
-use Rattle.kob_script.specs.Reading.{◌>>=◌, each, found_or, BadEscape, FaultKind}
+use Rattle.std.specs.Prelude.{◌≡◌, ◌+◌, ◌*◌, ◌==◌, ◌&&◌, ℕ, zero, suc, Bool, true, List, [], ◌∷◌, ◌++◌, take, drop, Option, Some, None, is_some, nat_lt, unwrap_or, if◌then◌else◌, Result, Ok, ◌||◌, filter, find, length, option_map, not, Err, ◌^◌, codes, bytes_eq, is_none, ok_or}
+use Rattle.kob_script.specs.Reading.{◌>>=◌, each, BadEscape, FaultKind, BadText, BadPrincipal, BadHost, BadLine, BadNumber}
+use Rattle.std.specs.Str.Parse.{digits_value}
+use Rattle.std.specs.Str.{is_utf8, all_ascii_digits}
+use Rattle.kob_names.specs.HostRules.{host_fault}
+use Rattle.kob_names.specs.PrincipalRules.{principal_fault}
+use Rattle.kob_names.specs.declared.batch.Idem.{Idem}
+use Rattle.kob_names.specs.declared.record.Record.{Record}
+use Rattle.kob_rights.specs.declared.on_partitions.Before.{Before}
+pub use Rattle.kob_rights.specs.declared.on_partitions.Which.TheVariants.{Start, End}
+use Rattle.kob_rights.specs.declared.on_partitions.Which.{Which}
+use Rattle.kob_rights.specs.declared.on_partitions.Before.TheVariants as befores
 
 -- the byte that two hexadecimal digits write
 abbrev pub hexadecimal : ℕ → ℕ → Option ℕ
@@ -16,20 +26,12 @@ abbrev pub escaped : List ℕ → Option ℕ
 escaped (high ∷ low ∷ others) = hexadecimal high low
 escaped _ = None
 
--- the byte at the front of a word, and what comes after it; nothing for a percent sign that begins
--- no escape
-abbrev pub byte_at : ℕ → List ℕ → Option (ℕ × List ℕ)
-byte_at first others =
-    if first == 37 then option_map (λ byte. (byte, drop 2 others)) (escaped others)
-    else Some (first, others)
-
 -- a byte before others
 abbrev pub before : Option ℕ → Option (List ℕ) → Option (List ℕ)
 before None others = None
 before (Some byte) others = option_map (λ bytes. byte ∷ bytes) others
 
--- what a word stands for after this number of bytes: `%` and two hexadecimal digits for a byte, each
--- other byte for itself; nothing if a percent sign without two digits after it is there
+-- what a word stands for after this number of bytes; nothing if it has a `%` without two digits
 unfoldable pub unescaped_from : ℕ → List ℕ → Option (List ℕ)
 unescaped_from n [] = Some []
 unescaped_from zero (byte ∷ rest) =
@@ -49,15 +51,10 @@ abbrev pub cut_at : ℕ → List ℕ → Option (List ℕ × List ℕ)
 cut_at byte word =
     option_map (λ at. (take at word, drop (at + 1) word)) (first_of (places (is_byte byte) word))
 
--- two hexadecimal digits follow each percent sign
-abbrev pub has_whole_escapes : List ℕ → Bool
-has_whole_escapes word = is_some (unescaped word)
-
--- the parts around this byte have whole escapes if the bytes have, so that each part is read as
--- it stands
+-- parts around this byte have whole escapes if the bytes have, so that each is read as it stands
 abbrev pub LeavesWhole : ℕ → Type 0
-LeavesWhole byte = (front back : List ℕ) → has_whole_escapes (front ++ byte ∷ back) ≡ true
-    → (has_whole_escapes front ≡ true) × (has_whole_escapes back ≡ true)
+LeavesWhole byte = (front back : List ℕ) → is_some (unescaped (front ++ byte ∷ back)) ≡ true
+    → (is_some (unescaped front) ≡ true) × (is_some (unescaped back) ≡ true)
 
 -- a word as it stands in the line, and the bytes that it stands for
 pub record Word : Type 0 where
@@ -67,7 +64,7 @@ pub record Word : Type 0 where
 -- a word, unless a percent sign in it begins no escape
 abbrev pub word_of : List ℕ → Result Word FaultKind
 word_of raw =
-    found_or BadEscape (unescaped raw) >>= λ bytes. Ok (record { raw = raw; decoded = bytes })
+    ok_or (unescaped raw) BadEscape >>= λ bytes. Ok (record { raw = raw; decoded = bytes })
 
 -- a space or a tab
 abbrev pub is_blank : ℕ → Bool
@@ -77,11 +74,83 @@ is_blank byte = byte == 32 || byte == 9
 abbrev pub raw_words : List ℕ → List (List ℕ)
 raw_words line = filter (λ word. nat_lt 0 (length word)) (slice_split is_blank line)
 
--- a line is skipped that has no word, or a first one that begins with `#`; a word begins with the
--- first byte that is no blank
+-- a line is skipped if it has no byte but blanks, or if the first one that is no blank is `#`
 abbrev pub is_skipped : List ℕ → Bool
 is_skipped line = unwrap_or (find (λ byte. not (is_blank byte)) line) 35 == 35
 
 -- the words of a line, none if it is skipped; an escape that is not whole is the first fault
 abbrev pub words_of : List ℕ → Result (List Word) FaultKind
 words_of line = if is_skipped line then Ok [] else each word_of (raw_words line)
+
+abbrev pub text_in : List ℕ → Result (List ℕ) FaultKind
+text_in bytes = if is_utf8 bytes then Ok bytes else Err BadText
+
+-- the text of a word
+abbrev pub text_of : Word → Result (List ℕ) FaultKind
+text_of word = text_in word.decoded
+
+-- a text that is a principal
+unfoldable pub principal_of : List ℕ → Result (List ℕ) FaultKind
+principal_of text = if is_none (principal_fault text) then Ok text else Err BadPrincipal
+
+-- a text that is a host
+unfoldable pub host_of : List ℕ → Result (List ℕ) FaultKind
+host_of text = if is_none (host_fault text) then Ok text else Err BadHost
+
+-- the principal and the host that words name
+abbrev pub named_principal : Word → Result (List ℕ) FaultKind
+named_principal word = text_of word >>= principal_of
+
+abbrev pub named_host : Word → Result (List ℕ) FaultKind
+named_host word = text_of word >>= host_of
+
+-- one or more decimal digits that write a number of 64 bits
+abbrev pub number_in : List ℕ → Result ℕ FaultKind
+number_in digits =
+    if all_ascii_digits digits && (nat_lt 0 (length digits)
+    && nat_lt (digits_value 10 digits) (2 ^ 64)) then Ok (digits_value 10 digits) else Err BadNumber
+
+-- the number that a word writes
+abbrev pub number_of : Word → Result ℕ FaultKind
+number_of word = number_in word.decoded
+
+-- `-2` asks for the start, `-1` for the end
+abbrev pub which_of : Word → Result Which FaultKind
+which_of word =
+    if bytes_eq word.decoded (codes "-2") then Ok Start
+    else (if bytes_eq word.decoded (codes "-1") then Ok End
+    else Err BadLine)
+
+-- the offset to delete up to, or `-1` for the end
+abbrev pub before_of : Word → Result Before FaultKind
+before_of word =
+    if bytes_eq word.decoded (codes "-1") then Ok befores.End
+    else (number_of word >>= λ offset. Ok (befores.Offset offset))
+
+-- three numbers, if no part is behind them; escapes are replaced after the cuts
+abbrev pub three_of : List ℕ → List ℕ → List ℕ → Option (List ℕ × List ℕ)
+    → Result (Option Idem) FaultKind
+three_of one two three None = do
+  id ← number_in (bytes_of one)
+  epoch ← number_in (bytes_of two)
+  base ← number_in (bytes_of three)
+  Ok (Some (record { id = id; epoch = epoch; base = base }))
+three_of one two three (Some behind) = Err BadLine
+
+-- `-` for no producer, or three numbers with colons between them
+unfoldable pub idem_of : Word → Result (Option Idem) FaultKind
+idem_of word =
+    if bytes_eq word.raw (codes "-") then Ok None else do
+      first ← ok_or (cut_at 58 word.raw) BadLine
+      second ← ok_or (cut_at 58 first.1) BadLine
+      three_of first.0 second.0 second.1 (cut_at 58 second.1)
+
+-- a key and a value, or a value alone; escapes are replaced after the cut, which leaves each whole
+abbrev pub record_in : Option (List ℕ × List ℕ) → Word → Record
+record_in None word = record { key = None; value = word.decoded; headers = [] }
+record_in (Some parts) word =
+    record { key = Some (bytes_of parts.0); value = bytes_of parts.1; headers = [] }
+
+-- a record without headers
+unfoldable pub record_of : Word → Record
+record_of word = record_in (cut_at 61 word.raw) word

@@ -1,13 +1,13 @@
-//! The fault of a line's words: the first kind, in the order of the kinds, that some word has.
+//! The fault of a line's words: the first kind, in the order of the kinds, that some word has; and
+//! the principal that asks. Most lines name that of the line before, and it is not parsed again.
 
-ghost use Rattle.std.specs.Prelude.{◌≡◌, Option, Result};
+ghost use Rattle.std.specs.Prelude.{◌≡◌, Ok, OnOk, Option, MatchOption};
 ghost use Rattle.std.specs.Result.{result_err};
 ghost use Rattle.kob_script.specs.CommandLines.{line_fault, faults_in, slot_fault};
-ghost use Rattle.kob_script.specs.Reading.{Finds, Gives, earlier, earlier_kind};
-ghost use Rattle.kob_script.specs.Reading.{first_kind};
+ghost use Rattle.kob_script.specs.Reading.{Finds, Gives, earlier, earlier_kind, first_kind};
+ghost use Rattle.kob_script.specs.Words.{named_principal};
 ghost use Rattle.kob_script.specs.declared.fault.FaultKind as kinds;
 
-use crate::asker::check_asker;
 use crate::command::{Place, Slot, row_named};
 use crate::fault::{FaultKind, LineError};
 use crate::values::{
@@ -15,7 +15,7 @@ use crate::values::{
     number_of, texts_of, which_of,
 };
 use crate::words::Word;
-use kob_names::Principal;
+use kob_names::{PlainValue, Principal};
 use kob_words::{operation_named, pattern_named, permission_named, resource_named};
 use std::alloc::Global;
 
@@ -42,10 +42,7 @@ fn check_words(alloc: Global, places: &[Place], words: &[Word<'_>]) -> Result<()
 {
     match (places, words) {
         ([], []) | ([Place::OrNone(_)], []) | ([Place::Records, ..], _) => Ok(()),
-        ([Place::Texts, ..], _) => {
-            texts_of(alloc, words)?;
-            Ok(())
-        }
+        ([Place::Texts, ..], _) => texts_of(alloc, words).and(Ok(())),
         ([Place::OrDash(_), places @ ..], [word, words @ ..]) if word.is_dash() => {
             check_words(alloc, places, words)
         }
@@ -88,32 +85,57 @@ fn earlier_kind(kind: FaultKind, other: FaultKind) -> FaultKind
     }
 }
 
-// Drops what was read, and keeps the error.
-fn tested<T: Drop>(read: Result<T, LineError>) -> Result<(), LineError>
-    ensures { (told : Result T kinds.FaultKind) → Gives read told → Finds result (result_err told) }
-{
-    read?;
-    Ok(())
-}
-
+#[tactic(auto, using(crate::proofs::LineFaults::keeps_fault))]
 fn check_slot(alloc: Global, slot: Slot, word: &Word<'_>) -> Result<(), LineError>
     ensures { Finds result (slot_fault slot word.now) }
 {
     match slot {
-        Slot::Text => {
-            lent_text_of(word)?;
+        Slot::Text => lent_text_of(word).and(Ok(())),
+        Slot::Principal => named_principal(alloc, word).and(Ok(())),
+        Slot::Host => named_host(alloc, word).and(Ok(())),
+        Slot::Number => number_of(word).and(Ok(())),
+        Slot::StartOrEnd => which_of(word).and(Ok(())),
+        Slot::OffsetOrEnd => before_of(word).and(Ok(())),
+        Slot::Producer => idem_of(alloc, word).and(Ok(())),
+        Slot::Permission => known(permission_named(word.decoded())).and(Ok(())),
+        Slot::Operation => known(operation_named(word.decoded())).and(Ok(())),
+        Slot::Resource => known(resource_named(word.decoded())).and(Ok(())),
+        Slot::Pattern => known(pattern_named(word.decoded())).and(Ok(())),
+        Slot::FilterPattern => filter_pattern_of(word).and(Ok(())),
+    }
+}
+
+/// The principal that a word names, of which `last` keeps a copy.
+pub fn asker_of(
+    alloc: Global,
+    last: &mut Option<Principal>,
+    word: &Word<'_>,
+) -> Result<Principal, LineError>
+    ensures { Gives result (named_principal word.now) }
+{
+    check_asker(alloc, last, word)?;
+    match last {
+        Some(principal) => Ok(principal.copy(alloc)?),
+        None => Err(LineError::Memory),
+    }
+}
+
+// Checks the principal that a word names, which `last` is then.
+#[tactic(auto, using(crate::proofs::LineFaults::has_no_fault))]
+fn check_asker(
+    alloc: Global,
+    last: &mut Option<Principal>,
+    word: &Word<'_>,
+) -> Result<(), LineError>
+    ensures fault { Finds result (result_err (named_principal word.now)) }
+    ensures kept { OnOk result (MatchOption last.new ⊥ (λ kept.
+        named_principal word.now ≡ Ok kept)) }
+{
+    match last {
+        Some(kept) if word.decoded() == kept.as_str().as_bytes() => Ok(()),
+        _ => {
+            *last = Some(named_principal(alloc, word)?);
             Ok(())
         }
-        Slot::Principal => tested(named_principal(alloc, word)),
-        Slot::Host => tested(named_host(alloc, word)),
-        Slot::Number => tested(number_of(word)),
-        Slot::StartOrEnd => tested(which_of(word)),
-        Slot::OffsetOrEnd => tested(before_of(word)),
-        Slot::Producer => tested(idem_of(alloc, word)),
-        Slot::Permission => tested(known(permission_named(word.decoded()))),
-        Slot::Operation => tested(known(operation_named(word.decoded()))),
-        Slot::Resource => tested(known(resource_named(word.decoded()))),
-        Slot::Pattern => tested(known(pattern_named(word.decoded()))),
-        Slot::FilterPattern => tested(filter_pattern_of(word)),
     }
 }

@@ -1,4 +1,4 @@
-//! What follows from the definitions.
+//! What follows from the definitions, by which the bodies are empty.
 
 ghost use Rattle.std.specs.Prelude.{◌≡◌, ◌≤◌, ℕ, List, Option, Some, None, Result, Ok, Err, false};
 ghost use Rattle.kob_script.specs.CommandLines.{asks_by_acl, events_of, line_fault, faults_in};
@@ -14,9 +14,7 @@ ghost use Rattle.kob_script.specs.declared.command.Place.{Place};
 pub fn plain_scripts_have_one_reading()
     ensures { (text : List ℕ) (read : Result Script Fault)
         → HasNoAclLine text → ReadsAs text read → read ≡ script_of text }
-{
-    // By the definitions.
-}
+{}
 
 /// Over a whole line, faults come in the order of their kinds. The fault of the words of a row is one
 /// that some word has, and no word has one of an earlier kind. A line whose words have a fault is
@@ -33,9 +31,7 @@ pub fn faults_come_in_their_order()
         → line_fault words ≡ Some kind → events_of answer words ≡ Err kind }
     ensures asks { (answer : Option CliArgs) (words : List Word) → line_fault words ≡ None
         → asks_by_acl words ≡ false → counted (events_of answer words) ≡ Ok 1 }
-{
-    // By the definitions.
-}
+{}
 
 /// A cut at `=` or at `:` leaves each escape whole. So the parts of a record and the numbers of a
 /// producer are read as they are in their word.
@@ -43,6 +39,4 @@ pub fn faults_come_in_their_order()
 pub fn cuts_leave_whole_escapes()
     ensures equals { LeavesWhole 61 }
     ensures colon { LeavesWhole 58 }
-{
-    // By the definitions.
-}
+{}

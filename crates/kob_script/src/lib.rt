@@ -1,22 +1,17 @@
 //! The reader of scripts and the printer of replies.
 #![tactic(auto)]
 
-mod asker;
-mod blocks;
-mod checks;
 mod command;
 mod command_lines;
 mod fault;
 mod faults;
 mod laws;
 mod printed;
-mod request;
 mod requests;
 mod script;
 mod values;
 mod words;
 
-pub use checks::{CheckedScript, check_script, everyone_of, is_setting, is_super, super_of};
 pub use command_lines::{answer_to, events_of};
 pub use fault::{Fault, FaultKind, LineError, ScriptError};
 pub use laws::{
@@ -24,6 +19,8 @@ pub use laws::{
 };
 pub use printed::{print_fault, print_reply, push_outcome};
 pub use requests::Requests;
-pub use script::{Script, read_script};
+pub use script::{
+    CheckedScript, Script, check_script, everyone_of, is_setting, is_super, read_script, super_of,
+};
 pub use values::{host_of, lent_text_of, number_of, principal_of, text_of};
 pub use words::{Word, words_of};

@@ -1,15 +1,12 @@
 //! The requests of a checked script. Each is read when it is needed.
 
-ghost use Rattle.std.specs.Prelude.{◌≡◌, ◌<◌, ◌++◌, ◌∷◌, [], length, slice_index_or};
-ghost use Rattle.std.specs.Prelude.{IfOk, OnOk, OnErr, None};
-ghost use Rattle.kob_script.specs.Requests.{lines_in_blocks, lines_left, steps_left, answers_after};
-ghost use Rattle.kob_script.specs.Requests.{first_answer, requests_in, requests_of};
-ghost use Rattle.kob_script.specs.Script.{line_words};
+ghost use Rattle.std.specs.Prelude.{◌≡◌, ◌≤◌, ◌<◌, ◌+◌, ◌++◌, ◌∷◌, [], drop, length, None};
+ghost use Rattle.std.specs.Prelude.{IfOk, OnOk, OnErr, MatchOption, slice_index_or};
 
-use crate::blocks::{Blocks, first_line};
-use crate::checks::is_setting;
 use crate::command_lines::{asks_clap, events_in};
+use crate::script::is_setting;
 use crate::words::{Word, words_of};
+use bstr::ByteSlice;
 use kob_acl_cli::CliArgs;
 use kob_names::{Bytes, Principal};
 use kob_rights::Event;
@@ -33,7 +30,7 @@ pub struct Requests {
 
 impl Model for Requests {
     ghost use Rattle.std.specs.Prelude.{List};
-    ghost use Rattle.kob_script.specs.Requests.{AreCounted, Event, requests_left};
+    ghost use Rattle.kob_script.specs.Script.{AreCounted, Event, requests_left};
 
     ghost Value = { List Event };
 
@@ -43,6 +40,9 @@ impl Model for Requests {
 }
 
 impl Requests {
+    ghost use Rattle.kob_script.specs.Script.{answers_after, line_words, lines_in_blocks};
+    ghost use Rattle.kob_script.specs.Script.{lines_left, requests_in, requests_of, steps_left};
+
     /// What the lines of blocks ask for, by the answers to those of `acl`, and the number of these
     /// requests. Does not allocate.
     pub fn new(
@@ -78,7 +78,7 @@ impl Requests {
         ensures same { OnErr result (self.new ≡ self.old) }
     {
         while self.asked.is_empty() {
-            read_on(
+            Requests::read_on(
                 alloc,
                 &mut self.last,
                 &mut self.blocks,
@@ -89,91 +89,147 @@ impl Requests {
         self.left -= 1;
         Ok(self.asked.pop_front().unwrap())
     }
-}
 
-// Reads a line and what it asks for, or moves to the next block.
-fn read_on(
-    alloc: Global,
-    last: &mut Option<Principal>,
-    blocks: &mut Blocks,
-    answers: &mut VecDeque<Option<CliArgs>>,
-    asked: &mut VecDeque<Event>,
-) -> Result<(), AllocError>
-    requires some { 0 < steps_left blocks.old }
-    requires none { asked.old.items ≡ [] }
-    ensures same { asked.new.items ++ requests_in (lines_left blocks.new) answers.new.items
-        ≡ asked.old.items ++ requests_in (lines_left blocks.old) answers.old.items }
-    ensures nearer { OnOk result (steps_left blocks.new < steps_left blocks.old) }
-{
-    let Some((line, size)) = first_line(blocks.rest()) else {
-        blocks.enter_next();
-        return Ok(());
-    };
-    read_again(alloc, last, line, answers, asked)?;
-    blocks.pass(size);
-    Ok(())
-}
-
-// Reads what a line without a fault asks for. If clap was asked about it, its answer is removed.
-#[inline(always)]
-fn read_again(
-    alloc: Global,
-    last: &mut Option<Principal>,
-    line: &[u8],
-    answers: &mut VecDeque<Option<CliArgs>>,
-    asked: &mut VecDeque<Event>,
-) -> Result<(), AllocError>
-    requires { asked.old.items ≡ [] }
-    ensures asked { OnOk result (asked.new.items
-        ≡ requests_of (first_answer (line_words line.now) answers.old.items)
-        (line_words line.now)) }
-    ensures used { OnOk result (answers.new.items
-        ≡ answers_after (line_words line.now) answers.old.items) }
-    ensures same { OnErr result ((asked.new.items ≡ asked.old.items)
-        × (answers.new.items ≡ answers.old.items)) }
-{
-    let words = words_of(alloc, line).or(Err(AllocError))?;
-    if !asks_clap(&words) {
-        return read_words(alloc, last, &words, &None, asked);
+    // Reads a line and what it asks for, or moves to the next block.
+    fn read_on(
+        alloc: Global,
+        last: &mut Option<Principal>,
+        blocks: &mut Blocks,
+        answers: &mut VecDeque<Option<CliArgs>>,
+        asked: &mut VecDeque<Event>,
+    ) -> Result<(), AllocError>
+        requires some { 0 < steps_left blocks.old }
+        requires none { asked.old.items ≡ [] }
+        ensures same { asked.new.items ++ requests_in (lines_left blocks.new) answers.new.items
+            ≡ asked.old.items ++ requests_in (lines_left blocks.old) answers.old.items }
+        ensures nearer { OnOk result (steps_left blocks.new < steps_left blocks.old) }
+    {
+        let Some((line, size)) = Blocks::first_line(blocks.rest()) else {
+            blocks.enter_next();
+            return Ok(());
+        };
+        Requests::read_again(alloc, last, line, answers, asked)?;
+        blocks.pass(size);
+        Ok(())
     }
-    read_by_first(alloc, last, &words, answers, asked)?;
-    answers.pop_front();
-    Ok(())
+
+    // Reads what a line without a fault asks for. If clap was asked about it, its answer is removed.
+    #[inline(always)]
+    fn read_again(
+        alloc: Global,
+        last: &mut Option<Principal>,
+        line: &[u8],
+        answers: &mut VecDeque<Option<CliArgs>>,
+        asked: &mut VecDeque<Event>,
+    ) -> Result<(), AllocError>
+        requires { asked.old.items ≡ [] }
+        ensures asked { OnOk result (asked.new.items
+            ≡ requests_of (slice_index_or answers.old.items 0 None) (line_words line.now)) }
+        ensures used { OnOk result (answers.new.items
+            ≡ answers_after (line_words line.now) answers.old.items) }
+        ensures same { OnErr result ((asked.new.items ≡ asked.old.items)
+            × (answers.new.items ≡ answers.old.items)) }
+    {
+        let words = words_of(alloc, line).or(Err(AllocError))?;
+        if !asks_clap(&words) {
+            return Requests::read_words(alloc, last, &words, answers, asked);
+        }
+        Requests::read_words(alloc, last, &words, answers, asked)?;
+        answers.pop_front();
+        Ok(())
+    }
+
+    // Reads what words ask for, by the first answer.
+    #[inline(always)]
+    fn read_words(
+        alloc: Global,
+        last: &mut Option<Principal>,
+        words: &[Word<'_>],
+        answers: &VecDeque<Option<CliArgs>>,
+        asked: &mut VecDeque<Event>,
+    ) -> Result<(), AllocError>
+        requires { asked.old.items ≡ [] }
+        ensures asked { OnOk result (asked.new.items
+            ≡ requests_of (slice_index_or answers.now.items 0 None) words.now) }
+        ensures same { OnErr result (asked.new.items ≡ asked.old.items) }
+    {
+        let unasked = None;
+        let answer = answers.front().unwrap_or(&unasked);
+        match words {
+            [] => Ok(()),
+            [first, ..] if is_setting(first) => Ok(()),
+            _ => events_in(alloc, last, words, answer, asked).or(Err(AllocError)),
+        }
+    }
 }
 
-// Reads what words ask for, by the first answer.
-fn read_by_first(
-    alloc: Global,
-    last: &mut Option<Principal>,
-    words: &[Word<'_>],
-    answers: &VecDeque<Option<CliArgs>>,
-    asked: &mut VecDeque<Event>,
-) -> Result<(), AllocError>
-    requires { asked.old.items ≡ [] }
-    ensures asked { OnOk result (asked.new.items
-        ≡ requests_of (slice_index_or answers.now.items 0 None) words.now) }
-    ensures same { OnErr result (asked.new.items ≡ asked.old.items) }
-{
-    let unasked = None;
-    let answer = answers.front().unwrap_or(&unasked);
-    read_words(alloc, last, words, answer, asked)
+/// Blocks. The one at the front was read up to `at`.
+#[derive(Debug, Drop)]
+pub struct Blocks {
+    front: Bytes,
+    at: usize,
+    later: VecDeque<Bytes>,
+    ghost within: { at ≤ length front },
 }
 
-#[inline(always)]
-fn read_words(
-    alloc: Global,
-    last: &mut Option<Principal>,
-    words: &[Word<'_>],
-    answer: &Option<CliArgs>,
-    asked: &mut VecDeque<Event>,
-) -> Result<(), AllocError>
-    requires { asked.old.items ≡ [] }
-    ensures asked { OnOk result (asked.new.items ≡ requests_of answer.now words.now) }
-    ensures same { OnErr result (asked.new.items ≡ asked.old.items) }
-{
-    match words {
-        [] => Ok(()),
-        [first, ..] if is_setting(first) => Ok(()),
-        _ => events_in(alloc, last, words, answer, asked).or(Err(AllocError)),
+impl Blocks {
+    ghost use Rattle.kob_script.specs.Script.{lines_in, lines_in_blocks, lines_left, rest_of};
+    ghost use Rattle.kob_script.specs.Script.{steps_left};
+
+    /// Blocks of which nothing was read. Does not allocate.
+    #[tactic(auto, using(crate::proofs::CheckedLines::no_lines))]
+    pub fn new(alloc: Global, blocks: Vec<Bytes>) -> Blocks
+        ensures { lines_left result ≡ lines_in_blocks blocks.items }
+    {
+        Blocks {
+            front: Bytes::from_vec(Vec::new(alloc)),
+            at: 0,
+            later: VecDeque::from(blocks),
+        }
+    }
+
+    /// The bytes of the block at the front that were not yet read.
+    pub fn rest(&self) -> &[u8]
+        ensures { result.now ≡ rest_of self.now }
+    {
+        &self.front.as_slice()[self.at..]
+    }
+
+    /// Moves past a line of this number of bytes.
+    pub fn pass(&mut self, size: usize)
+        requires { self.old.at + size ≤ length self.old.front }
+        ensures at { self.new.at ≡ self.old.at + size }
+        ensures front { self.new.front ≡ self.old.front }
+        ensures later { self.new.later ≡ self.old.later }
+    {
+        let end = self.front.len();
+        prove!(size <= end - self.at);
+        self.at += size;
+    }
+
+    /// Frees the block at the front, which was read to its end, and moves to the next one.
+    #[tactic(auto, using(crate::proofs::CheckedLines::next_block, crate::proofs::CheckedLines::fewer_steps))]
+    pub fn enter_next(&mut self)
+        requires read { rest_of self.old ≡ [] }
+        requires some { 0 < length self.old.later.items }
+        ensures lines { lines_left self.new ≡ lines_left self.old }
+        ensures steps { steps_left self.new < steps_left self.old }
+    {
+        if let Some(block) = self.later.pop_front() {
+            self.front = block;
+            self.at = 0;
+        }
+    }
+
+    /// The line at the front of bytes, if there are any: without its end, and its number of bytes with it.
+    #[tactic(auto, using(crate::proofs::CheckedLines::first_line_splits))]
+    pub fn first_line(bytes: &[u8]) -> Option<(&[u8], usize)>
+        ensures { MatchOption result (lines_in bytes.entry.now ≡ []) (λ line.
+            (line.1 ≤ length bytes.entry.now)
+            × (lines_in bytes.entry.now ≡ line.0.now ∷ lines_in (drop line.1 bytes.entry.now))) }
+    {
+        let whole = bytes.lines_with_terminator().next()?;
+        let text = bytes.lines().next()?;
+        Some((text, whole.len()))
     }
 }

@@ -1,12 +1,24 @@
-//! A script: settings, and then requests, one a line.
+//! A script: settings, and then requests, one a line. All its lines are checked before the first
+//! request is served.
 
-ghost use Rattle.std.specs.Prelude.{◌≡◌, IfOk};
-ghost use Rattle.kob_script.specs.Script.{script_of, HasNoAclLine, IfRead, ReadsAs};
+ghost use Rattle.std.specs.List.{concat};
+ghost use Rattle.std.specs.Prelude.{◌≡◌, ◌<◌, ◌^◌, List, length, IfOk};
+ghost use Rattle.kob_rights.specs.declared.event.Event as event;
+ghost use Rattle.kob_script.specs.Checks.{ChecksLine, ChecksNext, as_read, fault_at};
+ghost use Rattle.kob_script.specs.Checks.{script_so_far};
+ghost use Rattle.kob_script.specs.Reading.{Gives};
+ghost use Rattle.kob_script.specs.Script.{everyone_of, is_setting, is_super, super_of, script_of};
+ghost use Rattle.kob_script.specs.Script.{with_events, with_words, AreWholeLines, HasNoAclLine};
+ghost use Rattle.kob_script.specs.Script.{IfRead, ReadsAs};
 
-use crate::checks::{CheckedScript, check_script};
-use crate::fault::ScriptError;
+use crate::command_lines::{answer_to, asks_clap, count_of};
+use crate::fault::{Fault, FaultKind, LineError, ScriptError};
 use crate::requests::Requests;
-use kob_names::{Bytes, Items, Settings};
+use crate::values::named_principal;
+use crate::words::{Word, words_of};
+use bstr::ByteSlice;
+use kob_acl_cli::CliArgs;
+use kob_names::{Bytes, Items, Principal, Settings};
 use kob_rights::Event;
 use std::alloc::{AllocError, Global};
 
@@ -15,6 +27,13 @@ use std::alloc::{AllocError, Global};
 pub struct Script {
     pub settings: Settings,
     pub events: Items<Event>,
+}
+
+/// A script without a fault: its settings, which open no bindings, and its requests, in order.
+#[derive(Debug, Drop)]
+pub struct CheckedScript {
+    pub settings: Settings,
+    pub requests: Requests,
 }
 
 /// Reads a script, of which it makes a copy, in time linear in its size. A line ends with a line
@@ -43,4 +62,169 @@ fn all_events(alloc: Global, mut requests: Requests) -> Result<Vec<Event>, Alloc
         events.push(event)?;
     }
     Ok(events)
+}
+
+/// What is known of a script as its lines are checked.
+#[derive(Drop)]
+struct Checking {
+    supers: Vec<Principal>,
+    everyone: bool,
+    requests: u64,
+    last: Option<Principal>,
+}
+
+/// Checks a script in blocks of whole lines, with fewer than 2^63 bytes, in time linear in its
+/// size. The requests are counted, and the blocks are kept until they are served. The error is the
+/// first line with a fault, or `Memory`, also for 2^64 requests. `clap` tells what the words of an
+/// `acl` line mean, and for some words its port may return more than one result. A script without
+/// such lines has one reading.
+pub fn check_script(alloc: Global, blocks: Vec<Bytes>) -> Result<CheckedScript, ScriptError>
+    requires whole { AreWholeLines blocks.items }
+    requires short { length (concat blocks.items) < 2 ^ 63 }
+    ensures any { IfRead (as_read result) (ReadsAs (concat blocks.items)) }
+    ensures plain { HasNoAclLine (concat blocks.items)
+        → IfRead (as_read result) (λ read. script_of (concat blocks.items) ≡ read) }
+{
+    let mut checking = Checking {
+        supers: Vec::new(alloc),
+        everyone: false,
+        requests: 0,
+        last: None,
+    };
+    let mut answers = Vec::new(alloc);
+    let mut number: u64 = 0;
+    for block in blocks.as_slice() {
+        for line in block.as_slice().lines() {
+            number += 1;
+            match check_line(alloc, &mut checking, &mut answers, line) {
+                Ok(()) => {}
+                Err(error) => return Err(fault_at(error, number)),
+            }
+        }
+    }
+    let Checking {
+        supers,
+        everyone,
+        requests,
+        ..
+    } = checking;
+    Ok(CheckedScript {
+        settings: Settings {
+            supers: Items::from_vec(supers),
+            opening: Items::from_vec(Vec::new(alloc)),
+            everyone,
+        },
+        requests: Requests::new(alloc, blocks, answers, requests),
+    })
+}
+
+fn fault_at(error: LineError, line: u64) -> ScriptError
+    ensures { result ≡ fault_at line error }
+{
+    match error {
+        LineError::Memory => ScriptError::Memory,
+        LineError::Fault(kind) => ScriptError::Fault(Fault { line, kind }),
+    }
+}
+
+fn check_line(
+    alloc: Global,
+    checking: &mut Checking,
+    answers: &mut Vec<Option<CliArgs>>,
+    line: &[u8],
+) -> Result<(), LineError>
+    ensures { (events : List event.Event) → checking.old.requests ≡ length events
+        → ChecksLine (script_so_far checking.old events) line.now checking.new
+        answers.old.items answers.new.items result }
+{
+    let words = words_of(alloc, line)?;
+    if !asks_clap(&words) {
+        return check_words(alloc, checking, &words, &None);
+    }
+    let answer = answer_to(alloc, &words)?;
+    check_words(alloc, checking, &words, &answer)?;
+    // Another call of clap may return another answer.
+    answers.push(answer)?;
+    Ok(())
+}
+
+fn check_words(
+    alloc: Global,
+    checking: &mut Checking,
+    words: &[Word<'_>],
+    answer: &Option<CliArgs>,
+) -> Result<(), LineError>
+    ensures { (events : List event.Event) → checking.old.requests ≡ length events
+        → ChecksNext checking.new result
+        (with_words answer.now (script_so_far checking.old events) words.now) }
+{
+    match words {
+        [] => Ok(()),
+        [first, arguments @ ..] if is_setting(first) => {
+            if checking.requests > 0 {
+                return Err(LineError::Fault(FaultKind::LateSetting));
+            }
+            if is_super(first) {
+                let principal = super_of(alloc, arguments)?;
+                checking.supers.push(principal)?;
+            } else {
+                checking.everyone = everyone_of(arguments)?;
+            }
+            Ok(())
+        }
+        _ => count_requests(alloc, checking, words, answer),
+    }
+}
+
+fn count_requests(
+    alloc: Global,
+    checking: &mut Checking,
+    words: &[Word<'_>],
+    answer: &Option<CliArgs>,
+) -> Result<(), LineError>
+    ensures { (events : List event.Event) → checking.old.requests ≡ length events
+        → ChecksNext checking.new result
+        (with_events answer.now (script_so_far checking.old events) words.now) }
+{
+    let asked = count_of(alloc, &mut checking.last, words, answer)?;
+    checking.requests = checking
+        .requests
+        .checked_add(asked)
+        .ok_or(LineError::Memory)?;
+    Ok(())
+}
+
+/// Whether a line with this first word is a setting.
+pub fn is_setting(first: &Word<'_>) -> bool
+    ensures { result ≡ is_setting first.now }
+{
+    is_super(first) || first.decoded() == b"everyone".as_slice()
+}
+
+/// Whether a line with this first word names a super user.
+pub fn is_super(first: &Word<'_>) -> bool
+    ensures { result ≡ is_super first.now }
+{
+    first.decoded() == b"super".as_slice()
+}
+
+/// The super user whom the words after `super` name.
+pub fn super_of(alloc: Global, arguments: &[Word<'_>]) -> Result<Principal, LineError>
+    ensures { Gives result (super_of arguments.now) }
+{
+    match arguments {
+        [name] => named_principal(alloc, name),
+        _ => Err(LineError::Fault(FaultKind::BadLine)),
+    }
+}
+
+/// Whether a resource that no binding matches is open to everyone, by the words after `everyone`.
+pub fn everyone_of(arguments: &[Word<'_>]) -> Result<bool, LineError>
+    ensures { Gives result (everyone_of arguments.now) }
+{
+    match arguments {
+        [word] if word.decoded() == b"on".as_slice() => Ok(true),
+        [word] if word.decoded() == b"off".as_slice() => Ok(false),
+        _ => Err(LineError::Fault(FaultKind::BadLine)),
+    }
 }

@@ -2,13 +2,12 @@
 //! batch.
 
 ghost use Rattle.std.specs.Char.{digit_value, is_ascii_digit};
-ghost use Rattle.std.specs.Prelude.{◌≡◌, ◌≤◌, ◌+◌, ◌*◌, ◌^◌, true, IfOk, MatchOption, map};
+ghost use Rattle.std.specs.Prelude.{◌≡◌, ◌≤◌, ◌+◌, ◌*◌, ◌^◌, true, IfOk, MatchOption, map, ok_or};
 ghost use Rattle.kob_script.specs.CommandLines.{filter_pattern_of};
-ghost use Rattle.kob_script.specs.Reading.{Gives, GivesSeen, each, found_or};
-ghost use Rattle.kob_script.specs.Values.{before_of, host_of, idem_of, named_host, named_principal};
-ghost use Rattle.kob_script.specs.Values.{number_in, number_of, principal_of, record_of, text_of};
-ghost use Rattle.kob_script.specs.Values.{which_of};
-ghost use Rattle.kob_script.specs.Words as words;
+ghost use Rattle.kob_script.specs.Reading.{Gives, GivesSeen, each};
+ghost use Rattle.kob_script.specs.Words.{before_of, bytes_of, host_of, idem_of, named_host};
+ghost use Rattle.kob_script.specs.Words.{named_principal, number_in, number_of, principal_of};
+ghost use Rattle.kob_script.specs.Words.{record_of, text_of, which_of};
 ghost use Rattle.kob_script.specs.declared.fault.FaultKind.TheVariants.{BadWord};
 
 use crate::fault::{FaultKind, LineError};
@@ -52,7 +51,7 @@ pub fn texts_of<'w>(alloc: Global, words: &'w [Word<'_>]) -> Result<Vec<&'w str>
 }
 
 /// The principal that a text writes.
-#[tactic(auto, unfolding(crate::specs::Values::principal_of))]
+#[tactic(auto, unfolding(crate::specs::Words::principal_of))]
 pub fn principal_of(alloc: Global, text: &str) -> Result<Principal, LineError>
     ensures { Gives result (principal_of text.now) }
 {
@@ -64,7 +63,7 @@ pub fn principal_of(alloc: Global, text: &str) -> Result<Principal, LineError>
 }
 
 /// The host that a text writes.
-#[tactic(auto, unfolding(crate::specs::Values::host_of))]
+#[tactic(auto, unfolding(crate::specs::Words::host_of))]
 pub fn host_of(alloc: Global, text: &str) -> Result<Host, LineError>
     ensures { Gives result (host_of text.now) }
 {
@@ -149,7 +148,7 @@ pub fn before_of(word: &Word<'_>) -> Result<Before, LineError>
 
 /// What a table has for a word. The fault is `BadWord`.
 pub fn known<T: Copy>(found: Option<T>) -> Result<T, LineError>
-    ensures { Gives result (found_or BadWord found) }
+    ensures { Gives result (ok_or found BadWord) }
 {
     found.ok_or(LineError::Fault(FaultKind::BadWord))
 }
@@ -166,7 +165,7 @@ pub fn filter_pattern_of(word: &Word<'_>) -> Result<FilterPattern, LineError>
 
 /// Who produced a batch: nobody for `-`, or `ID:EPOCH:BASE`. The fault is `BadLine` for other
 /// numbers of parts.
-#[tactic(auto, unfolding(crate::specs::Values::idem_of))]
+#[tactic(auto, unfolding(crate::specs::Words::idem_of))]
 pub fn idem_of(alloc: Global, word: &Word<'_>) -> Result<Option<Idem>, LineError>
     ensures { Gives result (idem_of word.now) }
 {
@@ -186,7 +185,7 @@ pub fn idem_of(alloc: Global, word: &Word<'_>) -> Result<Option<Idem>, LineError
 
 // The number that a part of a word writes, after its escapes are replaced.
 fn number_at(alloc: Global, part: &[u8]) -> Result<u64, LineError>
-    ensures { Gives result (number_in (words.bytes_of part.now)) }
+    ensures { Gives result (number_in (bytes_of part.now)) }
 {
     if !may_have_escapes(part) {
         return number_in(part);
@@ -196,7 +195,7 @@ fn number_at(alloc: Global, part: &[u8]) -> Result<u64, LineError>
 }
 
 /// A record of a key and a value around the first `=`, or of a value alone.
-#[tactic(auto, unfolding(crate::specs::Values::record_of))]
+#[tactic(auto, unfolding(crate::specs::Words::record_of))]
 fn record_of(alloc: Global, word: &Word<'_>) -> Result<Record, AllocError>
     ensures { IfOk result (λ made. made ≡ record_of word.now) }
 {

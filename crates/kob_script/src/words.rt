@@ -1,11 +1,11 @@
 //! The words of a line, in which `%` and two hexadecimal digits stand for one byte.
 
-ghost use Rattle.std.specs.Option.{option_copied};
-ghost use Rattle.std.specs.Prelude.{◌≡◌, ◌≤◌, codes, length, bytes_eq, Some, IfOk, IfSome};
-ghost use Rattle.std.specs.Prelude.{MatchBool, find, not, option_map, ⊤};
-ghost use Rattle.kob_script.specs.Reading.{Gives, GivesSeen, each};
-ghost use Rattle.kob_script.specs.Words.{byte_at, bytes_of, cut_at, hexadecimal, is_blank};
-ghost use Rattle.kob_script.specs.Words.{is_skipped, raw_words, unescaped, word_of, words_of};
+ghost use Rattle.std.specs.Prelude.{◌≡◌, ◌≤◌, ◌==◌, ℕ, List, Some, IfOk, IfSome, MatchBool, ⊤};
+ghost use Rattle.std.specs.Prelude.{bytes_eq, codes, drop, find, if◌then◌else◌, length, not};
+ghost use Rattle.std.specs.Prelude.{option_copied, option_map};
+ghost use Rattle.kob_script.specs.Reading.{Gives, GivesSeen};
+ghost use Rattle.kob_script.specs.Words.{bytes_of, cut_at, escaped, hexadecimal, is_blank};
+ghost use Rattle.kob_script.specs.Words.{is_skipped, unescaped, word_of, words_of};
 
 use crate::fault::{FaultKind, LineError};
 use kob_names::Bytes;
@@ -77,9 +77,6 @@ impl<'a> Word<'a> {
     }
 }
 
-/// Most lines have no more words.
-const MANY_WORDS: usize = 8;
-
 /// The words of a line. None if the line is skipped: if it has no word, or its first one begins with
 /// `#`. The fault is `BadEscape`, the first of the kinds. Does not allocate for a skipped line.
 pub fn words_of(alloc: Global, line: &[u8]) -> Result<Vec<Word<'_>>, LineError>
@@ -88,7 +85,16 @@ pub fn words_of(alloc: Global, line: &[u8]) -> Result<Vec<Word<'_>>, LineError>
     if is_skipped(line) {
         return Ok(Vec::new(alloc));
     }
-    each_read(alloc, line)
+    // Most lines have no more words.
+    let mut words = Vec::with_capacity(alloc, 8)?;
+    for raw in line
+        .split(|byte| is_blank(*byte))
+        .filter(|part| part.len() > 0)
+    {
+        let word = Word::read(alloc, raw)?;
+        words.push(word)?;
+    }
+    Ok(words)
 }
 
 // Whether a line is skipped: by its first byte that is no blank, with which a word begins.
@@ -104,20 +110,6 @@ fn first_not_blank(line: &[u8]) -> Option<&u8>
     line.iter().find(|byte| !is_blank(**byte))
 }
 
-fn each_read(alloc: Global, line: &[u8]) -> Result<Vec<Word<'_>>, LineError>
-    ensures { GivesSeen (λ words. words.items) result (each word_of (raw_words line.entry.now)) }
-{
-    let mut words = Vec::with_capacity(alloc, MANY_WORDS)?;
-    for raw in line
-        .split(|byte| is_blank(*byte))
-        .filter(|part| part.len() > 0)
-    {
-        let word = Word::read(alloc, raw)?;
-        words.push(word)?;
-    }
-    Ok(words)
-}
-
 fn is_blank(byte: u8) -> bool
     ensures { result ≡ is_blank byte }
 {
@@ -129,7 +121,7 @@ fn is_blank(byte: u8) -> bool
 pub fn may_have_escapes(word: &[u8]) -> bool
     ensures { MatchBool result ⊤ (unescaped word.now ≡ Some word.now) }
 {
-    memchr(b'%', word).is_some()
+    word.contains(&b'%')
 }
 
 /// The bytes that a word stands for, unless a percent sign in it begins no escape.
@@ -176,7 +168,9 @@ pub fn cut_at(byte: u8, word: &[u8]) -> Option<(&[u8], &[u8])>
 /// The byte at the front of a word, and what comes after it. `None` if a percent sign there begins
 /// no escape.
 fn byte_at(first: u8, others: &[u8]) -> Option<(u8, &[u8])>
-    ensures read { option_map (λ found. (found.0, found.1.now)) result ≡ byte_at first others.now }
+    ensures read { option_map (λ found. (found.0, found.1.now)) result
+        ≡ (if first == 37 then option_map {U = ℕ × List ℕ} (λ byte. (byte, drop 2 others.now))
+        (escaped others.now) else Some (first, others.now)) }
     ensures shrinks { IfSome result (λ found. length found.1.now ≤ length others.now) }
 {
     if first != b'%' {

@@ -11,15 +11,12 @@ pub use Rattle.kob_rights.specs.declared.event.Event.{Event}
 pub use Rattle.kob_rights.specs.declared.reply.Reply.{Reply}
 pub use Rattle.kob_script.specs.Checks.{checked}
 pub use Rattle.kob_script.specs.Printed.{reply_text, stopped_text, text_of_replies}
-pub use Rattle.kob_script.specs.Requests.{AreWholeLines, lines_in_blocks}
-pub use Rattle.kob_script.specs.Script.{lines_in}
+pub use Rattle.kob_script.specs.Script.{AreWholeLines, lines_in_blocks, lines_in}
 pub use Rattle.kob_script.specs.declared.script.Script.{Script}
 pub use Rattle.kob_text.specs.Faults.{unread, unwritten}
 pub use Rattle.kob_text.specs.Input.{EndLines, bytes_in}
 pub use Rattle.kob_text.specs.Limits.{piece_limit, script_limit}
-pub use Rattle.kob_text.specs.Output.{HasOutput, IsEnd, IsOutput, IsWrittenOf, Writes, replies_to}
-pub use Rattle.kob_text.specs.Runs.{IsTextOfRun, WritesPartOfRun, WritesRun, replies_from}
-pub use Rattle.kob_text.specs.Transfer.{AppendsAllBut, AppendsPart}
+pub use Rattle.kob_text.specs.Output.{HasOutput, IsEnd, IsOutput, IsWrittenOf, Writes, replies_to, IsTextOfRun, WritesPartOfRun, WritesRun, replies_from, AppendsAllBut, AppendsPart}
 pub use Rattle.kob_text.specs.declared.fault.InputFault.{InputFault}
 pub use Rattle.kob_text.specs.declared.fault.OutputFault.{OutputFault}
 pub use Rattle.kob_text.specs.declared.output.Ended.{Ended}

@@ -1,8 +1,7 @@
 -- A script as it is read, in blocks.
 use Rattle.std.specs.List.{concat}
 use Rattle.std.specs.Prelude.{◌≡◌, ℕ, List, ◌++◌}
-use Rattle.kob_script.specs.Requests.{lines_in_blocks}
-use Rattle.kob_script.specs.Script.{lines_in}
+use Rattle.kob_script.specs.Script.{lines_in_blocks, lines_in}
 use Rattle.kob_text.specs.declared.input.Input.{Input}
 
 -- the bytes so far

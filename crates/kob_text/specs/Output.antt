@@ -1,24 +1,57 @@
 -- What a run writes for a script.
 use Rattle.std.specs.Io.KnownBytes.{Appends, Keeps}
 use Rattle.std.specs.Prelude.{◌≡◌, ◌<◌, ◌≤◌, ◌++◌, ℕ, List, length, take, Option, Result, Ok, Err, IfSome}
-use Rattle.kob_broker.specs.State.{open_state}
+use Rattle.kob_broker.specs.State.{open_state, State}
 use Rattle.kob_broker.specs.Step.{replies_of}
 use Rattle.kob_names.specs.declared.settings.Settings.{Settings}
-use Rattle.kob_partition.specs.Retained.{plain_meaning}
+use Rattle.kob_partition.specs.Retained.{plain_meaning, Retained, retained_meaning}
 use Rattle.kob_rights.specs.declared.event.Event.{Event}
 use Rattle.kob_rights.specs.declared.reply.Reply.{Reply}
 use Rattle.kob_text.specs.Limits.{script_limit}
-use Rattle.kob_text.specs.Transfer.{AppendsPart}
 use Rattle.kob_text.specs.declared.fault.OutputFault.{OutputFault}
-use Rattle.kob_text.specs.declared.fault.OutputFault.TheVariants as output
 use Rattle.kob_text.specs.declared.fault.RunFault.{RunFault}
-use Rattle.kob_text.specs.declared.fault.RunFault.TheVariants as run
 use Rattle.kob_text.specs.declared.output.Ended.{Ended}
 use Rattle.kob_text.specs.declared.output.Ended.TheVariants.{Clean, Fault, Stopped}
-use Rattle.kob_script.specs.declared.fault.Fault as fault
 use Rattle.kob_script.specs.declared.script.Script.{Script}
 use Rattle.kob_script.specs.Printed.{fault_text, text_of_replies, stopped_text}
 use Rattle.kob_script.specs.Script.{ReadsAs}
+use Rattle.kob_text.specs.declared.fault.OutputFault.TheVariants as output
+use Rattle.kob_text.specs.declared.fault.RunFault.TheVariants as run
+use Rattle.kob_script.specs.declared.fault.Fault as fault
+
+-- known bytes grow by a prefix of the text that is not all of it
+abbrev pub AppendsPart : Option (List ℕ) → Option (List ℕ) → List ℕ → Type 0
+AppendsPart old new text = (count : ℕ) × (count < length text) × Appends old new (take count text)
+
+-- known bytes grow by all of the text but its end, which is held
+abbrev pub AppendsAllBut : Option (List ℕ) → Option (List ℕ) → List ℕ → List ℕ → Type 0
+AppendsAllBut old new text held =
+    (written : List ℕ) × (text ≡ written ++ held) × Appends old new written
+
+-- the replies of a broker that stands so
+abbrev pub replies_from : State Retained → List Event → List Reply
+replies_from state events = replies_of retained_meaning events state
+
+-- The text is that of all replies, or of those to the first events where memory stopped the run.
+abbrev pub IsTextOfRun : (List Event → List Reply) → List Event → Ended → List ℕ → Type 0
+IsTextOfRun replies events Clean text = text ≡ text_of_replies (replies events)
+IsTextOfRun replies events Stopped text =
+    (done : ℕ) × (done < length events)
+    × (text ≡ text_of_replies (replies (take done events)) ++ stopped_text done)
+IsTextOfRun replies events Fault text = ⊥
+
+-- such a text was written
+abbrev pub WritesRun : (List Event → List Reply) → List Event → Ended → Option (List ℕ)
+    → Option (List ℕ) → Type 0
+WritesRun replies events ended old new =
+    (text : List ℕ) × IsTextOfRun replies events ended text × Appends old new text
+
+-- a part of such a text was written
+abbrev pub WritesPartOfRun : (List Event → List Reply) → List Event → Option (List ℕ)
+    → Option (List ℕ) → Type 0
+WritesPartOfRun replies events old new =
+    (ended : Ended) × (text : List ℕ) × IsTextOfRun replies events ended text
+    × AppendsPart old new text
 
 -- the replies of a broker that was opened with the settings, which keeps all accepted batches
 abbrev pub replies_to : Settings → List Event → List Reply
@@ -59,11 +92,8 @@ IsWritten read old new (Err output.Memory) = Keeps old new
 -- the same for what bytes may be read as
 abbrev pub IsWrittenOf : List ℕ → Option (List ℕ) → Option (List ℕ) → Result Ended OutputFault
     → Type 0
-IsWrittenOf bytes old new (Ok ended) =
-    HasReading bytes (λ read. IsWritten read old new (Ok ended))
-IsWrittenOf bytes old new (Err (output.WriteFailed failed)) =
-    HasReading bytes (λ read. HasOutput read (AppendsPart old new))
 IsWrittenOf bytes old new (Err output.Memory) = Keeps old new
+IsWrittenOf bytes old new result = HasReading bytes (λ read. IsWritten read old new result)
 
 -- How a run ended on the bytes that its reader had left, as far as they are known, and what was
 -- written by then: the output, or a part of it after a failed write, or else nothing.

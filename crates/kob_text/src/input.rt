@@ -3,7 +3,7 @@
 ghost use Rattle.std.specs.List.{concat};
 ghost use Rattle.std.specs.Prelude.{◌≡◌, ◌⊎◌, ◌-◌, ◌≤◌, ◌++◌, [], slice_index, length};
 ghost use Rattle.std.specs.Prelude.{vec_capacity, IfOk, OnOk};
-ghost use Rattle.kob_script.specs.Requests.{AreWholeLines};
+ghost use Rattle.kob_script.specs.Script.{AreWholeLines};
 ghost use Rattle.kob_text.specs.Input.{EndLines, bytes_in};
 ghost use Rattle.kob_text.specs.Limits.{block_size};
 

@@ -4,7 +4,7 @@ ghost use Rattle.std.specs.List.{concat};
 ghost use Rattle.std.specs.Prelude.{◌≤◌, Err, length};
 ghost use Rattle.kob_text.specs.Limits.{script_limit};
 ghost use Rattle.kob_text.specs.Output.{IsWritten, IsWrittenOf};
-ghost use Rattle.kob_script.specs.Requests.{AreWholeLines};
+ghost use Rattle.kob_script.specs.Script.{AreWholeLines};
 
 use crate::fault::OutputFault;
 use crate::replies::write_run;

@@ -1,5 +1,5 @@
 use Rattle.kob_script.proofs.Imports.{List, ap, arith, err_from_is_err_and, length, lines_left, requests_in, sym, ◌++◌, ◌∙◌}
-use Rattle.kob_script.specs.Requests.{Event}
+use Rattle.kob_script.specs.Script.{Event}
 use Rattle.kob_script.proofs.CheckedLines.{nothing_at_zero, one_fewer, some_lines}
 use Rattle.kob_script.proofs.requests.Requests.next_event.Goals as goal
 

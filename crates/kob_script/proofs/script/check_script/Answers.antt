@@ -1,6 +1,6 @@
 use Rattle.kob_script.proofs.Imports.{Err, List, [], ap, arith, concat, drop, drop_of_length-le, length, lines_in, lines_in_blocks, refl, subst, sym, ℕ, ◌++◌, ◌+◌, ◌<◌, ◌∙◌, ◌≡◌, ◌≤◌}
 use Rattle.kob_script.proofs.CheckedLines.{block_lines, Stands, all_counted, all_read, one_reading, stands_first, stands_next, stops, reads_plain}
-use Rattle.kob_script.proofs.checks.check_script.Goals as goal
+use Rattle.kob_script.proofs.script.check_script.Goals as goal
 
 pub loop-block-init : goal.loop-block-init
 loop-block-init c =

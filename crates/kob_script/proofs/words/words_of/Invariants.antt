@@ -1,6 +1,7 @@
 -- What was read, and then what the rest stands for, is what the words stand for.
-use Rattle.kob_script.proofs.Imports.{drop, each, length, raw_words, with_front, word_of, ◌≡◌}
-use Rattle.kob_script.proofs.words.each_read.Given as goal
+use Rattle.kob_script.proofs.Imports.{drop, each, length, raw_words, word_of, ◌≡◌}
+use Rattle.kob_script.proofs.Each.{with_front}
+use Rattle.kob_script.proofs.words.words_of.Given as goal
 
 abbrev pub invariant-loop-raw : goal.invariant-loop-raw
 invariant-loop-raw l =

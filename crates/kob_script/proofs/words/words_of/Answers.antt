@@ -1,6 +1,7 @@
-use Rattle.kob_script.proofs.Imports.{YieldsList-end, YieldsList-from_filter, YieldsList-from_slice_split, YieldsList-turn, arith, err_from_is_err_and, is_blank, length, length_push, nat_lt, raw_words, rules, tests, word_of}
+use Rattle.kob_script.proofs.Imports.{Fails, Ok, [], each, is_skipped, subst, sym, ◌∙◌, YieldsList-end, YieldsList-from_filter, YieldsList-from_slice_split, YieldsList-turn, arith, err_from_is_err_and, is_blank, length, length_push, nat_lt, raw_words, rules, tests, word_of}
+use Rattle.kob_script.proofs.Choices.{chosen_false}
 use Rattle.kob_script.proofs.Each.{each_ends, each_fails, each_keeps}
-use Rattle.kob_script.proofs.words.each_read.Goals as goal
+use Rattle.kob_script.proofs.words.words_of.Goals as goal
 
 pub returns-in_err-word : goal.returns-in_err-word
 returns-in_err-word c =
@@ -10,9 +11,11 @@ returns-in_err-word c =
     (λ x b q k. search (rules, tests))) (search rules) (λ x b q k. search (rules, tests)))
     c.loop-raw.yielded _ c.loop-raw.yielded_by _ _ c.in-Some.raw c.in-Some.is c.next.ensures.steps in
     let p = err_from_is_err_and c.from_residual-in_err-word.result c.from_residual-in_err-word.ensures.1 in
+    let unskipped = sym c.is_skipped.ensures ∙ c.if-is_skipped.false in
     rw (p.1, p.2)
+    (subst (Fails _) (sym (chosen_false (is_skipped c.args.line.now) (Ok []) (each word_of (raw_words c.args.line.now)) unskipped))
     (each_fails word_of (raw_words c.args.line.now) (length c.loop-raw.yielded) _ _ _ _ c.loop-raw.invariant turn.0 turn.1
-    c.in_err-word.ensures)
+    c.in_err-word.ensures))
 
 pub loop-raw-preserved : goal.loop-raw-preserved
 loop-raw-preserved c =
@@ -32,4 +35,6 @@ returns c =
     (YieldsList-from_slice_split _ is_blank c.args.line.now (search rules) (search rules) (search rules)
     (λ x b q k. search (rules, tests))) (search rules) (λ x b q k. search (rules, tests)))
     c.loop-raw.yielded _ c.loop-raw.yielded_by _ _ c.in-None.is c.next.ensures.steps in
-    each_ends word_of (raw_words c.args.line.now) (length c.loop-raw.yielded) _ c.loop-raw.invariant (omega (arith, end.1))
+    let unskipped = sym c.is_skipped.ensures ∙ c.if-is_skipped.false in
+    chosen_false (is_skipped c.args.line.now) (Ok []) (each word_of (raw_words c.args.line.now)) unskipped
+    ∙ each_ends word_of (raw_words c.args.line.now) (length c.loop-raw.yielded) _ c.loop-raw.invariant (omega (arith, end.1))

@@ -1,7 +1,7 @@
 -- The lines so far were checked: what those that are left may be read as, the text may be.
 use Rattle.kob_script.proofs.Imports.{drop, lines_in_blocks, ◌++◌, ◌+◌}
 use Rattle.kob_script.proofs.CheckedLines.{Stands}
-use Rattle.kob_script.proofs.checks.check_script.Given as goal
+use Rattle.kob_script.proofs.script.check_script.Given as goal
 
 abbrev pub invariant-loop-line : goal.invariant-loop-line
 invariant-loop-line l =
