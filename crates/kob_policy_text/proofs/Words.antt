@@ -4,7 +4,7 @@ pub use Rattle.kob_policy_text.specs.Answers.{answer_line, answers_text, change_
 pub use Rattle.kob_policy_text.specs.AtHand.{asked_by, asked_from, asked_on, operations, topic_target, with_bindings}
 pub use Rattle.kob_policy_text.specs.Lines.{Says, SaysBy, SaysByWords, is_listed, listed_items, rule_items, script_line, super_item}
 pub use Rattle.kob_policy_text.specs.Outcomes.{MayFail, MayGive}
-pub use Rattle.kob_policy_text.specs.Pieces.{trimmed}
+pub use Rattle.kob_policy_text.specs.Listing.{trimmed}
 pub use Rattle.kob_policy_text.specs.Policy.{FileMakes, IsStopped, Policy, at_file, fault_at, place, with_item, with_items}
 pub use Rattle.kob_policy_text.specs.Questions.{Questions, lines_from, with_line}
 pub use Rattle.kob_policy_text.specs.declared.item.Item.{Item}

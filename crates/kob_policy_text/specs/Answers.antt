@@ -30,8 +30,7 @@ use Rattle.kob_policy_text.specs.declared.question.Asker.{Asker}
 use Rattle.kob_policy_text.specs.declared.question.Question.{Question}
 use Rattle.kob_policy_text.specs.declared.question.Question.TheVariants.{May, Ask, Who, Sees, Unused, Shadowed}
 use Rattle.kob_policy_text.specs.declared.question.Right.{Right}
-use Rattle.kob_policy_text.specs.Judging.{deciding, is_yes, may, place_of, serials_of}
-use Rattle.kob_policy_text.specs.Policy.{Policy, without}
+use Rattle.kob_policy_text.specs.Policy.{deciding, is_yes, may, place_of, serials_of, Policy, without}
 use Rattle.kob_policy_text.specs.Questions.{Questions}
 
 -- FILE:LINE

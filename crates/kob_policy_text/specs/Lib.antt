@@ -1,10 +1,7 @@
 pub mod Answers
 pub mod AtHand
-pub mod Judging
 pub mod Lines
 pub mod Listing
 pub mod Outcomes
-pub mod Pieces
 pub mod Policy
 pub mod Questions
-pub mod Users

@@ -17,9 +17,7 @@ use Rattle.kob_policy_text.specs.declared.item.Item.{Item}
 use Rattle.kob_policy_text.specs.declared.item.Item.TheVariants.{Super, Everyone, Rule, LeftOut}
 use Rattle.kob_policy_text.specs.declared.item.LeftOut as kinds
 use Rattle.kob_policy_text.specs.declared.item.LeftOut.TheVariants.{Resource, Principal}
-use Rattle.kob_policy_text.specs.Listing.{heading_item, newer_grant, older_grant}
-use Rattle.kob_policy_text.specs.Pieces.{around_first, first_parts, holds_mark, last_parts, trimmed}
-use Rattle.kob_policy_text.specs.Users.{is_other_kind, user_in}
+use Rattle.kob_policy_text.specs.Listing.{heading_item, newer_grant, older_grant, is_other_kind, user_in, around_first, first_parts, holds_mark, last_parts, trimmed}
 
 -- one thing that is said
 abbrev pub said : Result Item FaultKind → Result (List Item) FaultKind

@@ -1,10 +1,16 @@
--- The lines that `kafka-acls --list` prints. Those of Kafka 2.3 and later name a resource by
--- `ResourcePattern(..)` and a binding by `(principal=.., host=.., ..)`; those of earlier versions by
--- `Topic:orders` or `Topic:LITERAL:orders`, and by `User:x has Allow permission for operations: ..`.
-use Rattle.std.specs.Prelude.{◌||◌, ℕ, Bool, List, Option, Some, None, Result, Ok, Err, codes, nat_eq, if◌then◌else◌, ok_or}
-use Rattle.std.specs.List.{starts_with}
-use Rattle.std.specs.Option.{option_map}
+-- Principals of the kind `User`, and those of other kinds, which are left out.
+use Rattle.std.specs.Prelude.{Bool, false, not, ℕ, List, Option, Some, None, Result, Ok, Err, codes, is_none, if◌then◌else◌, ◌+◌, drop, take, length, is_some, ok_or, ◌||◌, nat_eq}
+use Rattle.std.specs.List.{position, before_first, starts_with}
 use Rattle.std.specs.Str.{bytes_eq}
+use Rattle.kob_names.specs.PrincipalRules.{is_colon}
+use Rattle.kob_script.specs.declared.fault.FaultKind.{FaultKind}
+use Rattle.kob_script.specs.Reading.{◌>>=◌}
+use Rattle.kob_script.specs.Words.{text_in, principal_of, host_of}
+use Rattle.std.specs.Char.{is_whitespace}
+use Rattle.std.specs.Option.{option_map}
+use Rattle.bstr.specs.Trim.{trim_start_by, trim_end_by}
+use Rattle.memchr.specs.Find.{first_of, matches, rmatches}
+use Rattle.kob_script.specs.declared.fault.FaultKind.TheVariants.{BadLine, BadWord}
 use Rattle.kob_names.specs.declared.kinds.Operation.{Operation}
 use Rattle.kob_names.specs.declared.kinds.Operation.TheVariants.{ClusterAction, DescribeConfigs, AlterConfigs, IdempotentWrite}
 use Rattle.kob_names.specs.declared.kinds.PatternKind.{PatternKind}
@@ -17,17 +23,60 @@ use Rattle.kob_words.specs.Operation.{operation_named}
 use Rattle.kob_words.specs.Pattern.{pattern_named}
 use Rattle.kob_words.specs.Permission.{permission_named}
 use Rattle.kob_words.specs.Resource.{resource_named}
-use Rattle.kob_script.specs.declared.fault.FaultKind.{FaultKind}
-use Rattle.kob_script.specs.declared.fault.FaultKind.TheVariants.{BadLine, BadWord}
-use Rattle.kob_script.specs.Reading.{◌>>=◌}
-use Rattle.kob_script.specs.Words.{text_in, host_of}
 use Rattle.kob_policy_text.specs.declared.item.Grant.{Grant}
 use Rattle.kob_policy_text.specs.declared.item.Item.{Item}
+use Rattle.kob_policy_text.specs.declared.item.Target.{Target}
 use Rattle.kob_policy_text.specs.declared.item.Item.TheVariants as item
 use Rattle.kob_policy_text.specs.declared.item.LeftOut.TheVariants as left_out
-use Rattle.kob_policy_text.specs.declared.item.Target.{Target}
-use Rattle.kob_policy_text.specs.Pieces.{around_first, around_last, first_parts}
-use Rattle.kob_policy_text.specs.Users.{user_in}
+
+-- the text before the first colon is another kind than `User`
+abbrev pub is_other_kind : List ℕ → Bool
+is_other_kind text =
+    if is_none (position is_colon text) then false
+    else not (bytes_eq (before_first is_colon text) (codes "User"))
+
+-- a principal, or nothing for one of another kind
+abbrev pub user_named : List ℕ → Result (Option (List ℕ)) FaultKind
+user_named text =
+    if is_other_kind text then Ok None else (principal_of text >>= λ user. Ok (Some user))
+
+-- the same of bytes
+abbrev pub user_in : List ℕ → Result (Option (List ℕ)) FaultKind
+user_in bytes = text_in bytes >>= user_named
+
+-- The parts of bytes around a mark.
+
+-- what stands before a place, and what stands after a mark there
+abbrev pub parts_at : List ℕ → List ℕ → Option ℕ → Option (List ℕ × List ℕ)
+parts_at bytes mark place =
+    option_map (λ at. (take at bytes, drop (at + length mark) bytes)) place
+
+-- what stands before the first mark, and what stands after it
+unfoldable pub first_parts : List ℕ → List ℕ → Option (List ℕ × List ℕ)
+first_parts bytes mark = parts_at bytes mark (first_of (matches bytes mark 0))
+
+-- the same of the last mark
+unfoldable pub last_parts : List ℕ → List ℕ → Option (List ℕ × List ℕ)
+last_parts bytes mark = parts_at bytes mark (first_of (rmatches bytes mark (length bytes)))
+
+-- the parts, which have to be there
+abbrev pub around_first : List ℕ → List ℕ → Result (List ℕ × List ℕ) FaultKind
+around_first bytes mark = ok_or (first_parts bytes mark) BadLine
+
+abbrev pub around_last : List ℕ → List ℕ → Result (List ℕ × List ℕ) FaultKind
+around_last bytes mark = ok_or (last_parts bytes mark) BadLine
+
+-- the mark stands somewhere
+abbrev pub holds_mark : List ℕ → List ℕ → Bool
+holds_mark bytes mark = is_some (first_parts bytes mark)
+
+-- without white space at the ends
+unfoldable pub trimmed : List ℕ → List ℕ
+trimmed bytes = trim_end_by is_whitespace (trim_start_by is_whitespace bytes)
+
+-- The lines that `kafka-acls --list` prints. Those of Kafka 2.3 and later name a resource by
+-- `ResourcePattern(..)` and a binding by `(principal=.., host=.., ..)`; those of earlier versions by
+-- `Topic:orders` or `Topic:LITERAL:orders`, and by `User:x has Allow permission for operations: ..`.
 
 -- an operation in capitals, with underscores, or as it stands in scripts; nothing for one that is
 -- left out

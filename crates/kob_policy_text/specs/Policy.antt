@@ -1,26 +1,33 @@
 -- A policy: the bindings of some files in the order in which they are read, the super users, and
 -- whether what no binding matches is open to everyone.
-use Rattle.std.specs.Prelude.{◌≡◌, ◌+◌, ℕ, Bool, false, List, [], ◌∷◌, ◌++◌, remove, Option, Some, None, Result, Ok, Err, is_none, if◌then◌else◌}
+use Rattle.std.specs.Prelude.{◌≡◌, ◌+◌, ℕ, Bool, false, List, [], ◌∷◌, ◌++◌, remove, Option, Some, None, Result, Ok, Err, is_none, if◌then◌else◌, ◌==◌, position}
 use Rattle.kob_names.specs.Binding.{Binding}
 use Rattle.kob_names.specs.BindingRules.{draft_fault}
 use Rattle.kob_script.specs.declared.fault.FaultKind.{FaultKind}
 use Rattle.kob_script.specs.declared.fault.FaultKind.TheVariants.{BadName, NoResource}
 use Rattle.kob_script.specs.declared.fault.Fault.{Fault}
 use Rattle.kob_script.specs.declared.fault.ScriptError.{ScriptError}
-use Rattle.kob_script.specs.declared.fault.ScriptError.TheVariants as script_error
 use Rattle.kob_script.specs.declared.fault.LineError.{LineError}
-use Rattle.kob_script.specs.declared.fault.LineError.TheVariants as line_error
 use Rattle.kob_script.specs.Reading.{◌>>=◌}
 use Rattle.kob_script.specs.Script.{lines_in}
 use Rattle.kob_policy_text.specs.declared.item.Grant.{Grant}
 use Rattle.kob_policy_text.specs.declared.item.Item.{Item}
-use Rattle.kob_policy_text.specs.declared.item.Item.TheVariants as item
 use Rattle.kob_policy_text.specs.declared.item.LeftOut.{LeftOut}
-use Rattle.kob_policy_text.specs.declared.item.LeftOut.TheVariants as left_out
 use Rattle.kob_policy_text.specs.declared.item.Target.{Target}
 use Rattle.kob_policy_text.specs.declared.origin.Origin.{Origin}
 use Rattle.kob_policy_text.specs.declared.origin.Omission.{Omission}
 use Rattle.kob_policy_text.specs.Lines.{Says}
+use Rattle.kob_authorizer.specs.Contents.{Contents}
+use Rattle.kob_authorizer.specs.Creation.{Added, addition}
+use Rattle.kob_authorizer.specs.Decide.{decide}
+use Rattle.kob_authorizer.specs.Question.{Question}
+use Rattle.kob_names.specs.declared.verdict.Verdict.{Verdict}
+use Rattle.kob_names.specs.Granted.{is_granted}
+use Rattle.kob_script.specs.declared.fault.ScriptError.TheVariants as script_error
+use Rattle.kob_script.specs.declared.fault.LineError.TheVariants as line_error
+use Rattle.kob_policy_text.specs.declared.item.Item.TheVariants as item
+use Rattle.kob_policy_text.specs.declared.item.LeftOut.TheVariants as left_out
+use Rattle.kob_names.specs.declared.verdict.Verdict.TheVariants as verdict
 
 -- each binding stands beside its origin; below a heading, the next listed bindings are on what it
 -- names, or are left out
@@ -145,3 +152,41 @@ IsStopped (script_error.Fault fault) Makes = Makes (Err fault)
 abbrev pub IsRead : {A S : Type 0} → Result A ScriptError → S → (Result S Fault → Type 0) → Type 0
 IsRead (Ok x) new Makes = Makes (Ok new)
 IsRead (Err error) new Makes = IsStopped error Makes
+
+-- How a policy decides.
+
+-- the bindings in the order in which they are read, with serials from 1; an equal one gets the
+-- serial of the first
+abbrev pub added : Policy → Added
+added policy = addition [] 1 policy.bindings
+
+-- what the authorizer holds
+unfoldable pub contents_of : Policy → Contents
+contents_of policy = record {
+  entries = (added policy).entries;
+  supers = policy.supers;
+  everyone = policy.everyone;
+  next = (added policy).next;
+}
+
+-- the serial of each binding
+unfoldable pub serials_of : Policy → List ℕ
+serials_of policy = (added policy).serials
+
+-- the access decision
+abbrev pub may : Policy → Question → Verdict
+may policy question = decide (contents_of policy) question
+
+-- the answer is yes
+abbrev pub is_yes : Policy → Question → Bool
+is_yes policy question = is_granted (may policy question)
+
+-- where the first binding with a serial stands
+abbrev pub place_of : Policy → ℕ → Option ℕ
+place_of policy serial = position (λ other. other == serial) (serials_of policy)
+
+-- the serial that decides, if one does
+abbrev pub deciding : Verdict → Option ℕ
+deciding (verdict.DeniedBy serial) = Some serial
+deciding (verdict.AllowedBy serial) = Some serial
+deciding _ = None

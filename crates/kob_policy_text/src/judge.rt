@@ -2,9 +2,8 @@
 
 ghost use Rattle.std.specs.Prelude.{◌≡◌, ◌≢◌, ◌<◌, [], IfErr, IfOk, Some, length};
 ghost use Rattle.kob_authorizer.specs.Passing.{create_fault};
-ghost use Rattle.kob_policy_text.specs.Judging.{contents_of, deciding, is_yes, may, place_of};
-ghost use Rattle.kob_policy_text.specs.Judging.{serials_of};
-ghost use Rattle.kob_policy_text.specs.Policy.{without};
+ghost use Rattle.kob_policy_text.specs.Policy.{contents_of, deciding, is_yes, may, place_of};
+ghost use Rattle.kob_policy_text.specs.Policy.{serials_of, without};
 
 use crate::asked::Asked;
 use crate::policy::Policy;
@@ -23,7 +22,7 @@ pub struct Judge {
 
 impl Model for Judge {
     ghost use Rattle.std.specs.Prelude.{◌≡◌};
-    ghost use Rattle.kob_policy_text.specs.Judging.{contents_of, serials_of};
+    ghost use Rattle.kob_policy_text.specs.Policy.{contents_of, serials_of};
     ghost use Rattle.kob_policy_text.specs.Policy as seen;
 
     ghost Value = { seen.Policy };
@@ -107,7 +106,7 @@ impl Judge {
 }
 
 /// The authorizer with the bindings of a policy, and their serials.
-#[tactic(auto, unfolding(crate::specs::Judging::contents_of, crate::specs::Judging::serials_of))]
+#[tactic(auto, unfolding(crate::specs::Policy::contents_of, crate::specs::Policy::serials_of))]
 fn in_force(alloc: Global, policy: &Policy) -> Result<(Authorizer, Vec<u64>), CreateFault>
     ensures made { IfOk result (λ made. (made.0.contents ≡ contents_of policy.now)
         × (made.1.items ≡ serials_of policy.now)) }

@@ -10,7 +10,7 @@ ghost use Rattle.kob_policy_text.specs.Lines.{script_line, setting_items, super_
 ghost use Rattle.kob_policy_text.specs.Lines.{SaysByWords, any_left_out, any_other_kind, has_shell_mark};
 ghost use Rattle.kob_policy_text.specs.Lines.{only_event, rule_items, words_items};
 ghost use Rattle.kob_policy_text.specs.Outcomes.{MayGive};
-ghost use Rattle.kob_policy_text.specs.Pieces.{trimmed};
+ghost use Rattle.kob_policy_text.specs.Listing.{trimmed};
 ghost use Rattle.kob_script.specs.Reading.{Gives, GivesSeen, each};
 ghost use Rattle.kob_script.specs.Words.{words_of};
 ghost use Rattle.kob_script.specs.Script.{IsAnswerToLine};

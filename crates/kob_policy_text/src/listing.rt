@@ -6,8 +6,7 @@ ghost use Rattle.kob_policy_text.specs.Listing.{listed_operation, listed_pattern
 ghost use Rattle.kob_policy_text.specs.Listing.{listed_permission, listed_resource};
 ghost use Rattle.kob_policy_text.specs.Listing.{is_pattern_word, newer_grant, newer_resource};
 ghost use Rattle.kob_policy_text.specs.Listing.{older_grant, older_resource, older_target};
-ghost use Rattle.kob_policy_text.specs.Listing.{resource_item, target_item};
-ghost use Rattle.kob_policy_text.specs.Pieces.{first_parts};
+ghost use Rattle.kob_policy_text.specs.Listing.{resource_item, target_item, first_parts};
 ghost use Rattle.kob_script.specs.Reading.{Gives, GivesSeen};
 ghost use Rattle.kob_script.specs.declared.fault.FaultKind.TheVariants.{BadWord};
 

@@ -2,15 +2,15 @@
 
 ghost use Rattle.std.specs.Prelude.{◌≡◌};
 ghost use Rattle.std.specs.Option.{option_map};
-ghost use Rattle.kob_policy_text.specs.Pieces.{around_first, around_last, first_parts};
-ghost use Rattle.kob_policy_text.specs.Pieces.{holds_mark, last_parts, trimmed};
+ghost use Rattle.kob_policy_text.specs.Listing.{around_first, around_last, first_parts};
+ghost use Rattle.kob_policy_text.specs.Listing.{holds_mark, last_parts, trimmed};
 ghost use Rattle.kob_script.specs.Reading.{GivesSeen};
 
 use bstr::ByteSlice;
 use kob_script::{FaultKind, LineError};
 
 /// The part before the first mark, and the part after it.
-#[tactic(auto, unfolding(crate::specs::Pieces::first_parts))]
+#[tactic(auto, unfolding(crate::specs::Listing::first_parts))]
 pub fn first_parts<'a>(bytes: &'a [u8], mark: &[u8]) -> Option<(&'a [u8], &'a [u8])>
     ensures { option_map (λ parts. (parts.0.now, parts.1.now)) result
         ≡ first_parts bytes.entry.now mark.now }
@@ -19,7 +19,7 @@ pub fn first_parts<'a>(bytes: &'a [u8], mark: &[u8]) -> Option<(&'a [u8], &'a [u
 }
 
 /// The part before the last mark, and the part after it.
-#[tactic(auto, unfolding(crate::specs::Pieces::last_parts))]
+#[tactic(auto, unfolding(crate::specs::Listing::last_parts))]
 pub fn last_parts<'a>(bytes: &'a [u8], mark: &[u8]) -> Option<(&'a [u8], &'a [u8])>
     ensures { option_map (λ parts. (parts.0.now, parts.1.now)) result
         ≡ last_parts bytes.entry.now mark.now }
@@ -57,7 +57,7 @@ pub fn holds_mark(bytes: &[u8], mark: &[u8]) -> bool
 }
 
 /// The bytes without white space at the ends.
-#[tactic(auto, unfolding(crate::specs::Pieces::trimmed))]
+#[tactic(auto, unfolding(crate::specs::Listing::trimmed))]
 pub fn trimmed(bytes: &[u8]) -> &[u8]
     ensures { result.now ≡ trimmed bytes.entry.now }
 {

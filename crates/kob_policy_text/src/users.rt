@@ -1,7 +1,7 @@
 //! Principals of the kind `User`, and those of other kinds, which are left out.
 
 ghost use Rattle.std.specs.Prelude.{◌≡◌};
-ghost use Rattle.kob_policy_text.specs.Users.{is_other_kind, user_in};
+ghost use Rattle.kob_policy_text.specs.Listing.{is_other_kind, user_in};
 ghost use Rattle.kob_script.specs.Reading.{Gives, GivesSeen};
 ghost use Rattle.kob_script.specs.Words.{text_in};
 

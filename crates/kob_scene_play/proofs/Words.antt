@@ -23,22 +23,17 @@ pub use Rattle.kob_router.specs.Run.{Hand}
 pub use Rattle.kob_router.specs.Run.Move.{Recorded}
 pub use Rattle.kob_router.specs.Tick.{IsFirst, hand_of}
 pub use Rattle.kob_router.specs.declared.line.Call.{Call}
-pub use Rattle.kob_scene_play.specs.Journals.{line_of}
-pub use Rattle.kob_scene_play.specs.Laws.{IsAnswered, IsLaw, law_text}
-pub use Rattle.kob_scene_play.specs.Printing.{Tells, Writes}
-pub use Rattle.kob_scene_play.specs.Scenes.{ArePlayed, ConsumerKeeps, IsRead, IsServed, IsStep, OthersStay, ServiceKeeps}
-pub use Rattle.kob_scene_play.specs.Stages.{IsOpened, declared_consumer, declared_service, named_consumer, named_service}
-pub use Rattle.kob_scene_play.specs.Steps.{AllGoOn, AreTicks, EndsRun, IsConsumerStep, IsServiceStep, IsTold, Records}
-pub use Rattle.kob_scene_play.specs.Texts.{EndsAs, IsWritten, WritesAll, WritesSteps}
-pub use Rattle.kob_scene_play.specs.Workers.{Consumer, Consumes, Does, IsConsumerTick, IsSameConsumer, IsServiceTick, LosesFirst, Service}
+pub use Rattle.kob_scene_play.specs.Stages.{line_of, IsOpened, declared_consumer, declared_service, named_consumer, named_service, IsAnswered, IsLaw, law_text}
+pub use Rattle.kob_scene_play.specs.Steps.{Tells, Writes, AllGoOn, AreTicks, EndsRun, IsConsumerStep, IsServiceStep, IsTold, Records, Consumer, Consumes, Does, IsConsumerTick, IsSameConsumer, IsServiceTick, LosesFirst, Service}
+pub use Rattle.kob_scene_play.specs.Scenes.{ArePlayed, ConsumerKeeps, IsRead, IsServed, IsStep, OthersStay, ServiceKeeps, EndsAs, IsWritten, WritesAll, WritesSteps}
 pub use Rattle.kob_scene_play.specs.declared.fault.PlayFault.{PlayFault}
 pub use Rattle.kob_scene_play.specs.declared.stage.PlayedConsumer.{PlayedConsumer}
 pub use Rattle.kob_scene_play.specs.declared.stage.PlayedService.{PlayedService}
 pub use Rattle.kob_scene_play.specs.declared.stage.Stage.{Stage}
 pub use Rattle.kob_scene_play.specs.declared.text.Ended.{Ended}
-pub use Rattle.kob_scene_text.specs.PrintedFault.{scene_fault_text}
-pub use Rattle.kob_scene_text.specs.PrintedTick.{service_tick_text}
-pub use Rattle.kob_scene_text.specs.SceneReadings.{MayRead}
+pub use Rattle.kob_scene_text.specs.Reading.{scene_fault_text}
+pub use Rattle.kob_scene_text.specs.PrintedRows.{service_tick_text}
+pub use Rattle.kob_scene_text.specs.Scenes.{MayRead}
 pub use Rattle.kob_scene_text.specs.declared.fault.SceneFault.{SceneFault}
 pub use Rattle.kob_scene_text.specs.declared.scene.ConsumerStep.{ConsumerStep}
 pub use Rattle.kob_scene_text.specs.declared.scene.Scene.{Scene}

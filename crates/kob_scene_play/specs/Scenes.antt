@@ -1,22 +1,26 @@
 -- What a step of a scene changes and prints, and what a whole scene does.
-use Rattle.std.specs.Prelude.{◌≡◌, ◌≢◌, ℕ, List, [], ◌∷◌, ◌++◌, Some, map, slice_get}
+use Rattle.std.specs.Prelude.{◌≡◌, ◌≢◌, ℕ, List, [], ◌∷◌, ◌++◌, Some, map, slice_get, Option, Ok, Err}
 use Rattle.kob_router.specs.Line.{one_more}
-use Rattle.kob_scene_play.specs.Journals.{journal_text}
-use Rattle.kob_scene_play.specs.Laws.{IsAnswered}
-use Rattle.kob_scene_play.specs.Stages.{IsOpened, declared_consumer, declared_service, named_consumer, named_service}
-use Rattle.kob_scene_play.specs.Steps.{IsConsumerStep, IsServiceStep}
+use Rattle.kob_scene_play.specs.Stages.{journal_text, IsOpened, declared_consumer, declared_service, named_consumer, named_service, IsAnswered}
+use Rattle.kob_scene_play.specs.Steps.{IsConsumerStep, IsServiceStep, Writes}
 use Rattle.kob_scene_play.specs.declared.stage.PlayedConsumer.{PlayedConsumer}
 use Rattle.kob_scene_play.specs.declared.stage.PlayedService.{PlayedService}
 use Rattle.kob_scene_play.specs.declared.stage.Stage.{Stage}
 use Rattle.kob_scene_text.specs.declared.scene.ConsumerStep.{ConsumerStep}
-use Rattle.kob_scene_text.specs.declared.scene.ConsumerStep.TheVariants as consumer_steps
 use Rattle.kob_scene_text.specs.declared.scene.Scene.{Scene}
 use Rattle.kob_scene_text.specs.declared.scene.ServiceStep.{ServiceStep}
-use Rattle.kob_scene_text.specs.declared.scene.ServiceStep.TheVariants as service_steps
 use Rattle.kob_scene_text.specs.declared.scene.Step.{Step}
-use Rattle.kob_scene_text.specs.declared.scene.Step.TheVariants as steps
 use Rattle.kob_script.specs.Printed.{reply_text}
 use Rattle.kob_shared.specs.Journals.{after_event, outcome_of}
+use Rattle.std.specs.Io.KnownBytes.{Appends}
+use Rattle.kob_scene_play.specs.declared.text.Ended.{Ended}
+use Rattle.kob_scene_text.specs.Reading.{scene_fault_text}
+use Rattle.kob_scene_text.specs.Scenes.{MayRead}
+use Rattle.kob_scene_text.specs.declared.scene.ConsumerStep.TheVariants as consumer_steps
+use Rattle.kob_scene_text.specs.declared.scene.ServiceStep.TheVariants as service_steps
+use Rattle.kob_scene_text.specs.declared.scene.Step.TheVariants as steps
+use Rattle.kob_scene_play.specs.declared.text.Ended.TheVariants as ended
+use Rattle.kob_scene_text.specs.declared.fault.SceneError.TheVariants as scene_error
 
 -- at every other place is what was there
 abbrev pub OthersStay : {A : Type 0} → ℕ → List A → List A → Type 0
@@ -101,3 +105,32 @@ IsPlayed scene text =
     × (map named_service opened.services.items ≡ map declared_service scene.services.items)
     × (map named_consumer opened.consumers.items ≡ map declared_consumer scene.consumers.items)
     × ArePlayed scene.steps.items opened closed 0 told text
+
+-- What is written for the text of a scene.
+
+-- steps were played, and what they print was written, but for what is held
+abbrev pub WritesSteps : List Step → Stage → Stage → ℕ → ℕ → Option (List ℕ) → List ℕ
+    → Option (List ℕ) → List ℕ → Type 0
+WritesSteps steps old new told then_told before held now then_held =
+    (text : List ℕ)
+    × ArePlayed steps old new told then_told text
+    × Writes before held now then_held text
+
+-- all steps of a scene were played, and what they print was written
+abbrev pub WritesAll : Scene → Option (List ℕ) → Option (List ℕ) → Type 0
+WritesAll scene before now = (text : List ℕ) × IsPlayed scene text × Appends before now text
+
+-- how the playing of a scene ended, and what was written; of a scene that stopped nothing is said
+abbrev pub EndsAs : Scene → Option (List ℕ) → Option (List ℕ) → Ended → Type 0
+EndsAs scene before now ended.Clean = WritesAll scene before now
+EndsAs scene before now (ended.Fault fault) = ⊥
+EndsAs scene before now (ended.Stopped fault) = Unit {0}
+
+-- what was written for a text, by how it ended
+abbrev pub IsWritten : List ℕ → Option (List ℕ) → Option (List ℕ) → Ended → Type 0
+IsWritten source before now ended.Clean =
+    (scene : Scene) × MayRead source (Ok scene) × EndsAs scene before now ended.Clean
+IsWritten source before now (ended.Fault fault) =
+    MayRead source (Err (scene_error.Fault fault)) × Appends before now (scene_fault_text fault)
+IsWritten source before now (ended.Stopped fault) =
+    (scene : Scene) × MayRead source (Ok scene) × EndsAs scene before now (ended.Stopped fault)

@@ -1,9 +1,8 @@
 //! The steps of a consumer.
 
 ghost use Rattle.std.specs.Prelude.{OnOk};
-ghost use Rattle.kob_scene_play.specs.Printing.{Tells};
+ghost use Rattle.kob_scene_play.specs.Steps.{Tells, IsConsumerStep};
 ghost use Rattle.kob_scene_play.specs.Scenes.{ConsumerKeeps};
-ghost use Rattle.kob_scene_play.specs.Steps.{IsConsumerStep};
 ghost use Rattle.kob_scene_text.specs.declared.scene.ConsumerStep.TheVariants as consumer_steps;
 
 use crate::consumer_worker::ConsumerWorker;

@@ -5,7 +5,7 @@ ghost use Rattle.std.specs.List.{enumerate_from};
 ghost use Rattle.kob_inbox.specs.Rows.{placed_intake};
 ghost use Rattle.kob_inbox.specs.Run.Move.{Restarted};
 ghost use Rattle.kob_inbox.specs.Run.{start};
-ghost use Rattle.kob_scene_play.specs.Workers.{Consumes, IsConsumerTick, consumer_state};
+ghost use Rattle.kob_scene_play.specs.Steps.{Consumes, IsConsumerTick, consumer_state};
 
 use crate::fault::{PlayFault, line_fault, loses_first, unless};
 use kob_inbox::{Consumer, Inbox, InboxFault, InboxRow, StopReason, Subscription, Tick};
@@ -28,7 +28,7 @@ pub struct ConsumerWorker {
 
 impl Model for ConsumerWorker {
     ghost use Rattle.std.specs.Prelude.{◌≡◌};
-    ghost use Rattle.kob_scene_play.specs.Workers.{Consumer};
+    ghost use Rattle.kob_scene_play.specs.Steps.{Consumer};
 
     ghost Value = { Consumer };
 

@@ -1,7 +1,7 @@
 //! What ends a scene before its last step.
 
 ghost use Rattle.std.specs.Prelude.{◌≡◌, IfOk, IsTrue, OnOk, true};
-ghost use Rattle.kob_scene_play.specs.Workers.{LosesFirst};
+ghost use Rattle.kob_scene_play.specs.Steps.{LosesFirst};
 
 use kob_inbox::InboxFault;
 use kob_lines::{Loss, Lossy, RecordedLine};

@@ -3,9 +3,9 @@
 ghost use Rattle.std.specs.Prelude.{◌≡◌, ◌++◌, OnOk, slice_get};
 ghost use Rattle.kob_router.specs.Line.{one_more};
 ghost use Rattle.std.specs.Option.{option_copied};
-ghost use Rattle.kob_scene_play.specs.Laws.{IsAnswered, IsLaw, breach_text, broken_text, law_text};
-ghost use Rattle.kob_scene_play.specs.Laws.{misplaced_text, name_text, order_text, premise_text, topic_text};
-ghost use Rattle.kob_scene_play.specs.Printing.{Tells};
+ghost use Rattle.kob_scene_play.specs.Stages.{IsAnswered, IsLaw, breach_text, broken_text, law_text};
+ghost use Rattle.kob_scene_play.specs.Stages.{misplaced_text, name_text, order_text, premise_text, topic_text};
+ghost use Rattle.kob_scene_play.specs.Steps.{Tells};
 
 use crate::consumer_worker::ConsumerWorker;
 use crate::fault::PlayFault;

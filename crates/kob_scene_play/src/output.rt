@@ -4,7 +4,7 @@ ghost use Rattle.std.specs.Fmt.{decimal};
 ghost use Rattle.std.specs.Prelude.{◌≡◌, ◌++◌, [], IfOk, OnOk, take};
 ghost use Rattle.std.specs.Io.KnownBytes.{Appends};
 ghost use Rattle.kob_router.specs.Line.{one_more};
-ghost use Rattle.kob_scene_play.specs.Printing.{Writes};
+ghost use Rattle.kob_scene_play.specs.Steps.{Writes};
 ghost use Rattle.kob_script.specs.Printed.{stopped_text};
 
 use crate::fault::PlayFault;

@@ -2,10 +2,10 @@
 
 ghost use Rattle.std.specs.Prelude.{◌≡◌, ◌++◌, [], IfOk, OnOk};
 ghost use Rattle.kob_router.specs.Line.{one_more};
-ghost use Rattle.kob_scene_play.specs.Printing.{Tells};
+ghost use Rattle.kob_scene_play.specs.Steps.{Tells};
 ghost use Rattle.kob_scene_play.specs.Scenes.{ConsumerKeeps, IsRead, IsServed, IsStep};
 ghost use Rattle.kob_scene_play.specs.Scenes.{OthersStay, ServiceKeeps};
-ghost use Rattle.kob_scene_play.specs.Texts.{EndsAs, WritesAll, WritesSteps};
+ghost use Rattle.kob_scene_play.specs.Scenes.{EndsAs, WritesAll, WritesSteps};
 ghost use Rattle.kob_script.specs.Printed.{reply_text};
 ghost use Rattle.kob_shared.specs.Journals.{after_event, outcome_of};
 

@@ -1,9 +1,8 @@
 //! The steps of a service.
 
 ghost use Rattle.std.specs.Prelude.{◌≡◌, IfOk, OnOk};
-ghost use Rattle.kob_scene_play.specs.Printing.{Tells};
+ghost use Rattle.kob_scene_play.specs.Steps.{Tells, IsServiceStep, IsTold, goes_on_after, loss_for};
 ghost use Rattle.kob_scene_play.specs.Scenes.{ServiceKeeps};
-ghost use Rattle.kob_scene_play.specs.Steps.{IsServiceStep, IsTold, goes_on_after, loss_for};
 ghost use Rattle.kob_scene_text.specs.declared.scene.ServiceStep.TheVariants as service_steps;
 
 use crate::fault::PlayFault;

@@ -8,7 +8,7 @@ ghost use Rattle.kob_outbox.specs.Fields.{first_bad};
 ghost use Rattle.kob_outbox.specs.Reading.{first_after, state_at, up_to};
 ghost use Rattle.kob_outbox.specs.Recording.{is_recorded, next_seq};
 ghost use Rattle.kob_router.specs.Run.Move.{Recorded as RecordedMove, Restarted, Swept};
-ghost use Rattle.kob_scene_play.specs.Workers.{Does, IsServiceTick};
+ghost use Rattle.kob_scene_play.specs.Steps.{Does, IsServiceTick};
 
 use crate::fault::{PlayFault, line_fault, loses_first, unless};
 use kob_lines::{Loss, Lossy, RecordedLine};
@@ -34,7 +34,7 @@ impl Model for ServiceWorker {
     ghost use Rattle.std.specs.Prelude.{option_map};
     ghost use Rattle.kob_outbox.specs.Contents.{contents_code};
     ghost use Rattle.kob_router.specs.Tick.{IsFirst, hand_of};
-    ghost use Rattle.kob_scene_play.specs.Workers.{Service};
+    ghost use Rattle.kob_scene_play.specs.Steps.{Service};
 
     ghost Value = { Service };
 

@@ -2,9 +2,9 @@
 
 ghost use Rattle.std.specs.Prelude.{◌≡◌, IfOk, OnOk};
 ghost use Rattle.std.specs.Io.KnownBytes.{Appends};
-ghost use Rattle.kob_scene_play.specs.Texts.{IsWritten};
+ghost use Rattle.kob_scene_play.specs.Scenes.{IsWritten};
 ghost use Rattle.kob_scene_play.specs.declared.text.Ended.TheVariants as ended;
-ghost use Rattle.kob_scene_text.specs.PrintedFault.{scene_fault_text};
+ghost use Rattle.kob_scene_text.specs.Reading.{scene_fault_text};
 
 use crate::fault::PlayFault;
 use crate::playing::play;

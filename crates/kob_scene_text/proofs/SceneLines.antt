@@ -5,8 +5,7 @@ use Rattle.kob_script.specs.declared.fault.LineError.TheVariants as line_error
 use Rattle.kob_script.specs.Reading.{Fails as ScriptFails}
 use Rattle.kob_scene_text.specs.declared.fault.SceneFault as fault
 use Rattle.kob_scene_text.specs.declared.reading.Reading as code
-use Rattle.kob_scene_text.specs.SceneReadings.{LinesFrom}
-use Rattle.kob_scene_text.specs.Scenes.{with_line}
+use Rattle.kob_scene_text.specs.Scenes.{LinesFrom, with_line}
 
 -- What the lines that are left may be read as, the text may be.
 abbrev pub Leads : List ℕ → Seen → ℕ → List (List ℕ) → Type 0

@@ -4,8 +4,7 @@ use Rattle.kob_script.specs.declared.fault.Fault as script_fault
 use Rattle.kob_script.specs.declared.fault.FaultKind as script_kind
 use Rattle.kob_script.specs.Script as script
 use Rattle.kob_scene_text.specs.declared.fault.SceneFaultKind.TheVariants as kinds
-use Rattle.kob_scene_text.specs.SceneReadings.{LinesFrom}
-use Rattle.kob_scene_text.specs.Scenes.{with_line, with_words}
+use Rattle.kob_scene_text.specs.Scenes.{LinesFrom, with_line, with_words}
 
 not_none : (n : ℕ) → (suc n == 0) ≡ false
 not_none n = search (rules, tests)

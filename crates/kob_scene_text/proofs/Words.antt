@@ -3,14 +3,11 @@ pub use Rattle.kob_acl_cli.specs.declared.args.CliArgs.{CliArgs}
 pub use Rattle.kob_names.specs.declared.draft.Draft.{Draft}
 pub use Rattle.kob_names.specs.declared.settings.Settings.{Settings}
 pub use Rattle.kob_rights.specs.declared.event.Event.{Event}
-pub use Rattle.kob_scene_text.specs.Consumers.{place_of}
-pub use Rattle.kob_scene_text.specs.PrintedBindings.{draft_text}
-pub use Rattle.kob_scene_text.specs.PrintedRequest.{record_text}
+pub use Rattle.kob_scene_text.specs.Workers.{place_of}
+pub use Rattle.kob_scene_text.specs.PrintedRequest.{draft_text, record_text}
 pub use Rattle.kob_scene_text.specs.PrintedRows.{inbox_item, outbox_item}
 pub use Rattle.kob_scene_text.specs.Reading.{as_scripts, step_error, ◌>>>◌}
-pub use Rattle.kob_scene_text.specs.SceneReadings.{MayRead, ReadsAs, ReadsLine, ReadsNext, ThenLines, fault_at}
-pub use Rattle.kob_scene_text.specs.Scenes.{Seen, asked, so_far, told, with_head, with_setting, with_words}
-pub use Rattle.kob_scene_text.specs.ScriptScenes.{HasNoWorkerLine, as_line, as_scene, is_request, is_script_line, scene_of}
+pub use Rattle.kob_scene_text.specs.Scenes.{MayRead, ReadsAs, ReadsLine, ReadsNext, ThenLines, fault_at, Seen, asked, so_far, told, with_head, with_setting, with_words, HasNoWorkerLine, as_line, as_scene, is_request, is_script_line, scene_of}
 pub use Rattle.kob_scene_text.specs.Steps.{id_in}
 pub use Rattle.kob_scene_text.specs.declared.fault.SceneFaultKind.{SceneFaultKind}
 pub use Rattle.kob_scene_text.specs.declared.fault.SceneFaultKind.TheVariants.{BadId}

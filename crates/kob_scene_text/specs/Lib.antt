@@ -1,15 +1,6 @@
-pub mod Consumers
-pub mod Heads
-pub mod Names
-pub mod PrintedBindings
-pub mod PrintedFault
 pub mod PrintedRequest
 pub mod PrintedRows
-pub mod PrintedTick
 pub mod Reading
-pub mod Remark
 pub mod Scenes
-pub mod SceneReadings
-pub mod ScriptScenes
-pub mod Services
 pub mod Steps
+pub mod Workers

@@ -1,12 +1,23 @@
 -- How the rows of an outbox and of an inbox are printed.
-use Rattle.std.specs.Prelude.{ℕ, List, ◌++◌, codes, length, Option, Some, None, flat_map, string_bytes}
+use Rattle.std.specs.Prelude.{ℕ, List, ◌++◌, codes, length, Option, Some, None, flat_map, string_bytes, Result, Ok, Err}
 use Rattle.std.specs.Fmt.{decimal}
 use Rattle.kob_inbox.specs.declared.inbox_row.InboxRow.{InboxRow}
 use Rattle.kob_outbox.specs.declared.event.OutboxEvent.{OutboxEvent}
 use Rattle.kob_outbox.specs.declared.event.Row.{Row}
 use Rattle.kob_outbox.specs.Events.{id_text}
-use Rattle.kob_script.specs.Printed.{key_text}
+use Rattle.kob_script.specs.Printed.{key_text, outcome_text}
 use Rattle.kob_words.specs.PrintedText.{bytes_text}
+use Rattle.kob_inbox.specs.declared.tick.Tick.{Tick as ConsumerTick}
+use Rattle.kob_outbox.specs.declared.fault.RecordFault.{RecordFault}
+use Rattle.kob_outbox.specs.declared.fault.RecordFault.TheVariants.{BadField, DuplicateId, Memory, Store}
+use Rattle.kob_outbox.specs.declared.fields.Column.{Column}
+use Rattle.kob_rights.specs.declared.reply.Reply.TheVariants.{Denied, Refused}
+use Rattle.kob_router.specs.declared.tick.Tick.{Tick as ServiceTick}
+use Rattle.kob_inbox.specs.declared.tick.StopReason.TheVariants as consumer_stop
+use Rattle.kob_inbox.specs.declared.tick.Tick.TheVariants as consumer_tick
+use Rattle.kob_outbox.specs.declared.fields.Column.TheVariants as columns
+use Rattle.kob_router.specs.declared.tick.StopReason.TheVariants as service_stop
+use Rattle.kob_router.specs.declared.tick.Tick.TheVariants as service_tick
 
 -- a text after a space
 abbrev pub spaced : List ℕ → List ℕ
@@ -60,3 +71,54 @@ inbox_text number rows =
 abbrev pub state_text : ℕ → Option (List ℕ) → List ℕ
 state_text number None = decimal number ++ codes " ok no-state\n"
 state_text number (Some state) = decimal number ++ codes " ok state" ++ spaced state ++ codes "\n"
+
+-- How the answers to steps are printed.
+
+-- a text that no column takes, by the column's name in the tables
+abbrev pub bad_field_text : Column → List ℕ
+bad_field_text columns.Kind = codes " refused BadField kind"
+bad_field_text columns.Id = codes " refused BadField key"
+bad_field_text columns.State = codes " refused BadField state"
+bad_field_text columns.AggregateType = codes " refused BadField aggregatetype"
+bad_field_text columns.AggregateId = codes " refused BadField aggregateid"
+bad_field_text columns.Type = codes " refused BadField type"
+bad_field_text columns.Payload = codes " refused BadField payload"
+
+-- a record that was made with its number, or why it was not
+abbrev pub recorded_text : Result ℕ RecordFault → List ℕ
+recorded_text (Ok seq) = codes " ok recorded " ++ decimal seq
+recorded_text (Err (BadField column)) = bad_field_text column
+recorded_text (Err DuplicateId) = codes " refused DuplicateId"
+recorded_text (Err Memory) = codes " stopped memory"
+recorded_text (Err Store) = codes " stopped store"
+
+-- what a tick of a service came to
+abbrev pub service_tick_text : ServiceTick → List ℕ
+service_tick_text (service_tick.Moved seq) = codes " moved " ++ decimal seq
+service_tick_text service_tick.Idle = codes " idle"
+service_tick_text service_tick.Repeat = codes " repeat"
+service_tick_text (service_tick.Stopped (service_stop.Denied code verdicts)) =
+    codes " stopped" ++ outcome_text (Denied code verdicts)
+service_tick_text (service_tick.Stopped (service_stop.Refused code reason)) =
+    codes " stopped" ++ outcome_text (Refused code reason)
+service_tick_text (service_tick.Stopped service_stop.BadTopic) = codes " stopped bad-topic"
+service_tick_text (service_tick.Stopped service_stop.Memory) = codes " stopped memory"
+service_tick_text (service_tick.Stopped service_stop.Store) = codes " stopped store"
+
+-- what a tick of a consumer came to
+abbrev pub consumer_tick_text : ConsumerTick → List ℕ
+consumer_tick_text (consumer_tick.Placed position) = codes " placed " ++ decimal position
+consumer_tick_text (consumer_tick.Took count) = codes " took " ++ decimal count
+consumer_tick_text consumer_tick.Committed = codes " committed"
+consumer_tick_text consumer_tick.Idle = codes " idle"
+consumer_tick_text consumer_tick.Repeat = codes " repeat"
+consumer_tick_text (consumer_tick.Stopped (consumer_stop.Denied code verdicts)) =
+    codes " stopped" ++ outcome_text (Denied code verdicts)
+consumer_tick_text (consumer_tick.Stopped (consumer_stop.Refused code reason)) =
+    codes " stopped" ++ outcome_text (Refused code reason)
+consumer_tick_text (consumer_tick.Stopped consumer_stop.Memory) = codes " stopped memory"
+consumer_tick_text (consumer_tick.Stopped consumer_stop.Store) = codes " stopped store"
+
+-- a line of output
+abbrev pub numbered : ℕ → List ℕ → List ℕ
+numbered number text = decimal number ++ text ++ codes "\n"

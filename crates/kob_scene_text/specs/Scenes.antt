@@ -1,32 +1,39 @@
 -- A scene: settings, workers, and steps, a line each.
-use Rattle.std.specs.Prelude.{ℕ, ◌+◌, Bool, ◌&&◌, ◌==◌, List, [], ◌∷◌, ◌++◌, Option, Some, Result, Ok, Err, length, map, if◌then◌else◌}
+use Rattle.std.specs.Prelude.{ℕ, ◌+◌, Bool, ◌&&◌, ◌==◌, List, [], ◌∷◌, ◌++◌, Option, Some, Result, Ok, Err, length, map, if◌then◌else◌, ◌≡◌, true, false, None}
 use Rattle.kob_acl_cli.specs.declared.args.CliArgs.{CliArgs}
 use Rattle.kob_names.specs.declared.settings.Settings.{Settings}
 use Rattle.kob_rights.specs.declared.event.Event.{Event}
 use Rattle.kob_script.specs.CommandLines.{events_of}
 use Rattle.kob_script.specs.declared.fault.FaultKind.TheVariants.{LateSetting}
-use Rattle.kob_script.specs.Script.{no_settings, settings_with}
+use Rattle.kob_script.specs.Script.{no_settings, settings_with, lines_in, IsAnswerToLine, is_setting}
 use Rattle.kob_script.specs.Words.{Word, words_of}
 use Rattle.kob_scene_text.specs.declared.consumer_lines.DeclaredConsumer.{DeclaredConsumer}
 use Rattle.kob_scene_text.specs.declared.fault.SceneFaultKind.{SceneFaultKind}
-use Rattle.kob_scene_text.specs.declared.fault.SceneFaultKind.TheVariants.{Script, UnknownWorker}
 use Rattle.kob_scene_text.specs.declared.name.Worker.{Worker}
-use Rattle.kob_scene_text.specs.declared.name.Worker.TheVariants as workers
 use Rattle.kob_scene_text.specs.declared.line.Head.{Head}
-use Rattle.kob_scene_text.specs.declared.line.Head.TheVariants as heads
 use Rattle.kob_scene_text.specs.declared.reading.Reading.{Reading}
 use Rattle.kob_scene_text.specs.declared.scene.Consumer.{Consumer}
 use Rattle.kob_scene_text.specs.declared.scene.Scene.{Scene}
 use Rattle.kob_scene_text.specs.declared.scene.Service.{Service}
 use Rattle.kob_scene_text.specs.declared.scene.Step.{Step}
-use Rattle.kob_scene_text.specs.declared.scene.Step.TheVariants as step_forms
 use Rattle.kob_scene_text.specs.declared.service_lines.DeclaredService.{DeclaredService}
-use Rattle.kob_scene_text.specs.Consumers.{consumer_of}
-use Rattle.kob_scene_text.specs.Heads.{head_of}
-use Rattle.kob_scene_text.specs.Names.{consumer_named, new_name, service_named, worker_named}
-use Rattle.kob_scene_text.specs.Reading.{◌>>>◌, as_scripts, bad_line}
-use Rattle.kob_scene_text.specs.Services.{service_of}
-use Rattle.kob_scene_text.specs.Steps.{ServiceTold, consumer_step_of, service_step_of, service_told}
+use Rattle.kob_scene_text.specs.Workers.{consumer_of, consumer_named, new_name, service_named, worker_named, service_of}
+use Rattle.kob_scene_text.specs.Steps.{head_of, ServiceTold, consumer_step_of, service_step_of, service_told, head_by_word}
+use Rattle.kob_scene_text.specs.Reading.{◌>>>◌, as_scripts, bad_line, Fails}
+use Rattle.kob_scene_text.specs.declared.fault.SceneError.{SceneError}
+use Rattle.kob_scene_text.specs.declared.fault.SceneFault.{SceneFault}
+use Rattle.kob_scene_text.specs.declared.fault.StepError.{StepError}
+use Rattle.std.specs.List.{list_all}
+use Rattle.kob_script.specs.declared.fault.Fault.{Fault}
+use Rattle.kob_script.specs.declared.fault.FaultKind.{FaultKind}
+use Rattle.kob_script.specs.declared.script.Script.{Script}
+use Rattle.kob_scene_text.specs.declared.line.Head.TheVariants.{Request}
+use Rattle.kob_scene_text.specs.declared.name.Worker.TheVariants as workers
+use Rattle.kob_scene_text.specs.declared.line.Head.TheVariants as heads
+use Rattle.kob_scene_text.specs.declared.scene.Step.TheVariants as step_forms
+use Rattle.kob_scene_text.specs.declared.fault.SceneError.TheVariants as scene_error
+use Rattle.kob_scene_text.specs.declared.fault.StepError.TheVariants as step_error
+use Rattle.kob_scene_text.specs.declared.fault.SceneFaultKind.TheVariants as kinds
 
 -- a step as it is seen: of a service by the texts that it writes, else as it is
 pub data Told : Type 0 where
@@ -79,7 +86,7 @@ with_setting s first arguments =
     if is_early s then
     (as_scripts (settings_with s.settings first arguments)
     >>> λ settings. Ok (record s { settings = settings }))
-    else Err (Script LateSetting)
+    else Err (kinds.Script LateSetting)
 
 -- workers have numbers from 1 on, services and consumers counted together
 abbrev pub next_worker : Seen → ℕ
@@ -127,7 +134,7 @@ with_journal s (word ∷ words) = Err bad_line
 abbrev pub with_law_of : Seen → Option ℕ → Option ℕ → Result Seen SceneFaultKind
 with_law_of s (Some service) (Some consumer) =
     Ok (with_steps s (Plain (step_forms.Law service consumer) ∷ []))
-with_law_of s _ _ = Err UnknownWorker
+with_law_of s _ _ = Err kinds.UnknownWorker
 
 -- law SERVICE CONSUMER
 abbrev pub with_law : Seen → List Word → Result Seen SceneFaultKind
@@ -161,7 +168,7 @@ with_head answer heads.Consumer s first rest = with_consumer s rest
 with_head answer heads.Journal s first rest = with_journal s rest
 with_head answer heads.Law s first rest = with_law s rest
 with_head answer (heads.Of worker) s first rest = with_step s worker rest
-with_head answer heads.Unknown s first rest = Err UnknownWorker
+with_head answer heads.Unknown s first rest = Err kinds.UnknownWorker
 with_head answer heads.Request s first rest = with_requests answer s (first ∷ rest)
 
 -- the scene with a line more; a skipped line has no words
@@ -173,3 +180,85 @@ with_words answer s (first ∷ rest) =
 
 unfoldable pub with_line : Option CliArgs → Seen → List ℕ → Result Seen SceneFaultKind
 with_line answer s line = as_scripts (words_of line) >>> with_words answer s
+
+-- What bytes may be read as, by what clap may answer to their `acl` lines.
+
+-- What is read so far is what reading gives, unless memory ran out.
+abbrev pub ReadsNext : Reading → Result (Unit {0}) StepError → Result Seen SceneFaultKind → Type 0
+ReadsNext reading (Ok done) read = read ≡ Ok (so_far reading)
+ReadsNext reading (Err error) read = Fails error read
+
+-- with a line more, the scene may be this
+abbrev pub LineReadsAs : Seen → List ℕ → Result Seen SceneFaultKind → Type 0
+LineReadsAs s line read =
+    (answer : Option CliArgs) × IsAnswerToLine (words_of line) answer
+    × (with_line answer s line ≡ read)
+
+-- A line more was read with an answer that clap may give, unless memory ran out.
+abbrev pub ReadsLine : Seen → List ℕ → Reading → Result (Unit {0}) StepError → Type 0
+ReadsLine s line reading (Ok done) = LineReadsAs s line (Ok (so_far reading))
+ReadsLine s line reading (Err step_error.Memory) = Unit {0}
+ReadsLine s line reading (Err (step_error.Fault kind)) = LineReadsAs s line (Err kind)
+
+-- the lines after one may be read as this, unless that one has a fault
+abbrev pub ThenLines : ℕ → Result Seen SceneFaultKind → (Seen → Type 0)
+    → Result Seen SceneFault → Type 0
+ThenLines number (Ok s) Others read = Others s
+ThenLines number (Err kind) Others read = read ≡ Err (record { line = number; kind = kind })
+
+-- the lines from one on, whose number is given, may be read as this
+unfoldable pub LinesFrom : Seen → ℕ → List (List ℕ) → Result Seen SceneFault → Type 0
+LinesFrom s number [] read = read ≡ Ok s
+LinesFrom s number (line ∷ lines) read =
+    (first : Result Seen SceneFaultKind) × LineReadsAs s line first
+    × ThenLines number first (λ next. LinesFrom next (number + 1) lines read) read
+
+-- The bytes may be read as this scene, or as having this first fault, with lines counted from 1.
+abbrev pub ReadsAs : List ℕ → Result Seen SceneFault → Type 0
+ReadsAs text read = LinesFrom nothing_yet 1 (lines_in text) read
+
+-- A scene was read as its bytes may be, unless memory ran out.
+abbrev pub MayRead : List ℕ → Result Scene SceneError → Type 0
+MayRead text (Ok scene) = ReadsAs text (Ok (seen scene))
+MayRead text (Err scene_error.Memory) = Unit {0}
+MayRead text (Err (scene_error.Fault fault)) = ReadsAs text (Err fault)
+
+-- what was wrong, with the number of its line
+abbrev pub fault_at : ℕ → StepError → SceneError
+fault_at line step_error.Memory = scene_error.Memory
+fault_at line (step_error.Fault kind) = scene_error.Fault (record { line = line; kind = kind })
+
+-- Scripts as scenes.
+
+abbrev pub is_request : Head → Bool
+is_request Request = true
+is_request _ = false
+
+-- a line of a script: a setting, or no line of a worker where none is declared
+abbrev pub is_script_line : Result (List Word) FaultKind → Bool
+is_script_line (Ok []) = true
+is_script_line (Ok (first ∷ rest)) =
+    if is_setting first then true else is_request (head_by_word None first.decoded rest)
+is_script_line (Err kind) = true
+
+-- No line of the bytes is a worker's.
+abbrev pub HasNoWorkerLine : List ℕ → Type 0
+HasNoWorkerLine text = list_all (λ line. is_script_line (words_of line)) (lines_in text) ≡ true
+
+-- a script as a scene without workers
+abbrev pub scene_of : Script → Seen
+scene_of script = record {
+  settings = script.settings;
+  services = [];
+  consumers = [];
+  steps = map asked script.events;
+}
+
+-- what is read as a script, as what is read as a scene
+abbrev pub as_line : Result Script FaultKind → Result Seen SceneFaultKind
+as_line (Ok script) = Ok (scene_of script)
+as_line (Err fault) = Err (kinds.Script fault)
+
+abbrev pub as_scene : Result Script Fault → Result Seen SceneFault
+as_scene (Ok script) = Ok (scene_of script)
+as_scene (Err fault) = Err (record { line = fault.line; kind = kinds.Script fault.kind })

@@ -3,8 +3,8 @@
 ghost use Rattle.std.specs.Prelude.{◌≡◌};
 ghost use Rattle.std.specs.Option.{option_map};
 ghost use Rattle.kob_script.specs.Reading.{Gives, each};
-ghost use Rattle.kob_scene_text.specs.Consumers.{consumer_of, consumer_with, cut, place_in};
-ghost use Rattle.kob_scene_text.specs.Consumers.{place_of, places_of, subscription_of};
+ghost use Rattle.kob_scene_text.specs.Workers.{consumer_of, consumer_with, cut, place_in};
+ghost use Rattle.kob_scene_text.specs.Workers.{place_of, places_of, subscription_of};
 
 use crate::name::{Who, who_of};
 use bstr::ByteSlice;
@@ -101,7 +101,7 @@ fn place_by(alloc: Global, topic: &[u8], partition: &[u8]) -> Result<Place, Line
     Ok(Place { topic, partition })
 }
 
-#[tactic(auto, unfolding(crate::specs::Consumers::cut))]
+#[tactic(auto, unfolding(crate::specs::Workers::cut))]
 fn cut(word: &[u8]) -> Option<(&[u8], &[u8])>
     ensures { option_map (λ parts. (parts.0.now, parts.1.now)) result ≡ cut word.now }
 {

@@ -4,8 +4,7 @@ ghost use Rattle.std.specs.Prelude.{ℕ, List, Result};
 ghost use Rattle.kob_script.specs.declared.fault.Fault.{Fault};
 ghost use Rattle.kob_script.specs.declared.script.Script.{Script};
 ghost use Rattle.kob_script.specs.Script.{ReadsAs as ReadsAsScript};
-ghost use Rattle.kob_scene_text.specs.SceneReadings.{ReadsAs};
-ghost use Rattle.kob_scene_text.specs.ScriptScenes.{HasNoWorkerLine, as_scene};
+ghost use Rattle.kob_scene_text.specs.Scenes.{ReadsAs, HasNoWorkerLine, as_scene};
 
 /// What a text without lines of workers may be read as by `kob_script`, a script or its first fault,
 /// it may be read as by `read_scene`.

@@ -1,9 +1,8 @@
 //! The reader of a line of a scene.
 
 ghost use Rattle.std.specs.Prelude.{◌≡◌, ◌++◌, map, IfOk, OnOk};
-ghost use Rattle.kob_scene_text.specs.Heads.{asks_step, head_by, head_by_word, head_named};
-ghost use Rattle.kob_scene_text.specs.Heads.{head_of};
-ghost use Rattle.kob_scene_text.specs.SceneReadings.{ReadsLine, ReadsNext};
+ghost use Rattle.kob_scene_text.specs.Steps.{asks_step, head_by, head_by_word, head_named, head_of};
+ghost use Rattle.kob_scene_text.specs.Scenes.{ReadsLine, ReadsNext};
 ghost use Rattle.kob_scene_text.specs.Scenes.{asked, is_early, next_worker, so_far, told};
 ghost use Rattle.kob_scene_text.specs.Scenes.{consumer_at, service_at};
 ghost use Rattle.kob_scene_text.specs.Scenes.{with_consumer, with_head, with_journal, with_law};

@@ -2,8 +2,8 @@
 
 ghost use Rattle.std.specs.Prelude.{◌≡◌};
 ghost use Rattle.kob_script.specs.Reading.{Gives as ScriptGives};
-ghost use Rattle.kob_scene_text.specs.Names.{consumer_named, is_keyword, is_name, is_name_byte};
-ghost use Rattle.kob_scene_text.specs.Names.{new_name, service_named, who_of, worker_named};
+ghost use Rattle.kob_scene_text.specs.Workers.{consumer_named, is_keyword, is_name, is_name_byte};
+ghost use Rattle.kob_scene_text.specs.Workers.{new_name, service_named, who_of, worker_named};
 ghost use Rattle.kob_scene_text.specs.Reading.{Gives};
 ghost use Rattle.std.specs.List.{list_all};
 

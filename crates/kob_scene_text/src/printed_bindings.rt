@@ -1,10 +1,10 @@
 //! How the bindings of a creation and the filters of bindings are printed.
 
 ghost use Rattle.std.specs.Prelude.{◌≡◌, ◌++◌, OnOk, flat_map};
-ghost use Rattle.kob_scene_text.specs.PrintedBindings.{asked_grant, asked_target, draft_text};
-ghost use Rattle.kob_scene_text.specs.PrintedBindings.{filter_text, grant_text, operation_text};
-ghost use Rattle.kob_scene_text.specs.PrintedBindings.{or_dash, pattern_text, permission_text};
-ghost use Rattle.kob_scene_text.specs.PrintedBindings.{resource_text, target_text, worded};
+ghost use Rattle.kob_scene_text.specs.PrintedRequest.{asked_grant, asked_target, draft_text};
+ghost use Rattle.kob_scene_text.specs.PrintedRequest.{filter_text, grant_text, operation_text};
+ghost use Rattle.kob_scene_text.specs.PrintedRequest.{or_dash, pattern_text, permission_text};
+ghost use Rattle.kob_scene_text.specs.PrintedRequest.{resource_text, target_text, worded};
 ghost use Rattle.kob_scene_text.specs.PrintedRows.{spaced};
 
 use crate::printed_rows::push_spaced;

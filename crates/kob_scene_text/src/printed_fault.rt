@@ -1,7 +1,7 @@
 //! How a scene's fault is printed, and what is reported about it to a person.
 
 ghost use Rattle.std.specs.Prelude.{◌≡◌, ◌++◌, OnOk};
-ghost use Rattle.kob_scene_text.specs.PrintedFault.{kind_text, scene_fault_text};
+ghost use Rattle.kob_scene_text.specs.Reading.{kind_text, scene_fault_text};
 
 use crate::fault::{SceneFault, SceneFaultKind};
 use kob_script::{Fault, print_fault};

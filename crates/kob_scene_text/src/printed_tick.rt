@@ -2,8 +2,8 @@
 
 ghost use Rattle.std.specs.Prelude.{◌≡◌, ◌++◌, OnOk, codes};
 ghost use Rattle.std.specs.Fmt.{decimal};
-ghost use Rattle.kob_scene_text.specs.PrintedTick.{bad_field_text, consumer_tick_text, numbered};
-ghost use Rattle.kob_scene_text.specs.PrintedTick.{recorded_text, service_tick_text};
+ghost use Rattle.kob_scene_text.specs.PrintedRows.{bad_field_text, consumer_tick_text, numbered};
+ghost use Rattle.kob_scene_text.specs.PrintedRows.{recorded_text, service_tick_text};
 
 use kob_outbox::{Column, RecordFault};
 use kob_rights::Reply;

@@ -1,6 +1,6 @@
 //! The reader of a scene. Every line is read before the first step is played.
 
-ghost use Rattle.kob_scene_text.specs.SceneReadings.{MayRead};
+ghost use Rattle.kob_scene_text.specs.Scenes.{MayRead};
 
 use crate::fault::{SceneError, SceneFault, StepError};
 use crate::line::read_line;
@@ -47,7 +47,7 @@ pub fn read_scene(alloc: Global, text: &[u8]) -> Result<Scene, SceneError>
 }
 
 ghost use Rattle.std.specs.Prelude.{◌≡◌};
-ghost use Rattle.kob_scene_text.specs.SceneReadings.{fault_at};
+ghost use Rattle.kob_scene_text.specs.Scenes.{fault_at};
 
 fn fault_at(error: StepError, line: u64) -> SceneError
     ensures { result ≡ fault_at line error }

@@ -1,8 +1,8 @@
 //! What is reported about a scene's fault to a person.
 
 ghost use Rattle.std.specs.Prelude.{◌≡◌, ◌++◌, OnOk};
-ghost use Rattle.kob_scene_text.specs.Remark.{begins_with_mark, remark_text, script_sentence};
-ghost use Rattle.kob_scene_text.specs.Remark.{sentence, sentence_of};
+ghost use Rattle.kob_scene_text.specs.Reading.{begins_with_mark, remark_text, script_sentence};
+ghost use Rattle.kob_scene_text.specs.Reading.{sentence, sentence_of};
 
 use crate::fault::{SceneFault, SceneFaultKind};
 use bstr::ByteSlice;

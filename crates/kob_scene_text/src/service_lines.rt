@@ -3,9 +3,9 @@
 ghost use Rattle.std.specs.Prelude.{◌≤◌, IfOk};
 ghost use Rattle.kob_script.specs.Reading.{Gives as ScriptGives, GivesSeen as ScriptGivesSeen};
 ghost use Rattle.kob_scene_text.specs.Reading.{Gives};
-ghost use Rattle.kob_scene_text.specs.Services.{by_first, by_named, declared_route, partitions_of};
-ghost use Rattle.kob_scene_text.specs.Services.{route_of, service_of, service_with, settings_of};
-ghost use Rattle.kob_scene_text.specs.Services.{text_first};
+ghost use Rattle.kob_scene_text.specs.Workers.{by_first, by_named, declared_route, partitions_of};
+ghost use Rattle.kob_scene_text.specs.Workers.{route_of, service_of, service_with, settings_of};
+ghost use Rattle.kob_scene_text.specs.Workers.{text_first};
 
 use crate::fault::{SceneFaultKind, StepError};
 use crate::name::{Who, who_of};
