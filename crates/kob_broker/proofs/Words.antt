@@ -1,7 +1,7 @@
 -- The names that the lemmas cite, passed on from one place.
 pub use Rattle.indexmap.specs.IndexMap.{insert_entry}
-pub use Rattle.kob_authorizer.proofs.InTurn.{added_rises}
-pub use Rattle.kob_authorizer.proofs.Rising.{removed_rises}
+pub use Rattle.kob_authorizer.proofs.Creating.{added_rises}
+pub use Rattle.kob_authorizer.proofs.Entries.{removed_rises}
 pub use Rattle.kob_authorizer.proofs.Verdicts.{true_verdict}
 pub use Rattle.kob_authorizer.specs.Contents.{Contents, IsRising}
 pub use Rattle.kob_authorizer.specs.Creation.{Added, add_one}

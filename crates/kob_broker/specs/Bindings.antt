@@ -1,8 +1,7 @@
 -- The creation of bindings.
 use Rattle.std.specs.Prelude.{◌≡◌, ◌==◌, ℕ, Bool, true, nat_lt, List, [], ◌∷◌, ◌++◌, Option, Some, None, length}
 use Rattle.std.specs.List.{flat_map}
-use Rattle.kob_authorizer.specs.Creation.{addition}
-use Rattle.kob_authorizer.specs.Passing.{create_fault}
+use Rattle.kob_authorizer.specs.Creation.{addition, create_fault}
 use Rattle.kob_authorizer.specs.declared.fault.CreateFault.{CreateFault}
 use Rattle.kob_authorizer.specs.declared.fault.CreateFault.TheVariants as limits
 use Rattle.kob_names.specs.BindingRules.{is_bad_cluster}

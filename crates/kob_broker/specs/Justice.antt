@@ -2,7 +2,7 @@
 use Rattle.std.specs.Prelude.{◌≡◌, ◌↔◌, ◌⊎◌, ◌+◌, ℕ, Bool, true, false, IsTrue, List, [], ◌∷◌, Option, Some, None, length, map, slice_get, take}
 use Rattle.std.specs.List.{AllByRecursion, AllZip}
 use Rattle.kob_authorizer.specs.Deletion.{without_taken}
-use Rattle.kob_authorizer.specs.Meaning.{IsTrueVerdict}
+use Rattle.kob_authorizer.specs.Decide.{IsTrueVerdict}
 use Rattle.kob_groups.specs.Groups.{group_names}
 use Rattle.kob_rights.specs.Requests.{AddBindings, Append, GiveProducerId, RemoveBindings, Write, write_of}
 pub use Rattle.kob_rights.specs.declared.code.Code.{Code}

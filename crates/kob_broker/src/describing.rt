@@ -1,8 +1,7 @@
 //! Which names a principal may describe.
 
 ghost use Rattle.std.specs.Prelude.{◌≡◌};
-ghost use Rattle.kob_authorizer.specs.Decide.{decide};
-ghost use Rattle.kob_authorizer.specs.Question.{question_of};
+ghost use Rattle.kob_authorizer.specs.Decide.{decide, question_of};
 ghost use Rattle.kob_names.specs.Granted.{is_granted};
 ghost use Rattle.kob_broker.specs.Denial.{describes_cluster, describes_group, describes_topic};
 

@@ -79,11 +79,9 @@ impl Fetcher {
     ghost use Rattle.std.specs.Prelude.{true, false};
     ghost use Rattle.std.specs.List.{All};
     ghost use Rattle.kob_names.specs.declared.record.Record.{Record};
-    ghost use Rattle.kob_rights.specs.Bodies.{IsBodyOf};
-    ghost use Rattle.kob_rights.specs.Offsets.{BodyWithin, greatest_offset};
+    ghost use Rattle.kob_rights.specs.Requests.{IsBodyOf, BodyWithin, greatest_offset};
     ghost use Rattle.kob_inbox.specs.Contents.{Contents};
-    ghost use Rattle.kob_inbox.specs.Run.{with_progress, cursor_of, standing};
-    ghost use Rattle.kob_inbox.specs.Run.{after_answer, due};
+    ghost use Rattle.kob_inbox.specs.Run.{with_progress, cursor_of, standing, after_answer, due};
     ghost use Rattle.kob_inbox.specs.Tick.{Hears, IsOnTurn, Ticks, scene_of, state_of};
 
     /// One step: one request on the partition that has the turn. Capacity for its cursor is

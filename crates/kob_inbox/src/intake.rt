@@ -3,7 +3,7 @@
 ghost use Rattle.std.specs.Prelude.{◌≡◌, ℕ, ◌<◌, ◌≤◌, None, Some, length, take, IfSome, IfNone};
 ghost use Rattle.std.specs.List.{All};
 ghost use Rattle.kob_names.specs.declared.record.Record.{Record};
-ghost use Rattle.kob_rights.specs.Offsets.{greatest_offset};
+ghost use Rattle.kob_rights.specs.Requests.{greatest_offset};
 ghost use Rattle.kob_inbox.specs.Contents.{arrivals, taken_in};
 ghost use Rattle.kob_inbox.specs.Run.{behind};
 

@@ -2,9 +2,8 @@
 use Rattle.std.specs.Prelude.{◌+◌, ◌&&◌, ◌||◌, not, ℕ, zero, suc, Bool, true, false, List, [], ◌∷◌, ◌++◌, flat_map, length, Option, Some, None, codes, slice_get, unwrap_or, if◌then◌else◌}
 use Rattle.std.specs.Fmt.{decimal}
 use Rattle.std.specs.List.{list_all, list_any}
-use Rattle.kob_authorizer.specs.Decide.{is_hit}
-use Rattle.kob_authorizer.specs.Question as authorizer
-use Rattle.kob_authorizer.specs.Question.{question_of}
+use Rattle.kob_authorizer.specs.Decide.{is_hit, question_of}
+use Rattle.kob_authorizer.specs.Decide as authorizer
 use Rattle.kob_names.specs.Binding.{Binding}
 use Rattle.kob_names.specs.declared.kinds.Operation.TheVariants.{Describe}
 use Rattle.kob_names.specs.declared.kinds.Permission.TheVariants.{Allow}
@@ -13,8 +12,7 @@ use Rattle.kob_names.specs.declared.verdict.Verdict.{Verdict}
 use Rattle.kob_names.specs.declared.verdict.Verdict.TheVariants as verdict
 use Rattle.kob_names.specs.Granted.{is_granted}
 use Rattle.kob_names.specs.Same.{same_permission}
-use Rattle.kob_rights.specs.Check.{Check}
-use Rattle.kob_rights.specs.Table.{rights}
+use Rattle.kob_rights.specs.Table.{Check, rights}
 use Rattle.kob_rights.specs.declared.event.Event.{Event}
 use Rattle.kob_script.specs.Printed.{verdict_text}
 use Rattle.kob_words.specs.Operation.{operation_name}

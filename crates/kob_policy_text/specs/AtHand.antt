@@ -2,7 +2,7 @@
 -- they are first named, and the names of topics that are given.
 use Rattle.std.specs.Prelude.{◌&&◌, Bool, ℕ, List, [], ◌∷◌, ◌++◌, map, flat_map, fold, codes, if◌then◌else◌}
 use Rattle.std.specs.List.{list_any}
-use Rattle.kob_authorizer.specs.Question.{Question, question_of}
+use Rattle.kob_authorizer.specs.Decide.{Question, question_of}
 use Rattle.kob_names.specs.Binding.{Binding}
 use Rattle.kob_names.specs.declared.kinds.Operation.{Operation}
 use Rattle.kob_names.specs.declared.kinds.Operation.TheVariants.{Read, Write, Create, Delete, Alter, Describe, ClusterAction, DescribeConfigs, AlterConfigs, IdempotentWrite}

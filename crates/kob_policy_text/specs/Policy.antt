@@ -19,8 +19,7 @@ use Rattle.kob_policy_text.specs.declared.origin.Omission.{Omission}
 use Rattle.kob_policy_text.specs.Lines.{Says}
 use Rattle.kob_authorizer.specs.Contents.{Contents}
 use Rattle.kob_authorizer.specs.Creation.{Added, addition}
-use Rattle.kob_authorizer.specs.Decide.{decide}
-use Rattle.kob_authorizer.specs.Question.{Question}
+use Rattle.kob_authorizer.specs.Decide.{decide, Question}
 use Rattle.kob_names.specs.declared.verdict.Verdict.{Verdict}
 use Rattle.kob_names.specs.Granted.{is_granted}
 use Rattle.kob_script.specs.declared.fault.ScriptError.TheVariants as script_error

@@ -15,7 +15,7 @@ pub struct Asked<'a> {
 }
 
 impl<'a> Model for Asked<'a> {
-    ghost use Rattle.kob_authorizer.specs.Question as authorizer;
+    ghost use Rattle.kob_authorizer.specs.Decide as authorizer;
 
     ghost Value = { authorizer.Question };
 

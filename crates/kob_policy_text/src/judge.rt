@@ -1,7 +1,7 @@
 //! How a policy decides.
 
 ghost use Rattle.std.specs.Prelude.{◌≡◌, ◌≢◌, ◌<◌, [], IfErr, IfOk, Some, length};
-ghost use Rattle.kob_authorizer.specs.Passing.{create_fault};
+ghost use Rattle.kob_authorizer.specs.Creation.{create_fault};
 ghost use Rattle.kob_policy_text.specs.Policy.{contents_of, deciding, is_yes, may, place_of};
 ghost use Rattle.kob_policy_text.specs.Policy.{serials_of, without};
 

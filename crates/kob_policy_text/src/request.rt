@@ -3,7 +3,7 @@
 ghost use Rattle.std.specs.Prelude.{◌≡◌, ◌++◌, OnOk};
 ghost use Rattle.kob_policy_text.specs.Answers.{are_met, check_text, clause_text, clauses_text};
 ghost use Rattle.kob_policy_text.specs.Answers.{is_clause_met, question_on, request_text};
-ghost use Rattle.kob_rights.specs.Rights.{check_view, clause_view, rights_view};
+ghost use Rattle.kob_rights.specs.Table.{check_view, clause_view, rights_view};
 
 use crate::asked::Asked;
 use crate::judge::Judge;

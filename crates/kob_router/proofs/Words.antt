@@ -2,7 +2,7 @@
 pub use Rattle.kob_names.specs.TopicRules.{is_topic_byte, topic_fault}
 pub use Rattle.kob_outbox.specs.Contents.{Contents, Event, stored_event, stored_row}
 pub use Rattle.kob_outbox.specs.declared.event.OutboxEvent.{OutboxEvent}
-pub use Rattle.kob_producers.specs.Sequence.{next_sequence}
+pub use Rattle.kob_producers.specs.Judge.{next_sequence}
 pub use Rattle.kob_rights.specs.declared.reply.Body.{Body}
 pub use Rattle.kob_rights.specs.declared.reply.Reply.{Reply}
 pub use Rattle.kob_rights.specs.declared.reply.Reply.TheVariants.{Denied, Done, Refused}

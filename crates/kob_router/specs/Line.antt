@@ -1,8 +1,7 @@
 -- What a line tells of its calls, and which of them were served.
 use Rattle.std.specs.Prelude.{◌≡◌, ◌⊎◌, ℕ, ◌+◌, min, List, [], ◌∷◌, ◌++◌, None, Some}
 use Rattle.kob_rights.specs.declared.request.Request.{Request}
-use Rattle.kob_rights.specs.Bodies.{Fits}
-use Rattle.kob_rights.specs.Offsets.{OffsetsWithin}
+use Rattle.kob_rights.specs.Requests.{Fits, OffsetsWithin}
 use Rattle.kob_router.specs.declared.line.Call.{Call}
 use Rattle.kob_router.specs.declared.line.Delivery.{Delivery}
 use Rattle.kob_router.specs.declared.line.Delivery.TheVariants.{Delivered, Lost}

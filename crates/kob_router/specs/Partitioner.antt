@@ -2,7 +2,7 @@
 use Rattle.std.specs.Prelude.{ℕ, ◌+◌, ◌*◌, ◌/◌, ◌%◌, ◌^◌, List, [], ◌∷◌, length, bit_and, bit_xor, Bool, ◌&&◌, ◌==◌, if◌then◌else◌, Option, option_map}
 use Rattle.std.specs.List.{list_any}
 use Rattle.kob_names.specs.Same.{same_text}
-use Rattle.kob_producers.specs.Sequence.{next_sequence}
+use Rattle.kob_producers.specs.Judge.{next_sequence}
 use Rattle.kob_router.specs.declared.place.Place.{Place}
 use Rattle.kob_router.specs.declared.sequences.Sequence.{Sequence}
 use Rattle.kob_outbox.specs.Contents.{Event}

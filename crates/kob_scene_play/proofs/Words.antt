@@ -5,17 +5,13 @@ pub use Rattle.kob_inbox.specs.Tick.{Ticks, scene_of}
 pub use Rattle.kob_inbox.specs.declared.fetcher.Subscription.{Subscription}
 pub use Rattle.kob_inbox.specs.declared.tick.Tick.{Tick}
 pub use Rattle.kob_lines.specs.declared.lossy.Loss.{Loss}
-pub use Rattle.kob_outbox.specs.Contents.{Contents}
-pub use Rattle.kob_outbox.specs.Events.{id_text}
-pub use Rattle.kob_outbox.specs.Fields.{first_bad}
-pub use Rattle.kob_outbox.specs.Reading.{without_sent}
-pub use Rattle.kob_outbox.specs.Recording.{after_record, is_recorded, next_seq}
+pub use Rattle.kob_outbox.specs.Contents.{Contents, id_text, first_bad, without_sent, after_record, is_recorded, next_seq}
 pub use Rattle.kob_outbox.specs.declared.change.Change.{Change}
 pub use Rattle.kob_outbox.specs.declared.event.OutboxEvent.{OutboxEvent}
 pub use Rattle.kob_outbox.specs.declared.fault.OutboxFault.{OutboxFault}
 pub use Rattle.kob_outbox.specs.declared.fault.RecordFault.{RecordFault}
 pub use Rattle.kob_outbox.specs.declared.fields.Column.{Column}
-pub use Rattle.kob_pipeline.proofs.Outboxes.{first_recorded, first_swept}
+pub use Rattle.kob_pipeline.proofs.Rows.{first_recorded, first_swept}
 pub use Rattle.kob_pipeline.specs.Premises.{ArePrivate, IsBreach}
 pub use Rattle.kob_pipeline.specs.declared.premises.Breach.{Breach}
 pub use Rattle.kob_router.specs.Line.{one_more}

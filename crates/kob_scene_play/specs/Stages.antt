@@ -11,7 +11,7 @@ use Rattle.kob_scene_play.specs.declared.stage.PlayedService.{PlayedService}
 use Rattle.kob_scene_play.specs.declared.stage.Stage.{Stage}
 use Rattle.kob_scene_text.specs.declared.scene.Consumer.{Consumer as DeclaredConsumer}
 use Rattle.kob_scene_text.specs.declared.scene.Service.{Service as DeclaredService}
-use Rattle.kob_shared.specs.Openings.{opened_by}
+use Rattle.kob_shared.specs.Journals.{opened_by}
 use Rattle.std.specs.Fmt.{decimal}
 use Rattle.kob_scene_text.specs.PrintedRequest.{entry_text}
 use Rattle.kob_shared.specs.declared.journal.Entry.{Entry}

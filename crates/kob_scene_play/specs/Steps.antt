@@ -3,23 +3,18 @@ use Rattle.std.specs.Io.KnownBytes.{Appends}
 use Rattle.std.specs.Prelude.{◌≡◌, ℕ, List, ◌++◌, Option, [], ◌∷◌, None, Bool, true, false, ◌⊎◌, length, Some, Result, Ok, Err, IsTrue, codes, map}
 use Rattle.kob_router.specs.Line.{one_more}
 use Rattle.kob_scene_text.specs.PrintedRows.{numbered, inbox_text, outbox_text, state_text, consumer_tick_text, recorded_text, service_tick_text}
-use Rattle.kob_inbox.specs.Contents.{Contents as InboxContents}
+use Rattle.kob_inbox.specs.Contents.{Contents as InboxContents, placed_intake}
 use Rattle.kob_inbox.specs.declared.fetcher.Fetcher.{Fetcher}
 use Rattle.kob_inbox.specs.declared.tick.Tick.{Tick as ConsumerAnswer}
 use Rattle.kob_lines.specs.declared.lossy.Loss.{Loss}
-use Rattle.kob_outbox.specs.Contents.{Contents as OutboxContents}
-use Rattle.kob_router.specs.Dispatches.{dispatch_of}
+use Rattle.kob_outbox.specs.Contents.{Contents as OutboxContents, id_text, stored_row, first_bad, first_after, state_at, up_to, is_recorded, next_seq}
+use Rattle.kob_router.specs.Partitioner.{dispatch_of}
 use Rattle.kob_router.specs.declared.line.Call.{Call}
 use Rattle.kob_router.specs.declared.sender.Sender.{Sender}
 use Rattle.kob_router.specs.declared.tick.Tick.{Tick as RouterAnswer}
 use Rattle.std.specs.Fmt.{decimal}
 use Rattle.std.specs.List.{AllByRecursion, enumerate_from}
-use Rattle.kob_inbox.specs.Rows.{placed_intake}
 use Rattle.kob_inbox.specs.declared.inbox_row.InboxRow.{InboxRow}
-use Rattle.kob_outbox.specs.Events.{id_text, stored_row}
-use Rattle.kob_outbox.specs.Fields.{first_bad}
-use Rattle.kob_outbox.specs.Reading.{first_after, state_at, up_to}
-use Rattle.kob_outbox.specs.Recording.{is_recorded, next_seq}
 use Rattle.kob_outbox.specs.declared.event.Row.{Row}
 use Rattle.kob_outbox.specs.declared.change.Change.{Change}
 use Rattle.kob_outbox.specs.declared.event.OutboxEvent.{OutboxEvent}

@@ -2,7 +2,7 @@
 
 ghost use Rattle.std.specs.Prelude.{◌≡◌, [], IfOk, map};
 ghost use Rattle.std.specs.List.{enumerate_from};
-ghost use Rattle.kob_inbox.specs.Rows.{placed_intake};
+ghost use Rattle.kob_inbox.specs.Contents.{placed_intake};
 ghost use Rattle.kob_inbox.specs.Run.Move.{Restarted};
 ghost use Rattle.kob_inbox.specs.Run.{start};
 ghost use Rattle.kob_scene_play.specs.Steps.{Consumes, IsConsumerTick, consumer_state};

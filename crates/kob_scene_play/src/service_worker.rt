@@ -2,11 +2,8 @@
 
 ghost use Rattle.std.specs.Prelude.{◌≡◌, ◌≤◌, [], None, Some, IfOk, IsErrOf, IsTrue, OnErr, OnOk};
 ghost use Rattle.std.specs.Prelude.{length, map, option_map, string_bytes};
-ghost use Rattle.kob_outbox.specs.Contents.{empty};
-ghost use Rattle.kob_outbox.specs.Events.{id_text, stored_row};
-ghost use Rattle.kob_outbox.specs.Fields.{first_bad};
-ghost use Rattle.kob_outbox.specs.Reading.{first_after, state_at, up_to};
-ghost use Rattle.kob_outbox.specs.Recording.{is_recorded, next_seq};
+ghost use Rattle.kob_outbox.specs.Contents.{empty, id_text, stored_row, first_bad};
+ghost use Rattle.kob_outbox.specs.Contents.{first_after, state_at, up_to, is_recorded, next_seq};
 ghost use Rattle.kob_router.specs.Run.Move.{Recorded as RecordedMove, Restarted, Swept};
 ghost use Rattle.kob_scene_play.specs.Steps.{Does, IsServiceTick};
 

@@ -7,7 +7,7 @@ ghost use Rattle.kob_broker.specs.State.{settings_of};
 ghost use Rattle.kob_scene_play.specs.Stages.{IsOpened, declared_consumer, declared_service};
 ghost use Rattle.kob_scene_play.specs.Stages.{consumer_numbered, name_by, service_numbered};
 ghost use Rattle.kob_scene_play.specs.Stages.{named_consumer, named_service, worker_name};
-ghost use Rattle.kob_shared.specs.Openings.{IsFresh, opened_by};
+ghost use Rattle.kob_shared.specs.Journals.{IsFresh, opened_by};
 
 use crate::consumer_worker::ConsumerWorker;
 use crate::fault::PlayFault;

@@ -4,7 +4,7 @@ use Rattle.std.specs.Fmt.{decimal}
 use Rattle.kob_inbox.specs.declared.inbox_row.InboxRow.{InboxRow}
 use Rattle.kob_outbox.specs.declared.event.OutboxEvent.{OutboxEvent}
 use Rattle.kob_outbox.specs.declared.event.Row.{Row}
-use Rattle.kob_outbox.specs.Events.{id_text}
+use Rattle.kob_outbox.specs.Contents.{id_text}
 use Rattle.kob_script.specs.Printed.{key_text, outcome_text}
 use Rattle.kob_words.specs.PrintedText.{bytes_text}
 use Rattle.kob_inbox.specs.declared.tick.Tick.{Tick as ConsumerTick}

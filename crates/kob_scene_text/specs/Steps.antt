@@ -2,8 +2,7 @@
 use Rattle.std.specs.Prelude.{ℕ, Bool, ◌||◌, List, [], ◌∷◌, Option, Some, None, Result, Ok, Err, codes, if◌then◌else◌, string_bytes, false, ◌==◌}
 use Rattle.std.specs.Str.{bytes_eq}
 use Rattle.uuid.specs.Text.{parsed}
-use Rattle.kob_outbox.specs.Contents.{Event, Key}
-use Rattle.kob_outbox.specs.Events.{id_text, key_of, stored_event}
+use Rattle.kob_outbox.specs.Contents.{Event, Key, id_text, key_of, stored_event}
 use Rattle.kob_outbox.specs.declared.change.Change.{Change}
 use Rattle.kob_script.specs.declared.fault.FaultKind.{FaultKind}
 use Rattle.kob_script.specs.declared.fault.FaultKind.TheVariants.{BadLine}

@@ -19,8 +19,7 @@ use Rattle.kob_router.specs.declared.settings.RouteBy.{RouteBy}
 use Rattle.kob_router.specs.declared.settings.RouteBy.TheVariants.{AggregateType, AggregateId}
 use Rattle.kob_router.specs.declared.settings.RouteSettings.{RouteSettings}
 use Rattle.kob_router.specs.declared.settings.Routing.{Routing}
-use Rattle.kob_router.specs.Placement.{entries_of}
-use Rattle.kob_router.specs.Template.{is_template}
+use Rattle.kob_router.specs.Route.{entries_of, is_template}
 use Rattle.kob_script.specs.declared.fault.FaultKind.TheVariants.{BadLine, BadWord}
 use Rattle.kob_scene_text.specs.declared.service_lines.DeclaredRoute.{DeclaredRoute}
 use Rattle.kob_scene_text.specs.declared.service_lines.DeclaredService.{DeclaredService}

@@ -5,7 +5,7 @@ ghost use Rattle.kob_script.specs.Printed.{key_text};
 ghost use Rattle.kob_scene_text.specs.PrintedRows.{counted, event_text, inbox_item, inbox_text};
 ghost use Rattle.kob_scene_text.specs.PrintedRows.{intake_text, outbox_item, outbox_text, spaced};
 ghost use Rattle.kob_scene_text.specs.PrintedRows.{state_text, waiting_text};
-ghost use Rattle.kob_outbox.specs.Events.{id_text};
+ghost use Rattle.kob_outbox.specs.Contents.{id_text};
 
 use kob_inbox::InboxRow;
 use kob_names::Bytes;

@@ -2,7 +2,7 @@
 
 ghost use Rattle.std.specs.Prelude.{◌≡◌, string_bytes};
 ghost use Rattle.uuid.specs.Text.{parsed};
-ghost use Rattle.kob_outbox.specs.Events.{stored_event};
+ghost use Rattle.kob_outbox.specs.Contents.{stored_event};
 ghost use Rattle.kob_script.specs.Reading.{Gives as ScriptGives, GivesSeen as ScriptGivesSeen};
 ghost use Rattle.kob_script.specs.Words.{text_of};
 ghost use Rattle.kob_scene_text.specs.Reading.{Gives, GivesSeen};
@@ -10,8 +10,7 @@ ghost use Rattle.kob_scene_text.specs.Steps.{bare_consumer_step, bare_service_li
 ghost use Rattle.kob_scene_text.specs.Steps.{bare_service_step, begins_step, business_of};
 ghost use Rattle.kob_scene_text.specs.Steps.{consumer_step_of, event_of, id_of, lost_of};
 ghost use Rattle.kob_scene_text.specs.Steps.{id_in, record_of, record_with, service_line};
-ghost use Rattle.kob_scene_text.specs.Steps.{service_step_of};
-ghost use Rattle.kob_scene_text.specs.Steps.{service_told, written, written_of};
+ghost use Rattle.kob_scene_text.specs.Steps.{service_step_of, service_told, written, written_of};
 
 use crate::fault::{SceneFaultKind, StepError};
 use crate::scene::{ConsumerStep, Lost, ServiceStep};

@@ -1,7 +1,7 @@
 //! Brokers, requests, scripts, lines and outboxes that the tests share.
 
 ghost use Rattle.std.specs.Prelude.{IfOk, IfSome, ◌≤◌};
-ghost use Rattle.kob_shared.specs.Openings.{IsFresh};
+ghost use Rattle.kob_shared.specs.Journals.{IsFresh};
 
 use kob_broker::{Broker, OpenFault, Settings};
 use kob_lines::BrokerLine;

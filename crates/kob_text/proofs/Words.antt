@@ -1,7 +1,7 @@
 -- The names that the lemmas cite, passed on from one place.
 pub use Rattle.bstr.proofs.lemmas.LineLemmas.{EndsLine, lines-append}
 pub use Rattle.kob_broker.proofs.Lifting.{runs_alike}
-pub use Rattle.kob_broker.proofs.Runs.{replies_one_more, state_one_more}
+pub use Rattle.kob_broker.proofs.Steps.{replies_one_more, state_one_more}
 pub use Rattle.kob_broker.specs.Change.{state_of}
 pub use Rattle.kob_broker.specs.State.{State, open_state}
 pub use Rattle.kob_broker.specs.Step.{replies_of, state_after, step}
